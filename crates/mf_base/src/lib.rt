@@ -1,6 +1,10 @@
-//! What every crate of the loan desk shares: the numbered refusals and the faults of a stream.
+//! What every crate of the loan desk shares: the numbered refusals and the faults of a stream, days, and rounding.
 #![tactic(auto)]
 
+mod day;
 mod fault;
+mod rounding;
 
+pub use day::{Day, Freq};
 pub use fault::{Cause, Fault, StreamFault};
+pub use rounding::{half_even, split};
