@@ -1,5 +1,5 @@
 -- The calendar. A day is the number of days from 1 January 2000, which is day 0.
-use Rattle.std.specs.Prelude.{ℕ, zero, suc, ◌+◌, ◌-◌, ◌*◌, ◌/◌, ◌%◌, ◌≤◌, Bool, not, ◌&&◌, ◌||◌, ◌==◌, nat_lt, min, sum_by, if◌then◌else◌}
+use Rattle.std.specs.Prelude.{◌≡◌, ℕ, zero, suc, ◌+◌, ◌-◌, ◌*◌, ◌/◌, ◌%◌, ◌<◌, ◌≤◌, Bool, not, ◌&&◌, ◌||◌, ◌==◌, nat_lt, min, sum_by, if◌then◌else◌}
 use Rattle.std.specs.List.{range_with_len}
 use Rattle.mf_base.specs.declared.day.Freq.{Freq}
 use Rattle.mf_base.specs.declared.day.Freq.TheVariants.{Weeks, Months}
@@ -30,12 +30,17 @@ pub record IsDate (date : Date) : Type 0 where
   pub first_day : 1 ≤ date.day
   pub last_day : date.day ≤ month_length date.year date.month
 
+-- the days of the years before a year
+abbrev pub years_before : ℕ → ℕ
+years_before year = sum_by year_length (range_with_len 2000 (year - 2000))
+
+-- the days of a year before a month
+abbrev pub months_before : ℕ → ℕ → ℕ
+months_before year month = sum_by (month_length year) (range_with_len 1 (month - 1))
+
 -- the days of the years before, of the months before, and of the month before the date
 unfoldable pub day_of : Date → ℕ
-day_of date =
-    sum_by year_length (range_with_len 2000 (date.year - 2000))
-    + sum_by (month_length date.year) (range_with_len 1 (date.month - 1))
-    + (date.day - 1)
+day_of date = years_before date.year + months_before date.year date.month + (date.day - 1)
 
 -- the date after
 abbrev pub next_date : Date → Date

@@ -1,10 +1,12 @@
 //! What every crate of the loan desk shares: the numbered refusals and the faults of a stream, days, and rounding.
 #![tactic(auto)]
 
+mod calendar;
 mod day;
 mod fault;
 mod rounding;
 
+pub use calendar::dates_and_numbers;
 pub use day::{Day, Freq};
 pub use fault::{Cause, Fault, StreamFault};
 pub use rounding::{half_even, split};
