@@ -1,12 +1,11 @@
 -- The calendar: dates in order have numbers in order, and date and number give each other back.
-use Rattle.std.proofs.Common.{◌≡◌, ℕ, zero, suc, ◌+◌, ◌-◌, ◌*◌, ◌/◌, ◌%◌, ◌<◌, ◌≤◌, ◌⊎◌, inl, inr, arith, refl, sym, ap, ◌∙◌, subst, ltb}
+use Rattle.std.proofs.Common.{◌≡◌, ℕ, zero, suc, ◌+◌, ◌-◌, ◌<◌, ◌≤◌, ◌⊎◌, inl, inr, arith, refl, sym, ap, ◌∙◌, subst, ltb}
 use Rattle.std.specs.Prelude.{sum_by}
 use Rattle.std.specs.List.{range_with_len}
 use Rattle.std.proofs.lemmas.Bool.{cases_order, cond_both, ltb-true, ltb-false}
-use Rattle.std.proofs.lemmas.Bool.Decides.{nat_tests}
 use Rattle.std.proofs.lemmas.List.Sums.{sum-map}
 use Rattle.std.proofs.lemmas.List.FromFn.{sum_by-map-range_with_len_more}
-use Rattle.mf_base.specs.Calendar.{Date, IsDate, year_length, month_length, is_leap_year, years_before, months_before, day_of, next_date, date_of}
+use Rattle.mf_base.specs.Calendar.{Date, IsDate, year_length, month_length, years_before, months_before, day_of, next_date, date_of}
 
 -- a sum over one number more
 sum_by-range_more : (f : ℕ → ℕ) (first count : ℕ) → sum_by f (range_with_len first (count + 1)) ≡ sum_by f (range_with_len first count) + f (first + count)
@@ -65,9 +64,14 @@ unfolding day_of
 day_of-lt_month date month is later =
     omega (arith, months_before_more date.year date.month is.first_month, months_before_mono date.year (date.month + 1) month (omega arith) (omega arith), is.first_day, is.last_day)
 
-day_of-lt_year : (date : Date) (year : ℕ) → IsDate date → date.year < year → day_of date < years_before year
+pub day_of-lt_year : (date : Date) (year : ℕ) → IsDate date → date.year < year → day_of date < years_before year
 day_of-lt_year date year is later =
     omega (arith, day_of-lt_month date 13 is (omega (arith, is.last_month)), months_before_all date.year, years_before_more date.year is.year, years_before_mono (date.year + 1) year (omega (arith, is.year)) (omega arith))
+
+-- and not before its own
+pub years_before-le-day_of : (date : Date) (year : ℕ) → 2000 ≤ year → year ≤ date.year → years_before year ≤ day_of date
+unfolding day_of
+years_before-le-day_of date year low le = omega (arith, years_before_mono year date.year low le)
 
 -- in the order of year, month and day
 abbrev pub IsEarlier : Date → Date → Type 0
@@ -111,17 +115,19 @@ next_date-step : (date : Date) → IsDate date → IsDate (next_date date) × (d
 unfolding day_of
 next_date-step date is =
     let january = months_before_none (date.year + 1) in
-        cond_both (ltb date.day (month_length date.year date.month)) _ _ (λ later. IsDate later × (day_of later ≡ suc (day_of date)))
+    cond_both (ltb date.day (month_length date.year date.month)) _ _ (λ later. IsDate later × (day_of later ≡ suc (day_of date)))
     (λ inside. let short : date.day < month_length date.year date.month = ltb-true _ _ inside in
     (record { year = is.year; first_month = is.first_month; last_month = is.last_month; first_day = omega arith; last_day = omega (arith, short) }, omega (arith, is.first_day)))
     (λ last. let end : month_length date.year date.month ≤ date.day = ltb-false _ _ last in
     cond_both (ltb date.month 12) _ _ (λ later. IsDate later × (day_of later ≡ suc (day_of date)))
-    (λ inside. let short : date.month < 12 = ltb-true _ _ inside in
-    (record { year = is.year; first_month = omega arith; last_month = omega (arith, short); first_day = omega arith; last_day = omega (arith, month_length_bounds date.year (date.month + 1)) },
-    omega (arith, end, is.first_day, is.last_day, months_before_more date.year date.month is.first_month)))
-    (λ december. let twelve : date.month ≡ 12 = omega (arith, is.last_month, ltb-false date.month 12 december) in
-    (record { year = omega (arith, is.year); first_month = omega arith; last_month = omega arith; first_day = omega arith; last_day = omega (arith, month_length_bounds (date.year + 1) 1) },
-    omega (arith, january, end, is.first_day, is.last_day, years_before_more date.year is.year, months_before_all date.year, months_before_more date.year date.month is.first_month, ap (λ m. months_before date.year (m + 1)) twelve))))
+    (λ inside. let short : date.month < 12 = ltb-true _ _ inside in (
+      record { year = is.year; first_month = omega arith; last_month = omega (arith, short); first_day = omega arith; last_day = omega (arith, month_length_bounds date.year (date.month + 1)) },
+      omega (arith, end, is.first_day, is.last_day, months_before_more date.year date.month is.first_month),
+    ))
+    (λ december. let twelve : date.month ≡ 12 = omega (arith, is.last_month, ltb-false date.month 12 december) in (
+      record { year = omega (arith, is.year); first_month = omega arith; last_month = omega arith; first_day = omega arith; last_day = omega (arith, month_length_bounds (date.year + 1) 1) },
+      omega (arith, january, end, is.first_day, is.last_day, years_before_more date.year is.year, months_before_all date.year, months_before_more date.year date.month is.first_month, ap (λ m. months_before date.year (m + 1)) twelve),
+    )))
 
 pub date_of-step : (day : ℕ) → IsDate (date_of day) × (day_of (date_of day) ≡ day)
 unfolding date_of day_of

@@ -6,7 +6,7 @@ mod day;
 mod fault;
 mod rounding;
 
-pub use calendar::dates_and_numbers;
+pub use calendar::{dates_and_numbers, texts_of_days};
 pub use day::{Day, Freq};
 pub use fault::{Cause, Fault, StreamFault};
 pub use rounding::{half_even, split};
