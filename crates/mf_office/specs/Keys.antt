@@ -1,0 +1,45 @@
+-- Hierarchy texts, called keys, and the range of texts that an office selects.
+use Rattle.std.specs.Prelude.{◌≡◌, ℕ, zero, suc, ◌-◌, Bool, true, false, not, ◌&&◌, ◌||◌, List, [], ◌∷◌, ◌++◌, length, slice_index, nat_lt, ◌==◌, Option, Some, None, decimal, codes}
+
+-- the key of the head
+abbrev pub head_key : List ℕ
+head_key = codes "."
+
+-- a child's key: its parent's, its own number and a dot
+abbrev pub child_key : List ℕ → ℕ → List ℕ
+child_key parent_key number = parent_key ++ (decimal number ++ codes ".")
+
+-- where there is no parent the key is the head's, else a child's
+abbrev pub grown : Option ℕ → (ℕ → List ℕ) → ℕ → List ℕ
+grown None above x = head_key
+grown (Some p) above x = child_key (above p) x
+
+-- the key of x, of which the head is at most n steps up
+unfoldable pub key_within : ℕ → (ℕ → Option ℕ) → ℕ → List ℕ
+key_within zero parents x = head_key
+key_within (suc n) parents x = grown (parents x) (λ p. key_within n parents p) x
+
+-- the hierarchy text of x. A tree is at most six deep, so five steps lead up to the head
+unfoldable pub key_of : (ℕ → Option ℕ) → ℕ → List ℕ
+key_of parents x = key_within 5 parents x
+
+-- what every key does
+abbrev pub EndsWithDot : List ℕ → Type 0
+EndsWithDot text = slice_index text (length text - 1) ≡ 46
+
+-- the text with a slash, the byte after the dot, for its last byte
+abbrev pub raised : List ℕ → List ℕ
+raised [] = []
+raised (c ∷ []) = 47 ∷ []
+raised (c ∷ d ∷ cs) = c ∷ raised (d ∷ cs)
+
+-- a stands before b, by bytes
+abbrev pub is_before : List ℕ → List ℕ → Bool
+is_before [] [] = false
+is_before [] (b ∷ bs) = true
+is_before (a ∷ rest) [] = false
+is_before (a ∷ rest) (b ∷ bs) = nat_lt a b || ((a == b) && is_before rest bs)
+
+-- low ≤ text < high
+abbrev pub is_in_range : List ℕ → List ℕ → List ℕ → Bool
+is_in_range low high text = not (is_before text low) && is_before text high

@@ -1,0 +1,54 @@
+-- Who is at or below whom. An office's parent is all that counts, so each definition stands over the function of parents.
+use Rattle.std.specs.Prelude.{◌≡◌, ◌≢◌, ℕ, zero, suc, ◌≤◌, Bool, true, false, cond, ◌||◌, List, [], ◌∷◌, ◌==◌, Option, Some, None, map}
+use Rattle.mf_office.specs.Numbers.{IsNumberUpTo}
+
+-- there is a number, and it passes
+abbrev pub option_any : Option ℕ → (ℕ → Bool) → Bool
+option_any None f = false
+option_any (Some p) f = f p
+
+-- y is x, or one of the n next offices above x
+unfoldable pub is_within : ℕ → (ℕ → Option ℕ) → ℕ → ℕ → Bool
+is_within zero parents x y = x == y
+is_within (suc n) parents x y = (x == y) || option_any (parents x) (λ p. is_within n parents p y)
+
+-- x is y, or has a parent that is at or below y. A tree is at most six deep, so five steps lead up to the head
+unfoldable pub is_at_or_below : (ℕ → Option ℕ) → ℕ → ℕ → Bool
+is_at_or_below parents x y = is_within 5 parents x y
+
+-- the same with no bound on the steps: x is y, or has a parent that is at or below y
+pub data IsAtOrBelow (parents : ℕ → Option ℕ) (y : ℕ) : ℕ → Type 0 where
+  itself : IsAtOrBelow parents y y
+  by_parent : (x p : ℕ) → parents x ≡ Some p → IsAtOrBelow parents y p → IsAtOrBelow parents y x
+
+-- the offices that are there form one tree from office 1, at most six deep
+pub record IsTreeOf (there : ℕ → Bool) (parents : ℕ → Option ℕ) : Type 0 where
+  pub numbered : (x : ℕ) → there x ≡ true → IsNumberUpTo 9999 x
+  pub head_there : there 1 ≡ true
+  pub head : parents 1 ≡ None
+  pub parents_there : (x p : ℕ) → there x ≡ true → parents x ≡ Some p → there p ≡ true
+  pub all_below : (x : ℕ) → there x ≡ true → is_at_or_below parents x 1 ≡ true
+
+-- an office's number, and its parent's where it has one
+pub record Place : Type 0 where
+  pub number : ℕ
+  pub parent : Option ℕ
+
+-- the parent of office x, if x is there and has one
+abbrev pub parent_of : List Place → ℕ → Option ℕ
+parent_of [] x = None
+parent_of (place ∷ places) x = cond (place.number == x) place.parent (parent_of places x)
+
+abbrev pub is_there : List Place → ℕ → Bool
+is_there [] x = false
+is_there (place ∷ places) x = (place.number == x) || is_there places x
+
+-- no number stands twice
+abbrev pub EachNumberOnce : List Place → Type 0
+EachNumberOnce [] = Unit {0}
+EachNumberOnce (place ∷ places) = (is_there places place.number ≡ false) × EachNumberOnce places
+
+-- a list of offices that is one tree from office 1, at most six deep
+pub record IsTree (places : List Place) : Type 0 where
+  pub once : EachNumberOnce places
+  pub tree : IsTreeOf (is_there places) (parent_of places)
