@@ -1,5 +1,5 @@
 -- Who is at or below whom. An office's parent is all that counts, so each definition stands over the function of parents.
-use Rattle.std.specs.Prelude.{◌≡◌, ◌≢◌, ℕ, zero, suc, ◌≤◌, Bool, true, false, cond, ◌||◌, List, [], ◌∷◌, ◌==◌, Option, Some, None, map}
+use Rattle.std.specs.Prelude.{◌≡◌, ℕ, zero, suc, Bool, true, false, cond, ◌||◌, List, [], ◌∷◌, ◌==◌, Option, Some, None}
 use Rattle.mf_office.specs.Numbers.{IsNumberUpTo}
 
 -- there is a number, and it passes

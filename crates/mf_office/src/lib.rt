@@ -2,6 +2,10 @@
 //! part of the tree is selected.
 #![tactic(auto)]
 
+mod key;
+mod laws;
 mod number;
 
+pub use key::{Key, in_range};
+pub use laws::{at_or_below_by_parents, key_by_parents, range_is_subtree};
 pub use number::{AccountNo, OfficeNo, StaffNo, next_number};

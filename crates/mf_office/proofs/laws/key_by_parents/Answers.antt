@@ -1,0 +1,8 @@
+use Rattle.mf_office.proofs.KeyLemmas.{key_of-head, key_of-child}
+use Rattle.mf_office.proofs.laws.key_by_parents.Goals as goal
+
+pub returns-clause-head : goal.returns-clause-head
+returns-clause-head c = key_of-head
+
+pub returns-clause-child : goal.returns-clause-child
+returns-clause-child c = key_of-child

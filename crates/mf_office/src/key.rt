@@ -1,0 +1,78 @@
+ghost use Rattle.std.specs.Prelude.{◌≡◌, ℕ, List, true, string_bytes, IfOk, IsOkUnless};
+ghost use Rattle.mf_office.specs.Keys.{head_key, child_key, raised, is_in_range, key_of, EndsWithDot};
+ghost use Rattle.mf_office.specs.Tree.{Place, IsTree, is_there, parent_of, is_at_or_below};
+
+use crate::number::OfficeNo;
+use mf_base::Fault;
+use std::alloc::Global;
+use std::marker::Model;
+
+/// The hierarchy text of an office: `.` for the head, and for a child its parent's text, its own number and `.`.
+#[derive(Drop, Debug)]
+pub struct Key {
+    text: String,
+}
+
+impl Model for Key {
+    ghost Value = { List ℕ };
+
+    ghost view = { λ key. string_bytes key.text };
+
+    ghost invariant = { λ key. EndsWithDot (string_bytes key.text) };
+}
+
+impl Key {
+    /// The key of the head office. Its only error is F20.
+    pub fn head(alloc: Global) -> Result<Key, Fault>
+        ensures key { IfOk result (λ key. key ≡ head_key) }
+        ensures err { IsOkUnless result Fault.F20 }
+    {
+        let text = String::from_str(alloc, ".")?;
+        Ok(Key { text })
+    }
+
+    /// The key of a child with this number. Its only error is F20.
+    pub fn child(&self, alloc: Global, number: OfficeNo) -> Result<Key, Fault>
+        ensures key { IfOk result (λ key. key ≡ child_key self.now number) }
+        ensures err { IsOkUnless result Fault.F20 }
+    {
+        let parent = self.text.as_str();
+        let number = number.get();
+        let text = format!(in alloc; "{parent}{number}.")?;
+        Ok(Key { text })
+    }
+
+    /// The text.
+    pub fn as_str(&self) -> &str
+        ensures text { result.now ≡ self.now }
+        ensures dot { EndsWithDot result.now }
+    {
+        self.text.as_str()
+    }
+
+    /// The ends of the range of texts that this key selects: the key itself, and the key with `/`, the next byte,
+    /// in place of its last `.`. The low end is in the range, the high end is not. Its only error is F20.
+    pub fn range(&self, alloc: Global) -> Result<(String, String), Fault>
+        ensures low { IfOk result (λ ends. string_bytes ends.0 ≡ self.now) }
+        ensures high { IfOk result (λ ends. string_bytes ends.1 ≡ raised self.now) }
+        ensures err { IsOkUnless result Fault.F20 }
+    {
+        let low = String::from_str(alloc, self.text.as_str())?;
+        let mut high = String::from_str(alloc, self.text.as_str())?;
+        let _dot = high.pop();
+        high.push('/')?;
+        Ok((low, high))
+    }
+}
+
+/// Whether a key lies in a range by its bytes: at or after the low end, and before the high end.
+///
+/// For the keys of a tree's offices, and the ends of the range of y's key, that is so exactly where x is at or below y.
+pub fn in_range(low: &str, high: &str, key: &str) -> bool
+    ensures value { result ≡ is_in_range low.now high.now key.now }
+    ensures subtree { (places : List Place) → IsTree places → (x y : ℕ) → is_there places x ≡ true → is_there places y ≡ true →
+        low.now ≡ key_of (parent_of places) y → high.now ≡ raised (key_of (parent_of places) y) → key.now ≡ key_of (parent_of places) x →
+        result ≡ is_at_or_below (parent_of places) x y }
+{
+    low <= key && key < high
+}
