@@ -1,0 +1,11 @@
+pub mod CompareLemmas
+pub mod KeepLemmas
+pub mod ItemLemmas
+pub mod ReadLemmas
+pub mod WriteLemmas
+pub mod KeptLemmas
+pub mod ShownLemmas
+pub mod UpsertLemmas
+pub mod MakeLemmas
+pub mod QueryLemmas
+pub mod ApplyLemmas

@@ -1,0 +1,6 @@
+pub mod Tables
+pub mod Keep
+pub mod Values
+pub mod Scan
+pub mod Writes
+pub mod Making
