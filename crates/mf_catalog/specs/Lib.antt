@@ -1,0 +1,2 @@
+pub mod Charge
+pub mod Limits

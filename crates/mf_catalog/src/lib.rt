@@ -1,0 +1,17 @@
+//! Charges, and the terms of a loan.
+#![tactic(auto)]
+
+mod amount;
+mod charge;
+mod limits;
+mod name;
+mod terms;
+
+pub use amount::charge_amount;
+pub use charge::{Calc, ChargeDef, ChargeKind};
+pub use limits::{
+    GREATEST_AMOUNT, GREATEST_PERCENTAGE, GREATEST_RATE, MOST_GRACE, MOST_INSTALMENTS, MOST_MONTHS,
+    MOST_PERIODS, MOST_WEEKS,
+};
+pub use name::Name;
+pub use terms::{Method, StrategyName, Terms};

@@ -1,0 +1,24 @@
+/// The greatest principal, amount and flat charge: 10^12 cents.
+pub const GREATEST_AMOUNT: u64 = 1_000_000_000_000;
+
+/// The greatest percentage of a charge, in hundredths of a percent: the whole of its base.
+pub const GREATEST_PERCENTAGE: u64 = 10_000;
+
+/// The greatest annual rate, in hundredths of a percent.
+pub const GREATEST_RATE: u32 = 100_000;
+
+/// The longest step between due days that goes by weeks.
+pub const MOST_WEEKS: u32 = 52;
+
+/// The longest step between due days that goes by months.
+pub const MOST_MONTHS: u32 = 12;
+
+/// The most periods that a product may name.
+pub const MOST_PERIODS: u32 = 120;
+
+/// The longest grace, of principal or of interest, that a product may name.
+pub const MOST_GRACE: u32 = 119;
+
+/// The most instalments that a schedule is worked out for. `MOST_PERIODS` may be raised up to it, and
+/// `MOST_GRACE` to one less.
+pub const MOST_INSTALMENTS: u32 = 360;

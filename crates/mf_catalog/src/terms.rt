@@ -1,0 +1,71 @@
+use crate::charge::ChargeDef;
+use mf_base::Freq;
+use std::alloc::AllocError;
+
+/// How principal and interest are planned.
+#[derive(Clone, Copy, PartialEq, Eq, Debug)]
+pub enum Method {
+    /// Equal principal, and interest on the original principal in every period.
+    Flat,
+    /// Equal principal, and interest on what is outstanding.
+    EqualPrincipal,
+    /// Equal instalments of principal and interest together, interest on what is outstanding.
+    Fixed,
+}
+
+/// In which order a payment fills the portions of an instalment.
+#[derive(Clone, Copy, PartialEq, Eq, Debug)]
+pub enum StrategyName {
+    /// Penalties, fees, interest, principal.
+    MifosStandard,
+    /// Principal, interest, penalties, fees.
+    PrincipalFirst,
+    /// Interest, principal, penalties, fees.
+    InterestFirst,
+}
+
+/// The terms of a loan, copied from its product.
+#[derive(Debug, Drop)]
+pub struct Terms {
+    /// How principal and interest are planned.
+    pub method: Method,
+    /// The annual rate, in hundredths of a percent.
+    pub rate: u32,
+    /// Whether a period goes by weeks or by months.
+    pub freq: Freq,
+    /// How many weeks or months a period has.
+    pub every: u32,
+    /// How many instalments, from the first on, take no principal.
+    pub principal_grace: u32,
+    /// How many instalments, from the first on, take no interest; the next takes theirs too.
+    pub interest_grace: u32,
+    /// In which order payments fill the portions.
+    pub strategy: StrategyName,
+    /// The charge that is taken at disbursement.
+    pub disbursement: Option<ChargeDef>,
+    /// The charge that is taken with each instalment.
+    pub instalment: Option<ChargeDef>,
+    /// The charge that is taken for an overdue instalment.
+    pub overdue: Option<ChargeDef>,
+}
+
+impl Clone for Terms {
+    ghost use Rattle.std.specs.Prelude.{◌≡◌};
+
+    ghost is_clone = { λ terms copy. copy ≡ terms };
+
+    fn clone(&self) -> Result<Terms, AllocError> {
+        Ok(Terms {
+            method: self.method,
+            rate: self.rate,
+            freq: self.freq,
+            every: self.every,
+            principal_grace: self.principal_grace,
+            interest_grace: self.interest_grace,
+            strategy: self.strategy,
+            disbursement: self.disbursement.clone()?,
+            instalment: self.instalment.clone()?,
+            overdue: self.overdue.clone()?,
+        })
+    }
+}
