@@ -1,0 +1,15 @@
+//! The command line: what the program's words ask for.
+#![tactic(auto)]
+
+mod asked;
+mod asking;
+mod options;
+mod reading;
+mod refusal;
+mod values;
+
+pub use asked::{Command, ScheduleWords, Words};
+pub use asking::command;
+
+#[cfg(test)]
+mod tests;

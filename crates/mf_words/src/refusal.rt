@@ -1,0 +1,70 @@
+ghost use Rattle.std.specs.Prelude.{◌≡◌};
+ghost use Rattle.clap.specs.Words.{kind_of};
+
+use crate::asked::Words;
+use crate::reading::Wrong;
+use clap::Error;
+use clap::error::ErrorKind;
+use std::alloc::{AllocError, Global};
+
+/// What an option wants, in one line.
+fn wants(wrong: Wrong) -> &'static str {
+    match wrong {
+        Wrong::Method => {
+            "--method wants flat, declining-equal-principal or declining-equal-instalments"
+        }
+        Wrong::Principal => "--principal wants whole cents from 1 to 1000000000000",
+        Wrong::Rate => "--rate wants hundredths of a percent from 0 to 100000",
+        Wrong::Periods => "--periods wants a number from 1 to 120",
+        Wrong::Day => "--day wants a day from 2000-01-01 to 2099-12-31, as 2024-01-31",
+        Wrong::Frequency => "--frequency wants weeks or months",
+        Wrong::Every => "--every wants 1 to 52 weeks or 1 to 12 months",
+        Wrong::PrincipalGrace => "--principal-grace wants a number from 0 to 119",
+        Wrong::InterestGrace => "--interest-grace wants a number from 0 to 119",
+    }
+}
+
+/// Bad words, with the line that says so, or want of memory for that line.
+fn bad(line: Result<String, AllocError>) -> Words {
+    match line {
+        Ok(line) => Words::Bad(line),
+        Err(_) => Words::Memory,
+    }
+}
+
+/// An option of a command isn't what it should be.
+pub(crate) fn wrong_option(alloc: Global, command: &str, wrong: Wrong) -> Words {
+    let wants = wants(wrong);
+    bad(format!(in alloc; "microloan: {wants}; see 'microloan {command} --help'"))
+}
+
+/// No command of the program is named.
+pub(crate) fn no_command(alloc: Global) -> Words {
+    bad(format!(in alloc; "microloan: no such command; see 'microloan --help'"))
+}
+
+/// What `clap` says of the words: help where they ask for it, else what is wrong, in one line.
+pub(crate) fn refused_by_clap(alloc: Global, error: &Error) -> Words
+    ensures { kind_of error.now ≡ ErrorKind.OutOfMemory → result ≡ Words.Memory }
+{
+    match error.kind() {
+        ErrorKind::OutOfMemory => Words::Memory,
+        ErrorKind::DisplayHelp => match format!(in alloc; "{error}") {
+            Ok(text) => Words::Help(text),
+            Err(_) => Words::Memory,
+        },
+        _ => bad(one_line(alloc, error)),
+    }
+}
+
+/// The first paragraph of an error's text, as one line.
+fn one_line(alloc: Global, error: &Error) -> Result<String, AllocError> {
+    let text = format!(in alloc; "{error}")?;
+    let mut line = String::from_str(alloc, "microloan:")?;
+    for part in text.as_str().lines().take_while(|part| !part.is_empty()) {
+        line.push_str(" ")?;
+        line.push_str(part.trim().trim_start_matches("error: "))?;
+    }
+    line.push_str("; see 'microloan --help'")?;
+    Ok(line)
+}
