@@ -69,3 +69,6 @@ day_text-only date day text is same = ap day_of (date_text-injective date (date_
 -- no two days have one text
 pub day_text-injective : (a b : ℕ) → day_text a ≡ day_text b → a ≡ b
 day_text-injective a b same = sym (day_of-date_of a) ∙ day_text-only (date_of a) b (day_text a) (date_text-day a) same
+
+pub entered_year-date_of : (day : ℕ) → day ≤ last_entered_day → (date_of day).year < 2100
+entered_year-date_of day le = (last_entered_year (date_of day) (IsDate-date_of day)).1 (rw day_of-date_of le)
