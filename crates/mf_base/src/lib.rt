@@ -3,10 +3,13 @@
 
 mod calendar;
 mod day;
+mod digits;
 mod fault;
+mod money;
 mod rounding;
 
 pub use calendar::{dates_and_numbers, texts_of_days};
 pub use day::{Day, Freq};
 pub use fault::{Cause, Fault, StreamFault};
+pub use money::{money_text, money_texts_are_read, parse_money};
 pub use rounding::{half_even, split};
