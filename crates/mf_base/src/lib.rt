@@ -7,6 +7,8 @@ mod digits;
 mod fault;
 mod money;
 mod rounding;
+#[cfg(test)]
+mod tests;
 
 pub use calendar::{dates_and_numbers, texts_of_days};
 pub use day::{Day, Freq};
