@@ -1,3 +1,5 @@
 pub mod TextLemmas
 pub mod TreeLemmas
 pub mod KeyLemmas
+pub mod WrittenLemmas
+pub mod ReadLemmas

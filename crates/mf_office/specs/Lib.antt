@@ -1,3 +1,5 @@
 pub mod Numbers
 pub mod Tree
 pub mod Keys
+pub mod Written
+pub mod Texts

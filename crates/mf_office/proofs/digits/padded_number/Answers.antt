@@ -1,0 +1,12 @@
+use Rattle.std.proofs.Common.{rules, ◌≡◌, Option, None, Some, ℕ, arith, sym, ◌∙◌}
+use Rattle.mf_office.proofs.WrittenLemmas.{not_padded, padded_other, zero_written, padded_number_is}
+use Rattle.mf_office.proofs.digits.padded_number.Goals as goal
+
+pub returns-then-text-width : goal.returns-then-text-width
+returns-then-text-width c = not_padded _ _ c.requires.some c.requires.few c.if-text-width.true
+
+pub returns-in_err-number : goal.returns-in_err-number
+returns-in_err-number c = let none : c.from_residual.result ≡ None = search rules in none ∙ padded_other _ _ c.requires.few c.in_err-number.ensures
+
+pub returns-else-number-eq0 : goal.returns-else-number-eq0
+returns-else-number-eq0 c = padded_number_is _ _ _ c.requires.some c.requires.few c.if-text-width.false c.in_ok-number.ensures.0 c.in_ok-number.ensures.1 c.if-number-eq0.false

@@ -1,0 +1,45 @@
+ghost use Rattle.std.specs.Prelude.{◌≡◌, ◌↔◌, Some, string_bytes, IfOk, IfSome, IsOkUnless};
+
+use crate::digits::{padded_number, split_once};
+use crate::number::{AccountNo, OfficeNo};
+use mf_base::Fault;
+use std::alloc::Global;
+
+/// A client or a loan, by its office and its number there.
+#[derive(Clone, Copy, PartialEq, Eq, PartialOrd, Ord, Hash, Debug)]
+pub struct Account {
+    /// The office that it belongs to.
+    pub office: OfficeNo,
+    /// The number within that office.
+    pub number: AccountNo,
+}
+
+impl Account {
+    ghost use Rattle.mf_office.specs.Written.{account_text};
+    ghost use Rattle.mf_office.specs.Texts.{IsAccount, account_of};
+
+    /// The account whose text this is: the office's number in four digits, a dash and the number in six, as in
+    /// `0001-000001`, neither of them 0. On any other text None. It takes no memory.
+    pub fn parse(text: &[u8]) -> Option<Account>
+        ensures value { result ≡ account_of text.now }
+        ensures in_range { IfSome result IsAccount }
+        ensures exact { (account : Account) → IsAccount account → (result ≡ Some account) ↔ (text.now ≡ account_text account.office account.number) }
+    {
+        let (office, number) = split_once(text, b'-')?;
+        let office = OfficeNo::new(padded_number(office, 4)?)?;
+        let number = AccountNo::new(padded_number(number, 6)?)?;
+        Some(Account { office, number })
+    }
+
+    /// The text that `parse` reads. Its only error is F20.
+    pub fn text(self, alloc: Global) -> Result<String, Fault>
+        ensures text { IfOk result (λ text. string_bytes text ≡ account_text self.office self.number) }
+        ensures reads_back { IfOk result (λ text. account_of (string_bytes text) ≡ Some self) }
+        ensures err { IsOkUnless result Fault.F20 }
+    {
+        let office = self.office.get();
+        let number = self.number.get();
+        let text = format!(in alloc; "{office:04}-{number:06}")?;
+        Ok(text)
+    }
+}
