@@ -3,8 +3,8 @@ use Rattle.std.proofs.Common.{◌≡◌, ℕ, zero, suc, ◌^◌, ◌<◌, Bool,
 use Rattle.std.specs.Prelude.{◌==◌, ◌||◌, decimal}
 use Rattle.std.proofs.lemmas.Bool.Decides.{nat_tests}
 use Rattle.mf_office.specs.Tree.{IsTreeOf, IsTree, Place, is_there, parent_of, is_within, is_at_or_below}
-use Rattle.mf_office.specs.Keys.{grown, head_key, child_key, key_within, key_of, raised, is_in_range}
-use Rattle.mf_office.proofs.TextLemmas.{starts_with, same_text, raised_is, range_is, last_part, parts, same_self, same_is, last_number, after_dot, last_of_digits, decimal_is}
+use Rattle.mf_office.specs.Keys.{grown, head_key, child_key, key_within, key_of, raised, is_in_range, EndsWithDot}
+use Rattle.mf_office.proofs.TextLemmas.{ends_with_dot, starts_with, same_text, raised_is, range_is, last_part, parts, same_self, same_is, last_number, after_dot, last_of_digits, decimal_is}
 use Rattle.mf_office.proofs.TreeLemmas.{within_none, within_some, step_up, is_head, zero_head, reaches}
 
 -- one step of a key, by the parent
@@ -130,3 +130,11 @@ pub range_of_tree : (low high key : List ℕ) (r : Bool) → r ≡ is_in_range l
 range_of_tree low high key r v places t x y xt yt l h k =
     let same : is_in_range low high key ≡ is_in_range (key_of (parent_of places) y) (raised (key_of (parent_of places) y)) (key_of (parent_of places) x) = cc in
     v ∙ same ∙ range_below (is_there places) (parent_of places) t.tree x y xt yt
+
+pub key_of-ends : (parents : ℕ → Option ℕ) (x : ℕ) → EndsWithDot (key_of parents x)
+unfolding key_of
+key_of-ends parents x = let q = key_ends 5 parents x (parents x) refl in subst EndsWithDot (sym q.1) (ends_with_dot q.0)
+
+pub key_of-apart : (there : ℕ → Bool) (parents : ℕ → Option ℕ) → IsTreeOf there parents → (x y : ℕ) → there x ≡ true → there y ≡ true → key_of parents x ≡ key_of parents y → x ≡ y
+unfolding key_of
+key_of-apart there parents t x y xt yt same = same_office there parents x y (parents x) (parents y) t xt yt refl refl same

@@ -23,9 +23,9 @@ caller_of-text text caller r e =
     let whole = decimal caller.office ++ (47 ∷ decimal caller.staff) in
     let digits = decimal_writing.digits caller.office r.0 in
     let first : number_written decimal 9999 (before_first (λ b. b == 47) whole) ≡ Some caller.office =
-        written_of decimal 9999 (before_first (λ b. b == 47) whole) caller.office decimal_writing r.0 (before_separator 47 (decimal caller.office) (decimal caller.staff) digits (lit≤ tt)) in
+    written_of decimal 9999 (before_first (λ b. b == 47) whole) caller.office decimal_writing r.0 (before_separator 47 (decimal caller.office) (decimal caller.staff) digits (lit≤ tt)) in
     let second : number_written decimal 9999 (after_first (λ b. b == 47) whole) ≡ Some caller.staff =
-        written_of decimal 9999 (after_first (λ b. b == 47) whole) caller.staff decimal_writing r.1 (after_separator 47 (decimal caller.office) (decimal caller.staff) digits (lit≤ tt)) in
+    written_of decimal 9999 (after_first (λ b. b == 47) whole) caller.staff decimal_writing r.1 (after_separator 47 (decimal caller.office) (decimal caller.staff) digits (lit≤ tt)) in
     ap caller_of e ∙ caller_read _ _ caller.office caller.staff first second
 
 caller_written : (text : List ℕ) (caller : Caller) (x y : Option ℕ) → number_written decimal 9999 (before_first (λ b. b == 47) text) ≡ x → number_written decimal 9999 (after_first (λ b. b == 47) text) ≡ y → option_and_then (λ (a : ℕ). option_map (λ (b : ℕ). let c : Caller = record { office = a; staff = b } in c) y) x ≡ Some caller → text ≡ caller_text caller.office caller.staff
@@ -55,9 +55,9 @@ account_of-text text account r e =
     let whole = a ++ (45 ∷ b) in
     let digits = four.digits account.office r.0 in
     let first : number_written (zero_padded 4) 9999 (before_first (λ c. c == 45) whole) ≡ Some account.office =
-        written_of (zero_padded 4) 9999 (before_first (λ c. c == 45) whole) account.office four r.0 (before_separator 45 a b digits (lit≤ tt)) in
+    written_of (zero_padded 4) 9999 (before_first (λ c. c == 45) whole) account.office four r.0 (before_separator 45 a b digits (lit≤ tt)) in
     let second : number_written (zero_padded 6) 999999 (after_first (λ c. c == 45) whole) ≡ Some account.number =
-        written_of (zero_padded 6) 999999 (after_first (λ c. c == 45) whole) account.number six r.1 (after_separator 45 a b digits (lit≤ tt)) in
+    written_of (zero_padded 6) 999999 (after_first (λ c. c == 45) whole) account.number six r.1 (after_separator 45 a b digits (lit≤ tt)) in
     ap account_of e ∙ account_read _ _ account.office account.number first second
 
 account_written : (text : List ℕ) (account : Account) (x y : Option ℕ) → number_written (zero_padded 4) 9999 (before_first (λ b. b == 45) text) ≡ x → number_written (zero_padded 6) 999999 (after_first (λ b. b == 45) text) ≡ y → option_and_then (λ (a : ℕ). option_map (λ (b : ℕ). let c : Account = record { office = a; number = b } in c) y) x ≡ Some account → text ≡ account_text account.office account.number

@@ -171,13 +171,13 @@ pub not_padded : (width : ℕ) (text : List ℕ) → 1 ≤ width → width ≤ 6
 not_padded width text some few other =
     let bounds = power_bounds width few in
     sym (written_none (zero_padded width) (10 ^ width - 1) text
-        (λ n r e. other (ap (λ t. length t) e ∙ length-zero_padded width n some (omega arith) (omega arith))))
+    (λ n r e. other (ap (λ t. length t) e ∙ length-zero_padded width n some (omega arith) (omega arith))))
 
 pub padded_other : (width : ℕ) (text : List ℕ) → width ≤ 6 → (AllDigits 10 text → ⊥) → None ≡ number_written (zero_padded width) (10 ^ width - 1) text
 padded_other width text few other =
     let bounds = power_bounds width few in
     sym (written_none (zero_padded width) (10 ^ width - 1) text
-        (λ n r e. other (subst (AllDigits 10) (sym e) ((zero_padded_writing width (10 ^ width - 1) (omega arith)).digits n r))))
+    (λ n r e. other (subst (AllDigits 10) (sym e) ((zero_padded_writing width (10 ^ width - 1) (omega arith)).digits n r))))
 
 pub zero_written : (text_of : ℕ → List ℕ) (limit : ℕ) (text : List ℕ) → digits_value 10 text ≡ 0 → number_written text_of limit text ≡ None
 zero_written text_of limit text e = ap (λ (v : ℕ). if (is_number_up_to limit v && bytes_eq text (text_of v)) then Some v else None) e

@@ -52,3 +52,7 @@ EachNumberOnce (place ∷ places) = (is_there places place.number ≡ false) × 
 pub record IsTree (places : List Place) : Type 0 where
   pub once : EachNumberOnce places
   pub tree : IsTreeOf (is_there places) (parent_of places)
+
+-- the head, 2 and 20 under it, and 5 under 2
+abbrev pub small_tree : List Place
+small_tree = record { number = 1; parent = None } ∷ record { number = 2; parent = Some 1 } ∷ record { number = 20; parent = Some 1 } ∷ record { number = 5; parent = Some 2 } ∷ []

@@ -1,9 +1,51 @@
-ghost use Rattle.std.specs.Prelude.{◌≡◌, ◌↔◌, Some, string_bytes, IfOk, IfSome, IsOkUnless};
+ghost use Rattle.std.specs.Prelude.{◌≡◌, ◌↔◌, ℕ, Some, string_bytes, IfOk, IfSome, IsOkUnless};
+ghost use Rattle.mf_office.specs.Numbers.{IsNumberUpTo, number_up_to};
 
 use crate::digits::{padded_number, split_once};
-use crate::number::{AccountNo, OfficeNo};
+use crate::office::OfficeNo;
 use mf_base::Fault;
 use std::alloc::Global;
+use std::marker::Model;
+
+/// The number of a client or a loan within its office, from 1 to 999999. Clients and loans are numbered apart.
+#[derive(Clone, Copy, PartialEq, Eq, PartialOrd, Ord, Hash, Debug)]
+pub struct AccountNo {
+    value: u32,
+}
+
+impl Model for AccountNo {
+    ghost Value = { ℕ };
+
+    ghost view = { λ number. number.value };
+
+    ghost invariant = { λ number. IsNumberUpTo 999999 number.value };
+
+    ghost inverse = { λ n. record { value = n } };
+}
+
+impl AccountNo {
+    /// The greatest number of a client or a loan.
+    pub const MAX: u32 = 999999;
+
+    /// The number, where it is one of 1 to 999999.
+    pub fn new(number: u32) -> Option<AccountNo>
+        ensures { result ≡ number_up_to 999999 number }
+    {
+        if number >= 1 && number <= AccountNo::MAX {
+            Some(AccountNo { value: number })
+        } else {
+            None
+        }
+    }
+
+    /// The number as it is.
+    pub fn get(self) -> u32
+        ensures value { result ≡ self }
+        ensures in_range { IsNumberUpTo 999999 result }
+    {
+        self.value
+    }
+}
 
 /// A client or a loan, by its office and its number there.
 #[derive(Clone, Copy, PartialEq, Eq, PartialOrd, Ord, Hash, Debug)]

@@ -1,7 +1,8 @@
 ghost use Rattle.std.specs.Prelude.{◌≡◌, ◌↔◌, Some, string_bytes, IfOk, IfSome, IsOkUnless};
 
 use crate::digits::{plain_number, split_once};
-use crate::number::{OfficeNo, StaffNo};
+use crate::office::OfficeNo;
+use crate::staff::StaffNo;
 use mf_base::Fault;
 use std::alloc::Global;
 

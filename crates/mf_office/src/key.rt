@@ -1,8 +1,8 @@
-ghost use Rattle.std.specs.Prelude.{◌≡◌, ℕ, List, true, string_bytes, IfOk, IsOkUnless};
+ghost use Rattle.std.specs.Prelude.{◌≡◌, ℕ, List, true, string_bytes, IfOk, IsOkUnless, SomeIff};
 ghost use Rattle.mf_office.specs.Keys.{head_key, child_key, raised, is_in_range, key_of, EndsWithDot};
 ghost use Rattle.mf_office.specs.Tree.{Place, IsTree, is_there, parent_of, is_at_or_below};
 
-use crate::number::OfficeNo;
+use crate::office::OfficeNo;
 use mf_base::Fault;
 use std::alloc::Global;
 use std::marker::Model;
@@ -36,10 +36,21 @@ impl Key {
         ensures key { IfOk result (λ key. key ≡ child_key self.now number) }
         ensures err { IsOkUnless result Fault.F20 }
     {
-        let parent = self.text.as_str();
+        let parent = self.as_str();
         let number = number.get();
         let text = format!(in alloc; "{parent}{number}.")?;
         Ok(Key { text })
+    }
+
+    /// The key with this text, where it ends with a dot as every key does. It takes no memory.
+    pub fn from_text(text: String) -> Option<Key>
+        ensures { SomeIff result (EndsWithDot (string_bytes text)) (string_bytes text) }
+    {
+        if text.as_bytes().last() == Some(&b'.') {
+            Some(Key { text })
+        } else {
+            None
+        }
     }
 
     /// The text.
@@ -57,8 +68,8 @@ impl Key {
         ensures high { IfOk result (λ ends. string_bytes ends.1 ≡ raised self.now) }
         ensures err { IsOkUnless result Fault.F20 }
     {
-        let low = String::from_str(alloc, self.text.as_str())?;
-        let mut high = String::from_str(alloc, self.text.as_str())?;
+        let low = String::from_str(alloc, self.as_str())?;
+        let mut high = String::from_str(alloc, self.as_str())?;
         let _dot = high.pop();
         high.push('/')?;
         Ok((low, high))

@@ -8,9 +8,16 @@ mod digits;
 mod key;
 mod laws;
 mod number;
+mod office;
+mod staff;
 
-pub use account::Account;
+pub use account::{Account, AccountNo};
 pub use caller::Caller;
 pub use key::{Key, in_range};
-pub use laws::{at_or_below_by_parents, key_by_parents, range_is_subtree};
-pub use number::{AccountNo, OfficeNo, StaffNo, next_number};
+pub use laws::{at_or_below_by_parents, key_by_parents, range_is_subtree, worked_rows};
+pub use number::next_number;
+pub use office::{Name, Office, OfficeNo};
+pub use staff::{Role, Staff, StaffNo};
+
+#[cfg(test)]
+mod tests;

@@ -8,9 +8,10 @@ pub returns-then-is_empty : goal.returns-then-is_empty
 returns-then-is_empty c = sym (not_plain c.args.text.now (λ p.
     let some = p.some in let short = p.short in let first = p.first in
     elim c.then-is_empty.branch [
-      then-is_empty-via-then-is_empty w ↦ grind (arith, nat_tests)
-    | then-is_empty-via-else-is_empty+then-text-gt4 w ↦ omega arith
-    | then-is_empty-via-else-is_empty+else-text-gt4+then-text-eq48 w ↦ omega arith ]))
+      | then-is_empty-via-then-is_empty w ↦ grind (arith, nat_tests)
+      | then-is_empty-via-else-is_empty+then-text-gt4 w ↦ omega arith
+      | then-is_empty-via-else-is_empty+else-text-gt4+then-text-eq48 w ↦ omega arith
+    ]))
 
 pub returns : goal.returns
 returns c =

@@ -1,0 +1,91 @@
+ghost use Rattle.std.specs.Prelude.{◌≡◌, ℕ, List, string_bytes};
+ghost use Rattle.mf_office.specs.Numbers.{IsNumberUpTo, number_up_to};
+
+use std::marker::Model;
+
+/// The number of an office, from 1 to 9999. The head office is 1.
+#[derive(Clone, Copy, PartialEq, Eq, PartialOrd, Ord, Hash, Debug)]
+pub struct OfficeNo {
+    value: u32,
+}
+
+impl Model for OfficeNo {
+    ghost Value = { ℕ };
+
+    ghost view = { λ number. number.value };
+
+    ghost invariant = { λ number. IsNumberUpTo 9999 number.value };
+
+    ghost inverse = { λ n. record { value = n } };
+}
+
+impl OfficeNo {
+    /// The greatest number of an office.
+    pub const MAX: u32 = 9999;
+
+    /// The number, where it is one of 1 to 9999.
+    pub fn new(number: u32) -> Option<OfficeNo>
+        ensures { result ≡ number_up_to 9999 number }
+    {
+        if number >= 1 && number <= OfficeNo::MAX {
+            Some(OfficeNo { value: number })
+        } else {
+            None
+        }
+    }
+
+    /// The number as it is.
+    pub fn get(self) -> u32
+        ensures value { result ≡ self }
+        ensures in_range { IsNumberUpTo 9999 result }
+    {
+        self.value
+    }
+}
+
+/// A name of an office, a staff member or a client.
+#[derive(Drop, Debug)]
+pub struct Name {
+    text: String,
+}
+
+impl Model for Name {
+    ghost Value = { List ℕ };
+
+    ghost view = { λ name. string_bytes name.text };
+}
+
+impl Name {
+    /// The name with this text. It takes no memory.
+    pub fn new(text: String) -> Name
+        ensures { result ≡ string_bytes text }
+    {
+        Name { text }
+    }
+
+    /// The text.
+    pub fn as_str(&self) -> &str
+        ensures { result.now ≡ self.now }
+    {
+        self.text.as_str()
+    }
+
+    /// Gives the text back. It takes no memory.
+    pub fn into_string(self) -> String
+        ensures { string_bytes result ≡ self }
+    {
+        let Name { text: string } = self;
+        string
+    }
+}
+
+/// An office: its number, its parent where it is not the head, and its name.
+#[derive(Drop, Debug)]
+pub struct Office {
+    /// The number.
+    pub number: OfficeNo,
+    /// The parent's number. The head office has none.
+    pub parent: Option<OfficeNo>,
+    /// The name.
+    pub name: Name,
+}
