@@ -10,7 +10,7 @@ mod terms;
 pub use amount::charge_amount;
 pub use charge::{Calc, ChargeDef, ChargeKind};
 pub use limits::{
-    GREATEST_AMOUNT, GREATEST_PERCENTAGE, GREATEST_RATE, MOST_GRACE, MOST_INSTALMENTS, MOST_MONTHS,
+    GREATEST_AMOUNT, GREATEST_PERCENTAGE, GREATEST_RATE, MOST_DAYS, MOST_GRACE, MOST_INSTALMENTS, MOST_MONTHS,
     MOST_PERIODS, MOST_WEEKS,
 };
 pub use name::Name;

@@ -13,6 +13,9 @@ pub const MOST_WEEKS: u32 = 52;
 /// The longest step between due days that goes by months.
 pub const MOST_MONTHS: u32 = 12;
 
+/// The most days of a period, of a year of 360: 52 weeks.
+pub const MOST_DAYS: u32 = 364;
+
 /// The most periods that a product may name.
 pub const MOST_PERIODS: u32 = 120;
 

@@ -1,0 +1,4 @@
+pub mod FixedLemmas
+pub mod PlanLemmas
+pub mod GraceLemmas
+pub mod LoanLemmas

@@ -1,0 +1,4 @@
+pub mod Fixed
+pub mod Plan
+pub mod Fresh
+pub mod Settled

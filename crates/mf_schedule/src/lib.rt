@@ -1,0 +1,11 @@
+//! Fresh schedules: what falls due on which day, before anything is paid.
+#![tactic(auto)]
+
+mod fixed;
+mod instalment;
+mod plan;
+mod schedule;
+
+pub use fixed::fixed_amount;
+pub use instalment::Instalment;
+pub use schedule::{disbursement_fee, fresh};
