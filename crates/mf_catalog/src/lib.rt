@@ -10,8 +10,8 @@ mod terms;
 pub use amount::charge_amount;
 pub use charge::{Calc, ChargeDef, ChargeKind};
 pub use limits::{
-    GREATEST_AMOUNT, GREATEST_PERCENTAGE, GREATEST_RATE, MOST_DAYS, MOST_GRACE, MOST_INSTALMENTS, MOST_MONTHS,
-    MOST_PERIODS, MOST_WEEKS,
+    GREATEST_AMOUNT, GREATEST_PERCENTAGE, GREATEST_RATE, MOST_DAYS, MOST_GRACE, MOST_INSTALMENTS,
+    MOST_MONTHS, MOST_PERIODS, MOST_WEEKS,
 };
 pub use name::Name;
 pub use terms::{Method, StrategyName, Terms};

@@ -2,3 +2,4 @@ pub mod FixedLemmas
 pub mod PlanLemmas
 pub mod GraceLemmas
 pub mod LoanLemmas
+pub mod BoundLemmas

@@ -61,7 +61,7 @@ pub balance_of-le : (terms : Terms) (principal n i : ℕ) → IsLoanWithinLimits
 balance_of-le terms principal n i limits = balance_by-le terms.method terms principal n i limits
 
 -- the interest of an instalment
-interest_by-le : (method : Method) (terms : Terms) (principal n i : ℕ) → IsLoanWithinLimits terms principal n → i ≤ n → interest_by method terms principal n i ≤ 4 * 10 ^ 15
+pub interest_by-le : (method : Method) (terms : Terms) (principal n i : ℕ) → IsLoanWithinLimits terms principal n → i ≤ n → interest_by method terms principal n i ≤ 4 * 10 ^ 15
 interest_by-le Flat terms principal n i limits within =
     omega (arith, flat_interest-le terms principal n limits, split-le (flat_interest terms principal n) n i (omega arith) within)
 interest_by-le EqualPrincipal terms principal n i limits within =
@@ -167,20 +167,8 @@ principal_of-sum terms principal n limits =
     let last : balance_of terms principal n (n + 1) ≡ 0 = balance_by-last terms.method terms principal n limits in
     omega (arith, last, parts_and_balance terms principal n n limits (omega arith))
 
--- all interest together
-interest_of-sum-le : (terms : Terms) (principal n k : ℕ) → IsLoanWithinLimits terms principal n → k ≤ n → sum (map (interest_of terms principal n) (range_with_len 1 k)) ≤ 4 * 10 ^ 15 * k
-interest_of-sum-le terms principal n zero limits within = omega arith
-interest_of-sum-le terms principal n (suc k) limits within =
-    let so_far = interest_of-sum-le terms principal n k limits (omega arith) in
-    subst (λ (x : ℕ). sum (map (interest_of terms principal n) (range_with_len 1 x)) ≤ 4 * 10 ^ 15 * x) (add-one k)
-    (omega (arith, so_far, sum_more (interest_of terms principal n) k, interest_of-le terms principal n (k + 1) limits (omega arith)))
-
-pub interest_of-sum-small : (terms : Terms) (principal n : ℕ) → IsLoanWithinLimits terms principal n → sum (map (interest_of terms principal n) (range_with_len 1 n)) < 2 ^ 62
-interest_of-sum-small terms principal n limits =
-    omega (arith, interest_of-sum-le terms principal n n limits (omega arith), limits.most_periods)
-
 -- a sum over mapped rows is a sum of what is read of each
-sum_by-over : (f : ℕ → Instalment) (g : Instalment → ℕ) (k : ℕ) → sum_by g (map f (range_with_len 1 k)) ≡ sum (map (λ i. g (f i)) (range_with_len 1 k))
+pub sum_by-over : (f : ℕ → Instalment) (g : Instalment → ℕ) (k : ℕ) → sum_by g (map f (range_with_len 1 k)) ≡ sum (map (λ i. g (f i)) (range_with_len 1 k))
 sum_by-over f g zero = refl
 sum_by-over f g (suc k) =
     subst (λ (x : ℕ). sum_by g (map f (range_with_len 1 x)) ≡ sum (map (λ i. g (f i)) (range_with_len 1 x))) (add-one k)

@@ -1,5 +1,5 @@
 -- The fresh schedule of a loan.
-use Rattle.std.specs.Prelude.{ℕ, ◌*◌, ◌<◌, ◌≤◌, List, map, sum_by}
+use Rattle.std.specs.Prelude.{ℕ, ◌+◌, ◌*◌, ◌<◌, ◌≤◌, List, map, sum_by}
 use Rattle.std.specs.List.{range_with_len}
 use Rattle.mf_base.specs.Calendar.{day_after}
 use Rattle.mf_catalog.specs.declared.limits.TheConstants.{GREATEST_AMOUNT, MOST_INSTALMENTS}
@@ -38,6 +38,10 @@ total_principal rows = sum_by (λ row. row.principal) rows
 
 abbrev pub total_interest : List Instalment → ℕ
 total_interest rows = sum_by (λ row. row.interest) rows
+
+-- principal, interest and fees of all rows
+abbrev pub total_owed : List Instalment → ℕ
+total_owed rows = sum_by (λ row. row.principal + row.interest + row.fees) rows
 
 -- the charge at disbursement, on the principal and the total interest
 abbrev pub fee_at_disbursement : Terms → ℕ → List Instalment → ℕ

@@ -1,9 +1,10 @@
-use Rattle.std.proofs.Common.{◌≡◌, ℕ, ◌+◌, ◌-◌, map, sum, ap, ◌∙◌, arith}
+use Rattle.std.proofs.Common.{◌≡◌, ℕ, ◌+◌, ◌-◌, map, ap, ◌∙◌, arith}
 use Rattle.std.specs.List.{range_with_len}
-use Rattle.mf_schedule.specs.Fresh.{instalment_of, scheduled_interest, total_interest, total_principal}
+use Rattle.mf_schedule.specs.Fresh.{instalment_of, scheduled_interest, fresh_schedule, total_interest, total_owed, total_principal}
 use Rattle.mf_schedule.specs.Plan.{interest_of, principal_of}
 use Rattle.mf_schedule.proofs.GraceLemmas.{held_before, after_grace-within, after_grace-beyond, held_before-within, held_before-beyond}
-use Rattle.mf_schedule.proofs.LoanLemmas.{balance_of-le, fresh_rows-more, principal_of-step, scheduled-interest-sum, scheduled-principal-sum, interest_of-sum-small}
+use Rattle.mf_schedule.proofs.LoanLemmas.{balance_of-le, fresh_rows-more, principal_of-step, scheduled-interest-sum, scheduled-principal-sum}
+use Rattle.mf_schedule.proofs.BoundLemmas.{scheduled_interest-le, scheduled_owed-le}
 use Rattle.mf_schedule.proofs.schedule.fresh.Goals as goal
 use Rattle.mf_schedule.proofs.schedule.fresh.Goals.{then-i-terms, else-i-terms}
 
@@ -48,9 +49,14 @@ returns-clause-all_interest c =
     ap total_interest (c.loop-i.invariant.made ∙ ap (λ (x : ℕ). map (instalment_of c.args.terms.now c.args.principal c.args.n c.args.day) (range_with_len 1 x)) place)
     ∙ scheduled-interest-sum c.args.terms.now c.args.principal c.args.n c.args.day c.requires.limits
 
-pub returns-clause-small : goal.returns-clause-small
-returns-clause-small c =
+pub returns-clause-little_interest : goal.returns-clause-little_interest
+returns-clause-little_interest c =
     let place : c.loop-i.i - 1 ≡ c.args.n = omega arith in
-    let all : total_interest c.loop-i.rows.items ≡ sum (map (interest_of c.args.terms.now c.args.principal c.args.n) (range_with_len 1 c.args.n)) = ap total_interest (c.loop-i.invariant.made ∙ ap (λ (x : ℕ). map (instalment_of c.args.terms.now c.args.principal c.args.n c.args.day) (range_with_len 1 x)) place)
-    ∙ scheduled-interest-sum c.args.terms.now c.args.principal c.args.n c.args.day c.requires.limits in
-    omega (arith, all, interest_of-sum-small c.args.terms.now c.args.principal c.args.n c.requires.limits)
+    let rows : c.loop-i.rows.items ≡ fresh_schedule c.args.terms.now c.args.principal c.args.n c.args.day = c.loop-i.invariant.made ∙ ap (λ (x : ℕ). map (instalment_of c.args.terms.now c.args.principal c.args.n c.args.day) (range_with_len 1 x)) place in
+    omega (arith, ap total_interest rows, scheduled_interest-le c.args.terms.now c.args.principal c.args.n c.args.day c.requires.limits)
+
+pub returns-clause-little_owed : goal.returns-clause-little_owed
+returns-clause-little_owed c =
+    let place : c.loop-i.i - 1 ≡ c.args.n = omega arith in
+    let rows : c.loop-i.rows.items ≡ fresh_schedule c.args.terms.now c.args.principal c.args.n c.args.day = c.loop-i.invariant.made ∙ ap (λ (x : ℕ). map (instalment_of c.args.terms.now c.args.principal c.args.n c.args.day) (range_with_len 1 x)) place in
+    omega (arith, ap total_owed rows, scheduled_owed-le c.args.terms.now c.args.principal c.args.n c.args.day c.requires.limits)
