@@ -3,3 +3,4 @@ pub mod PlanLemmas
 pub mod GraceLemmas
 pub mod LoanLemmas
 pub mod BoundLemmas
+pub mod WorkedRows
