@@ -4,3 +4,4 @@ pub mod GraceLemmas
 pub mod LoanLemmas
 pub mod BoundLemmas
 pub mod WorkedRows
+pub mod TextLemmas

@@ -5,7 +5,9 @@ mod fixed;
 mod instalment;
 mod plan;
 mod schedule;
+mod text;
 
 pub use fixed::fixed_amount;
 pub use instalment::Instalment;
 pub use schedule::{disbursement_fee, fresh};
+pub use text::schedule_text;
