@@ -49,9 +49,23 @@ pub record AreScheduleWords (rows : List Row) (asked : ScheduleWords) : Type 0 w
   pub principal_grace : IsNumberAt rows (codes "principal-grace") 0 MOST_GRACE asked.principal_grace
   pub interest_grace : IsNumberAt rows (codes "interest-grace") 0 MOST_GRACE asked.interest_grace
 
+-- each number within its limits
+pub record IsWithinLimits (asked : ScheduleWords) : Type 0 where
+  pub some_principal : 1 ≤ asked.principal
+  pub most_principal : asked.principal ≤ GREATEST_AMOUNT
+  pub most_rate : asked.rate ≤ GREATEST_RATE
+  pub most_periods : asked.periods ≤ MOST_PERIODS
+  pub day_entered : asked.day ≤ last_entered_day
+  pub some_step : 1 ≤ asked.every
+  pub longest_step : asked.every ≤ longest_step asked.frequency
+
 -- a command of the program with these options, as `clap` reads the words
 abbrev pub HasOptions : List Text → Text → List Row → Type 0
 HasOptions words name rows = subcommand_of microloan_app words ≡ Some (name, rows)
+
+-- a command's numbers are within their limits
+abbrev pub HasLimits : Command → Type 0
+HasLimits (Schedule asked) = IsWithinLimits asked
 
 -- what the words ask for
 abbrev pub IsAsked : List Text → Command → Type 0

@@ -1,7 +1,7 @@
 ghost use Rattle.std.specs.Prelude.{◌≡◌, ◌⊎◌, map, true, IfOk, IfErr, IsErrOf, string_bytes, Ok, Err};
 ghost use Rattle.clap.specs.Words.{subcommand_of, subcommand_rows_of, takes, kind_of};
 ghost use Rattle.mf_words.specs.Options.{microloan_app};
-ghost use Rattle.mf_words.specs.Asked.{IsAsked};
+ghost use Rattle.mf_words.specs.Asked.{HasLimits, IsAsked};
 ghost use Rattle.mf_words.specs.declared.asked.Command.{Command};
 
 use crate::asked::{Command, Words};
@@ -26,6 +26,7 @@ fn matches_of<'a>(alloc: Global, words: &'a [String]) -> Result<ArgMatches<'a>, 
 /// Words that `clap` takes, and whose options are as they should be, are refused for want of memory alone.
 pub fn command(alloc: Global, words: &[String]) -> Result<Command, Words>
     ensures asked { IfOk result (IsAsked (map string_bytes words.now)) }
+    ensures limits { IfOk result HasLimits }
     ensures every { (asked : Command) → takes microloan_app (map string_bytes words.now) ≡ true →
         IsAsked (map string_bytes words.now) asked → (result ≡ Ok asked) ⊎ (result ≡ Err Words.Memory) }
 {

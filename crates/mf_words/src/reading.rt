@@ -1,6 +1,6 @@
 ghost use Rattle.std.specs.Prelude.{◌≡◌, IfOk};
 ghost use Rattle.clap.specs.Words.{found_of, rows_of};
-ghost use Rattle.mf_words.specs.Asked.{AreScheduleWords};
+ghost use Rattle.mf_words.specs.Asked.{AreScheduleWords, IsWithinLimits};
 ghost use Rattle.mf_catalog.specs.Limits.{longest_step};
 ghost use Rattle.mf_words.specs.declared.asked.ScheduleWords.{ScheduleWords};
 
@@ -39,6 +39,7 @@ fn longest_step(frequency: Freq) -> u32
 /// The options of `schedule`, or the first that isn't what it should be.
 pub(crate) fn schedule_words(options: &ArgMatches<'_>) -> Result<ScheduleWords, Wrong>
     ensures read { IfOk result (λ asked. AreScheduleWords (rows_of (found_of options.now)) asked) }
+    ensures limits { IfOk result IsWithinLimits }
     ensures every { (asked : ScheduleWords) → AreScheduleWords (rows_of (found_of options.now)) asked → result ≡ Ok asked }
 {
     let method = method_at(options).ok_or(Wrong::Method)?;
