@@ -5,6 +5,8 @@ mod fixed;
 mod instalment;
 mod plan;
 mod schedule;
+#[cfg(test)]
+mod tests;
 mod text;
 
 pub use fixed::fixed_amount;
