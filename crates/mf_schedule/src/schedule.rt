@@ -89,6 +89,6 @@ pub fn disbursement_fee(terms: &Terms, principal: u64, rows: &[Instalment]) -> u
     requires interest { total_interest rows.now < 2 ^ 62 }
     ensures { result ≡ fee_at_disbursement terms.now principal rows.now }
 {
-    let interest = rows.iter().map(|row| row.interest).sum();
+    let interest: u64 = rows.iter().map(|row| row.interest).sum();
     amount_of_charge(&terms.disbursement, principal, interest)
 }
