@@ -8,17 +8,17 @@ use Rattle.mf_office.proofs.TextLemmas.{ends_with_dot, starts_with, same_text, r
 use Rattle.mf_office.proofs.TreeLemmas.{within_none, within_some, step_up, is_head, zero_head, reaches}
 
 -- one step of a key, by the parent
-key_none : (n : ℕ) (parents : ℕ → Option ℕ) (x : ℕ) → parents x ≡ None → key_within n parents x ≡ 46 ∷ []
+pub key_none : (n : ℕ) (parents : ℕ → Option ℕ) (x : ℕ) → parents x ≡ None → key_within n parents x ≡ 46 ∷ []
 unfolding key_within
 key_none zero parents x e = refl
 key_none (suc n) parents x e = ap (λ q. grown q (λ p. key_within n parents p) x) e
 
-key_some : (n : ℕ) (parents : ℕ → Option ℕ) (x p : ℕ) → parents x ≡ Some p → key_within (suc n) parents x ≡ key_within n parents p ++ (decimal x ++ 46 ∷ [])
+pub key_some : (n : ℕ) (parents : ℕ → Option ℕ) (x p : ℕ) → parents x ≡ Some p → key_within (suc n) parents x ≡ key_within n parents p ++ (decimal x ++ 46 ∷ [])
 unfolding key_within
 key_some n parents x p e = ap (λ q. grown q (λ p. key_within n parents p) x) e
 
 -- a key is the same from any height that reaches the head
-key_any : (m n : ℕ) (there : ℕ → Bool) (parents : ℕ → Option ℕ) (x : ℕ) (q : Option ℕ) → IsTreeOf there parents → parents x ≡ q → is_within m parents x 1 ≡ true → is_within n parents x 1 ≡ true → key_within m parents x ≡ key_within n parents x
+pub key_any : (m n : ℕ) (there : ℕ → Bool) (parents : ℕ → Option ℕ) (x : ℕ) (q : Option ℕ) → IsTreeOf there parents → parents x ≡ q → is_within m parents x 1 ≡ true → is_within n parents x 1 ≡ true → key_within m parents x ≡ key_within n parents x
 key_any m n there parents x None t e h k = key_none m parents x e ∙ sym (key_none n parents x e)
 key_any zero n there parents x (Some p) t e h k = absurd (zero_head there parents x p t e h)
 key_any (suc m) zero there parents x (Some p) t e h k = absurd (zero_head there parents x p t e k)
@@ -28,7 +28,7 @@ key_any (suc m) (suc n) there parents x (Some p) t e h k =
     ∙ sym (key_some n parents x p e)
 
 -- it ends with a dot
-key_ends : (n : ℕ) (parents : ℕ → Option ℕ) (x : ℕ) (o : Option ℕ) → parents x ≡ o → (q : List ℕ) × (key_within n parents x ≡ q ++ 46 ∷ [])
+pub key_ends : (n : ℕ) (parents : ℕ → Option ℕ) (x : ℕ) (o : Option ℕ) → parents x ≡ o → (q : List ℕ) × (key_within n parents x ≡ q ++ 46 ∷ [])
 unfolding key_within
 key_ends zero parents x o e = ([], refl)
 key_ends (suc n) parents x None e = ([], key_none (suc n) parents x e)
@@ -43,7 +43,7 @@ last_some n parents x p lt e =
     ap (last_number 0 0) (key_some n parents x p e ∙ ap (λ z. z ++ (decimal x ++ 46 ∷ [])) q.1 ∙ append_assoc q.0 (46 ∷ []) (decimal x ++ 46 ∷ []))
     ∙ a.1 ∙ last_of_digits (decimal x) 0 a.0 d.no_dot ∙ d.value_is
 
-wide : (there : ℕ → Bool) (parents : ℕ → Option ℕ) (x : ℕ) → IsTreeOf there parents → there x ≡ true → x < 2 ^ 64
+pub wide : (there : ℕ → Bool) (parents : ℕ → Option ℕ) (x : ℕ) → IsTreeOf there parents → there x ≡ true → x < 2 ^ 64
 wide there parents x t here = let r = t.numbered x here in omega arith
 
 -- offices with one key are one

@@ -3,3 +3,5 @@ pub mod TreeLemmas
 pub mod KeyLemmas
 pub mod WrittenLemmas
 pub mod ReadLemmas
+pub mod AddedLemmas
+pub mod DepthLemmas

@@ -18,7 +18,7 @@ pub within_some : (n : ℕ) (parents : ℕ → Option ℕ) (x y p : ℕ) → par
 unfolding is_within
 within_some n parents x y p e = ap (λ q. (x == y) || option_any q (λ p. is_within n parents p y)) e
 
-within_zero : (parents : ℕ → Option ℕ) (x y : ℕ) → is_within 0 parents x y ≡ (x == y)
+pub within_zero : (parents : ℕ → Option ℕ) (x y : ℕ) → is_within 0 parents x y ≡ (x == y)
 unfolding is_within
 within_zero parents x y = refl
 
@@ -48,7 +48,7 @@ unfolding is_at_or_below
 reaches there parents x t here = t.all_below x here
 
 -- a step more reaches no more
-within_stable : (n : ℕ) (there : ℕ → Bool) (parents : ℕ → Option ℕ) (x y : ℕ) (o : Option ℕ) → IsTreeOf there parents → is_within n parents x 1 ≡ true → parents x ≡ o → is_within (suc n) parents x y ≡ is_within n parents x y
+pub within_stable : (n : ℕ) (there : ℕ → Bool) (parents : ℕ → Option ℕ) (x y : ℕ) (o : Option ℕ) → IsTreeOf there parents → is_within n parents x 1 ≡ true → parents x ≡ o → is_within (suc n) parents x y ≡ is_within n parents x y
 within_stable n there parents x y None t r e = within_none (suc n) parents x y e ∙ sym (within_none n parents x y e)
 within_stable zero there parents x y (Some p) t r e = absurd (zero_head there parents x p t e r)
 within_stable (suc n) there parents x y (Some p) t r e =
@@ -61,7 +61,7 @@ unfolding is_within is_at_or_below
 below_by_parent there parents t x y here = sym (within_stable 5 there parents x y (parents x) t (reaches there parents x t here) refl)
 
 -- the bounded definition and the unbounded one
-same_number : (x y : ℕ) → (x == y) ≡ true → x ≡ y
+pub same_number : (x y : ℕ) → (x == y) ≡ true → x ≡ y
 same_number x y h = grind (arith, nat_tests)
 
 at_itself : (parents : ℕ → Option ℕ) (x y : ℕ) → x ≡ y → IsAtOrBelow parents y x

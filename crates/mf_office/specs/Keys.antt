@@ -1,5 +1,5 @@
 -- Hierarchy texts, called keys, and the range of texts that an office selects.
-use Rattle.std.specs.Prelude.{◌≡◌, ℕ, zero, suc, ◌-◌, Bool, true, false, not, ◌&&◌, ◌||◌, List, [], ◌∷◌, ◌++◌, length, slice_index, nat_lt, ◌==◌, Option, Some, None, decimal, codes}
+use Rattle.std.specs.Prelude.{◌≡◌, ℕ, zero, suc, ◌-◌, Bool, true, false, not, ◌&&◌, ◌||◌, List, [], ◌∷◌, ◌++◌, length, slice_index, count_by, nat_lt, ◌==◌, Option, Some, None, decimal, codes}
 
 -- the key of the head
 abbrev pub head_key : List ℕ
@@ -26,6 +26,10 @@ key_of parents x = key_within 5 parents x
 -- what every key does
 abbrev pub EndsWithDot : List ℕ → Type 0
 EndsWithDot text = slice_index text (length text - 1) ≡ 46
+
+-- how deep the office of a key stands, the head at 1: a dot for each office on the way
+abbrev pub key_depth : List ℕ → ℕ
+key_depth key = count_by (λ b. b == 46) key
 
 -- the text with a slash, the byte after the dot, for its last byte
 abbrev pub raised : List ℕ → List ℕ

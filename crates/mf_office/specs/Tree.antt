@@ -1,5 +1,5 @@
 -- Who is at or below whom. An office's parent is all that counts, so each definition stands over the function of parents.
-use Rattle.std.specs.Prelude.{◌≡◌, ℕ, zero, suc, Bool, true, false, cond, ◌||◌, List, [], ◌∷◌, ◌==◌, Option, Some, None}
+use Rattle.std.specs.Prelude.{◌≡◌, ◌≢◌, ℕ, zero, suc, Bool, true, false, cond, ◌||◌, List, [], ◌∷◌, ◌==◌, Option, Some, None}
 use Rattle.mf_office.specs.Numbers.{IsNumberUpTo}
 
 -- there is a number, and it passes
@@ -28,6 +28,16 @@ pub record IsTreeOf (there : ℕ → Bool) (parents : ℕ → Option ℕ) : Type
   pub head : parents 1 ≡ None
   pub parents_there : (x p : ℕ) → there x ≡ true → parents x ≡ Some p → there p ≡ true
   pub all_below : (x : ℕ) → there x ≡ true → is_at_or_below parents x 1 ≡ true
+
+-- an office that is not there yet is put under office p, which is at most five deep
+pub record AddsOffice (there : ℕ → Bool) (parents : ℕ → Option ℕ) (number p : ℕ) (there_after : ℕ → Bool) (parents_after : ℕ → Option ℕ) : Type 0 where
+  pub in_range : IsNumberUpTo 9999 number
+  pub unused : there number ≡ false
+  pub parent_there : there p ≡ true
+  pub not_too_deep : is_within 4 parents p 1 ≡ true
+  pub parent_is : parents_after number ≡ Some p
+  pub others : (x : ℕ) → x ≢ number → parents_after x ≡ parents x
+  pub there_is : (x : ℕ) → there_after x ≡ ((x == number) || there x)
 
 -- an office's number, and its parent's where it has one
 pub record Place : Type 0 where

@@ -13,7 +13,7 @@ fn separator_at(text: &[u8], separator: u8) -> Option<usize>
 }
 
 /// What stands before and after the first of a separator, or None where there is none.
-pub fn split_once(text: &[u8], separator: u8) -> Option<(&[u8], &[u8])>
+pub(crate) fn split_once(text: &[u8], separator: u8) -> Option<(&[u8], &[u8])>
     ensures none { IfNone result (after_first (λ b. b == separator) text.now ≡ []) }
     ensures before { IfSome result (λ parts. parts.0.now ≡ before_first (λ b. b == separator) text.now) }
     ensures after { IfSome result (λ parts. parts.1.now ≡ after_first (λ b. b == separator) text.now) }
@@ -38,7 +38,7 @@ fn number_of_digits(text: &[u8]) -> Option<u32>
 }
 
 /// The number from 1 to 9999 that is written so without leading zeros.
-pub fn plain_number(text: &[u8]) -> Option<u32>
+pub(crate) fn plain_number(text: &[u8]) -> Option<u32>
     ensures { result ≡ number_written decimal 9999 text.now }
 {
     if text.is_empty() || text.len() > 4 || text[0] == b'0' {
@@ -48,7 +48,7 @@ pub fn plain_number(text: &[u8]) -> Option<u32>
 }
 
 /// The number from 1 on that is written so in so many digits.
-pub fn padded_number(text: &[u8], width: usize) -> Option<u32>
+pub(crate) fn padded_number(text: &[u8], width: usize) -> Option<u32>
     requires some { 1 ≤ width }
     requires few { width ≤ 6 }
     ensures { result ≡ number_written (zero_padded width) (10 ^ width - 1) text.now }

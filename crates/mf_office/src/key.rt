@@ -1,5 +1,5 @@
 ghost use Rattle.std.specs.Prelude.{◌≡◌, ℕ, List, true, string_bytes, IfOk, IsOkUnless, SomeIff};
-ghost use Rattle.mf_office.specs.Keys.{head_key, child_key, raised, is_in_range, key_of, EndsWithDot};
+ghost use Rattle.mf_office.specs.Keys.{key_depth, head_key, child_key, raised, is_in_range, key_of, EndsWithDot};
 ghost use Rattle.mf_office.specs.Tree.{Place, IsTree, is_there, parent_of, is_at_or_below};
 
 use crate::office::OfficeNo;
@@ -59,6 +59,13 @@ impl Key {
         ensures dot { EndsWithDot result.now }
     {
         self.text.as_str()
+    }
+
+    /// How deep the key's office stands, the head at 1: the number of its dots. A tree's offices stand at most 6 deep.
+    pub fn depth(&self) -> usize
+        ensures { result ≡ key_depth self.now }
+    {
+        self.as_str().bytes().filter(|b| *b == b'.').count()
     }
 
     /// The ends of the range of texts that this key selects: the key itself, and the key with `/`, the next byte,

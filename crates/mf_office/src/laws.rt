@@ -1,10 +1,10 @@
 //! Laws of the tree of offices and its keys. Each function does nothing: its contract is the law.
 
-ghost use Rattle.std.specs.Prelude.{◌≡◌, ◌↔◌, ℕ, ◌==◌, ◌||◌, Bool, true, false, Option, Some, None, codes};
-ghost use Rattle.mf_office.specs.Tree.{IsTreeOf, IsAtOrBelow, is_at_or_below, option_any, parent_of, small_tree};
+ghost use Rattle.std.specs.Prelude.{◌≡◌, ◌↔◌, ℕ, ◌≤◌, ◌==◌, ◌||◌, Bool, true, false, Option, Some, None, codes};
+ghost use Rattle.mf_office.specs.Tree.{IsTreeOf, AddsOffice, IsAtOrBelow, is_within, is_at_or_below, option_any, parent_of, small_tree};
 ghost use Rattle.mf_office.specs.Written.{caller_text, account_text};
 ghost use Rattle.mf_office.specs.Texts.{caller_of, account_of};
-ghost use Rattle.mf_office.specs.Keys.{key_of, head_key, child_key, raised, is_in_range, EndsWithDot};
+ghost use Rattle.mf_office.specs.Keys.{key_of, key_depth, head_key, child_key, raised, is_in_range, EndsWithDot};
 
 /// In a tree an office is at or below another exactly where it is that office, or its parent is at or below it,
 /// however many steps that takes.
@@ -30,6 +30,28 @@ pub fn key_by_parents()
 pub fn range_is_subtree()
     ensures { (there : ℕ → Bool) (parents : ℕ → Option ℕ) → IsTreeOf there parents → (x y : ℕ) → there x ≡ true → there y ≡ true →
         is_in_range (key_of parents y) (raised (key_of parents y)) (key_of parents x) ≡ is_at_or_below parents x y }
+{}
+
+/// An office put under one that is at most five deep leaves a tree. Of the offices that were there, it changes neither
+/// who is at or below whom nor any key.
+pub fn tree_with_an_office_more()
+    ensures tree { (there there_after : ℕ → Bool) (parents parents_after : ℕ → Option ℕ) (number p : ℕ) → IsTreeOf there parents → AddsOffice there parents number p there_after parents_after →
+        IsTreeOf there_after parents_after }
+    ensures below { (there there_after : ℕ → Bool) (parents parents_after : ℕ → Option ℕ) (number p : ℕ) → IsTreeOf there parents → AddsOffice there parents number p there_after parents_after →
+        (x y : ℕ) → there x ≡ true → is_at_or_below parents_after x y ≡ is_at_or_below parents x y }
+    ensures new_below { (there there_after : ℕ → Bool) (parents parents_after : ℕ → Option ℕ) (number p : ℕ) → IsTreeOf there parents → AddsOffice there parents number p there_after parents_after →
+        (y : ℕ) → is_at_or_below parents_after number y ≡ ((number == y) || is_at_or_below parents p y) }
+    ensures keys { (there there_after : ℕ → Bool) (parents parents_after : ℕ → Option ℕ) (number p : ℕ) → IsTreeOf there parents → AddsOffice there parents number p there_after parents_after →
+        (x : ℕ) → there x ≡ true → key_of parents_after x ≡ key_of parents x }
+    ensures new_key { (there there_after : ℕ → Bool) (parents parents_after : ℕ → Option ℕ) (number p : ℕ) → IsTreeOf there parents → AddsOffice there parents number p there_after parents_after →
+        key_of parents_after number ≡ child_key (key_of parents p) number }
+{}
+
+/// In a tree a key has at most six dots, and at most five where there is room below its office.
+pub fn depth_by_key()
+    ensures most { (there : ℕ → Bool) (parents : ℕ → Option ℕ) → IsTreeOf there parents → (x : ℕ) → there x ≡ true → key_depth (key_of parents x) ≤ 6 }
+    ensures room { (there : ℕ → Bool) (parents : ℕ → Option ℕ) → IsTreeOf there parents → (x : ℕ) → there x ≡ true →
+        (key_depth (key_of parents x) ≤ 5) ↔ (is_within 4 parents x 1 ≡ true) }
 {}
 
 /// An office with number 2 under the head, 20 beside it, and 5 under 2.

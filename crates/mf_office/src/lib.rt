@@ -14,7 +14,10 @@ mod staff;
 pub use account::{Account, AccountNo};
 pub use caller::Caller;
 pub use key::{Key, in_range};
-pub use laws::{at_or_below_by_parents, key_by_parents, range_is_subtree, worked_rows};
+pub use laws::{
+    at_or_below_by_parents, depth_by_key, key_by_parents, range_is_subtree,
+    tree_with_an_office_more, worked_rows,
+};
 pub use number::next_number;
 pub use office::{Name, Office, OfficeNo};
 pub use staff::{Role, Staff, StaffNo};
