@@ -1,5 +1,6 @@
 -- Hierarchy texts, called keys, and the range of texts that an office selects.
-use Rattle.std.specs.Prelude.{◌≡◌, ℕ, zero, suc, ◌-◌, Bool, true, false, not, ◌&&◌, ◌||◌, List, [], ◌∷◌, ◌++◌, length, slice_index, count_by, nat_lt, ◌==◌, Option, Some, None, decimal, codes}
+use Rattle.std.specs.Prelude.{◌≡◌, ℕ, zero, suc, ◌-◌, ◌≤◌, Bool, true, false, not, ◌&&◌, ◌||◌, List, [], ◌∷◌, ◌++◌, length, slice_index, count_by, nat_lt, ◌==◌, Option, Some, None, decimal, codes}
+use Rattle.mf_office.specs.Numbers.{IsNumberUpTo}
 
 -- the key of the head
 abbrev pub head_key : List ℕ
@@ -23,13 +24,24 @@ key_within (suc n) parents x = grown (parents x) (λ p. key_within n parents p) 
 unfoldable pub key_of : (ℕ → Option ℕ) → ℕ → List ℕ
 key_of parents x = key_within 5 parents x
 
--- what every key does
-abbrev pub EndsWithDot : List ℕ → Type 0
-EndsWithDot text = slice_index text (length text - 1) ≡ 46
-
 -- how deep the office of a key stands, the head at 1: a dot for each office on the way
 abbrev pub key_depth : List ℕ → ℕ
 key_depth key = count_by (λ b. b == 46) key
+
+-- a text for each office, the head's a dot and a child's its parent's, its own number and a dot, with at most six dots
+pub record GrowsByParents (there : ℕ → Bool) (parents : ℕ → Option ℕ) (text : ℕ → List ℕ) : Type 0 where
+  pub numbered : (x : ℕ) → there x ≡ true → IsNumberUpTo 9999 x
+  pub head_there : there 1 ≡ true
+  pub head : parents 1 ≡ None
+  pub only_head : (x : ℕ) → there x ≡ true → parents x ≡ None → x ≡ 1
+  pub parents_there : (x p : ℕ) → there x ≡ true → parents x ≡ Some p → there p ≡ true
+  pub head_text : text 1 ≡ head_key
+  pub child_text : (x p : ℕ) → there x ≡ true → parents x ≡ Some p → text x ≡ child_key (text p) x
+  pub depth : (x : ℕ) → there x ≡ true → key_depth (text x) ≤ 6
+
+-- what every key does
+abbrev pub EndsWithDot : List ℕ → Type 0
+EndsWithDot text = slice_index text (length text - 1) ≡ 46
 
 -- the text with a slash, the byte after the dot, for its last byte
 abbrev pub raised : List ℕ → List ℕ

@@ -1,10 +1,10 @@
 //! Laws of the tree of offices and its keys. Each function does nothing: its contract is the law.
 
-ghost use Rattle.std.specs.Prelude.{◌≡◌, ◌↔◌, ℕ, ◌≤◌, ◌==◌, ◌||◌, Bool, true, false, Option, Some, None, codes};
+ghost use Rattle.std.specs.Prelude.{◌≡◌, ◌↔◌, ℕ, ◌≤◌, ◌==◌, ◌||◌, Bool, true, false, List, Option, Some, None, codes};
 ghost use Rattle.mf_office.specs.Tree.{IsTreeOf, AddsOffice, IsAtOrBelow, is_within, is_at_or_below, option_any, parent_of, small_tree};
 ghost use Rattle.mf_office.specs.Written.{caller_text, account_text};
 ghost use Rattle.mf_office.specs.Texts.{caller_of, account_of};
-ghost use Rattle.mf_office.specs.Keys.{key_of, key_depth, head_key, child_key, raised, is_in_range, EndsWithDot};
+ghost use Rattle.mf_office.specs.Keys.{GrowsByParents, key_of, key_depth, head_key, child_key, raised, is_in_range, EndsWithDot};
 
 /// In a tree an office is at or below another exactly where it is that office, or its parent is at or below it,
 /// however many steps that takes.
@@ -52,6 +52,12 @@ pub fn depth_by_key()
     ensures most { (there : ℕ → Bool) (parents : ℕ → Option ℕ) → IsTreeOf there parents → (x : ℕ) → there x ≡ true → key_depth (key_of parents x) ≤ 6 }
     ensures room { (there : ℕ → Bool) (parents : ℕ → Option ℕ) → IsTreeOf there parents → (x : ℕ) → there x ≡ true →
         (key_depth (key_of parents x) ≤ 5) ↔ (is_within 4 parents x 1 ≡ true) }
+{}
+
+/// Texts that grow by parents, with at most six dots, stand for offices that are a tree, and are its keys: exactly then.
+pub fn tree_by_its_keys()
+    ensures { (there : ℕ → Bool) (parents : ℕ → Option ℕ) (text : ℕ → List ℕ) →
+        GrowsByParents there parents text ↔ (IsTreeOf there parents × ((x : ℕ) → there x ≡ true → text x ≡ key_of parents x)) }
 {}
 
 /// An office with number 2 under the head, 20 beside it, and 5 under 2.
