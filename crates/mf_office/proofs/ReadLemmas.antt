@@ -1,16 +1,15 @@
 -- A text is read as the caller or the account whose text it is.
-use Rattle.std.proofs.Common.{◌≡◌, ◌↔◌, ℕ, ◌-◌, ◌^◌, ◌<◌, ◌≤◌, List, [], ◌∷◌, ◌++◌, length, Option, Some, None, refl, sym, ap, ◌∙◌, subst, arith, lit<, lit≤}
+use Rattle.std.proofs.Common.{◌≡◌, ◌↔◌, ℕ, ◌-◌, ◌^◌, List, [], ◌∷◌, ◌++◌, length, Option, Some, None, refl, sym, ap, ◌∙◌, arith, lit<, lit≤}
 use Rattle.std.specs.Prelude.{◌==◌, decimal, replicate, option_and_then}
 use Rattle.std.specs.Option.{option_map}
 use Rattle.std.specs.List.{before_first, after_first}
 use Rattle.std.specs.Fmt.{padded_integral, char_count, styled_decimal, format_spec}
 use Rattle.std.proofs.lemmas.List.{append-nil}
-use Rattle.mf_office.specs.Numbers.{IsNumberUpTo}
 use Rattle.mf_office.specs.Written.{zero_padded, number_written, caller_text, account_text}
 use Rattle.mf_office.specs.Texts.{IsCaller, caller_of, IsAccount, account_of}
 use Rattle.mf_office.specs.declared.caller.Caller.{Caller}
 use Rattle.mf_office.specs.declared.account.Account.{Account}
-use Rattle.mf_office.proofs.WrittenLemmas.{IsWriting, written_of, decimal_writing, zero_padded_writing, before_separator, after_separator, written_round}
+use Rattle.mf_office.proofs.WrittenLemmas.{written_of, decimal_writing, zero_padded_writing, before_separator, after_separator, written_round}
 
 -- a caller
 caller_read : (x y : Option ℕ) (office staff : ℕ) → x ≡ Some office → y ≡ Some staff → option_and_then (λ (a : ℕ). option_map (λ (b : ℕ). let c : Caller = record { office = a; staff = b } in c) y) x ≡ Some (record { office = office; staff = staff })

@@ -1,6 +1,6 @@
 -- Numbers written in digits: what is read was written, and what was written is read.
 use Rattle.std.proofs.Common.{◌≡◌, ◌≢◌, ℕ, zero, suc, ◌+◌, ◌-◌, ◌*◌, ◌^◌, ◌<◌, ◌≤◌, Bool, true, false, cond, not, List, [], ◌∷◌, ◌++◌, length, get_or, take, drop, Option, Some, None, refl, sym, ap, ◌∙◌, subst, arith, lit<}
-use Rattle.std.specs.Prelude.{◌==◌, ◌&&◌, decimal, replicate, nat_le, nat_lt, SomeIff, if◌then◌else◌}
+use Rattle.std.specs.Prelude.{◌==◌, ◌&&◌, decimal, replicate, nat_lt, SomeIff, if◌then◌else◌}
 use Rattle.std.specs.Char.{digit_value, is_ascii_digit}
 use Rattle.std.specs.Int.{IsInRange}
 use Rattle.std.specs.Str.{bytes_eq}

@@ -1,5 +1,5 @@
-use Rattle.std.proofs.Common.{rules, ◌≡◌, Option, None, Some, ℕ, arith, sym, ◌∙◌}
-use Rattle.mf_office.proofs.WrittenLemmas.{not_padded, padded_other, zero_written, padded_number_is}
+use Rattle.std.proofs.Common.{rules, ◌≡◌, None, ◌∙◌}
+use Rattle.mf_office.proofs.WrittenLemmas.{not_padded, padded_other, padded_number_is}
 use Rattle.mf_office.proofs.digits.padded_number.Goals as goal
 
 pub returns-then-text-width : goal.returns-then-text-width

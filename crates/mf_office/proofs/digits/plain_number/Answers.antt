@@ -1,4 +1,4 @@
-use Rattle.std.proofs.Common.{◌≡◌, ◌≢◌, ◌<◌, length, get_or, arith, sym}
+use Rattle.std.proofs.Common.{◌≢◌, ◌<◌, length, get_or, arith, sym}
 use Rattle.std.proofs.lemmas.Bool.Decides.{nat_tests}
 use Rattle.mf_office.proofs.WrittenLemmas.{not_plain, plain_number_is}
 use Rattle.mf_office.proofs.digits.plain_number.Goals as goal

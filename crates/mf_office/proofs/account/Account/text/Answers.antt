@@ -1,5 +1,5 @@
-use Rattle.std.proofs.Common.{◌≡◌, ◌++◌, ◌∷◌, ◌^◌, ◌-◌, List, ℕ, ◌∙◌, ap, string_bytes, rules}
-use Rattle.std.specs.Fmt.{styled_decimal, format_spec}
+use Rattle.std.proofs.Common.{◌≡◌, ◌++◌, ◌∷◌, List, ℕ, ◌∙◌, ap, rules}
+use Rattle.std.specs.Fmt.{styled_decimal}
 use Rattle.mf_office.specs.Written.{zero_padded}
 use Rattle.mf_office.specs.Texts.{IsAccount}
 use Rattle.mf_office.proofs.ReadLemmas.{account_of-text, four_digits, six_digits}

@@ -1,4 +1,4 @@
-use Rattle.std.proofs.Common.{◌≡◌, ◌∙◌, string_bytes, rules}
+use Rattle.std.proofs.Common.{◌≡◌, string_bytes, rules}
 use Rattle.mf_office.specs.Written.{caller_text}
 use Rattle.mf_office.specs.Texts.{IsCaller}
 use Rattle.mf_office.proofs.ReadLemmas.{caller_of-text}
