@@ -1,0 +1,61 @@
+//! The loan desk's program: reads its words, and does what they ask for.
+#![tactic(auto)]
+
+mod schedule;
+
+ghost use Rattle.mf_words.specs.Asked.{IsWithinLimits};
+
+use mf_words::{Command, ScheduleWords, Words, command};
+use schedule::schedule;
+use std::process::ExitCode;
+use std::{env, io};
+
+/// Done, refused requests included.
+const DONE: u8 = 0;
+/// A fault, which standard error names.
+const FAULT: u8 = 1;
+/// The words ask for nothing that the program does.
+const BAD_WORDS: u8 = 2;
+
+fn main(rt: HostRuntime) -> io::Result<ExitCode> {
+    let words: Vec<String> = env::args(&rt)?.collect(rt.alloc())?;
+    let status = match command(rt.alloc(), &words) {
+        Ok(Command::Schedule(asked)) => print_schedule(&rt, &asked)?,
+        Err(words) => refuse_words(&rt, words)?,
+    };
+    Ok(ExitCode::from(status))
+}
+
+/// Prints the schedule that the words ask for, and gives the program's status.
+fn print_schedule<R: Print + Eprint + AllocGlobal>(rt: &R, asked: &ScheduleWords) -> io::Result<u8>
+    requires { IsWithinLimits asked.now }
+{
+    match schedule(rt.alloc(), asked) {
+        Ok(text) => {
+            rt.print(text)?;
+            Ok(DONE)
+        }
+        Err(fault) => {
+            rt.eprintln(format_args!("microloan: {fault:?}"))?;
+            Ok(FAULT)
+        }
+    }
+}
+
+/// Says what is wrong with words, or the help that they ask for, and gives the program's status.
+fn refuse_words<R: Print + Eprint>(rt: &R, words: Words) -> io::Result<u8> {
+    match words {
+        Words::Help(text) => {
+            rt.print(text)?;
+            Ok(DONE)
+        }
+        Words::Bad(line) => {
+            rt.eprintln(line)?;
+            Ok(BAD_WORDS)
+        }
+        Words::Memory => {
+            rt.eprintln("microloan: memory")?;
+            Ok(FAULT)
+        }
+    }
+}
