@@ -1,6 +1,5 @@
 -- What the command `schedule` prints.
 use Rattle.std.specs.Prelude.{◌≤◌, ◌⊎◌, ℕ, List, None}
-use Rattle.mf_base.specs.declared.fault.Fault.{Fault}
 use Rattle.mf_catalog.specs.declared.terms.Terms.{Terms}
 use Rattle.mf_catalog.specs.declared.terms.StrategyName.TheVariants.{MifosStandard}
 use Rattle.mf_schedule.specs.Fresh.{fresh_schedule}

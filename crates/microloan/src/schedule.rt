@@ -1,4 +1,5 @@
-ghost use Rattle.std.specs.Prelude.{◌≡◌, ◌⊎◌, IfOk, IfErr, string_bytes};
+ghost use Rattle.std.specs.Prelude.{◌≡◌, ◌≤◌, ◌⊎◌, IfOk, IfErr, string_bytes};
+ghost use Rattle.mf_base.specs.DayText.{last_entered_day};
 ghost use Rattle.mf_base.specs.declared.fault.Fault.TheVariants.{F8, F20};
 ghost use Rattle.mf_words.specs.Asked.{IsWithinLimits};
 ghost use Rattle.microloan.specs.Printed.{terms_asked, printed, HasLongGrace};
@@ -46,9 +47,6 @@ pub fn schedule(alloc: Global, asked: &ScheduleWords) -> Result<String, Fault>
 
 #[cfg(test)]
 mod tests {
-    ghost use Rattle.std.specs.Prelude.{◌≤◌};
-    ghost use Rattle.mf_base.specs.DayText.{last_entered_day};
-
     use super::*;
     use mf_base::{Day, Freq};
     use mf_catalog::Method;
