@@ -1,7 +1,8 @@
 //! Laws of the calendar that the crates above may use.
 
 ghost use Rattle.std.specs.Prelude.{◌≡◌, ◌↔◌, ℕ, ◌<◌, ◌≤◌};
-ghost use Rattle.mf_base.specs.Calendar.{Date, IsDate, date_of, day_of};
+ghost use Rattle.mf_base.specs.Calendar.{Date, IsDate, date_of, day_of, day_after};
+ghost use Rattle.mf_base.specs.declared.day.Freq.{Freq};
 ghost use Rattle.mf_base.specs.DayText.{date_text, day_text, last_entered_day, last_day};
 
 /// Date and number of a day give each other back: each number is that of one date, and each date has one number.
@@ -18,4 +19,10 @@ pub fn texts_of_days()
     ensures apart { (one other : ℕ) → day_text one ≡ day_text other → one ≡ other }
     ensures entered { (date : Date) → IsDate date → ((date.year < 2100) ↔ (day_of date ≤ last_entered_day)) }
     ensures last { (date : Date) → IsDate date → ((date.year < 10_000) ↔ (day_of date ≤ last_day)) }
+{}
+
+/// No step leads to the day itself, and more steps lead to a later day: due days ascend.
+pub fn due_days_ascend()
+    ensures none { (day : ℕ) (freq : Freq) → day_after day freq 0 ≡ day }
+    ensures more { (day : ℕ) (freq : Freq) (fewer more : ℕ) → fewer < more → day_after day freq fewer < day_after day freq more }
 {}

@@ -1,4 +1,5 @@
-//! What every crate of the loan desk shares: the numbered refusals and the faults of a stream, days, and rounding.
+//! What every crate of the loan desk shares: the numbered refusals and the faults of a stream, days and their texts,
+//! money texts, rounding, and splitting into parts.
 #![tactic(auto)]
 
 mod calendar;
@@ -10,7 +11,7 @@ mod rounding;
 #[cfg(test)]
 mod tests;
 
-pub use calendar::{dates_and_numbers, texts_of_days};
+pub use calendar::{dates_and_numbers, due_days_ascend, texts_of_days};
 pub use day::{Day, Freq};
 pub use fault::{Cause, Fault, StreamFault};
 pub use money::{money_text, money_texts_are_read, parse_money};

@@ -6,43 +6,74 @@ fn day(text: &[u8]) -> Result<Day, Fail> {
 }
 
 #[test]
-fn rounds_and_splits(rt: HostRuntime) -> Result<(), Fail> {
+fn rounds_half_to_even(rt: HostRuntime) {
     assert_eq!(rt; half_even(25, 10), 2);
     assert_eq!(rt; half_even(35, 10), 4);
-    assert_eq!(rt; half_even(u128::MAX, 1), u128::MAX);
     assert_eq!(rt; half_even(5025, 10), 502);
+}
+
+#[test]
+fn splits_into_parts(rt: HostRuntime) {
     assert_eq!(rt; split(100000, 3, 1), 33333);
     assert_eq!(rt; split(100000, 3, 3), 33334);
     assert_eq!(rt; split(1000000000000, 120, 2), 8333333333);
     assert_eq!(rt; split(1000000000000, 120, 3), 8333333334);
+}
+
+#[test]
+fn days_are_written(rt: HostRuntime) -> Result<(), Fail> {
+    for text in ["2000-01-01", "2024-02-29", "2099-12-31", "9999-12-31"] {
+        let written = day(text.as_bytes())?.text(rt.alloc())?;
+        assert_eq!(rt; written.as_str(), text);
+    }
     Ok(())
 }
 
 #[test]
-fn days_are_read_and_written(rt: HostRuntime) -> Result<(), Fail> {
-    let text = day(b"2024-02-29")?.text(rt.alloc())?;
-    assert_eq!(rt; text.as_str(), "2024-02-29");
-    let last = day(b"9999-12-31")?.text(rt.alloc())?;
-    assert_eq!(rt; last.as_str(), "9999-12-31");
+fn no_other_text_is_a_day(rt: HostRuntime) {
+    for text in [
+        "1999-12-31",
+        "2024-02-30",
+        "2023-02-29",
+        "2100-02-29",
+        "2024-2-29",
+        "2024-13-01",
+        "2024-01-01 ",
+        "",
+    ] {
+        assert_eq!(rt; Day::read(text.as_bytes()), None);
+    }
+}
+
+#[test]
+fn entered_days_end_with_2099(rt: HostRuntime) -> Result<(), Fail> {
     assert_eq!(rt; Day::parse(b"2099-12-31"), Some(day(b"2099-12-31")?));
     assert_eq!(rt; Day::parse(b"2100-01-01"), None);
-    assert_eq!(rt; Day::read(b"1999-12-31"), None);
-    assert_eq!(rt; Day::read(b"2024-02-30"), None);
-    assert_eq!(rt; Day::read(b"2023-02-29"), None);
-    assert_eq!(rt; Day::read(b"2024-2-29"), None);
-    assert_eq!(rt; day(b"2024-05-01")?.days_since(day(b"2024-03-31")?), 31);
-    assert_eq!(rt; day(b"2024-03-31")?.days_since(day(b"2024-04-30")?), -30);
     Ok(())
 }
 
 #[test]
-fn due_days_count_from_the_first_day(rt: HostRuntime) -> Result<(), Fail> {
+fn days_between_days(rt: HostRuntime) -> Result<(), Fail> {
+    let due = day(b"2024-03-31")?;
+    assert_eq!(rt; day(b"2024-05-01")?.days_since(due), 31);
+    assert_eq!(rt; due.days_since(day(b"2024-04-30")?), -30);
+    Ok(())
+}
+
+#[test]
+fn due_days_by_months(rt: HostRuntime) -> Result<(), Fail> {
     let start = Day::parse(b"2024-01-31").ok_or("no day")?;
     assert_eq!(rt; start.after(Freq::Months, 1), day(b"2024-02-29")?);
     assert_eq!(rt; start.after(Freq::Months, 2), day(b"2024-03-31")?);
     assert_eq!(rt; start.after(Freq::Months, 3), day(b"2024-04-30")?);
-    assert_eq!(rt; start.after(Freq::Months, 1440), day(b"2144-01-31")?);
-    assert_eq!(rt; start.after(Freq::Months, 4320), day(b"2384-01-31")?);
+    assert_eq!(rt; start.after(Freq::Months, 120 * 12), day(b"2144-01-31")?);
+    assert_eq!(rt; start.after(Freq::Months, 360 * 12), day(b"2384-01-31")?);
+    Ok(())
+}
+
+#[test]
+fn due_days_by_weeks(rt: HostRuntime) -> Result<(), Fail> {
+    let start = Day::parse(b"2024-01-31").ok_or("no day")?;
     assert_eq!(rt; start.after(Freq::Weeks, 2), day(b"2024-02-14")?);
     assert_eq!(rt; start.after(Freq::Weeks, 4), day(b"2024-02-28")?);
     assert_eq!(rt; start.after(Freq::Weeks, 6), day(b"2024-03-13")?);
@@ -50,34 +81,38 @@ fn due_days_count_from_the_first_day(rt: HostRuntime) -> Result<(), Fail> {
 }
 
 #[test]
-fn money_is_read_and_written(rt: HostRuntime) -> Result<(), Fail> {
-    assert_eq!(rt; parse_money(b"200"), Some(20000));
-    assert_eq!(rt; parse_money(b"1.5"), Some(150));
-    assert_eq!(rt; parse_money(b"007.05"), Some(705));
-    assert_eq!(rt; parse_money(b"10000000000"), Some(1000000000000));
-    assert_eq!(rt; parse_money(b"0"), Some(0));
-    for text in [
-        &b"10000000000.01"[..],
-        b"1.",
-        b".5",
-        b"1.234",
-        b"-1",
-        b"1,000",
-        b"",
+fn money_is_read(rt: HostRuntime) {
+    for (text, cents) in [
+        ("200", 20000),
+        ("1.5", 150),
+        ("007.05", 705),
+        ("10000000000", 1000000000000),
+        ("0", 0),
     ] {
-        assert_eq!(rt; parse_money(text), None);
+        assert_eq!(rt; parse_money(text.as_bytes()), Some(cents));
     }
-    let text = money_text(rt.alloc(), 150000)?;
-    assert_eq!(rt; text.as_str(), "1500.00");
-    let none = money_text(rt.alloc(), 0)?;
-    assert_eq!(rt; none.as_str(), "0.00");
-    Ok(())
 }
 
 #[test]
+fn no_other_text_is_money(rt: HostRuntime) {
+    for text in ["10000000000.01", "1.", ".5", "1.234", "-1", "1,000", ""] {
+        assert_eq!(rt; parse_money(text.as_bytes()), None);
+    }
+}
+
+#[test]
+fn money_is_written(rt: HostRuntime) -> Result<(), Fail> {
+    for (cents, text) in [(0, "0.00"), (6667, "66.67"), (150000, "1500.00")] {
+        let written = money_text(rt.alloc(), cents)?;
+        assert_eq!(rt; written.as_str(), text);
+    }
+    Ok(())
+}
+
+// Under `rt try --test --fail-alloc N` the Nth request for memory is refused: this test passes at each N.
+#[test]
 fn want_of_memory_is_f20(rt: HostRuntime) -> Result<(), Fail> {
-    let start = day(b"2024-01-31")?;
-    match start.text(rt.alloc()) {
+    match day(b"2024-01-31")?.text(rt.alloc()) {
         Ok(text) => assert_eq!(rt; text.as_str(), "2024-01-31"),
         Err(fault) => assert_eq!(rt; fault, Fault::F20),
     }
