@@ -1,7 +1,9 @@
 -- Worked schedules, computed from the definitions. Days are given as dates of the calendar.
-use Rattle.std.proofs.Common.{◌≡◌, ℕ, ◌*◌, ◌^◌, List, [], ◌∷◌, map, refl, sym, arith, Some, None}
+use Rattle.std.proofs.Common.{◌++◌, codes, ◌≡◌, ℕ, ◌*◌, ◌^◌, List, [], ◌∷◌, map, refl, sym, arith, Some, None}
 use Rattle.std.specs.List.{range_with_len}
 use Rattle.mf_base.specs.Calendar.{day_of, date_of}
+use Rattle.mf_base.specs.DayText.{day_text}
+use Rattle.std.specs.Fmt.{digits}
 use Rattle.mf_base.specs.declared.day.Freq.{Freq}
 use Rattle.mf_base.specs.declared.day.Freq.TheVariants.{Weeks, Months}
 use Rattle.mf_catalog.specs.declared.charge.ChargeDef.{ChargeDef}
@@ -17,6 +19,7 @@ use Rattle.mf_schedule.specs.declared.instalment.Instalment.{Instalment}
 use Rattle.mf_schedule.specs.Fixed.{balance_after, least_amount}
 use Rattle.mf_schedule.specs.Plan.{flat_interest, interest_of, principal_of}
 use Rattle.mf_schedule.specs.Fresh.{due_day_of, fee_at_disbursement, fresh_schedule, total_interest}
+use Rattle.mf_schedule.specs.ScheduleText.{schedule_text}
 use Rattle.mf_schedule.proofs.FixedLemmas.{first-from_too_low, least_amount-is}
 
 -- terms at 12 percent a year with no charge
@@ -181,3 +184,12 @@ fee_on_amount = refl
 
 fee_on_both : fee_at_disbursement (charged OfBoth) 100000 (fresh_schedule (charged OfBoth) 100000 3 8796) ≡ 1530
 fee_on_both = refl
+
+-- the printed schedule of the loan by equal principal
+printed : schedule_text (fresh_schedule (monthly EqualPrincipal 0 0) 100000 3 8796) ≡
+    codes "  1 2024-02-29            333.33             10.00            343.33" ++ 10 ∷ []
+    ++ codes "  2 2024-03-31            333.33              6.67            340.00" ++ 10 ∷ []
+    ++ codes "  3 2024-04-30            333.34              3.33            336.67" ++ 10 ∷ []
+    ++ codes "sum                      1000.00             20.00           1020.00" ++ 10 ∷ []
+unfolding day_of date_of day_text digits
+printed = refl

@@ -1,4 +1,4 @@
-ghost use Rattle.std.specs.Prelude.{◌≡◌, ◌<◌, ◌≤◌, ◌^◌, IfOk, IfSome, IsOkUnless, map, sum};
+ghost use Rattle.std.specs.Prelude.{◌≡◌, ◌<◌, ◌≤◌, ◌^◌, IfOk, IfSome, IsOkUnless, map, sum, vec_len};
 ghost use Rattle.std.specs.List.{range_with_len};
 ghost use Rattle.mf_base.specs.DayText.{last_entered_day};
 ghost use Rattle.mf_schedule.specs.Fresh.{IsLoanWithinLimits, due_day_of, fee_at_disbursement, fresh_schedule, total_interest, total_owed, total_principal};
@@ -51,6 +51,7 @@ pub fn fresh(
     requires limits { IsLoanWithinLimits terms.now principal n }
     requires day { day ≤ last_entered_day }
     ensures rows { IfOk result (λ rows. rows.items ≡ fresh_schedule terms.now principal n day) }
+    ensures count { IfOk result (λ rows. vec_len rows ≡ n) }
     ensures all_principal { IfOk result (λ rows. total_principal rows.items ≡ principal) }
     ensures all_interest { IfOk result (λ rows. total_interest rows.items ≡ sum (map (interest_of terms.now principal n) (range_with_len 1 n))) }
     ensures little_interest { IfOk result (λ rows. total_interest rows.items < 2 ^ 53) }

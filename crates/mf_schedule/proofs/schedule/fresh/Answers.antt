@@ -32,6 +32,7 @@ loop-i-preserved c =
     ] in
     record {
       made = fresh_rows-more terms c.args.principal c.args.n c.args.day i c.loop-i.rows.items _ c.due_day.result c.principal-part.result c.if-i-terms.interest c.amount_of_charge.result (omega arith) c.loop-i.invariant.made c.in_ok-push.ensures.items c.due_day.ensures part interest c.amount_of_charge.ensures;
+      count = omega (arith, c.in_ok-push.ensures.len);
       left = omega (arith, principal_of-step terms c.args.principal c.args.n i c.requires.limits (omega arith) (omega arith));
       back = held;
       small = elim c.if-i-terms.branch [ then-i-terms w ↦ omega (arith, w.held-is) | else-i-terms w ↦ omega (arith, w.held-is) ];
