@@ -1,0 +1,83 @@
+-- An institution: what all offices share, and for each office its own rows. Within an office things are numbered by their places, from 1. Texts are lists of bytes, days are numbers of days.
+use Rattle.std.specs.Prelude.{ℕ, cond, List, [], ◌∷◌, ◌==◌, nat_lt, Option, Some, None, codes}
+use Rattle.mf_office.specs.declared.role.Role.{Role}
+use Rattle.mf_office.specs.declared.role.Role.TheVariants.{Manager}
+
+-- what all offices share
+pub record Catalogue : Type 0 where
+  -- the business day
+  pub day : ℕ
+
+-- a member of staff of an office
+pub record Staff : Type 0 where
+  pub name : List ℕ
+  pub role : Role
+
+-- what belongs to one office: its staff, and the names of its clients
+pub record Rows : Type 0 where
+  pub staff : List Staff
+  pub clients : List (List ℕ)
+
+-- an office; the head has no parent
+pub record Office : Type 0 where
+  pub number : ℕ
+  pub parent : Option ℕ
+  pub name : List ℕ
+  pub rows : Rows
+
+-- the offices stand by number
+pub record Institution : Type 0 where
+  pub catalogue : Catalogue
+  pub offices : List Office
+
+-- what an accepted write changes: one thing, its target
+pub data Change : Type 0 where
+  Catalogue_becomes : Catalogue → Change
+  Rows_become : ℕ → Rows → Change
+  Office_added : ℕ → ℕ → List ℕ → Change
+
+-- the office of this number
+abbrev pub office_at : ℕ → List Office → Option Office
+office_at x [] = None
+office_at x (f ∷ fs) = cond (f.number == x) (Some f) (office_at x fs)
+
+-- the offices, where office x has these rows
+abbrev pub with_rows : ℕ → Rows → List Office → List Office
+with_rows x rows [] = []
+with_rows x rows (f ∷ fs) = record f { rows = cond (f.number == x) rows f.rows } ∷ with_rows x rows fs
+
+-- one more office, before the first with a greater number
+abbrev pub with_office : Office → List Office → List Office
+with_office new [] = new ∷ []
+with_office new (f ∷ fs) = cond (nat_lt new.number f.number) (new ∷ f ∷ fs) (f ∷ with_office new fs)
+
+-- an office that has nothing yet
+abbrev pub no_rows : Rows
+no_rows = record { staff = []; clients = [] }
+
+-- an office under a parent, which has nothing yet
+abbrev pub new_office : ℕ → ℕ → List ℕ → Office
+new_office number parent name = record { number = number; parent = Some parent; name = name; rows = no_rows }
+
+-- the institution after a change
+abbrev pub after : Change → Institution → Institution
+after (Catalogue_becomes catalogue) i = record i { catalogue = catalogue }
+after (Rows_become x rows) i = record i { offices = with_rows x rows i.offices }
+after (Office_added number parent name) i = record i { offices = with_office (new_office number parent name) i.offices }
+
+-- the same where there may be none
+abbrev pub after_maybe : Option Change → Institution → Institution
+after_maybe None i = i
+after_maybe (Some change) i = after change i
+
+-- a new institution on a day: the head office with its manager, and nothing else
+abbrev pub newly_made : ℕ → Institution
+newly_made day = record {
+  catalogue = record { day = day };
+  offices = record {
+    number = 1;
+    parent = None;
+    name = codes "Head Office";
+    rows = record { staff = record { name = codes "Head Manager"; role = Manager } ∷ []; clients = [] };
+  } ∷ [];
+}

@@ -1,0 +1,3 @@
+//! What an institution is, what a request is answered and what it changes, and the laws of whole runs: definitions,
+//! and the theorems that the desk and the store stand on.
+#![tactic(auto)]
