@@ -1,5 +1,5 @@
 -- An institution: what all offices share, and for each office its own rows. Within an office things are numbered by their places, from 1. Texts are lists of bytes, days are numbers of days.
-use Rattle.std.specs.Prelude.{ℕ, cond, List, [], ◌∷◌, ◌==◌, nat_lt, Option, Some, None, codes}
+use Rattle.std.specs.Prelude.{ℕ, ◌-◌, cond, List, [], ◌∷◌, ◌==◌, nat_lt, slice_get, Option, Some, None, codes}
 use Rattle.mf_office.specs.declared.role.Role.{Role}
 use Rattle.mf_office.specs.declared.role.Role.TheVariants.{Manager}
 
@@ -35,6 +35,10 @@ pub data Change : Type 0 where
   Catalogue_becomes : Catalogue → Change
   Rows_become : ℕ → Rows → Change
   Office_added : ℕ → ℕ → List ℕ → Change
+
+-- the thing of this number, in a list by number from 1
+abbrev pub numbered : {A : Type 0} → List A → ℕ → Option A
+numbered xs n = cond (n == 0) None (slice_get xs (n - 1))
 
 -- the office of this number
 abbrev pub office_at : ℕ → List Office → Option Office

@@ -1,3 +1,11 @@
 //! What an institution is, what a request is answered and what it changes, and the laws of whole runs: definitions,
 //! and the theorems that the desk and the store stand on.
 #![tactic(auto)]
+
+mod name;
+mod reply;
+mod request;
+
+pub use name::Name;
+pub use reply::{OfficeLine, OfficeList, Reply};
+pub use request::{Call, Request};

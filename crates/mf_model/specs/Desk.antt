@@ -1,0 +1,175 @@
+-- What a request is answered, and what it changes.
+use Rattle.std.specs.Prelude.{ℕ, ◌+◌, Bool, true, false, cond, not, ◌&&◌, List, [], ◌∷◌, ◌++◌, map, length, ◌==◌, nat_lt, Option, Some, None, Result, Ok, Err}
+use Rattle.mf_base.specs.declared.fault.Fault.{Fault}
+use Rattle.mf_base.specs.declared.fault.Fault.TheVariants.{F2, F3, F4, F16, F18}
+use Rattle.mf_office.specs.declared.role.Role.{Role}
+use Rattle.mf_office.specs.declared.role.Role.TheVariants.{Teller, Manager}
+use Rattle.mf_office.specs.declared.caller.Caller.{Caller}
+use Rattle.mf_office.specs.declared.caller.Account.{Account}
+use Rattle.mf_office.specs.Tree.{is_within, is_at_or_below}
+use Rattle.mf_model.specs.declared.request.Call.{Call}
+use Rattle.mf_model.specs.declared.request.Request.{Request}
+use Rattle.mf_model.specs.declared.request.Request.TheVariants.{Malformed, PostOffices, GetOffices, PostStaff, PostClients, GetClient}
+use Rattle.mf_model.specs.declared.reply.OfficeLine.{OfficeLine}
+use Rattle.mf_model.specs.declared.reply.Reply.{Reply}
+use Rattle.mf_model.specs.declared.reply.Reply.TheVariants.{OfficeMade, Offices, StaffMade, ClientMade, ClientShown}
+use Rattle.mf_model.specs.Institution.{Institution, Catalogue, Office, Rows, Staff, Change, Catalogue_becomes, Rows_become, Office_added, numbered, office_at}
+use Rattle.mf_model.specs.Tree.{parent_of, seen_office, seen_by, is_there}
+
+-- what a request looks at and changes, once its caller may send it: the catalogue; one office, and the catalogue beside it; the offices that the caller sees; or a place for a new office
+pub data Plan : Type 0 where
+  On_catalogue : (Catalogue → Result (Reply × Option Catalogue) Fault) → Plan
+  On_office : ℕ → (Caller → Catalogue → Office → Result (Reply × Option Rows) Fault) → Plan
+  On_all_seen : (Catalogue → List Office → Result Reply Fault) → Plan
+  On_new_office : ℕ → ℕ → List ℕ → Plan
+
+-- the number of what comes next, up to a limit
+abbrev pub next_of : {A : Type 0} → List A → ℕ → Result ℕ Fault
+next_of xs limit = cond (nat_lt (length xs) limit) (Ok (length xs + 1)) (Err F18)
+
+-- the rows with one more member of staff
+abbrev pub staff_added : List ℕ → Role → Rows → Rows
+staff_added name role rows = record rows { staff = rows.staff ++ record { name = name; role = role } ∷ [] }
+
+-- the rows with one more client
+abbrev pub client_added : List ℕ → Rows → Rows
+client_added name rows = record rows { clients = rows.clients ++ name ∷ [] }
+
+-- a new member of staff, of at most 9,999 in an office
+abbrev pub add_staff : ℕ → List ℕ → Role → Rows → Result (Reply × Option Rows) Fault
+add_staff office name role rows = elim (next_of rows.staff 9999) [ Err e ↦ Err e | Ok n ↦ Ok (StaffMade (record { office = office; staff = n }), Some (staff_added name role rows)) ]
+
+-- a new client, of at most 999,999 in an office
+abbrev pub add_client : ℕ → List ℕ → Rows → Result (Reply × Option Rows) Fault
+add_client office name rows = elim (next_of rows.clients 999999) [ Err e ↦ Err e | Ok n ↦ Ok (ClientMade (record { office = office; number = n }), Some (client_added name rows)) ]
+
+-- a client's name
+abbrev pub show_client : Account → Rows → Result (Reply × Option Rows) Fault
+show_client client rows = elim (numbered rows.clients client.number) [ None ↦ Err F4 | Some name ↦ Ok (ClientShown client name, None) ]
+
+-- an office as a reply shows it
+abbrev pub line_of : Office → OfficeLine
+line_of f = record { number = f.number; parent = f.parent; name = f.name }
+
+-- the table of requests. What reads as no request is refused before anything is looked at
+abbrev pub plan : Request → Result Plan Fault
+plan (Malformed fault) = Err fault
+plan (PostOffices number parent name) = Ok (On_new_office number parent name)
+plan GetOffices = Ok (On_all_seen (λ catalogue fs. Ok (Offices (map line_of fs))))
+plan (PostStaff office name role) = Ok (On_office office (λ caller catalogue f. add_staff office name role f.rows))
+plan (PostClients office name) = Ok (On_office office (λ caller catalogue f. add_client office name f.rows))
+plan (GetClient client) = Ok (On_office client.office (λ caller catalogue f. show_client client f.rows))
+
+-- who may send a request: any staff, officers and managers, managers, or managers of office 1
+pub data Need : Type 0 where
+  A_teller : Need
+  An_officer : Need
+  A_manager : Need
+  The_head : Need
+
+-- the table of roles
+abbrev pub need : Request → Need
+need (Malformed fault) = A_teller
+need (PostOffices number parent name) = The_head
+need GetOffices = A_teller
+need (PostStaff office name role) = A_manager
+need (PostClients office name) = An_officer
+need (GetClient client) = A_teller
+
+abbrev pub is_manager : Role → Bool
+is_manager Manager = true
+is_manager _ = false
+
+-- an officer or a manager
+abbrev pub is_officer : Role → Bool
+is_officer Teller = false
+is_officer _ = true
+
+-- judged from the caller's role and office and the kind of request alone
+abbrev pub meets : Need → Role → ℕ → Bool
+meets A_teller role office = true
+meets An_officer role office = is_officer role
+meets A_manager role office = is_manager role
+meets The_head role office = is_manager role && (office == 1)
+
+-- a success with the change that it makes, or a refusal
+abbrev pub Outcome : Type 0
+Outcome = Result (Reply × Option Change) Fault
+
+abbrev pub of_catalogue : Result (Reply × Option Catalogue) Fault → Outcome
+of_catalogue (Err e) = Err e
+of_catalogue (Ok (reply, None)) = Ok (reply, None)
+of_catalogue (Ok (reply, Some catalogue)) = Ok (reply, Some (Catalogue_becomes catalogue))
+
+abbrev pub of_office : ℕ → Result (Reply × Option Rows) Fault → Outcome
+of_office x (Err e) = Err e
+of_office x (Ok (reply, None)) = Ok (reply, None)
+of_office x (Ok (reply, Some rows)) = Ok (reply, Some (Rows_become x rows))
+
+abbrev pub of_reading : Result Reply Fault → Outcome
+of_reading (Err e) = Err e
+of_reading (Ok reply) = Ok (reply, None)
+
+-- what is done in office x, where it is seen
+abbrev pub in_office : ℕ → (Catalogue → Office → Result (Reply × Option Rows) Fault) → Catalogue → Option Office → Outcome
+in_office x act catalogue None = Err F4
+in_office x act catalogue (Some f) = of_office x (act catalogue f)
+
+-- a new office under a parent that office o sees; at most six deep, the head being one
+abbrev pub found : ℕ → ℕ → ℕ → List ℕ → List Office → Outcome
+found o number parent name fs =
+    cond (not (is_there fs parent && is_at_or_below (parent_of fs) parent o)) (Err F4)
+    (cond (is_there fs number) (Err F16)
+    (cond (is_within 4 (parent_of fs) parent 1) (Ok (OfficeMade number, Some (Office_added number parent name))) (Err F18)))
+
+-- what becomes of a plan that the caller may send. A named office is there only where it is at or below the caller's
+abbrev pub carried_out : Caller → Plan → Institution → Outcome
+carried_out c (On_catalogue act) i = of_catalogue (act i.catalogue)
+carried_out c (On_office x act) i = in_office x (act c) i.catalogue (seen_office c.office x i)
+carried_out c (On_all_seen read) i = of_reading (read i.catalogue (seen_by c.office i.offices))
+carried_out c (On_new_office number parent name) i = found c.office number parent name i.offices
+
+-- the caller's row
+abbrev pub staff_at : Institution → Caller → Option Staff
+staff_at i c = elim (office_at c.office i.offices) [ None ↦ None | Some f ↦ numbered f.rows.staff c.staff ]
+
+abbrev pub permitted : Caller → Request → Plan → Option Staff → Institution → Outcome
+permitted c request p None i = Err F2
+permitted c request p (Some staff) i = cond (meets (need request) staff.role c.office) (carried_out c p i) (Err F3)
+
+abbrev pub sent_by : Option Caller → Request → Result Plan Fault → Institution → Outcome
+sent_by caller request (Err e) i = Err e
+sent_by None request (Ok p) i = Err F2
+sent_by (Some c) request (Ok p) i = permitted c request p (staff_at i c) i
+
+-- what a call is answered and changes
+abbrev pub outcome : Call → Institution → Outcome
+outcome call i = sent_by call.caller call.request (plan call.request) i
+
+abbrev pub reply_in : Outcome → Result Reply Fault
+reply_in (Err e) = Err e
+reply_in (Ok r) = Ok r.0
+
+abbrev pub change_in : Outcome → Option Change
+change_in (Err e) = None
+change_in (Ok r) = r.1
+
+-- what a call is answered
+abbrev pub reply : Call → Institution → Result Reply Fault
+reply call i = reply_in (outcome call i)
+
+-- the change that an accepted request makes. Nothing is read of the caller's own row
+abbrev pub made : Caller → Plan → Institution → Option Change
+made c (On_catalogue act) i = change_in (of_catalogue (act i.catalogue))
+made c (On_office x act) i = change_in (in_office x (act c) i.catalogue (office_at x i.offices))
+made c (On_all_seen read) i = None
+made c (On_new_office number parent name) i = Some (Office_added number parent name)
+
+abbrev pub made_by : Option Caller → Result Plan Fault → Institution → Option Change
+made_by caller (Err e) i = None
+made_by None (Ok p) i = None
+made_by (Some c) (Ok p) i = made c p i
+
+-- the effect of an accepted call: worked out from the catalogue and the target alone
+abbrev pub effect : Call → Institution → Option Change
+effect call i = made_by call.caller (plan call.request) i

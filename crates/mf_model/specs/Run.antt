@@ -1,0 +1,126 @@
+-- Whole runs, and what of a run concerns one office.
+use Rattle.std.specs.Prelude.{◌≡◌, ℕ, Bool, false, cond, ◌&&◌, ◌||◌, List, [], ◌∷◌, is_some, ◌==◌, Option, Some, None, Result, Err}
+use Rattle.mf_base.specs.declared.fault.Fault.{Fault}
+use Rattle.mf_base.specs.declared.fault.Fault.TheVariants.{F20}
+use Rattle.mf_office.specs.declared.caller.Caller.{Caller}
+use Rattle.mf_model.specs.declared.request.Call.{Call}
+use Rattle.mf_model.specs.declared.reply.Reply.{Reply}
+use Rattle.mf_model.specs.Institution.{Institution, Change, after_maybe}
+use Rattle.mf_model.specs.Tree.{view, touches}
+use Rattle.mf_model.specs.Desk.{outcome, change_in, reply, effect}
+
+-- a line of a run, which may be given up for want of memory or by a fault of the store
+pub record Line : Type 0 where
+  pub call : Call
+  pub given_up : Bool
+
+-- the change that the line makes, if it is accepted and not given up
+abbrev pub change_of : Line → Institution → Option Change
+change_of l i = cond l.given_up None (change_in (outcome l.call i))
+
+-- what the line is answered
+abbrev pub answer : Line → Institution → Result Reply Fault
+answer l i = cond l.given_up (Err F20) (reply l.call i)
+
+-- the institution after the line
+abbrev pub next : Line → Institution → Institution
+next l i = after_maybe (change_of l i) i
+
+-- the replies to the lines, in order
+abbrev pub answers : List Line → Institution → List (Result Reply Fault)
+answers [] i = []
+answers (l ∷ ls) i = answer l i ∷ answers ls (next l i)
+
+-- the institution in the end
+abbrev pub last : List Line → Institution → Institution
+last [] i = i
+last (l ∷ ls) i = last ls (next l i)
+
+abbrev pub is_of : ℕ → Option Caller → Bool
+is_of o None = false
+is_of o (Some c) = c.office == o
+
+abbrev pub is_by : Caller → Option Caller → Bool
+is_by c None = false
+is_by c (Some d) = (d.office == c.office) && (d.staff == c.staff)
+
+-- the line names a caller of office o
+abbrev pub from_office : ℕ → Call → Bool
+from_office o call = is_of o call.caller
+
+-- the line names this caller
+abbrev pub from_caller : Caller → Call → Bool
+from_caller c call = is_by c call.caller
+
+-- of the replies to the lines, those to the calls that are meant
+abbrev pub told : {R : Type 0} → (Call → Bool) → List Line → List R → List R
+told meant [] rs = []
+told meant (l ∷ ls) [] = []
+told meant (l ∷ ls) (r ∷ rs) = cond (meant l.call) (r ∷ told meant ls rs) (told meant ls rs)
+
+abbrev pub touched : ℕ → Institution → Option Change → Bool
+touched o i None = false
+touched o i (Some change) = touches o i change
+
+-- a request of the touching list
+pub record Touch : Type 0 where
+  pub call : Call
+  pub accepted : Bool
+
+-- the touching list of office o: the requests of its callers, and the accepted writes whose target it sees
+abbrev pub touching : ℕ → List Line → Institution → List Touch
+touching o [] i = []
+touching o (l ∷ ls) i =
+    cond (from_office o l.call || touched o i (change_of l i))
+    (record { call = l.call; accepted = is_some (change_of l i) } ∷ touching o ls (next l i))
+    (touching o ls (next l i))
+
+-- a view after an entry of the touching list: the change is read off the view
+abbrev pub play_one : Touch → Institution → Institution
+play_one t v = cond t.accepted (after_maybe (effect t.call v) v) v
+
+-- the view in the end
+abbrev pub play : List Touch → Institution → Institution
+play [] v = v
+play (t ∷ ts) v = play ts (play_one t v)
+
+-- the replies of the view to the calls that are meant
+abbrev pub play_replies : (Call → Bool) → List Touch → Institution → List (Result Reply Fault)
+play_replies meant [] v = []
+play_replies meant (t ∷ ts) v =
+    cond (meant t.call) (reply t.call v ∷ play_replies meant ts (play_one t v)) (play_replies meant ts (play_one t v))
+
+-- which of the lines that are meant are given up
+abbrev pub given_up : (Call → Bool) → List Line → List Bool
+given_up meant [] = []
+given_up meant (l ∷ ls) = cond (meant l.call) (l.given_up ∷ given_up meant ls) (given_up meant ls)
+
+-- the replies, with F20 in the place of those given up
+abbrev pub but_given_up : List Bool → List (Result Reply Fault) → List (Result Reply Fault)
+but_given_up [] rs = rs
+but_given_up (g ∷ gs) [] = []
+but_given_up (g ∷ gs) (r ∷ rs) = cond g (Err F20) r ∷ but_given_up gs rs
+
+-- no line is given up
+abbrev pub NoneGivenUp : List Line → Type 0
+NoneGivenUp [] = Unit {0}
+NoneGivenUp (l ∷ ls) = (l.given_up ≡ false) × NoneGivenUp ls
+
+-- an office's view after the run is its touching list, played on its first view
+abbrev pub ViewIsPlay : Institution → List Line → Type 0
+ViewIsPlay i ls = (o : ℕ) → view o (last ls i) ≡ play (touching o ls i) (view o i)
+
+-- what an office's callers are told is what that play answers them, but where a line is given up
+abbrev pub RepliesArePlay : Institution → List Line → Type 0
+RepliesArePlay i ls = (o : ℕ) →
+    told (from_office o) ls (answers ls i) ≡ but_given_up (given_up (from_office o) ls) (play_replies (from_office o) (touching o ls i) (view o i))
+
+-- the same of one member of staff
+abbrev pub OwnRepliesArePlay : Institution → List Line → Type 0
+OwnRepliesArePlay i ls = (c : Caller) →
+    told (from_caller c) ls (answers ls i) ≡ but_given_up (given_up (from_caller c) ls) (play_replies (from_caller c) (touching c.office ls i) (view c.office i))
+
+-- two runs that begin with the same view of office o and touch it alike
+pub record Alike (o : ℕ) (i j : Institution) (ls ks : List Line) : Type 0 where
+  pub view_is : view o i ≡ view o j
+  pub touching_is : touching o ls i ≡ touching o ks j
