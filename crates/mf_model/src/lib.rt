@@ -2,10 +2,12 @@
 //! and the theorems that the desk and the store stand on.
 #![tactic(auto)]
 
+mod laws;
 mod name;
 mod reply;
 mod request;
 
+pub use laws::{alike, alike_but_given_up, confinement, isolation, isolation_with_memory};
 pub use name::Name;
 pub use reply::{OfficeLine, OfficeList, Reply};
 pub use request::{Call, Request};

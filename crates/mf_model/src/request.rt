@@ -22,9 +22,14 @@ pub enum Request {
         role: Role,
     },
     /// A new client of an office.
-    PostClients { office: OfficeNo, name: Name },
+    PostClients {
+        office: OfficeNo,
+        name: Name,
+    },
     /// A client's name.
-    GetClient { client: Account },
+    GetClient {
+        client: Account,
+    },
 }
 
 /// A request and who sends it, if the line names anybody.

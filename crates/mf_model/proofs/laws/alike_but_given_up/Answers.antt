@@ -1,0 +1,9 @@
+use Rattle.mf_model.specs.Run.{from_office, from_caller}
+use Rattle.mf_model.proofs.Runs.{alike_replies, office_from, caller_from}
+use Rattle.mf_model.proofs.laws.alike_but_given_up.Goals as goal
+
+pub returns-clause-replies : goal.returns-clause-replies
+returns-clause-replies c = λ o. alike_replies o (from_office o) (office_from o)
+
+pub returns-clause-own_replies : goal.returns-clause-own_replies
+returns-clause-own_replies c = λ caller. alike_replies caller.office (from_caller caller) (caller_from caller)

@@ -1,0 +1,57 @@
+//! Laws of whole runs. Each function does nothing: its contract is the law.
+
+ghost use Rattle.std.specs.Prelude.{◌≡◌, ◌≢◌, ℕ, List, Some};
+ghost use Rattle.mf_office.specs.declared.caller.Caller.{Caller};
+ghost use Rattle.mf_model.specs.Institution.{Institution, Rows, Rows_become, after, office_at};
+ghost use Rattle.mf_model.specs.Tree.{IsTree, view};
+ghost use Rattle.mf_model.specs.Desk.{effect};
+ghost use Rattle.mf_model.specs.declared.request.Call.{Call};
+ghost use Rattle.mf_model.specs.Run.{Line, ViewIsPlay, RepliesArePlay, OwnRepliesArePlay, Alike, NoneGivenUp, from_office, from_caller, given_up, told, answers, last, touching, play_replies};
+
+/// Whatever lines come, the view of every office is its touching list played on its first view, and what its
+/// callers are told, each member of staff for themselves too, is what that play answers, but where a line was given up.
+pub fn isolation()
+    ensures views { (i : Institution) (lines : List Line) → IsTree i.offices → ViewIsPlay i lines }
+    ensures replies { (i : Institution) (lines : List Line) → IsTree i.offices → RepliesArePlay i lines }
+    ensures own_replies { (i : Institution) (lines : List Line) → IsTree i.offices → OwnRepliesArePlay i lines }
+{}
+
+/// The same where no line was given up: these are all the replies.
+pub fn isolation_with_memory()
+    ensures replies { (i : Institution) (lines : List Line) → IsTree i.offices → NoneGivenUp lines →
+        (o : ℕ) → told (from_office o) lines (answers lines i) ≡ play_replies (from_office o) (touching o lines i) (view o i) }
+    ensures own_replies { (i : Institution) (lines : List Line) → IsTree i.offices → NoneGivenUp lines →
+        (c : Caller) → told (from_caller c) lines (answers lines i) ≡ play_replies (from_caller c) (touching c.office lines i) (view c.office i) }
+{}
+
+/// Two institutions that agree on what all share and on the rows of the offices at or below one, and whose runs
+/// touch that office alike, tell its callers the same and agree on these rows afterwards, whatever else differs.
+pub fn alike()
+    ensures views { (o : ℕ) (i j : Institution) (lines others : List Line) → IsTree i.offices → IsTree j.offices →
+        Alike o i j lines others → view o (last lines i) ≡ view o (last others j) }
+    ensures replies { (o : ℕ) (i j : Institution) (lines others : List Line) → IsTree i.offices → IsTree j.offices →
+        Alike o i j lines others → NoneGivenUp lines → NoneGivenUp others →
+        told (from_office o) lines (answers lines i) ≡ told (from_office o) others (answers others j) }
+    ensures own_replies { (c : Caller) (i j : Institution) (lines others : List Line) → IsTree i.offices → IsTree j.offices →
+        Alike c.office i j lines others → NoneGivenUp lines → NoneGivenUp others →
+        told (from_caller c) lines (answers lines i) ≡ told (from_caller c) others (answers others j) }
+{}
+
+/// The same where lines are given up, if the same ones of the office's, or of the caller's, are.
+pub fn alike_but_given_up()
+    ensures replies { (o : ℕ) (i j : Institution) (lines others : List Line) → IsTree i.offices → IsTree j.offices →
+        Alike o i j lines others → given_up (from_office o) lines ≡ given_up (from_office o) others →
+        told (from_office o) lines (answers lines i) ≡ told (from_office o) others (answers others j) }
+    ensures own_replies { (c : Caller) (i j : Institution) (lines others : List Line) → IsTree i.offices → IsTree j.offices →
+        Alike c.office i j lines others → given_up (from_caller c) lines ≡ given_up (from_caller c) others →
+        told (from_caller c) lines (answers lines i) ≡ told (from_caller c) others (answers others j) }
+{}
+
+/// What an accepted request makes of an office is read off the request, the catalogue and that office, and
+/// no other office is changed.
+pub fn confinement()
+    ensures reads { (call : Call) (i j : Institution) (x : ℕ) (rows : Rows) → effect call i ≡ Some (Rows_become x rows) →
+        i.catalogue ≡ j.catalogue → office_at x i.offices ≡ office_at x j.offices → effect call j ≡ Some (Rows_become x rows) }
+    ensures writes { (i : Institution) (x y : ℕ) (rows : Rows) → y ≢ x →
+        office_at y (after (Rows_become x rows) i).offices ≡ office_at y i.offices }
+{}
