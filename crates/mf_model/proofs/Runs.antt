@@ -18,7 +18,7 @@ kept_change : (b : Bool) (c : Option Change) (change : Change) → cond b None c
 kept_change true c change h = absurd (cc)
 kept_change false c change h = h
 
-known_of : (l : Line) (i : Institution) (change : Change) → IsTree i.offices → change_of l i ≡ Some change → KnownLine l.call.caller (plan l.call.request) i change
+pub known_of : (l : Line) (i : Institution) (change : Change) → IsTree i.offices → change_of l i ≡ Some change → KnownLine l.call.caller (plan l.call.request) i change
 known_of l i change t h = known_line l.call.caller l.call.request (plan l.call.request) i change t refl (kept_change l.given_up (change_in (outcome l.call i)) change h)
 
 pub IsTree_next : (l : Line) (i : Institution) → IsTree i.offices → IsTree (next l i).offices

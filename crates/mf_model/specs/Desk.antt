@@ -5,7 +5,7 @@ use Rattle.mf_base.specs.declared.fault.Fault.TheVariants.{F2, F3, F4, F16, F18}
 use Rattle.mf_office.specs.declared.role.Role.{Role}
 use Rattle.mf_office.specs.declared.role.Role.TheVariants.{Teller, Manager}
 use Rattle.mf_office.specs.declared.caller.Caller.{Caller}
-use Rattle.mf_office.specs.declared.caller.Account.{Account}
+use Rattle.mf_office.specs.declared.account.Account.{Account}
 use Rattle.mf_office.specs.Tree.{is_within, is_at_or_below}
 use Rattle.mf_model.specs.declared.request.Call.{Call}
 use Rattle.mf_model.specs.declared.request.Request.{Request}
@@ -35,17 +35,27 @@ staff_added name role rows = record rows { staff = rows.staff ++ record { name =
 abbrev pub client_added : List ℕ → Rows → Rows
 client_added name rows = record rows { clients = rows.clients ++ name ∷ [] }
 
+-- what is made of a number, or why there is none
+abbrev pub with_number : {A : Type 0} → Result ℕ Fault → (ℕ → A) → Result A Fault
+with_number (Err e) make = Err e
+with_number (Ok n) make = Ok (make n)
+
+-- what is made of a thing that is there; F4 where it isn't
+abbrev pub with_found : {A B : Type 0} → Option A → (A → B) → Result B Fault
+with_found None make = Err F4
+with_found (Some x) make = Ok (make x)
+
 -- a new member of staff, of at most 9,999 in an office
 abbrev pub add_staff : ℕ → List ℕ → Role → Rows → Result (Reply × Option Rows) Fault
-add_staff office name role rows = elim (next_of rows.staff 9999) [ Err e ↦ Err e | Ok n ↦ Ok (StaffMade (record { office = office; staff = n }), Some (staff_added name role rows)) ]
+add_staff office name role rows = with_number (next_of rows.staff 9999) (λ n. (StaffMade (record { office = office; staff = n }), Some (staff_added name role rows)))
 
 -- a new client, of at most 999,999 in an office
 abbrev pub add_client : ℕ → List ℕ → Rows → Result (Reply × Option Rows) Fault
-add_client office name rows = elim (next_of rows.clients 999999) [ Err e ↦ Err e | Ok n ↦ Ok (ClientMade (record { office = office; number = n }), Some (client_added name rows)) ]
+add_client office name rows = with_number (next_of rows.clients 999999) (λ n. (ClientMade (record { office = office; number = n }), Some (client_added name rows)))
 
 -- a client's name
 abbrev pub show_client : Account → Rows → Result (Reply × Option Rows) Fault
-show_client client rows = elim (numbered rows.clients client.number) [ None ↦ Err F4 | Some name ↦ Ok (ClientShown client name, None) ]
+show_client client rows = with_found (numbered rows.clients client.number) (λ name. (ClientShown client name, None))
 
 -- an office as a reply shows it
 abbrev pub line_of : Office → OfficeLine

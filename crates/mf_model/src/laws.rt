@@ -1,10 +1,12 @@
 //! Laws of whole runs. Each function does nothing: its contract is the law.
 
-ghost use Rattle.std.specs.Prelude.{◌≡◌, ◌≢◌, ℕ, List, Some};
+ghost use Rattle.std.specs.Prelude.{◌≡◌, ◌≢◌, ◌≤◌, ℕ, List, Some};
 ghost use Rattle.mf_office.specs.declared.caller.Caller.{Caller};
-ghost use Rattle.mf_model.specs.Institution.{Institution, Rows, Rows_become, after, office_at};
-ghost use Rattle.mf_model.specs.Tree.{IsTree, view};
-ghost use Rattle.mf_model.specs.Desk.{effect};
+ghost use Rattle.mf_model.specs.Institution.{Institution, Rows, Change, Rows_become, after, office_at, newly_made};
+ghost use Rattle.mf_model.specs.Tree.{IsTree, view, is_there, parent_of};
+ghost use Rattle.mf_model.specs.Desk.{effect, outcome, change_in};
+ghost use Rattle.mf_model.specs.Sound.{IsSound, IsInRange, AreInRange, last_business_day};
+ghost use Rattle.mf_office.specs.Tree.{IsTreeOf};
 ghost use Rattle.mf_model.specs.declared.request.Call.{Call};
 ghost use Rattle.mf_model.specs.Run.{Line, ViewIsPlay, RepliesArePlay, OwnRepliesArePlay, Alike, NoneGivenUp, from_office, from_caller, given_up, told, answers, last, touching, play_replies};
 
@@ -54,4 +56,19 @@ pub fn confinement()
         i.catalogue ≡ j.catalogue → office_at x i.offices ≡ office_at x j.offices → effect call j ≡ Some (Rows_become x rows) }
     ensures writes { (i : Institution) (x y : ℕ) (rows : Rows) → y ≢ x →
         office_at y (after (Rows_become x rows) i).offices ≡ office_at y i.offices }
+{}
+
+/// A new institution is sound, and an accepted request whose members lie in their ranges leaves a sound one. The
+/// offices stay one tree whatever the members are.
+pub fn soundness()
+    ensures first { (day : ℕ) → day ≤ last_business_day → IsSound (newly_made day) }
+    ensures accepted { (call : Call) (i : Institution) (change : Change) → IsSound i → IsInRange call.request →
+        change_in (outcome call i) ≡ Some change → IsSound (after change i) }
+    ensures run { (i : Institution) (lines : List Line) → IsSound i → AreInRange lines → IsSound (last lines i) }
+    ensures tree { (i : Institution) (lines : List Line) → IsTree i.offices → IsTree (last lines i).offices }
+{}
+
+/// The offices of a sound institution are a tree as the keys of offices know it.
+pub fn tree_of_offices()
+    ensures { (i : Institution) → IsSound i → IsTreeOf (is_there i.offices) (parent_of i.offices) }
 {}

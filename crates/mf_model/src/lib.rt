@@ -7,7 +7,10 @@ mod name;
 mod reply;
 mod request;
 
-pub use laws::{alike, alike_but_given_up, confinement, isolation, isolation_with_memory};
+pub use laws::{
+    alike, alike_but_given_up, confinement, isolation, isolation_with_memory, soundness,
+    tree_of_offices,
+};
 pub use name::Name;
 pub use reply::{OfficeLine, OfficeList, Reply};
 pub use request::{Call, Request};
