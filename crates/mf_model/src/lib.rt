@@ -2,11 +2,14 @@
 //! and the theorems that the desk and the store stand on.
 #![tactic(auto)]
 
+mod commit;
 mod laws;
 mod name;
 mod reply;
 mod request;
+mod store;
 
+pub use commit::{Commit, Decision};
 pub use laws::{
     alike, alike_but_given_up, confinement, isolation, isolation_with_memory, soundness,
     tree_of_offices,
@@ -14,3 +17,4 @@ pub use laws::{
 pub use name::Name;
 pub use reply::{OfficeLine, OfficeList, Reply};
 pub use request::{Call, Request};
+pub use store::{Counts, InstitutionStore};

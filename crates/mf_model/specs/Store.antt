@@ -1,0 +1,62 @@
+-- What the calls of a store say, in the words of the institution that it stands for.
+use Rattle.std.specs.Prelude.{◌≡◌, ℕ, List, [], ◌∷◌, length, option_map, Option, Some, None, Result, IfOk, OnOk, OnErr, IfErr}
+use Rattle.mf_base.specs.declared.fault.Fault.{Fault}
+use Rattle.mf_base.specs.declared.fault.Fault.TheVariants.{F20}
+use Rattle.mf_office.specs.declared.role.Role.{Role}
+use Rattle.mf_office.specs.declared.caller.Caller.{Caller}
+use Rattle.mf_office.specs.declared.account.Account.{Account}
+use Rattle.mf_model.specs.declared.commit.Commit.{Commit}
+use Rattle.mf_model.specs.declared.commit.Commit.TheVariants.{AddOffice, AddStaff, AddClient}
+use Rattle.mf_model.specs.declared.store.Counts.{Counts}
+use Rattle.mf_model.specs.Institution.{Institution, Office, Rows, Staff, Change, Rows_become, Office_added, after, office_at, no_rows, numbered}
+use Rattle.mf_model.specs.Desk.{staff_at, staff_added, client_added}
+use Rattle.mf_model.specs.Sound.{IsSound}
+
+abbrev pub rows_of : Option Office → Rows
+rows_of None = no_rows
+rows_of (Some f) = f.rows
+
+-- the rows of office x; none where it isn't there
+abbrev pub rows_at : ℕ → Institution → Rows
+rows_at x i = rows_of (office_at x i.offices)
+
+-- the role of a caller who is known
+abbrev pub role_of : Caller → Institution → Option Role
+role_of c i = option_map (λ (s : Staff). s.role) (staff_at i c)
+
+-- how many staff and clients an office has
+abbrev pub counts_at : ℕ → Institution → Counts
+counts_at x i = record { staff = length (rows_at x i).staff; clients = length (rows_at x i).clients }
+
+-- the name of a client of an office
+abbrev pub client_at : Account → Institution → Option (List ℕ)
+client_at client i = numbered (rows_at client.office i).clients client.number
+
+-- the change that a commit is
+abbrev pub change_of : Commit → Institution → Change
+change_of (AddOffice number parent name) i = Office_added number parent name
+change_of (AddStaff office name role) i = Rows_become office (staff_added name role (rows_at office i))
+change_of (AddClient office name) i = Rows_become office (client_added name (rows_at office i))
+
+-- the institution after a commit
+abbrev pub committed : Commit → Institution → Institution
+committed commit i = after (change_of commit i) i
+
+-- A store, as its calls see it: which institution it stands for, whether the disk has so far returned what was written, and whether a stop at this moment leaves one of these institutions, whole.
+module _ {S : Type 0} (stands : S → Institution → Type 0) (clean : S → Type 0) (leaves : S → List Institution → Type 0) where
+  -- a call that reads a value of the institution and changes nothing; it may give up
+  pub record Reads {R : Type 0} (value : Institution → R) (old new : S) (result : Result R Fault) : Type 0 where
+    pub premise : clean new → clean old
+    pub same : clean new → (i : Institution) → stands old i → stands new i
+    pub value_is : clean new → (i : Institution) → stands old i → IfOk result (λ r. r ≡ value i)
+    pub gives_up : IfErr result (λ fault. fault ≡ F20)
+    pub stop : clean new → (is : List Institution) → leaves old is → leaves new is
+
+  -- A call that makes a change whole or, giving up, not at all. Once it is made a stop leaves it; where the call gave up a stop may leave it or not.
+  pub record Commits (commit : Commit) (old new : S) (result : Result (Unit {0}) Fault) : Type 0 where
+    pub premise : clean new → clean old
+    pub made : clean new → (i : Institution) → stands old i → IsSound (committed commit i) → OnOk result (stands new (committed commit i))
+    pub kept : clean new → (i : Institution) → stands old i → IsSound (committed commit i) → OnOk result (leaves new (committed commit i ∷ []))
+    pub same : clean new → (i : Institution) → stands old i → OnErr result (stands new i)
+    pub gives_up : IfErr result (λ fault. fault ≡ F20)
+    pub stop : clean new → (i : Institution) (is : List Institution) → stands old i → IsSound (committed commit i) → leaves old is → leaves new (committed commit i ∷ is)

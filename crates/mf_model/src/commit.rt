@@ -1,0 +1,32 @@
+use crate::name::Name;
+use crate::reply::Reply;
+use mf_office::{OfficeNo, Role};
+
+/// A change that the store makes whole or not at all.
+#[derive(Debug, Drop)]
+pub enum Commit {
+    /// One more office, under a parent.
+    AddOffice {
+        number: OfficeNo,
+        parent: OfficeNo,
+        name: Name,
+    },
+    /// One more member of staff of an office, with the next number.
+    AddStaff {
+        office: OfficeNo,
+        name: Name,
+        role: Role,
+    },
+    /// One more client of an office, with the next number.
+    AddClient {
+        office: OfficeNo,
+        name: Name,
+    },
+}
+
+/// What is decided of a request before anything is changed: the reply, and the change that it tells, if it makes one.
+#[derive(Debug, Drop)]
+pub struct Decision {
+    pub reply: Reply,
+    pub commit: Option<Commit>,
+}

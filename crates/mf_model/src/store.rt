@@ -1,0 +1,70 @@
+use crate::commit::Commit;
+use crate::name::Name;
+use crate::reply::OfficeList;
+use mf_base::Fault;
+use mf_office::{Account, Caller, OfficeNo, Role};
+use std::alloc::Global;
+
+/// How many rows an office has.
+#[derive(Clone, Copy, PartialEq, Eq, Debug)]
+pub struct Counts {
+    pub staff: u32,
+    pub clients: u32,
+}
+
+/// A store of one institution. Each call answers what the institution says, or gives up with F20 and has changed
+/// nothing. What is said of values holds as long as the disk has returned what was written (`clean`). A store whose
+/// disk has failed may be shut: then it gives up at every call, and stands for whatever it stood for before.
+pub trait InstitutionStore {
+    ghost use Rattle.std.specs.Prelude.{◌≡◌, ℕ, List, map, is_some, true};
+    ghost use Rattle.mf_office.specs.Tree.{is_within};
+    ghost use Rattle.mf_model.specs.Institution.{Institution};
+    ghost use Rattle.mf_model.specs.Tree.{parent_of, seen_by, seen_office, is_there};
+    ghost use Rattle.mf_model.specs.Desk.{line_of};
+    ghost use Rattle.mf_model.specs.Sound.{IsSound};
+    ghost use Rattle.mf_model.specs.Store.{Reads, Commits, role_of, counts_at, client_at};
+
+    /// The store stands for this institution.
+    ghost stands: { Self → Institution → Type 0 };
+
+    /// So far the disk has returned what was written.
+    ghost clean: { Self → Type 0 };
+
+    /// A stop at this moment leaves one of these institutions, whole.
+    ghost leaves: { Self → List Institution → Type 0 };
+
+    /// The role of a caller, or None where there is no such member of staff.
+    fn role(&mut self, alloc: Global, caller: Caller) -> Result<Option<Role>, Fault>
+        ensures { Reads stands clean leaves (role_of caller) self.old self.new result };
+
+    /// Whether an office is there and at or below another.
+    fn is_visible(&mut self, alloc: Global, to: OfficeNo, office: OfficeNo) -> Result<bool, Fault>
+        ensures { Reads stands clean leaves (λ i. is_some (seen_office to office i)) self.old self.new result };
+
+    /// Whether an office is there.
+    fn is_there(&mut self, alloc: Global, office: OfficeNo) -> Result<bool, Fault>
+        ensures { Reads stands clean leaves (λ i. is_there i.offices office) self.old self.new result };
+
+    /// Whether an office that is there has room below it: it is less than six deep, the head being one.
+    fn has_room_below(&mut self, alloc: Global, office: OfficeNo) -> Result<bool, Fault>
+        ensures { Reads stands clean leaves (λ i. is_within 4 (parent_of i.offices) office 1) self.old self.new result };
+
+    /// How many rows an office has; 0 where it isn't there.
+    fn counts(&mut self, alloc: Global, office: OfficeNo) -> Result<Counts, Fault>
+        ensures { Reads stands clean leaves (counts_at office) self.old self.new result };
+
+    /// The name of a client, or None where there is no such client.
+    fn client(&mut self, alloc: Global, client: Account) -> Result<Option<Name>, Fault>
+        ensures { Reads stands clean leaves (client_at client) self.old self.new result };
+
+    /// The offices at or below one, by number.
+    fn visible_offices(&mut self, alloc: Global, to: OfficeNo) -> Result<OfficeList, Fault>
+        ensures { Reads stands clean leaves (λ i. map line_of (seen_by to i.offices)) self.old self.new result };
+
+    /// Makes a change that leaves the institution sound.
+    fn commit(&mut self, alloc: Global, commit: Commit) -> Result<(), Fault>
+        ensures { Commits stands clean leaves commit self.old self.new result };
+
+    /// An institution that a store stands for is sound.
+    ghost sound: { (store : Self) (i : Institution) → stands store i → IsSound i };
+}
