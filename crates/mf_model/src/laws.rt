@@ -1,11 +1,12 @@
 //! Laws of whole runs. Each function does nothing: its contract is the law.
 
-ghost use Rattle.std.specs.Prelude.{◌≡◌, ◌≢◌, ◌≤◌, ℕ, List, Some};
+ghost use Rattle.std.specs.Prelude.{◌≡◌, ◌≢◌, ◌≤◌, ℕ, List, Some, map};
 ghost use Rattle.mf_office.specs.declared.caller.Caller.{Caller};
 ghost use Rattle.mf_model.specs.Institution.{Institution, Rows, Change, Rows_become, after, office_at, newly_made};
 ghost use Rattle.mf_model.specs.Tree.{IsTree, view, is_there, parent_of};
 ghost use Rattle.mf_model.specs.Desk.{effect, outcome, change_in};
 ghost use Rattle.mf_model.specs.Sound.{IsSound, IsInRange, AreInRange, last_business_day};
+ghost use Rattle.mf_model.specs.WorkedRows.{first_day, branches, chain};
 ghost use Rattle.mf_office.specs.Tree.{IsTreeOf};
 ghost use Rattle.mf_model.specs.declared.request.Call.{Call};
 ghost use Rattle.mf_model.specs.Run.{Line, ViewIsPlay, RepliesArePlay, OwnRepliesArePlay, Alike, NoneGivenUp, from_office, from_caller, given_up, told, answers, last, touching, play_replies};
@@ -66,6 +67,13 @@ pub fn soundness()
         change_in (outcome call i) ≡ Some change → IsSound (after change i) }
     ensures run { (i : Institution) (lines : List Line) → IsSound i → AreInRange lines → IsSound (last lines i) }
     ensures tree { (i : Institution) (lines : List Line) → IsTree i.offices → IsTree (last lines i).offices }
+{}
+
+/// What a new institution answers, worked out line by line.
+pub fn worked_rows()
+    ensures first_day { (day : ℕ) → answers (map (λ row. row.0) first_day) (newly_made day) ≡ map (λ row. row.1) first_day }
+    ensures branches { (day : ℕ) → answers (map (λ row. row.0) branches) (newly_made day) ≡ map (λ row. row.1) branches }
+    ensures chain { (day : ℕ) → answers (map (λ row. row.0) chain) (newly_made day) ≡ map (λ row. row.1) chain }
 {}
 
 /// The offices of a sound institution are a tree as the keys of offices know it.

@@ -12,7 +12,7 @@ mod store;
 pub use commit::{Commit, Decision};
 pub use laws::{
     alike, alike_but_given_up, confinement, isolation, isolation_with_memory, soundness,
-    tree_of_offices,
+    tree_of_offices, worked_rows,
 };
 pub use name::Name;
 pub use reply::{OfficeLine, OfficeList, Reply};
