@@ -2,7 +2,7 @@
 
 ghost use Rattle.std.specs.Prelude.{◌≡◌, ◌≢◌, ◌≤◌, ℕ, List, Some, map};
 ghost use Rattle.mf_office.specs.declared.caller.Caller.{Caller};
-ghost use Rattle.mf_model.specs.Institution.{Institution, Rows, Change, Rows_become, after, office_at, newly_made};
+ghost use Rattle.mf_model.specs.Institution.{Institution, Catalogue, Rows, Change, Catalogue_becomes, Rows_become, Office_added, after, office_at, newly_made};
 ghost use Rattle.mf_model.specs.Tree.{IsTree, view, is_there, parent_of};
 ghost use Rattle.mf_model.specs.Desk.{effect, outcome, change_in};
 ghost use Rattle.mf_model.specs.Sound.{IsSound, IsInRange, AreInRange, last_business_day};
@@ -50,13 +50,28 @@ pub fn alike_but_given_up()
         told (from_caller c) lines (answers lines i) ≡ told (from_caller c) others (answers others j) }
 {}
 
-/// What an accepted request makes of an office is read off the request, the catalogue and that office, and
-/// no other office is changed.
-pub fn confinement()
-    ensures reads { (call : Call) (i j : Institution) (x : ℕ) (rows : Rows) → effect call i ≡ Some (Rows_become x rows) →
+/// What an accepted request changes is worked out without the caller's row, from the request, the catalogue and the
+/// request's target alone.
+pub fn effects()
+    ensures accepted { (call : Call) (i : Institution) (change : Change) → IsTree i.offices →
+        change_in (outcome call i) ≡ Some change → effect call i ≡ Some change }
+    ensures of_catalogue { (call : Call) (i j : Institution) (catalogue : Catalogue) → effect call i ≡ Some (Catalogue_becomes catalogue) →
+        i.catalogue ≡ j.catalogue → effect call j ≡ Some (Catalogue_becomes catalogue) }
+    ensures of_office { (call : Call) (i j : Institution) (x : ℕ) (rows : Rows) → effect call i ≡ Some (Rows_become x rows) →
         i.catalogue ≡ j.catalogue → office_at x i.offices ≡ office_at x j.offices → effect call j ≡ Some (Rows_become x rows) }
-    ensures writes { (i : Institution) (x y : ℕ) (rows : Rows) → y ≢ x →
+    ensures of_new_office { (call : Call) (i j : Institution) (number parent : ℕ) (name : List ℕ) →
+        effect call i ≡ Some (Office_added number parent name) → effect call j ≡ Some (Office_added number parent name) }
+{}
+
+/// A change of an office leaves the catalogue and every other office as they were, and so does a new office.
+pub fn confinement()
+    ensures rows { (i : Institution) (x y : ℕ) (rows : Rows) → y ≢ x →
         office_at y (after (Rows_become x rows) i).offices ≡ office_at y i.offices }
+    ensures new_office { (i : Institution) (number parent y : ℕ) (name : List ℕ) → y ≢ number →
+        office_at y (after (Office_added number parent name) i).offices ≡ office_at y i.offices }
+    ensures offices { (i : Institution) (catalogue : Catalogue) → (after (Catalogue_becomes catalogue) i).offices ≡ i.offices }
+    ensures catalogue { (i : Institution) (x number parent : ℕ) (name : List ℕ) (rows : Rows) →
+        ((after (Rows_become x rows) i).catalogue ≡ i.catalogue) × ((after (Office_added number parent name) i).catalogue ≡ i.catalogue) }
 {}
 
 /// A new institution is sound, and an accepted request whose members lie in their ranges leaves a sound one. The

@@ -11,7 +11,7 @@ mod store;
 
 pub use commit::{Commit, Decision};
 pub use laws::{
-    alike, alike_but_given_up, confinement, isolation, isolation_with_memory, soundness,
+    alike, alike_but_given_up, confinement, effects, isolation, isolation_with_memory, soundness,
     tree_of_offices, worked_rows,
 };
 pub use name::Name;
