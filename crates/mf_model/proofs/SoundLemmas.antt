@@ -92,10 +92,10 @@ office_sound x act i change s k h = at (office_at x i.offices) refl h
     at None is h = absurd (cc)
     at (Some f) is h = become f (found_sound x i.offices f s.each is).rows (act i.catalogue f) refl h
 
-next_below : {A : Type 0} (xs : List A) (limit n : ℕ) → next_of xs limit ≡ Ok n → nat_lt (length xs) limit ≡ true
-next_below xs limit n h = either (nat_lt (length xs) limit) h
+next_below : (used limit n : ℕ) → next_of used limit ≡ Ok n → nat_lt used limit ≡ true
+next_below used limit n h = either (nat_lt used limit) h
   where
-    either : (b : Bool) → cond b (Ok (length xs + 1)) (Err F18) ≡ Ok n → b ≡ true
+    either : (b : Bool) → cond b (Ok (used + 1)) (Err F18) ≡ Ok n → b ≡ true
     either true h = refl
     either false h = absurd (cc)
 
@@ -109,11 +109,11 @@ with_found_ok (Some y) make x h = (y, cc)
 
 staff_sound : (office : ℕ) (name : List ℕ) (role : Role) (rows : Rows) (reply : Reply) (new : Rows) → IsSoundRows rows → IsName name → add_staff office name role rows ≡ Ok (reply, Some new) → IsSoundRows new
 staff_sound office name role rows reply new s n h =
-    let made = with_number_ok (next_of rows.staff 9999) (λ (k : ℕ). (StaffMade (record { office = office; staff = k }), Some (staff_added name role rows))) (reply, Some new) h in
+    let made = with_number_ok (next_of (length rows.staff) 9999) (λ (k : ℕ). (StaffMade (record { office = office; staff = k }), Some (staff_added name role rows))) (reply, Some new) h in
     let some_same : Some (staff_added name role rows) ≡ Some new = ap (λ (r : Reply × Option Rows). r.1) made.2 in
     let same : staff_added name role rows ≡ new = cc in
     subst IsSoundRows same (record {
-      staff_limit = length_push rows.staff (record { name = name; role = role }) 9999 (next_below rows.staff 9999 made.0 made.1);
+      staff_limit = length_push rows.staff (record { name = name; role = role }) 9999 (next_below (length rows.staff) 9999 made.0 made.1);
       staff_names = all_push (λ (t : Staff). IsName t.name) rows.staff (record { name = name; role = role }) s.staff_names n;
       client_limit = s.client_limit;
       client_names = s.client_names;
@@ -121,13 +121,13 @@ staff_sound office name role rows reply new s n h =
 
 client_sound : (office : ℕ) (name : List ℕ) (rows : Rows) (reply : Reply) (new : Rows) → IsSoundRows rows → IsName name → add_client office name rows ≡ Ok (reply, Some new) → IsSoundRows new
 client_sound office name rows reply new s n h =
-    let made = with_number_ok (next_of rows.clients 999999) (λ (k : ℕ). (ClientMade (record { office = office; number = k }), Some (client_added name rows))) (reply, Some new) h in
+    let made = with_number_ok (next_of (length rows.clients) 999999) (λ (k : ℕ). (ClientMade (record { office = office; number = k }), Some (client_added name rows))) (reply, Some new) h in
     let some_same : Some (client_added name rows) ≡ Some new = ap (λ (r : Reply × Option Rows). r.1) made.2 in
     let same : client_added name rows ≡ new = cc in
     subst IsSoundRows same (record {
       staff_limit = s.staff_limit;
       staff_names = s.staff_names;
-      client_limit = length_push rows.clients name 999999 (next_below rows.clients 999999 made.0 made.1);
+      client_limit = length_push rows.clients name 999999 (next_below (length rows.clients) 999999 made.0 made.1);
       client_names = all_push IsName rows.clients name s.client_names n;
     })
 

@@ -23,9 +23,9 @@ pub data Plan : Type 0 where
   On_all_seen : (Catalogue → List Office → Result Reply Fault) → Plan
   On_new_office : ℕ → ℕ → List ℕ → Plan
 
--- the number of what comes next, up to a limit
-abbrev pub next_of : {A : Type 0} → List A → ℕ → Result ℕ Fault
-next_of xs limit = cond (nat_lt (length xs) limit) (Ok (length xs + 1)) (Err F18)
+-- the number of what comes next where so many are used, up to a limit
+abbrev pub next_of : ℕ → ℕ → Result ℕ Fault
+next_of used limit = cond (nat_lt used limit) (Ok (used + 1)) (Err F18)
 
 -- the rows with one more member of staff
 abbrev pub staff_added : List ℕ → Role → Rows → Rows
@@ -47,11 +47,11 @@ with_found (Some x) make = Ok (make x)
 
 -- a new member of staff, of at most 9,999 in an office
 abbrev pub add_staff : ℕ → List ℕ → Role → Rows → Result (Reply × Option Rows) Fault
-add_staff office name role rows = with_number (next_of rows.staff 9999) (λ n. (StaffMade (record { office = office; staff = n }), Some (staff_added name role rows)))
+add_staff office name role rows = with_number (next_of (length rows.staff) 9999) (λ n. (StaffMade (record { office = office; staff = n }), Some (staff_added name role rows)))
 
 -- a new client, of at most 999,999 in an office
 abbrev pub add_client : ℕ → List ℕ → Rows → Result (Reply × Option Rows) Fault
-add_client office name rows = with_number (next_of rows.clients 999999) (λ n. (ClientMade (record { office = office; number = n }), Some (client_added name rows)))
+add_client office name rows = with_number (next_of (length rows.clients) 999999) (λ n. (ClientMade (record { office = office; number = n }), Some (client_added name rows)))
 
 -- a client's name
 abbrev pub show_client : Account → Rows → Result (Reply × Option Rows) Fault

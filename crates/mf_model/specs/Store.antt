@@ -1,5 +1,5 @@
 -- What the calls of a store say, in the words of the institution that it stands for.
-use Rattle.std.specs.Prelude.{◌≡◌, ℕ, List, [], ◌∷◌, length, option_map, Option, Some, None, Result, IfOk, OnOk, OnErr, IfErr}
+use Rattle.std.specs.Prelude.{◌≡◌, ℕ, Bool, cond, List, [], ◌∷◌, length, option_map, Option, Some, None, Result, IfOk, OnOk, OnErr, IfErr}
 use Rattle.mf_base.specs.declared.fault.Fault.{Fault}
 use Rattle.mf_base.specs.declared.fault.Fault.TheVariants.{F20}
 use Rattle.mf_office.specs.declared.role.Role.{Role}
@@ -41,6 +41,11 @@ change_of (AddClient office name) i = Rows_become office (client_added name (row
 -- the institution after a commit
 abbrev pub committed : Commit → Institution → Institution
 committed commit i = after (change_of commit i) i
+
+-- What a stop after a call may leave, where before it left one of these: a change that was made; and where the call gave up, its change or what was there.
+abbrev pub left_by : Option Change → Bool → Institution → List Institution → List Institution
+left_by None given_up i is = is
+left_by (Some change) given_up i is = after change i ∷ cond given_up is []
 
 -- A store, as its calls see it: which institution it stands for, whether the disk has so far returned what was written, and whether a stop at this moment leaves one of these institutions, whole.
 module _ {S : Type 0} (stands : S → Institution → Type 0) (clean : S → Type 0) (leaves : S → List Institution → Type 0) where

@@ -16,7 +16,7 @@ pub struct Counts {
 /// nothing. What is said of values holds as long as the disk has returned what was written (`clean`). A store whose
 /// disk has failed may be shut: then it gives up at every call, and stands for whatever it stood for before.
 pub trait InstitutionStore {
-    ghost use Rattle.std.specs.Prelude.{◌≡◌, ℕ, List, map, is_some, true};
+    ghost use Rattle.std.specs.Prelude.{◌≡◌, ℕ, List, ◌∷◌, map, is_some, true};
     ghost use Rattle.mf_office.specs.Tree.{is_within};
     ghost use Rattle.mf_model.specs.Institution.{Institution};
     ghost use Rattle.mf_model.specs.Tree.{parent_of, seen_by, seen_office, is_there};
@@ -67,4 +67,7 @@ pub trait InstitutionStore {
 
     /// An institution that a store stands for is sound.
     ghost sound: { (store : Self) (i : Institution) → stands store i → IsSound i };
+
+    /// A stop that leaves one of these leaves one of these or another.
+    ghost more: { (store : Self) (i : Institution) (is : List Institution) → leaves store is → leaves store (i ∷ is) };
 }
