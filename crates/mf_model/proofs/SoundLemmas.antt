@@ -6,9 +6,10 @@ use Rattle.std.specs.Str.{is_utf8, chars}
 use lib.Utf8.{encode}
 use Rattle.std.proofs.lemmas.Str.{IsUtf8-from_is_utf8}
 use Rattle.std.proofs.lemmas.Bool.Decides.{nat_tests}
+use Rattle.mf_base.specs.DayText.{last_entered_day}
 use Rattle.mf_base.specs.declared.fault.Fault.{Fault}
 use Rattle.mf_base.specs.declared.fault.Fault.TheVariants.{F18}
-use Rattle.mf_office.specs.declared.role.Role.{Role}
+use Rattle.mf_office.specs.declared.staff.Role.{Role}
 use Rattle.mf_office.specs.declared.caller.Caller.{Caller}
 use Rattle.mf_office.specs.declared.account.Account.{Account}
 use Rattle.mf_office.specs.Numbers.{IsNumberUpTo}
@@ -22,7 +23,7 @@ use Rattle.mf_model.specs.Institution.{Institution, Catalogue, Office, Rows, Sta
 use Rattle.mf_model.specs.Tree.{parent_of, is_there, Fits}
 use Rattle.mf_model.specs.Desk.{Plan, plan, in_office, of_office, change_in, made_by, outcome, next_of, with_number, with_found, add_staff, add_client, show_client, staff_added, client_added}
 use Rattle.mf_model.specs.Run.{Line, next, last}
-use Rattle.mf_model.specs.Sound.{IsName, IsSoundRows, IsSoundOffice, IsSound, IsInRange, AreInRange, last_business_day}
+use Rattle.mf_model.specs.Sound.{IsName, IsSoundRows, IsSoundOffice, IsSound, IsInRange, AreInRange}
 use Rattle.mf_model.proofs.Views.{IsTree_after}
 use Rattle.mf_model.proofs.Steps.{known_line}
 use Rattle.mf_model.proofs.Confined.{IsTree_new}
@@ -36,7 +37,7 @@ length_push xs y limit h = grind (arith, nat_tests, length-append xs (y ∷ []))
 
 -- what a change must bring
 abbrev pub IsSoundChange : Change → Type 0
-IsSoundChange (Catalogue_becomes catalogue) = catalogue.day ≤ last_business_day
+IsSoundChange (Catalogue_becomes catalogue) = catalogue.day ≤ last_entered_day
 IsSoundChange (Rows_become x rows) = IsSoundRows rows
 IsSoundChange (Office_added number parent name) = IsNumberUpTo 9999 number × IsName name
 
@@ -184,7 +185,7 @@ head_manager_name : IsName (codes "Head Manager")
 unfolding chars is_utf8 encode
 head_manager_name = record { text = IsUtf8-from_is_utf8 (codes "Head Manager") refl; some = omega arith; most = omega arith; plain = refl }
 
-pub new_sound : (day : ℕ) → day ≤ last_business_day → IsSound (newly_made day)
+pub new_sound : (day : ℕ) → day ≤ last_entered_day → IsSound (newly_made day)
 new_sound day h = record {
   day = h;
   tree = IsTree_new day;

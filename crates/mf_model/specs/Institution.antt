@@ -1,7 +1,7 @@
 -- An institution: what all offices share, and for each office its own rows. Within an office things are numbered by their places, from 1. Texts are lists of bytes, days are numbers of days.
 use Rattle.std.specs.Prelude.{ℕ, ◌-◌, cond, List, [], ◌∷◌, ◌==◌, nat_lt, slice_get, Option, Some, None, codes}
-use Rattle.mf_office.specs.declared.role.Role.{Role}
-use Rattle.mf_office.specs.declared.role.Role.TheVariants.{Manager}
+use Rattle.mf_office.specs.declared.staff.Role.{Role}
+use Rattle.mf_office.specs.declared.staff.Role.TheVariants.{Manager}
 
 -- what all offices share
 pub record Catalogue : Type 0 where

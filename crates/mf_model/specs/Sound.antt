@@ -2,6 +2,7 @@
 use Rattle.std.specs.Prelude.{◌≡◌, ℕ, ◌≤◌, Bool, true, not, ◌&&◌, List, length, ◌==◌, nat_le}
 use Rattle.std.specs.List.{AllByRecursion, list_all}
 use Rattle.std.specs.Str.{IsUtf8, chars}
+use Rattle.mf_base.specs.DayText.{last_entered_day}
 use Rattle.mf_office.specs.Numbers.{IsNumberUpTo}
 use Rattle.mf_model.specs.declared.request.Request.{Request}
 use Rattle.mf_model.specs.declared.request.Request.TheVariants.{Malformed, PostOffices, GetOffices, PostStaff, PostClients, GetClient}
@@ -32,12 +33,9 @@ pub record IsSoundOffice (f : Office) : Type 0 where
   pub name : IsName f.name
   pub rows : IsSoundRows f.rows
 
--- the last business day is 2099-12-31
-abbrev pub last_business_day : ℕ
-last_business_day = 36524
-
+-- the business day is at most 2099-12-31
 pub record IsSound (i : Institution) : Type 0 where
-  pub day : i.catalogue.day ≤ last_business_day
+  pub day : i.catalogue.day ≤ last_entered_day
   pub tree : IsTree i.offices
   pub each : AllByRecursion IsSoundOffice i.offices
 

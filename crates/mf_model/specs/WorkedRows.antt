@@ -2,12 +2,12 @@
 use Rattle.std.specs.Prelude.{ℕ, false, List, [], ◌∷◌, codes, Option, Some, None, Result, Ok, Err}
 use Rattle.mf_base.specs.declared.fault.Fault.{Fault}
 use Rattle.mf_base.specs.declared.fault.Fault.TheVariants.{F1, F2, F3, F4, F6, F16, F18}
-use Rattle.mf_office.specs.declared.role.Role.TheVariants.{Teller, Officer}
+use Rattle.mf_office.specs.declared.staff.Role.TheVariants.{Teller, Officer}
 use Rattle.mf_office.specs.declared.caller.Caller.{Caller}
 use Rattle.mf_office.specs.declared.account.Account.{Account}
 use Rattle.mf_model.specs.declared.request.Request.{Request}
 use Rattle.mf_model.specs.declared.request.Request.TheVariants.{Malformed, PostOffices, GetOffices, PostStaff, PostClients, GetClient}
-use Rattle.mf_model.specs.declared.reply.OfficeLine.{OfficeLine}
+use Rattle.mf_office.specs.declared.office.Office.{Office as OfficeLine}
 use Rattle.mf_model.specs.declared.reply.Reply.{Reply}
 use Rattle.mf_model.specs.declared.reply.Reply.TheVariants.{OfficeMade, Offices, StaffMade, ClientMade, ClientShown}
 use Rattle.mf_model.specs.Run.{Line}

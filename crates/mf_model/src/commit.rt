@@ -1,6 +1,5 @@
-use crate::name::Name;
 use crate::reply::Reply;
-use mf_office::{OfficeNo, Role};
+use mf_office::{Name, OfficeNo, Role};
 
 /// A change that the store makes whole or not at all.
 #[derive(Debug, Drop)]

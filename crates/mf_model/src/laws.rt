@@ -5,8 +5,9 @@ ghost use Rattle.mf_office.specs.declared.caller.Caller.{Caller};
 ghost use Rattle.mf_model.specs.Institution.{Institution, Catalogue, Rows, Change, Catalogue_becomes, Rows_become, Office_added, after, office_at, newly_made};
 ghost use Rattle.mf_model.specs.Tree.{IsTree, view, is_there, parent_of};
 ghost use Rattle.mf_model.specs.Desk.{effect, outcome, change_in};
-ghost use Rattle.mf_model.specs.Sound.{IsSound, IsInRange, AreInRange, last_business_day};
+ghost use Rattle.mf_model.specs.Sound.{IsSound, IsInRange, AreInRange};
 ghost use Rattle.mf_model.specs.WorkedRows.{first_day, branches, chain};
+ghost use Rattle.mf_base.specs.DayText.{last_entered_day};
 ghost use Rattle.mf_office.specs.Tree.{IsTreeOf};
 ghost use Rattle.mf_model.specs.declared.request.Call.{Call};
 ghost use Rattle.mf_model.specs.Run.{Line, ViewIsPlay, RepliesArePlay, OwnRepliesArePlay, Alike, NoneGivenUp, from_office, from_caller, given_up, told, answers, last, touching, play_replies};
@@ -77,7 +78,7 @@ pub fn confinement()
 /// A new institution is sound, and an accepted request whose members lie in their ranges leaves a sound one. The
 /// offices stay one tree whatever the members are.
 pub fn soundness()
-    ensures first { (day : ℕ) → day ≤ last_business_day → IsSound (newly_made day) }
+    ensures first { (day : ℕ) → day ≤ last_entered_day → IsSound (newly_made day) }
     ensures accepted { (call : Call) (i : Institution) (change : Change) → IsSound i → IsInRange call.request →
         change_in (outcome call i) ≡ Some change → IsSound (after change i) }
     ensures run { (i : Institution) (lines : List Line) → IsSound i → AreInRange lines → IsSound (last lines i) }

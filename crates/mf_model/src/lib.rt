@@ -4,7 +4,6 @@
 
 mod commit;
 mod laws;
-mod name;
 mod reply;
 mod request;
 mod store;
@@ -14,7 +13,6 @@ pub use laws::{
     alike, alike_but_given_up, confinement, effects, isolation, isolation_with_memory, soundness,
     tree_of_offices, worked_rows,
 };
-pub use name::Name;
-pub use reply::{OfficeLine, OfficeList, Reply};
+pub use reply::{OfficeList, Reply};
 pub use request::{Call, Request};
 pub use store::{Counts, InstitutionStore};

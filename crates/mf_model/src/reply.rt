@@ -1,53 +1,43 @@
 ghost use Rattle.std.specs.Prelude.{◌≡◌};
 
-use crate::name::Name;
-use mf_office::{Account, Caller, OfficeNo};
+use mf_office::{Account, Caller, Name, Office, OfficeNo};
 use std::marker::Model;
-
-/// An office as a reply shows it.
-#[derive(Debug, Drop)]
-pub struct OfficeLine {
-    pub number: OfficeNo,
-    /// The office above; the head has none.
-    pub parent: Option<OfficeNo>,
-    pub name: Name,
-}
 
 /// Offices by number, which contracts see as a list.
 #[derive(Debug, Drop)]
 pub struct OfficeList {
-    lines: Vec<OfficeLine>,
+    offices: Vec<Office>,
 }
 
 impl Model for OfficeList {
     ghost use Rattle.std.specs.Prelude.{List};
-    ghost use Rattle.mf_model.specs.declared.reply.OfficeLine.{OfficeLine};
+    ghost use Rattle.mf_office.specs.declared.office.Office.{Office};
 
-    ghost Value = { List OfficeLine };
+    ghost Value = { List Office };
 
-    ghost view = { λ list. list.lines.items };
+    ghost view = { λ list. list.offices.items };
 }
 
 impl OfficeList {
-    /// The list of these lines.
-    pub fn new(lines: Vec<OfficeLine>) -> OfficeList
-        ensures { result ≡ lines.items }
+    /// The list of these offices. It takes no memory.
+    pub fn new(offices: Vec<Office>) -> OfficeList
+        ensures { result ≡ offices.items }
     {
-        OfficeList { lines }
+        OfficeList { offices }
     }
 
-    /// The lines.
-    pub fn as_slice(&self) -> &[OfficeLine]
+    /// The offices.
+    pub fn as_slice(&self) -> &[Office]
         ensures { result.now ≡ self.now }
     {
-        self.lines.as_slice()
+        self.offices.as_slice()
     }
 
-    /// Gives the lines back.
-    pub fn into_lines(self) -> Vec<OfficeLine>
+    /// Gives the offices back. It takes no memory.
+    pub fn into_offices(self) -> Vec<Office>
         ensures { result.items ≡ self }
     {
-        self.lines
+        self.offices
     }
 }
 

@@ -1,6 +1,5 @@
-use crate::name::Name;
 use mf_base::Fault;
-use mf_office::{Account, Caller, OfficeNo, Role};
+use mf_office::{Account, Caller, Name, OfficeNo, Role};
 
 /// What is asked, one variant a route.
 #[derive(Debug, Drop)]

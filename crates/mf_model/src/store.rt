@@ -1,8 +1,7 @@
 use crate::commit::Commit;
-use crate::name::Name;
 use crate::reply::OfficeList;
 use mf_base::Fault;
-use mf_office::{Account, Caller, OfficeNo, Role};
+use mf_office::{Account, Caller, Name, OfficeNo, Role};
 use std::alloc::Global;
 
 /// How many rows an office has.
