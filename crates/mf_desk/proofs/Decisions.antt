@@ -1,0 +1,63 @@
+-- A decision after a reading of the store.
+use Rattle.std.proofs.Common.{◌≡◌, Bool, true, false, cond, List, Option, Some, None, Ok, Err, refl, sym, ap, ◌∙◌, subst, inl, inr}
+use Rattle.std.specs.Prelude.{◌⊎◌, Result, IfOk, IfErr, option_map}
+use Rattle.mf_base.specs.declared.fault.Fault.{Fault}
+use Rattle.mf_base.specs.declared.fault.Fault.TheVariants.{F2, F3, F20}
+use Rattle.mf_office.specs.declared.staff.Role.{Role}
+use Rattle.mf_office.specs.declared.caller.Caller.{Caller}
+use Rattle.mf_model.specs.declared.request.Request.{Request}
+use Rattle.mf_model.specs.declared.request.Request.TheVariants.{Malformed}
+use Rattle.mf_model.specs.declared.commit.Decision.{Decision}
+use Rattle.mf_model.specs.Institution.{Institution, Staff}
+use Rattle.mf_model.specs.Desk.{Plan, plan, need, meets, Outcome, outcome, staff_at, permitted, sent_by}
+use Rattle.mf_model.specs.Store.{Reads, role_of}
+use Rattle.mf_desk.specs.Answers.{becomes, acted, call_of, decided, Decides}
+
+module _ {S : Type 0} (stands : S → Institution → Type 0) (clean : S → Type 0) (leaves : S → List Institution → Type 0) where
+  -- what is decided after a reading, where the value that was read leads from the one outcome to the other
+  pub then_decides : {R : Type 0} (value : Institution → R) (told then_told : Institution → Outcome) (old mid new : S) (r : R) (result : Result Decision Fault) → Reads stands clean leaves value old mid (Ok r) → ((i : Institution) → r ≡ value i → told i ≡ then_told i) → Decides stands clean leaves then_told mid new result → Decides stands clean leaves told old new result
+  then_decides value told then_told old mid new r result read leads d = record {
+    premise = λ k. read.premise (d.premise k);
+    same = λ k i s. d.same k i (read.same (d.premise k) i s);
+    decides = λ k i s. subst (λ (o : Outcome). IfOk result (λ x. o ≡ decided x i)) (sym (leads i (read.value_is (d.premise k) i s))) (d.decides k i (read.same (d.premise k) i s));
+    refuses = λ k i s. subst (λ (o : Outcome). IfErr result (λ fault. (fault ≡ F20) ⊎ (o ≡ Err fault))) (sym (leads i (read.value_is (d.premise k) i s))) (d.refuses k i (read.same (d.premise k) i s));
+    stop = λ k is l. d.stop k is (read.stop (d.premise k) is l);
+  }
+
+  -- a refusal after a reading
+  pub then_refuses : {R : Type 0} (value : Institution → R) (told : Institution → Outcome) (old new : S) (r : R) (fault : Fault) → Reads stands clean leaves value old new (Ok r) → ((i : Institution) → r ≡ value i → told i ≡ Err fault) → Decides stands clean leaves told old new (Err fault)
+  then_refuses value told old new r fault read leads = record {
+    premise = read.premise;
+    same = read.same;
+    decides = λ k i s. tt;
+    refuses = λ k i s. inr (leads i (read.value_is k i s));
+    stop = read.stop;
+  }
+
+abbrev pub IsRequest : Request → Type 0
+IsRequest request = (fault : Fault) → request ≡ Malformed fault → ⊥
+
+planned : (request : Request) → IsRequest request → (p : Plan) × (plan request ≡ Ok p)
+planned (Malformed fault) h = absurd (h fault refl)
+planned _ h = (_, refl)
+
+permitted_none : (c : Caller) (request : Request) (p : Plan) (s : Option Staff) (i : Institution) → None ≡ option_map (λ (t : Staff). t.role) s → permitted c request p s i ≡ Err F2
+permitted_none c request p None i h = refl
+permitted_none c request p (Some s) i h = absurd (cc)
+
+permitted_some : (c : Caller) (request : Request) (p : Plan) (s : Option Staff) (role : Role) (i : Institution) → Some role ≡ option_map (λ (t : Staff). t.role) s → permitted c request p s i ≡ cond (meets (need request) role c.office) (becomes (Ok p) c i) (Err F3)
+permitted_some c request p None role i h = absurd (cc)
+permitted_some c request p (Some s) role i h = let e : s.role ≡ role = cc in ap (λ r. cond (meets (need request) r c.office) (becomes (Ok p) c i) (Err F3)) e
+
+-- an unknown caller
+pub sent_unknown : (c : Caller) (request : Request) (i : Institution) → IsRequest request → None ≡ role_of c i → outcome (call_of c request) i ≡ Err F2
+sent_unknown c request i h s =
+    let w = planned request h in
+    ap (λ p. sent_by (Some c) request p i) w.1 ∙ permitted_none c request w.0 (staff_at i c) i s
+
+-- a known one
+pub sent_known : (c : Caller) (request : Request) (role : Role) (i : Institution) → IsRequest request → Some role ≡ role_of c i → outcome (call_of c request) i ≡ cond (meets (need request) role c.office) (acted c request i) (Err F3)
+sent_known c request role i h s =
+    let w = planned request h in
+    ap (λ p. sent_by (Some c) request p i) w.1 ∙ permitted_some c request w.0 (staff_at i c) role i s
+    ∙ ap (λ p. cond (meets (need request) role c.office) (becomes p c i) (Err F3)) (sym w.1)

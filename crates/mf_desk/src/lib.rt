@@ -1,0 +1,9 @@
+//! The desk: it answers requests by a store of the institution, and says who may do what.
+#![tactic(auto)]
+
+mod answering;
+mod roles;
+mod routes;
+
+pub use answering::answer;
+pub use mf_model::{Call, OfficeList, Reply, Request};
