@@ -1,5 +1,5 @@
 -- Isolation over whole runs.
-use Rattle.std.proofs.Common.{◌≡◌, ℕ, Bool, true, false, cond, List, [], ◌∷◌, Option, Some, None, Err, refl, sym, ap, ◌∙◌, arith}
+use Rattle.std.proofs.Common.{◌≡◌, ℕ, Bool, true, false, cond, List, [], ◌∷◌, ◌++◌, Option, Some, None, Err, refl, sym, ap, ◌∙◌, arith}
 use Rattle.std.specs.Prelude.{◌||◌, is_some, Result}
 use Rattle.std.proofs.lemmas.Bool.Decides.{nat_tests}
 use Rattle.mf_base.specs.declared.fault.Fault.{Fault}
@@ -11,6 +11,7 @@ use Rattle.mf_model.specs.Institution.{Institution, Change, after, after_maybe}
 use Rattle.mf_model.specs.Tree.{view, touches, IsTree}
 use Rattle.mf_model.specs.Desk.{plan, outcome, reply_in, change_in, reply, effect}
 use Rattle.mf_model.specs.Run.{Line, change_of, answer, next, answers, last, is_of, is_by, from_office, from_caller, told, touched, Touch, touching, play_one, play, play_replies, given_up, but_given_up, NoneGivenUp, Alike}
+use Rattle.mf_model.specs.Store.{left_by, left_after}
 use Rattle.mf_model.proofs.Views.{outcome_view, view_after, IsTree_after}
 use Rattle.mf_model.proofs.Steps.{KnownLine, known_line, effect_view}
 
@@ -148,3 +149,16 @@ alike_all_replies o meant from i j ls ks t s a n m =
 pub alike_views : (o : ℕ) (i j : Institution) (ls ks : List Line) → IsTree i.offices → IsTree j.offices → Alike o i j ls ks → view o (last ls i) ≡ view o (last ks j)
 alike_views o i j ls ks t s a =
     isolated_view o ls i t ∙ ap (λ ts. play ts (view o i)) a.touching_is ∙ ap (play (touching o ks j)) a.view_is ∙ sym (isolated_view o ks j s)
+
+-- one line more
+pub answers-push : (ls : List Line) (l : Line) (i : Institution) → answers (ls ++ l ∷ []) i ≡ answers ls i ++ answer l (last ls i) ∷ []
+answers-push [] l i = refl
+answers-push (k ∷ ls) l i = ap (λ rs. answer k i ∷ rs) (answers-push ls l (next k i))
+
+pub last-push : (ls : List Line) (l : Line) (i : Institution) → last (ls ++ l ∷ []) i ≡ next l (last ls i)
+last-push [] l i = refl
+last-push (k ∷ ls) l i = last-push ls l (next k i)
+
+pub left_after-push : (ls : List Line) (l : Line) (i : Institution) (is : List Institution) → left_after (ls ++ l ∷ []) i is ≡ left_by (change_in (outcome l.call (last ls i))) l.given_up (last ls i) (left_after ls i is)
+left_after-push [] l i is = refl
+left_after-push (k ∷ ls) l i is = left_after-push ls l (next k i) (left_by (change_in (outcome k.call i)) k.given_up i is)

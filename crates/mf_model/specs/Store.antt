@@ -9,7 +9,8 @@ use Rattle.mf_model.specs.declared.commit.Commit.{Commit}
 use Rattle.mf_model.specs.declared.commit.Commit.TheVariants.{AddOffice, AddStaff, AddClient}
 use Rattle.mf_model.specs.declared.store.Counts.{Counts}
 use Rattle.mf_model.specs.Institution.{Institution, Office, Rows, Staff, Change, Rows_become, Office_added, after, office_at, no_rows, numbered}
-use Rattle.mf_model.specs.Desk.{staff_at, staff_added, client_added}
+use Rattle.mf_model.specs.Desk.{staff_at, staff_added, client_added, outcome, change_in}
+use Rattle.mf_model.specs.Run.{Line, next}
 use Rattle.mf_model.specs.Sound.{IsSound}
 
 abbrev pub rows_of : Option Office → Rows
@@ -46,6 +47,11 @@ committed commit i = after (change_of commit i) i
 abbrev pub left_by : Option Change → Bool → Institution → List Institution → List Institution
 left_by None given_up i is = is
 left_by (Some change) given_up i is = after change i ∷ cond given_up is []
+
+-- the same after the lines of a run
+abbrev pub left_after : List Line → Institution → List Institution → List Institution
+left_after [] i is = is
+left_after (l ∷ ls) i is = left_after ls (next l i) (left_by (change_in (outcome l.call i)) l.given_up i is)
 
 -- A store, as its calls see it: which institution it stands for, whether the disk has so far returned what was written, and whether a stop at this moment leaves one of these institutions, whole.
 module _ {S : Type 0} (stands : S → Institution → Type 0) (clean : S → Type 0) (leaves : S → List Institution → Type 0) where

@@ -1,6 +1,6 @@
 //! Laws of whole runs. Each function does nothing: its contract is the law.
 
-ghost use Rattle.std.specs.Prelude.{◌≡◌, ◌≢◌, ◌≤◌, ℕ, List, Some, map};
+ghost use Rattle.std.specs.Prelude.{◌≡◌, ◌≢◌, ◌≤◌, ℕ, List, [], ◌∷◌, ◌++◌, Some, map, true};
 ghost use Rattle.mf_office.specs.declared.caller.Caller.{Caller};
 ghost use Rattle.mf_model.specs.Institution.{Institution, Catalogue, Rows, Change, Catalogue_becomes, Rows_become, Office_added, after, office_at, newly_made};
 ghost use Rattle.mf_model.specs.Tree.{IsTree, view, is_there, parent_of};
@@ -10,7 +10,25 @@ ghost use Rattle.mf_model.specs.WorkedRows.{first_day, branches, chain};
 ghost use Rattle.mf_base.specs.DayText.{last_entered_day};
 ghost use Rattle.mf_office.specs.Tree.{IsTreeOf};
 ghost use Rattle.mf_model.specs.declared.request.Call.{Call};
-ghost use Rattle.mf_model.specs.Run.{Line, ViewIsPlay, RepliesArePlay, OwnRepliesArePlay, Alike, NoneGivenUp, from_office, from_caller, given_up, told, answers, last, touching, play_replies};
+ghost use Rattle.mf_model.specs.Run.{Line, ViewIsPlay, RepliesArePlay, OwnRepliesArePlay, Alike, NoneGivenUp, from_office, from_caller, given_up, told, answer, answers, last, next, touching, play_replies};
+ghost use Rattle.mf_model.specs.Store.{left_by, left_after};
+
+/// What a caller is answered, and what the request changes, is read off what the caller's office sees.
+pub fn answered_by_view()
+    ensures office { (o : ℕ) (call : Call) (i : Institution) → IsTree i.offices → from_office o call ≡ true →
+        outcome call (view o i) ≡ outcome call i }
+    ensures caller { (c : Caller) (call : Call) (i : Institution) → IsTree i.offices → from_caller c call ≡ true →
+        outcome call (view c.office i) ≡ outcome call i }
+{}
+
+/// A run with one line more: one more reply, and one more step.
+pub fn longer_run()
+    ensures answers { (lines : List Line) (line : Line) (i : Institution) →
+        answers (lines ++ line ∷ []) i ≡ answers lines i ++ answer line (last lines i) ∷ [] }
+    ensures last { (lines : List Line) (line : Line) (i : Institution) → last (lines ++ line ∷ []) i ≡ next line (last lines i) }
+    ensures left { (lines : List Line) (line : Line) (i : Institution) (is : List Institution) →
+        left_after (lines ++ line ∷ []) i is ≡ left_by (change_in (outcome line.call (last lines i))) line.given_up (last lines i) (left_after lines i is) }
+{}
 
 /// Whatever lines come, the view of every office is its touching list played on its first view, and what its
 /// callers are told, each member of staff for themselves too, is what that play answers, but where a line was given up.

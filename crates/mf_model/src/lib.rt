@@ -10,8 +10,8 @@ mod store;
 
 pub use commit::{Commit, Decision};
 pub use laws::{
-    alike, alike_but_given_up, confinement, effects, isolation, isolation_with_memory, soundness,
-    tree_of_offices, worked_rows,
+    alike, alike_but_given_up, answered_by_view, confinement, effects, isolation,
+    isolation_with_memory, longer_run, soundness, tree_of_offices, worked_rows,
 };
 pub use reply::{OfficeList, Reply};
 pub use request::{Call, Request};
