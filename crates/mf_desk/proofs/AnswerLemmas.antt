@@ -1,7 +1,8 @@
 -- What is decided is shown, and then made.
-use Rattle.std.proofs.Common.{◌≡◌, Bool, true, false, List, ◌∷◌, Option, Some, None, Ok, Err, refl, sym, ap, ◌∙◌, subst, inl}
-use Rattle.std.specs.Prelude.{Result, option_map}
+use Rattle.std.proofs.Common.{◌≡◌, true, false, List, ◌∷◌, Option, Some, None, Ok, Err, sym, ap, ◌∙◌, subst}
+use Rattle.std.specs.Prelude.{Result, IfOk, IfErr, ◌⊎◌, option_map}
 use Rattle.mf_base.specs.declared.fault.Fault.{Fault}
+use Rattle.mf_base.specs.declared.fault.Fault.TheVariants.{F20}
 use Rattle.mf_model.specs.declared.request.Call.{Call}
 use Rattle.mf_model.specs.declared.reply.Reply.{Reply}
 use Rattle.mf_model.specs.declared.commit.Commit.{Commit}
@@ -9,8 +10,8 @@ use Rattle.mf_model.specs.declared.commit.Decision.{Decision}
 use Rattle.mf_model.specs.Institution.{Institution, Change, after, after_maybe}
 use Rattle.mf_model.specs.Desk.{outcome, reply_in, change_in, reply}
 use Rattle.mf_model.specs.Sound.{IsSound, IsInRange}
-use Rattle.mf_model.specs.Store.{Commits, change_of, committed, left_by}
-use Rattle.mf_desk.specs.Answers.{Decides, Answers, decided}
+use Rattle.mf_model.specs.Store.{Commits, change_of, left_by}
+use Rattle.mf_desk.specs.Answers.{Decides, Tells, Changes, decided}
 
 -- an accepted request leaves a sound institution
 abbrev pub KeepsSound : Type 0
@@ -23,44 +24,66 @@ its_change : (call : Call) (d : Decision) (commit : Commit) (i : Institution) �
 its_change call d commit i e h = ap change_in h ∙ ap (option_map (λ (c : Commit). change_of c i)) e
 
 module _ {S : Type 0} (stands : S → Institution → Type 0) (clean : S → Type 0) (leaves : S → List Institution → Type 0) where
-  -- a reading is answered
-  pub answers_reading : {T : Type 0} (shows : Reply → Result T Fault → Type 0) (call : Call) (d : Decision) (old new : S) (t : T) → d.commit ≡ None → Decides stands clean leaves (outcome call) old new (Ok d) → shows d.reply (Ok t) → Answers stands clean leaves shows call old new (Ok t)
-  answers_reading shows call d old new t e decides shown = record {
-    premise = decides.premise;
-    shown = λ k i s. (d.reply, ap reply_in (decides.decides k i s), shown);
-    changed = λ k i s. subst (λ (c : Option Change). stands new (after_maybe c i)) (sym (no_change call d i e (decides.decides k i s))) (decides.same k i s);
+  -- the reply is the one that was decided
+  pub tells_reply : {T : Type 0} (shows : Reply → Result T Fault → Type 0) (call : Call) (d : Decision) (old mid new : S) (t : T) → (clean new → clean mid) → Decides stands clean leaves (outcome call) old mid (Ok d) → shows d.reply (Ok t) → Tells stands clean leaves shows (reply call) old new (Ok t)
+  tells_reply shows call d old mid new t goes decides shown = record {
+    shown = λ k i s. (d.reply, ap reply_in (decides.decides (goes k) i s), shown);
     refused = λ k i s. tt;
+  }
+
+  -- a reading changes nothing
+  pub changes_nothing : {T : Type 0} (call : Call) (d : Decision) (old new : S) (t : T) → d.commit ≡ None → Decides stands clean leaves (outcome call) old new (Ok d) → Changes stands clean leaves call old new (Ok t)
+  changes_nothing call d old new t e decides = record {
+    premise = decides.premise;
+    made = λ k i s. subst (λ (c : Option Change). stands new (after_maybe c i)) (sym (no_change call d i e (decides.decides k i s))) (decides.same k i s);
     same = λ k i s. tt;
     stop = λ k i is s l. subst (λ (c : Option Change). leaves new (left_by c false i is)) (sym (no_change call d i e (decides.decides k i s))) (decides.stop k is l);
     stop_refused = λ k i is s l. tt;
   }
 
-  -- a write is answered once it is made
-  pub answers_write : {T : Type 0} (shows : Reply → Result T Fault → Type 0) (call : Call) (d : Decision) (commit : Commit) (old mid new : S) (t : T) → KeepsSound → ((store : S) (i : Institution) → stands store i → IsSound i) → IsInRange call.request → d.commit ≡ Some commit → Decides stands clean leaves (outcome call) old mid (Ok d) → shows d.reply (Ok t) → Commits stands clean leaves commit mid new (Ok tt) → Answers stands clean leaves shows call old new (Ok t)
-  answers_write shows call d commit old mid new t keeps sound r e decides shown commits =
+  -- a refusal changes nothing
+  pub refusal_changes_nothing : {T : Type 0} (call : Call) (result : Result Decision Fault) (old new : S) (fault : Fault) → ((store : S) (i : Institution) (is : List Institution) → leaves store is → leaves store (i ∷ is)) → Decides stands clean leaves (outcome call) old new result → Changes stands clean leaves {T = T} call old new (Err fault)
+  refusal_changes_nothing call result old new fault more decides = record {
+    premise = decides.premise;
+    made = λ k i s. tt;
+    same = decides.same;
+    stop = λ k i is s l. tt;
+    stop_refused = λ k i is s l. either (change_in (outcome call i)) i is (decides.stop k is l);
+  }
+    where
+      either : (c : Option Change) (i : Institution) (is : List Institution) → leaves new is → leaves new (left_by c true i is)
+      either None i is l = l
+      either (Some change) i is l = more new (after change i) is l
+
+  -- a write is made
+  pub changes_made : {T : Type 0} (call : Call) (d : Decision) (commit : Commit) (old mid new : S) (t : T) → KeepsSound → ((store : S) (i : Institution) → stands store i → IsSound i) → IsInRange call.request → d.commit ≡ Some commit → Decides stands clean leaves (outcome call) old mid (Ok d) → Commits stands clean leaves commit mid new (Ok tt) → Changes stands clean leaves call old new (Ok t)
+  changes_made call d commit old mid new t keeps sound r e decides commits =
       let change = λ (k : clean mid) (i : Institution) (s : stands old i). its_change call d commit i e (decides.decides k i s) in
       let kept = λ (k : clean mid) (i : Institution) (s : stands old i). keeps call i (change_of commit i) (sound old i s) r (change k i s) in
       record {
         premise = λ k. decides.premise (commits.premise k);
-        shown = λ k i s. (d.reply, ap reply_in (decides.decides (commits.premise k) i s), shown);
-        changed = λ k i s. subst (λ (c : Option Change). stands new (after_maybe c i)) (sym (change (commits.premise k) i s)) (commits.made k i (decides.same (commits.premise k) i s) (kept (commits.premise k) i s));
-        refused = λ k i s. tt;
+        made = λ k i s. subst (λ (c : Option Change). stands new (after_maybe c i)) (sym (change (commits.premise k) i s)) (commits.made k i (decides.same (commits.premise k) i s) (kept (commits.premise k) i s));
         same = λ k i s. tt;
         stop = λ k i is s l. subst (λ (c : Option Change). leaves new (left_by c false i is)) (sym (change (commits.premise k) i s)) (commits.kept k i (decides.same (commits.premise k) i s) (kept (commits.premise k) i s));
         stop_refused = λ k i is s l. tt;
       }
 
-  -- a write that was given up
-  pub gives_up_write : {T : Type 0} (shows : Reply → Result T Fault → Type 0) (call : Call) (d : Decision) (commit : Commit) (old mid new : S) (fault : Fault) → KeepsSound → ((store : S) (i : Institution) → stands store i → IsSound i) → IsInRange call.request → d.commit ≡ Some commit → Decides stands clean leaves (outcome call) old mid (Ok d) → Commits stands clean leaves commit mid new (Err fault) → Answers stands clean leaves shows call old new (Err fault)
-  gives_up_write shows call d commit old mid new fault keeps sound r e decides commits =
+  -- a write is given up
+  pub changes_given_up : {T : Type 0} (call : Call) (d : Decision) (commit : Commit) (old mid new : S) (fault : Fault) → KeepsSound → ((store : S) (i : Institution) → stands store i → IsSound i) → IsInRange call.request → d.commit ≡ Some commit → Decides stands clean leaves (outcome call) old mid (Ok d) → Commits stands clean leaves commit mid new (Err fault) → Changes stands clean leaves {T = T} call old new (Err fault)
+  changes_given_up call d commit old mid new fault keeps sound r e decides commits =
       let change = λ (k : clean mid) (i : Institution) (s : stands old i). its_change call d commit i e (decides.decides k i s) in
       let kept = λ (k : clean mid) (i : Institution) (s : stands old i). keeps call i (change_of commit i) (sound old i s) r (change k i s) in
       record {
         premise = λ k. decides.premise (commits.premise k);
-        shown = λ k i s. tt;
-        changed = λ k i s. tt;
-        refused = λ k i s. inl commits.gives_up;
+        made = λ k i s. tt;
         same = λ k i s. commits.same k i (decides.same (commits.premise k) i s);
         stop = λ k i is s l. tt;
         stop_refused = λ k i is s l. subst (λ (c : Option Change). leaves new (left_by c true i is)) (sym (change (commits.premise k) i s)) (commits.stop k i is (decides.same (commits.premise k) i s) (kept (commits.premise k) i s) (decides.stop (commits.premise k) is l));
       }
+
+  -- what is told is what another function of the institution tells, where that is the same
+  pub tells_alike : {T : Type 0} (shows : Reply → Result T Fault → Type 0) (told also : Institution → Result Reply Fault) (old new : S) (result : Result T Fault) → (clean new → (i : Institution) → stands old i → also i ≡ told i) → Tells stands clean leaves shows told old new result → Tells stands clean leaves shows also old new result
+  tells_alike shows told also old new result alike tells = record {
+    shown = λ k i s. subst (λ (o : Result Reply Fault). IfOk result (λ t. (r : Reply) × (o ≡ Ok r) × shows r (Ok t))) (sym (alike k i s)) (tells.shown k i s);
+    refused = λ k i s. subst (λ (o : Result Reply Fault). IfErr result (λ fault. (fault ≡ F20) ⊎ ((o ≡ Err fault) ⊎ ((r : Reply) × (o ≡ Ok r) × shows r (Err fault))))) (sym (alike k i s)) (tells.refused k i s);
+  }

@@ -1,5 +1,5 @@
 -- What the desk does with a request, in the words of the institution that its store stands for.
-use Rattle.std.specs.Prelude.{◌≡◌, ◌⊎◌, Bool, true, false, List, option_map, Option, Some, None, Result, Ok, Err, IfOk, IfErr, OnOk, OnErr}
+use Rattle.std.specs.Prelude.{◌≡◌, ◌⊎◌, true, false, List, option_map, Some, Result, Ok, Err, IfOk, IfErr, OnOk, OnErr}
 use Rattle.mf_base.specs.declared.fault.Fault.{Fault}
 use Rattle.mf_base.specs.declared.fault.Fault.TheVariants.{F20}
 use Rattle.mf_office.specs.declared.caller.Caller.{Caller}
@@ -8,7 +8,7 @@ use Rattle.mf_model.specs.declared.request.Request.{Request}
 use Rattle.mf_model.specs.declared.reply.Reply.{Reply}
 use Rattle.mf_model.specs.declared.commit.Decision.{Decision}
 use Rattle.mf_model.specs.Institution.{Institution, after_maybe}
-use Rattle.mf_model.specs.Desk.{Plan, plan, Outcome, carried_out, outcome, reply, change_in}
+use Rattle.mf_model.specs.Desk.{Plan, plan, Outcome, carried_out, outcome, change_in}
 use Rattle.mf_model.specs.Store.{change_of, left_by}
 
 -- what becomes of a plan, or of what reads as no request
@@ -37,12 +37,15 @@ module _ {S : Type 0} (stands : S → Institution → Type 0) (clean : S → Typ
     pub refuses : clean new → (i : Institution) → stands old i → IfErr result (λ fault. (fault ≡ F20) ⊎ (told i ≡ Err fault))
     pub stop : clean new → (is : List Institution) → leaves old is → leaves new is
 
-  -- A call is answered. At Ok there is what was made of its reply, before its change was made whole; at Err its refusal, or the refusal to make something of its reply, or F20, and nothing is changed.
-  pub record Answers {T : Type 0} (shows : Reply → Result T Fault → Type 0) (call : Call) (old new : S) (result : Result T Fault) : Type 0 where
+  -- What was made of the reply that the institution tells, or its refusal, or the refusal to make something of its reply, or F20.
+  pub record Tells {T : Type 0} (shows : Reply → Result T Fault → Type 0) (told : Institution → Result Reply Fault) (old new : S) (result : Result T Fault) : Type 0 where
+    pub shown : clean new → (i : Institution) → stands old i → IfOk result (λ t. (r : Reply) × (told i ≡ Ok r) × shows r (Ok t))
+    pub refused : clean new → (i : Institution) → stands old i → IfErr result (λ fault. (fault ≡ F20) ⊎ ((told i ≡ Err fault) ⊎ ((r : Reply) × (told i ≡ Ok r) × shows r (Err fault))))
+
+  -- At Ok the call's change is made whole, if it makes one; at Err nothing is changed. A stop leaves what it left before, or the change.
+  pub record Changes {T : Type 0} (call : Call) (old new : S) (result : Result T Fault) : Type 0 where
     pub premise : clean new → clean old
-    pub shown : clean new → (i : Institution) → stands old i → IfOk result (λ t. (r : Reply) × (reply call i ≡ Ok r) × shows r (Ok t))
-    pub changed : clean new → (i : Institution) → stands old i → OnOk result (stands new (after_maybe (change_in (outcome call i)) i))
-    pub refused : clean new → (i : Institution) → stands old i → IfErr result (λ fault. (fault ≡ F20) ⊎ ((reply call i ≡ Err fault) ⊎ ((r : Reply) × (reply call i ≡ Ok r) × shows r (Err fault))))
+    pub made : clean new → (i : Institution) → stands old i → OnOk result (stands new (after_maybe (change_in (outcome call i)) i))
     pub same : clean new → (i : Institution) → stands old i → OnErr result (stands new i)
     pub stop : clean new → (i : Institution) (is : List Institution) → stands old i → leaves old is → OnOk result (leaves new (left_by (change_in (outcome call i)) false i is))
     pub stop_refused : clean new → (i : Institution) (is : List Institution) → stands old i → leaves old is → OnErr result (leaves new (left_by (change_in (outcome call i)) true i is))

@@ -1,12 +1,13 @@
 ghost use Rattle.std.specs.Fn.{FnOnceReturnsAt};
 ghost use Rattle.mf_model.specs.Sound.{IsInRange};
-ghost use Rattle.mf_model.specs.Desk.{outcome};
-ghost use Rattle.mf_desk.specs.Answers.{Decides, Answers, call_of};
+ghost use Rattle.mf_model.specs.Tree.{view};
+ghost use Rattle.mf_model.specs.Desk.{outcome, reply};
+ghost use Rattle.mf_desk.specs.Answers.{Decides, Tells, Changes, call_of};
 
 use crate::roles::may_send;
 use crate::routes::act;
 use mf_base::Fault;
-use mf_model::{Decision, InstitutionStore, Reply, Request, soundness};
+use mf_model::{Decision, InstitutionStore, Reply, Request, answered_by_view, soundness};
 use mf_office::Caller;
 use std::alloc::Global;
 
@@ -34,10 +35,8 @@ fn decide<S: InstitutionStore>(
     act(alloc, store, Caller { office, staff }, request)
 }
 
-/// Answers a request. What `show` makes of the reply is the answer, and it is made before the change, so that no
-/// memory is wanted once the change stands. At Err nothing is changed: it is the refusal, or what `show` refused, or
-/// F20 for want of memory or a fault of the store.
-pub fn answer<S: InstitutionStore, T: Drop, F: FnOnce(&Reply) -> Result<T, Fault> + Drop>(
+/// Shows the reply and then makes the change, so that no memory is wanted once the change stands.
+fn finish<S: InstitutionStore, T: Drop, F: FnOnce(&Reply) -> Result<T, Fault> + Drop>(
     alloc: Global,
     store: &mut S,
     caller: Caller,
@@ -46,7 +45,8 @@ pub fn answer<S: InstitutionStore, T: Drop, F: FnOnce(&Reply) -> Result<T, Fault
 ) -> Result<T, Fault>
     requires show { F.IsAlwaysCallable show }
     requires in_range { IsInRange request }
-    ensures { Answers S.stands S.clean S.leaves (FnOnceReturnsAt F.FnOnce show) (call_of caller request) store.old store.new result }
+    ensures told { Tells S.stands S.clean S.leaves (FnOnceReturnsAt F.FnOnce show) (reply (call_of caller request)) store.old store.new result }
+    ensures changes { Changes S.stands S.clean S.leaves (call_of caller request) store.old store.new result }
 {
     soundness();
     let Decision { reply, commit } = match decide(alloc, store, caller, request) {
@@ -64,4 +64,27 @@ pub fn answer<S: InstitutionStore, T: Drop, F: FnOnce(&Reply) -> Result<T, Fault
             Err(fault) => Err(fault),
         },
     }
+}
+
+/// Answers a request. What `show` makes of the reply is the answer, and it is made before the change, so that no
+/// memory is wanted once the change stands. At Err nothing is changed: it is the refusal, or what `show` refused, or
+/// F20 for want of memory or a fault of the store.
+///
+/// What is answered is also what the caller would be answered by an institution that has only what the caller's
+/// office sees.
+pub fn answer<S: InstitutionStore, T: Drop, F: FnOnce(&Reply) -> Result<T, Fault> + Drop>(
+    alloc: Global,
+    store: &mut S,
+    caller: Caller,
+    request: Request,
+    show: F,
+) -> Result<T, Fault>
+    requires show { F.IsAlwaysCallable show }
+    requires in_range { IsInRange request }
+    ensures told { Tells S.stands S.clean S.leaves (FnOnceReturnsAt F.FnOnce show) (reply (call_of caller request)) store.old store.new result }
+    ensures changes { Changes S.stands S.clean S.leaves (call_of caller request) store.old store.new result }
+    ensures own_view { Tells S.stands S.clean S.leaves (FnOnceReturnsAt F.FnOnce show) (λ i. reply (call_of caller request) (view caller.office i)) store.old store.new result }
+{
+    answered_by_view();
+    finish(alloc, store, caller, request, show)
 }

@@ -1,23 +1,20 @@
-use Rattle.std.proofs.Common.{refl}
+use Rattle.std.proofs.Common.{◌≡◌, ℕ, true, ap, arith}
+use Rattle.std.specs.Prelude.{◌==◌}
 use Rattle.std.specs.Fn.{FnOnceReturnsAt}
+use Rattle.std.proofs.lemmas.Bool.Decides.{nat_tests}
+use Rattle.mf_model.specs.Tree.{view}
+use Rattle.mf_model.specs.Desk.{reply, reply_in}
 use Rattle.mf_desk.specs.Answers.{call_of}
-use Rattle.mf_desk.proofs.AnswerLemmas.{answers_reading, answers_write, gives_up_write}
+use Rattle.mf_desk.proofs.AnswerLemmas.{tells_alike}
 use Rattle.mf_desk.proofs.answering.answer.Goals as goal
 
-pub returns-in-None : goal.returns-in-None
-returns-in-None g c =
-    let s = g.S.InstitutionStore in
-    answers_reading s.stands s.clean s.leaves (FnOnceReturnsAt g.F.FnOnce c.args.show) (call_of c.args.caller c.args.request) c.in-Ok.decision c.args.store.now c.decide.new.store c.in-Ok-show.shown
-    c.in-None.is c.in-Ok.ensures (_, c.in-Ok-show.ensures, refl)
+same_number : (x : ℕ) → (x == x) ≡ true
+same_number x = grind (arith, nat_tests)
 
-pub returns-in-Ok-commit : goal.returns-in-Ok-commit
-returns-in-Ok-commit g c =
+pub returns-clause-own_view : goal.returns-clause-own_view
+returns-clause-own_view g c =
     let s = g.S.InstitutionStore in
-    answers_write s.stands s.clean s.leaves (FnOnceReturnsAt g.F.FnOnce c.args.show) (call_of c.args.caller c.args.request) c.in-Ok.decision c.in-Some.commit c.args.store.now c.decide.new.store c.commit.new.self c.in-Ok-show.shown
-    c.soundness.ensures.accepted g.met.S.InstitutionStore.sound c.requires.in_range c.in-Some.is c.in-Ok.ensures (_, c.in-Ok-show.ensures, refl) c.in-Ok-commit.ensures
-
-pub returns : goal.returns
-returns g c =
-    let s = g.S.InstitutionStore in
-    gives_up_write s.stands s.clean s.leaves (FnOnceReturnsAt g.F.FnOnce c.args.show) (call_of c.args.caller c.args.request) c.in-Ok.decision c.in-Some.commit c.args.store.now c.decide.new.store c.commit.new.self c.in-Err-commit.fault
-    c.soundness.ensures.accepted g.met.S.InstitutionStore.sound c.requires.in_range c.in-Some.is c.in-Ok.ensures c.in-Err-commit.ensures
+    let call = call_of c.args.caller c.args.request in
+    tells_alike s.stands s.clean s.leaves (FnOnceReturnsAt g.F.FnOnce c.args.show) (reply call) (λ i. reply call (view c.args.caller.office i)) c.args.store.now c.finish.new.store c.finish.result
+    (λ k i st. ap reply_in (c.answered_by_view.ensures.office c.args.caller.office call i (g.met.S.InstitutionStore.sound c.args.store.now i st).tree (same_number c.args.caller.office)))
+    c.finish.ensures.told

@@ -1,4 +1,4 @@
-use Rattle.std.proofs.Common.{◌≡◌, Option, Some, None, Err, cond, ap, sym, ◌∙◌}
+use Rattle.std.proofs.Common.{Some, None, Err, cond, ap, sym, ◌∙◌}
 use Rattle.mf_base.specs.declared.fault.Fault.TheVariants.{F2, F3}
 use Rattle.mf_model.specs.Desk.{outcome}
 use Rattle.mf_model.specs.Store.{role_of}
