@@ -37,7 +37,8 @@ impl OfficeList {
     pub fn into_offices(self) -> Vec<Office>
         ensures { result.items ≡ self }
     {
-        self.offices
+        let OfficeList { offices } = self;
+        offices
     }
 }
 
