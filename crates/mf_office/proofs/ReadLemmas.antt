@@ -18,6 +18,7 @@ caller_read x y office staff e f =
     ∙ ap (λ (z : Option ℕ). option_map (λ (b : ℕ). let c : Caller = record { office = office; staff = b } in c) z) f
 
 pub caller_of-text : (text : List ℕ) (caller : Caller) → IsCaller caller → text ≡ caller_text caller.office caller.staff → caller_of text ≡ Some caller
+unfolding caller_of
 caller_of-text text caller r e =
     let whole = decimal caller.office ++ (47 ∷ decimal caller.staff) in
     let digits = decimal_writing.digits caller.office r.0 in
@@ -36,6 +37,7 @@ caller_written text caller (Some a) (Some b) e f h =
     written_round 47 decimal decimal 9999 9999 text a b e f ∙ ap (λ (k : Caller). caller_text k.office k.staff) same
 
 pub caller_exact : (text : List ℕ) (r : Option Caller) → r ≡ caller_of text → (caller : Caller) → IsCaller caller → (r ≡ Some caller) ↔ (text ≡ caller_text caller.office caller.staff)
+unfolding caller_of
 caller_exact text r v caller range =
     (λ h. caller_written text caller _ _ refl refl (sym v ∙ h), λ e. v ∙ caller_of-text text caller range e)
 
@@ -46,6 +48,7 @@ account_read x y office number e f =
     ∙ ap (λ (z : Option ℕ). option_map (λ (b : ℕ). let c : Account = record { office = office; number = b } in c) z) f
 
 pub account_of-text : (text : List ℕ) (account : Account) → IsAccount account → text ≡ account_text account.office account.number → account_of text ≡ Some account
+unfolding account_of
 account_of-text text account r e =
     let a = zero_padded 4 account.office in
     let b = zero_padded 6 account.number in
@@ -68,6 +71,7 @@ account_written text account (Some a) (Some b) e f h =
     written_round 45 (zero_padded 4) (zero_padded 6) 9999 999999 text a b e f ∙ ap (λ (k : Account). account_text k.office k.number) same
 
 pub account_exact : (text : List ℕ) (r : Option Account) → r ≡ account_of text → (account : Account) → IsAccount account → (r ≡ Some account) ↔ (text ≡ account_text account.office account.number)
+unfolding account_of
 account_exact text r v account range =
     (λ h. account_written text account _ _ refl refl (sym v ∙ h), λ e. v ∙ account_of-text text account range e)
 

@@ -62,6 +62,7 @@ impl Account {
 
     /// The account whose text this is: the office's number in four digits, a dash and the number in six, as in
     /// `0001-000001`, neither of them 0. On any other text None. It takes no memory.
+    #[tactic(auto, unfolding(crate::specs::Texts::account_of))]
     pub fn parse(text: &[u8]) -> Option<Account>
         ensures value { result ≡ account_of text.now }
         ensures in_range { IfSome result IsAccount }

@@ -21,6 +21,7 @@ impl Caller {
 
     /// The caller whose text this is: the office's number, a slash and the staff member's number, each from 1 to 9999
     /// and without leading zeros, as in `7/3`. On any other text None. It takes no memory.
+    #[tactic(auto, unfolding(crate::specs::Texts::caller_of))]
     pub fn parse(text: &[u8]) -> Option<Caller>
         ensures value { result ≡ caller_of text.now }
         ensures in_range { IfSome result IsCaller }
