@@ -1,7 +1,7 @@
 //! Laws of the tree of offices and its keys. Each function does nothing: its contract is the law.
 
 ghost use Rattle.std.specs.Prelude.{◌≡◌, ◌↔◌, ℕ, ◌≤◌, ◌==◌, ◌||◌, Bool, true, false, List, Option, Some, None, codes};
-ghost use Rattle.mf_office.specs.Tree.{IsTreeOf, AddsOffice, IsAtOrBelow, is_within, is_at_or_below, option_any, parent_of, small_tree};
+ghost use Rattle.mf_office.specs.Tree.{IsTree, IsTreeOf, AddsOffice, IsAtOrBelow, is_within, is_at_or_below, option_any, parent_of, small_tree};
 ghost use Rattle.mf_office.specs.Written.{caller_text, account_text};
 ghost use Rattle.mf_office.specs.Texts.{caller_of, account_of};
 ghost use Rattle.mf_office.specs.Keys.{GrowsByParents, key_of, key_depth, head_key, child_key, raised, is_in_range, EndsWithDot};
@@ -62,6 +62,7 @@ pub fn tree_by_its_keys()
 
 /// An office with number 2 under the head, 20 beside it, and 5 under 2.
 pub fn worked_rows()
+    ensures tree { IsTree small_tree }
     ensures head { (key_of (parent_of small_tree) 1 ≡ codes ".") × (raised (codes ".") ≡ codes "/") }
     ensures keys { (key_of (parent_of small_tree) 2 ≡ codes ".2.") × (key_of (parent_of small_tree) 20 ≡ codes ".20.") × (key_of (parent_of small_tree) 5 ≡ codes ".2.5.") }
     ensures range { raised (codes ".2.") ≡ codes ".2/" }

@@ -51,6 +51,8 @@ fn ranges_of_keys(rt: HostRuntime) -> Result<(), Fail> {
     let twenty = head.child(rt.alloc(), OfficeNo::new(20).ok_or("20")?)?;
     let five = two.child(rt.alloc(), OfficeNo::new(5).ok_or("5")?)?;
     assert_eq!(rt; five.as_str(), ".2.5.");
+    assert_eq!(rt; head.depth(), 1);
+    assert_eq!(rt; five.depth(), 3);
     let (low, high) = head.range(rt.alloc())?;
     assert_eq!(rt; low.as_str(), ".");
     assert_eq!(rt; high.as_str(), "/");
