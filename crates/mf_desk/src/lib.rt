@@ -7,3 +7,6 @@ mod routes;
 
 pub use answering::answer;
 pub use mf_model::{Call, OfficeList, Reply, Request};
+
+#[cfg(test)]
+mod tests;
