@@ -1,0 +1,5 @@
+pub mod Sums
+pub mod Rows
+pub mod Payment
+pub mod Order
+pub mod OrderLaws

@@ -1,0 +1,70 @@
+-- What is owed and outstanding in a cell, and what paying into one leaves.
+use Rattle.std.specs.Prelude.{ℕ, ◌+◌, ◌-◌, ◌≤◌, List, [], ◌∷◌, slice_index, slice_index_or, slice_set, length}
+use Rattle.mf_alloc.specs.declared.row.Portion.{Portion}
+use Rattle.mf_alloc.specs.declared.row.Portion.TheVariants.{Penalty, Fee, Interest, Principal}
+use Rattle.mf_alloc.specs.declared.row.Cell.{Cell}
+use Rattle.mf_alloc.specs.declared.row.Row.{Row}
+use Rattle.mf_alloc.specs.declared.row.Share.{Share}
+use Rattle.mf_alloc.specs.Sums.{open_at}
+
+-- a portion's place in a row's sums
+abbrev pub place_in_row : Portion → ℕ
+place_in_row Penalty = 0
+place_in_row Fee = 1
+place_in_row Interest = 2
+place_in_row Principal = 3
+
+-- one of the cells of n instalments, which are numbered from 1
+pub record IsCell (n : ℕ) (cell : Cell) : Type 0 where
+  pub first : 1 ≤ cell.instalment
+  pub last : cell.instalment ≤ n
+
+-- a row that owes nothing
+abbrev pub no_row : Row
+no_row = record { due = 0; owed = []; paid = []; waived = []; written_off = [] }
+
+abbrev pub row_at : List Row → ℕ → Row
+row_at rows instalment = slice_index_or rows (instalment - 1) no_row
+
+-- what is outstanding in a cell
+abbrev pub outstanding : List Row → Cell → ℕ
+outstanding rows cell = open_at (row_at rows cell.instalment) (place_in_row cell.portion)
+
+-- one sum raised or lowered
+abbrev pub raised : List ℕ → ℕ → ℕ → List ℕ
+raised sums p amount = slice_set sums p (slice_index sums p + amount)
+
+abbrev pub lowered : List ℕ → ℕ → ℕ → List ℕ
+lowered sums p amount = slice_set sums p (slice_index sums p - amount)
+
+-- one instalment's row changed
+abbrev pub changed : List Row → ℕ → (Row → Row) → List Row
+changed rows instalment change = slice_set rows (instalment - 1) (change (row_at rows instalment))
+
+abbrev pub pay_row : ℕ → ℕ → Row → Row
+pay_row p amount row = record row { paid = raised row.paid p amount }
+
+abbrev pub unpay_row : ℕ → ℕ → Row → Row
+unpay_row p amount row = record row { paid = lowered row.paid p amount }
+
+-- a share is paid into its cell, or taken out of it
+abbrev pub pay_into : List Row → Share → List Row
+pay_into rows share = changed rows share.cell.instalment (pay_row (place_in_row share.cell.portion) share.amount)
+
+abbrev pub take_out : List Row → Share → List Row
+take_out rows share = changed rows share.cell.instalment (unpay_row (place_in_row share.cell.portion) share.amount)
+
+-- all of them, first to last; and back, last to first
+abbrev pub with_paid : List Row → List Share → List Row
+with_paid rows [] = rows
+with_paid rows (share ∷ shares) = with_paid (pay_into rows share) shares
+
+abbrev pub without_paid : List Row → List Share → List Row
+without_paid rows [] = rows
+without_paid rows (share ∷ shares) = take_out (without_paid rows shares) share
+
+-- each share is in a cell, and at most what is outstanding there when its turn comes
+abbrev pub IsPayable : List Row → List Share → Type 0
+IsPayable rows [] = Unit {0}
+IsPayable rows (share ∷ shares) =
+    IsCell (length rows) share.cell × (share.amount ≤ outstanding rows share.cell) × IsPayable (pay_into rows share) shares

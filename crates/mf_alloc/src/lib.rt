@@ -1,0 +1,13 @@
+//! Paying into instalments, by any lawful strategy.
+#![tactic(auto)]
+
+mod named;
+mod payment;
+mod product;
+mod row;
+mod strategy;
+
+pub use named::{InterestFirst, MifosStandard, PrincipalFirst};
+pub use payment::{outstanding, pay, undo};
+pub use row::{Cell, Portion, Row, Share};
+pub use strategy::Strategy;
