@@ -1,0 +1,2 @@
+pub mod Ageing
+pub mod Line

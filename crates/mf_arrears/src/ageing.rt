@@ -1,0 +1,55 @@
+ghost use Rattle.std.specs.Prelude.{◌≡◌, pos};
+ghost use Rattle.mf_arrears.specs.Ageing.{days_overdue, earliest_due as earliest_due_of, earlier as earlier_of};
+ghost use Rattle.mf_arrears.specs.Line.{class_of};
+
+use crate::line::Class;
+use mf_alloc::Row;
+use mf_base::Day;
+
+/// The earlier of a day, where there is one, and another.
+fn earlier(day: Option<Day>, other: Day) -> Option<Day>
+    ensures { result ≡ earlier_of day other }
+{
+    match day {
+        Some(day) if day <= other => Some(day),
+        _ => Some(other),
+    }
+}
+
+/// The earliest due day of an instalment with something outstanding.
+fn earliest_due(rows: &[Row]) -> Option<Day>
+    ensures { result ≡ earliest_due_of rows.now }
+{
+    rows.iter()
+        .filter(|row| row.is_open())
+        .map(|row| row.due)
+        .fold(None, |day: Option<Day>, due| earlier(day, due))
+}
+
+/// How many days a loan is overdue on a day: the days since the earliest due day of an instalment with something
+/// outstanding, and 0 where that day is not past or there is none.
+pub fn arrears(rows: &[Row], day: Day) -> i64
+    ensures { result ≡ pos (days_overdue rows.now day) }
+{
+    match earliest_due(rows) {
+        Some(due) if due <= day => day.days_since(due),
+        _ => 0,
+    }
+}
+
+/// The class of a number of days overdue. A negative number is not overdue.
+pub fn class(days: i64) -> Class
+    ensures { result ≡ class_of days }
+{
+    if days <= 0 {
+        Class::C0
+    } else if days <= 30 {
+        Class::C1To30
+    } else if days <= 60 {
+        Class::C31To60
+    } else if days <= 90 {
+        Class::C61To90
+    } else {
+        Class::Over90
+    }
+}

@@ -1,0 +1,8 @@
+//! Days overdue, an office's line of its active loans, and the report over offices.
+#![tactic(auto)]
+
+mod ageing;
+mod line;
+
+pub use ageing::{arrears, class};
+pub use line::{Class, OfficeLine};
