@@ -1,5 +1,5 @@
 -- An instalment's sums, in the order of the portions.
-use Rattle.std.specs.Prelude.{ℕ, ◌+◌, ◌-◌, ◌<◌, ◌≤◌, Bool, nat_lt, List, [], ◌∷◌, slice_index}
+use Rattle.std.specs.Prelude.{◌≡◌, ℕ, ◌+◌, ◌-◌, ◌<◌, ◌≤◌, Bool, nat_lt, List, [], ◌∷◌, slice_index, length, All}
 
 pub record Sums : Type 0 where
   pub due : ℕ
@@ -33,3 +33,13 @@ row_outstanding row = open_at row 0 + open_at row 1 + open_at row 2 + open_at ro
 -- something is outstanding
 abbrev pub is_open : Sums → Bool
 is_open row = nat_lt 0 (row_outstanding row)
+
+-- four sums of each kind
+pub record IsWhole (row : Sums) : Type 0 where
+  pub owed : length row.owed ≡ 4
+  pub paid : length row.paid ≡ 4
+  pub waived : length row.waived ≡ 4
+  pub written_off : length row.written_off ≡ 4
+
+abbrev pub AreWhole : List Sums → Type 0
+AreWhole rows = All IsWhole rows

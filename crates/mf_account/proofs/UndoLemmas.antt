@@ -1,0 +1,97 @@
+-- Taking entries back gives the very state before them.
+use Rattle.std.proofs.Common.{◌≡◌, ◌≢◌, ℕ, zero, suc, ◌+◌, ◌-◌, ◌*◌, ◌<◌, ◌≤◌, Bool, true, false, cond, List, [], ◌∷◌, ◌++◌, length, map, arith, refl, ◌∙◌, ap, subst, sym}
+use Rattle.std.specs.Prelude.{filter, sum_by}
+use Rattle.std.specs.List.{range_with_len}
+use Rattle.std.proofs.lemmas.Bool.{cond_both}
+use Rattle.std.proofs.lemmas.List.Sums.{sum_by-append}
+use Rattle.mf_alloc.specs.declared.row.Cell.{Cell}
+use Rattle.mf_alloc.specs.Sums.{Sums}
+use Rattle.mf_alloc.specs.declared.row.Share.{Share}
+use Rattle.mf_alloc.specs.declared.row.Portion.TheVariants.{Penalty as PenaltyPart, Fee as FeePart}
+use Rattle.mf_alloc.specs.Rows.{changed, raised, lowered, place_in_row, pay_row, unpay_row}
+use Rattle.mf_alloc.specs.Payment.{shares_of, rest_of, total_of}
+use Rattle.mf_alloc.proofs.PaymentLemmas.{changed-back, lowered-raised, unpay-pay, total-shares}
+use Rattle.mf_account.specs.declared.entry.Entry.{Entry}
+use Rattle.mf_account.specs.declared.entry.Kind.{Kind}
+use Rattle.mf_account.specs.declared.entry.Kind.TheVariants.{Repay, Fee, Penalty, Waive, WriteOff, Refund}
+use Rattle.mf_account.specs.declared.settled.How.{How}
+use Rattle.mf_account.specs.declared.settled.How.TheVariants.{Paid, Waived, WrittenOff}
+use Rattle.mf_account.specs.Kinds.{money_in, money_out}
+use Rattle.mf_account.specs.Effect.{State, Part, after, parts_of, settle_row, owe_row, settle, with_settled, with_charge}
+use Rattle.mf_account.specs.AtOnce.{rows_charged, money_to_pay}
+use Rattle.mf_account.proofs.OnceLemmas.{rows-after, money-after, refunded-after}
+use Rattle.mf_account.specs.Account.{Orders, after_all}
+use Rattle.mf_account.specs.Undo.{unsettle_row, unowe_row, unsettle, without_settled, without_charge, paid_by, paid_in, before_entry, all_parts, before_all, RefundIsLast}
+
+unsettle_row-settle_row : (how : How) (p amount : ℕ) (row : Sums) → unsettle_row how p amount (settle_row how p amount row) ≡ row
+unsettle_row-settle_row Paid p amount row = unpay-pay p amount row
+unsettle_row-settle_row Waived p amount row = ap (λ (sums : List ℕ). record row { waived = sums }) (lowered-raised row.waived p amount)
+unsettle_row-settle_row WrittenOff p amount row = ap (λ (sums : List ℕ). record row { written_off = sums }) (lowered-raised row.written_off p amount)
+
+unowe_row-owe_row : (p amount : ℕ) (row : Sums) → unowe_row p amount (owe_row p amount row) ≡ row
+unowe_row-owe_row p amount row = ap (λ (sums : List ℕ). record row { owed = sums }) (lowered-raised row.owed p amount)
+
+unsettle-settle : (rows : List Sums) (part : Part) → unsettle (settle rows part) part ≡ rows
+unsettle-settle rows part =
+    let p : ℕ = place_in_row part.cell.portion in
+    changed-back rows part.cell.instalment (settle_row part.how p part.amount) (unsettle_row part.how p part.amount)
+    (unsettle_row-settle_row part.how p part.amount)
+
+-- all parts settled and taken back
+without_settled-with_settled : (rows : List Sums) (parts : List Part) → without_settled (with_settled rows parts) parts ≡ rows
+without_settled-with_settled rows [] = refl
+without_settled-with_settled rows (part ∷ parts) =
+    ap (λ x. unsettle x part) (without_settled-with_settled (settle rows part) parts) ∙ unsettle-settle rows part
+
+without_charge-with_charge : (kind : Kind) (entry : Entry) (rows : List Sums) → without_charge kind entry (with_charge kind entry rows) ≡ rows
+without_charge-with_charge Fee entry rows = changed-back rows entry.instalment (owe_row (place_in_row FeePart) entry.amount) (unowe_row (place_in_row FeePart) entry.amount) (unowe_row-owe_row (place_in_row FeePart) entry.amount)
+without_charge-with_charge Penalty entry rows = changed-back rows entry.instalment (owe_row (place_in_row PenaltyPart) entry.amount) (unowe_row (place_in_row PenaltyPart) entry.amount) (unowe_row-owe_row (place_in_row PenaltyPart) entry.amount)
+without_charge-with_charge Repay entry rows = refl
+without_charge-with_charge Waive entry rows = refl
+without_charge-with_charge WriteOff entry rows = refl
+without_charge-with_charge Refund entry rows = refl
+
+pub money_out-le : (kind : Kind) (overpaid : ℕ) → money_out kind overpaid ≤ overpaid
+money_out-le Repay overpaid = omega arith
+money_out-le Fee overpaid = omega arith
+money_out-le Penalty overpaid = omega arith
+money_out-le Waive overpaid = omega arith
+money_out-le WriteOff overpaid = omega arith
+money_out-le Refund overpaid = omega arith
+
+-- one entry taken back
+pub before_entry-after : (order : ℕ → Cell) (entry : Entry) (before : State) → before.refunded ≡ 0 → before_entry entry (parts_of order entry before) (after order entry before) ≡ before
+before_entry-after order entry before none =
+    let then : State = after order entry before in
+    let parts : List Part = parts_of order entry before in
+    let rows : without_charge entry.kind entry (without_settled then.rows parts) ≡ before.rows =
+    ap (λ x. without_charge entry.kind entry (without_settled x parts)) (rows-after order entry before)
+    ∙ ap (without_charge entry.kind entry) (without_settled-with_settled (rows_charged entry before) parts)
+    ∙ without_charge-with_charge entry.kind entry before.rows in
+    let paid = money-after order entry before in
+    let less = money_out-le entry.kind before.overpaid in
+    let given = refunded-after entry.kind order entry before in
+    let overpaid : then.overpaid + paid_in parts + then.refunded - money_in entry.kind entry.amount ≡ before.overpaid = omega (arith, paid, less, given, none) in
+    let at : List Sums → ℕ → ℕ → State = λ r o f. record { rows = r; overpaid = o; refunded = f } in
+    ap (λ r. at r (then.overpaid + paid_in parts + then.refunded - money_in entry.kind entry.amount) 0) rows
+    ∙ ap (λ o. at before.rows o 0) overpaid
+    ∙ ap (λ f. at before.rows before.overpaid f) (sym none)
+
+-- nothing is refunded but by a refund
+pub no_refund : (kind : Kind) (overpaid : ℕ) → kind ≢ Refund → money_out kind overpaid ≡ 0
+no_refund Repay overpaid other = refl
+no_refund Fee overpaid other = refl
+no_refund Penalty overpaid other = refl
+no_refund Waive overpaid other = refl
+no_refund WriteOff overpaid other = refl
+no_refund Refund overpaid other = absurd (other refl)
+
+-- entries taken back
+pub before_all-after_all : (orders : Orders) (entries : List Entry) (before : State) → RefundIsLast entries → before.refunded ≡ 0 → before_all entries (all_parts orders entries before) (after_all orders entries before) ≡ before
+before_all-after_all orders [] before last none = refl
+before_all-after_all orders (entry ∷ []) before last none = before_entry-after (orders entry) entry before none
+before_all-after_all orders (entry ∷ next ∷ entries) before last none =
+    let one : State = after (orders entry) entry before in
+    let still : one.refunded ≡ 0 = let out = no_refund entry.kind before.overpaid last.0 in let given = refunded-after entry.kind (orders entry) entry before in omega (arith, none, out, given) in
+    ap (before_entry entry (parts_of (orders entry) entry before)) (before_all-after_all orders (next ∷ entries) one last.1 still)
+    ∙ before_entry-after (orders entry) entry before none

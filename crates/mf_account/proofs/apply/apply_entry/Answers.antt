@@ -1,0 +1,64 @@
+use Rattle.std.proofs.Common.{ℕ, ◌≡◌, ◌+◌, ◌-◌, ◌∙◌, ap, sym, subst, arith, length, List, map, ◌++◌, refl}
+use Rattle.mf_alloc.specs.declared.row.Share.{Share}
+use Rattle.mf_alloc.specs.declared.row.Cell.{Cell}
+use Rattle.mf_account.specs.Account.{numbered}
+use Rattle.mf_alloc.specs.Sums.{Sums, AreWhole}
+use Rattle.mf_alloc.specs.Payment.{shares_of, rest_of}
+use Rattle.mf_alloc.proofs.LeftOpen.{IsLine}
+use Rattle.mf_account.specs.Kinds.{money_in, money_out}
+use Rattle.mf_account.specs.Effect.{State, after, parts_of}
+use Rattle.mf_account.specs.AtOnce.{rows_cleared, money_to_pay, paid_part, after_at_once}
+use Rattle.mf_account.proofs.EffectLemmas.{state-applied, parts-applied}
+use Rattle.mf_account.proofs.OnceLemmas.{after-once, parts-once}
+use Rattle.mf_account.proofs.apply.apply_entry.Goals as goal
+
+pub returns-clause-state : goal.returns-clause-state
+returns-clause-state g c =
+    let cells = g.T.Strategy.cell_at c.args.strategy.now in
+    let entry = c.args.entry.now in
+    let before : State = record { rows = c.book.inside.rows.items; overpaid = c.book.inside.overpaid; refunded = c.book.inside.refunded } in
+    let is : before ≡ c.args.book.now = c.book.view_is in
+    let now : State = record { rows = c.pay.new.rows.items; overpaid = c.in_ok-shares.rest; refunded = before.refunded + c.money_out-given.result } in
+    let cleared : List Sums = c.charge_and_clear_in.new.rows.items in
+    let size : length cleared ≡ length before.rows = c.in_ok-parts.ensures.size in
+    let money : ℕ = c.money_in.result + (before.overpaid - c.money_out-given.result) in
+    let pays : money ≡ money_to_pay entry before = omega (arith, c.money_in.ensures, c.money_out-given.ensures.value) in
+    let n : ℕ = length before.rows in
+    let line : IsLine n (cells n) (g.T.Strategy.place_of c.args.strategy.now n) before.rows = record {
+      size = refl;
+      is = record { is_cell = g.met.T.Strategy.is_cell c.args.strategy.now n; back = g.met.T.Strategy.back c.args.strategy.now n };
+      whole = subst (λ (s : State). AreWhole s.rows) (sym is) c.requires.fits.whole;
+    } in
+    let once : now ≡ after_at_once (cells n) entry before =
+    state-applied (cells n) entry before cleared c.pay.new.rows.items c.in_ok-shares.shares.items money c.in_ok-shares.rest c.money_out-given.result
+    c.in_ok-parts.ensures.rows pays c.money_out-given.ensures.value
+    (c.in_ok-shares.ensures.shares ∙ ap (λ m. shares_of (cells m) cleared money) size)
+    (c.in_ok-shares.ensures.rest ∙ ap (λ m. rest_of (cells m) cleared money) size)
+    c.in_ok-shares.ensures.rows in
+    subst (λ (s : State). now ≡ after (cells (length s.rows)) entry s) is
+    (once ∙ sym (after-once n (cells n) (g.T.Strategy.place_of c.args.strategy.now n) entry before line))
+
+pub returns-clause-parts : goal.returns-clause-parts
+returns-clause-parts g c =
+    let cells = g.T.Strategy.cell_at c.args.strategy.now in
+    let entry = c.args.entry.now in
+    let before : State = record { rows = c.book.inside.rows.items; overpaid = c.book.inside.overpaid; refunded = c.book.inside.refunded } in
+    let is : before ≡ c.args.book.now = c.book.view_is in
+    let cleared : List Sums = c.charge_and_clear_in.new.rows.items in
+    let size : length cleared ≡ length before.rows = c.in_ok-parts.ensures.size in
+    let money : ℕ = c.money_in.result + (before.overpaid - c.money_out-given.result) in
+    let pays : money ≡ money_to_pay entry before = omega (arith, c.money_in.ensures, c.money_out-given.ensures.value) in
+    let n : ℕ = length before.rows in
+    let line : IsLine n (cells n) (g.T.Strategy.place_of c.args.strategy.now n) before.rows = record {
+      size = refl;
+      is = record { is_cell = g.met.T.Strategy.is_cell c.args.strategy.now n; back = g.met.T.Strategy.back c.args.strategy.now n };
+      whole = subst (λ (s : State). AreWhole s.rows) (sym is) c.requires.fits.whole;
+    } in
+    subst (λ (s : State). c.add_paid.new.parts.items ≡ numbered entry.seq 1 (parts_of (cells (length s.rows)) entry s)) is
+    (parts-applied (cells n) entry before entry.seq cleared c.in_ok-shares.shares.items money c.in_ok-parts.parts.items c.add_paid.new.parts.items
+    c.in_ok-parts.ensures.rows pays
+    (c.in_ok-shares.ensures.shares ∙ ap (λ m. shares_of (cells m) cleared money) size)
+    c.in_ok-parts.ensures.parts
+    (c.in_ok-add_paid.ensures
+    ∙ ap (λ (x : List Share). c.in_ok-parts.parts.items ++ numbered entry.seq (1 + length c.in_ok-parts.parts.items) (map paid_part x)) c.deref.ensures.value)
+    ∙ ap (numbered entry.seq 1) (sym (parts-once n (cells n) (g.T.Strategy.place_of c.args.strategy.now n) entry before line)))

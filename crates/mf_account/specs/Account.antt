@@ -1,0 +1,66 @@
+-- An account: the effects of the standing entries in order, from the fresh schedule with nothing paid.
+use Rattle.std.specs.Prelude.{ℕ, zero, suc, ◌+◌, ◌==◌, nat_lt, Bool, true, false, ◌&&◌, not, if◌then◌else◌, List, [], ◌∷◌, ◌++◌, length, map, filter, sum_by, slice_index}
+use Rattle.std.specs.List.{list_any}
+use Rattle.mf_schedule.specs.declared.instalment.Instalment.{Instalment}
+use Rattle.mf_alloc.specs.declared.row.Cell.{Cell}
+use Rattle.mf_alloc.specs.Sums.{Sums, is_open, fresh_row, open_at}
+use Rattle.mf_account.specs.declared.entry.Entry.{Entry}
+use Rattle.mf_account.specs.declared.entry.Kind.{Kind}
+use Rattle.mf_account.specs.declared.entry.Kind.TheVariants.{Repay, Fee, Penalty, Waive, WriteOff, Refund}
+use Rattle.mf_account.specs.declared.settled.Settled.{Settled}
+use Rattle.mf_account.specs.Kinds.{is_write_off}
+use Rattle.mf_account.specs.Effect.{State, Part, after, parts_of}
+use Rattle.mf_account.specs.Standing.{standing}
+
+-- the order of cells at an entry
+abbrev pub Orders : Type 0
+Orders = Entry → ℕ → Cell
+
+-- the state after entries in order
+abbrev pub after_all : Orders → List Entry → State → State
+after_all orders [] before = before
+after_all orders (entry ∷ entries) before = after_all orders entries (after (orders entry) entry before)
+
+-- an entry's parts, with its number and their places
+abbrev pub numbered : ℕ → ℕ → List Part → List Settled
+numbered seq place [] = []
+numbered seq place (part ∷ parts) =
+    record { seq = seq; place = place; cell = part.cell; how = part.how; amount = part.amount }
+    ∷ numbered seq (place + 1) parts
+
+abbrev pub part_of : Settled → Part
+part_of settled = record { cell = settled.cell; how = settled.how; amount = settled.amount }
+
+-- all that entries in order settle
+abbrev pub settled_by : Orders → List Entry → State → List Settled
+settled_by orders [] before = []
+settled_by orders (entry ∷ entries) before =
+    numbered entry.seq 1 (parts_of (orders entry) entry before)
+    ++ settled_by orders entries (after (orders entry) entry before)
+
+-- an instalment with nothing paid
+abbrev pub row_of : Instalment → Sums
+row_of instalment = fresh_row instalment.due (0 ∷ instalment.fees ∷ instalment.interest ∷ instalment.principal ∷ [])
+
+abbrev pub first_state : List Instalment → State
+first_state schedule = record { rows = map row_of schedule; overpaid = 0; refunded = 0 }
+
+-- the account of a schedule and entries
+abbrev pub state_of : Orders → List Instalment → List Entry → State
+state_of orders schedule entries = after_all orders (standing entries) (first_state schedule)
+
+abbrev pub settled_of : Orders → List Instalment → List Entry → List Settled
+settled_of orders schedule entries = settled_by orders (standing entries) (first_state schedule)
+
+abbrev pub settled_in : ℕ → List Settled → List Settled
+settled_in seq settled = filter (λ (s : Settled). s.seq == seq) settled
+
+abbrev pub status_of : List Entry → State → ℕ
+status_of entries state =
+    if list_any (λ (e : Entry). not e.reversed && is_write_off e.kind) entries then 601
+    else (if list_any is_open state.rows then 300
+    else (if nat_lt 0 state.overpaid then 700 else 600))
+
+-- a portion's sum over all rows, of what is owed, paid, waived, written off or outstanding
+abbrev pub sum_at : (Sums → List ℕ) → ℕ → List Sums → ℕ
+sum_at sums p rows = sum_by (λ row. slice_index (sums row) p) rows

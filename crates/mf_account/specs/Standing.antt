@@ -1,0 +1,40 @@
+-- The standing entries of a loan, in order.
+use Rattle.std.specs.Prelude.{ℕ, Bool, ◌&&◌, ◌||◌, ◌==◌, nat_lt, if◌then◌else◌, List, [], ◌∷◌, fold, map, slice_index_or, None, false}
+use Rattle.mf_alloc.specs.declared.row.Portion.TheVariants.{Principal}
+use Rattle.mf_account.specs.declared.entry.Kind.TheVariants.{Repay}
+use Rattle.mf_account.specs.declared.entry.Entry.{Entry}
+
+-- by day, then by number
+abbrev pub is_before : Entry → Entry → Bool
+is_before a b = nat_lt a.day b.day || ((a.day == b.day) && nat_lt a.seq b.seq)
+
+-- an entry put into its place
+abbrev pub placed : Entry → List Entry → List Entry
+placed entry [] = entry ∷ []
+placed entry (first ∷ others) =
+    if is_before entry first then entry ∷ first ∷ others else first ∷ placed entry others
+
+-- those not reversed, each in its place
+abbrev pub with_entry : List Entry → Entry → List Entry
+with_entry order entry = if entry.reversed then order else placed entry order
+
+abbrev pub standing : List Entry → List Entry
+standing entries = fold with_entry [] entries
+
+-- an entry for what is not there
+abbrev pub no_entry : Entry
+no_entry = record {
+  seq = 0;
+  kind = Repay;
+  day = 0;
+  amount = 0;
+  instalment = 0;
+  portion = Principal;
+  receipt = None;
+  staff = record { office = 1; staff = 1 };
+  reversed = false;
+}
+
+-- the entries at places of a list
+abbrev pub entries_at : List Entry → List ℕ → List Entry
+entries_at entries places = map (λ i. slice_index_or entries i no_entry) places

@@ -1,0 +1,51 @@
+ghost use Rattle.std.specs.Prelude.{◌≡◌, ℕ, ◌≤◌, IfOk, OnOk, length, vec_len};
+ghost use Rattle.mf_account.specs.Effect.{after, parts_of, with_charge, parts_cleared};
+ghost use Rattle.mf_account.specs.AtOnce.{with_cleared};
+ghost use Rattle.mf_account.specs.Account.{numbered};
+ghost use Rattle.mf_account.specs.Applicable.{HasRow, IsApplicable};
+
+use crate::effect::{add_paid, charge_and_clear, money_in, money_out};
+use crate::entry::Entry;
+use crate::settled::{Book, Settled};
+use mf_alloc::{Row, Strategy, pay};
+use mf_base::Fault;
+use std::alloc::Global;
+
+/// Charges and clears, in a vector.
+fn charge_and_clear_in<T: Strategy>(
+    alloc: Global,
+    strategy: &T,
+    rows: &mut Vec<Row>,
+    entry: &Entry,
+) -> Result<Vec<Settled>, Fault>
+    requires few { length rows.old.items ≤ 360 }
+    requires row { HasRow entry.now.kind entry.now rows.old.items }
+    ensures rows { OnOk result (rows.new.items ≡ with_cleared (T.cell_at strategy.now (length rows.old.items)) entry.now (with_charge entry.now.kind entry.now rows.old.items)) }
+    ensures size { length rows.new.items ≡ length rows.old.items }
+    ensures parts { IfOk result (λ parts. parts.items ≡ numbered entry.now.seq 1 (parts_cleared (T.cell_at strategy.now (length rows.old.items)) entry.now (with_charge entry.now.kind entry.now rows.old.items))) }
+    ensures few { IfOk result (λ parts. vec_len parts ≤ 1440) }
+{
+    charge_and_clear(alloc, strategy, rows, entry)
+}
+
+/// Applies an entry to a book, and answers what it settles. After an error the book is given up.
+pub fn apply_entry<T: Strategy>(
+    alloc: Global,
+    strategy: &T,
+    book: &mut Book,
+    entry: &Entry,
+) -> Result<Vec<Settled>, Fault>
+    requires few { length book.old.rows ≤ 360 }
+    requires fits { IsApplicable entry.now (book.old) }
+    ensures state { OnOk result (book.new ≡ after (T.cell_at strategy.now (length book.old.rows)) entry.now (book.old)) }
+    ensures parts { IfOk result (λ parts. parts.items ≡ numbered entry.now.seq 1 (parts_of (T.cell_at strategy.now (length book.old.rows)) entry.now (book.old))) }
+{
+    let mut parts = charge_and_clear_in(alloc, strategy, &mut book.rows, entry)?;
+    let given = money_out(entry.kind, book.overpaid);
+    let money = money_in(entry.kind, entry.amount) + (book.overpaid - given);
+    let (shares, rest) = pay(alloc, strategy, &mut book.rows, money, entry.day)?;
+    add_paid(&mut parts, entry.seq, &shares)?;
+    book.overpaid = rest;
+    book.refunded += given;
+    Ok(parts)
+}
