@@ -19,9 +19,9 @@ use Rattle.mf_account.specs.Kinds.{money_in, money_out}
 use Rattle.mf_account.specs.AtOnce.{money_to_pay}
 use Rattle.mf_account.specs.Account.{Orders, after_all, settled_by, numbered, part_of}
 use Rattle.mf_account.specs.Undo.{before_entry, paid_in}
-use Rattle.mf_account.specs.Standing.{no_entry}
+use Rattle.mf_account.specs.Standing.{no_entry, entry_at}
 use Rattle.mf_account.specs.Applicable.{no_settled, HasCharge, AreInRows}
-use Rattle.mf_account.specs.Rewind.{IsRewindable, entry_at}
+use Rattle.mf_account.specs.Rewind.{IsRewindable}
 use Rattle.mf_account.proofs.EffectLemmas.{part_of-numbered}
 use Rattle.mf_account.proofs.UndoLemmas.{before_entry-after, no_refund, money_out-le}
 use Rattle.mf_account.proofs.OnceLemmas.{money-after, refunded-after}

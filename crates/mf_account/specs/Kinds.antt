@@ -37,3 +37,11 @@ money_out Fee overpaid = 0
 money_out Penalty overpaid = 0
 money_out Waive overpaid = 0
 money_out WriteOff overpaid = 0
+
+abbrev pub is_penalty : Kind → Bool
+is_penalty Penalty = true
+is_penalty Repay = false
+is_penalty Fee = false
+is_penalty Waive = false
+is_penalty WriteOff = false
+is_penalty Refund = false

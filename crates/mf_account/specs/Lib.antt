@@ -4,5 +4,7 @@ pub mod Effect
 pub mod AtOnce
 pub mod Account
 pub mod Applicable
+pub mod Loan
+pub mod Refusals
 pub mod Undo
 pub mod Rewind

@@ -1,5 +1,5 @@
 -- The standing entries of a loan, in order.
-use Rattle.std.specs.Prelude.{ℕ, Bool, ◌&&◌, ◌||◌, ◌==◌, nat_lt, if◌then◌else◌, List, [], ◌∷◌, fold, map, slice_index_or, None, false}
+use Rattle.std.specs.Prelude.{ℕ, Bool, ◌&&◌, ◌||◌, ◌==◌, nat_lt, if◌then◌else◌, List, [], ◌∷◌, fold, map, slice_index_or, slice_set, None, false}
 use Rattle.mf_alloc.specs.declared.row.Portion.TheVariants.{Principal}
 use Rattle.mf_account.specs.declared.entry.Kind.TheVariants.{Repay}
 use Rattle.mf_account.specs.declared.entry.Entry.{Entry}
@@ -38,3 +38,10 @@ no_entry = record {
 -- the entries at places of a list
 abbrev pub entries_at : List Entry → List ℕ → List Entry
 entries_at entries places = map (λ i. slice_index_or entries i no_entry) places
+
+abbrev pub entry_at : List Entry → ℕ → Entry
+entry_at entries i = slice_index_or entries i no_entry
+
+-- an entry marked as reversed, or as not
+abbrev pub with_mark : List Entry → ℕ → Bool → List Entry
+with_mark entries i mark = slice_set entries i (record (entry_at entries i) { reversed = mark })

@@ -1,4 +1,4 @@
-ghost use Rattle.std.specs.Prelude.{◌≡◌, ℕ, ◌≤◌, IfOk, OnOk, length, vec_len};
+ghost use Rattle.std.specs.Prelude.{◌≡◌, ℕ, ◌≤◌, IfOk, OnOk, IsOkUnless, length, vec_len};
 ghost use Rattle.mf_account.specs.Effect.{after, parts_of, with_charge, parts_cleared};
 ghost use Rattle.mf_account.specs.AtOnce.{with_cleared};
 ghost use Rattle.mf_account.specs.Account.{numbered};
@@ -24,12 +24,13 @@ fn charge_and_clear_in<T: Strategy>(
     ensures size { length rows.new.items ≡ length rows.old.items }
     ensures parts { IfOk result (λ parts. parts.items ≡ numbered entry.now.seq 1 (parts_cleared (T.cell_at strategy.now (length rows.old.items)) entry.now (with_charge entry.now.kind entry.now rows.old.items))) }
     ensures few { IfOk result (λ parts. vec_len parts ≤ 1440) }
+    ensures only { IsOkUnless result Fault.F20 }
 {
     charge_and_clear(alloc, strategy, rows, entry)
 }
 
 /// Applies an entry to a book, and answers what it settles. After an error the book is given up.
-pub fn apply_entry<T: Strategy>(
+pub(crate) fn apply_entry<T: Strategy>(
     alloc: Global,
     strategy: &T,
     book: &mut Book,
@@ -38,6 +39,7 @@ pub fn apply_entry<T: Strategy>(
     requires few { length book.old.rows ≤ 360 }
     requires fits { IsApplicable entry.now (book.old) }
     ensures state { OnOk result (book.new ≡ after (T.cell_at strategy.now (length book.old.rows)) entry.now (book.old)) }
+    ensures only { IsOkUnless result Fault.F20 }
     ensures parts { IfOk result (λ parts. parts.items ≡ numbered entry.now.seq 1 (parts_of (T.cell_at strategy.now (length book.old.rows)) entry.now (book.old))) }
 {
     let mut parts = charge_and_clear_in(alloc, strategy, &mut book.rows, entry)?;

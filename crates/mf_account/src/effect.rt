@@ -1,4 +1,4 @@
-ghost use Rattle.std.specs.Prelude.{◌≡◌, ℕ, ◌+◌, ◌-◌, ◌*◌, ◌<◌, ◌≤◌, ◌^◌, ◌++◌, IfOk, OnOk, length, vec_len, map, filter, [], ◌∷◌};
+ghost use Rattle.std.specs.Prelude.{◌≡◌, ℕ, ◌+◌, ◌-◌, ◌*◌, ◌<◌, ◌≤◌, ◌^◌, ◌++◌, IfOk, OnOk, IsOkUnless, length, vec_len, map, filter, [], ◌∷◌};
 ghost use Rattle.std.specs.List.{range_with_len};
 ghost use Rattle.mf_alloc.specs.Rows.{IsCell, outstanding as open_in};
 ghost use Rattle.mf_account.specs.Kinds.{money_in as money_of, money_out as money_back};
@@ -14,7 +14,7 @@ use mf_base::Fault;
 use std::alloc::Global;
 
 /// Adds a fee or penalty to what its cell owes.
-pub fn charge(rows: &mut [Row], entry: &Entry)
+pub(crate) fn charge(rows: &mut [Row], entry: &Entry)
     requires { HasRow entry.now.kind entry.now rows.old }
     ensures { rows.new ≡ with_charge entry.now.kind entry.now rows.old }
 {
@@ -47,7 +47,7 @@ fn settle(rows: &mut [Row], part: Settled)
 }
 
 /// Settles all parts, first to last.
-pub fn settle_all(rows: &mut [Row], parts: &[Settled])
+pub(crate) fn settle_all(rows: &mut [Row], parts: &[Settled])
     requires { IsSettleable rows.old (map part_of parts.now) }
     ensures { rows.new ≡ with_settled rows.old (map part_of parts.now) }
 {
@@ -57,7 +57,7 @@ pub fn settle_all(rows: &mut [Row], parts: &[Settled])
 }
 
 /// What an entry brings.
-pub fn money_in(kind: Kind, amount: u64) -> u64
+pub(crate) fn money_in(kind: Kind, amount: u64) -> u64
     ensures { result ≡ money_of kind amount }
 {
     match kind {
@@ -67,7 +67,7 @@ pub fn money_in(kind: Kind, amount: u64) -> u64
 }
 
 /// What a refund gives back.
-pub fn money_out(kind: Kind, overpaid: u64) -> u64
+pub(crate) fn money_out(kind: Kind, overpaid: u64) -> u64
     ensures value { result ≡ money_back kind overpaid }
     ensures most { result ≤ overpaid }
 {
@@ -89,6 +89,7 @@ fn push_whole(
     requires few { vec_len parts.old ≤ 1440 }
     ensures parts { OnOk result (parts.new.items ≡ parts.old.items ++ numbered seq (1 + length parts.old.items) (filter is_some_part (whole_part how rows.now cell ∷ []))) }
     ensures few { vec_len parts.new ≤ vec_len parts.old + 1 }
+    ensures only { IsOkUnless result Fault.F20 }
 {
     let amount = outstanding(rows, cell);
     if amount > 0 {
@@ -113,6 +114,7 @@ fn write_off<T: Strategy>(
 ) -> Result<Vec<Settled>, Fault>
     requires { length rows.now ≤ 360 }
     ensures few { IfOk result (λ parts. vec_len parts ≤ 4 * length rows.now) }
+    ensures only { IsOkUnless result Fault.F20 }
     ensures settleable { IfOk result (λ parts. IsSettleable rows.now (map part_of parts.items)) }
     ensures parts { IfOk result (λ parts. parts.items ≡ numbered entry.now.seq 1 (parts_by Kind.WriteOff (T.cell_at strategy.now (length rows.now)) entry.now rows.now)) }
 {
@@ -126,7 +128,7 @@ fn write_off<T: Strategy>(
 }
 
 /// What an entry clears.
-pub fn clear<T: Strategy>(
+pub(crate) fn clear<T: Strategy>(
     alloc: Global,
     strategy: &T,
     rows: &[Row],
@@ -137,6 +139,7 @@ pub fn clear<T: Strategy>(
     ensures parts { IfOk result (λ parts. parts.items ≡ numbered entry.now.seq 1 (parts_cleared (T.cell_at strategy.now (length rows.now)) entry.now rows.now)) }
     ensures settleable { IfOk result (λ parts. IsSettleable rows.now (map part_of parts.items)) }
     ensures few { IfOk result (λ parts. vec_len parts ≤ 1440) }
+    ensures only { IsOkUnless result Fault.F20 }
 {
     match entry.kind {
         Kind::WriteOff => write_off(alloc, strategy, rows, entry),
@@ -154,9 +157,10 @@ pub fn clear<T: Strategy>(
 }
 
 /// Adds the parts of a payment.
-pub fn add_paid(parts: &mut Vec<Settled>, seq: u32, shares: &[Share]) -> Result<(), Fault>
+pub(crate) fn add_paid(parts: &mut Vec<Settled>, seq: u32, shares: &[Share]) -> Result<(), Fault>
     requires few { vec_len parts.old + length shares.now < 2 ^ 31 }
-    ensures { OnOk result (parts.new.items ≡ parts.old.items ++ numbered seq (1 + length parts.old.items) (map paid_part shares.now)) }
+    ensures parts { OnOk result (parts.new.items ≡ parts.old.items ++ numbered seq (1 + length parts.old.items) (map paid_part shares.now)) }
+    ensures only { IsOkUnless result Fault.F20 }
 {
     for share in shares {
         let place = parts.len() as u32 + 1;
@@ -172,7 +176,7 @@ pub fn add_paid(parts: &mut Vec<Settled>, seq: u32, shares: &[Share]) -> Result<
 }
 
 /// Charges what an entry charges and clears what it clears.
-pub fn charge_and_clear<T: Strategy>(
+pub(crate) fn charge_and_clear<T: Strategy>(
     alloc: Global,
     strategy: &T,
     rows: &mut [Row],
@@ -183,6 +187,7 @@ pub fn charge_and_clear<T: Strategy>(
     ensures rows { OnOk result (rows.new ≡ with_cleared (T.cell_at strategy.now (length rows.old)) entry.now (with_charge entry.now.kind entry.now rows.old)) }
     ensures parts { IfOk result (λ parts. parts.items ≡ numbered entry.now.seq 1 (parts_cleared (T.cell_at strategy.now (length rows.old)) entry.now (with_charge entry.now.kind entry.now rows.old))) }
     ensures few { IfOk result (λ parts. vec_len parts ≤ 1440) }
+    ensures only { IsOkUnless result Fault.F20 }
 {
     charge(rows, entry);
     let parts = clear(alloc, strategy, rows, entry)?;

@@ -1,6 +1,6 @@
-ghost use Rattle.std.specs.Prelude.{◌≡◌, ℕ, ◌<◌, ◌≤◌, ◌∷◌, [], IfOk, OnOk, IsTrue, ◌↔◌, length, vec_len, map, All, insert, slice_index_or};
+ghost use Rattle.std.specs.Prelude.{◌≡◌, ℕ, ◌<◌, ◌≤◌, ◌∷◌, [], ◌++◌, IfOk, OnOk, OnErr, IsOkUnless, length, map, All, insert, true, false};
 ghost use Rattle.mf_account.specs.Account.{row_of as first_row, first_state, state_of, settled_of};
-ghost use Rattle.mf_account.specs.Standing.{is_before as comes_before, placed, standing, entries_at, no_entry};
+ghost use Rattle.mf_account.specs.Standing.{is_before as comes_before, placed, standing, entries_at, entry_at, with_mark};
 ghost use Rattle.mf_account.specs.Applicable.{AreApplicable};
 
 use crate::apply::apply_entry;
@@ -10,13 +10,6 @@ use mf_alloc::{Row, Strategy};
 use mf_schedule::Instalment;
 use mf_base::Fault;
 use std::alloc::Global;
-
-/// The account of a loan.
-#[derive(Debug, Drop)]
-pub struct LoanAccount {
-    pub book: Book,
-    pub settled: Vec<Settled>,
-}
 
 /// Whether an entry comes before another.
 fn is_before(a: &Entry, b: &Entry) -> bool
@@ -43,6 +36,7 @@ fn position(entries: &[Entry], order: &[usize], entry: &Entry) -> usize
 fn standing_order(alloc: Global, entries: &[Entry]) -> Result<Vec<usize>, Fault>
     ensures within { IfOk result (λ order. All (λ i. i < length entries.now) order.items) }
     ensures order { IfOk result (λ order. entries_at entries.now order.items ≡ standing entries.now) }
+    ensures only { IsOkUnless result Fault.F20 }
 {
     let mut order = Vec::new(alloc);
     for k in 0..entries.len() {
@@ -71,7 +65,8 @@ fn row_of(instalment: &Instalment) -> Row
 
 /// The fresh rows.
 fn first_rows(alloc: Global, schedule: &[Instalment]) -> Result<Vec<Row>, Fault>
-    ensures { IfOk result (λ rows. rows.items ≡ map first_row schedule.now) }
+    ensures rows { IfOk result (λ rows. rows.items ≡ map first_row schedule.now) }
+    ensures only { IsOkUnless result Fault.F20 }
 {
     let rows = schedule
         .iter()
@@ -82,7 +77,8 @@ fn first_rows(alloc: Global, schedule: &[Instalment]) -> Result<Vec<Row>, Fault>
 
 /// A book with nothing paid.
 fn first_book(alloc: Global, schedule: &[Instalment]) -> Result<Book, Fault>
-    ensures { IfOk result (λ book. book ≡ first_state schedule.now) }
+    ensures state { IfOk result (λ book. book ≡ first_state schedule.now) }
+    ensures only { IsOkUnless result Fault.F20 }
 {
     let rows = first_rows(alloc, schedule)?;
     Ok(Book {
@@ -92,17 +88,18 @@ fn first_book(alloc: Global, schedule: &[Instalment]) -> Result<Book, Fault>
     })
 }
 
-/// The account of a fresh schedule and entries.
-pub fn replay_loan<T: Strategy>(
+/// The state and the settled parts of a fresh schedule and entries: the effects of the standing entries, in order.
+pub(crate) fn replayed<T: Strategy>(
     alloc: Global,
     strategy: &T,
     schedule: &[Instalment],
     entries: &[Entry],
-) -> Result<LoanAccount, Fault>
+) -> Result<(Book, Vec<Settled>), Fault>
     requires few { length schedule.now ≤ 360 }
     requires fits { AreApplicable (λ _. T.cell_at strategy.now (length schedule.now)) (standing entries.now) (first_state schedule.now) }
-    ensures state { IfOk result (λ account. account.book ≡ state_of (λ _. T.cell_at strategy.now (length schedule.now)) schedule.now entries.now) }
-    ensures settled { IfOk result (λ account. account.settled.items ≡ settled_of (λ _. T.cell_at strategy.now (length schedule.now)) schedule.now entries.now) }
+    ensures state { IfOk result (λ both. both.0 ≡ state_of (λ _. T.cell_at strategy.now (length schedule.now)) schedule.now entries.now) }
+    ensures settled { IfOk result (λ both. both.1.items ≡ settled_of (λ _. T.cell_at strategy.now (length schedule.now)) schedule.now entries.now) }
+    ensures only { IsOkUnless result Fault.F20 }
 {
     let order = standing_order(alloc, entries)?;
     let mut book = first_book(alloc, schedule)?;
@@ -111,5 +108,68 @@ pub fn replay_loan<T: Strategy>(
         let parts = apply_entry(alloc, strategy, &mut book, &entries[order[k]])?;
         settled.extend_from_slice(&parts)?;
     }
-    Ok(LoanAccount { book, settled })
+    Ok((book, settled))
+}
+
+/// The same with one entry more, which is then among the entries. Where it is refused they are as before.
+pub(crate) fn replayed_with<T: Strategy>(
+    alloc: Global,
+    strategy: &T,
+    schedule: &[Instalment],
+    entries: &mut Vec<Entry>,
+    entry: Entry,
+) -> Result<(Book, Vec<Settled>), Fault>
+    requires few { length schedule.now ≤ 360 }
+    requires fits { AreApplicable (λ _. T.cell_at strategy.now (length schedule.now)) (standing (entries.old.items ++ entry ∷ [])) (first_state schedule.now) }
+    ensures ok { OnOk result (entries.new.items ≡ entries.old.items ++ entry ∷ []) }
+    ensures err { OnErr result (entries.new.items ≡ entries.old.items) }
+    ensures state { IfOk result (λ both. both.0 ≡ state_of (λ _. T.cell_at strategy.now (length schedule.now)) schedule.now (entries.old.items ++ entry ∷ [])) }
+    ensures settled { IfOk result (λ both. both.1.items ≡ settled_of (λ _. T.cell_at strategy.now (length schedule.now)) schedule.now (entries.old.items ++ entry ∷ [])) }
+    ensures only { IsOkUnless result Fault.F20 }
+{
+    entries.push(entry)?;
+    match replayed(alloc, strategy, schedule, entries) {
+        Ok(both) => Ok(both),
+        Err(fault) => {
+            let _refused = entries.pop();
+            Err(fault)
+        }
+    }
+}
+
+/// Marks an entry as reversed, or as not.
+fn mark(entries: &mut [Entry], at: usize, reversed: bool)
+    requires { at < length entries.old }
+    ensures { entries.new ≡ with_mark entries.old at reversed }
+{
+    let entry = &mut entries[at];
+    entry.reversed = reversed;
+}
+
+/// The same with one entry reversed, which is then marked. Where it is refused the entries are as before.
+pub(crate) fn replayed_without<T: Strategy>(
+    alloc: Global,
+    strategy: &T,
+    schedule: &[Instalment],
+    entries: &mut [Entry],
+    at: usize,
+) -> Result<(Book, Vec<Settled>), Fault>
+    requires few { length schedule.now ≤ 360 }
+    requires there { at < length entries.old }
+    requires stands { (entry_at entries.old at).reversed ≡ false }
+    requires fits { AreApplicable (λ _. T.cell_at strategy.now (length schedule.now)) (standing (with_mark entries.old at true)) (first_state schedule.now) }
+    ensures ok { OnOk result (entries.new ≡ with_mark entries.old at true) }
+    ensures err { OnErr result (entries.new ≡ entries.old) }
+    ensures state { IfOk result (λ both. both.0 ≡ state_of (λ _. T.cell_at strategy.now (length schedule.now)) schedule.now (with_mark entries.old at true)) }
+    ensures settled { IfOk result (λ both. both.1.items ≡ settled_of (λ _. T.cell_at strategy.now (length schedule.now)) schedule.now (with_mark entries.old at true)) }
+    ensures only { IsOkUnless result Fault.F20 }
+{
+    mark(entries, at, true);
+    match replayed(alloc, strategy, schedule, entries) {
+        Ok(both) => Ok(both),
+        Err(fault) => {
+            mark(entries, at, false);
+            Err(fault)
+        }
+    }
 }

@@ -59,6 +59,6 @@ returns-clause-parts g c =
     c.in_ok-parts.ensures.rows pays
     (c.in_ok-shares.ensures.shares ∙ ap (λ m. shares_of (cells m) cleared money) size)
     c.in_ok-parts.ensures.parts
-    (c.in_ok-add_paid.ensures
+    (c.in_ok-add_paid.ensures.parts
     ∙ ap (λ (x : List Share). c.in_ok-parts.parts.items ++ numbered entry.seq (1 + length c.in_ok-parts.parts.items) (map paid_part x)) c.deref.ensures.value)
     ∙ ap (numbered entry.seq 1) (sym (parts-once n (cells n) (g.T.Strategy.place_of c.args.strategy.now n) entry before line)))

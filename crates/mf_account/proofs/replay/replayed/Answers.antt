@@ -4,13 +4,13 @@ use Rattle.mf_account.specs.Effect.{State, after, parts_of}
 use Rattle.mf_account.specs.Account.{Orders, numbered}
 use Rattle.mf_account.specs.Standing.{standing, entries_at}
 use Rattle.mf_account.proofs.ReplayLemmas.{so_far-none, so_far-more, rest-cons}
-use Rattle.mf_account.proofs.replay.replay_loan.Goals as goal
+use Rattle.mf_account.proofs.replay.replayed.Goals as goal
 
 pub loop-k-init : goal.loop-k-init
 loop-k-init g c =
     let orders : Orders = λ _. g.T.Strategy.cell_at c.args.strategy.now (length c.args.schedule.now) in
     so_far-none orders c.args.schedule.now (standing c.args.entries.now) (entries_at c.args.entries.now (drop 0 c.in_ok-order.order.items)) c.in_ok-book.book c.new-settled.result.items
-    c.in_ok-book.ensures c.in_ok-order.ensures.order c.new-settled.ensures.items c.requires.fits
+    c.in_ok-book.ensures.state c.in_ok-order.ensures.order c.new-settled.ensures.items c.requires.fits
 
 pub loop-k-preserved : goal.loop-k-preserved
 loop-k-preserved g c =

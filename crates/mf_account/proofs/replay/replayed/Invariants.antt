@@ -2,7 +2,7 @@ use Rattle.std.proofs.Common.{length, drop}
 use Rattle.mf_account.specs.Account.{Orders}
 use Rattle.mf_account.specs.Standing.{standing, entries_at}
 use Rattle.mf_account.proofs.ReplayLemmas.{IsSoFar}
-use Rattle.mf_account.proofs.replay.replay_loan.Given as goal
+use Rattle.mf_account.proofs.replay.replayed.Given as goal
 
 abbrev pub invariant-loop-k : goal.invariant-loop-k
 invariant-loop-k g l =

@@ -1,0 +1,83 @@
+-- A loan: what it was disbursed on, and its entries. All else is worked out from these.
+use Rattle.std.specs.Prelude.{◌≡◌, ◌≢◌, ℕ, ◌+◌, ◌<◌, ◌≤◌, ◌^◌, Bool, true, false, not, ◌&&◌, ◌||◌, ◌==◌, nat_lt, nat_le, if◌then◌else◌, List, [], ◌∷◌, ◌++◌, length, All, sum_by, slice_index, slice_index_or, Option, Some, None, is_none}
+use Rattle.std.specs.List.{list_any}
+use Rattle.mf_base.specs.DayText.{last_entered_day}
+use Rattle.mf_catalog.specs.declared.terms.Terms.{Terms}
+use Rattle.mf_schedule.specs.declared.instalment.Instalment.{Instalment}
+use Rattle.mf_schedule.specs.Fresh.{fresh_schedule, fee_at_disbursement, IsLoanWithinLimits}
+use Rattle.mf_alloc.specs.declared.row.Portion.TheVariants.{Penalty as PenaltyPart, Fee as FeePart, Principal}
+use Rattle.mf_alloc.specs.Order.{cell_by}
+use Rattle.mf_alloc.specs.Sums.{Sums, open_at, is_open}
+use Rattle.mf_account.specs.declared.entry.Entry.{Entry}
+use Rattle.mf_account.specs.declared.entry.Kind.{Kind}
+use Rattle.mf_account.specs.declared.entry.Kind.TheVariants.{Repay, Fee, Penalty, Waive, WriteOff, Refund}
+use Rattle.mf_account.specs.declared.settled.Settled.{Settled}
+use Rattle.mf_account.specs.Kinds.{is_seal}
+use Rattle.mf_account.specs.Effect.{State}
+use Rattle.mf_account.specs.Account.{Orders, state_of, settled_of, status_of}
+use Rattle.mf_account.specs.Standing.{is_before, entry_at}
+
+pub record Loan : Type 0 where
+  pub terms : Terms
+  pub principal : ℕ
+  pub periods : ℕ
+  pub day : ℕ
+  pub entries : List Entry
+
+-- what a kind of entry holds in its columns, for a loan of n instalments
+abbrev pub HasColumns : Kind → ℕ → Entry → Type 0
+HasColumns Repay n e = (1 ≤ e.amount) × (e.amount ≤ 10 ^ 12) × (e.instalment ≡ 0) × (e.portion ≡ Principal)
+HasColumns Fee n e = (1 ≤ e.amount) × (e.amount ≤ 10 ^ 12) × (1 ≤ e.instalment) × (e.instalment ≤ n) × (e.portion ≡ FeePart) × (e.receipt ≡ None)
+HasColumns Penalty n e = (1 ≤ e.amount) × (e.amount ≤ 10 ^ 12) × (1 ≤ e.instalment) × (e.instalment ≤ n) × (e.portion ≡ PenaltyPart) × (e.receipt ≡ None)
+HasColumns Waive n e = (e.amount ≡ 0) × (1 ≤ e.instalment) × (e.instalment ≤ n) × (e.portion ≢ Principal) × (e.receipt ≡ None)
+HasColumns WriteOff n e = (e.amount ≡ 0) × (e.instalment ≡ 0) × (e.portion ≡ Principal) × (e.receipt ≡ None)
+HasColumns Refund n e = (e.amount ≡ 0) × (e.instalment ≡ 0) × (e.portion ≡ Principal) × (e.receipt ≡ None)
+
+pub record IsEntry (n day : ℕ) (e : Entry) : Type 0 where
+  pub from : day ≤ e.day
+  pub columns : HasColumns e.kind n e
+
+-- a standing write-off or refund is the last: every other standing entry comes before it
+abbrev pub SealIsLast : List Entry → Type 0
+SealIsLast entries =
+    (i j : ℕ) → i < length entries → j < length entries → i ≢ j → (entry_at entries i).reversed ≡ false
+    → (entry_at entries j).reversed ≡ false → is_seal (entry_at entries i).kind ≡ true → is_before (entry_at entries j) (entry_at entries i) ≡ true
+
+-- the entries of one loan: numbered from 1 in order, within the limit
+pub record AreEntries (n day : ℕ) (entries : List Entry) : Type 0 where
+  pub numbers : (i : ℕ) → i < length entries → (entry_at entries i).seq ≡ i + 1
+  pub few : length entries ≤ 9999
+  pub each : All (IsEntry n day) entries
+  pub seal_last : SealIsLast entries
+
+pub record IsSound (loan : Loan) : Type 0 where
+  pub limits : IsLoanWithinLimits loan.terms loan.principal loan.periods
+  pub day : loan.day ≤ last_entered_day
+  pub entries : AreEntries loan.periods loan.day loan.entries
+
+-- what a loan's account is: its fresh schedule, the order of its strategy, and the fold of its standing entries
+abbrev pub schedule_of : Loan → List Instalment
+schedule_of loan = fresh_schedule loan.terms loan.principal loan.periods loan.day
+
+abbrev pub orders_of : Loan → Orders
+orders_of loan entry = cell_by loan.terms.strategy
+
+abbrev pub state_of_loan : Loan → State
+state_of_loan loan = state_of (orders_of loan) (schedule_of loan) loan.entries
+
+abbrev pub settled_of_loan : Loan → List Settled
+settled_of_loan loan = settled_of (orders_of loan) (schedule_of loan) loan.entries
+
+abbrev pub fee_of_loan : Loan → ℕ
+fee_of_loan loan = fee_at_disbursement loan.terms loan.principal (schedule_of loan)
+
+abbrev pub status_of_loan : Loan → ℕ
+status_of_loan loan = status_of loan.entries (state_of_loan loan)
+
+-- what is kept of a loan beside its entries
+pub record IsKept (loan : Loan) (schedule : List Instalment) (fee : ℕ) (book : State) (settled : List Settled) : Type 0 where
+  pub sound : IsSound loan
+  pub schedule_is : schedule ≡ schedule_of loan
+  pub fee_is : fee ≡ fee_of_loan loan
+  pub book_is : book ≡ state_of_loan loan
+  pub settled_is : settled ≡ settled_of_loan loan

@@ -1,0 +1,179 @@
+ghost use Rattle.std.specs.Prelude.{◌≡◌, ◌-◌, ◌≤◌, ◌&&◌, not, IsTrue, length, is_some};
+ghost use Rattle.mf_account.specs.Kinds.{is_write_off as is_write_off_kind};
+ghost use Rattle.std.specs.List.{list_any};
+ghost use Rattle.mf_alloc.specs.Sums.{is_open};
+ghost use Rattle.mf_account.specs.declared.entry.Entry.{Entry as EntryRecord};
+ghost use Rattle.mf_account.specs.Account.{status_of};
+ghost use Rattle.mf_account.specs.Refusals.{is_standing_seal as is_standing_seal_of, is_sealed as is_sealed_by, admits as admits_kind, is_out_of_order as is_out_of_order_day, is_there as is_there_among, is_penalty_on as is_penalty_on_it, has_penalty as has_penalty_on, is_forbidden as is_forbidden_there, forbids_penalty as forbids_penalty_at, is_out_of_limits as is_out_of_limits_amount, reversal_refused};
+
+use crate::entry::{Entry, Kind};
+use mf_alloc::{Cell, Row, outstanding};
+use mf_base::{Day, Fault};
+
+/// Whether an entry is a write-off that stands.
+fn is_standing_write_off(entry: &Entry) -> bool
+    ensures { result ≡ (not entry.now.reversed && is_write_off_kind entry.now.kind) }
+{
+    !entry.reversed && matches!(entry.kind, Kind::WriteOff)
+}
+
+/// Whether a write-off stands.
+fn has_write_off(entries: &[Entry]) -> bool
+    ensures { result ≡ list_any (λ (e : EntryRecord). not e.reversed && is_write_off_kind e.kind) entries.now }
+{
+    entries.iter().any(|entry| is_standing_write_off(entry))
+}
+
+/// Whether anything is outstanding.
+fn is_any_open(rows: &[Row]) -> bool
+    ensures { result ≡ list_any is_open rows.now }
+{
+    rows.iter().any(|row| row.is_open())
+}
+
+/// The status of a disbursed loan: 601 where a write-off stands, else 300 where anything is outstanding, else 700
+/// where something is overpaid, else 600.
+pub(crate) fn status(entries: &[Entry], rows: &[Row], overpaid: u64) -> u16
+    ensures { result ≡ status_of entries.now (record { rows = rows.now; overpaid = overpaid; refunded = 0 }) }
+{
+    if has_write_off(entries) {
+        601
+    } else if is_any_open(rows) {
+        300
+    } else if overpaid > 0 {
+        700
+    } else {
+        600
+    }
+}
+
+/// Whether an entry is a write-off or a refund that stands.
+fn is_standing_seal(entry: &Entry) -> bool
+    ensures { result ≡ is_standing_seal_of entry.now }
+{
+    !entry.reversed && entry.kind.is_seal()
+}
+
+/// Whether a write-off or a refund stands.
+pub(crate) fn is_sealed(entries: &[Entry]) -> bool
+    ensures { result ≡ is_sealed_by entries.now }
+{
+    entries.iter().any(|entry| is_standing_seal(entry))
+}
+
+/// Whether a status admits entries of a kind.
+pub(crate) fn admits(kind: Kind, status: u16) -> bool
+    ensures { result ≡ admits_kind kind status }
+{
+    match kind {
+        Kind::Refund => status == 700,
+        Kind::Repay | Kind::Fee | Kind::Penalty | Kind::Waive | Kind::WriteOff => status == 300,
+    }
+}
+
+/// Whether an entry's day lies outside its days, from the first to the last.
+pub(crate) fn is_out_of_order(entry: &Entry, first: Day, last: Day) -> bool
+    ensures { result ≡ is_out_of_order_day entry.now.kind first last entry.now.day }
+{
+    match entry.kind {
+        Kind::Repay => entry.day < first || last < entry.day,
+        Kind::Fee | Kind::Penalty | Kind::Waive | Kind::WriteOff | Kind::Refund => false,
+    }
+}
+
+/// Whether things numbered from 1 to n have this number.
+pub(crate) fn is_there(n: usize, number: u32) -> bool
+    ensures value { result ≡ is_there_among n number }
+    ensures there { IsTrue result → (1 ≤ number) × (number ≤ n) }
+{
+    1 <= number && number as usize <= n
+}
+
+/// Whether an entry is a penalty that stands on an instalment.
+fn is_penalty_on(entry: &Entry, instalment: u32) -> bool
+    ensures { result ≡ is_penalty_on_it instalment entry.now }
+{
+    !entry.reversed && (matches!(entry.kind, Kind::Penalty) && entry.instalment == instalment)
+}
+
+/// Whether a penalty stands on an instalment.
+fn has_penalty(entries: &[Entry], instalment: u32) -> bool
+    ensures { result ≡ has_penalty_on entries.now instalment }
+{
+    entries.iter().any(|entry| is_penalty_on(entry, instalment))
+}
+
+/// Whether an instalment that is there does not allow a penalty.
+fn forbids_penalty(
+    charged: bool,
+    row: &Row,
+    entries: &[Entry],
+    instalment: u32,
+    business_day: Day,
+) -> bool
+    ensures { result ≡ forbids_penalty_at charged row.now entries.now instalment business_day }
+{
+    !charged
+        || (business_day <= row.due || (!row.is_open() || has_penalty(entries, instalment)))
+}
+
+/// Whether the instalment that an entry names does not allow it. `charged` says whether the product has an overdue
+/// charge.
+pub(crate) fn is_forbidden(
+    charged: bool,
+    rows: &[Row],
+    entries: &[Entry],
+    entry: &Entry,
+    business_day: Day,
+) -> bool
+    ensures { result ≡ is_forbidden_there entry.now.kind charged rows.now entries.now entry.now business_day }
+{
+    match entry.kind {
+        Kind::Repay | Kind::WriteOff | Kind::Refund => false,
+        Kind::Fee => !is_there(rows.len(), entry.instalment),
+        Kind::Penalty => {
+            if !is_there(rows.len(), entry.instalment) {
+                return true;
+            }
+            let row = &rows[(entry.instalment - 1) as usize];
+            forbids_penalty(charged, row, entries, entry.instalment, business_day)
+        }
+        Kind::Waive => {
+            if !is_there(rows.len(), entry.instalment) {
+                return true;
+            }
+            let cell = Cell {
+                instalment: entry.instalment,
+                portion: entry.portion,
+            };
+            outstanding(rows, cell) == 0
+        }
+    }
+}
+
+/// Whether a fee or penalty came to nothing, or to more than 10^12 cents.
+pub(crate) fn is_out_of_limits(entry: &Entry) -> bool
+    ensures { result ≡ is_out_of_limits_amount entry.now.kind entry.now.amount }
+{
+    match entry.kind {
+        Kind::Fee | Kind::Penalty => entry.amount == 0 || 1_000_000_000_000 < entry.amount,
+        Kind::Repay | Kind::Waive | Kind::WriteOff | Kind::Refund => false,
+    }
+}
+
+/// Why a reversal is refused: no such entry, reversed already, or another entry seals the loan.
+pub(crate) fn reversal(entries: &[Entry], seq: u32) -> Option<Fault>
+    ensures { result ≡ reversal_refused entries.now seq }
+{
+    if !is_there(entries.len(), seq) {
+        return Some(Fault::F12);
+    }
+    let entry = &entries[(seq - 1) as usize];
+    if entry.reversed {
+        Some(Fault::F13)
+    } else if is_sealed(entries) && !entry.kind.is_seal() {
+        Some(Fault::F11)
+    } else {
+        None
+    }
+}
