@@ -6,7 +6,7 @@ use Rattle.mf_base.specs.declared.fault.Fault.TheVariants.{F20}
 use Rattle.mf_model.specs.declared.request.Call.{Call}
 use Rattle.mf_model.specs.declared.reply.Reply.{Reply}
 use Rattle.mf_model.specs.declared.commit.Commit.{Commit}
-use Rattle.mf_model.specs.declared.commit.Decision.{Decision}
+use Rattle.mf_desk.specs.declared.decision.Decision.{Decision}
 use Rattle.mf_model.specs.Institution.{Institution, Change, after, after_maybe}
 use Rattle.mf_model.specs.Desk.{outcome, reply_in, change_in, reply}
 use Rattle.mf_model.specs.Sound.{IsSound, IsInRange}

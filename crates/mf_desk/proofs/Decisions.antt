@@ -7,7 +7,7 @@ use Rattle.mf_office.specs.declared.staff.Role.{Role}
 use Rattle.mf_office.specs.declared.caller.Caller.{Caller}
 use Rattle.mf_model.specs.declared.request.Request.{Request}
 use Rattle.mf_model.specs.declared.request.Request.TheVariants.{Malformed}
-use Rattle.mf_model.specs.declared.commit.Decision.{Decision}
+use Rattle.mf_desk.specs.declared.decision.Decision.{Decision}
 use Rattle.mf_model.specs.Institution.{Institution, Staff}
 use Rattle.mf_model.specs.Desk.{Plan, plan, need, meets, Outcome, outcome, staff_at, permitted, sent_by}
 use Rattle.mf_model.specs.Store.{Reads, role_of}

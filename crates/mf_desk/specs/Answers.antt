@@ -6,7 +6,7 @@ use Rattle.mf_office.specs.declared.caller.Caller.{Caller}
 use Rattle.mf_model.specs.declared.request.Call.{Call}
 use Rattle.mf_model.specs.declared.request.Request.{Request}
 use Rattle.mf_model.specs.declared.reply.Reply.{Reply}
-use Rattle.mf_model.specs.declared.commit.Decision.{Decision}
+use Rattle.mf_desk.specs.declared.decision.Decision.{Decision}
 use Rattle.mf_model.specs.Institution.{Institution, after_maybe}
 use Rattle.mf_model.specs.Desk.{Plan, plan, Outcome, carried_out, outcome, change_in}
 use Rattle.mf_model.specs.Store.{change_of, left_by}

@@ -4,10 +4,11 @@ ghost use Rattle.mf_model.specs.Tree.{view};
 ghost use Rattle.mf_model.specs.Desk.{outcome, reply};
 ghost use Rattle.mf_desk.specs.Answers.{Decides, Tells, Changes, call_of};
 
+use crate::decision::Decision;
 use crate::roles::may_send;
 use crate::routes::act;
 use mf_base::Fault;
-use mf_model::{Decision, InstitutionStore, Reply, Request, answered_by_view, soundness};
+use mf_model::{InstitutionStore, Reply, Request, answered_by_view, soundness};
 use mf_office::Caller;
 use std::alloc::Global;
 

@@ -2,6 +2,7 @@
 #![tactic(auto)]
 
 mod answering;
+mod decision;
 mod roles;
 mod routes;
 

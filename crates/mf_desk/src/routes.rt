@@ -5,8 +5,9 @@ ghost use Rattle.mf_model.specs.declared.request.Request.TheVariants.{PostOffice
 ghost use Rattle.mf_model.specs.Desk.{next_of};
 ghost use Rattle.mf_desk.specs.Answers.{Decides, acted};
 
+use crate::decision::Decision;
 use mf_base::Fault;
-use mf_model::{Commit, Decision, InstitutionStore, Reply, Request};
+use mf_model::{Commit, InstitutionStore, Reply, Request};
 use mf_office::{Account, AccountNo, Caller, Name, OfficeNo, Role, StaffNo, next_number};
 use std::alloc::Global;
 

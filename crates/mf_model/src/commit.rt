@@ -1,4 +1,3 @@
-use crate::reply::Reply;
 use mf_office::{Name, OfficeNo, Role};
 
 /// A change that the store makes whole or not at all.
@@ -21,11 +20,4 @@ pub enum Commit {
         office: OfficeNo,
         name: Name,
     },
-}
-
-/// What is decided of a request before anything is changed: the reply, and the change that it tells, if it makes one.
-#[derive(Debug, Drop)]
-pub struct Decision {
-    pub reply: Reply,
-    pub commit: Option<Commit>,
 }

@@ -9,7 +9,7 @@ mod reply;
 mod request;
 mod store;
 
-pub use commit::{Commit, Decision};
+pub use commit::Commit;
 pub use laws::{
     alike, alike_but_given_up, answered_by_view, confinement, effects, isolation,
     isolation_with_memory, longer_run, soundness, tree_of_offices, worked_rows,
