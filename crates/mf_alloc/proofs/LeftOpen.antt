@@ -12,7 +12,8 @@ use Rattle.mf_alloc.specs.declared.row.Share.{Share}
 use Rattle.mf_alloc.specs.Sums.{Sums, open_at, IsWhole, AreWhole}
 use Rattle.mf_alloc.specs.Rows.{outstanding, no_row, row_at, pay_row, pay_into, with_paid, place_in_row, IsCell}
 use Rattle.mf_alloc.specs.Payment.{start, share_at, is_some_share, shares_of, rest_of}
-use Rattle.mf_alloc.proofs.PaymentLemmas.{IsOrder, outstanding-pay_into, start-more}
+use Rattle.mf_alloc.specs.OrderLaws.{IsOrder}
+use Rattle.mf_alloc.proofs.PaymentLemmas.{outstanding-pay_into, start-more}
 use Rattle.mf_alloc.proofs.TwoPayments.{share_in, shares_by, with_paid-some, with_paid-twice}
 
 pub place_in_row-small : (portion : Portion) → place_in_row portion < 4

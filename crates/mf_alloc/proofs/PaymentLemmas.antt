@@ -16,6 +16,7 @@ use Rattle.mf_alloc.specs.declared.row.Portion.TheVariants.{Penalty, Fee, Intere
 use Rattle.mf_alloc.specs.Sums.{open_at}
 use Rattle.mf_alloc.specs.Order.{standard}
 use Rattle.mf_alloc.specs.Rows.{outstanding, no_row, row_at, raised, lowered, changed, pay_row, unpay_row, pay_into, take_out, with_paid, without_paid, place_in_row, IsCell, IsPayable}
+use Rattle.mf_alloc.specs.OrderLaws.{IsOrder}
 use Rattle.mf_alloc.specs.Payment.{start, share_at, is_some_share, shares_below, total_of, shares_of, rest_of}
 
 -- the stretch of the next place begins where this one ends
@@ -128,11 +129,6 @@ pub outstanding-pay_into : (rows : List Row) (share : Share) (cell : Cell) → I
 outstanding-pay_into rows share cell there here apart =
     outstanding-changed rows share.cell cell (pay_row (place_in_row share.cell.portion) share.amount) there here apart
     (λ row q other. open_at-pay_row row (place_in_row share.cell.portion) q share.amount other)
-
--- an order of n instalments' cells in which each place has a cell of its own
-pub record IsOrder (n : ℕ) (order : ℕ → Cell) (place : Cell → ℕ) : Type 0 where
-  pub is_cell : (k : ℕ) → k < 4 * n → IsCell n (order k)
-  pub back : (k : ℕ) → k < 4 * n → place (order k) ≡ k
 
 -- the shares of places j to j + len - 1, of rows that differ from those on the line in earlier cells alone
 payable_from : (n : ℕ) (order : ℕ → Cell) (place : Cell → ℕ) (line rows : List Row) (amount j len : ℕ) → IsOrder n order place → length rows ≡ n → j + len ≤ 4 * n → ((k : ℕ) → j ≤ k → k < 4 * n → outstanding rows (order k) ≡ outstanding line (order k)) → IsPayable rows (filter is_some_share (map (share_at order line amount) (range_with_len j len)))

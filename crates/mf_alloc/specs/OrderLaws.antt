@@ -96,3 +96,8 @@ pub forth-place_by : (name : StrategyName) (n : ℕ) (c : Cell) → IsCell n c �
 forth-place_by MifosStandard n c is = forth-by_instalment standard standard_place n c standard_places is
 forth-place_by PrincipalFirst n c is = forth-by_instalment principal_first principal_first_place n c principal_first_places is
 forth-place_by InterestFirst n c is = forth-by_instalment interest_first interest_first_place n c interest_first_places is
+
+-- an order of n instalments' cells in which each place has a cell of its own
+pub record IsOrder (n : ℕ) (order : ℕ → Cell) (place : Cell → ℕ) : Type 0 where
+  pub is_cell : (k : ℕ) → k < 4 * n → IsCell n (order k)
+  pub back : (k : ℕ) → k < 4 * n → place (order k) ≡ k

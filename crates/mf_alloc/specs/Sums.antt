@@ -43,3 +43,10 @@ pub record IsWhole (row : Sums) : Type 0 where
 
 abbrev pub AreWhole : List Sums → Type 0
 AreWhole rows = All IsWhole rows
+
+-- in a row, and in each of several, what is settled is at most what is owed
+abbrev pub IsRowWithin : Sums → Type 0
+IsRowWithin row = IsWithin row.owed row.paid row.waived row.written_off
+
+abbrev pub AreWithin : List Sums → Type 0
+AreWithin rows = All IsRowWithin rows

@@ -1,2 +1,3 @@
 pub mod Ageing
 pub mod Line
+pub mod Report

@@ -3,6 +3,11 @@
 
 mod ageing;
 mod line;
+mod report;
 
 pub use ageing::{arrears, class};
 pub use line::{Class, OfficeLine};
+pub use report::report_text;
+
+#[cfg(test)]
+mod tests;

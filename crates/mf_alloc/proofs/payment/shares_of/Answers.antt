@@ -2,7 +2,8 @@ use Rattle.std.proofs.Common.{◌≡◌, ℕ, ◌-◌, ◌*◌, length, arith, a
 use Rattle.mf_alloc.specs.declared.row.Share.{Share}
 use Rattle.mf_alloc.specs.Rows.{outstanding}
 use Rattle.mf_alloc.specs.Payment.{shares_below, start}
-use Rattle.mf_alloc.proofs.PaymentLemmas.{start-more, shares_below-push, shares_below-without, IsOrder, payable-from, total-from, at_end}
+use Rattle.mf_alloc.specs.OrderLaws.{IsOrder}
+use Rattle.mf_alloc.proofs.PaymentLemmas.{start-more, shares_below-push, shares_below-without, payable-from, total-from, at_end}
 use Rattle.mf_alloc.proofs.payment.shares_of.Goals as goal
 use Rattle.mf_alloc.proofs.payment.shares_of.Goals.{then-share-gt0+in_ok-push, else-share-gt0}
 
