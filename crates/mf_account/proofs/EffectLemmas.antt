@@ -11,7 +11,8 @@ use Rattle.mf_alloc.specs.declared.row.Share.{Share}
 use Rattle.mf_alloc.specs.Sums.{Sums, open_at}
 use Rattle.mf_alloc.specs.Rows.{outstanding, row_at, place_in_row, IsCell, changed, with_paid, IsPayable, pay_into}
 use Rattle.mf_alloc.specs.Payment.{shares_of, rest_of}
-use Rattle.mf_alloc.proofs.PaymentLemmas.{outstanding-changed, IsOrder}
+use Rattle.mf_alloc.specs.OrderLaws.{IsOrder}
+use Rattle.mf_alloc.proofs.PaymentLemmas.{outstanding-changed}
 use Rattle.mf_account.specs.declared.entry.Entry.{Entry}
 use Rattle.mf_account.specs.declared.entry.Kind.{Kind}
 use Rattle.mf_account.specs.declared.entry.Kind.TheVariants.{Repay, Fee, Penalty, Waive, WriteOff, Refund}

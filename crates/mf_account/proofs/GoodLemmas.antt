@@ -9,9 +9,10 @@ use Rattle.mf_alloc.specs.declared.row.Cell.{Cell}
 use Rattle.mf_alloc.specs.declared.row.Share.{Share}
 use Rattle.mf_alloc.specs.declared.row.Portion.{Portion}
 use Rattle.mf_alloc.specs.declared.row.Portion.TheVariants.{Penalty as PenaltyPart, Fee as FeePart, Interest, Principal}
-use Rattle.mf_alloc.specs.Sums.{Sums, open_at, IsWithin, IsWhole, AreWhole}
+use Rattle.mf_alloc.specs.Sums.{Sums, open_at, IsWithin, IsRowWithin, AreWithin, IsWhole, AreWhole}
 use Rattle.mf_alloc.specs.Rows.{outstanding, no_row, row_at, changed, raised, place_in_row, IsCell, IsPayable, pay_into}
-use Rattle.mf_alloc.proofs.PaymentLemmas.{IsOrder, shares_payable}
+use Rattle.mf_alloc.specs.OrderLaws.{IsOrder}
+use Rattle.mf_alloc.proofs.PaymentLemmas.{shares_payable}
 use Rattle.mf_alloc.proofs.LeftOpen.{IsLine, place_in_row-small}
 use Rattle.mf_account.specs.declared.entry.Entry.{Entry}
 use Rattle.mf_account.specs.declared.entry.Kind.{Kind}
@@ -22,7 +23,7 @@ use Rattle.mf_account.specs.Kinds.{money_in, money_out}
 use Rattle.mf_account.specs.Effect.{State, Part, after, settle, settle_row, owe_row, with_settled, with_charge, parts_by, parts_cleared, parts_of}
 use Rattle.mf_account.specs.AtOnce.{paid_part, rows_charged, rows_cleared, money_to_pay, shares_at_once, parts_at_once}
 use Rattle.mf_account.specs.Account.{Orders, after_all, sum_at}
-use Rattle.mf_account.specs.Applicable.{HasRow, HasCell, IsApplicable, AreApplicable, IsSettleable}
+use Rattle.mf_account.specs.Applicable.{HasInstalment, HasRow, HasCell, IsApplicable, AreApplicable, IsSettleable}
 use Rattle.mf_account.proofs.EffectLemmas.{cleared_settleable, length-with_charge, length-with_settled}
 use Rattle.mf_account.proofs.OnceLemmas.{rows-after, parts-once, money-after, refunded-after}
 use Rattle.mf_account.proofs.UndoLemmas.{money_out-le}
@@ -61,13 +62,6 @@ whole-with_charge Repay entry rows whole = whole
 whole-with_charge Waive entry rows whole = whole
 whole-with_charge WriteOff entry rows whole = whole
 whole-with_charge Refund entry rows whole = whole
-
--- in a row, what is settled is at most what is owed
-abbrev pub IsRowWithin : Sums → Type 0
-IsRowWithin row = IsWithin row.owed row.paid row.waived row.written_off
-
-abbrev pub AreWithin : List Sums → Type 0
-AreWithin rows = All IsRowWithin rows
 
 -- one sum raised, read at any place
 read-raised : (sums : List ℕ) (p amount q : ℕ) → p < length sums → (get_or (raised sums p amount) q 0 ≡ get_or sums q 0 + amount) × (q ≡ p) ⊎ (get_or (raised sums p amount) q 0 ≡ get_or sums q 0) × (q ≢ p)
@@ -141,15 +135,6 @@ settleable-paid : (rows : List Sums) (shares : List Share) → IsPayable rows sh
 settleable-paid rows [] fits = tt
 settleable-paid rows (share ∷ shares) fits = (fits.0, fits.1, settleable-paid (pay_into rows share) shares fits.2)
 
--- the instalment that an entry names is there, where its kind names one
-abbrev pub HasInstalment : Kind → Entry → ℕ → Type 0
-HasInstalment Fee entry n = (1 ≤ entry.instalment) × (entry.instalment ≤ n)
-HasInstalment Penalty entry n = (1 ≤ entry.instalment) × (entry.instalment ≤ n)
-HasInstalment Waive entry n = (1 ≤ entry.instalment) × (entry.instalment ≤ n)
-HasInstalment Repay entry n = Unit {0}
-HasInstalment WriteOff entry n = Unit {0}
-HasInstalment Refund entry n = Unit {0}
-
 has_cell-there : (kind : Kind) (entry : Entry) (n m : ℕ) → m ≡ n → HasInstalment kind entry n → HasCell kind entry m
 has_cell-there Waive entry n m same has = (has.0, omega (arith, same, has.1))
 has_cell-there Repay entry n m same has = tt
@@ -180,9 +165,9 @@ sum-changed : (f : Sums → ℕ) (rows : List Sums) (instalment more : ℕ) (cha
 sum-changed f rows instalment more change grows =
     changed-keeps (λ x. sum_by f x ≤ sum_by f rows + more) rows instalment change (omega arith)
     (λ within.
-        let at = sum_by-set f rows (instalment - 1) (change (row_at rows instalment)) no_row within in
-        let one = grows (row_at rows instalment) in
-        omega (arith, at, one))
+    let at = sum_by-set f rows (instalment - 1) (change (row_at rows instalment)) no_row within in
+    let one = grows (row_at rows instalment) in
+    omega (arith, at, one))
 
 owed-owe_row : (p amount q : ℕ) (row : Sums) → owed_at q (owe_row p amount row) ≤ owed_at q row + amount
 owed-owe_row p amount q row =
@@ -290,8 +275,7 @@ applicable-all n used order place (entry ∷ entries) before is each good room =
     let sum = amounts-cons entry entries in
     let one : IsReplayable n entry = All-head (IsReplayable n) entry entries each in
     let here : used + entry.amount < 2 ^ 63 = omega (arith, sum, room) in
-    let next : IsGood n (used + entry.amount) (after order entry before) = good-after n used order place entry before is one.there good in
-    (
+    let next : IsGood n (used + entry.amount) (after order entry before) = good-after n used order place entry before is one.there good in (
       record {
         row = has_row entry.kind n used entry before one.there good here;
         money = omega (arith, good.money, here);
@@ -310,3 +294,23 @@ good-all n used order place (entry ∷ entries) before is each good =
     let room : used + entry.amount + amounts entries ≡ used + amounts (entry ∷ entries) = omega (arith, sum) in
     subst (λ (x : ℕ). IsGood n x (after_all (λ _. order) (entry ∷ entries) before)) room
     (good-all n (used + entry.amount) order place entries (after order entry before) is (All-tail (IsReplayable n) entry entries each) next)
+
+-- the rows of a state are such as a book can hold
+pub record IsStill (n : ℕ) (state : State) : Type 0 where
+  pub size : length state.rows ≡ n
+  pub whole : AreWhole state.rows
+  pub within : AreWithin state.rows
+
+pub still-after : (n : ℕ) (order : ℕ → Cell) (place : Cell → ℕ) (entry : Entry) (before : State) → IsOrder n order place → HasInstalment entry.kind entry n → IsStill n before → IsStill n (after order entry before)
+still-after n order place entry before is has still =
+    let line : IsLine n order place before.rows = record { size = still.size; is = is; whole = still.whole } in
+    let charged : List Sums = rows_charged entry before in
+    let parts : List Part = parts_of order entry before in
+    let rows : (after order entry before).rows ≡ with_settled charged parts = rows-after order entry before in
+    let whole_charged : AreWhole charged = whole-with_charge entry.kind entry before.rows still.whole in
+    let within_charged : AreWithin charged = within-with_charge entry.kind entry before.rows still.whole still.within in
+    record {
+      size = ap length rows ∙ length-with_settled charged parts ∙ length-with_charge entry.kind entry before.rows ∙ still.size;
+      whole = subst AreWhole (sym rows) (whole-with_settled charged parts whole_charged);
+      within = subst AreWithin (sym rows) (within-with_settled charged parts whole_charged within_charged (settleable-after n order place entry before line has));
+    }

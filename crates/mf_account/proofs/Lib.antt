@@ -4,5 +4,8 @@ pub mod UndoLemmas
 pub mod GoodLemmas
 pub mod StandingLemmas
 pub mod SoundLemmas
+pub mod ConserveLemmas
+pub mod StandingIsOne
+pub mod WorkedRows
 pub mod ReplayLemmas
 pub mod RewindLemmas

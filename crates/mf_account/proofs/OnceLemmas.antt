@@ -73,7 +73,7 @@ acted-rows Waive order entry before = sym (with_paid-zero order (places_of befor
 acted-rows WriteOff order entry before = sym (with_paid-zero order (places_of before) (rows_by WriteOff order entry before.rows))
 acted-rows Refund order entry before = sym (with_paid-zero order (places_of before) (rows_by Refund order entry before.rows))
 
-length-acted : (kind : Kind) (order : ℕ → Cell) (entry : Entry) (before : State) → length (own_effect kind order entry before).rows ≡ length before.rows
+pub length-acted : (kind : Kind) (order : ℕ → Cell) (entry : Entry) (before : State) → length (own_effect kind order entry before).rows ≡ length before.rows
 length-acted Repay order entry before = length-rows_paid order before.rows entry.amount
 length-acted Fee order entry before = length-with_charge Fee entry before.rows
 length-acted Penalty order entry before = length-with_charge Penalty entry before.rows

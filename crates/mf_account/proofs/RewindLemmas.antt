@@ -9,6 +9,7 @@ use Rattle.std.proofs.lemmas.List.Elements.{All-append, All-nil, All-cons, All-w
 use Rattle.std.proofs.lemmas.List.Sums.{sum_by-append, sum_by-take-le}
 use Rattle.mf_alloc.specs.declared.row.Cell.{Cell}
 use Rattle.mf_alloc.specs.Rows.{IsCell}
+use Rattle.mf_alloc.specs.OrderLaws.{IsOrder}
 use Rattle.mf_alloc.specs.Payment.{shares_of, rest_of, total_of}
 use Rattle.mf_account.specs.declared.entry.Entry.{Entry}
 use Rattle.mf_account.specs.declared.entry.Kind.{Kind}
@@ -18,11 +19,16 @@ use Rattle.mf_account.specs.Effect.{State, Part, after, parts_of}
 use Rattle.mf_account.specs.Kinds.{money_in, money_out}
 use Rattle.mf_account.specs.AtOnce.{money_to_pay}
 use Rattle.mf_account.specs.Account.{Orders, after_all, settled_by, numbered, part_of}
-use Rattle.mf_account.specs.Undo.{before_entry, paid_in}
+use Rattle.mf_account.specs.Undo.{unowe_row, before_entry, paid_in, without_charge, without_settled}
 use Rattle.mf_account.specs.Standing.{no_entry, entry_at}
 use Rattle.mf_account.specs.Applicable.{no_settled, HasCharge, AreInRows}
 use Rattle.mf_account.specs.Rewind.{IsRewindable}
+use Rattle.mf_alloc.specs.Sums.{Sums, IsRowWithin, AreWithin}
+use Rattle.mf_alloc.specs.Rows.{changed, no_row}
+use Rattle.std.proofs.lemmas.List.{length-set, get_or-set_same}
+use Rattle.mf_account.specs.Applicable.{HasInstalment}
 use Rattle.mf_account.proofs.EffectLemmas.{part_of-numbered}
+use Rattle.mf_account.proofs.GoodLemmas.{IsStill, still-after}
 use Rattle.mf_account.proofs.UndoLemmas.{before_entry-after, no_refund, money_out-le}
 use Rattle.mf_account.proofs.OnceLemmas.{money-after, refunded-after}
 use Rattle.mf_account.proofs.ReplayLemmas.{length-after}
@@ -112,6 +118,13 @@ length-after_all : (orders : Orders) (entries : List Entry) (from : State) → l
 length-after_all orders [] from = refl
 length-after_all orders (entry ∷ entries) from = length-after_all orders entries (after (orders entry) entry from) ∙ length-after orders entry from
 
+-- the rows after entries are such as a book can hold
+still-all : (n : ℕ) (orders : Orders) (places : Entry → Cell → ℕ) (entries : List Entry) (from : State) → ((e : Entry) → IsOrder n (orders e) (places e)) → ((j : ℕ) → j < length entries → HasInstalment (entry_at entries j).kind (entry_at entries j) n) → IsStill n from → IsStill n (after_all orders entries from)
+still-all n orders places [] from lawful there still = still
+still-all n orders places (entry ∷ entries) from lawful there still =
+    still-all n orders places entries (after (orders entry) entry from) lawful (λ j less. there (suc j) (omega arith))
+    (still-after n (orders entry) (places entry) entry from (lawful entry) (there 0 (omega arith)) still)
+
 -- how far a rewinding has come: i entries and k parts are left
 pub record IsBack (orders : Orders) (from : State) (tail : List Entry) (settled : List Settled) (i k : ℕ) (now : State) : Type 0 where
   pub state : now ≡ after_all orders (take i tail) from
@@ -126,9 +139,10 @@ pub record IsStep (orders : Orders) (from : State) (tail : List Entry) (settled 
   pub next_settled : take start settled ≡ settled_by orders (take i tail) from
   pub size : length now.rows ≡ length from.rows
   pub money : now.overpaid + paid_in (map part_of own) + now.refunded < 2 ^ 63
+  pub within : AreWithin (without_charge (entry_at tail i).kind (entry_at tail i) (without_settled now.rows (map part_of own)))
 
-pub step_back : (orders : Orders) (from first now : State) (tail : List Entry) (settled own : List Settled) (i k start : ℕ) → IsRewindable orders from tail settled first → IsBack orders from tail settled (i + 1) k now → i < length tail → k ≤ length settled → start ≤ k → ((j : ℕ) → start ≤ j → j < k → (get_or settled j no_settled).seq ≡ (entry_at tail i).seq) → (0 < start → (get_or settled (start - 1) no_settled).seq ≢ (entry_at tail i).seq) → own ≡ drop start (take k settled) → IsStep orders from tail settled own i k start now
-step_back orders from first now tail settled own i k start is back within fits below run before_run slice =
+pub step_back : (orders : Orders) (places : Entry → Cell → ℕ) (from first now : State) (tail : List Entry) (settled own : List Settled) (i k start : ℕ) → IsRewindable orders places from tail settled first → IsBack orders from tail settled (i + 1) k now → i < length tail → k ≤ length settled → start ≤ k → ((j : ℕ) → start ≤ j → j < k → (get_or settled j no_settled).seq ≡ (entry_at tail i).seq) → (0 < start → (get_or settled (start - 1) no_settled).seq ≢ (entry_at tail i).seq) → own ≡ drop start (take k settled) → IsStep orders from tail settled own i k start now
+step_back orders places from first now tail settled own i k start is back within fits below run before_run slice =
     let entry : Entry = entry_at tail i in
     let earlier : List Entry = take i tail in
     let past : State = after_all orders earlier from in
@@ -162,8 +176,14 @@ step_back orders from first now tail settled own i k start is back within fits b
     let overpaid : now.overpaid ≡ (after order entry past).overpaid = ap (λ (x : State). x.overpaid) state in
     let refunded : now.refunded ≡ past.refunded + money_out entry.kind past.overpaid = ap (λ (x : State). x.refunded) state ∙ refunded-after entry.kind order entry past in
     let all : now.overpaid + paid_in (map part_of own) + now.refunded ≤ from.overpaid + amounts tail = omega (arith, money, brings, out, under, upto, parts_sum, paid, overpaid, refunded, none) in
+    let next : before_entry entry (map part_of own) now ≡ past = ap (λ x. before_entry entry x now) own_parts ∙ ap (before_entry entry parts) state ∙ before_entry-after order entry past none in
+    let still : IsStill (length from.rows) past =
+    still-all (length from.rows) orders places (take i tail) from is.lawful
+    (λ j less. subst (λ (x : Entry). HasInstalment x.kind x (length from.rows)) (sym (read j (omega (arith, left_size, less)))) (is.instalments j (omega (arith, left_size, less, within))))
+    (record { size = refl; whole = is.whole; within = is.within }) in
     record {
-      next_state = ap (λ x. before_entry entry x now) own_parts ∙ ap (before_entry entry parts) state ∙ before_entry-after order entry past none;
+      next_state = next;
+      within = subst AreWithin (sym (ap (λ (x : State). x.rows) next)) still.within;
       next_settled = sym (take-take start k settled below) ∙ ap (take start) lists ∙ ap (λ n. take n (xs ++ ys)) begins ∙ take-append_seam xs ys;
       size = ap (λ (x : State). length x.rows) state ∙ length-after orders entry past ∙ length-after_all orders earlier from;
       money = below-money _ _ all is.room;
@@ -174,14 +194,14 @@ pub read_entry : (tail : List Entry) (i : ℕ) (e : Entry) → i < length tail �
 read_entry tail i e within is = get_or_default tail i no_entry e within ∙ sym is
 
 -- the step as the loop has it
-pub back_step : (orders : Orders) (from first now : State) (tail : List Entry) (settled : List Settled) (left k start : ℕ) (e : Entry) → IsRewindable orders from tail settled first → IsBack orders from tail settled left k now → 0 < left → left ≤ length tail → k ≤ length settled → start ≤ k → e ≡ get_or tail (left - 1) e → ((j : ℕ) → start ≤ j → j < k → (get_or settled j no_settled).seq ≡ (get_or tail (left - 1) e).seq) → (0 < start → (get_or settled (start - 1) no_settled).seq ≢ (get_or tail (left - 1) e).seq) → IsStep orders from tail settled (take (k - start) (drop start settled)) (left - 1) k start now
-back_step orders from first now tail settled left k start e is back some within fits below read run before_run =
+pub back_step : (orders : Orders) (places : Entry → Cell → ℕ) (from first now : State) (tail : List Entry) (settled : List Settled) (left k start : ℕ) (e : Entry) → IsRewindable orders places from tail settled first → IsBack orders from tail settled left k now → 0 < left → left ≤ length tail → k ≤ length settled → start ≤ k → e ≡ get_or tail (left - 1) e → ((j : ℕ) → start ≤ j → j < k → (get_or settled j no_settled).seq ≡ (get_or tail (left - 1) e).seq) → (0 < start → (get_or settled (start - 1) no_settled).seq ≢ (get_or tail (left - 1) e).seq) → IsStep orders from tail settled (take (k - start) (drop start settled)) (left - 1) k start now
+back_step orders places from first now tail settled left k start e is back some within fits below read run before_run =
     let i : ℕ = left - 1 in
     let at : left ≡ i + 1 = omega arith in
     let entry : entry_at tail i ≡ e = read_entry tail i e (omega arith) read in
     let seq : (get_or tail i e).seq ≡ (entry_at tail i).seq = ap (λ (x : Entry). x.seq) (sym read ∙ sym entry) in
     let here : IsBack orders from tail settled (i + 1) k now = subst (λ (n : ℕ). IsBack orders from tail settled n k now) at back in
-    step_back orders from first now tail settled (take (k - start) (drop start settled)) i k start is here (omega arith) fits below
+    step_back orders places from first now tail settled (take (k - start) (drop start settled)) i k start is here (omega arith) fits below
     (λ j from_start less. run j from_start less ∙ seq)
     (λ more e2. before_run more (e2 ∙ sym seq))
     (let whole : start + (k - start) ≡ k = omega arith in sym (drop-take start (k - start) settled) ∙ ap (λ n. drop start (take n settled)) whole)
@@ -197,9 +217,23 @@ pub charge-at : (tail : List Entry) (i n m : ℕ) (e : Entry) → HasCharge (ent
 charge-at tail i n m e has is same =
     subst (λ (x : ℕ). HasCharge e.kind e x) (sym same) (subst (λ (x : Entry). HasCharge x.kind x n) is has)
 
+-- the rows that a step leaves
+pub within-at : (tail : List Entry) (i : ℕ) (e : Entry) (now : State) (parts : List Part) → entry_at tail i ≡ e → AreWithin (without_charge (entry_at tail i).kind (entry_at tail i) (without_settled now.rows parts)) → AreWithin (without_charge e.kind e (without_settled now.rows parts))
+within-at tail i e now parts is within = subst (λ (x : Entry). AreWithin (without_charge x.kind x (without_settled now.rows parts))) is within
+
 -- what a step leaves
 pub back-after : (orders : Orders) (from now next : State) (tail : List Entry) (settled own : List Settled) (i k start : ℕ) (e : Entry) → IsStep orders from tail settled own i k start now → entry_at tail i ≡ e → next ≡ before_entry e (map part_of own) now → IsBack orders from tail settled i start next
 back-after orders from now next tail settled own i k start e step is taken = record {
   state = taken ∙ ap (λ (x : Entry). before_entry x (map part_of own) now) (sym is) ∙ step.next_state;
   settled_so_far = step.next_settled;
 }
+
+-- the row that a charge leaves when it is taken back
+pub uncharged-row : (rows : List Sums) (instalment p amount : ℕ) (default : Sums) → 1 ≤ instalment → instalment ≤ length rows → AreWithin (changed rows instalment (unowe_row p amount)) → IsRowWithin (unowe_row p amount (get_or rows (instalment - 1) default))
+uncharged-row rows instalment p amount default first last within =
+    let i : ℕ = instalment - 1 in
+    let here : i < length rows = omega arith in
+    let new : Sums = unowe_row p amount (get_or rows i no_row) in
+    let size : length (changed rows instalment (unowe_row p amount)) ≡ length rows = length-set rows i new in
+    subst (λ (r : Sums). IsRowWithin (unowe_row p amount r)) (get_or_default rows i no_row default here)
+    (subst IsRowWithin (get_or-set_same rows i new no_row here) (within i no_row (omega (arith, size, here))))

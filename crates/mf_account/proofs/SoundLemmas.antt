@@ -19,7 +19,7 @@ use Rattle.mf_alloc.specs.declared.row.Portion.TheVariants.{Principal}
 use Rattle.mf_alloc.specs.Sums.{Sums, IsWhole, AreWhole, nothing}
 use Rattle.mf_alloc.specs.Order.{cell_by, place_by}
 use Rattle.mf_alloc.specs.OrderLaws.{is_cell-cell_by, back-cell_by}
-use Rattle.mf_alloc.proofs.PaymentLemmas.{IsOrder}
+use Rattle.mf_alloc.specs.OrderLaws.{IsOrder}
 use Rattle.mf_account.specs.declared.entry.Entry.{Entry}
 use Rattle.mf_account.specs.declared.entry.Kind.{Kind}
 use Rattle.mf_account.specs.declared.entry.Kind.TheVariants.{Repay, Fee, Penalty, Waive, WriteOff, Refund}
@@ -30,7 +30,9 @@ use Rattle.mf_account.specs.Standing.{is_before, placed, with_entry, standing, n
 use Rattle.mf_account.specs.Applicable.{AreApplicable}
 use Rattle.mf_account.specs.Loan.{Loan, HasColumns, IsEntry, SealIsLast, AreEntries, IsSound, schedule_of, orders_of, state_of_loan, status_of_loan}
 use Rattle.mf_account.specs.Refusals.{is_standing_seal, is_sealed, admits, is_out_of_order, is_there, is_forbidden, is_out_of_limits, refusal_of, HasForm, IsOffered}
-use Rattle.mf_account.proofs.GoodLemmas.{IsRowWithin, AreWithin, HasInstalment, IsGood, IsReplayable, amounts, applicable-all, good-all}
+use Rattle.mf_alloc.specs.Sums.{IsRowWithin, AreWithin}
+use Rattle.mf_account.specs.Applicable.{HasInstalment}
+use Rattle.mf_account.proofs.GoodLemmas.{IsGood, IsReplayable, amounts, applicable-all, good-all}
 
 pub lawful : (name : StrategyName) (n : ℕ) → IsOrder n (cell_by name) (place_by name)
 lawful name n = record { is_cell = is_cell-cell_by name n; back = λ k within. back-cell_by name k }
@@ -146,7 +148,7 @@ amounts-most n (e ∷ entries) each =
     omega (arith, one.most, rest, all)
 
 -- the standing entries of a sound loan
-each-standing : (loan : Loan) → IsSound loan → All (IsReplayable loan.periods) (standing loan.entries)
+pub each-standing : (loan : Loan) → IsSound loan → All (IsReplayable loan.periods) (standing loan.entries)
 each-standing loan sound =
     All-standing (IsReplayable loan.periods) loan.entries
     (All-weaker (IsEntry loan.periods loan.day) (IsReplayable loan.periods) (replayable loan.periods loan.day) loan.entries sound.entries.each)
@@ -157,7 +159,7 @@ standing-amounts loan sound =
     let few = length-standing-le loan.entries in
     omega (arith, most, few, sound.entries.few)
 
-first-good : (loan : Loan) → IsSound loan → IsGood loan.periods (2 ^ 54) (first_state (schedule_of loan))
+pub first-good : (loan : Loan) → IsSound loan → IsGood loan.periods (2 ^ 54) (first_state (schedule_of loan))
 first-good loan sound =
     let owed = scheduled_owed-le loan.terms loan.principal loan.periods loan.day sound.limits in
     subst (λ (n : ℕ). IsGood n (2 ^ 54) (first_state (schedule_of loan))) (length-schedule loan) (good-first (schedule_of loan) (2 ^ 54) (omega (arith, owed)))
@@ -262,8 +264,12 @@ seal-day Waive business_day e form seal = form.0
 seal-day WriteOff business_day e form seal = form.0
 seal-day Refund business_day e form seal = form.0
 
+pub or_true : (x y : Bool) → y ≡ true → (x || y) ≡ true
+or_true true y h = refl
+or_true false y h = h
+
 -- an earlier day, or the same day and an earlier number
-before-from : (a b : Entry) → a.day ≤ b.day → a.seq < b.seq → is_before a b ≡ true
+pub before-from : (a b : Entry) → a.day ≤ b.day → a.seq < b.seq → is_before a b ≡ true
 before-from a b day seq =
     elim (cases_lt a.day b.day) [
       | inl less ↦ ap (λ x. x || (eqb a.day b.day && ltb a.seq b.seq)) (lt-ltb a.day b.day less)
@@ -271,10 +277,7 @@ before-from a b day seq =
           let same : a.day ≡ b.day = omega arith in
           let tie : (eqb a.day b.day && ltb a.seq b.seq) ≡ true = ap (λ x. x && ltb a.seq b.seq) (eq-eqb a.day b.day same) ∙ lt-ltb a.seq b.seq seq in
           or_true (ltb a.day b.day) (eqb a.day b.day && ltb a.seq b.seq) tie
-    ] where
-      or_true : (x y : Bool) → y ≡ true → (x || y) ≡ true
-      or_true true y h = refl
-      or_true false y h = h
+    ]
 
 seal-entered : (n day business_day : ℕ) (entries : List Entry) (e : Entry) → AreEntries n day entries → is_sealed entries ≡ false → e.seq ≡ length entries + 1 → ((i : ℕ) → i < length entries → (entry_at entries i).day ≤ business_day) → HasForm e.kind business_day e → SealIsLast (entries ++ e ∷ [])
 seal-entered n day business_day entries e are unsealed next latest form i j below_i below_j apart stands_i stands_j seal =
@@ -369,7 +372,7 @@ sound-reversed loan at sound within =
             ap (λ (x : Entry). is_before x (entry_at new i)) same_j
             ∙ ap (λ (x : Entry). is_before (entry_at old j) x) same_i
             ∙ sound.entries.seal_last i j (omega (arith, size, below_i)) (omega (arith, size, below_j)) apart
-                (ap (λ (x : Entry). x.reversed) (sym same_i) ∙ stands_i) (ap (λ (x : Entry). x.reversed) (sym same_j) ∙ stands_j)
-                (ap (λ (x : Entry). is_seal x.kind) (sym same_i) ∙ seal);
+            (ap (λ (x : Entry). x.reversed) (sym same_i) ∙ stands_i) (ap (λ (x : Entry). x.reversed) (sym same_j) ∙ stands_j)
+            (ap (λ (x : Entry). is_seal x.kind) (sym same_i) ∙ seal);
       };
     }

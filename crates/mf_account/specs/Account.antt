@@ -3,6 +3,7 @@ use Rattle.std.specs.Prelude.{ℕ, zero, suc, ◌+◌, ◌==◌, nat_lt, Bool, t
 use Rattle.std.specs.List.{list_any}
 use Rattle.mf_schedule.specs.declared.instalment.Instalment.{Instalment}
 use Rattle.mf_alloc.specs.declared.row.Cell.{Cell}
+use Rattle.mf_alloc.specs.declared.row.Share.{Share}
 use Rattle.mf_alloc.specs.Sums.{Sums, is_open, fresh_row, open_at}
 use Rattle.mf_account.specs.declared.entry.Entry.{Entry}
 use Rattle.mf_account.specs.declared.entry.Kind.{Kind}
@@ -52,8 +53,12 @@ state_of orders schedule entries = after_all orders (standing entries) (first_st
 abbrev pub settled_of : Orders → List Instalment → List Entry → List Settled
 settled_of orders schedule entries = settled_by orders (standing entries) (first_state schedule)
 
-abbrev pub settled_in : ℕ → List Settled → List Settled
-settled_in seq settled = filter (λ (s : Settled). s.seq == seq) settled
+-- the parts of one entry, as shares
+abbrev pub share_of : Settled → Share
+share_of part = record { cell = part.cell; amount = part.amount }
+
+abbrev pub shares_in : ℕ → List Settled → List Share
+shares_in seq settled = map share_of (filter (λ (s : Settled). s.seq == seq) settled)
 
 abbrev pub status_of : List Entry → State → ℕ
 status_of entries state =

@@ -66,3 +66,12 @@ AreInRows n settled = All (λ (s : Settled). IsCell n s.cell) settled
 -- a part for what is not there
 abbrev pub no_settled : Settled
 no_settled = record { seq = 0; place = 0; cell = record { instalment = 0; portion = PenaltyPart }; how = Paid; amount = 0 }
+
+-- the instalment that an entry names is there, where its kind names one
+abbrev pub HasInstalment : Kind → Entry → ℕ → Type 0
+HasInstalment Fee entry n = (1 ≤ entry.instalment) × (entry.instalment ≤ n)
+HasInstalment Penalty entry n = (1 ≤ entry.instalment) × (entry.instalment ≤ n)
+HasInstalment Waive entry n = (1 ≤ entry.instalment) × (entry.instalment ≤ n)
+HasInstalment Repay entry n = Unit {0}
+HasInstalment WriteOff entry n = Unit {0}
+HasInstalment Refund entry n = Unit {0}

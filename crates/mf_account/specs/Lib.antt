@@ -6,5 +6,7 @@ pub mod Account
 pub mod Applicable
 pub mod Loan
 pub mod Refusals
+pub mod StandingLaw
+pub mod Balance
 pub mod Undo
 pub mod Rewind

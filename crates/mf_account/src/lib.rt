@@ -1,14 +1,21 @@
 //! Entries and accounts.
 #![tactic(auto)]
 
+mod account;
 mod apply;
+mod balances;
 mod effect;
 mod entry;
+mod laws;
 mod receipt;
 mod refusal;
 mod replay;
+mod rewind;
 mod settled;
 
+pub use account::LoanAccount;
+pub use balances::Balances;
 pub use entry::{Entry, Kind};
+pub use laws::standing_entries_are_one_list;
 pub use receipt::Receipt;
 pub use settled::{Book, How, Settled};

@@ -1,4 +1,5 @@
-ghost use Rattle.std.specs.Prelude.{◌≡◌, ◌-◌, ◌≤◌, ◌&&◌, not, IsTrue, length, is_some};
+ghost use Rattle.std.specs.Prelude.{◌≡◌, ◌-◌, ◌≤◌, ◌&&◌, not, false, IsTrue, IfNone, length, is_some};
+ghost use Rattle.mf_account.specs.Standing.{entry_at};
 ghost use Rattle.mf_account.specs.Kinds.{is_write_off as is_write_off_kind};
 ghost use Rattle.std.specs.List.{list_any};
 ghost use Rattle.mf_alloc.specs.Sums.{is_open};
@@ -113,8 +114,7 @@ fn forbids_penalty(
 ) -> bool
     ensures { result ≡ forbids_penalty_at charged row.now entries.now instalment business_day }
 {
-    !charged
-        || (business_day <= row.due || (!row.is_open() || has_penalty(entries, instalment)))
+    !charged || (business_day <= row.due || (!row.is_open() || has_penalty(entries, instalment)))
 }
 
 /// Whether the instalment that an entry names does not allow it. `charged` says whether the product has an overdue
@@ -163,7 +163,10 @@ pub(crate) fn is_out_of_limits(entry: &Entry) -> bool
 
 /// Why a reversal is refused: no such entry, reversed already, or another entry seals the loan.
 pub(crate) fn reversal(entries: &[Entry], seq: u32) -> Option<Fault>
-    ensures { result ≡ reversal_refused entries.now seq }
+    ensures value { result ≡ reversal_refused entries.now seq }
+    ensures first { IfNone result (1 ≤ seq) }
+    ensures last { IfNone result (seq ≤ length entries.now) }
+    ensures stands { IfNone result ((entry_at entries.now (seq - 1)).reversed ≡ false) }
 {
     if !is_there(entries.len(), seq) {
         return Some(Fault::F12);

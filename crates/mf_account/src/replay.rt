@@ -7,8 +7,8 @@ use crate::apply::apply_entry;
 use crate::entry::Entry;
 use crate::settled::{Book, Settled};
 use mf_alloc::{Row, Strategy};
-use mf_schedule::Instalment;
 use mf_base::Fault;
+use mf_schedule::Instalment;
 use std::alloc::Global;
 
 /// Whether an entry comes before another.
@@ -146,29 +146,37 @@ fn mark(entries: &mut [Entry], at: usize, reversed: bool)
     entry.reversed = reversed;
 }
 
+/// The same in a vector.
+fn mark_in(entries: &mut Vec<Entry>, at: usize, reversed: bool)
+    requires { at < length entries.old.items }
+    ensures { entries.new.items ≡ with_mark entries.old.items at reversed }
+{
+    mark(entries, at, reversed);
+}
+
 /// The same with one entry reversed, which is then marked. Where it is refused the entries are as before.
 pub(crate) fn replayed_without<T: Strategy>(
     alloc: Global,
     strategy: &T,
     schedule: &[Instalment],
-    entries: &mut [Entry],
+    entries: &mut Vec<Entry>,
     at: usize,
 ) -> Result<(Book, Vec<Settled>), Fault>
     requires few { length schedule.now ≤ 360 }
-    requires there { at < length entries.old }
-    requires stands { (entry_at entries.old at).reversed ≡ false }
-    requires fits { AreApplicable (λ _. T.cell_at strategy.now (length schedule.now)) (standing (with_mark entries.old at true)) (first_state schedule.now) }
-    ensures ok { OnOk result (entries.new ≡ with_mark entries.old at true) }
-    ensures err { OnErr result (entries.new ≡ entries.old) }
-    ensures state { IfOk result (λ both. both.0 ≡ state_of (λ _. T.cell_at strategy.now (length schedule.now)) schedule.now (with_mark entries.old at true)) }
-    ensures settled { IfOk result (λ both. both.1.items ≡ settled_of (λ _. T.cell_at strategy.now (length schedule.now)) schedule.now (with_mark entries.old at true)) }
+    requires there { at < length entries.old.items }
+    requires stands { (entry_at entries.old.items at).reversed ≡ false }
+    requires fits { AreApplicable (λ _. T.cell_at strategy.now (length schedule.now)) (standing (with_mark entries.old.items at true)) (first_state schedule.now) }
+    ensures ok { OnOk result (entries.new.items ≡ with_mark entries.old.items at true) }
+    ensures err { OnErr result (entries.new.items ≡ entries.old.items) }
+    ensures state { IfOk result (λ both. both.0 ≡ state_of (λ _. T.cell_at strategy.now (length schedule.now)) schedule.now (with_mark entries.old.items at true)) }
+    ensures settled { IfOk result (λ both. both.1.items ≡ settled_of (λ _. T.cell_at strategy.now (length schedule.now)) schedule.now (with_mark entries.old.items at true)) }
     ensures only { IsOkUnless result Fault.F20 }
 {
-    mark(entries, at, true);
+    mark_in(entries, at, true);
     match replayed(alloc, strategy, schedule, entries) {
         Ok(both) => Ok(both),
         Err(fault) => {
-            mark(entries, at, false);
+            mark_in(entries, at, false);
             Err(fault)
         }
     }

@@ -1,7 +1,4 @@
-ghost use Rattle.std.specs.Prelude.{◌≡◌};
-ghost use Rattle.mf_account.specs.Effect.{State};
-
-use mf_alloc::{Cell, Row};
+use mf_alloc::{Cell, Row, Share};
 use std::marker::Model;
 
 /// How a part of a cell was settled.
@@ -20,6 +17,21 @@ pub struct Settled {
     pub cell: Cell,
     pub how: How,
     pub amount: u64,
+}
+
+impl Settled {
+    ghost use Rattle.std.specs.Prelude.{◌≡◌};
+    ghost use Rattle.mf_account.specs.Account.{share_of};
+
+    /// The part as a share of its cell.
+    pub fn share(&self) -> Share
+        ensures { result ≡ share_of self.now }
+    {
+        Share {
+            cell: self.cell,
+            amount: self.amount,
+        }
+    }
 }
 
 /// A state of an account.

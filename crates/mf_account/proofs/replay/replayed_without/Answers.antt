@@ -9,8 +9,8 @@ use Rattle.mf_account.proofs.replay.replayed_without.Goals as goal
 pub replayed-requires-clause-fits : goal.replayed-requires-clause-fits
 replayed-requires-clause-fits g c =
     subst (λ (x : List Entry). AreApplicable (λ _. g.T.Strategy.cell_at c.args.strategy.now (length c.args.schedule.now)) (standing x) (first_state c.args.schedule.now))
-    (sym c.mark.ensures) c.requires.fits
+    (sym (c.deref.ensures.value ∙ c.mark_in.ensures)) c.requires.fits
 
 pub returns-in-Err-clause-err : goal.returns-in-Err-clause-err
 returns-in-Err-clause-err g c =
-    c.mark-in-Err.ensures ∙ ap (λ (x : List Entry). with_mark x c.args.at false) c.mark.ensures ∙ mark-back c.args.entries.now c.args.at c.requires.there c.requires.stands
+    c.mark_in-in-Err.ensures ∙ ap (λ (x : List Entry). with_mark x c.args.at false) c.mark_in.ensures ∙ mark-back c.args.entries.now.items c.args.at c.requires.there c.requires.stands

@@ -1,0 +1,404 @@
+-- What is conserved: money that was repaid, the principal, and that overpaid and outstanding are never both above 0.
+use Rattle.std.proofs.Common.{◌≡◌, ◌≢◌, ℕ, zero, suc, ◌+◌, ◌-◌, ◌*◌, ◌^◌, ◌<◌, ◌≤◌, List, [], ◌∷◌, ◌++◌, length, map, get_or, set, sum, inl, inr, arith, refl, ◌∙◌, ap, subst, sym}
+use Rattle.std.specs.Prelude.{sum_by, All, filter}
+use Rattle.std.specs.List.{range_with_len}
+use Rattle.std.proofs.lemmas.Bool.{cases_lt, cond_both}
+use Rattle.std.proofs.lemmas.List.{get_or-set_other, set_past}
+use Rattle.std.proofs.lemmas.List.Elements.{All-nil, All-cons, All-head, All-tail, All-append}
+use Rattle.std.proofs.lemmas.List.Sums.{sum_by-append, sum_by-set}
+use Rattle.mf_catalog.specs.declared.terms.StrategyName.{StrategyName}
+use Rattle.mf_schedule.specs.declared.instalment.Instalment.{Instalment}
+use Rattle.mf_schedule.specs.Fresh.{total_principal}
+use Rattle.mf_schedule.proofs.LoanLemmas.{scheduled-principal-sum}
+use Rattle.mf_alloc.specs.declared.row.Cell.{Cell}
+use Rattle.mf_alloc.specs.declared.row.Portion.{Portion}
+use Rattle.mf_alloc.specs.declared.row.Portion.TheVariants.{Penalty as PenaltyPart, Fee as FeePart, Interest, Principal}
+use Rattle.mf_alloc.specs.Sums.{Sums, open_at, IsWhole, AreWhole}
+use Rattle.mf_alloc.specs.Rows.{outstanding, no_row, row_at, changed, place_in_row, IsCell}
+use Rattle.mf_alloc.specs.Payment.{shares_of, rest_of}
+use Rattle.mf_alloc.specs.Order.{cell_by, place_by, standard}
+use Rattle.mf_alloc.specs.OrderLaws.{in_range-place_by, forth-place_by}
+use Rattle.mf_alloc.specs.OrderLaws.{IsOrder}
+use Rattle.mf_alloc.proofs.LeftOpen.{IsLine, rows_paid, place_in_row-small, outstanding-none, length-rows_paid}
+use Rattle.mf_account.specs.declared.entry.Entry.{Entry}
+use Rattle.mf_account.specs.declared.entry.Kind.{Kind}
+use Rattle.mf_account.specs.declared.entry.Kind.TheVariants.{Repay, Fee, Penalty, Waive, WriteOff, Refund}
+use Rattle.mf_account.specs.declared.settled.How.{How}
+use Rattle.mf_account.specs.declared.settled.How.TheVariants.{Paid, Waived, WrittenOff}
+use Rattle.mf_account.specs.Kinds.{money_in, money_out}
+use Rattle.mf_account.specs.Effect.{State, Part, after, settle, settle_row, owe_row, with_settled, with_charge, whole_part, is_some_part, some_parts, parts_by, parts_cleared, parts_paid, parts_of, own_effect, state_acted, own_share, later_share, paid_at}
+use Rattle.mf_account.specs.AtOnce.{paid_part, rows_charged}
+use Rattle.mf_account.specs.Account.{after_all, first_state, row_of, sum_at}
+use Rattle.mf_account.specs.Standing.{standing}
+use Rattle.mf_account.specs.Applicable.{IsSettleable}
+use Rattle.mf_account.specs.Undo.{paid_by, paid_in}
+use Rattle.mf_account.specs.Loan.{Loan, HasColumns, IsEntry, IsSound, schedule_of, orders_of, state_of_loan}
+use Rattle.mf_account.specs.Balance.{balances_of, repaid, HasRoom}
+use Rattle.mf_account.proofs.EffectLemmas.{with_settled-paid, length-with_charge}
+use Rattle.mf_account.proofs.OnceLemmas.{rows-after, money-after, refunded-after, length-acted}
+use Rattle.mf_account.proofs.UndoLemmas.{money_out-le}
+use Rattle.mf_alloc.specs.Sums.{IsRowWithin, AreWithin}
+use Rattle.mf_account.specs.Applicable.{HasInstalment}
+use Rattle.mf_account.proofs.GoodLemmas.{IsGood, IsReplayable, settleable-after, good-after, whole-with_settled, whole-with_charge}
+use Rattle.mf_account.proofs.SoundLemmas.{lawful, first-good, each-standing, All-standing, good-sound, standing-amounts}
+
+-- in each portion of rows, what is settled and what is outstanding make up what is owed
+abbrev pub column : (Sums → List ℕ) → ℕ → Sums → ℕ
+column of p row = get_or (of row) p 0
+
+pub balanced : (p : ℕ) (rows : List Sums) → p < 4 → AreWithin rows → sum_at (λ r. r.paid) p rows + sum_at (λ r. r.waived) p rows + sum_at (λ r. r.written_off) p rows + sum_by (λ (r : Sums). open_at r p) rows ≡ sum_at (λ r. r.owed) p rows
+balanced p [] small within = refl
+balanced p (row ∷ rows) small within =
+    let here : IsRowWithin row = All-head IsRowWithin row rows within in
+    let own = here p small in
+    let rest = balanced p rows small (All-tail IsRowWithin row rows within) in
+    let paid = sum_by-append (column (λ r. r.paid) p) (row ∷ []) rows in
+    let waived = sum_by-append (column (λ r. r.waived) p) (row ∷ []) rows in
+    let written_off = sum_by-append (column (λ r. r.written_off) p) (row ∷ []) rows in
+    let owed = sum_by-append (column (λ r. r.owed) p) (row ∷ []) rows in
+    let left = sum_by-append (λ (r : Sums). open_at r p) (row ∷ []) rows in
+    omega (arith, own, rest, paid, waived, written_off, owed, left)
+
+-- what is paid in all rows
+abbrev pub row_paid : Sums → ℕ
+row_paid row = sum row.paid
+
+abbrev pub total_paid : List Sums → ℕ
+total_paid rows = sum_by row_paid rows
+
+sum-raised : (xs : List ℕ) (p amount : ℕ) → p < length xs → sum (set xs p (get_or xs p 0 + amount)) ≡ sum xs + amount
+sum-raised xs p amount within = let at = sum_by-set (λ (x : ℕ). x) xs p (get_or xs p 0 + amount) 0 within in omega (arith, at)
+
+paid-settle_row : (how : How) (p amount : ℕ) (row : Sums) → p < 4 → IsWhole row → row_paid (settle_row how p amount row) ≡ row_paid row + paid_by how amount
+paid-settle_row Paid p amount row small is = sum-raised row.paid p amount (omega (arith, is.paid))
+paid-settle_row Waived p amount row small is = omega arith
+paid-settle_row WrittenOff p amount row small is = omega arith
+
+whole-settled : (rows : List Sums) (part : Part) → AreWhole rows → AreWhole (settle rows part)
+whole-settled rows part whole = whole-with_settled rows (part ∷ []) whole
+
+paid-with_settled : (rows : List Sums) (parts : List Part) → AreWhole rows → IsSettleable rows parts → total_paid (with_settled rows parts) ≡ total_paid rows + paid_in parts
+paid-with_settled rows [] whole fits = omega arith
+paid-with_settled rows (part ∷ parts) whole fits =
+    let i : ℕ = part.cell.instalment - 1 in
+    let p : ℕ = place_in_row part.cell.portion in
+    let row : Sums = row_at rows part.cell.instalment in
+    let here : i < length rows = omega (arith, fits.0.first, fits.0.last) in
+    let one = sum_by-set row_paid rows i (settle_row part.how p part.amount row) no_row here in
+    let own = paid-settle_row part.how p part.amount row (place_in_row-small part.cell.portion) (whole i no_row here) in
+    let rest = paid-with_settled (settle rows part) parts (whole-settled rows part whole) fits.2 in
+    let all = sum_by-append (λ (x : Part). paid_by x.how x.amount) (part ∷ []) parts in
+    omega (arith, one, own, rest, all)
+
+-- a change that leaves a sum of each row leaves that of all rows
+sum-same : (f : Sums → ℕ) (rows : List Sums) (instalment : ℕ) (change : Sums → Sums) → ((row : Sums) → f (change row) ≡ f row) → sum_by f (changed rows instalment change) ≡ sum_by f rows
+sum-same f rows instalment change same =
+    elim (cases_lt (instalment - 1) (length rows)) [
+      | inl within ↦
+          let at = sum_by-set f rows (instalment - 1) (change (row_at rows instalment)) no_row within in
+          let one = same (row_at rows instalment) in
+          omega (arith, at, one)
+      | inr past ↦ ap (sum_by f) (set_past rows (instalment - 1) (change (row_at rows instalment)) past)
+    ]
+
+paid-with_charge : (kind : Kind) (entry : Entry) (rows : List Sums) → total_paid (with_charge kind entry rows) ≡ total_paid rows
+paid-with_charge Fee entry rows = sum-same row_paid rows entry.instalment (owe_row 1 entry.amount) (λ row. refl)
+paid-with_charge Penalty entry rows = sum-same row_paid rows entry.instalment (owe_row 0 entry.amount) (λ row. refl)
+paid-with_charge Repay entry rows = refl
+paid-with_charge Waive entry rows = refl
+paid-with_charge WriteOff entry rows = refl
+paid-with_charge Refund entry rows = refl
+
+abbrev pub money_held : State → ℕ
+money_held s = total_paid s.rows + s.overpaid + s.refunded
+
+abbrev pub brought : List Entry → ℕ
+brought entries = sum_by (λ (e : Entry). money_in e.kind e.amount) entries
+
+held-after : (n used : ℕ) (order : ℕ → Cell) (place : Cell → ℕ) (entry : Entry) (before : State) → IsOrder n order place → HasInstalment entry.kind entry n → IsGood n used before → money_held (after order entry before) ≡ money_held before + money_in entry.kind entry.amount
+held-after n used order place entry before is has good =
+    let line : IsLine n order place before.rows = record { size = good.size; is = is; whole = good.whole } in
+    let charged : List Sums = rows_charged entry before in
+    let parts : List Part = parts_of order entry before in
+    let rows : total_paid (after order entry before).rows ≡ total_paid (with_settled charged parts) = ap total_paid (rows-after order entry before) in
+    let settled = paid-with_settled charged parts (whole-with_charge entry.kind entry before.rows good.whole) (settleable-after n order place entry before line has) in
+    let charge = paid-with_charge entry.kind entry before.rows in
+    let money = money-after order entry before in
+    let given = refunded-after entry.kind order entry before in
+    let out = money_out-le entry.kind before.overpaid in
+    omega (arith, rows, settled, charge, money, given, out)
+
+held-all : (n used : ℕ) (order : ℕ → Cell) (place : Cell → ℕ) (entries : List Entry) (before : State) → IsOrder n order place → All (IsReplayable n) entries → IsGood n used before → money_held (after_all (λ _. order) entries before) ≡ money_held before + brought entries
+held-all n used order place [] before is each good = omega arith
+held-all n used order place (entry ∷ entries) before is each good =
+    let one : IsReplayable n entry = All-head (IsReplayable n) entry entries each in
+    let own = held-after n used order place entry before is one.there good in
+    let rest = held-all n (used + entry.amount) order place entries (after order entry before) is (All-tail (IsReplayable n) entry entries each) (good-after n used order place entry before is one.there good) in
+    let all = sum_by-append (λ (e : Entry). money_in e.kind e.amount) (entry ∷ []) entries in
+    omega (arith, own, rest, all)
+
+paid-first : (schedule : List Instalment) → total_paid (map row_of schedule) ≡ 0
+paid-first [] = refl
+paid-first (i ∷ schedule) = let rest = paid-first schedule in let all = sum_by-append row_paid (row_of i ∷ []) (map row_of schedule) in omega (arith, rest, all)
+
+-- what is repaid is paid, overpaid or refunded
+pub held-sound : (loan : Loan) → IsSound loan → money_held (state_of_loan loan) ≡ brought (standing loan.entries)
+held-sound loan sound =
+    let all = held-all loan.periods (2 ^ 54) (cell_by loan.terms.strategy) (place_by loan.terms.strategy) (standing loan.entries) (first_state (schedule_of loan))
+    (lawful loan.terms.strategy loan.periods) (each-standing loan sound) (first-good loan sound) in
+    let none = paid-first (schedule_of loan) in
+    omega (arith, all, none)
+
+-- four sums, added
+sum-four : (xs : List ℕ) → length xs ≡ 4 → sum xs ≡ get_or xs 0 0 + get_or xs 1 0 + get_or xs 2 0 + get_or xs 3 0
+sum-four [] size = absurd (omega (arith, size))
+sum-four (a ∷ []) size = absurd (omega (arith, size))
+sum-four (a ∷ b ∷ []) size = absurd (omega (arith, size))
+sum-four (a ∷ b ∷ c ∷ []) size = absurd (omega (arith, size))
+sum-four (a ∷ b ∷ c ∷ d ∷ []) size = omega arith
+sum-four (a ∷ b ∷ c ∷ d ∷ e ∷ xs) size = absurd (omega (arith, size))
+
+pub paid-columns : (rows : List Sums) → AreWhole rows → total_paid rows ≡ sum_at (λ r. r.paid) 0 rows + sum_at (λ r. r.paid) 1 rows + sum_at (λ r. r.paid) 2 rows + sum_at (λ r. r.paid) 3 rows
+paid-columns [] whole = refl
+paid-columns (row ∷ rows) whole =
+    let own = sum-four row.paid (All-head IsWhole row rows whole).paid in
+    let rest = paid-columns rows (All-tail IsWhole row rows whole) in
+    let all = sum_by-append row_paid (row ∷ []) rows in
+    let a = sum_by-append (column (λ r. r.paid) 0) (row ∷ []) rows in
+    let b = sum_by-append (column (λ r. r.paid) 1) (row ∷ []) rows in
+    let c = sum_by-append (column (λ r. r.paid) 2) (row ∷ []) rows in
+    let d = sum_by-append (column (λ r. r.paid) 3) (row ∷ []) rows in
+    omega (arith, own, rest, all, a, b, c, d)
+
+-- the principal owed is never changed, and none of it is waived
+abbrev principal_owed : Sums → ℕ
+principal_owed row = get_or row.owed 3 0
+
+abbrev principal_waived : Sums → ℕ
+principal_waived row = get_or row.waived 3 0
+
+owed-charge : (kind : Kind) (entry : Entry) (rows : List Sums) → sum_by principal_owed (with_charge kind entry rows) ≡ sum_by principal_owed rows
+owed-charge Fee entry rows = sum-same principal_owed rows entry.instalment (owe_row 1 entry.amount) (λ row. get_or-set_other row.owed 1 3 (get_or row.owed 1 0 + entry.amount) 0 (omega arith))
+owed-charge Penalty entry rows = sum-same principal_owed rows entry.instalment (owe_row 0 entry.amount) (λ row. get_or-set_other row.owed 0 3 (get_or row.owed 0 0 + entry.amount) 0 (omega arith))
+owed-charge Repay entry rows = refl
+owed-charge Waive entry rows = refl
+owed-charge WriteOff entry rows = refl
+owed-charge Refund entry rows = refl
+
+waived-charge : (kind : Kind) (entry : Entry) (rows : List Sums) → sum_by principal_waived (with_charge kind entry rows) ≡ sum_by principal_waived rows
+waived-charge Fee entry rows = sum-same principal_waived rows entry.instalment (owe_row 1 entry.amount) (λ row. refl)
+waived-charge Penalty entry rows = sum-same principal_waived rows entry.instalment (owe_row 0 entry.amount) (λ row. refl)
+waived-charge Repay entry rows = refl
+waived-charge Waive entry rows = refl
+waived-charge WriteOff entry rows = refl
+waived-charge Refund entry rows = refl
+
+owed-settle_row : (how : How) (p amount : ℕ) (row : Sums) → principal_owed (settle_row how p amount row) ≡ principal_owed row
+owed-settle_row Paid p amount row = refl
+owed-settle_row Waived p amount row = refl
+owed-settle_row WrittenOff p amount row = refl
+
+owed-settled : (rows : List Sums) (parts : List Part) → sum_by principal_owed (with_settled rows parts) ≡ sum_by principal_owed rows
+owed-settled rows [] = refl
+owed-settled rows (part ∷ parts) =
+    owed-settled (settle rows part) parts
+    ∙ sum-same principal_owed rows part.cell.instalment (settle_row part.how (place_in_row part.cell.portion) part.amount) (owed-settle_row part.how (place_in_row part.cell.portion) part.amount)
+
+-- a part that waives no principal
+abbrev WaivesNone : Part → Type 0
+WaivesNone part = (row : Sums) → principal_waived (settle_row part.how (place_in_row part.cell.portion) part.amount row) ≡ principal_waived row
+
+waived-settled : (rows : List Sums) (parts : List Part) → All WaivesNone parts → sum_by principal_waived (with_settled rows parts) ≡ sum_by principal_waived rows
+waived-settled rows [] each = refl
+waived-settled rows (part ∷ parts) each =
+    waived-settled (settle rows part) parts (All-tail WaivesNone part parts each)
+    ∙ sum-same principal_waived rows part.cell.instalment (settle_row part.how (place_in_row part.cell.portion) part.amount) (All-head WaivesNone part parts each)
+
+each-some : (f : ℕ → Part) (places : List ℕ) → ((k : ℕ) → WaivesNone (f k)) → All WaivesNone (some_parts (map f places))
+each-some f [] none = All-nil WaivesNone
+each-some f (k ∷ places) none =
+    let rest : List Part = some_parts (map f places) in
+    cond_both (is_some_part (f k)) (f k ∷ rest) rest (All WaivesNone)
+    (λ _. All-cons WaivesNone (f k) rest (none k) (each-some f places none)) (λ _. each-some f places none)
+
+portion-apart : (portion : Portion) → portion ≢ Principal → 3 ≢ place_in_row portion
+portion-apart PenaltyPart other = omega arith
+portion-apart FeePart other = omega arith
+portion-apart Interest other = omega arith
+portion-apart Principal other = absurd (other refl)
+
+waives-portion : (rows : List Sums) (cell : Cell) → cell.portion ≢ Principal → WaivesNone (whole_part Waived rows cell)
+waives-portion rows cell other row =
+    let p : ℕ = place_in_row cell.portion in
+    get_or-set_other row.waived p 3 (get_or row.waived p 0 + outstanding rows cell) 0 (portion-apart cell.portion other)
+
+each-cleared : (kind : Kind) (n : ℕ) (order : ℕ → Cell) (entry : Entry) (rows : List Sums) → HasColumns kind n entry → All WaivesNone (parts_by kind order entry rows)
+each-cleared Repay n order entry rows has = All-nil WaivesNone
+each-cleared Fee n order entry rows has = All-nil WaivesNone
+each-cleared Penalty n order entry rows has = All-nil WaivesNone
+each-cleared Refund n order entry rows has = All-nil WaivesNone
+each-cleared WriteOff n order entry rows has = each-some (λ k. whole_part WrittenOff rows (order k)) (range_with_len 0 (4 * length rows)) (λ k row. refl)
+each-cleared Waive n order entry rows has =
+    each-some (λ _. whole_part Waived rows (record { instalment = entry.instalment; portion = entry.portion })) (0 ∷ [])
+    (λ _. waives-portion rows (record { instalment = entry.instalment; portion = entry.portion }) has.3)
+
+each-settled : (n : ℕ) (order : ℕ → Cell) (entry : Entry) (before : State) → HasColumns entry.kind n entry → All WaivesNone (parts_of order entry before)
+each-settled n order entry before has =
+    All-append WaivesNone (parts_cleared order entry before.rows) (parts_paid order entry before)
+    (each-cleared entry.kind n order entry before.rows has)
+    (each-some (paid_at order (λ k. own_share entry.kind order entry before k + later_share order entry before k)) (range_with_len 0 (4 * length before.rows)) (λ k row. refl))
+
+-- the principal owed and waived of a state
+pub record HasPrincipal (principal : ℕ) (state : State) : Type 0 where
+  pub owed : sum_by principal_owed state.rows ≡ principal
+  pub waived : sum_by principal_waived state.rows ≡ 0
+
+principal-after : (principal n : ℕ) (order : ℕ → Cell) (entry : Entry) (before : State) → HasColumns entry.kind n entry → HasPrincipal principal before → HasPrincipal principal (after order entry before)
+principal-after principal n order entry before has is =
+    let rows = rows-after order entry before in
+    let charged : List Sums = rows_charged entry before in
+    let parts : List Part = parts_of order entry before in
+    record {
+      owed = ap (sum_by principal_owed) rows ∙ owed-settled charged parts ∙ owed-charge entry.kind entry before.rows ∙ is.owed;
+      waived = ap (sum_by principal_waived) rows ∙ waived-settled charged parts (each-settled n order entry before has) ∙ waived-charge entry.kind entry before.rows ∙ is.waived;
+    }
+
+abbrev HasOwnColumns : ℕ → Entry → Type 0
+HasOwnColumns n e = HasColumns e.kind n e
+
+principal-all : (principal n : ℕ) (order : ℕ → Cell) (entries : List Entry) (before : State) → All (IsEntry n 0) entries → HasPrincipal principal before → HasPrincipal principal (after_all (λ _. order) entries before)
+principal-all principal n order [] before each is = is
+principal-all principal n order (entry ∷ entries) before each is =
+    principal-all principal n order entries (after order entry before) (All-tail (IsEntry n 0) entry entries each)
+    (principal-after principal n order entry before (All-head (IsEntry n 0) entry entries each).columns is)
+
+principal-first : (schedule : List Instalment) → HasPrincipal (total_principal schedule) (first_state schedule)
+principal-first schedule = record { owed = owed schedule; waived = waived schedule } where
+  owed : (s : List Instalment) → sum_by principal_owed (map row_of s) ≡ total_principal s
+  owed [] = refl
+  owed (i ∷ s) =
+      let rest = owed s in
+      let left = sum_by-append principal_owed (row_of i ∷ []) (map row_of s) in
+      let right = sum_by-append (λ (x : Instalment). x.principal) (i ∷ []) s in
+      omega (arith, rest, left, right)
+
+  waived : (s : List Instalment) → sum_by principal_waived (map row_of s) ≡ 0
+  waived [] = refl
+  waived (i ∷ s) = let rest = waived s in let left = sum_by-append principal_waived (row_of i ∷ []) (map row_of s) in omega (arith, rest, left)
+
+-- the principal disbursed is paid, written off or outstanding
+pub principal-sound : (loan : Loan) → IsSound loan → HasPrincipal loan.principal (state_of_loan loan)
+principal-sound loan sound =
+    let first : HasPrincipal loan.principal (first_state (schedule_of loan)) =
+    subst (λ (x : ℕ). HasPrincipal x (first_state (schedule_of loan))) (scheduled-principal-sum loan.terms loan.principal loan.periods loan.day sound.limits) (principal-first (schedule_of loan)) in
+    principal-all loan.principal loan.periods (cell_by loan.terms.strategy) (standing loan.entries) (first_state (schedule_of loan))
+    (All-standing (IsEntry loan.periods 0) loan.entries (λ k d within. let own : IsEntry loan.periods loan.day (get_or loan.entries k d) = sound.entries.each k d within in record { from = omega arith; columns = own.columns }))
+    first
+
+-- nothing is outstanding where something is overpaid
+abbrev pub IsClosed : State → Type 0
+IsClosed s = 0 < s.overpaid → (i p : ℕ) → i < length s.rows → p < 4 → open_at (get_or s.rows i no_row) p ≡ 0
+
+whole-acted : (kind : Kind) (order : ℕ → Cell) (entry : Entry) (before : State) → AreWhole before.rows → AreWhole (own_effect kind order entry before).rows
+whole-acted Repay order entry before whole =
+    let shares = shares_of order before.rows entry.amount in
+    subst AreWhole (with_settled-paid before.rows shares) (whole-with_settled before.rows (map paid_part shares) whole)
+whole-acted Fee order entry before whole = whole-with_charge Fee entry before.rows whole
+whole-acted Penalty order entry before whole = whole-with_charge Penalty entry before.rows whole
+whole-acted Waive order entry before whole = whole-with_settled before.rows (parts_by Waive order entry before.rows) whole
+whole-acted WriteOff order entry before whole = whole-with_settled before.rows (parts_by WriteOff order entry before.rows) whole
+whole-acted Refund order entry before whole = whole
+
+portion-at : (p : ℕ) → p < 4 → place_in_row (standard p) ≡ p
+portion-at zero small = refl
+portion-at (suc zero) small = refl
+portion-at (suc (suc zero)) small = refl
+portion-at (suc (suc (suc zero))) small = refl
+portion-at (suc (suc (suc (suc p)))) small = absurd (omega arith)
+
+closed-after : (n used : ℕ) (name : StrategyName) (entry : Entry) (before : State) → IsGood n used before → IsClosed (after (cell_by name) entry before)
+closed-after n used name entry before good some i p within small =
+    let order : ℕ → Cell = cell_by name in
+    let acted : State = state_acted order entry before in
+    let size : length acted.rows ≡ n = length-acted entry.kind order entry before ∙ good.size in
+    let line : IsLine n order (place_by name) acted.rows = record { size = size; is = lawful name n; whole = whole-acted entry.kind order entry before good.whole } in
+    let cell : Cell = record { instalment = i + 1; portion = standard p } in
+    let length_after : length (rows_paid order acted.rows acted.overpaid) ≡ length acted.rows = length-rows_paid order acted.rows acted.overpaid in
+    let there : IsCell n cell = record { first = omega arith; last = omega (arith, within, length_after, size) } in
+    let none = outstanding-none n order (place_by name) acted.rows acted.overpaid (place_by name cell) line (in_range-place_by name n cell there) some in
+    let at : outstanding (after order entry before).rows cell ≡ 0 = ap (outstanding (after order entry before).rows) (sym (forth-place_by name n cell there)) ∙ none in
+    let row : i + 1 - 1 ≡ i = omega arith in
+    ap (λ x. open_at (get_or (after order entry before).rows x no_row) p) (sym row)
+    ∙ ap (λ x. open_at (get_or (after order entry before).rows (i + 1 - 1) no_row) x) (sym (portion-at p small))
+    ∙ at
+
+closed-all : (n used : ℕ) (name : StrategyName) (entries : List Entry) (before : State) → All (IsReplayable n) entries → IsGood n used before → IsClosed before → IsClosed (after_all (λ _. cell_by name) entries before)
+closed-all n used name [] before each good closed = closed
+closed-all n used name (entry ∷ entries) before each good closed =
+    let one : IsReplayable n entry = All-head (IsReplayable n) entry entries each in
+    closed-all n (used + entry.amount) name entries (after (cell_by name) entry before) (All-tail (IsReplayable n) entry entries each)
+    (good-after n used (cell_by name) (place_by name) entry before (lawful name n) one.there good) (closed-after n used name entry before good)
+
+pub closed-sound : (loan : Loan) → IsSound loan → IsClosed (state_of_loan loan)
+closed-sound loan sound =
+    closed-all loan.periods (2 ^ 54) loan.terms.strategy (standing loan.entries) (first_state (schedule_of loan)) (each-standing loan sound) (first-good loan sound)
+    (λ some. absurd (omega (arith, some)))
+
+-- so what is outstanding adds up to nothing
+pub none-open : (p : ℕ) (rows : List Sums) → ((i : ℕ) → i < length rows → open_at (get_or rows i no_row) p ≡ 0) → sum_by (λ (r : Sums). open_at r p) rows ≡ 0
+none-open p [] none = refl
+none-open p (row ∷ rows) none =
+    let own = none 0 (omega arith) in
+    let rest = none-open p rows (λ i within. none (suc i) (omega arith)) in
+    let all = sum_by-append (λ (r : Sums). open_at r p) (row ∷ []) rows in
+    omega (arith, own, rest, all)
+
+-- the same, of the balances
+pub balances-repaid : (loan : Loan) → IsSound loan → sum (balances_of loan).paid + (balances_of loan).overpaid + (balances_of loan).refunded ≡ repaid loan.entries
+balances-repaid loan sound =
+    let all = held-sound loan sound in
+    let columns = paid-columns (state_of_loan loan).rows (good-sound loan sound).whole in
+    let four = sum-four (balances_of loan).paid refl in
+    omega (arith, all, columns, four)
+
+balance-at : (loan : Loan) → IsSound loan → (p : ℕ) → p < 4 → sum_at (λ r. r.paid) p (state_of_loan loan).rows + sum_at (λ r. r.waived) p (state_of_loan loan).rows + sum_at (λ r. r.written_off) p (state_of_loan loan).rows + sum_by (λ (r : Sums). open_at r p) (state_of_loan loan).rows ≡ sum_at (λ r. r.owed) p (state_of_loan loan).rows
+balance-at loan sound p small = balanced p (state_of_loan loan).rows small (good-sound loan sound).within
+
+pub balances-whole : (loan : Loan) → IsSound loan → (p : ℕ) → p < 4 → get_or (balances_of loan).paid p 0 + get_or (balances_of loan).waived p 0 + get_or (balances_of loan).written_off p 0 + get_or (balances_of loan).outstanding p 0 ≡ get_or (balances_of loan).owed p 0
+balances-whole loan sound zero small = balance-at loan sound 0 small
+balances-whole loan sound (suc zero) small = balance-at loan sound 1 (omega arith)
+balances-whole loan sound (suc (suc zero)) small = balance-at loan sound 2 (omega arith)
+balances-whole loan sound (suc (suc (suc zero))) small = balance-at loan sound 3 (omega arith)
+balances-whole loan sound (suc (suc (suc (suc p)))) small = absurd (omega arith)
+
+pub balances-principal : (loan : Loan) → IsSound loan → get_or (balances_of loan).paid 3 0 + get_or (balances_of loan).written_off 3 0 + get_or (balances_of loan).outstanding 3 0 ≡ loan.principal
+balances-principal loan sound =
+    let all = balance-at loan sound 3 (omega arith) in
+    let is = principal-sound loan sound in
+    omega (arith, all, is.owed, is.waived)
+
+pub balances-apart : (loan : Loan) → IsSound loan → 0 < (balances_of loan).overpaid → sum (balances_of loan).outstanding ≡ 0
+balances-apart loan sound some =
+    let state : State = state_of_loan loan in
+    let none : (p : ℕ) → p < 4 → sum_by (λ (r : Sums). open_at r p) state.rows ≡ 0 = λ p small. none-open p state.rows (λ i within. closed-sound loan sound some i p within small) in
+    let a = none 0 (omega arith) in
+    let b = none 1 (omega arith) in
+    let c = none 2 (omega arith) in
+    let d = none 3 (omega arith) in
+    let four = sum-four (balances_of loan).outstanding refl in
+    omega (arith, a, b, c, d, four)
+
+-- and every sum is far below 64 bits
+pub balances-room : (loan : Loan) → IsSound loan → HasRoom (state_of_loan loan).rows
+balances-room loan sound p small =
+    let good = good-sound loan sound in
+    let owed = good.owed p in
+    let most = standing-amounts loan sound in
+    let all = balance-at loan sound p small in
+    record {
+      owed = omega (arith, owed, most);
+      paid = omega (arith, owed, most, all);
+      waived = omega (arith, owed, most, all);
+      written_off = omega (arith, owed, most, all);
+      outstanding = omega (arith, owed, most, all);
+    }

@@ -1,0 +1,48 @@
+-- A loan's sums over all its instalments, by portion.
+use Rattle.std.specs.Prelude.{ℕ, ◌<◌, ◌^◌, List, [], ◌∷◌, sum_by}
+use Rattle.mf_alloc.specs.Sums.{Sums, open_at}
+use Rattle.mf_account.specs.declared.balances.Balances.{Balances}
+use Rattle.mf_account.specs.declared.entry.Entry.{Entry}
+use Rattle.mf_account.specs.Kinds.{money_in}
+use Rattle.mf_account.specs.Effect.{State}
+use Rattle.mf_account.specs.Account.{sum_at}
+use Rattle.mf_account.specs.Standing.{standing}
+use Rattle.mf_account.specs.Loan.{Loan, state_of_loan, fee_of_loan}
+
+-- the four portions of a sum
+abbrev pub columns_of : (Sums → List ℕ) → List Sums → List ℕ
+columns_of of rows = sum_at of 0 rows ∷ sum_at of 1 rows ∷ sum_at of 2 rows ∷ sum_at of 3 rows ∷ []
+
+-- what is outstanding of a portion in all
+abbrev pub open_in : ℕ → List Sums → ℕ
+open_in p rows = sum_by (λ (row : Sums). open_at row p) rows
+
+abbrev pub balances_by : ℕ → State → Balances
+balances_by fee state = record {
+  disbursement_fee = fee;
+  owed = columns_of (λ row. row.owed) state.rows;
+  paid = columns_of (λ row. row.paid) state.rows;
+  waived = columns_of (λ row. row.waived) state.rows;
+  written_off = columns_of (λ row. row.written_off) state.rows;
+  outstanding = open_in 0 state.rows ∷ open_in 1 state.rows ∷ open_in 2 state.rows ∷ open_in 3 state.rows ∷ [];
+  overpaid = state.overpaid;
+  refunded = state.refunded;
+}
+
+abbrev pub balances_of : Loan → Balances
+balances_of loan = balances_by (fee_of_loan loan) (state_of_loan loan)
+
+-- what the standing repayments come to
+abbrev pub repaid : List Entry → ℕ
+repaid entries = sum_by (λ (e : Entry). money_in e.kind e.amount) (standing entries)
+
+-- each sum fits 64 bits
+pub record HasRoomAt (p : ℕ) (rows : List Sums) : Type 0 where
+  pub owed : sum_at (λ row. row.owed) p rows < 2 ^ 64
+  pub paid : sum_at (λ row. row.paid) p rows < 2 ^ 64
+  pub waived : sum_at (λ row. row.waived) p rows < 2 ^ 64
+  pub written_off : sum_at (λ row. row.written_off) p rows < 2 ^ 64
+  pub outstanding : open_in p rows < 2 ^ 64
+
+abbrev pub HasRoom : List Sums → Type 0
+HasRoom rows = (p : ℕ) → p < 4 → HasRoomAt p rows

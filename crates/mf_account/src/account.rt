@@ -1,0 +1,246 @@
+ghost use Rattle.std.specs.Prelude.{◌≡◌, ℕ, ◌+◌, ◌-◌, ◌<◌, ◌≤◌, ◌∷◌, [], ◌++◌, IfOk, OnOk, OnErr, IsOkUnless, None, Some, true, false, length, sum, slice_index};
+ghost use Rattle.mf_base.specs.declared.fault.Fault.{Fault as FaultNumber};
+ghost use Rattle.mf_base.specs.DayText.{last_entered_day};
+ghost use Rattle.mf_schedule.specs.Fresh.{IsLoanWithinLimits};
+ghost use Rattle.mf_account.specs.Standing.{entry_at, with_mark};
+ghost use Rattle.mf_account.specs.Account.{shares_in};
+ghost use Rattle.mf_account.specs.Loan.{Loan, IsKept, IsSound, AreEntries, state_of_loan, settled_of_loan, status_of_loan};
+ghost use Rattle.mf_account.specs.Balance.{balances_of, repaid};
+ghost use Rattle.mf_account.specs.Refusals.{refusal_of, reversal_refused, IsOffered};
+
+use crate::balances::{Balances, book_sums};
+use crate::entry::Entry;
+use crate::refusal::{
+    admits, is_forbidden, is_out_of_limits, is_out_of_order, is_sealed, reversal, status,
+};
+use crate::replay::{replayed, replayed_with, replayed_without};
+use crate::settled::{Book, Settled};
+use mf_alloc::{Row, Share};
+use mf_base::{Day, Fault};
+use mf_catalog::Terms;
+use mf_schedule::{Instalment, disbursement_fee, fresh};
+use std::alloc::Global;
+use std::marker::Model;
+
+/// The most entries that a loan may have.
+const MOST_ENTRIES: usize = 9999;
+
+/// The account of a disbursed loan. It is what its terms, its day of disbursement and its entries make it: the effects
+/// of the standing entries, in order of day and number, on the fresh schedule with nothing paid.
+#[derive(Debug, Drop)]
+pub struct LoanAccount {
+    terms: Terms,
+    principal: u64,
+    periods: u32,
+    day: Day,
+    entries: Vec<Entry>,
+    schedule: Vec<Instalment>,
+    disbursement_fee: u64,
+    book: Book,
+    settled: Vec<Settled>,
+}
+
+impl Model for LoanAccount {
+    ghost Value = { Loan };
+
+    ghost view = { λ a. record { terms = a.terms; principal = a.principal; periods = a.periods; day = a.day; entries = a.entries.items } };
+
+    ghost invariant = { λ a. IsKept (record { terms = a.terms; principal = a.principal; periods = a.periods; day = a.day; entries = a.entries.items }) a.schedule.items a.disbursement_fee a.book a.settled.items };
+}
+
+impl LoanAccount {
+    /// The account of a loan of so many cents over so many periods, disbursed on a day, with its entries in the order
+    /// of their numbers. Only a want of memory is refused.
+    pub fn replay(
+        alloc: Global,
+        terms: Terms,
+        principal: u64,
+        periods: u32,
+        day: Day,
+        entries: Vec<Entry>,
+    ) -> Result<LoanAccount, Fault>
+        requires limits { IsLoanWithinLimits terms principal periods }
+        requires day { day ≤ last_entered_day }
+        requires entries { AreEntries periods day entries.items }
+        ensures account { IfOk result (λ account. account ≡ record { terms = terms; principal = principal; periods = periods; day = day; entries = entries.items }) }
+        ensures only { IsOkUnless result Fault.F20 }
+    {
+        let schedule = fresh(alloc, &terms, principal, periods, day)?;
+        let fee = disbursement_fee(&terms, principal, &schedule);
+        let (book, settled) = replayed(alloc, &terms.strategy, &schedule, &entries)?;
+        Ok(LoanAccount {
+            terms,
+            principal,
+            periods,
+            day,
+            entries,
+            schedule,
+            disbursement_fee: fee,
+            book,
+            settled,
+        })
+    }
+
+    /// Enters one entry more. The refusals are, the first that holds: F11 where a write-off or refund stands; F9 where
+    /// the loan is not at status 300, or at 700 for a refund; F10 for a repayment before disbursement or after the
+    /// business day; F14 where the instalment does not allow it; F8 for a fee or penalty of 0 or over 10^12 cents; F18
+    /// where the loan has 9,999 entries; and F20 for want of memory. A refused entry is given up, and the account is
+    /// as before.
+    pub fn enter(&mut self, alloc: Global, entry: Entry, business_day: Day) -> Result<(), Fault>
+        requires { IsOffered self.old entry business_day }
+        ensures ok { OnOk result (self.new ≡ record self.old { entries = self.old.entries ++ entry ∷ [] }) }
+        ensures refused { (fault : FaultNumber) → refusal_of self.old entry business_day ≡ Some fault → result ≡ Err fault }
+        ensures accepted { refusal_of self.old entry business_day ≡ None → IsOkUnless result Fault.F20 }
+        ensures err { OnErr result (self.new ≡ self.old) }
+    {
+        match self.refusal(&entry, business_day) {
+            Some(fault) => Err(fault),
+            None => self.add(alloc, entry),
+        }
+    }
+
+    /// Adds an entry with which the loan is sound.
+    fn add(&mut self, alloc: Global, entry: Entry) -> Result<(), Fault>
+        requires { IsSound (record self.old { entries = self.old.entries ++ entry ∷ [] }) }
+        ensures ok { OnOk result (self.new ≡ record self.old { entries = self.old.entries ++ entry ∷ [] }) }
+        ensures only { IsOkUnless result Fault.F20 }
+        ensures err { OnErr result (self.new ≡ self.old) }
+    {
+        let (book, settled) = replayed_with(
+            alloc,
+            &self.terms.strategy,
+            &self.schedule,
+            &mut self.entries,
+            entry,
+        )?;
+        self.book = book;
+        self.settled = settled;
+        Ok(())
+    }
+
+    /// Why an entry is refused, if it is. It takes no memory.
+    fn refusal(&self, entry: &Entry, business_day: Day) -> Option<Fault>
+        ensures value { result ≡ refusal_of self.now entry.now business_day }
+        ensures sound { IsSound self.now }
+    {
+        if is_sealed(&self.entries) {
+            Some(Fault::F11)
+        } else if !admits(entry.kind, self.status()) {
+            Some(Fault::F9)
+        } else if is_out_of_order(entry, self.day, business_day) {
+            Some(Fault::F10)
+        } else if is_forbidden(
+            self.terms.overdue.is_some(),
+            &self.book.rows,
+            &self.entries,
+            entry,
+            business_day,
+        ) {
+            Some(Fault::F14)
+        } else if is_out_of_limits(entry) {
+            Some(Fault::F8)
+        } else if MOST_ENTRIES <= self.entries.len() {
+            Some(Fault::F18)
+        } else {
+            None
+        }
+    }
+
+    /// Reverses entry `seq`. The refusals are, the first that holds: F12 where there is no such entry; F13 where it is
+    /// reversed; F11 where another entry seals the loan; and F20 for want of memory. The account is then as before.
+    pub fn reverse(&mut self, alloc: Global, seq: u32) -> Result<(), Fault>
+        ensures ok { OnOk result (self.new ≡ record self.old { entries = with_mark self.old.entries (seq - 1) true }) }
+        ensures refused { (fault : FaultNumber) → reversal_refused self.old.entries seq ≡ Some fault → result ≡ Err fault }
+        ensures accepted { reversal_refused self.old.entries seq ≡ None → IsOkUnless result Fault.F20 }
+        ensures err { OnErr result (self.new ≡ self.old) }
+    {
+        match reversal(&self.entries, seq) {
+            Some(fault) => Err(fault),
+            None => self.take_out(alloc, (seq - 1) as usize),
+        }
+    }
+
+    /// Reverses the entry at a place.
+    fn take_out(&mut self, alloc: Global, at: usize) -> Result<(), Fault>
+        requires there { at < length self.old.entries }
+        requires stands { (entry_at self.old.entries at).reversed ≡ false }
+        ensures ok { OnOk result (self.new ≡ record self.old { entries = with_mark self.old.entries at true }) }
+        ensures only { IsOkUnless result Fault.F20 }
+        ensures err { OnErr result (self.new ≡ self.old) }
+    {
+        let (book, settled) = replayed_without(
+            alloc,
+            &self.terms.strategy,
+            &self.schedule,
+            &mut self.entries,
+            at,
+        )?;
+        self.book = book;
+        self.settled = settled;
+        Ok(())
+    }
+
+    /// The loan's status: 601 where a write-off stands, else 300 where anything is outstanding, else 700 where
+    /// something is overpaid, else 600.
+    pub fn status(&self) -> u16
+        ensures { result ≡ status_of_loan self.now }
+    {
+        status(&self.entries, &self.book.rows, self.book.overpaid)
+    }
+
+    /// The loan's sums over all instalments. The standing repayments add up to all that is paid, overpaid and refunded;
+    /// the principal disbursed is paid, written off or outstanding; where something is overpaid nothing is outstanding;
+    /// and in each portion what is paid, waived, written off and outstanding is what is owed.
+    pub fn balances(&self) -> Balances
+        ensures value { result ≡ balances_of self.now }
+        ensures repaid { sum result.paid + result.overpaid + result.refunded ≡ repaid self.now.entries }
+        ensures principal { slice_index result.paid 3 + slice_index result.written_off 3 + slice_index result.outstanding 3 ≡ self.now.principal }
+        ensures apart { 0 < result.overpaid → sum result.outstanding ≡ 0 }
+        ensures whole { (p : ℕ) → p < 4 → slice_index result.paid p + slice_index result.waived p + slice_index result.written_off p + slice_index result.outstanding p ≡ slice_index result.owed p }
+    {
+        self.sums()
+    }
+
+    /// The sums, as they are kept.
+    fn sums(&self) -> Balances
+        ensures value { result ≡ balances_of self.now }
+        ensures sound { IsSound self.now }
+    {
+        let book = &self.book;
+        book_sums(
+            &book.rows,
+            book.overpaid,
+            book.refunded,
+            self.disbursement_fee,
+        )
+    }
+
+    /// The instalments as they stand.
+    pub fn rows(&self) -> &[Row]
+        ensures { result.now ≡ (state_of_loan self.now).rows }
+    {
+        self.book.rows.as_slice()
+    }
+
+    /// The entries, in the order of their numbers.
+    pub fn entries(&self) -> &[Entry]
+        ensures { result.now ≡ self.now.entries }
+    {
+        self.entries.as_slice()
+    }
+
+    /// What an entry settles, cell by cell in the strategy's order, zero ones left out. A reversed entry and a refund
+    /// settle nothing.
+    pub fn shares(&self, alloc: Global, seq: u32) -> Result<Vec<Share>, Fault>
+        ensures shares { IfOk result (λ shares. shares.items ≡ shares_in seq (settled_of_loan self.now)) }
+        ensures only { IsOkUnless result Fault.F20 }
+    {
+        let shares = self
+            .settled
+            .iter()
+            .filter(|part| part.seq == seq)
+            .map(|part| part.share())
+            .collect(alloc)?;
+        Ok(shares)
+    }
+}

@@ -1,0 +1,153 @@
+ghost use Rattle.std.specs.Prelude.{◌≡◌, ◌≢◌, ℕ, ◌+◌, ◌-◌, ◌<◌, ◌≤◌, ◌^◌, length, map, slice_index_or};
+ghost use Rattle.mf_alloc.specs.declared.row.Cell.{Cell as CellRecord};
+ghost use Rattle.mf_alloc.specs.Sums.{IsRowWithin, AreWithin};
+ghost use Rattle.mf_alloc.specs.Rows.{IsCell, place_in_row};
+ghost use Rattle.mf_account.specs.declared.entry.Entry.{Entry as EntryRecord};
+ghost use Rattle.mf_account.specs.Undo.{unowe_row, without_charge, unsettle as unsettled_rows, without_settled, before_entry, paid_by as paid_how, paid_in};
+ghost use Rattle.mf_account.specs.Account.{part_of, Orders};
+ghost use Rattle.mf_account.specs.Effect.{State};
+ghost use Rattle.mf_account.specs.Rewind.{IsRewindable};
+ghost use Rattle.mf_account.specs.Applicable.{HasCharge, no_settled, AreInRows};
+
+use crate::effect::money_in;
+use crate::entry::{Entry, Kind};
+use crate::settled::{Book, How, Settled};
+use mf_alloc::{Portion, Row};
+
+/// Takes a charge back from what a portion of a row owes.
+fn lower_owed(row: &mut Row, portion: Portion, amount: u64)
+    requires { IsRowWithin (unowe_row (place_in_row portion) amount row.old) }
+    ensures { row.new ≡ unowe_row (place_in_row portion) amount row.old }
+{
+    let p = portion.index();
+    row.owed[p] = row.owed[p].saturating_sub(amount);
+}
+
+/// Takes a fee or penalty back.
+fn uncharge(rows: &mut [Row], entry: &Entry)
+    requires there { HasCharge entry.now.kind entry.now (length rows.old) }
+    requires within { AreWithin (without_charge entry.now.kind entry.now rows.old) }
+    ensures { rows.new ≡ without_charge entry.now.kind entry.now rows.old }
+{
+    match entry.kind {
+        Kind::Fee => {
+            let row = &mut rows[(entry.instalment - 1) as usize];
+            lower_owed(row, Portion::Fee, entry.amount);
+        }
+        Kind::Penalty => {
+            let row = &mut rows[(entry.instalment - 1) as usize];
+            lower_owed(row, Portion::Penalty, entry.amount);
+        }
+        Kind::Repay | Kind::Waive | Kind::WriteOff | Kind::Refund => {}
+    }
+}
+
+/// Takes one part back.
+fn unsettle(rows: &mut [Row], part: Settled)
+    requires { IsCell (length rows.old) part.cell }
+    ensures { rows.new ≡ unsettled_rows rows.old (part_of part) }
+{
+    let row = &mut rows[(part.cell.instalment - 1) as usize];
+    let p = part.cell.portion.index();
+    match part.how {
+        How::Paid => row.paid[p] = row.paid[p].saturating_sub(part.amount),
+        How::Waived => row.waived[p] = row.waived[p].saturating_sub(part.amount),
+        How::WrittenOff => row.written_off[p] = row.written_off[p].saturating_sub(part.amount),
+    }
+}
+
+/// Takes parts back, the last first.
+fn unsettle_all(rows: &mut [Row], parts: &[Settled])
+    requires { AreInRows (length rows.old) parts.now }
+    ensures { rows.new ≡ without_settled rows.old (map part_of parts.now) }
+{
+    let mut k = parts.len();
+    while k > 0 {
+        k -= 1;
+        unsettle(rows, parts[k]);
+    }
+}
+
+/// What a part paid.
+fn paid_by(part: Settled) -> u64
+    ensures { result ≡ paid_how part.how part.amount }
+{
+    match part.how {
+        How::Paid => part.amount,
+        How::Waived | How::WrittenOff => 0,
+    }
+}
+
+/// What parts paid.
+fn paid_all(parts: &[Settled]) -> u64
+    requires { paid_in (map part_of parts.now) < 2 ^ 64 }
+    ensures { result ≡ paid_in (map part_of parts.now) }
+{
+    parts.iter().map(|part| paid_by(*part)).sum()
+}
+
+/// Takes an entry's parts and its charge back.
+fn take_back_rows(rows: &mut Vec<Row>, entry: &Entry, own: &[Settled])
+    requires charge { HasCharge entry.now.kind entry.now (length rows.old.items) }
+    requires cells { AreInRows (length rows.old.items) own.now }
+    requires within { AreWithin (without_charge entry.now.kind entry.now (without_settled rows.old.items (map part_of own.now))) }
+    ensures { rows.new.items ≡ without_charge entry.now.kind entry.now (without_settled rows.old.items (map part_of own.now)) }
+{
+    unsettle_all(rows, own);
+    uncharge(rows, entry);
+}
+
+/// Takes an entry back by what it settled.
+fn take_back(book: &mut Book, entry: &Entry, own: &[Settled])
+    requires charge { HasCharge entry.now.kind entry.now (length book.old.rows) }
+    requires cells { AreInRows (length book.old.rows) own.now }
+    requires within { AreWithin (without_charge entry.now.kind entry.now (without_settled book.old.rows (map part_of own.now))) }
+    requires money { book.old.overpaid + paid_in (map part_of own.now) + book.old.refunded < 2 ^ 64 }
+    ensures { book.new ≡ before_entry entry.now (map part_of own.now) book.old }
+{
+    let paid = paid_all(own);
+    take_back_rows(&mut book.rows, entry, own);
+    let money = money_in(entry.kind, entry.amount);
+    book.overpaid = (book.overpaid + paid + book.refunded).saturating_sub(money);
+    book.refunded = 0;
+}
+
+/// Where the last run of parts with a number begins.
+fn own_start(settled: &[Settled], end: usize, seq: u32) -> usize
+    requires { end ≤ length settled.now }
+    ensures within { result ≤ end }
+    ensures own { (j : ℕ) → result ≤ j → j < end → (slice_index_or settled.now j no_settled).seq ≡ seq }
+    ensures first { 0 < result → (slice_index_or settled.now (result - 1) no_settled).seq ≢ seq }
+{
+    let mut start = end;
+    while start > 0 && settled[start - 1].seq == seq {
+        start -= 1;
+    }
+    start
+}
+
+/// Takes entries back from a book, the last first, by what they settled. See `Book::rewind`.
+pub(crate) fn rewind_book(book: &mut Book, tail: &[Entry], settled: &[Settled])
+    requires { (orders : Orders) × (places : EntryRecord → CellRecord → ℕ) × (from : State) × IsRewindable orders places from tail.now settled.now book.old }
+    ensures { (orders : Orders) (places : EntryRecord → CellRecord → ℕ) (from : State) → IsRewindable orders places from tail.now settled.now book.old → book.new ≡ from }
+{
+    let mut k = settled.len();
+    let mut i = tail.len();
+    while i > 0 {
+        i -= 1;
+        let start = own_start(settled, k, tail[i].seq);
+        take_back(book, &tail[i], &settled[start..k]);
+        k = start;
+    }
+}
+
+impl Book {
+    /// Takes entries back, the last first, by what they settled, and with nothing known of the state before them: it
+    /// leaves that state, which may be any that a book can hold with nothing refunded. It takes no memory.
+    pub fn rewind(&mut self, tail: &[Entry], settled: &[Settled])
+        requires { (orders : Orders) × (places : EntryRecord → CellRecord → ℕ) × (from : State) × IsRewindable orders places from tail.now settled.now self.old }
+        ensures { (orders : Orders) (places : EntryRecord → CellRecord → ℕ) (from : State) → IsRewindable orders places from tail.now settled.now self.old → self.new ≡ from }
+    {
+        rewind_book(self, tail, settled);
+    }
+}
