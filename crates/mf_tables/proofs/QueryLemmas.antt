@@ -1,24 +1,22 @@
 -- A query that writes nothing, and what is read of its rows.
-use Rattle.std.proofs.Common.{◌≡◌, inl, inr, subst, ℕ, ◌+◌, ◌<◌, ◌++◌, length, take, get_or, slice_get, find, Option, Some, None, Result, Ok, Err, IfOk, IfErr, Bool, refl, List, [], ◌∷◌, map, filter, sym, ap, ap₂, ◌∙◌, IsTrue}
+use Rattle.std.proofs.Common.{◌≡◌, inl, inr, subst, subst₂, ℕ, ◌+◌, ◌<◌, ◌++◌, length, take, get_or, slice_get, find, Option, Some, None, Result, Ok, Err, IfOk, IfErr, Bool, refl, arith, List, [], ◌∷◌, map, filter, sym, ap, ap₂, ◌∙◌, IsTrue}
 use Rattle.std.proofs.lemmas.List.{take_more, map-append, length-map, get_or-map}
 use Rattle.sqlite_keyed.proofs.ListLemmas.{slice_get-filter}
 use Rattle.sqlite.specs.Order.{Row}
-use Rattle.sqlite.specs.State.{State, Shown, FailsToQuery, IsNotRun, Fails, CommitsShowing, Survives}
+use Rattle.sqlite.specs.State.{State, Shown, FailsToQuery, IsUnchanged, IsNotRun, Fails, CommitsShowing, Survives, HasCleanDisk}
 use Rattle.sqlite.specs.declared.error.Error.{Error}
 use Rattle.sqlite.specs.Listing.{understood}
-use Rattle.sqlite.proofs.Callers.{IsPlain, never_commits}
+use Rattle.sqlite.specs.Effect.{Database}
+use Rattle.sqlite.proofs.Callers.{IsPlain, command_of, reads_as, never_commits}
+use Rattle.sqlite.proofs.StateLemmas.{survives_then}
+use Rattle.mf_tables.specs.Queries.{Answers}
 
 -- ---- a query changes nothing, and commits nothing
 
-pub crash_spares : (sql : List ℕ) (params : Row) (old new : State) → Survives old new (CommitsShowing sql params old) → Survives old new (λ _. ¬ IsPlain (understood old.now.schema sql))
-crash_spares sql params old new it = record {
-  clean = it.clean;
-  shield = it.shield;
-  counts = it.counts;
-  limit = it.limit;
-  closes = it.closes;
-  crash = λ clean db may. elim (it.crash clean db may) [ inl was ↦ inl was | inr wrote ↦ inr (λ plain. never_commits sql params old db plain wrote) ];
-}
+-- what follows from each answer follows
+pub either_way : {A E : Type 0} (r : Result A E) (P : A → Type 0) (Q : E → Type 0) (R : Type 0) → ((a : A) → P a → R) → ((e : E) → Q e → R) → IfOk r P → IfErr r Q → R
+either_way (Ok a) P Q R on_ok on_err h k = on_ok a h
+either_way (Err e) P Q R on_ok on_err h k = on_err e k
 
 pub shown_same : (sql : List ℕ) (params : Row) (old new : State) (rows : List Row) → IsPlain (understood old.now.schema sql) → Shown sql params old new rows → new.now ≡ old.now
 unfolding Shown
@@ -33,10 +31,33 @@ refused_same sql params old new e plain settled live (inl (inl h)) = h.1.0.now_i
 refused_same sql params old new e plain settled live (inl (inr h)) = fails_same old new ⊥ e settled live h
 refused_same sql params old new e plain settled live (inr h) = let bare = subst IsPlain h.1.is plain in (rw bare.0 at h.2).3.0.now_is
 
--- what follows from each answer follows
-pub either_way : {A E : Type 0} (r : Result A E) (P : A → Type 0) (Q : E → Type 0) (R : Type 0) → ((a : A) → P a → R) → ((e : E) → Q e → R) → IfOk r P → IfErr r Q → R
-either_way (Ok a) P Q R on_ok on_err h k = on_ok a h
-either_way (Err e) P Q R on_ok on_err h k = on_err e k
+pub not_run_same : (old new : State) (sql : List ℕ) (params : Row) (e : Error) → (IsTrue old.is_open → old.now ≡ old.committed) → IsTrue new.is_open → IsNotRun old new sql params e → IsTrue old.is_open × (new.now ≡ old.now)
+unfolding IsNotRun
+not_run_same old new sql params e settled live (inl h) = (h.1.0.was_open, h.1.0.now_is)
+not_run_same old new sql params e settled live (inr h) = (h.3.was_open live, fails_same old new ⊥ e settled live h)
+
+-- ---- a statement that was prepared before it asks
+
+module _ (sql text : List ℕ) (params : Row) (old mid new : State) where
+  pub answers_prepared : (rows : List Row) → (text ≡ sql) × IsUnchanged old mid → Shown text params mid new rows → Answers sql params old.now rows
+  answers_prepared rows prepared h =
+      let whole : Answers text params mid.now rows = λ plain unlisted. reads_as text params mid new mid.now.schema refl (command_of (understood mid.now.schema text)) refl plain unlisted rows h in
+      subst₂ (λ t d. Answers t params d rows) prepared.0 prepared.1.0.now_is whole
+
+  still_plain : (text ≡ sql) × IsUnchanged old mid → IsPlain (understood old.now.schema sql) → IsPlain (understood mid.now.schema text)
+  still_plain prepared plain = subst₂ (λ t (d : Database). IsPlain (understood d.schema t)) (sym prepared.0) (sym prepared.1.0.now_is) plain
+
+  pub same_prepared : {V : Type 0} (items : V → List Row) (r : Result V Error) → (text ≡ sql) × IsUnchanged old mid → IsPlain (understood old.now.schema sql) → (IsTrue old.is_open → old.now ≡ old.committed) → IsTrue new.is_open
+      → IfOk r (λ v. Shown text params mid new (items v)) → IfErr r (FailsToQuery text params mid new) → new.now ≡ old.now
+  same_prepared items r prepared plain settled live ok err =
+      let settled_mid = λ (was : IsTrue mid.is_open). prepared.1.0.now_is ∙ settled prepared.1.0.was_open ∙ sym prepared.1.0.committed_is in
+      either_way r (λ v. Shown text params mid new (items v)) (FailsToQuery text params mid new) (new.now ≡ old.now) (λ v h. shown_same text params mid new (items v) (still_plain prepared plain) h ∙ prepared.1.0.now_is)
+      (λ e h. refused_same text params mid new e (still_plain prepared plain) settled_mid live h ∙ prepared.1.0.now_is) ok err
+
+  pub crash_prepared : (HasCleanDisk mid → (text ≡ sql) × IsUnchanged old mid) → Survives old mid (λ _. ⊥) → Survives mid new (CommitsShowing text params mid) → Survives old new (λ _. IsTrue old.is_open × ¬ IsPlain (understood old.now.schema sql))
+  crash_prepared prepared first second =
+      survives_then old mid new (λ _. ⊥) (CommitsShowing text params mid) (λ _. IsTrue old.is_open × ¬ IsPlain (understood old.now.schema sql)) (λ _ db none. absurd none)
+      (λ clean db wrote. let early : HasCleanDisk mid = omega (arith, clean, second.clean) in let it = prepared early in (it.1.0.was_open, λ plain. never_commits text params mid db (still_plain it plain) wrote)) first second
 
 -- ---- rows that are read into items
 

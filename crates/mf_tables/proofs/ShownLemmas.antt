@@ -1,5 +1,5 @@
 -- What a query in the order of the key shows of a table that keeps items.
-use Rattle.std.proofs.Common.{◌≡◌, ℕ, ℤ, Bool, false, List, [], ◌∷◌, map, filter, sym, ◌∙◌, subst, Ordering, Less}
+use Rattle.std.proofs.Common.{◌≡◌, ℕ, ℤ, Bool, false, List, [], ◌∷◌, map, filter, sym, ap, ◌∙◌, subst, Ordering, Less}
 use Rattle.std.specs.List.{list_all}
 use Rattle.sqlite.specs.declared.types.Value.TheVariants.{Null, Int}
 use Rattle.sqlite.specs.Order.{Row}
@@ -10,12 +10,13 @@ use Rattle.sqlite.specs.Program.{overlay}
 use Rattle.sqlite.specs.Schema.{Schema}
 use Rattle.sqlite.specs.Command.TheVariants.{Select}
 use Rattle.sqlite.specs.Listing.{understood, reads_listing}
-use Rattle.sqlite.specs.State.{State, Shown}
-use Rattle.sqlite.proofs.Callers.{IsPlain, command_of, reads_as}
+use Rattle.sqlite.specs.Effect.{Database, Reads}
+use Rattle.sqlite.proofs.Callers.{IsPlain, command_of}
 use Rattle.sqlite_value.specs.declared.keys.Key.{Key}
 use Rattle.sqlite_keyed.proofs.ListLemmas.{ascending-filter, ascending_weaker}
 use Rattle.mf_tables.specs.Keep.{Keeps}
 use Rattle.mf_tables.specs.Scan.{scan}
+use Rattle.mf_tables.specs.Queries.{Answers}
 use Rattle.mf_tables.proofs.ReadLemmas.{shows}
 
 pub shown_kept : {X : Type 0} (stored : X → Row) (cmp : X → X → Ordering) (schema : Schema) (tree : ℕ) (sql : List ℕ) → IsPlain (understood schema sql) → reads_listing schema sql ≡ false
@@ -23,10 +24,10 @@ pub shown_kept : {X : Type 0} (stored : X → Row) (cmp : X → X → Ordering) 
     → (params : Row) (test : X → Bool) → ((id : ℤ) (x : X) → list_all (holds (params ∷ (Int id ∷ stored x) ∷ [])) tests ≡ test x)
     → (sort show : X → Row) → ((id : ℤ) (x : X) → output (scan tree tests project order) (params ∷ (Int id ∷ stored x) ∷ []) ≡ (sort x, show x))
     → ((a b : X) → output_cmp (scan tree tests project order) (sort a, show a) (sort b, show b) ≡ cmp a b) → ((trees : Trees) → overlay trees [] tree ≡ trees tree)
-    → (old new : State) (items : List X) (rows : List Row) → old.now.schema ≡ schema → Keeps stored cmp (old.now.trees tree) items → Shown sql params old new rows → rows ≡ map show (filter test items)
-shown_kept stored cmp schema tree sql plain unlisted tests project order names is params test tested sort show out ranks under old new items rows has k h =
-    let read = reads_as sql params old new schema has _ is plain unlisted rows h in
-    let k' : Keeps stored cmp (overlay old.now.trees [] tree) items = subst (λ t. Keeps stored cmp t items) (sym (under old.now.trees)) k in
+    → (db : Database) (items : List X) (rows : List Row) → db.schema ≡ schema → Keeps stored cmp (db.trees tree) items → Answers sql params db rows → rows ≡ map show (filter test items)
+shown_kept stored cmp schema tree sql plain unlisted tests project order names is params test tested sort show out ranks under db items rows has k h =
+    let read = subst (λ c. Reads c db params rows) (ap (λ s. command_of (understood s sql)) has ∙ is) (h (subst (λ s. IsPlain (understood s sql)) (sym has) plain) (ap (λ s. reads_listing s sql) has ∙ unlisted)) in
+    let k' : Keeps stored cmp (overlay db.trees [] tree) items = subst (λ t. Keeps stored cmp t items) (sym (under db.trees)) k in
     let q = scan tree tests project order in
     let rising = ascending_weaker _ (λ a b. output_cmp q (sort a, show a) (sort b, show b) ≡ Less) (λ a b h. ranks a b ∙ h) _ (ascending-filter (λ a b. cmp a b ≡ Less) test items k.rising) in
-    shows stored cmp tree tests project order params test tested sort show out (overlay old.now.trees []) items k' rising Null rows (read.answer Null)
+    shows stored cmp tree tests project order params test tested sort show out (overlay db.trees []) items k' rising Null rows (read.answer Null)

@@ -1,5 +1,5 @@
 -- What a list of writes makes of the lists that tables keep.
-use Rattle.std.specs.Prelude.{◌≡◌, ℕ, true, List, [], ◌∷◌, Ok}
+use Rattle.std.specs.Prelude.{◌≡◌, ℕ, true, List, [], ◌∷◌, Ok, IsTrue}
 use Rattle.sqlite.specs.Order.{Row}
 use Rattle.sqlite.specs.Schema.{Schema}
 use Rattle.sqlite.specs.Tree.{Trees}
@@ -9,6 +9,7 @@ use Rattle.sqlite.specs.State.{State, Executes}
 -- the statement ran, and the transaction goes on
 pub record Ran (sql : List ℕ) (params : Row) (old new : State) : Type 0 where
   pub mode : new.in_transaction ≡ true
+  pub was_open : IsTrue old.is_open
   pub count : ℕ
   pub ran : Executes sql params old new (Ok count)
 
@@ -27,15 +28,22 @@ abbrev pub AllFit : {W L : Type 0} → (W → L → L) → (W → L → Type 0) 
 AllFit after Fits [] lists = Unit {0}
 AllFit after Fits (w ∷ ws) lists = Fits w lists × AllFit after Fits ws (after w lists)
 
--- the transaction goes on, and its tables are changed so
-pub record Steps {L : Type 0} (Stands : Database → L → Type 0) (Fits : L → Type 0) (change : L → L) (old new : State) : Type 0 where
-  pub mode : new.in_transaction ≡ true
-  pub stands : (lists : L) → Stands old.now lists → Fits lists → Stands new.now (change lists)
-
--- whatever lists the tables were, they are these now
+-- whatever lists the tables kept, these are the ones now
 abbrev pub Turns : {L : Type 0} → (Database → L → Type 0) → (L → Type 0) → (L → L) → Database → Database → Type 0
 Turns {L} Stands Fits change old new = (lists : L) → Stands old lists → Fits lists → Stands new (change lists)
 
+-- the transaction goes on, and its tables are changed so
+pub record Steps {L : Type 0} (Stands : Database → L → Type 0) (Fits : L → Type 0) (change : L → L) (old new : State) : Type 0 where
+  pub mode : new.in_transaction ≡ true
+  pub was_open : IsTrue old.is_open
+  pub turns : Turns Stands Fits change old.now new.now
+
+-- the connection is open, and nothing waits for a commit
+pub record IsSettled (s : State) : Type 0 where
+  pub is_open : IsTrue s.is_open
+  pub committed : s.committed ≡ s.now
+
 -- the trees that a stop may leave keep these lists
-abbrev pub MayHold : {L : Type 0} → (Database → L → Type 0) → (Trees → L → Type 0) → (L → Type 0) → (L → L) → Database → Trees → Type 0
-MayHold {L} Stands Holds Fits change old trees = (lists : L) → Stands old lists → Fits lists → Holds trees (change lists)
+pub record MayHold {L : Type 0} (Stands : Database → L → Type 0) (Holds : Trees → L → Type 0) (Fits : L → Type 0) (change : L → L) (old : State) (trees : Trees) : Type 0 where
+  pub was_open : IsTrue old.is_open
+  pub holds : (lists : L) → Stands old.now lists → Fits lists → Holds trees (change lists)

@@ -3,15 +3,16 @@
 //! What the rows mean is left to the crate above, which says for each of its writes what it makes of the lists.
 #![tactic(auto)]
 
-ghost use Rattle.std.specs.Prelude.{◌≡◌, false, IsTrue, OnOk, OnErr, IfOk};
+ghost use Rattle.std.specs.Prelude.{◌≡◌, ◌<◌, false, length, IsTrue, OnOk, OnErr, IfOk};
 ghost use Rattle.sqlite.specs.Tree.{Trees};
 ghost use Rattle.sqlite.specs.Schema.{Schema};
-ghost use Rattle.sqlite.specs.State.{HasCleanDisk, KeepsCommit, Survives, Shown};
+ghost use Rattle.sqlite.specs.State.{HasCleanDisk, KeepsCommit, Survives};
 ghost use Rattle.sqlite.specs.Values.{bound};
 ghost use Rattle.sqlite.specs.Given.{IsPlain};
 ghost use Rattle.sqlite.specs.Held.{state};
 ghost use Rattle.sqlite.specs.Listing.{understood};
-ghost use Rattle.mf_tables.specs.Writes.{Ran, Serves, AllFit, after_all, Steps, Turns, MayHold};
+ghost use Rattle.mf_tables.specs.Queries.{Answers};
+ghost use Rattle.mf_tables.specs.Writes.{Ran, Serves, AllFit, after_all, Steps, Turns, IsSettled, MayHold};
 
 use sqlite::{Alter, Connection, Error, Row, Transaction};
 use sqlite_value::value::ValueRef;
@@ -58,16 +59,19 @@ pub fn run<S: Alter>(
     Ok(())
 }
 
-/// Makes the writes in turn, in one transaction: all of them, or none.
+/// Makes the writes in turn, in one transaction: all of them, or none. There is at least one.
 pub fn apply<S: Alter, W: Write>(connection: &mut Connection<S>, writes: &[W]) -> Result<(), Error>
-    requires { connection.old.in_transaction ≡ false }
+    requires alone { connection.old.in_transaction ≡ false }
+    requires some { 0 < length writes.now }
 
     ensures ok { HasCleanDisk (state S.Store connection.new) → OnOk result (Turns (Serves W.schema W.Holds) (AllFit W.after W.Fits writes.now) (after_all W.after writes.now) (state S.Store connection.old).now (state S.Store connection.new).now) }
+    ensures settled { HasCleanDisk (state S.Store connection.new) → OnOk result (IsSettled (state S.Store connection.new)) }
     ensures err { HasCleanDisk (state S.Store connection.new) → IsTrue (state S.Store connection.new).is_open → OnErr result ((state S.Store connection.new).now ≡ (state S.Store connection.old).now) }
+    ensures was_open { HasCleanDisk (state S.Store connection.new) → IsTrue (state S.Store connection.new).is_open → IsTrue (state S.Store connection.old).is_open }
     ensures mode { connection.new.in_transaction ≡ false }
 
     // A stop leaves the lists before or those after all writes, and never a part.
-    ensures crash { Survives (state S.Store connection.old) (state S.Store connection.new) (MayHold (Serves W.schema W.Holds) W.Holds (AllFit W.after W.Fits writes.now) (after_all W.after writes.now) (state S.Store connection.old).now) }
+    ensures crash { Survives (state S.Store connection.old) (state S.Store connection.new) (MayHold (Serves W.schema W.Holds) W.Holds (AllFit W.after W.Fits writes.now) (after_all W.after writes.now) (state S.Store connection.old)) }
 {
     let _settled = connection.is_autocommit();
     let mut tx = connection.transaction();
@@ -85,14 +89,17 @@ pub fn query<S: Alter>(
 ) -> Result<Vec<Row>, Error>
     requires { connection.old.in_transaction ≡ false }
 
-    ensures rows { HasCleanDisk (state S.Store connection.new) → IfOk result (λ rows. Shown sql.now (bound params.now) (state S.Store connection.old) (state S.Store connection.new) rows.items) }
+    ensures rows { HasCleanDisk (state S.Store connection.new) → IfOk result (λ rows. Answers sql.now (bound params.now) (state S.Store connection.old).now rows.items) }
+    ensures ok_open { HasCleanDisk (state S.Store connection.new) → OnOk result (IsTrue (state S.Store connection.old).is_open) }
     ensures same { HasCleanDisk (state S.Store connection.new) → IsTrue (state S.Store connection.new).is_open → IsPlain (understood (state S.Store connection.old).now.schema sql.now)
         → (state S.Store connection.new).now ≡ (state S.Store connection.old).now }
+    ensures was_open { HasCleanDisk (state S.Store connection.new) → IsTrue (state S.Store connection.new).is_open → IsTrue (state S.Store connection.old).is_open }
     ensures mode { connection.new.in_transaction ≡ false }
-    ensures crash { Survives (state S.Store connection.old) (state S.Store connection.new) (λ _. ¬ IsPlain (understood (state S.Store connection.old).now.schema sql.now)) }
+    ensures crash { Survives (state S.Store connection.old) (state S.Store connection.new) (λ _. IsTrue (state S.Store connection.old).is_open × ¬ IsPlain (understood (state S.Store connection.old).now.schema sql.now)) }
 {
     let _settled = connection.is_autocommit();
-    connection.query_all(sql, params)
+    let statement = connection.prepare(sql)?;
+    statement.query_all(connection, params)
 }
 
 #[cfg(test)]
