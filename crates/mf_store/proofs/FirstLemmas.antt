@@ -1,0 +1,50 @@
+-- A new institution's writes, and what stands after them.
+use Rattle.std.proofs.Common.{◌≡◌, ℕ, None, Some, List, [], ◌∷◌, codes, inl, inr, refl, sym, ap, ◌∙◌, subst, arith, IsTrue, string_bytes}
+use Rattle.sqlite.specs.Tree.{Trees}
+use Rattle.sqlite.specs.Effect.{Database}
+use Rattle.sqlite.specs.State.{State, HasCleanDisk}
+use Rattle.sqlite.specs.Held.{Held, state}
+use Rattle.sqlite.specs.Steps.{IsEmpty}
+use Rattle.sqlite_trees.specs.declared.store.Store.{Ghosts}
+use Rattle.sqlite_catalog.specs.Listing.{IsSound as IsSoundListing}
+use Rattle.mf_base.specs.DayText.{day_text}
+use Rattle.mf_office.specs.Keys.{key_of, key_within}
+use Rattle.mf_tables.specs.Tables.{no_schema}
+use Rattle.mf_tables.specs.Writes.{Serves, AllFit, after_all, Turns, IsSettled}
+use Rattle.mf_model.specs.Institution.{Institution, newly_made}
+use Rattle.mf_model.specs.Sound.{IsSound}
+use Rattle.mf_store.specs.Flat.{tables_of}
+use Rattle.mf_store.specs.Writes.{schema_of, Holds, after, Fits, meta_of}
+use Rattle.mf_store.specs.Flat.{meta_on}
+use Rattle.mf_store.specs.declared.records.MetaRecord.{MetaRecord}
+use Rattle.mf_store.specs.declared.records.OfficeRecord.{OfficeRecord}
+use Rattle.mf_store.specs.declared.records.StaffRecord.{StaffRecord}
+use Rattle.mf_store.specs.declared.writes.StoreWrite.{StoreWrite}
+use Rattle.mf_store.specs.declared.writes.StoreWrite.TheVariants.{MakeTables, PutMeta, PutOffice, PutStaff}
+use Rattle.mf_store.specs.Stands.{StandsFor, IsClean, Leaves, Begins, HoldsOneOf}
+
+first_list : MetaRecord → OfficeRecord → StaffRecord → List StoreWrite
+first_list m o s = MakeTables ∷ PutMeta m ∷ PutOffice o ∷ PutStaff s ∷ []
+
+pub begins : (writes : List StoreWrite) (day : ℕ) (m : MetaRecord) (o : OfficeRecord) (s : StaffRecord) → writes ≡ MakeTables ∷ PutMeta m ∷ PutOffice o ∷ PutStaff s ∷ []
+    → m.one ≡ 1 → m.schema ≡ 1 → string_bytes m.day ≡ day_text day → o.number ≡ 1 → o.parent ≡ None → string_bytes o.hkey ≡ codes "." → string_bytes o.name ≡ codes "Head Office"
+    → s.office ≡ 1 → s.number ≡ 1 → string_bytes s.name ≡ codes "Head Manager" → s.role ≡ 3 → Begins writes day
+unfolding key_of key_within
+begins writes day m o s is one schema text number parent key head office staff manager role = subst (λ ws. Begins ws day) (sym is) (record {
+  some = omega arith;
+  fits = (refl, (refl, (refl, (refl, tt))));
+  is = λ k. Some (record {
+    meta = record { one = one k; schema = schema k; day = text k } ∷ [];
+    offices = record { number = number k; parent = parent k; hkey = key k; name = head k } ∷ [];
+    staff = record { office = office k; number = staff k; name = manager k; role = role k } ∷ [];
+    clients = [];
+  });
+})
+
+module _ {S : Type 0} (g : Ghosts S) (old new : Held S) (writes : List StoreWrite) (day : ℕ) where
+  pub founded_stands : Begins writes day → IsSound (newly_made day) → Turns (Serves schema_of Holds) (AllFit after Fits writes) (after_all after writes) (state g old).now (state g new).now → Serves schema_of Holds (state g old).now None → StandsFor g new (newly_made day)
+  founded_stands b sound turns none = record { sound = sound; serves = λ live. subst (λ lists. Serves schema_of Holds (state g new).now lists) b.is (turns None none b.fits) }
+
+-- a new connection in memory has no tables
+pub empty_serves : (s : State) → IsEmpty s → Serves schema_of Holds s.now None
+empty_serves s e = record { schema_is = e.2; holds = subst (λ k. IsSoundListing k s.now.trees) e.2 (e.1 e.0.is_open).0 }

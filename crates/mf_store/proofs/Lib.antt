@@ -1,0 +1,9 @@
+pub mod Texts
+pub mod TableLemmas
+pub mod ReadLemmas
+pub mod PutLemmas
+pub mod FlatLemmas
+pub mod StandLemmas
+pub mod LookLemmas
+pub mod CommitLemmas
+pub mod FirstLemmas

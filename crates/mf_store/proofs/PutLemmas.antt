@@ -1,0 +1,126 @@
+-- What one statement makes of all tables together.
+use Rattle.std.proofs.Common.{◌≡◌, ℕ, None, Some, Option, IsSome, List, [], Ok, sym, ap, ◌∙◌, subst, refl, arith, true≢false}
+use Rattle.sqlite.specs.Change.{created}
+use Rattle.sqlite.specs.Effect.{Database}
+use Rattle.sqlite.specs.Order.{Row}
+use Rattle.sqlite.specs.State.{State, Executes}
+use Rattle.sqlite_catalog.specs.Listing.{IsSound}
+use Rattle.mf_tables.specs.Keep.{Keeps}
+use Rattle.mf_tables.specs.Making.{IsEmpty}
+use Rattle.mf_tables.specs.Tables.{no_schema}
+use Rattle.mf_tables.specs.Writes.{Ran, Serves}
+use Rattle.mf_tables.proofs.KeepLemmas.{keeps_none}
+use Rattle.mf_tables.proofs.KeptLemmas.{Spares}
+use Rattle.mf_tables.proofs.MakeLemmas.{makes_one}
+use Rattle.mf_store.specs.Tables.{schema}
+use Rattle.mf_store.specs.Rows.{MetaRow, OfficeRow, StaffRow, ClientRow, Lists, no_rows, meta_row, office_row, staff_row, client_row, by_meta, by_office, by_staff, by_client, put_meta, put_office, put_staff, put_client}
+use Rattle.mf_store.specs.Writes.{changed, schema_of, Holds, Making, Putting}
+use Rattle.mf_store.proofs.Texts.{create_meta, create_offices, create_staff, create_clients, defines_meta, defines_offices, defines_staff, defines_clients, made_is, upsert_meta, upsert_office, upsert_staff, upsert_client}
+use Rattle.mf_store.proofs.TableLemmas.{by_meta_total, by_office_total, by_staff_total, by_client_total, puts_meta, puts_office, puts_staff, puts_client}
+
+abbrev pub StandsAs : Database → Option Lists → Type 0
+StandsAs = Serves schema_of Holds
+
+nothing_there : {A : Type 0} → (let none : Option Lists = None in IsSome none) → A
+nothing_there h = absurd (true≢false (sym h))
+
+pub putting_meta : (x : MetaRow) (old new : State) → Ran upsert_meta (meta_row x) old new → Putting (put_meta x) old new
+putting_meta x old new ran = record { mode = ran.mode; was_open = ran.was_open; turns = turns }
+  where
+    turns : (lists : Option Lists) → StandsAs old.now lists → IsSome lists → StandsAs new.now (changed (put_meta x) lists)
+    turns None s there = nothing_there there
+    turns (Some m) s there =
+        let did = puts_meta x old new ran.count m.meta s.schema_is s.holds.meta ran.ran in
+        let spared = did.2 in record {
+          schema_is = did.0;
+          holds = record {
+            sound = did.3;
+            meta = did.1;
+            offices = subst (λ t. Keeps office_row by_office t m.offices) (sym (spared.1.0 (λ e. absurd (omega arith)))) s.holds.offices;
+            staff = subst (λ t. Keeps staff_row by_staff t m.staff) (sym (spared.1.1.0 (λ e. absurd (omega arith)))) s.holds.staff;
+            clients = subst (λ t. Keeps client_row by_client t m.clients) (sym (spared.1.1.1.0 (λ e. absurd (omega arith)))) s.holds.clients;
+          };
+        }
+
+pub putting_office : (x : OfficeRow) (old new : State) → Ran upsert_office (office_row x) old new → Putting (put_office x) old new
+putting_office x old new ran = record { mode = ran.mode; was_open = ran.was_open; turns = turns }
+  where
+    turns : (lists : Option Lists) → StandsAs old.now lists → IsSome lists → StandsAs new.now (changed (put_office x) lists)
+    turns None s there = nothing_there there
+    turns (Some m) s there =
+        let did = puts_office x old new ran.count m.offices s.schema_is s.holds.offices ran.ran in
+        let spared = did.2 in record {
+          schema_is = did.0;
+          holds = record {
+            sound = did.3;
+            meta = subst (λ t. Keeps meta_row by_meta t m.meta) (sym (spared.0 (λ e. absurd (omega arith)))) s.holds.meta;
+            offices = did.1;
+            staff = subst (λ t. Keeps staff_row by_staff t m.staff) (sym (spared.1.1.0 (λ e. absurd (omega arith)))) s.holds.staff;
+            clients = subst (λ t. Keeps client_row by_client t m.clients) (sym (spared.1.1.1.0 (λ e. absurd (omega arith)))) s.holds.clients;
+          };
+        }
+
+pub putting_staff : (x : StaffRow) (old new : State) → Ran upsert_staff (staff_row x) old new → Putting (put_staff x) old new
+putting_staff x old new ran = record { mode = ran.mode; was_open = ran.was_open; turns = turns }
+  where
+    turns : (lists : Option Lists) → StandsAs old.now lists → IsSome lists → StandsAs new.now (changed (put_staff x) lists)
+    turns None s there = nothing_there there
+    turns (Some m) s there =
+        let did = puts_staff x old new ran.count m.staff s.schema_is s.holds.staff ran.ran in
+        let spared = did.2 in record {
+          schema_is = did.0;
+          holds = record {
+            sound = did.3;
+            meta = subst (λ t. Keeps meta_row by_meta t m.meta) (sym (spared.0 (λ e. absurd (omega arith)))) s.holds.meta;
+            offices = subst (λ t. Keeps office_row by_office t m.offices) (sym (spared.1.0 (λ e. absurd (omega arith)))) s.holds.offices;
+            staff = did.1;
+            clients = subst (λ t. Keeps client_row by_client t m.clients) (sym (spared.1.1.1.0 (λ e. absurd (omega arith)))) s.holds.clients;
+          };
+        }
+
+pub putting_client : (x : ClientRow) (old new : State) → Ran upsert_client (client_row x) old new → Putting (put_client x) old new
+putting_client x old new ran = record { mode = ran.mode; was_open = ran.was_open; turns = turns }
+  where
+    turns : (lists : Option Lists) → StandsAs old.now lists → IsSome lists → StandsAs new.now (changed (put_client x) lists)
+    turns None s there = nothing_there there
+    turns (Some m) s there =
+        let did = puts_client x old new ran.count m.clients s.schema_is s.holds.clients ran.ran in
+        let spared = did.2 in record {
+          schema_is = did.0;
+          holds = record {
+            sound = did.3;
+            meta = subst (λ t. Keeps meta_row by_meta t m.meta) (sym (spared.0 (λ e. absurd (omega arith)))) s.holds.meta;
+            offices = subst (λ t. Keeps office_row by_office t m.offices) (sym (spared.1.0 (λ e. absurd (omega arith)))) s.holds.offices;
+            staff = subst (λ t. Keeps staff_row by_staff t m.staff) (sym (spared.1.1.0 (λ e. absurd (omega arith)))) s.holds.staff;
+            clients = did.1;
+          };
+        }
+
+-- ---- the tables made
+
+empty_at_first : (db : Database) → StandsAs db None → IsEmpty no_schema db
+empty_at_first db s = record { schema_is = s.schema_is; empty = tt; sound = s.holds }
+
+stands_empty : (db : Database) → IsEmpty schema db → StandsAs db (Some no_rows)
+stands_empty db e = record {
+  schema_is = e.schema_is;
+  holds = record {
+    sound = e.sound;
+    meta = subst (λ t. Keeps meta_row by_meta t []) (sym e.empty.0) (keeps_none by_meta by_meta_total meta_row);
+    offices = subst (λ t. Keeps office_row by_office t []) (sym e.empty.1.0) (keeps_none by_office by_office_total office_row);
+    staff = subst (λ t. Keeps staff_row by_staff t []) (sym e.empty.1.1.0) (keeps_none by_staff by_staff_total staff_row);
+    clients = subst (λ t. Keeps client_row by_client t []) (sym e.empty.1.1.1.0) (keeps_none by_client by_client_total client_row);
+  };
+}
+
+pub making : (a b c d e : State) → Ran create_meta [] a b → Ran create_offices [] b c → Ran create_staff [] c d → Ran create_clients [] d e → Making a e
+making a b c d e one two three four = record { mode = four.mode; was_open = one.was_open; turns = turns }
+  where
+    turns : (lists : Option Lists) → StandsAs a.now lists → lists ≡ None → StandsAs e.now (Some no_rows)
+    turns lists s none =
+        let first = empty_at_first a.now (subst (StandsAs a.now) none s) in
+        let has_meta = makes_one _ _ create_meta a b one.count defines_meta first one.ran in
+        let has_offices = makes_one _ _ create_offices b c two.count defines_offices has_meta two.ran in
+        let has_staff = makes_one _ _ create_staff c d three.count defines_staff has_offices three.ran in
+        let has_clients = makes_one _ _ create_clients d e four.count defines_clients has_staff four.ran in
+        stands_empty e.now (subst (λ s. IsEmpty s e.now) made_is has_clients)

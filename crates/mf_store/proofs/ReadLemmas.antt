@@ -1,0 +1,71 @@
+-- What each query shows of its table.
+use Rattle.std.proofs.Common.{◌≡◌, ℕ, pos, true, ◌&&◌, List, [], ◌∷◌, map, filter, refl, ap₂, ◌∙◌, is_eq, nat_cmp}
+use Rattle.std.specs.Ordering.{ordering_then}
+use Rattle.sqlite.specs.declared.types.Value.TheVariants.{Int, Text}
+use Rattle.sqlite.specs.Order.{Row}
+use Rattle.sqlite.specs.Effect.{Database}
+use Rattle.sqlite.specs.Term.{Term, col}
+use Rattle.sqlite.specs.Query.{output_cmp}
+use Rattle.sqlite_value.proofs.OrderLemmas.{then-Equal}
+use Rattle.mf_tables.specs.Keep.{Keeps}
+use Rattle.mf_tables.specs.Queries.{Answers}
+use Rattle.mf_tables.specs.Scan.{eq, by, scan}
+use Rattle.mf_tables.proofs.CompareLemmas.{equals_back, and_true, key_step, int_cmp-pos, at_least_text, below_text}
+use Rattle.mf_tables.proofs.ShownLemmas.{shown_kept}
+use Rattle.mf_store.specs.Tables.{schema}
+use Rattle.mf_store.specs.Rows.{MetaRow, by_meta, meta_row, OfficeRow, by_office, office_row, StaffRow, by_staff, staff_row, ClientRow, by_client, client_row}
+use Rattle.mf_store.specs.Looks.{is_meta, is_office, is_staff, is_client, is_in_range}
+use Rattle.mf_store.proofs.Texts.{find_meta, find_meta_is, find_meta_plain, find_meta_listed, find_office, find_office_is, find_office_plain, find_office_listed, find_staff, find_staff_is, find_staff_plain, find_staff_listed, find_client, find_client_is, find_client_plain, find_client_listed, offices_in, offices_in_is, offices_in_plain, offices_in_listed}
+
+-- ---- meta
+
+abbrev meta_key : MetaRow → Row
+meta_key x = Int (pos x.one) ∷ []
+
+meta_ranks : (tests : List Term) (a b : MetaRow) → output_cmp (scan 0 tests (col 1 1 ∷ col 1 2 ∷ col 1 3 ∷ []) (by (col 1 1) ∷ [])) (meta_key a, meta_row a) (meta_key b, meta_row b) ≡ by_meta a b
+meta_ranks tests a b = then-Equal _ ∙ int_cmp-pos a.one b.one
+
+pub find_meta_shows : (one : ℕ) (db : Database) (rows : List Row) (items : List MetaRow) → db.schema ≡ schema → Keeps meta_row by_meta (db.trees 0) items → Answers find_meta (Int (pos one) ∷ []) db rows → rows ≡ map meta_row (filter (is_meta one) items)
+find_meta_shows one db rows items has k =
+    shown_kept meta_row by_meta schema 0 find_meta find_meta_plain find_meta_listed (eq (col 1 1) (col 0 0) ∷ []) _ _ _ find_meta_is _ (is_meta one) (λ id y. (and_true _ ∙ equals_back y.one one)) meta_key meta_row (λ id y. refl) (meta_ranks (eq (col 1 1) (col 0 0) ∷ [])) (λ t. refl) db items rows has k
+
+-- ---- offices
+
+abbrev office_key : OfficeRow → Row
+office_key x = Int (pos x.number) ∷ []
+
+office_ranks : (tests : List Term) (a b : OfficeRow) → output_cmp (scan 2 tests (col 1 1 ∷ col 1 2 ∷ col 1 3 ∷ col 1 4 ∷ []) (by (col 1 1) ∷ [])) (office_key a, office_row a) (office_key b, office_row b) ≡ by_office a b
+office_ranks tests a b = then-Equal _ ∙ int_cmp-pos a.number b.number
+
+pub find_office_shows : (number : ℕ) (db : Database) (rows : List Row) (items : List OfficeRow) → db.schema ≡ schema → Keeps office_row by_office (db.trees 2) items → Answers find_office (Int (pos number) ∷ []) db rows → rows ≡ map office_row (filter (is_office number) items)
+find_office_shows number db rows items has k =
+    shown_kept office_row by_office schema 2 find_office find_office_plain find_office_listed (eq (col 1 1) (col 0 0) ∷ []) _ _ _ find_office_is _ (is_office number) (λ id y. (and_true _ ∙ equals_back y.number number)) office_key office_row (λ id y. refl) (office_ranks (eq (col 1 1) (col 0 0) ∷ [])) (λ t. refl) db items rows has k
+
+pub offices_in_shows : (low high : List ℕ) (db : Database) (rows : List Row) (items : List OfficeRow) → db.schema ≡ schema → Keeps office_row by_office (db.trees 2) items → Answers offices_in (Text low ∷ Text high ∷ []) db rows → rows ≡ map office_row (filter (is_in_range low high) items)
+offices_in_shows low high db rows items has k =
+    shown_kept office_row by_office schema 2 offices_in offices_in_plain offices_in_listed _ _ _ _ offices_in_is _ (is_in_range low high) (λ id o. ap₂ ◌&&◌ (at_least_text o.hkey low) (and_true _ ∙ below_text o.hkey high)) office_key office_row (λ id x. refl)
+    (λ a b. then-Equal _ ∙ int_cmp-pos a.number b.number) (λ t. refl) db items rows has k
+
+-- ---- staff
+
+abbrev staff_key : StaffRow → Row
+staff_key x = Int (pos x.office) ∷ Int (pos x.number) ∷ []
+
+staff_ranks : (tests : List Term) (a b : StaffRow) → output_cmp (scan 5 tests (col 1 1 ∷ col 1 2 ∷ col 1 3 ∷ col 1 4 ∷ []) (by (col 1 1) ∷ by (col 1 2) ∷ [])) (staff_key a, staff_row a) (staff_key b, staff_row b) ≡ by_staff a b
+staff_ranks tests a b = ap₂ ordering_then (int_cmp-pos a.office b.office) (then-Equal _ ∙ int_cmp-pos a.number b.number)
+
+pub find_staff_shows : (office number : ℕ) (db : Database) (rows : List Row) (items : List StaffRow) → db.schema ≡ schema → Keeps staff_row by_staff (db.trees 5) items → Answers find_staff (Int (pos office) ∷ Int (pos number) ∷ []) db rows → rows ≡ map staff_row (filter (is_staff office number) items)
+find_staff_shows office number db rows items has k =
+    shown_kept staff_row by_staff schema 5 find_staff find_staff_plain find_staff_listed (eq (col 1 1) (col 0 0) ∷ eq (col 1 2) (col 0 1) ∷ []) _ _ _ find_staff_is _ (is_staff office number) (λ id y. (key_step _ _ _ _ (equals_back y.office office) (and_true _ ∙ equals_back y.number number))) staff_key staff_row (λ id y. refl) (staff_ranks (eq (col 1 1) (col 0 0) ∷ eq (col 1 2) (col 0 1) ∷ [])) (λ t. refl) db items rows has k
+
+-- ---- clients
+
+abbrev client_key : ClientRow → Row
+client_key x = Int (pos x.office) ∷ Int (pos x.number) ∷ []
+
+client_ranks : (tests : List Term) (a b : ClientRow) → output_cmp (scan 7 tests (col 1 1 ∷ col 1 2 ∷ col 1 3 ∷ []) (by (col 1 1) ∷ by (col 1 2) ∷ [])) (client_key a, client_row a) (client_key b, client_row b) ≡ by_client a b
+client_ranks tests a b = ap₂ ordering_then (int_cmp-pos a.office b.office) (then-Equal _ ∙ int_cmp-pos a.number b.number)
+
+pub find_client_shows : (office number : ℕ) (db : Database) (rows : List Row) (items : List ClientRow) → db.schema ≡ schema → Keeps client_row by_client (db.trees 7) items → Answers find_client (Int (pos office) ∷ Int (pos number) ∷ []) db rows → rows ≡ map client_row (filter (is_client office number) items)
+find_client_shows office number db rows items has k =
+    shown_kept client_row by_client schema 7 find_client find_client_plain find_client_listed (eq (col 1 1) (col 0 0) ∷ eq (col 1 2) (col 0 1) ∷ []) _ _ _ find_client_is _ (is_client office number) (λ id y. (key_step _ _ _ _ (equals_back y.office office) (and_true _ ∙ equals_back y.number number))) client_key client_row (λ id y. refl) (client_ranks (eq (col 1 1) (col 0 0) ∷ eq (col 1 2) (col 0 1) ∷ [])) (λ t. refl) db items rows has k

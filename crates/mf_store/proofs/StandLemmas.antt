@@ -1,0 +1,142 @@
+-- What a store stands for after a query and after a commit.
+use Rattle.std.proofs.Common.{◌≡◌, ℕ, inl, inr, List, [], ◌∷◌, Option, Some, None, Result, Ok, Err, IfOk, OnOk, IfErr, OnErr, IsTrue, refl, sym, ap, ◌∙◌, subst, arith}
+use Rattle.sqlite.specs.Tree.{Trees}
+use Rattle.sqlite.specs.Order.{Row}
+use Rattle.sqlite.specs.Effect.{Database}
+use Rattle.sqlite.specs.State.{State, HasCleanDisk, Survives}
+use Rattle.sqlite.specs.Held.{Held, state}
+use Rattle.sqlite.specs.Listing.{understood}
+use Rattle.sqlite.proofs.Callers.{IsPlain}
+use Rattle.sqlite.specs.declared.error.Error.{Error}
+use Rattle.sqlite_trees.specs.declared.store.Store.{Ghosts}
+use Rattle.mf_base.specs.declared.fault.Fault.{Fault}
+use Rattle.mf_base.specs.declared.fault.Fault.TheVariants.{F20}
+use Rattle.mf_tables.specs.Queries.{Answers}
+use Rattle.mf_tables.specs.Writes.{Serves, AllFit, after_all, Turns, IsSettled, MayHold}
+use Rattle.mf_model.specs.Institution.{Institution}
+use Rattle.mf_store.specs.Tables.{schema}
+use Rattle.mf_store.specs.Rows.{Lists}
+use Rattle.mf_store.specs.Flat.{tables_of}
+use Rattle.mf_store.specs.Writes.{schema_of, Holds, after, Fits}
+use Rattle.mf_store.specs.declared.writes.StoreWrite.{StoreWrite}
+use Rattle.mf_store.specs.Stands.{StandsFor, IsClean, Leaves, Stays, Shows, Becomes, HoldsOneOf}
+
+-- ---- F20 in place of the store's own error
+
+module _ {A : Type 0} (answer : Result A Error) (r : Result A Fault) where
+  cases : {P : Type 0} → IfOk answer (λ x. r ≡ Ok x) → OnErr answer (r ≡ Err F20) → ((x : A) → answer ≡ Ok x → r ≡ Ok x → P) → ((e : Error) → answer ≡ Err e → r ≡ Err F20 → P) → P
+  cases {P} ok err on_ok on_err = go answer refl ok err
+    where
+      go : (a : Result A Error) → answer ≡ a → IfOk a (λ x. r ≡ Ok x) → OnErr a (r ≡ Err F20) → P
+      go (Ok x) is ok err = on_ok x is ok
+      go (Err e) is ok err = on_err e is err
+
+  pub gives_up : IfOk answer (λ x. r ≡ Ok x) → OnErr answer (r ≡ Err F20) → IfErr r (λ fault. fault ≡ F20)
+  gives_up ok err = cases ok err (λ x a b. subst (λ o. IfErr o (λ fault. fault ≡ F20)) (sym b) tt) (λ e a b. subst (λ o. IfErr o (λ fault. fault ≡ F20)) (sym b) refl)
+
+  pub if_ok : (P : A → Type 0) → IfOk answer (λ x. r ≡ Ok x) → OnErr answer (r ≡ Err F20) → IfOk answer P → IfOk r P
+  if_ok P ok err h = cases ok err (λ x a b. subst (λ o. IfOk o P) (sym b) (subst (λ o. IfOk o P) a h)) (λ e a b. subst (λ o. IfOk o P) (sym b) tt)
+
+  pub on_ok : (P : Type 0) → IfOk answer (λ x. r ≡ Ok x) → OnErr answer (r ≡ Err F20) → OnOk answer P → OnOk r P
+  on_ok P ok err h = cases ok err (λ x a b. subst (λ o. OnOk o P) (sym b) (subst (λ o. OnOk o P) a h)) (λ e a b. subst (λ o. OnOk o P) (sym b) tt)
+
+  pub on_err : (P : Type 0) → IfOk answer (λ x. r ≡ Ok x) → OnErr answer (r ≡ Err F20) → OnErr answer P → OnErr r P
+  on_err P ok err h = cases ok err (λ x a b. subst (λ o. OnErr o P) (sym b) tt) (λ e a b. subst (λ o. OnErr o P) (sym b) (subst (λ o. OnErr o P) a h))
+
+-- what holds where the store's own answer was Ok
+pub was_ok : {A : Type 0} (answer : Result A Error) (r : Result A Fault) (P : Type 0) {x : A} → IfOk answer (λ x. r ≡ Ok x) → OnErr answer (r ≡ Err F20) → r ≡ Ok x → OnOk answer P → P
+was_ok (Ok v) r P ok err is h = h
+was_ok (Err e) r P {x} ok err is h = absurd (let k : Ok x ≡ Err F20 = sym is ∙ err in cc)
+
+pub both_if_ok : {A E : Type 0} (r : Result A E) (P Q : A → Type 0) (O : Type 0) → IfOk r P → OnOk r O → ((x : A) → P x → O → Q x) → IfOk r Q
+both_if_ok (Ok x) P Q O h o f = f x h o
+both_if_ok (Err e) P Q O h o f = tt
+
+pub both_on_ok : {A E : Type 0} (r : Result A E) (P Q O : Type 0) → OnOk r P → OnOk r O → (P → O → Q) → OnOk r Q
+both_on_ok (Ok x) P Q O h o f = f h o
+both_on_ok (Err e) P Q O h o f = tt
+
+pub weaker_if_ok : {A E : Type 0} (r : Result A E) (P Q : A → Type 0) → ((x : A) → P x → Q x) → IfOk r P → IfOk r Q
+weaker_if_ok (Ok x) P Q f h = f x h
+weaker_if_ok (Err e) P Q f h = tt
+
+pub weaker_on_err : {A E : Type 0} (r : Result A E) (P Q : Type 0) → OnErr r P → (P → Q) → OnErr r Q
+weaker_on_err (Ok x) P Q h f = tt
+weaker_on_err (Err e) P Q h f = f h
+
+module _ {S : Type 0} (g : Ghosts S) where
+  pub stays_same : (h : Held S) → Stays g h h
+  stays_same h = record { premise = λ c. c; same = λ c i s. s; stop = λ c is l. l }
+
+  pub stays_then : (a b c : Held S) → Stays g a b → Stays g b c → Stays g a c
+  stays_then a b c p q = record {
+    premise = λ clean. p.premise (q.premise clean);
+    same = λ clean i s. q.same clean i (p.same (q.premise clean) i s);
+    stop = λ clean is l. q.stop clean is (p.stop (q.premise clean) is l);
+  }
+
+  module _ (old new : Held S) where
+    abbrev was : State
+    was = state g old
+
+    abbrev is : State
+    is = state g new
+
+    earlier : {P : Trees → Type 0} → Survives was is P → IsClean g new → IsClean g old
+    earlier survives clean = omega (arith, survives.clean, clean)
+
+    plain_then : (sql : List ℕ) → IsPlain (understood schema sql) → was.now.schema ≡ schema → IsPlain (understood was.now.schema sql)
+    plain_then sql plain ours = subst (λ k. IsPlain (understood k sql)) (sym ours) plain
+
+    pub query_stays : (sql : List ℕ) → IsPlain (understood schema sql) → (HasCleanDisk is → IsTrue is.is_open → IsPlain (understood was.now.schema sql) → is.now ≡ was.now) → (HasCleanDisk is → IsTrue is.is_open → IsTrue was.is_open)
+        → Survives was is (λ _. IsTrue was.is_open × ¬ IsPlain (understood was.now.schema sql)) → Stays g old new
+    query_stays sql plain same was_open survives = record {
+      premise = earlier survives;
+      same = λ clean i s. record {
+        sound = s.sound;
+        serves = λ live. let before = s.serves (was_open clean live) in subst (λ d. Serves schema_of Holds d (Some (tables_of i))) (sym (same clean live (plain_then sql plain before.schema_is))) before;
+      };
+      stop = λ clean left l. record {
+        ours = λ now live. let before = l.ours (earlier survives now) (was_open now live) in ap (λ (d : Database). d.schema) (same now live (plain_then sql plain before)) ∙ before;
+        whole = λ now trees may. elim (survives.crash now trees may) [
+          | inl before ↦ l.whole (earlier survives now) trees before
+          | inr wrote ↦ absurd (wrote.1 (plain_then sql plain (l.ours (earlier survives now) wrote.0)))
+        ];
+      };
+    }
+
+    module _ (writes : List StoreWrite) where
+      abbrev Change : Database → Database → Type 0
+      Change = Turns (Serves schema_of Holds) (AllFit after Fits writes) (after_all after writes)
+
+      abbrev MayLeave : Trees → Type 0
+      MayLeave = MayHold (Serves schema_of Holds) Holds (AllFit after Fits writes) (after_all after writes) was
+
+      pub made_stands : (IsTrue is.is_open → IsTrue was.is_open) → Change was.now is.now → (i j : Institution) → StandsFor g old i → Becomes writes i j → StandsFor g new j
+      made_stands was_open turns i j s b = record {
+        sound = b.sound;
+        serves = λ live. subst (λ lists. Serves schema_of Holds is.now lists) b.is (turns (Some (tables_of i)) (s.serves (was_open live)) b.fits);
+      }
+
+      pub made_leaves : ((trees : Trees) → IsTrue is.is_open → is.may_leave trees → trees ≡ is.committed.trees) → IsSettled is → (j : Institution) → StandsFor g new j → Leaves g new (j ∷ [])
+      made_leaves settled rests j s = record {
+        ours = λ clean live. (s.serves live).schema_is;
+        whole = λ clean trees may. inl (subst (λ t. Holds t (Some (tables_of j))) (sym (settled trees rests.is_open may ∙ ap (λ (d : Database). d.trees) rests.committed)) (s.serves rests.is_open).holds);
+      }
+
+      pub unmade_stands : (IsTrue is.is_open → IsTrue was.is_open) → (IsTrue is.is_open → is.now ≡ was.now) → (i : Institution) → StandsFor g old i → StandsFor g new i
+      unmade_stands was_open same i s = record { sound = s.sound; serves = λ live. subst (λ d. Serves schema_of Holds d (Some (tables_of i))) (sym (same live)) (s.serves (was_open live)) }
+
+      -- whatever came of the call, the tables are this program's
+      pub still_ours : {V : Type 0} (r : Result V Error) → (IsTrue is.is_open → IsTrue was.is_open) → OnOk r (Change was.now is.now) → (IsTrue is.is_open → OnErr r (is.now ≡ was.now)) → (i j : Institution) → StandsFor g old i → Becomes writes i j → IsTrue is.is_open → is.now.schema ≡ schema
+      still_ours (Ok v) was_open turns same i j s b live = ((made_stands was_open turns i j s b).serves live).schema_is
+      still_ours (Err e) was_open turns same i j s b live = ((unmade_stands was_open same i s).serves live).schema_is
+
+      pub made_stop : (HasCleanDisk is → IsTrue is.is_open → is.now.schema ≡ schema) → Survives was is MayLeave → (i j : Institution) (left : List Institution) → StandsFor g old i → Becomes writes i j → Leaves g old left → Leaves g new (j ∷ left)
+      made_stop ours survives i j left s b l = record {
+        ours = ours;
+        whole = λ clean trees may. elim (survives.crash clean trees may) [
+          | inl before ↦ inr (l.whole (earlier survives clean) trees before)
+          | inr wrote ↦ inl (subst (λ lists. Holds trees lists) b.is (wrote.holds (Some (tables_of i)) (s.serves wrote.was_open) b.fits))
+        ];
+      }

@@ -1,0 +1,177 @@
+-- What each text means under the schema.
+use Rattle.std.proofs.Common.{◌≡◌, ℕ, List, [], ◌∷◌, codes, refl, false, Some}
+use Rattle.sqlite.specs.declared.types.Value.TheVariants.{Null}
+use Rattle.sqlite.specs.Term.{lit, col, op2}
+use Rattle.sqlite.specs.Source.TheVariants.{Values}
+use Rattle.sqlite.specs.Command.TheVariants.{InsertOr, Select}
+use Rattle.sqlite.specs.Change.{created}
+use Rattle.sqlite.specs.Collation.TheVariants.{Binary}
+use Rattle.sqlite_sql.specs.declared.ops.BinaryOp.TheVariants.{Compare}
+use Rattle.sqlite_sql.specs.declared.ops.CompareOp.TheVariants.{Lt, Ge}
+use Rattle.sqlite_schema.specs.declared.command.Conflict.TheVariants.{Abort}
+use Rattle.sqlite_tied.specs.Compute.{everything}
+use Rattle.sqlite.specs.Listing.{understood, reads_listing}
+use Rattle.sqlite.proofs.Callers.{IsPlain, command_of}
+use Rattle.mf_tables.specs.Scan.{eq, by, scan}
+use Rattle.mf_tables.specs.Tables.{no_schema}
+use Rattle.mf_tables.specs.Making.{Defines}
+use Rattle.mf_store.specs.Tables.{schema, meta, offices, staff, clients}
+
+-- ---- meta
+
+abbrev pub create_meta : List ℕ
+create_meta = codes "CREATE TABLE meta (one INT NOT NULL, schema INTEGER NOT NULL, day TEXT NOT NULL, PRIMARY KEY (one)) STRICT"
+
+pub defines_meta : Defines (no_schema) create_meta (record meta { tree = 0 })
+unfolding understood everything
+defines_meta = record { command = refl; plain = (refl, refl); table_is = refl; uncounted = refl }
+
+abbrev pub upsert_meta : List ℕ
+upsert_meta = codes "INSERT INTO meta VALUES (?1, ?2, ?3) ON CONFLICT (one) DO UPDATE SET schema = excluded.schema, day = excluded.day"
+
+pub upsert_meta_is : command_of (understood schema upsert_meta) ≡ InsertOr 0 Abort (Values (lit Null ∷ col 0 0 ∷ col 0 1 ∷ col 0 2 ∷ []) 4) (record { target = Some (1 ∷ []); update = Some (record { lets = []; body = scan 0 (eq (col 1 0) (col 0 3) ∷ []) (col 1 0 ∷ col 1 0 ∷ col 1 1 ∷ col 0 6 ∷ col 0 7 ∷ []) [] }) } ∷ [])
+unfolding understood everything
+upsert_meta_is = refl
+
+pub upsert_meta_plain : IsPlain (understood schema upsert_meta)
+unfolding understood everything
+upsert_meta_plain = (refl, refl)
+
+abbrev pub find_meta : List ℕ
+find_meta = codes "SELECT one, schema, day FROM meta WHERE one = ?1 ORDER BY one"
+
+pub find_meta_is : command_of (understood schema find_meta) ≡ Select (record { lets = []; body = scan 0 (eq (col 1 1) (col 0 0) ∷ []) (col 1 1 ∷ col 1 2 ∷ col 1 3 ∷ []) (by (col 1 1) ∷ []) }) (codes "one" ∷ codes "schema" ∷ codes "day" ∷ [])
+unfolding understood everything
+find_meta_is = refl
+
+pub find_meta_plain : IsPlain (understood schema find_meta)
+unfolding understood everything
+find_meta_plain = (refl, refl)
+
+pub find_meta_listed : reads_listing schema find_meta ≡ false
+unfolding understood everything
+find_meta_listed = refl
+
+-- ---- offices
+
+abbrev pub create_offices : List ℕ
+create_offices = codes "CREATE TABLE offices (number INT NOT NULL, parent INTEGER, hkey TEXT NOT NULL UNIQUE, name TEXT NOT NULL, PRIMARY KEY (number)) STRICT"
+
+pub defines_offices : Defines (created no_schema (record meta { tree = 0 })) create_offices (record offices { tree = 0 })
+unfolding understood everything
+defines_offices = record { command = refl; plain = (refl, refl); table_is = refl; uncounted = refl }
+
+abbrev pub upsert_office : List ℕ
+upsert_office = codes "INSERT INTO offices VALUES (?1, ?2, ?3, ?4) ON CONFLICT (number) DO UPDATE SET parent = excluded.parent, hkey = excluded.hkey, name = excluded.name"
+
+pub upsert_office_is : command_of (understood schema upsert_office) ≡ InsertOr 1 Abort (Values (lit Null ∷ col 0 0 ∷ col 0 1 ∷ col 0 2 ∷ col 0 3 ∷ []) 5) (record { target = Some (1 ∷ []); update = Some (record { lets = []; body = scan 2 (eq (col 1 0) (col 0 4) ∷ []) (col 1 0 ∷ col 1 0 ∷ col 1 1 ∷ col 0 7 ∷ col 0 8 ∷ col 0 9 ∷ []) [] }) } ∷ [])
+unfolding understood everything
+upsert_office_is = refl
+
+pub upsert_office_plain : IsPlain (understood schema upsert_office)
+unfolding understood everything
+upsert_office_plain = (refl, refl)
+
+abbrev pub find_office : List ℕ
+find_office = codes "SELECT number, parent, hkey, name FROM offices WHERE number = ?1 ORDER BY number"
+
+pub find_office_is : command_of (understood schema find_office) ≡ Select (record { lets = []; body = scan 2 (eq (col 1 1) (col 0 0) ∷ []) (col 1 1 ∷ col 1 2 ∷ col 1 3 ∷ col 1 4 ∷ []) (by (col 1 1) ∷ []) }) (codes "number" ∷ codes "parent" ∷ codes "hkey" ∷ codes "name" ∷ [])
+unfolding understood everything
+find_office_is = refl
+
+pub find_office_plain : IsPlain (understood schema find_office)
+unfolding understood everything
+find_office_plain = (refl, refl)
+
+pub find_office_listed : reads_listing schema find_office ≡ false
+unfolding understood everything
+find_office_listed = refl
+
+abbrev pub offices_in : List ℕ
+offices_in = codes "SELECT number, parent, hkey, name FROM offices WHERE hkey >= ?1 AND hkey < ?2 ORDER BY number"
+
+pub offices_in_is : command_of (understood schema offices_in) ≡ Select (record { lets = []; body = scan 2 (op2 (Compare Ge Binary) (col 1 3) (col 0 0) ∷ op2 (Compare Lt Binary) (col 1 3) (col 0 1) ∷ []) (col 1 1 ∷ col 1 2 ∷ col 1 3 ∷ col 1 4 ∷ []) (by (col 1 1) ∷ []) }) (codes "number" ∷ codes "parent" ∷ codes "hkey" ∷ codes "name" ∷ [])
+unfolding understood everything
+offices_in_is = refl
+
+pub offices_in_plain : IsPlain (understood schema offices_in)
+unfolding understood everything
+offices_in_plain = (refl, refl)
+
+pub offices_in_listed : reads_listing schema offices_in ≡ false
+unfolding understood everything
+offices_in_listed = refl
+
+-- ---- staff
+
+abbrev pub create_staff : List ℕ
+create_staff = codes "CREATE TABLE staff (office INTEGER NOT NULL, number INTEGER NOT NULL, name TEXT NOT NULL, role INTEGER NOT NULL, PRIMARY KEY (office, number)) STRICT"
+
+pub defines_staff : Defines (created (created no_schema (record meta { tree = 0 })) (record offices { tree = 0 })) create_staff (record staff { tree = 0 })
+unfolding understood everything
+defines_staff = record { command = refl; plain = (refl, refl); table_is = refl; uncounted = refl }
+
+abbrev pub upsert_staff : List ℕ
+upsert_staff = codes "INSERT INTO staff VALUES (?1, ?2, ?3, ?4) ON CONFLICT (office, number) DO UPDATE SET name = excluded.name, role = excluded.role"
+
+pub upsert_staff_is : command_of (understood schema upsert_staff) ≡ InsertOr 2 Abort (Values (lit Null ∷ col 0 0 ∷ col 0 1 ∷ col 0 2 ∷ col 0 3 ∷ []) 5) (record { target = Some (1 ∷ 2 ∷ []); update = Some (record { lets = []; body = scan 5 (eq (col 1 0) (col 0 4) ∷ []) (col 1 0 ∷ col 1 0 ∷ col 1 1 ∷ col 1 2 ∷ col 0 8 ∷ col 0 9 ∷ []) [] }) } ∷ [])
+unfolding understood everything
+upsert_staff_is = refl
+
+pub upsert_staff_plain : IsPlain (understood schema upsert_staff)
+unfolding understood everything
+upsert_staff_plain = (refl, refl)
+
+abbrev pub find_staff : List ℕ
+find_staff = codes "SELECT office, number, name, role FROM staff WHERE office = ?1 AND number = ?2 ORDER BY office, number"
+
+pub find_staff_is : command_of (understood schema find_staff) ≡ Select (record { lets = []; body = scan 5 (eq (col 1 1) (col 0 0) ∷ eq (col 1 2) (col 0 1) ∷ []) (col 1 1 ∷ col 1 2 ∷ col 1 3 ∷ col 1 4 ∷ []) (by (col 1 1) ∷ by (col 1 2) ∷ []) }) (codes "office" ∷ codes "number" ∷ codes "name" ∷ codes "role" ∷ [])
+unfolding understood everything
+find_staff_is = refl
+
+pub find_staff_plain : IsPlain (understood schema find_staff)
+unfolding understood everything
+find_staff_plain = (refl, refl)
+
+pub find_staff_listed : reads_listing schema find_staff ≡ false
+unfolding understood everything
+find_staff_listed = refl
+
+-- ---- clients
+
+abbrev pub create_clients : List ℕ
+create_clients = codes "CREATE TABLE clients (office INTEGER NOT NULL, number INTEGER NOT NULL, name TEXT NOT NULL, PRIMARY KEY (office, number)) STRICT"
+
+pub defines_clients : Defines (created (created (created no_schema (record meta { tree = 0 })) (record offices { tree = 0 })) (record staff { tree = 0 })) create_clients (record clients { tree = 0 })
+unfolding understood everything
+defines_clients = record { command = refl; plain = (refl, refl); table_is = refl; uncounted = refl }
+
+abbrev pub upsert_client : List ℕ
+upsert_client = codes "INSERT INTO clients VALUES (?1, ?2, ?3) ON CONFLICT (office, number) DO UPDATE SET name = excluded.name"
+
+pub upsert_client_is : command_of (understood schema upsert_client) ≡ InsertOr 3 Abort (Values (lit Null ∷ col 0 0 ∷ col 0 1 ∷ col 0 2 ∷ []) 4) (record { target = Some (1 ∷ 2 ∷ []); update = Some (record { lets = []; body = scan 7 (eq (col 1 0) (col 0 3) ∷ []) (col 1 0 ∷ col 1 0 ∷ col 1 1 ∷ col 1 2 ∷ col 0 7 ∷ []) [] }) } ∷ [])
+unfolding understood everything
+upsert_client_is = refl
+
+pub upsert_client_plain : IsPlain (understood schema upsert_client)
+unfolding understood everything
+upsert_client_plain = (refl, refl)
+
+abbrev pub find_client : List ℕ
+find_client = codes "SELECT office, number, name FROM clients WHERE office = ?1 AND number = ?2 ORDER BY office, number"
+
+pub find_client_is : command_of (understood schema find_client) ≡ Select (record { lets = []; body = scan 7 (eq (col 1 1) (col 0 0) ∷ eq (col 1 2) (col 0 1) ∷ []) (col 1 1 ∷ col 1 2 ∷ col 1 3 ∷ []) (by (col 1 1) ∷ by (col 1 2) ∷ []) }) (codes "office" ∷ codes "number" ∷ codes "name" ∷ [])
+unfolding understood everything
+find_client_is = refl
+
+pub find_client_plain : IsPlain (understood schema find_client)
+unfolding understood everything
+find_client_plain = (refl, refl)
+
+pub find_client_listed : reads_listing schema find_client ≡ false
+unfolding understood everything
+find_client_listed = refl
+
+pub made_is : created (created (created (created no_schema (record meta { tree = 0 })) (record offices { tree = 0 })) (record staff { tree = 0 })) (record clients { tree = 0 }) ≡ schema
+unfolding understood everything
+made_is = refl

@@ -1,0 +1,70 @@
+-- The rows of an institution: one list a table, each in the order of its key.
+use Rattle.std.specs.Prelude.{ℕ, ◌+◌, List, [], ◌∷◌, ◌++◌, map, option_map, Option}
+use Rattle.mf_base.specs.DayText.{day_text}
+use Rattle.mf_office.specs.Keys.{key_of}
+use Rattle.mf_office.specs.declared.staff.Role.{Role}
+use Rattle.mf_office.specs.declared.staff.Role.TheVariants.{Teller, Officer, Manager}
+use Rattle.mf_model.specs.Institution.{Institution, Office, Rows, Staff, office_at, numbered}
+use Rattle.mf_model.specs.Store.{rows_at}
+use Rattle.mf_model.specs.Tree.{parent_of}
+use Rattle.mf_store.specs.Rows.{MetaRow, OfficeRow, StaffRow, ClientRow, Lists}
+
+-- the number of the schema that these tables are
+abbrev pub schema_number : ℕ
+schema_number = 1
+
+-- roles are kept as numbers, from 1
+abbrev pub role_number : Role → ℕ
+role_number Teller = 1
+role_number Officer = 2
+role_number Manager = 3
+
+abbrev pub meta_on : ℕ → MetaRow
+meta_on day = record { one = 1; schema = schema_number; day = day_text day }
+
+-- an office's own row, with the hierarchy text that its parents give
+abbrev pub office_under : (ℕ → Option ℕ) → Office → OfficeRow
+office_under parents f = record { number = f.number; parent = f.parent; hkey = key_of parents f.number; name = f.name }
+
+-- the row of a member of staff: office, number
+abbrev pub staff_in : ℕ → ℕ → Staff → StaffRow
+staff_in office number s = record { office = office; number = number; name = s.name; role = role_number s.role }
+
+-- the row of a client: office, number
+abbrev pub client_in : ℕ → ℕ → List ℕ → ClientRow
+client_in office number name = record { office = office; number = number; name = name }
+
+-- rows numbered by their places, the first with this number
+abbrev pub numbered_from : {A R : Type 0} → (ℕ → A → R) → ℕ → List A → List R
+numbered_from make n [] = []
+numbered_from make n (x ∷ xs) = make n x ∷ numbered_from make (n + 1) xs
+
+-- the rows of one kind, office by office
+abbrev pub all_rows : {A R : Type 0} → (ℕ → ℕ → A → R) → (Rows → List A) → List Office → List R
+all_rows make of [] = []
+all_rows make of (f ∷ fs) = numbered_from (make f.number) 1 (of f.rows) ++ all_rows make of fs
+
+-- what the tables hold of an institution
+abbrev pub tables_of : Institution → Lists
+tables_of i = record {
+  meta = meta_on i.catalogue.day ∷ [];
+  offices = map (office_under (parent_of i.offices)) i.offices;
+  staff = all_rows staff_in (λ rows. rows.staff) i.offices;
+  clients = all_rows client_in (λ rows. rows.clients) i.offices;
+}
+
+-- the row of an office that is there
+abbrev pub office_row_at : ℕ → Institution → Option OfficeRow
+office_row_at x i = option_map (office_under (parent_of i.offices)) (office_at x i.offices)
+
+-- the row of a member of staff who is there
+abbrev pub staff_row_at : ℕ → ℕ → Institution → Option StaffRow
+staff_row_at x number i = option_map (staff_in x number) (numbered (rows_at x i).staff number)
+
+-- the row of a client who is there
+abbrev pub client_row_at : ℕ → ℕ → Institution → Option ClientRow
+client_row_at x number i = option_map (client_in x number) (numbered (rows_at x i).clients number)
+
+-- the hierarchy text of an office that is there
+abbrev pub key_at : ℕ → Institution → Option (List ℕ)
+key_at x i = option_map (λ (f : Office). key_of (parent_of i.offices) f.number) (office_at x i.offices)

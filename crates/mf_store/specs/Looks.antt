@@ -1,0 +1,21 @@
+-- What the queries look for, row by row.
+use Rattle.std.specs.Prelude.{ℕ, Bool, ◌&&◌, List}
+use Rattle.std.specs.Ordering.{nat_cmp, ordering_then, is_eq, is_lt, is_ge}
+use Rattle.std.specs.Cmp.Lexicographic.{slice_cmp}
+use Rattle.mf_store.specs.Rows.{MetaRow, OfficeRow, StaffRow, ClientRow}
+
+abbrev pub is_meta : ℕ → MetaRow → Bool
+is_meta one x = is_eq (nat_cmp one x.one)
+
+abbrev pub is_office : ℕ → OfficeRow → Bool
+is_office number x = is_eq (nat_cmp number x.number)
+
+abbrev pub is_staff : ℕ → ℕ → StaffRow → Bool
+is_staff office number x = is_eq (ordering_then (nat_cmp office x.office) (nat_cmp number x.number))
+
+abbrev pub is_client : ℕ → ℕ → ClientRow → Bool
+is_client office number x = is_eq (ordering_then (nat_cmp office x.office) (nat_cmp number x.number))
+
+-- texts are compared byte by byte
+abbrev pub is_in_range : List ℕ → List ℕ → OfficeRow → Bool
+is_in_range low high x = is_ge (slice_cmp nat_cmp x.hkey low) && is_lt (slice_cmp nat_cmp x.hkey high)

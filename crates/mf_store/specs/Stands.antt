@@ -1,0 +1,60 @@
+-- The institution that a store stands for.
+use Rattle.std.specs.Prelude.{◌≡◌, ◌⊎◌, ◌<◌, ℕ, List, [], ◌∷◌, length, None, Some, IsTrue}
+use Rattle.sqlite.specs.Tree.{Trees}
+use Rattle.sqlite.specs.State.{HasCleanDisk}
+use Rattle.sqlite.specs.Held.{Held, state}
+use Rattle.sqlite_trees.specs.declared.store.Store.{Ghosts}
+use Rattle.sqlite.specs.Order.{Row}
+use Rattle.sqlite.specs.Effect.{Database}
+use Rattle.mf_tables.specs.Queries.{Answers}
+use Rattle.mf_tables.specs.Writes.{Serves, AllFit, after_all}
+use Rattle.mf_model.specs.Institution.{Institution, newly_made}
+use Rattle.mf_model.specs.Sound.{IsSound}
+use Rattle.mf_store.specs.Tables.{schema}
+use Rattle.mf_store.specs.Flat.{tables_of}
+use Rattle.mf_store.specs.Writes.{schema_of, Holds, after, Fits}
+use Rattle.mf_store.specs.declared.writes.StoreWrite.{StoreWrite}
+
+-- the trees hold one of these institutions, whole
+abbrev pub HoldsOneOf : List Institution → Trees → Type 0
+HoldsOneOf [] trees = ⊥
+HoldsOneOf (i ∷ is) trees = Holds trees (Some (tables_of i)) ⊎ HoldsOneOf is trees
+
+module _ {S : Type 0} (g : Ghosts S) where
+  -- The tables hold the institution's rows and nothing else, and it is sound. Of a connection that a fault has shut nothing more is known.
+  pub record StandsFor (h : Held S) (i : Institution) : Type 0 where
+    pub sound : IsSound i
+    pub serves : IsTrue (state g h).is_open → Serves schema_of Holds (state g h).now (Some (tables_of i))
+
+  -- so far the disk has returned what was written
+  abbrev pub IsClean : Held S → Type 0
+  IsClean h = HasCleanDisk (state g h)
+
+  -- the tables are this program's, and a stop at this moment leaves one of these institutions, whole
+  pub record Leaves (h : Held S) (is : List Institution) : Type 0 where
+    pub ours : IsClean h → IsTrue (state g h).is_open → (state g h).now.schema ≡ schema
+    pub whole : IsClean h → (trees : Trees) → (state g h).may_leave trees → HoldsOneOf is trees
+
+  -- it stands for what it stood for, and a stop leaves nothing more than before
+  pub record Stays (old new : Held S) : Type 0 where
+    pub premise : IsClean new → IsClean old
+    pub same : IsClean new → (i : Institution) → StandsFor old i → StandsFor new i
+    pub stop : IsClean new → (is : List Institution) → Leaves old is → Leaves new is
+
+-- the rows are those that the text shows of the institution's tables
+pub record Shows (i : Institution) (sql : List ℕ) (params : Row) (rows : List Row) : Type 0 where
+  pub db : Database
+  pub serves : Serves schema_of Holds db (Some (tables_of i))
+  pub answers : Answers sql params db rows
+
+-- the writes make the one sound institution's rows of the other's
+pub record Becomes (writes : List StoreWrite) (i j : Institution) : Type 0 where
+  pub sound : IsSound j
+  pub fits : AllFit after Fits writes (Some (tables_of i))
+  pub is : after_all after writes (Some (tables_of i)) ≡ Some (tables_of j)
+
+-- the writes make a new institution on this day where there were no tables
+pub record Begins (writes : List StoreWrite) (day : ℕ) : Type 0 where
+  pub some : 0 < length writes
+  pub fits : AllFit after Fits writes None
+  pub is : after_all after writes None ≡ Some (tables_of (newly_made day))

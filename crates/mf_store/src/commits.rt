@@ -1,0 +1,113 @@
+//! Commits: each is one change of the institution, made whole or, with F20, not at all. A stop during the call leaves
+//! what it could before, or the change.
+
+ghost use Rattle.std.specs.Prelude.{◌≡◌, IfErr, IfOk};
+ghost use Rattle.mf_base.specs.declared.fault.Fault.TheVariants.{F20};
+ghost use Rattle.mf_model.specs.Institution.{Institution};
+ghost use Rattle.mf_model.specs.Store.{Commits};
+ghost use Rattle.mf_store.specs.Flat.{role_number};
+ghost use Rattle.mf_model.specs.Tree.{is_there};
+ghost use Rattle.mf_model.specs.declared.commit.Commit.TheVariants.{AddOffice, AddStaff, AddClient};
+
+use crate::counts::Kind;
+use crate::records::{ClientRecord, OfficeRecord, StaffRecord};
+use crate::store::Store;
+use crate::writes::StoreWrite;
+use mf_base::Fault;
+use mf_model::tree_of_offices;
+use mf_office::{Name, OfficeNo, Role};
+use sqlite::Alter;
+use std::alloc::Global;
+
+/// The number that stands for a role in the table staff.
+fn number_of(role: Role) -> u32
+    ensures { result ≡ role_number role }
+{
+    match role {
+        Role::Teller => 1,
+        Role::Officer => 2,
+        Role::Manager => 3,
+    }
+}
+
+impl<S: Alter> Store<S> {
+    ghost use Rattle.mf_store.specs.Stands.{StandsFor, IsClean, Leaves, Stays};
+
+    /// Whether an office is there.
+    pub(crate) fn has_office(&mut self, number: u32) -> Result<bool, Fault>
+        ensures kept { Stays S.Store self.old self.new }
+        ensures gives_up { IfErr result (λ fault. fault ≡ F20) }
+        ensures value { IsClean S.Store self.new → (i : Institution) → StandsFor S.Store self.old i → IfOk result (λ there. there ≡ is_there i.offices number) }
+    {
+        let found = self.find_office(number)?;
+        Ok(found.is_some())
+    }
+
+    /// Adds an office under a parent that is there. Its number is free; where it isn't, the call gives up.
+    pub fn add_office(
+        &mut self,
+        alloc: Global,
+        number: OfficeNo,
+        parent: OfficeNo,
+        name: Name,
+    ) -> Result<(), Fault>
+        ensures { Commits (StandsFor S.Store) (IsClean S.Store) (Leaves S.Store) (AddOffice number parent name) self.old self.new result }
+    {
+        tree_of_offices();
+        let number = number.get();
+        let parent = parent.get();
+        let taken = self.has_office(number)?;
+        if taken {
+            return Err(Fault::F20);
+        }
+        let Some(above) = self.find_office(parent)? else {
+            return Err(Fault::F20);
+        };
+        let above_key = above.hkey.as_str();
+        let hkey = format!(in alloc; "{above_key}{number}.")?;
+        let office = OfficeRecord {
+            number,
+            parent: Some(parent),
+            hkey,
+            name: name.into_string(),
+        };
+        self.make(&[StoreWrite::PutOffice(office)])
+    }
+
+    /// Adds a member of staff of an office that is there, under the next number.
+    pub fn add_staff(&mut self, office: OfficeNo, name: Name, role: Role) -> Result<(), Fault>
+        ensures { Commits (StandsFor S.Store) (IsClean S.Store) (Leaves S.Store) (AddStaff office name role) self.old self.new result }
+    {
+        let office = office.get();
+        let there = self.has_office(office)?;
+        if !there {
+            return Err(Fault::F20);
+        }
+        let last = self.last_number(Kind::Staff, office)?;
+        let staff = StaffRecord {
+            office,
+            number: last + 1,
+            name: name.into_string(),
+            role: number_of(role),
+        };
+        self.make(&[StoreWrite::PutStaff(staff)])
+    }
+
+    /// Adds a client of an office that is there, under the next number.
+    pub fn add_client(&mut self, office: OfficeNo, name: Name) -> Result<(), Fault>
+        ensures { Commits (StandsFor S.Store) (IsClean S.Store) (Leaves S.Store) (AddClient office name) self.old self.new result }
+    {
+        let office = office.get();
+        let there = self.has_office(office)?;
+        if !there {
+            return Err(Fault::F20);
+        }
+        let last = self.last_number(Kind::Clients, office)?;
+        let client = ClientRecord {
+            office,
+            number: last + 1,
+            name: name.into_string(),
+        };
+        self.make(&[StoreWrite::PutClient(client)])
+    }
+}

@@ -1,0 +1,87 @@
+//! The last number of an office's staff or clients. Numbers run from 1 without gaps, so look-ups by key find it: the
+//! cost is a logarithm of the office's own rows.
+
+ghost use Rattle.std.specs.Prelude.{◌≡◌, ◌<◌, ◌≤◌, ◌↔◌, IsTrue, IfOk, IfErr};
+ghost use Rattle.mf_base.specs.declared.fault.Fault.TheVariants.{F20};
+ghost use Rattle.mf_model.specs.Institution.{Institution};
+ghost use Rattle.mf_store.specs.Counts.{count_of};
+
+use crate::store::Store;
+use mf_base::Fault;
+use sqlite::Alter;
+
+/// What an office numbers from 1.
+#[derive(Clone, Copy, PartialEq, Eq, Debug)]
+pub enum Kind {
+    Staff,
+    Clients,
+}
+
+/// No office has more of a kind.
+const MOST: u32 = 999_999;
+
+impl<S: Alter> Store<S> {
+    ghost use Rattle.mf_store.specs.Stands.{StandsFor, IsClean, Stays};
+
+    /// Whether the office has this number of the kind.
+    fn has(&mut self, kind: Kind, office: u32, number: u32) -> Result<bool, Fault>
+        ensures kept { Stays S.Store self.old self.new }
+        ensures gives_up { IfErr result (λ fault. fault ≡ F20) }
+        ensures value { IsClean S.Store self.new → (i : Institution) → StandsFor S.Store self.old i → IfOk result (λ there. IsTrue there ↔ ((1 ≤ number) × (number ≤ count_of kind office i))) }
+    {
+        match kind {
+            Kind::Staff => Ok(self.find_staff(office, number)?.is_some()),
+            Kind::Clients => Ok(self.find_client(office, number)?.is_some()),
+        }
+    }
+
+    /// A number above the last, at most twice it.
+    fn above_last(&mut self, kind: Kind, office: u32) -> Result<u32, Fault>
+        ensures kept { Stays S.Store self.old self.new }
+        ensures gives_up { IfErr result (λ fault. fault ≡ F20) }
+        ensures bound { IfOk result (λ high. (0 < high) × (high ≤ 2_000_000)) }
+        ensures value { IsClean S.Store self.new → (i : Institution) → StandsFor S.Store self.old i → IfOk result (λ high. count_of kind office i < high) }
+    {
+        let mut high = 1u32;
+        while high <= MOST {
+            if !self.has(kind, office, high)? {
+                return Ok(high);
+            }
+            high *= 2;
+        }
+        Ok(high)
+    }
+
+    /// The last number, which lies below `bound`.
+    fn last_below(&mut self, kind: Kind, office: u32, bound: u32) -> Result<u32, Fault>
+        requires { 0 < bound }
+        ensures kept { Stays S.Store self.old self.new }
+        ensures gives_up { IfErr result (λ fault. fault ≡ F20) }
+        ensures below { IfOk result (λ last. last < bound) }
+        ensures value { IsClean S.Store self.new → (i : Institution) → StandsFor S.Store self.old i → count_of kind office i < bound → IfOk result (λ last. last ≡ count_of kind office i) }
+    {
+        let mut low = 0u32;
+        let mut high = bound;
+        while high - low > 1 {
+            let middle = low + (high - low) / 2;
+            let there = self.has(kind, office, middle)?;
+            if there {
+                low = middle;
+            } else {
+                high = middle;
+            }
+        }
+        Ok(low)
+    }
+
+    /// How many of the kind the office has.
+    pub(crate) fn last_number(&mut self, kind: Kind, office: u32) -> Result<u32, Fault>
+        ensures kept { Stays S.Store self.old self.new }
+        ensures gives_up { IfErr result (λ fault. fault ≡ F20) }
+        ensures bound { IfOk result (λ last. last < 2_000_000) }
+        ensures value { IsClean S.Store self.new → (i : Institution) → StandsFor S.Store self.old i → IfOk result (λ last. last ≡ count_of kind office i) }
+    {
+        let bound = self.above_last(kind, office)?;
+        self.last_below(kind, office, bound)
+    }
+}

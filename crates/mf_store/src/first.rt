@@ -1,0 +1,62 @@
+//! A new institution.
+
+ghost use Rattle.std.specs.Prelude.{◌≡◌, ◌≤◌, false, IfOk, IfErr, IsTrue, None, [], ◌∷◌};
+ghost use Rattle.mf_base.specs.declared.fault.Fault.TheVariants.{F20};
+ghost use Rattle.mf_base.specs.DayText.{last_entered_day};
+ghost use Rattle.sqlite.specs.Held.{state};
+ghost use Rattle.sqlite.specs.Steps.{over_memory};
+ghost use Rattle.mf_tables.specs.Writes.{Serves};
+ghost use Rattle.mf_model.specs.Institution.{newly_made};
+ghost use Rattle.mf_store.specs.Writes.{schema_of, Holds};
+ghost use Rattle.mf_store.specs.Stands.{StandsFor, IsClean, Leaves, Begins};
+
+use crate::records::{MetaRecord, OfficeRecord, StaffRecord};
+use crate::store::Store;
+use crate::writes::StoreWrite;
+use mf_base::{Day, Fault};
+use sqlite::{Connection, MemStore};
+use std::alloc::Global;
+
+/// The tables, the business day, the head office and its manager.
+pub fn first_writes(alloc: Global, day: Day) -> Result<Vec<StoreWrite>, Fault>
+    ensures writes { IfOk result (λ writes. Begins writes.items day) }
+    ensures gives_up { IfErr result (λ fault. fault ≡ F20) }
+{
+    let meta = MetaRecord {
+        one: 1,
+        schema: 1,
+        day: day.text(alloc)?,
+    };
+    let head = OfficeRecord {
+        number: 1,
+        parent: None,
+        hkey: String::from_str(alloc, ".")?,
+        name: String::from_str(alloc, "Head Office")?,
+    };
+    let manager = StaffRecord {
+        office: 1,
+        number: 1,
+        name: String::from_str(alloc, "Head Manager")?,
+        role: 3,
+    };
+    let mut writes = Vec::new(alloc);
+    writes.push(StoreWrite::MakeTables)?;
+    writes.push(StoreWrite::PutMeta(meta))?;
+    writes.push(StoreWrite::PutOffice(head))?;
+    writes.push(StoreWrite::PutStaff(manager))?;
+    Ok(writes)
+}
+
+impl Store<MemStore> {
+    /// A new institution in memory, on this business day: office 1 `Head Office`, its manager 1/1 `Head Manager`, and
+    /// nothing else. The day is at most 2099-12-31.
+    pub fn in_memory(alloc: Global, day: Day) -> Result<Store<MemStore>, Fault>
+        requires { day ≤ last_entered_day }
+        ensures stands { IfOk result (λ store. StandsFor over_memory store (newly_made day)) }
+        ensures leaves { IfOk result (λ store. Leaves over_memory store (newly_made day ∷ [])) }
+        ensures gives_up { IfErr result (λ fault. fault ≡ F20) }
+    {
+        let connection = Connection::open_in_memory(alloc)?;
+        Store::found(alloc, connection, day)
+    }
+}

@@ -1,0 +1,16 @@
+//! The institution in tables, over any store that `sqlite` can change.
+//!
+//! Contracts speak of an institution: which one a store stands for, what a call answers of it, and what a commit or a
+//! stop leaves. Every want of memory and every fault of the store is F20.
+#![tactic(auto)]
+
+mod commits;
+mod counts;
+mod first;
+mod institution;
+mod reads;
+mod records;
+mod store;
+mod writes;
+
+pub use store::Store;
