@@ -1,0 +1,12 @@
+//! Request lines and their replies: the bytes that come in, and the bytes that go out.
+#![tactic(auto)]
+
+mod line_buffer;
+mod lines;
+mod refusals;
+mod streams;
+mod writing;
+
+pub use lines::{LineDesk, run_lines};
+pub use refusals::fault_text;
+pub use streams::{ReadFault, Sink, Source, WatchedReader, WatchedWriter, WriteFault};
