@@ -1,6 +1,10 @@
+pub mod Bodies
 pub mod Cut
+pub mod PathParts
 pub mod Reading
 pub mod Replies
+pub mod RequestLine
+pub mod Routes
 pub mod Run
 pub mod Told
 pub mod Watched

@@ -1,9 +1,13 @@
 //! Request lines and their replies: the bytes that come in, and the bytes that go out.
 #![tactic(auto)]
 
+mod body;
 mod line_buffer;
 mod lines;
+mod paths;
 mod refusals;
+mod request_line;
+mod routes;
 mod streams;
 mod writing;
 
