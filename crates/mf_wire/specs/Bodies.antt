@@ -1,10 +1,16 @@
 -- What a body says, as JSON.
-use Rattle.std.specs.Prelude.{ℕ, ◌==◌, Bool, ◌&&◌, not, cond, List, length, nat_le, Option, None, option_and_then}
+use Rattle.std.specs.Prelude.{◌≡◌, ◌⊎◌, ℕ, Bool, ◌&&◌, cond, List, length, nat_le, codes, Option, Some, None, option_and_then, Result, MatchResult}
 use Rattle.std.specs.List.{list_all}
-use Rattle.std.specs.Str.{is_utf8, chars}
+use Rattle.std.specs.Str.{is_utf8, chars, bytes_eq}
 use Rattle.serde_json.specs.Data.{Data}
 use Rattle.serde_json.specs.Read.{read}
 use Rattle.serde_json.specs.Find.{get, as_number, as_u64, as_str}
+use Rattle.mf_base.specs.declared.fault.Fault.{Fault}
+use Rattle.mf_base.specs.declared.fault.Fault.TheVariants.{F1, F20}
+use Rattle.mf_office.specs.Numbers.{number_up_to}
+use Rattle.mf_office.specs.declared.role.Role.{Role}
+use Rattle.mf_office.specs.declared.role.Role.TheVariants.{Teller, Officer, Manager}
+use Rattle.mf_model.specs.Sound.{is_plain}
 
 -- the JSON whose text the bytes are
 abbrev pub json_of : List ℕ → Option Data
@@ -18,10 +24,28 @@ whole_at name d = option_and_then as_u64 (option_and_then as_number (get name d)
 abbrev pub text_at : List ℕ → Data → Option (List ℕ)
 text_at name d = option_and_then as_str (get name d)
 
--- a character that a name may have
-abbrev pub is_name_character : ℕ → Bool
-is_name_character c = nat_le 32 c && not (c == 127)
-
 -- a name has 1 to 100 characters, and no control character of ASCII among them
 abbrev pub is_name : List ℕ → Bool
-is_name text = nat_le 1 (length (chars text)) && nat_le (length (chars text)) 100 && list_all is_name_character (chars text)
+is_name text = nat_le 1 (length (chars text)) && nat_le (length (chars text)) 100 && list_all is_plain (chars text)
+
+-- a member that is a name
+abbrev pub name_at : List ℕ → Data → Option (List ℕ)
+name_at member d = option_and_then (λ text. cond (is_name text) (Some text) None) (text_at member d)
+
+-- a member that is an office's number
+abbrev pub office_at : List ℕ → Data → Option ℕ
+office_at member d = option_and_then (number_up_to 9999) (whole_at member d)
+
+abbrev pub role_named : List ℕ → Option Role
+role_named text =
+    cond (bytes_eq text (codes "teller")) (Some Teller)
+    (cond (bytes_eq text (codes "officer")) (Some Officer)
+    (cond (bytes_eq text (codes "manager")) (Some Manager) None))
+
+-- a member that names a role
+abbrev pub role_at : List ℕ → Data → Option Role
+role_at member d = option_and_then role_named (text_at member d)
+
+-- a call that reads gives what is there, or F1 where nothing is, or gives up with F20
+abbrev pub Gives : {A : Type 0} → Option A → Result A Fault → Type 0
+Gives there result = MatchResult result (λ r. there ≡ Some r) (λ f. (f ≡ F20) ⊎ ((f ≡ F1) × (there ≡ None)))

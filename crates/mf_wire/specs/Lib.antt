@@ -4,6 +4,7 @@ pub mod PathParts
 pub mod Reading
 pub mod Replies
 pub mod RequestLine
+pub mod Requests
 pub mod Routes
 pub mod Run
 pub mod Told

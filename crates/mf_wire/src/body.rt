@@ -1,11 +1,14 @@
 // A request's body, as JSON.
 ghost use Rattle.std.specs.Prelude.{◌≡◌, Some, None, option_map, option_and_then, IfOk, IfErr, ◌⊎◌, length};
 ghost use Rattle.serde_json.specs.View.{view};
-ghost use Rattle.mf_wire.specs.Bodies.{json_of, whole_at, text_at, is_name as name_test, is_name_character as character_test};
+ghost use Rattle.mf_wire.specs.Bodies.{json_of, whole_at, text_at, is_name as name_test, name_at, office_at, role_named, role_at, Gives};
 ghost use Rattle.std.specs.Str.{chars};
 ghost use Rattle.std.specs.List.{list_all};
+ghost use Rattle.mf_model.specs.Sound.{is_plain, IsName};
 
 use mf_base::Fault;
+use mf_model::Name;
+use mf_office::{OfficeNo, Role};
 use serde_json::Value;
 use std::alloc::Global;
 
@@ -41,13 +44,13 @@ pub fn text<'b>(body: &'b Value, name: &str) -> Option<&'b str>
 }
 
 fn is_name_character(character: char) -> bool
-    ensures { result ≡ character_test character }
+    ensures { result ≡ is_plain character }
 {
     character >= ' ' && character != '\u{7f}'
 }
 
 fn are_name_characters(text: &str) -> bool
-    ensures { result ≡ list_all character_test (chars text.now) }
+    ensures { result ≡ list_all is_plain (chars text.now) }
 {
     text.chars().all(|c| is_name_character(c))
 }
@@ -64,4 +67,54 @@ pub fn is_name(text: &str) -> bool
 {
     let count = count_characters(text);
     1 <= count && count <= 100 && are_name_characters(text)
+}
+
+/// A member that is a name.
+pub fn name(alloc: Global, body: &Value, member: &str) -> Result<Name, Fault>
+    ensures value { Gives (name_at member.now (view body.now)) result }
+    ensures in_range { IfOk result IsName }
+{
+    let Some(name) = text(body, member) else {
+        return Err(Fault::F1);
+    };
+    if !is_name(name) {
+        return Err(Fault::F1);
+    }
+    match String::from_str(alloc, name) {
+        Ok(name) => Ok(Name::new(name)),
+        Err(_) => Err(Fault::F20),
+    }
+}
+
+/// A member that is an office's number.
+pub fn office(body: &Value, member: &str) -> Option<OfficeNo>
+    ensures { result ≡ office_at member.now (view body.now) }
+{
+    let number = whole(body, member)?;
+    if number <= 9999 {
+        OfficeNo::new(number as u32)
+    } else {
+        None
+    }
+}
+
+fn role_of_text(text: &str) -> Option<Role>
+    ensures { result ≡ role_named text.now }
+{
+    if text == "teller" {
+        Some(Role::Teller)
+    } else if text == "officer" {
+        Some(Role::Officer)
+    } else if text == "manager" {
+        Some(Role::Manager)
+    } else {
+        None
+    }
+}
+
+/// A member that names a role.
+pub fn role(body: &Value, member: &str) -> Option<Role>
+    ensures { result ≡ role_at member.now (view body.now) }
+{
+    role_of_text(text(body, member)?)
 }

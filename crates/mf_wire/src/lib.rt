@@ -6,6 +6,7 @@ mod line_buffer;
 mod lines;
 mod paths;
 mod refusals;
+mod request;
 mod request_line;
 mod routes;
 mod streams;
