@@ -4,4 +4,5 @@ pub mod Pieces
 pub mod Runs
 pub mod Serving
 pub mod Status
+pub mod Whole
 pub mod Writes

@@ -8,8 +8,8 @@ use Rattle.serde_json.specs.Find.{get, as_number, as_u64, as_str}
 use Rattle.mf_base.specs.declared.fault.Fault.{Fault}
 use Rattle.mf_base.specs.declared.fault.Fault.TheVariants.{F1, F20}
 use Rattle.mf_office.specs.Numbers.{number_up_to}
-use Rattle.mf_office.specs.declared.role.Role.{Role}
-use Rattle.mf_office.specs.declared.role.Role.TheVariants.{Teller, Officer, Manager}
+use Rattle.mf_office.specs.declared.staff.Role.{Role}
+use Rattle.mf_office.specs.declared.staff.Role.TheVariants.{Teller, Officer, Manager}
 use Rattle.mf_model.specs.Sound.{is_plain}
 
 -- the JSON whose text the bytes are

@@ -7,5 +7,6 @@ pub mod RequestLine
 pub mod Requests
 pub mod Routes
 pub mod Run
+pub mod Shown
 pub mod Told
 pub mod Watched

@@ -7,8 +7,7 @@ ghost use Rattle.std.specs.List.{list_all};
 ghost use Rattle.mf_model.specs.Sound.{is_plain, IsName};
 
 use mf_base::Fault;
-use mf_model::Name;
-use mf_office::{OfficeNo, Role};
+use mf_office::{Name, OfficeNo, Role};
 use serde_json::Value;
 use std::alloc::Global;
 

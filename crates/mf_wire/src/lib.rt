@@ -9,6 +9,7 @@ mod refusals;
 mod request;
 mod request_line;
 mod routes;
+mod showing;
 mod streams;
 mod writing;
 

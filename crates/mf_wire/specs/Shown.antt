@@ -1,0 +1,48 @@
+-- How replies are shown.
+use Rattle.std.specs.Prelude.{ℕ, List, map, codes, Option, Some, None, Result, Ok, Err}
+use Rattle.serde_json.specs.Data.{Data, null, number, unsigned, string, object, array, member, no_members}
+use Rattle.serde_json.specs.View.{items_of}
+use Rattle.serde_json.specs.Written.{compact_text}
+use Rattle.mf_base.specs.declared.fault.Fault.{Fault}
+use Rattle.mf_office.specs.Written.{caller_text, account_text}
+use Rattle.mf_office.specs.declared.office.Office.{Office}
+use Rattle.mf_model.specs.declared.reply.Reply.{Reply}
+use Rattle.mf_model.specs.declared.reply.Reply.TheVariants.{OfficeMade, Offices, StaffMade, ClientMade, ClientShown}
+use Rattle.mf_wire.specs.Replies.{reply_line, fault_line}
+
+abbrev pub whole : ℕ → Data
+whole n = number (unsigned n)
+
+-- a number, or null where there is none
+abbrev pub whole_or_null : Option ℕ → Data
+whole_or_null None = null
+whole_or_null (Some n) = whole n
+
+-- an office as GET /offices lists it
+abbrev pub office_data : Office → Data
+office_data line = object (member (codes "name") (string line.name) (member (codes "number") (whole line.number) (member (codes "parent") (whole_or_null line.parent) no_members)))
+
+-- the body of a success, as JSON
+abbrev pub reply_data : Reply → Data
+reply_data (OfficeMade office) = object (member (codes "office") (whole office) no_members)
+reply_data (Offices lines) = object (member (codes "offices") (array (items_of (map office_data lines))) no_members)
+reply_data (StaffMade staff) = object (member (codes "staff") (string (caller_text staff.office staff.staff)) no_members)
+reply_data (ClientMade client) = object (member (codes "client") (string (account_text client.office client.number)) no_members)
+reply_data (ClientShown client name) = object (member (codes "client") (string (account_text client.office client.number)) (member (codes "name") (string name) no_members))
+
+-- 201 where something was made, 200 where something is shown
+abbrev pub reply_status : Reply → ℕ
+reply_status (OfficeMade office) = 201
+reply_status (Offices lines) = 200
+reply_status (StaffMade staff) = 201
+reply_status (ClientMade client) = 201
+reply_status (ClientShown client name) = 200
+
+-- the body of a success: compact JSON
+abbrev pub reply_body : Reply → List ℕ
+reply_body reply = compact_text (reply_data reply)
+
+-- the line of a reply
+abbrev pub shown_line : Result Reply Fault → List ℕ
+shown_line (Ok reply) = reply_line (reply_status reply) (reply_body reply)
+shown_line (Err fault) = fault_line fault
