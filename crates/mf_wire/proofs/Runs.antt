@@ -1,8 +1,9 @@
 -- Runs one after another.
-use Rattle.std.proofs.Common.{◌≡◌, ℕ, ◌+◌, ◌<◌, inl, inr, List, [], ◌∷◌, ◌++◌, length, false, nat_le, refl, sym, ap, ◌∙◌, subst, arith, append_assoc, append-nil, length-append, Option}
+use Rattle.std.proofs.Common.{◌≡◌, ℕ, ◌+◌, ◌<◌, inl, inr, List, [], ◌∷◌, ◌++◌, length, false, nat_le, refl, sym, ap, ◌∙◌, subst, arith, append_assoc, append-nil, length-append, take, Option}
 use Rattle.std.specs.Io.KnownBytes.{Appends}
 use Rattle.std.proofs.KnownBytes.{Appends-trans, Appends-nil}
 use Rattle.mf_wire.specs.Cut.{request}
+use Rattle.std.specs.List.{concat}
 use Rattle.std.proofs.lemmas.List.Folds.{concat-append}
 use Rattle.mf_wire.specs.Run.{LineStep, Run, Answered, Half, Broken}
 use Rattle.mf_wire.proofs.Pieces.{Alike}
@@ -13,11 +14,11 @@ Run-append step old mid new [] (t ∷ ts) ms us p q = absurd p
 Run-append step old mid new (l ∷ ls) [] ms us p q = absurd p
 Run-append step old mid new (l ∷ ls) (t ∷ ts) ms us p q = (p.0, p.1, Run-append step p.0 mid new ls ts ms us p.2 q)
 
-pub Answered-nil : {S : Type 0} (step : S → List ℕ → List ℕ → S → Type 0) (old : S) (before : Option (List ℕ)) → Answered step old old [] before before 0
+pub Answered-nil : {S : Type 0} (step : S → List ℕ → List ℕ → S → Type 0) (old : S) (before : Option (List ℕ)) → Answered (Run step) old old [] before before 0
 Answered-nil step old before = record { texts = []; ran = refl; written = Appends-nil before; counted = refl }
 
 pub Answered-append : {S : Type 0} (step : S → List ℕ → List ℕ → S → Type 0) (a b c : S) (ls ms : List (List ℕ)) (before between after : Option (List ℕ)) (n m : ℕ)
-    → Answered step a b ls before between n → Answered step b c ms between after m → Answered step a c (ls ++ ms) before after (n + m)
+    → Answered (Run step) a b ls before between n → Answered (Run step) b c ms between after m → Answered (Run step) a c (ls ++ ms) before after (n + m)
 Answered-append step a b c ls ms before between after n m p q = record {
   texts = p.texts ++ q.texts;
   ran = Run-append step a b c ls p.texts ms q.texts p.ran q.ran;
@@ -26,37 +27,19 @@ Answered-append step a b c ls ms before between after n m p q = record {
 }
 
 pub Broken-append : {S : Type 0} (step : S → List ℕ → List ℕ → S → Type 0) (a b c : S) (ls ms : List (List ℕ)) (before between after : Option (List ℕ)) (n m : ℕ)
-    → Answered step a b ls before between n → Broken step b c ms between after m → Broken step a c (ls ++ ms) before after (n + m)
+    → Answered (Run step) a b ls before between n → Broken (Run step) b c ms between after m → Broken (Run step) a c (ls ++ ms) before after (n + m)
 Broken-append step a b c ls ms before between after n m p q = record {
   done = ls ++ q.done;
   line = q.line;
   rest = q.rest;
   among = ap (λ l. ls ++ l) q.among ∙ sym (append_assoc ls q.done (q.line ∷ q.rest));
-  mid = q.mid;
-  between = q.between;
-  whole = Answered-append step a b q.mid ls q.done before between q.between n m p q.whole;
+  texts = p.texts ++ q.texts;
   text = q.text;
-  stepped = q.stepped;
+  ran = rw (append_assoc ls q.done (q.line ∷ []), append_assoc p.texts q.texts (q.text ∷ [])) (Run-append step a b c ls p.texts (q.done ++ q.line ∷ []) (q.texts ++ q.text ∷ []) p.ran q.ran);
   part = q.part;
   short = q.short;
-  begun = q.begun;
-}
-
-pub Broken-more : {S : Type 0} (step : S → List ℕ → List ℕ → S → Type 0) (a c : S) (ms more : List (List ℕ)) (before after : Option (List ℕ)) (m : ℕ)
-    → Broken step a c ms before after m → Broken step a c (ms ++ more) before after m
-Broken-more step a c ms more before after m q = record {
-  done = q.done;
-  line = q.line;
-  rest = q.rest ++ more;
-  among = ap (λ l. l ++ more) q.among ∙ append_assoc q.done (q.line ∷ q.rest) more;
-  mid = q.mid;
-  between = q.between;
-  whole = q.whole;
-  text = q.text;
-  stepped = q.stepped;
-  part = q.part;
-  short = q.short;
-  begun = q.begun;
+  written = rw (concat-append p.texts q.texts, append_assoc (concat p.texts) (concat q.texts) (take q.part q.text)) (Appends-trans before between after (concat p.texts) (concat q.texts ++ take q.part q.text) p.written q.written);
+  counted = omega (arith, p.counted, q.counted, length-append p.texts q.texts);
 }
 
 pub request_some : (line : List ℕ) → 0 < length line → request line ≡ line ∷ []
@@ -64,7 +47,7 @@ request_some [] h = absurd (omega arith)
 request_some (b ∷ bs) h = refl
 
 pub Answered-one : {S : Type 0} (step : S → List ℕ → List ℕ → S → Type 0) (old new : S) (line text : List ℕ) (before after : Option (List ℕ)) → 0 < length line
-    → LineStep step old line text new → Appends before after text → Answered step old new (request line) before after 1
+    → LineStep step old line text new → Appends before after text → Answered (Run step) old new (request line) before after 1
 Answered-one step old new line text before after some s w = rw (request_some line some) (record {
   texts = text ∷ [];
   ran = (new, s, refl);
@@ -106,7 +89,7 @@ requests-alike step old new line other texts a r = elim a [
 ]
 
 pub Answered-alike : {S : Type 0} (step : S → List ℕ → List ℕ → S → Type 0) (old new : S) (line other : List ℕ) (before after : Option (List ℕ)) (n : ℕ) → Alike line other
-    → Answered step old new (request line) before after n → Answered step old new (request other) before after n
+    → Answered (Run step) old new (request line) before after n → Answered (Run step) old new (request other) before after n
 Answered-alike step old new line other before after n a p = record {
   texts = p.texts;
   ran = requests-alike step old new line other p.texts a p.ran;
@@ -116,18 +99,17 @@ Answered-alike step old new line other before after n a p = record {
 
 -- some lines answered, the next one by half, and others not run
 pub Broken-half : {S : Type 0} (step : S → List ℕ → List ℕ → S → Type 0) (a b c : S) (ls rest all : List (List ℕ)) (line : List ℕ) (before between after : Option (List ℕ)) (n : ℕ)
-    → Answered step a b ls before between n → Half step b c line between after → all ≡ (ls ++ request line) ++ rest → Broken step a c all before after n
+    → Answered (Run step) a b ls before between n → Half step b c line between after → all ≡ (ls ++ request line) ++ rest → Broken (Run step) a c all before after n
 Broken-half step a b c ls rest all line before between after n p h e = record {
   done = ls;
   line = line;
   rest = rest;
   among = e ∙ append_assoc ls (request line) rest ∙ ap (λ r. ls ++ (r ++ rest)) h.asks;
-  mid = b;
-  between = between;
-  whole = p;
+  texts = p.texts;
   text = h.text;
-  stepped = h.stepped;
+  ran = Run-append step a b c ls p.texts (line ∷ []) (h.text ∷ []) p.ran (c, h.stepped, refl);
   part = h.part;
   short = h.short;
-  begun = h.begun;
+  written = Appends-trans before between after (concat p.texts) (take h.part h.text) p.written h.begun;
+  counted = p.counted;
 }

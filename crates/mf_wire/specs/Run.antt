@@ -17,11 +17,25 @@ Run {S = S} step old (line ∷ lines) (text ∷ texts) new = (mid : S) × LineSt
 Run step old [] (text ∷ texts) new = ⊥
 Run step old (line ∷ lines) [] new = ⊥
 
--- these lines were answered, and each reply was written whole
-pub record Answered {S : Type 0} (step : S → List ℕ → List ℕ → S → Type 0) (old new : S) (lines : List (List ℕ)) (before after : Option (List ℕ)) (count : ℕ) : Type 0 where
+-- these lines were answered in a run, and each reply was written whole
+pub record Answered {S : Type 0} (run : S → List (List ℕ) → List (List ℕ) → S → Type 0) (old new : S) (lines : List (List ℕ)) (before after : Option (List ℕ)) (count : ℕ) : Type 0 where
   pub texts : List (List ℕ)
-  pub ran : Run step old lines texts new
+  pub ran : run old lines texts new
   pub written : Appends before after (concat texts)
+  pub counted : count ≡ length texts
+
+-- a beginning of these lines was answered in a run, and of the last reply only a beginning was written
+pub record Broken {S : Type 0} (run : S → List (List ℕ) → List (List ℕ) → S → Type 0) (old new : S) (lines : List (List ℕ)) (before after : Option (List ℕ)) (count : ℕ) : Type 0 where
+  pub done : List (List ℕ)
+  pub line : List ℕ
+  pub rest : List (List ℕ)
+  pub among : lines ≡ done ++ line ∷ rest
+  pub texts : List (List ℕ)
+  pub text : List ℕ
+  pub ran : run old (done ++ line ∷ []) (texts ++ text ∷ []) new
+  pub part : ℕ
+  pub short : part < length text
+  pub written : Appends before after (concat texts ++ take part text)
   pub counted : count ≡ length texts
 
 -- a request line was answered, and of its reply only a beginning was written
@@ -32,18 +46,3 @@ pub record Half {S : Type 0} (step : S → List ℕ → List ℕ → S → Type 
   pub part : ℕ
   pub short : part < length text
   pub begun : Appends before after (take part text)
-
--- a beginning of these lines was answered, and of the last reply only a beginning was written
-pub record Broken {S : Type 0} (step : S → List ℕ → List ℕ → S → Type 0) (old new : S) (lines : List (List ℕ)) (before after : Option (List ℕ)) (count : ℕ) : Type 0 where
-  pub done : List (List ℕ)
-  pub line : List ℕ
-  pub rest : List (List ℕ)
-  pub among : lines ≡ done ++ line ∷ rest
-  pub mid : S
-  pub between : Option (List ℕ)
-  pub whole : Answered step old mid done before between count
-  pub text : List ℕ
-  pub stepped : LineStep step mid line text new
-  pub part : ℕ
-  pub short : part < length text
-  pub begun : Appends between after (take part text)

@@ -4,7 +4,7 @@ ghost use Rattle.mf_base.specs.declared.fault.Cause.TheVariants as cause;
 ghost use Rattle.mf_wire.specs.Cut.{without_return as line_without_return, request};
 ghost use Rattle.mf_wire.specs.Reading.{ended_from, begun_from};
 ghost use Rattle.mf_wire.specs.Replies.{line_of};
-ghost use Rattle.mf_wire.specs.Run.{LineStep, Answered, Half, Broken};
+ghost use Rattle.mf_wire.specs.Run.{LineStep, Run, Answered, Half, Broken};
 ghost use Rattle.mf_wire.specs.Told.{Whole, Stopped, Severed};
 
 use crate::line_buffer::LineBuffer;
@@ -55,7 +55,7 @@ fn answer_line<S, D: LineDesk<S>, W: Sink>(
     sink: &mut W,
     line: &[u8],
 ) -> Result<u64, WriteFault>
-    ensures ok { IfOk result (λ n. (n ≤ 1) × Answered (D.may_answer desk.now) state.old state.new (request line.now)
+    ensures ok { IfOk result (λ n. (n ≤ 1) × Answered (Run (D.may_answer desk.now)) state.old state.new (request line.now)
         (W.written sink.old) (W.written sink.new) n) }
     ensures err { IfErr result (λ _. Half (D.may_answer desk.now) state.old state.new line.now
         (W.written sink.old) (W.written sink.new)) }
@@ -94,10 +94,10 @@ fn feed<S, D: LineDesk<S>, W: Sink>(
     requires { length piece.now < 2 ^ 60 }
     ensures ok { IfOk result (λ n. (begun : List ℕ) → held.old ≡ take 65538 begun
         → (n ≤ length piece.now) × (held.new ≡ take 65538 (begun_from begun piece.now))
-        × Answered (D.may_answer desk.now) state.old state.new (ended_from begun piece.now) (W.written sink.old) (W.written sink.new) n) }
+        × Answered (Run (D.may_answer desk.now)) state.old state.new (ended_from begun piece.now) (W.written sink.old) (W.written sink.new) n) }
     ensures err { IfErr result (λ n. (begun : List ℕ) → held.old ≡ take 65538 begun
         → (n ≤ length piece.now)
-        × Broken (D.may_answer desk.now) state.old state.new (ended_from begun piece.now) (W.written sink.old) (W.written sink.new) n) }
+        × Broken (Run (D.may_answer desk.now)) state.old state.new (ended_from begun piece.now) (W.written sink.old) (W.written sink.new) n) }
     ensures sound { OnOk result (W.has_failed sink.new ≡ W.has_failed sink.old) }
     ensures fault { IfErr result (λ _. W.has_failed sink.new ≡ true) }
 {
@@ -135,16 +135,16 @@ pub fn run_lines<S, D: LineDesk<S>, R: Source, W: Sink>(
     source: &mut R,
     sink: &mut W,
 ) -> Result<u64, StreamFault>
-    ensures ok { IfOk result (Whole (D.may_answer desk.now) state.old state.new (R.unread source.old) (R.unread source.new)
+    ensures ok { IfOk result (Whole (Run (D.may_answer desk.now)) state.old state.new (R.unread source.old) (R.unread source.new)
         (W.written sink.old) (W.written sink.new)) }
     ensures ok_source { OnOk result (R.has_failed source.new ≡ R.has_failed source.old) }
     ensures ok_sink { OnOk result (W.has_failed sink.new ≡ W.has_failed sink.old) }
 
-    ensures read { IfErr result (λ f. f.cause ≡ cause.Read → Stopped (D.may_answer desk.now) state.old state.new (R.unread source.old) (R.unread source.new)
+    ensures read { IfErr result (λ f. f.cause ≡ cause.Read → Stopped (Run (D.may_answer desk.now)) state.old state.new (R.unread source.old) (R.unread source.new)
         (W.written sink.old) (W.written sink.new) f.answered (R.has_failed source.new)) }
     ensures read_sink { IfErr result (λ f. f.cause ≡ cause.Read → W.has_failed sink.new ≡ W.has_failed sink.old) }
 
-    ensures write { IfErr result (λ f. f.cause ≡ cause.Write → Severed (D.may_answer desk.now) state.old state.new (R.unread source.old) (R.unread source.new)
+    ensures write { IfErr result (λ f. f.cause ≡ cause.Write → Severed (Run (D.may_answer desk.now)) state.old state.new (R.unread source.old) (R.unread source.new)
         (W.written sink.old) (W.written sink.new) f.answered) }
     ensures write_sink { IfErr result (λ f. f.cause ≡ cause.Write → W.has_failed sink.new ≡ true) }
     ensures write_source { IfErr result (λ f. f.cause ≡ cause.Write → R.has_failed source.new ≡ R.has_failed source.old) }
@@ -185,16 +185,16 @@ fn serve_lines<S, D: LineDesk<S>, R: Source, W: Sink>(
 ) -> Result<u64, StreamFault>
     requires empty { held.old ≡ [] }
     requires room { length room.old ≡ 65536 }
-    ensures ok { IfOk result (Whole (D.may_answer desk.now) state.old state.new (R.unread source.old) (R.unread source.new)
+    ensures ok { IfOk result (Whole (Run (D.may_answer desk.now)) state.old state.new (R.unread source.old) (R.unread source.new)
         (W.written sink.old) (W.written sink.new)) }
     ensures ok_source { OnOk result (R.has_failed source.new ≡ R.has_failed source.old) }
     ensures ok_sink { OnOk result (W.has_failed sink.new ≡ W.has_failed sink.old) }
 
-    ensures read { IfErr result (λ f. f.cause ≡ cause.Read → Stopped (D.may_answer desk.now) state.old state.new (R.unread source.old) (R.unread source.new)
+    ensures read { IfErr result (λ f. f.cause ≡ cause.Read → Stopped (Run (D.may_answer desk.now)) state.old state.new (R.unread source.old) (R.unread source.new)
         (W.written sink.old) (W.written sink.new) f.answered (R.has_failed source.new)) }
     ensures read_sink { IfErr result (λ f. f.cause ≡ cause.Read → W.has_failed sink.new ≡ W.has_failed sink.old) }
 
-    ensures write { IfErr result (λ f. f.cause ≡ cause.Write → Severed (D.may_answer desk.now) state.old state.new (R.unread source.old) (R.unread source.new)
+    ensures write { IfErr result (λ f. f.cause ≡ cause.Write → Severed (Run (D.may_answer desk.now)) state.old state.new (R.unread source.old) (R.unread source.new)
         (W.written sink.old) (W.written sink.new) f.answered) }
     ensures write_sink { IfErr result (λ f. f.cause ≡ cause.Write → W.has_failed sink.new ≡ true) }
     ensures write_source { IfErr result (λ f. f.cause ≡ cause.Write → R.has_failed source.new ≡ R.has_failed source.old) }

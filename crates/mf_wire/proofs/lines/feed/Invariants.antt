@@ -1,6 +1,6 @@
 use Rattle.std.proofs.Common.{◌≡◌, ℕ, ◌≤◌, List, take}
 use Rattle.mf_wire.specs.Reading.{ended_from, begun_from}
-use Rattle.mf_wire.specs.Run.{Answered}
+use Rattle.mf_wire.specs.Run.{Run, Answered}
 use Rattle.mf_wire.proofs.lines.feed.Given as goal
 
 abbrev pub invariant-loop-byte : goal.invariant-loop-byte
@@ -9,5 +9,5 @@ invariant-loop-byte g l = record {
   sink_sound : g.W.Sink.has_failed l.sink ≡ g.W.Sink.has_failed l.initial.sink;
   told : (begun : List ℕ) → l.initial.held ≡ take 65538 begun →
       (l.held ≡ take 65538 (begun_from begun (take l.byte-index l.piece)))
-      × Answered (g.D.LineDesk.may_answer l.desk) l.initial.state l.state (ended_from begun (take l.byte-index l.piece)) (g.W.Sink.written l.initial.sink) (g.W.Sink.written l.sink) l.answered;
+      × Answered (Run (g.D.LineDesk.may_answer l.desk)) l.initial.state l.state (ended_from begun (take l.byte-index l.piece)) (g.W.Sink.written l.initial.sink) (g.W.Sink.written l.sink) l.answered;
 }
