@@ -5,7 +5,7 @@ use Rattle.mf_wire.specs.Cut.{request, without_return}
 use Rattle.mf_wire.specs.Reading.{ended_from, begun_from}
 use Rattle.mf_wire.specs.Run.{Run, Answered, Half, Broken}
 use Rattle.mf_wire.proofs.Pieces.{take_push, ended_alike, ended_at_end, begun_at_end, ended_within, begun_within, ended_rest}
-use Rattle.mf_wire.proofs.Runs.{Answered-append, Answered-alike, Half-alike, Broken-half}
+use Rattle.mf_wire.proofs.RunLemmas.{Answered-append, Answered-alike, Half-alike, Broken-half}
 
 -- after these bytes, the buffer has the line that has begun, and the lines that ended are answered
 abbrev pub Fed : {S : Type 0} → (S → List ℕ → List ℕ → S → Type 0) → S → S → List ℕ → List ℕ → List ℕ → Option (List ℕ) → Option (List ℕ) → ℕ → Type 0

@@ -1,7 +1,9 @@
+pub mod Calling
 pub mod Asking
 pub mod Feeding
 pub mod Pieces
-pub mod Runs
+pub mod Ran
+pub mod RunLemmas
 pub mod Serving
 pub mod Status
 pub mod Whole

@@ -7,7 +7,7 @@ use Rattle.mf_wire.specs.Reading.{ended_from, begun_from}
 use Rattle.mf_wire.specs.Run.{Run, Answered, Half, Broken}
 use Rattle.mf_wire.specs.Told.{Whole, Stopped, Severed}
 use Rattle.mf_wire.proofs.Pieces.{held_alike, ended_lines-append, begun_line-append}
-use Rattle.mf_wire.proofs.Runs.{Answered-nil, Answered-append, Answered-alike, Half-alike, Broken-append, Broken-half}
+use Rattle.mf_wire.proofs.RunLemmas.{Answered-nil, Answered-append, Answered-alike, Half-alike, Broken-append, Broken-half}
 
 -- so far, this many bytes were read, the buffer has the line that has begun, and the lines that ended are answered
 pub record Going {S : Type 0} (step : S → List ℕ → List ℕ → S → Type 0) (old now : S) (unread left : Option (List ℕ)) (held : List ℕ) (before after : Option (List ℕ)) (n size : ℕ) : Type 0 where

@@ -7,6 +7,7 @@ pub mod RequestLine
 pub mod Requests
 pub mod Routes
 pub mod Run
+pub mod Runs
 pub mod Shown
 pub mod Told
 pub mod Watched

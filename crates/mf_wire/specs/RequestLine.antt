@@ -18,12 +18,19 @@ parts_now p = record { caller = p.caller.now; method = p.method.now; path = p.pa
 abbrev pub split_space : List ℕ → Option (List ℕ × List ℕ)
 split_space text = option_map (λ at. (take at text, drop (at + 1) text)) (position (λ b. b == 32) text)
 
+-- the path and the body; the path may be all
+abbrev pub path_and_body : List ℕ → List ℕ × List ℕ
+path_and_body text = unwrap_or (split_space text) (text, [])
+
+abbrev pub after_caller : List ℕ × List ℕ → List ℕ × List ℕ → Parts
+after_caller first second = record { caller = first.0; method = second.0; path = (path_and_body second.1).0; body = (path_and_body second.1).1 }
+
+abbrev pub parts_after : Option (List ℕ × List ℕ) → Option Parts
+parts_after first = option_and_then (λ f. option_map (after_caller f) (split_space f.1)) first
+
 -- The caller, the method and the path, with a space after each of the first two. After a further space comes the body.
 abbrev pub parts_of : List ℕ → Option Parts
-parts_of line =
-    option_and_then
-    (λ first. option_map (λ second. let last = unwrap_or (split_space second.1) (second.1, []) in record { caller = first.0; method = second.0; path = last.0; body = last.1 }) (split_space first.1))
-    (split_space line)
+parts_of line = parts_after (split_space line)
 
 abbrev pub is_token_byte : ℕ → Bool
 is_token_byte b = is_ascii_alphanumeric b || list_any (λ mark. mark == b) (codes "!#$%&'*+-.^_`|~")

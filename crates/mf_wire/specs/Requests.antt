@@ -82,8 +82,8 @@ abbrev pub asked_by : List ℕ → List ℕ → List ℕ → List ℕ → Reques
 asked_by caller method path body = cond (is_some (caller_of caller) && is_token method) (asked method path body) (Malformed F1)
 
 -- a call in its four parts
-abbrev pub call_of_parts : List ℕ → List ℕ → List ℕ → List ℕ → Call
-call_of_parts caller method path body = record { caller = caller_of caller; request = asked_by caller method path body }
+abbrev pub call_of_parts : Parts → Call
+call_of_parts p = record { caller = caller_of p.caller; request = asked_by p.caller p.method p.path p.body }
 
 abbrev pub asked_in : Option Parts → Request
 asked_in None = Malformed F1

@@ -1,5 +1,5 @@
 -- How replies are shown.
-use Rattle.std.specs.Prelude.{ℕ, List, map, codes, Option, Some, None, Result, Ok, Err}
+use Rattle.std.specs.Prelude.{◌≡◌, ℕ, String, string_bytes, List, map, codes, Option, Some, None, Result, Ok, Err}
 use Rattle.serde_json.specs.Data.{Data, null, number, unsigned, string, object, array, member, no_members}
 use Rattle.serde_json.specs.View.{items_of}
 use Rattle.serde_json.specs.Written.{compact_text}
@@ -46,3 +46,10 @@ reply_body reply = compact_text (reply_data reply)
 abbrev pub shown_line : Result Reply Fault → List ℕ
 shown_line (Ok reply) = reply_line (reply_status reply) (reply_body reply)
 shown_line (Err fault) = fault_line fault
+
+-- the status and the body of a reply, apart
+abbrev pub IsText : {Z : Type 0} → Result (ℕ × String Z) Fault → Result Reply Fault → Type 0
+IsText (Ok text) (Ok reply) = (text.0 ≡ reply_status reply) × (string_bytes text.1 ≡ reply_body reply)
+IsText (Err fault) (Err refusal) = fault ≡ refusal
+IsText (Ok text) (Err refusal) = ⊥
+IsText (Err fault) (Ok reply) = ⊥

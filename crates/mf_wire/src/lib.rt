@@ -1,6 +1,7 @@
 //! Request lines and their replies: the bytes that come in, and the bytes that go out.
 #![tactic(auto)]
 
+mod answering;
 mod body;
 mod line_buffer;
 mod lines;
@@ -9,10 +10,12 @@ mod refusals;
 mod request;
 mod request_line;
 mod routes;
+mod running;
 mod showing;
 mod streams;
 mod writing;
 
-pub use lines::{LineDesk, run_lines};
+pub use answering::answer_text;
 pub use refusals::fault_text;
+pub use running::run;
 pub use streams::{ReadFault, Sink, Source, WatchedReader, WatchedWriter, WriteFault};

@@ -1,5 +1,5 @@
 use Rattle.std.proofs.Common.{◌≡◌, ◌==◌, ◌<◌, ℕ, false, arith}
-use Rattle.mf_wire.proofs.Runs.{Answered-one, request_some}
+use Rattle.mf_wire.proofs.RunLemmas.{Answered-one, request_some}
 use Rattle.mf_wire.proofs.lines.answer_line.Goals as goal
 
 above : (n : ℕ) → false ≡ (n == 0) → 0 < n

@@ -1,0 +1,126 @@
+-- A run line by line is a run on the institution, and what each office is told of it is isolated.
+use Rattle.std.proofs.Common.{◌≡◌, inl, inr, ℕ, nat_le, Bool, true, false, cond, List, [], ◌∷◌, length, map, Option, refl, sym, ap, ◌∙◌, subst}
+use Rattle.std.specs.Prelude.{MatchBool}
+use Rattle.mf_base.specs.declared.fault.Fault.TheVariants.{F1}
+use Rattle.mf_model.specs.declared.request.Call.{Call}
+use Rattle.mf_model.specs.Institution.{Institution}
+use Rattle.mf_model.specs.Tree.{IsTree}
+use Rattle.mf_model.specs.Sound.{IsSound}
+use Rattle.mf_model.specs.Desk.{outcome, change_in}
+use Rattle.mf_model.specs.Run.{Line, answer, next, answers, last, told, ViewIsPlay, RepliesArePlay, OwnRepliesArePlay, from_office, from_caller}
+use Rattle.mf_model.specs.Store.{left_by}
+use Rattle.mf_wire.specs.Replies.{fault_line}
+use Rattle.mf_wire.specs.Requests.{call_of}
+use Rattle.mf_wire.specs.Shown.{shown_line}
+use Rattle.mf_wire.specs.Run.{LineStep, Run, Answered, Broken}
+use Rattle.mf_wire.specs.Told.{Whole, Stopped, Severed}
+use Rattle.mf_wire.specs.Runs.{left_after, texts_of, Isolated, Calls, RunsLines}
+use Rattle.mf_wire.proofs.Calling.{told_malformed, too_long}
+
+-- what is told of texts is what is told of replies, as texts
+told-map : {A B : Type 0} (f : A → B) (meant : Call → Bool) (ls : List Line) (rs : List A) → told meant ls (map f rs) ≡ map f (told meant ls rs)
+told-map f meant [] rs = refl
+told-map f meant (l ∷ ls) [] = refl
+told-map f meant (l ∷ ls) (r ∷ rs) =
+    elim (meant l.call) as (λ b. cond b (f r ∷ told meant ls (map f rs)) (told meant ls (map f rs)) ≡ map f (cond b (r ∷ told meant ls rs) (told meant ls rs))) [
+      | true ↦ ap (λ ts. f r ∷ ts) (told-map f meant ls rs)
+      | false ↦ told-map f meant ls rs
+    ]
+
+isolated : (i : Institution) (ls : List Line) → ViewIsPlay i ls → RepliesArePlay i ls → OwnRepliesArePlay i ls → Isolated i ls
+isolated i ls views replies own = record {
+  views = views;
+  texts = λ o. told-map shown_line (from_office o) ls (answers ls i) ∙ ap (map shown_line) (replies o);
+  own_texts = λ c. told-map shown_line (from_caller c) ls (answers ls i) ∙ ap (map shown_line) (own c);
+}
+
+-- the law of isolation, as it is handed on
+pub record IsolationLaw : Type 0 where
+  pub views : (i : Institution) (ls : List Line) → IsTree i.offices → ViewIsPlay i ls
+  pub replies : (i : Institution) (ls : List Line) → IsTree i.offices → RepliesArePlay i ls
+  pub own_replies : (i : Institution) (ls : List Line) → IsTree i.offices → OwnRepliesArePlay i ls
+
+module _ {S : Type 0} (stands : S → Institution → Type 0) (clean : S → Type 0) (leaves : S → List Institution → Type 0) where
+  -- a line was answered, also one that is too long
+  step_calls : (old new : S) (line text : List ℕ) → LineStep (λ o l t n. Calls stands clean leaves (λ r. t ≡ shown_line r) (call_of l) o n) old line text new → Calls stands clean leaves (λ r. text ≡ shown_line r) (call_of line) old new
+  step_calls old new line text h = at (nat_le (length line) 65536) refl h
+    where
+      at : (b : Bool) → nat_le (length line) 65536 ≡ b → MatchBool b (Calls stands clean leaves (λ r. text ≡ shown_line r) (call_of line) old new) ((text ≡ fault_line F1) × (new ≡ old)) → Calls stands clean leaves (λ r. text ≡ shown_line r) (call_of line) old new
+      at true e h = h
+      at false e h = subst (λ n. Calls stands clean leaves (λ r. text ≡ shown_line r) (call_of line) old n) (sym h.1) (told_malformed stands clean leaves (λ r. text ≡ shown_line r) (call_of line) old F1 (too_long line e) h.0)
+
+  -- the lines so far, without what is isolated
+  pub record RanOn (i : Institution) (lines : List (List ℕ)) (old : S) (texts : List (List ℕ)) (new : S) : Type 0 where
+    pub run : List Line
+    pub calls : map (λ l. l.call) run ≡ map call_of lines
+    pub replied : texts ≡ texts_of run i
+    pub follows : stands new (last run i)
+    pub stop : (is : List Institution) → leaves old is → leaves new (left_after run i is)
+
+  pub record Ran (old : S) (lines : List (List ℕ)) (texts : List (List ℕ)) (new : S) : Type 0 where
+    pub premise : clean new → clean old
+    pub ran : clean new → (i : Institution) → stands old i → RanOn i lines old texts new
+
+  ran_more : (old mid new : S) (line text : List ℕ) (lines texts : List (List ℕ)) → Calls stands clean leaves (λ r. text ≡ shown_line r) (call_of line) old mid → Ran mid lines texts new → Ran old (line ∷ lines) (text ∷ texts) new
+  ran_more old mid new line text lines texts one rest = record {
+    premise = λ c. one.premise (rest.premise c);
+    ran = λ c i s.
+        let w = one.answered (rest.premise c) i s in
+        let l : Line = record { call = call_of line; given_up = w.0 } in
+        let r = rest.ran c (next l i) w.1.follows in record {
+          run = l ∷ r.run;
+          calls = ap (λ cs. call_of line ∷ cs) r.calls;
+          replied = ap (λ t. t ∷ texts) w.1.replied ∙ ap (λ ts. shown_line (answer l i) ∷ ts) r.replied;
+          follows = r.follows;
+          stop = λ is h. r.stop (left_by (change_in (outcome (call_of line) i)) w.0 i is) (w.1.stop is h);
+        };
+  }
+
+  all_ran : (old new : S) (lines texts : List (List ℕ)) → Run (λ o l t n. Calls stands clean leaves (λ r. t ≡ shown_line r) (call_of l) o n) old lines texts new → Ran old lines texts new
+  all_ran old new [] [] h = subst (λ n. Ran old [] [] n) (sym h) (record { premise = λ c. c; ran = λ c i s. record { run = []; calls = refl; replied = refl; follows = s; stop = λ is l. l } })
+  all_ran old new [] (text ∷ texts) h = absurd h
+  all_ran old new (line ∷ lines) [] h = absurd h
+  all_ran old new (line ∷ lines) (text ∷ texts) h = ran_more old h.0 new line text lines texts (step_calls old h.0 line text h.1) (all_ran h.0 new lines texts h.2)
+
+  pub runs_lines : ((s : S) (i : Institution) → stands s i → IsSound i) → IsolationLaw → (old : S) (lines texts : List (List ℕ)) (new : S) → Run (λ o l t n. Calls stands clean leaves (λ r. t ≡ shown_line r) (call_of l) o n) old lines texts new → RunsLines stands clean leaves old lines texts new
+  runs_lines sound law old lines texts new h =
+      let r = all_ran old new lines texts h in record {
+        premise = r.premise;
+        ran = λ c i s. let w = r.ran c i s in let tree = (sound old i s).tree in record {
+          run = w.run;
+          calls = w.calls;
+          replied = w.replied;
+          follows = w.follows;
+          isolated = isolated i w.run (law.views i w.run tree) (law.replies i w.run tree) (law.own_replies i w.run tree);
+          stop = w.stop;
+        };
+      }
+
+-- what is told of one relation of runs is told of a weaker one
+module _ {S : Type 0} (P Q : S → List (List ℕ) → List (List ℕ) → S → Type 0) (weaker : (old : S) (lines texts : List (List ℕ)) (new : S) → P old lines texts new → Q old lines texts new) where
+  answered : (old new : S) (lines : List (List ℕ)) (before after : Option (List ℕ)) (n : ℕ) → Answered P old new lines before after n → Answered Q old new lines before after n
+  answered old new lines before after n a = record { texts = a.texts; ran = weaker old lines a.texts new a.ran; written = a.written; counted = a.counted }
+
+  broken : (old new : S) (lines : List (List ℕ)) (before after : Option (List ℕ)) (n : ℕ) → Broken P old new lines before after n → Broken Q old new lines before after n
+  broken old new lines before after n b = record {
+    done = b.done;
+    line = b.line;
+    rest = b.rest;
+    among = b.among;
+    texts = b.texts;
+    text = b.text;
+    ran = weaker old _ _ new b.ran;
+    part = b.part;
+    short = b.short;
+    written = b.written;
+    counted = b.counted;
+  }
+
+  pub whole : (old new : S) (unread left before after : Option (List ℕ)) (n : ℕ) → Whole P old new unread left before after n → Whole Q old new unread left before after n
+  whole old new unread left before after n w = (w.0, w.1, w.2, answered old new _ before after n w.3)
+
+  pub stopped : (old new : S) (unread left before after : Option (List ℕ)) (n : ℕ) (failed : Bool) → Stopped P old new unread left before after n failed → Stopped Q old new unread left before after n failed
+  stopped old new unread left before after n failed w = (w.0, w.1, answered old new _ before after n w.2, w.3)
+
+  pub severed : (old new : S) (unread left before after : Option (List ℕ)) (n : ℕ) → Severed P old new unread left before after n → Severed Q old new unread left before after n
+  severed old new unread left before after n w = (w.0, w.1, elim w.2 [ inl b ↦ inl (broken old new _ before after n b) | inr b ↦ inr (b.0, broken old new _ before after n b.1) ])

@@ -1,0 +1,131 @@
+// Requests answered over a store, from their texts to the texts of their replies.
+ghost use Rattle.std.specs.Prelude.{◌≡◌, ◌≢◌, Ok, IfOk, IfErr, string_bytes};
+ghost use Rattle.std.specs.Fn.{FnOnceReturnsAt};
+ghost use Rattle.mf_desk.specs.Answers.{Answers};
+ghost use Rattle.mf_wire.specs.RequestLine.{parts_now};
+ghost use Rattle.mf_wire.specs.Replies.{reply_line, line_of, replyable as replyable_of};
+ghost use Rattle.mf_wire.specs.Shown.{reply_status, reply_body, shown_line, IsText};
+ghost use Rattle.mf_wire.specs.Requests.{call_of_parts, call_of};
+ghost use Rattle.mf_wire.specs.Runs.{Calls};
+
+use crate::lines::LineDesk;
+use crate::request::read_request;
+use crate::request_line::{LineParts, is_token, line_parts};
+use crate::routes::Routes;
+use crate::showing::{body_text, line_text, status};
+use mf_base::Fault;
+use mf_desk::answer;
+use mf_model::{InstitutionStore, Reply};
+use mf_office::Caller;
+use std::alloc::Global;
+
+/// F19 tells of a file that is opened. No request is refused with it, so a store that told it gave up.
+fn replyable<T: Drop>(answered: Result<T, Fault>) -> Result<T, Fault>
+    ensures value { result ≡ replyable_of answered }
+    ensures refusal { IfErr result (λ f. f ≢ Fault.F19) }
+{
+    match answered {
+        Err(Fault::F19) => Err(Fault::F20),
+        answered => answered,
+    }
+}
+
+/// Answers a request in its parts. The caller and the method are looked at first, then the route and the rest.
+fn answer_parts<S: InstitutionStore, T: Drop, F: FnOnce(&Reply) -> Result<T, Fault> + Drop>(
+    alloc: Global,
+    routes: &Routes,
+    store: &mut S,
+    parts: LineParts<'_>,
+    show: F,
+) -> Result<T, Fault>
+    requires { F.IsAlwaysCallable show }
+    ensures { Answers S.stands S.clean S.leaves (FnOnceReturnsAt F.FnOnce show)
+        (call_of_parts (parts_now parts.entry)) store.old store.new result }
+{
+    let Some(caller) = Caller::parse(parts.caller) else {
+        return Err(Fault::F1);
+    };
+    if !is_token(parts.method) {
+        return Err(Fault::F1);
+    }
+    match read_request(alloc, routes, parts.method, parts.path, parts.body) {
+        Ok(request) => answer(alloc, store, caller, request, show),
+        Err(fault) => Err(fault),
+    }
+}
+
+/// The line of the reply to a request in its parts.
+fn answer_line_parts<S: InstitutionStore>(
+    alloc: Global,
+    routes: &Routes,
+    store: &mut S,
+    parts: LineParts<'_>,
+) -> Result<String, Fault>
+    ensures calls { Calls S.stands S.clean S.leaves (λ r. line_of result ≡ shown_line r) (call_of_parts (parts_now parts.entry)) store.old store.new }
+    ensures refusal { IfErr result (λ f. f ≢ Fault.F19) }
+{
+    replyable(answer_parts(
+        alloc,
+        routes,
+        store,
+        parts,
+        |reply: &Reply| -> Result<String, Fault>
+            ensures ok { IfOk result (λ s. string_bytes s ≡ reply_line (reply_status reply.now) (reply_body reply.now)) }
+            ensures err { IfErr result (λ f. f ≡ Fault.F20) }
+        { line_text(alloc, reply) },
+    ))
+}
+
+fn status_and_body(alloc: Global, reply: &Reply) -> Result<(u16, String), Fault>
+    ensures ok { IfOk result (λ t. (t.0 ≡ reply_status reply.now) × (string_bytes t.1 ≡ reply_body reply.now)) }
+    ensures err { IfErr result (λ f. f ≡ Fault.F20) }
+{
+    let body = body_text(alloc, reply)?;
+    Ok((status(reply), body))
+}
+
+/// The status and the body of the reply to a request, by the texts of its caller, method, path and body. At `Err`
+/// the refusal, whose text is that of `fault_text`, and nothing is changed.
+pub fn answer_text<S: InstitutionStore>(
+    alloc: Global,
+    store: &mut S,
+    caller: &[u8],
+    method: &[u8],
+    path: &[u8],
+    body: &[u8],
+) -> Result<(u16, String), Fault>
+    ensures calls { Calls S.stands S.clean S.leaves (IsText result)
+        (call_of_parts (record { caller = caller.now; method = method.now; path = path.now; body = body.now })) store.old store.new }
+    ensures refusal { IfErr result (λ f. f ≢ Fault.F19) }
+{
+    let Ok(routes) = Routes::new(alloc) else {
+        return Err(Fault::F20);
+    };
+    let parts = LineParts {
+        caller,
+        method,
+        path,
+        body,
+    };
+    replyable(answer_parts(
+        alloc,
+        &routes,
+        store,
+        parts,
+        |reply: &Reply| -> Result<(u16, String), Fault>
+            ensures ok { IfOk result (λ t. (t.0 ≡ reply_status reply.now) × (string_bytes t.1 ≡ reply_body reply.now)) }
+            ensures err { IfErr result (λ f. f ≡ Fault.F20) }
+        { status_and_body(alloc, reply) },
+    ))
+}
+
+impl<S: InstitutionStore> LineDesk<S> for Routes {
+    ghost may_answer = { λ _ old line text new. Calls S.stands S.clean S.leaves (λ r. text ≡ shown_line r) (call_of line) old new };
+
+    fn answer(&self, alloc: Global, state: &mut S, line: &[u8]) -> Result<String, Fault> {
+        let Some(parts) = line_parts(line) else {
+            return Err(Fault::F1);
+        };
+        answer_line_parts(alloc, self, state, parts)
+    }
+}

@@ -1,0 +1,57 @@
+// A run of request lines over a store.
+ghost use Rattle.std.specs.Prelude.{◌≡◌, ◌≢◌, ℕ, List, true, IfOk, IfErr, OnOk};
+ghost use Rattle.mf_base.specs.declared.fault.Cause.TheVariants as cause;
+ghost use Rattle.mf_wire.specs.Told.{Whole, Stopped, Severed};
+ghost use Rattle.mf_wire.specs.Runs.{RunsLines};
+
+use crate::lines::run_lines;
+use crate::routes::Routes;
+use crate::streams::{Sink, Source};
+use mf_base::{Cause, StreamFault};
+use mf_model::{InstitutionStore, isolation};
+use std::alloc::Global;
+
+/// Answers each request line of a stream over a store, and writes the reply of each before the next is answered. It
+/// gives how many replies were written.
+///
+/// A line is `caller method path`, with one space between them, then nothing or a space and a JSON body; it ends at a
+/// line feed, with or without a carriage return before it, or at the end of the stream. Empty lines are passed over,
+/// and one of over 65,536 bytes is refused as malformed. Each other line gets exactly one reply: a status, a space, a
+/// body and a line feed.
+///
+/// What is read of a line is kept in a buffer that is made first: where it can't be, `Memory` is told, and nothing is
+/// read, answered or written. After `Read` the unfinished line is not run. After `Write` the line whose reply was being
+/// written is the last that was run. `Read` and `Write` are told only where the reader or the writer failed, and `Read`
+/// also where 2^60 bytes came without an end.
+pub fn run<S: InstitutionStore, R: Source, W: Sink>(
+    alloc: Global,
+    store: &mut S,
+    source: &mut R,
+    sink: &mut W,
+) -> Result<u64, StreamFault>
+    ensures ok { IfOk result (Whole (RunsLines S.stands S.clean S.leaves) store.old store.new
+        (R.unread source.old) (R.unread source.new) (W.written sink.old) (W.written sink.new)) }
+    ensures ok_source { OnOk result (R.has_failed source.new ≡ R.has_failed source.old) }
+    ensures ok_sink { OnOk result (W.has_failed sink.new ≡ W.has_failed sink.old) }
+
+    ensures read { IfErr result (λ f. f.cause ≡ cause.Read → Stopped (RunsLines S.stands S.clean S.leaves) store.old store.new
+        (R.unread source.old) (R.unread source.new) (W.written sink.old) (W.written sink.new) f.answered (R.has_failed source.new)) }
+    ensures read_sink { IfErr result (λ f. f.cause ≡ cause.Read → W.has_failed sink.new ≡ W.has_failed sink.old) }
+
+    ensures write { IfErr result (λ f. f.cause ≡ cause.Write → Severed (RunsLines S.stands S.clean S.leaves) store.old store.new
+        (R.unread source.old) (R.unread source.new) (W.written sink.old) (W.written sink.new) f.answered) }
+    ensures write_sink { IfErr result (λ f. f.cause ≡ cause.Write → W.has_failed sink.new ≡ true) }
+    ensures write_source { IfErr result (λ f. f.cause ≡ cause.Write → R.has_failed source.new ≡ R.has_failed source.old) }
+
+    ensures memory { IfErr result (λ f. f.cause ≡ cause.Memory
+        → (f.answered ≡ 0) × (store.new ≡ store.old) × (source.new ≡ source.old) × (sink.new ≡ sink.old)) }
+{
+    isolation();
+    let Ok(routes) = Routes::new(alloc) else {
+        return Err(StreamFault {
+            answered: 0,
+            cause: Cause::Memory,
+        });
+    };
+    run_lines(alloc, &routes, store, source, sink)
+}
