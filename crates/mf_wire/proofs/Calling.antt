@@ -1,6 +1,6 @@
 -- From the desk's answer to the text of a reply.
 use Rattle.std.proofs.Common.{◌≡◌, ◌⊎◌, inl, inr, ℕ, ◌≤◌, nat_le, Bool, true, false, cond, List, Option, Some, None, Result, Ok, Err, refl, sym, ap, ◌∙◌, subst, arith}
-use Rattle.std.specs.Prelude.{option_map, option_and_then, length, ◌∷◌}
+use Rattle.std.specs.Prelude.{◌&&◌, is_some, option_map, option_and_then, length, ◌∷◌}
 use Rattle.mf_base.specs.declared.fault.Fault.{Fault}
 use Rattle.mf_base.specs.declared.fault.Fault.TheVariants.{F1, F19, F20}
 use Rattle.mf_model.specs.declared.request.Call.{Call}
@@ -10,12 +10,12 @@ use Rattle.mf_model.specs.declared.reply.Reply.{Reply}
 use Rattle.mf_model.specs.Institution.{Institution, Change, after, after_maybe}
 use Rattle.mf_model.specs.Desk.{Outcome, outcome, reply, reply_in, change_in}
 use Rattle.mf_model.specs.Store.{left_by}
-use Rattle.mf_desk.specs.Answers.{Answers}
+use Rattle.mf_desk.specs.Answers.{Tells, Changes, call_of as call_by}
 use Rattle.mf_office.specs.Texts.{caller_of}
 use Rattle.mf_office.specs.declared.caller.Caller.{Caller}
-use Rattle.mf_wire.specs.RequestLine.{Parts, after_caller, parts_after, parts_of, split_space}
+use Rattle.mf_wire.specs.RequestLine.{Parts, after_caller, parts_after, parts_of, split_space, is_token}
 use Rattle.mf_wire.specs.Replies.{replyable}
-use Rattle.mf_wire.specs.Requests.{asked_in, call_of_parts, call_of}
+use Rattle.mf_wire.specs.Requests.{asked, asked_in, call_of_parts, call_of}
 use Rattle.mf_wire.specs.Runs.{AnswersLine, Calls}
 
 refused_keeps : (o : Outcome) (f : Fault) → reply_in o ≡ Err f → change_in o ≡ None
@@ -30,15 +30,15 @@ module _ {S : Type 0} (stands : S → Institution → Type 0) (clean : S → Typ
   -- The answer of the desk, told of a line. What shows a reply refuses it for want of memory alone.
   pub told_of_answer : {T : Type 0} (shows : Reply → Result T Fault → Type 0) (told : Result Reply Fault → Type 0) (call : Call) (old new : S) (result : Result T Fault)
       → ((t : T) (r : Reply) → result ≡ Ok t → shows r (Ok t) → told (Ok r)) → ((f : Fault) → replyable result ≡ Err f → told (Err f)) → ((r : Reply) (f : Fault) → shows r (Err f) → f ≡ F20)
-      → Answers stands clean leaves shows call old new result → Calls stands clean leaves told call old new
-  told_of_answer {T = T} shows told call old new (Ok t) ok err f20 a = record {
+      → Tells stands clean leaves shows (reply call) old new result → Changes stands clean leaves {T = T} call old new result → Calls stands clean leaves told call old new
+  told_of_answer {T = T} shows told call old new (Ok t) ok err f20 s a = record {
     premise = a.premise;
-    answered = λ c i h. let w = a.shown c i h in
-        (false, record { replied = subst told (sym w.1) (ok t w.0 refl w.2); follows = a.changed c i h; stop = λ is l. a.stop c i is h l });
+    answered = λ c i h. let w = s.shown c i h in
+        (false, record { replied = subst told (sym w.1) (ok t w.0 refl w.2); follows = a.made c i h; stop = λ is l. a.stop c i is h l });
   }
-  told_of_answer {T = T} shows told call old new (Err f) ok err f20 a = record {
+  told_of_answer {T = T} shows told call old new (Err f) ok err f20 s a = record {
     premise = a.premise;
-    answered = λ c i h. elim (a.refused c i h) [
+    answered = λ c i h. elim (s.refused c i h) [
       | inl e ↦ given c i h (ap (λ (x : Fault). replyable {T = T} (Err x)) e)
       | inr w ↦ elim w [
         | inl e ↦ refused c i h e
@@ -116,3 +116,14 @@ no_parts line fits e = ap (λ b. cond b (asked_in (parts_of line)) (Malformed F1
 
 pub too_long : (line : List ℕ) → nat_le (length line) 65536 ≡ false → (call_of line).request ≡ Malformed F1
 too_long line e = ap (λ b. cond b (asked_in (parts_of line)) (Malformed F1)) e
+
+pub sent_parts : (p : Parts) (caller : Caller) (request : Request) → Some caller ≡ caller_of p.caller → is_token p.method ≡ true → asked p.method p.path p.body ≡ request → call_by caller request ≡ call_of_parts p
+sent_parts p caller request c t r =
+    ap (λ (x : Option Caller). record { caller = x; request = request }) c
+    ∙ ap (λ (x : Request). record { caller = caller_of p.caller; request = x }) (sym (
+    ap (λ (o : Option Caller). cond (is_some o && is_token p.method) (asked p.method p.path p.body) (Malformed F1)) (sym c)
+    ∙ ap (λ (b : Bool). cond b (asked p.method p.path p.body) (Malformed F1)) t ∙ r
+    ))
+
+pub told_as : {S : Type 0} (stands : S → Institution → Type 0) (clean : S → Type 0) (leaves : S → List Institution → Type 0) {T : Type 0} (shows : Reply → Result T Fault → Type 0) (a b : Call) (old new : S) (result : Result T Fault) → a ≡ b → Tells stands clean leaves shows (reply a) old new result → Tells stands clean leaves shows (reply b) old new result
+told_as stands clean leaves shows a b old new result e t = subst (λ (call : Call). Tells stands clean leaves shows (reply call) old new result) e t

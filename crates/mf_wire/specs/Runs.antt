@@ -1,5 +1,5 @@
 -- Runs of request lines over a store, in the words of the institution that it stands for.
-use Rattle.std.specs.Prelude.{◌≡◌, ℕ, Bool, List, [], ◌∷◌, map, Result}
+use Rattle.std.specs.Prelude.{◌≡◌, ℕ, Bool, List, map, Result}
 use Rattle.mf_office.specs.declared.caller.Caller.{Caller}
 use Rattle.mf_base.specs.declared.fault.Fault.{Fault}
 use Rattle.mf_model.specs.declared.request.Call.{Call}
@@ -8,14 +8,9 @@ use Rattle.mf_model.specs.Institution.{Institution}
 use Rattle.mf_model.specs.Tree.{view}
 use Rattle.mf_model.specs.Desk.{outcome, change_in}
 use Rattle.mf_model.specs.Run.{Line, answer, next, answers, last, from_office, from_caller, told, touching, play, play_replies, given_up, but_given_up}
-use Rattle.mf_model.specs.Store.{left_by}
+use Rattle.mf_model.specs.Store.{left_by, left_after}
 use Rattle.mf_wire.specs.Shown.{shown_line}
 use Rattle.mf_wire.specs.Requests.{call_of}
-
--- what a stop may leave after the lines: the institution after the last change, or one given up since
-abbrev pub left_after : List Line → Institution → List Institution → List Institution
-left_after [] i is = is
-left_after (l ∷ ls) i is = left_after ls (next l i) (left_by (change_in (outcome l.call i)) l.given_up i is)
 
 -- the texts of the replies to the lines
 abbrev pub texts_of : List Line → Institution → List (List ℕ)

@@ -1,7 +1,7 @@
 -- What a watched reader and a watched writer hold.
 use Rattle.std.specs.Prelude.{Bool}
-use Rattle.mf_wire.specs.declared.streams.WatchedReader.{WatchedReader}
-use Rattle.mf_wire.specs.declared.streams.WatchedWriter.{WatchedWriter}
+use Rattle.mf_wire.specs.declared.sources.WatchedReader.{WatchedReader}
+use Rattle.mf_wire.specs.declared.sinks.WatchedWriter.{WatchedWriter}
 
 -- the reader inside
 abbrev pub reads_from : {R : Type 0} → WatchedReader R → R

@@ -1,7 +1,8 @@
 // Requests answered over a store, from their texts to the texts of their replies.
 ghost use Rattle.std.specs.Prelude.{◌≡◌, ◌≢◌, Ok, IfOk, IfErr, string_bytes};
 ghost use Rattle.std.specs.Fn.{FnOnceReturnsAt};
-ghost use Rattle.mf_desk.specs.Answers.{Answers};
+ghost use Rattle.mf_model.specs.Desk.{reply};
+ghost use Rattle.mf_desk.specs.Answers.{Tells, Changes};
 ghost use Rattle.mf_wire.specs.RequestLine.{parts_now};
 ghost use Rattle.mf_wire.specs.Replies.{reply_line, line_of, replyable as replyable_of};
 ghost use Rattle.mf_wire.specs.Shown.{reply_status, reply_body, shown_line, IsText};
@@ -39,8 +40,8 @@ fn answer_parts<S: InstitutionStore, T: Drop, F: FnOnce(&Reply) -> Result<T, Fau
     show: F,
 ) -> Result<T, Fault>
     requires { F.IsAlwaysCallable show }
-    ensures { Answers S.stands S.clean S.leaves (FnOnceReturnsAt F.FnOnce show)
-        (call_of_parts (parts_now parts.entry)) store.old store.new result }
+    ensures told { Tells S.stands S.clean S.leaves (FnOnceReturnsAt F.FnOnce show) (reply (call_of_parts (parts_now parts.entry))) store.old store.new result }
+    ensures changes { Changes S.stands S.clean S.leaves (call_of_parts (parts_now parts.entry)) store.old store.new result }
 {
     let Some(caller) = Caller::parse(parts.caller) else {
         return Err(Fault::F1);

@@ -1,12 +1,11 @@
 // A request's body, as JSON.
-ghost use Rattle.std.specs.Prelude.{◌≡◌, Some, None, option_map, option_and_then, IfOk, IfErr, ◌⊎◌, length};
+ghost use Rattle.std.specs.Prelude.{◌≡◌, Some, None, option_map, option_and_then, IfOk, IfErr, ◌⊎◌};
 ghost use Rattle.serde_json.specs.View.{view};
-ghost use Rattle.mf_wire.specs.Bodies.{json_of, whole_at, text_at, is_name as name_test, name_at, office_at, role_named, role_at, Gives};
-ghost use Rattle.std.specs.Str.{chars};
-ghost use Rattle.std.specs.List.{list_all};
-ghost use Rattle.mf_model.specs.Sound.{is_plain, IsName};
+ghost use Rattle.mf_wire.specs.Bodies.{json_of, whole_at, text_at, name_at, office_at, role_named, role_at, Gives};
+ghost use Rattle.mf_model.specs.Sound.{IsName};
 
 use mf_base::Fault;
+use mf_model::is_name;
 use mf_office::{Name, OfficeNo, Role};
 use serde_json::Value;
 use std::alloc::Global;
@@ -40,32 +39,6 @@ pub fn text<'b>(body: &'b Value, name: &str) -> Option<&'b str>
     ensures { option_map (λ s. s.now) result ≡ text_at name.now (view body.now) }
 {
     body.get(name)?.as_str()
-}
-
-fn is_name_character(character: char) -> bool
-    ensures { result ≡ is_plain character }
-{
-    character >= ' ' && character != '\u{7f}'
-}
-
-fn are_name_characters(text: &str) -> bool
-    ensures { result ≡ list_all is_plain (chars text.now) }
-{
-    text.chars().all(|c| is_name_character(c))
-}
-
-fn count_characters(text: &str) -> usize
-    ensures { result ≡ length (chars text.now) }
-{
-    text.chars().count()
-}
-
-/// Whether a text may be a name: 1 to 100 characters, and no control character of ASCII among them.
-pub fn is_name(text: &str) -> bool
-    ensures { result ≡ name_test text.now }
-{
-    let count = count_characters(text);
-    1 <= count && count <= 100 && are_name_characters(text)
 }
 
 /// A member that is a name.

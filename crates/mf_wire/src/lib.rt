@@ -12,10 +12,15 @@ mod request_line;
 mod routes;
 mod running;
 mod showing;
-mod streams;
+mod sinks;
+mod sources;
 mod writing;
 
 pub use answering::answer_text;
 pub use refusals::fault_text;
 pub use running::run;
-pub use streams::{ReadFault, Sink, Source, WatchedReader, WatchedWriter, WriteFault};
+pub use sinks::{Sink, WatchedWriter, WriteFault};
+pub use sources::{ReadFault, Source, WatchedReader};
+
+#[cfg(test)]
+mod tests;

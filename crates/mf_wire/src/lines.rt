@@ -8,7 +8,8 @@ ghost use Rattle.mf_wire.specs.Run.{LineStep, Run, Answered, Half, Broken};
 ghost use Rattle.mf_wire.specs.Told.{Whole, Stopped, Severed};
 
 use crate::line_buffer::LineBuffer;
-use crate::streams::{Sink, Source, WriteFault};
+use crate::sinks::{Sink, WriteFault};
+use crate::sources::Source;
 use crate::writing::put_reply;
 use mf_base::{Cause, Fault, StreamFault};
 use std::alloc::{AllocError, Global};

@@ -6,7 +6,8 @@ ghost use Rattle.mf_wire.specs.Runs.{RunsLines};
 
 use crate::lines::run_lines;
 use crate::routes::Routes;
-use crate::streams::{Sink, Source};
+use crate::sinks::Sink;
+use crate::sources::Source;
 use mf_base::{Cause, StreamFault};
 use mf_model::{InstitutionStore, isolation};
 use std::alloc::Global;

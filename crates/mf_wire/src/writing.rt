@@ -4,7 +4,7 @@ ghost use Rattle.std.specs.Io.KnownBytes.{Appends};
 ghost use Rattle.mf_wire.specs.Replies.{line_of, fault_line, fault_status};
 
 use crate::refusals::fault_text;
-use crate::streams::{Sink, WriteFault};
+use crate::sinks::{Sink, WriteFault};
 use mf_base::Fault;
 
 /// Writes all the bytes, or a beginning of them.

@@ -12,4 +12,4 @@ returns-clause-calls g c =
     (λ t r e h. let w : string_bytes t ≡ reply_line (reply_status h.0.now) (reply_body h.0.now) = search rules in ap line_of (c.replyable.ensures.value ∙ ap replyable e) ∙ w ∙ ap (λ x. reply_line (reply_status x) (reply_body x)) h.2)
     (λ f e. ap line_of (c.replyable.ensures.value ∙ e))
     (λ r f h. let w : f ≡ F20 = search rules in w)
-    c.answer_parts.ensures
+    c.answer_parts.ensures.told c.answer_parts.ensures.changes

@@ -14,4 +14,4 @@ returns-clause-calls g c =
     subst (λ x. IsText x (Ok r)) (sym (c.replyable.ensures.value ∙ ap replyable e)) (w.0 ∙ ap reply_status h.2, w.1 ∙ ap reply_body h.2))
     (λ f e. subst (λ x. IsText x (Err f)) (sym (c.replyable.ensures.value ∙ e)) refl)
     (λ r f h. let w : f ≡ F20 = search rules in w)
-    c.answer_parts.ensures
+    c.answer_parts.ensures.told c.answer_parts.ensures.changes

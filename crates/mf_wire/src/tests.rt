@@ -1,0 +1,258 @@
+//! Streams of request lines, run over an institution in vectors. Of that store nothing is proved but that it is safe.
+
+mod books;
+mod streams;
+
+use crate::{WatchedReader, WatchedWriter, answer_text, fault_text, run};
+use books::Books;
+use mf_base::{Cause, Fault, StreamFault};
+use std::alloc::Global;
+use std::test::Fail;
+use streams::{Narrow, Torn};
+
+const FIRST: &str = "1/1 POST /clients {\"office\":1,\"name\":\"Amina\"}\n\
+1/1 GET /clients/0001-000001\n\
+1/1 GET /clients/0001-000002\n\
+1/1 GET /clients/1-1\n\
+1/1 POST /clients {\"office\":2,\"name\":\"B\"}\n\
+1/1 PUT /clients\n\
+01/1 GET /clients/0001-000001\n\
+2/1 GET /clients/0001-000001\n";
+
+const FIRST_REPLIES: &str = "201 {\"client\":\"0001-000001\"}\n\
+200 {\"client\":\"0001-000001\",\"name\":\"Amina\"}\n\
+404 {\"fault\":\"F4\"}\n\
+400 {\"fault\":\"F1\"}\n\
+404 {\"fault\":\"F4\"}\n\
+405 {\"fault\":\"F6\"}\n\
+400 {\"fault\":\"F1\"}\n\
+401 {\"fault\":\"F2\"}\n";
+
+const BRANCHES: &str = "1/1 POST /offices {\"number\":2,\"parent\":1,\"name\":\"North\"}\n\
+1/1 POST /offices {\"number\":20,\"parent\":1,\"name\":\"South\"}\n\
+1/1 POST /offices {\"number\":5,\"parent\":2,\"name\":\"Mill\"}\n\
+1/1 POST /staff {\"office\":2,\"name\":\"Ben\",\"role\":\"officer\"}\n\
+2/1 GET /offices\n\
+2/1 POST /clients {\"office\":5,\"name\":\"C\"}\n\
+2/1 POST /clients {\"office\":20,\"name\":\"C\"}\n\
+2/1 POST /clients {\"office\":77,\"name\":\"C\"}\n\
+2/1 POST /staff {\"office\":20,\"name\":\"D\",\"role\":\"teller\"}\n\
+1/1 POST /offices {\"number\":5,\"parent\":1,\"name\":\"X\"}\n";
+
+const BRANCHES_REPLIES: &str = "201 {\"office\":2}\n\
+201 {\"office\":20}\n\
+201 {\"office\":5}\n\
+201 {\"staff\":\"2/1\"}\n\
+200 {\"offices\":[{\"name\":\"North\",\"number\":2,\"parent\":1},{\"name\":\"Mill\",\"number\":5,\"parent\":2}]}\n\
+201 {\"client\":\"0005-000001\"}\n\
+404 {\"fault\":\"F4\"}\n\
+404 {\"fault\":\"F4\"}\n\
+403 {\"fault\":\"F3\"}\n\
+409 {\"fault\":\"F16\"}\n";
+
+const MALFORMED: &[u8] = b"hello\n\
+\r\n\
+\n\
+1/1 GET /nowhere\n\
+1/1  GET /offices\n\
+1/1 get /offices\n\
+1/1 GET /\xff\n\
+1/1 GET \n\
+1/1 GET /offices?a=1\n\
+1/1 POST /clients {\"office\":1.0,\"name\":\"A\"}\n\
+1/1 POST /clients {\"office\":18446744073709551616,\"name\":\"A\"}\n\
+1/1 POST /clients {\"office\":1,\"name\":\"\"}\n\
+1/1 POST /clients {\"office\":1,\"name\":\"\\u007f\"}\n\
+9/9 POST /clients {\"office\":1,\"na\n\
+9/9 GET /clients/0001-000000\n\
+1/1 GET /offices";
+
+const MALFORMED_REPLIES: &str = "400 {\"fault\":\"F1\"}\n\
+404 {\"fault\":\"F5\"}\n\
+400 {\"fault\":\"F1\"}\n\
+405 {\"fault\":\"F6\"}\n\
+404 {\"fault\":\"F5\"}\n\
+404 {\"fault\":\"F5\"}\n\
+404 {\"fault\":\"F5\"}\n\
+400 {\"fault\":\"F1\"}\n\
+400 {\"fault\":\"F1\"}\n\
+400 {\"fault\":\"F1\"}\n\
+400 {\"fault\":\"F1\"}\n\
+400 {\"fault\":\"F1\"}\n\
+400 {\"fault\":\"F1\"}\n\
+200 {\"offices\":[{\"name\":\"Head Office\",\"number\":1,\"parent\":null}]}\n";
+
+const LONGEST_REPLIES: &str =
+    "200 {\"offices\":[{\"name\":\"Head Office\",\"number\":1,\"parent\":null}]}\n\
+400 {\"fault\":\"F1\"}\n\
+400 {\"fault\":\"F1\"}\n\
+404 {\"fault\":\"F4\"}\n";
+
+/// What a run over the whole stream writes.
+fn replies(alloc: Global, books: &mut Books, stream: &[u8]) -> Result<(u64, Vec<u8>), Fail> {
+    let mut source = WatchedReader::new(stream);
+    let mut sink = WatchedWriter::new(Vec::new(alloc));
+    match run(alloc, books, &mut source, &mut sink) {
+        Ok(count) => Ok((count, sink.into_inner())),
+        Err(fault) => Err(Fail::from(fault)),
+    }
+}
+
+fn is_answered(told: &Result<(u16, String), Fault>, status: u16, body: &str) -> bool {
+    match told {
+        Ok(text) => text.0 == status && text.1.as_str() == body,
+        Err(_) => false,
+    }
+}
+
+#[test]
+fn a_client_is_entered_and_read(rt: HostRuntime) -> Result<(), Fail> {
+    let alloc = rt.alloc();
+    let mut books = Books::new(alloc)?;
+    let (count, written) = replies(alloc, &mut books, FIRST.as_bytes())?;
+    assert_eq!(rt; count, 8);
+    assert_eq!(rt; written.as_slice(), FIRST_REPLIES.as_bytes());
+    Ok(())
+}
+
+#[test]
+fn branches_see_their_own(rt: HostRuntime) -> Result<(), Fail> {
+    let alloc = rt.alloc();
+    let mut books = Books::new(alloc)?;
+    let (count, written) = replies(alloc, &mut books, BRANCHES.as_bytes())?;
+    assert_eq!(rt; count, 10);
+    assert_eq!(rt; written.as_slice(), BRANCHES_REPLIES.as_bytes());
+    Ok(())
+}
+
+#[test]
+fn malformed_lines(rt: HostRuntime) -> Result<(), Fail> {
+    let alloc = rt.alloc();
+    let mut books = Books::new(alloc)?;
+    let (count, written) = replies(alloc, &mut books, MALFORMED)?;
+    assert_eq!(rt; count, 14);
+    assert_eq!(rt; written.as_slice(), MALFORMED_REPLIES.as_bytes());
+    Ok(())
+}
+
+/// A line of 65,536 bytes is answered, and one of a byte more is not; the line after it is.
+#[test]
+fn the_longest_line(rt: HostRuntime) -> Result<(), Fail> {
+    let alloc = rt.alloc();
+    let mut books = Books::new(alloc)?;
+    let begin = b"1/1 GET /offices ";
+    let mut stream = Vec::new(alloc);
+    for length in [65536usize, 65537, 70000] {
+        stream.extend_from_slice(begin)?;
+        for _ in begin.len()..length {
+            stream.push(b' ')?;
+        }
+        stream.extend_from_slice(b"\r\n")?;
+    }
+    stream.extend_from_slice(b"1/1 GET /clients/0001-000001")?;
+    let (count, written) = replies(alloc, &mut books, stream.as_slice())?;
+    assert_eq!(rt; count, 4);
+    assert_eq!(rt; written.as_slice(), LONGEST_REPLIES.as_bytes());
+    Ok(())
+}
+
+/// The reader fails within the third line: two are answered, and the third is not run.
+#[test]
+fn a_reader_that_fails(rt: HostRuntime) -> Result<(), Fail> {
+    let alloc = rt.alloc();
+    let mut books = Books::new(alloc)?;
+    let torn =
+        b"1/1 POST /clients {\"office\":1,\"name\":\"A\"}\n1/1 GET /nowhere\n1/1 POST /clients {\"office\":1,\"name\":\"B\"}";
+    let mut source = WatchedReader::new(Torn {
+        bytes: torn.as_slice(),
+    });
+    let mut sink = WatchedWriter::new(Vec::new(alloc));
+    let told = run(alloc, &mut books, &mut source, &mut sink);
+    let fault = StreamFault {
+        answered: 2,
+        cause: Cause::Read,
+    };
+    assert_eq!(rt; told.err(), Some(fault));
+    assert_eq!(rt;
+        sink.into_inner().as_slice(),
+        b"201 {\"client\":\"0001-000001\"}\n404 {\"fault\":\"F5\"}\n".as_slice()
+    );
+    let third = answer_text(
+        alloc,
+        &mut books,
+        b"1/1",
+        b"GET",
+        b"/clients/0001-000002",
+        b"",
+    );
+    assert_eq!(rt; third.err(), Some(Fault::F4));
+    Ok(())
+}
+
+/// The writer takes ten bytes and then fails: the client stands.
+#[test]
+fn a_writer_that_fails(rt: HostRuntime) -> Result<(), Fail> {
+    let alloc = rt.alloc();
+    let mut books = Books::new(alloc)?;
+    let mut source = WatchedReader::new(FIRST.as_bytes());
+    let mut sink = WatchedWriter::new(Narrow {
+        taken: Vec::new(alloc),
+        step: 100,
+        room: 10,
+    });
+    let told = run(alloc, &mut books, &mut source, &mut sink);
+    let fault = StreamFault {
+        answered: 0,
+        cause: Cause::Write,
+    };
+    assert_eq!(rt; told.err(), Some(fault));
+    assert_eq!(rt;
+        sink.into_inner().taken.as_slice(),
+        b"201 {\"clie".as_slice()
+    );
+    let shown = answer_text(
+        alloc,
+        &mut books,
+        b"1/1",
+        b"GET",
+        b"/clients/0001-000001",
+        b"",
+    );
+    assert!(rt;
+        is_answered(
+            &shown,
+            200,
+            "{\"client\":\"0001-000001\",\"name\":\"Amina\"}"
+        )
+    );
+    Ok(())
+}
+
+#[test]
+fn a_writer_of_one_byte_a_call(rt: HostRuntime) -> Result<(), Fail> {
+    let alloc = rt.alloc();
+    let mut books = Books::new(alloc)?;
+    let mut source = WatchedReader::new(FIRST.as_bytes());
+    let mut sink = WatchedWriter::new(Narrow {
+        taken: Vec::new(alloc),
+        step: 1,
+        room: 1000000,
+    });
+    let told = run(alloc, &mut books, &mut source, &mut sink);
+    assert_eq!(rt; told.ok(), Some(8));
+    assert_eq!(rt;
+        sink.into_inner().taken.as_slice(),
+        FIRST_REPLIES.as_bytes()
+    );
+    Ok(())
+}
+
+#[test]
+fn texts_of_refusals(rt: HostRuntime) -> Result<(), Fail> {
+    assert_eq!(rt; fault_text(Fault::F4).0, 404);
+    assert_eq!(rt; fault_text(Fault::F4).1, "{\"fault\":\"F4\"}");
+    assert_eq!(rt; fault_text(Fault::F18).0, 409);
+    assert_eq!(rt; fault_text(Fault::F18).1, "{\"fault\":\"F18\"}");
+    assert_eq!(rt; fault_text(Fault::F20).0, 503);
+    Ok(())
+}
