@@ -1,9 +1,9 @@
 -- Commits in the words of the institution: from the writes to the change.
-use Rattle.std.proofs.Common.{◌≡◌, ◌≢◌, ◌<◌, ◌+◌, ℕ, zero, suc, inr, Bool, true, false, cond, List, [], ◌∷◌, ◌++◌, map, length, Option, None, Some, Result, Ok, Err, IfErr, IfOk, OnOk, OnErr, refl, sym, ap, ◌∙◌, subst, arith, nat_eq, ◌==◌, nat_lt, true≢false, Less, Greater, nat_cmp, IsTrue, codes, decimal, string_bytes, append_assoc}
+use Rattle.std.proofs.Common.{◌≡◌, ◌<◌, ◌+◌, ℕ, zero, suc, inr, Bool, true, false, cond, List, [], ◌∷◌, map, length, Option, None, Some, Result, Ok, Err, IfErr, OnOk, OnErr, refl, sym, ap, ◌∙◌, arith, ◌==◌, nat_lt, true≢false, Less, Greater, nat_cmp, string_bytes}
 use Rattle.std.specs.Option.{is_some, option_map}
 use Rattle.std.specs.List.{AllByRecursion}
 use Rattle.std.proofs.lemmas.Bool.Decides.{nat_tests}
-use Rattle.sqlite.specs.Held.{Held, state}
+use Rattle.sqlite.specs.Held.{Held}
 use Rattle.sqlite_trees.specs.declared.store.Store.{Ghosts}
 use Rattle.mf_base.specs.declared.fault.Fault.{Fault}
 use Rattle.mf_base.specs.declared.fault.Fault.TheVariants.{F20}
@@ -14,13 +14,13 @@ use Rattle.mf_office.proofs.KeyLemmas.{key_of-child}
 use Rattle.mf_tables.specs.Keep.{put_item}
 use Rattle.mf_model.specs.declared.commit.Commit.{Commit}
 use Rattle.mf_model.specs.declared.commit.Commit.TheVariants.{AddOffice, AddStaff, AddClient}
-use Rattle.mf_model.specs.Institution.{Institution, Office, Rows, Staff, office_at, with_rows, with_office, new_office, no_rows}
+use Rattle.mf_model.specs.Institution.{Institution, Office, Rows, office_at, with_rows, with_office, new_office}
 use Rattle.mf_model.specs.Desk.{staff_added, client_added}
 use Rattle.mf_model.specs.Sound.{IsSound}
-use Rattle.mf_model.specs.Store.{Commits, committed, rows_at, rows_of}
+use Rattle.mf_model.specs.Store.{Commits, committed, rows_at}
 use Rattle.mf_model.specs.Tree.{parent_of, is_there, Above, Ascending}
 use Rattle.mf_store.specs.Rows.{OfficeRow, StaffRow, ClientRow, MetaRow, Lists, by_office, by_staff, by_client}
-use Rattle.mf_store.specs.Flat.{tables_of, office_under, office_row_at, staff_in, client_in, all_rows}
+use Rattle.mf_store.specs.Flat.{tables_of, office_under, office_row_at, staff_in, client_in}
 use Rattle.mf_store.specs.Writes.{office_of, staff_of, client_of}
 use Rattle.mf_store.specs.declared.records.OfficeRecord.{OfficeRecord}
 use Rattle.mf_store.specs.declared.records.StaffRecord.{StaffRecord}
@@ -195,7 +195,7 @@ office_put ps new (f ∷ fs) up none = go (f.number == new.number) refl none (na
         let high : nat_cmp new.number f.number ≡ Greater = grind (arith, nat_tests) in
         put_past by_office (office_under ps new) (office_under ps f) (map (office_under ps) fs) high ∙ ap (λ l. office_under ps f ∷ l) (more none)
 
-all_there : (fs gs : List Office) (P : Office → Type 0) → Ascending gs → ((f : Office) → is_there gs f.number ≡ true → P f) → AllByRecursion P gs
+pub all_there : (fs gs : List Office) (P : Office → Type 0) → Ascending gs → ((f : Office) → is_there gs f.number ≡ true → P f) → AllByRecursion P gs
 all_there fs [] P up each = tt
 all_there fs (f ∷ gs) P up each = (each f (let same : (f.number == f.number) ≡ true = grind (arith, nat_tests) in rw same), all_there fs gs P up.1 (λ h there. each h (seen f h there)))
   where
@@ -250,7 +250,7 @@ pub none_there : {A : Type 0} (o : Option A) → is_some o ≡ false → o ≡ N
 none_there None h = refl
 none_there (Some x) h = absurd (true≢false h)
 
-number_at : (x : ℕ) (fs : List Office) → (f : Office) → office_at x fs ≡ Some f → f.number ≡ x
+pub number_at : (x : ℕ) (fs : List Office) → (f : Office) → office_at x fs ≡ Some f → f.number ≡ x
 number_at x [] f h = absurd (let k : None ≡ Some f = h in cc)
 number_at x (e ∷ fs) f h = go (e.number == x) refl h (number_at x fs f)
   where

@@ -1,27 +1,22 @@
 -- A new institution's writes, and what stands after them.
-use Rattle.std.proofs.Common.{◌≡◌, ℕ, None, Some, List, [], ◌∷◌, codes, inl, inr, refl, sym, ap, ◌∙◌, subst, arith, IsTrue, string_bytes}
-use Rattle.sqlite.specs.Tree.{Trees}
-use Rattle.sqlite.specs.Effect.{Database}
-use Rattle.sqlite.specs.State.{State, HasCleanDisk}
+use Rattle.std.proofs.Common.{◌≡◌, ℕ, None, Some, List, [], ◌∷◌, codes, refl, sym, subst, arith, string_bytes}
+use Rattle.sqlite.specs.State.{State}
 use Rattle.sqlite.specs.Held.{Held, state}
 use Rattle.sqlite.specs.Steps.{IsEmpty}
 use Rattle.sqlite_trees.specs.declared.store.Store.{Ghosts}
 use Rattle.sqlite_catalog.specs.Listing.{IsSound as IsSoundListing}
 use Rattle.mf_base.specs.DayText.{day_text}
 use Rattle.mf_office.specs.Keys.{key_of, key_within}
-use Rattle.mf_tables.specs.Tables.{no_schema}
-use Rattle.mf_tables.specs.Writes.{Serves, AllFit, after_all, Turns, IsSettled}
-use Rattle.mf_model.specs.Institution.{Institution, newly_made}
+use Rattle.mf_tables.specs.Writes.{Serves, AllFit, after_all, Turns}
+use Rattle.mf_model.specs.Institution.{newly_made}
 use Rattle.mf_model.specs.Sound.{IsSound}
-use Rattle.mf_store.specs.Flat.{tables_of}
-use Rattle.mf_store.specs.Writes.{schema_of, Holds, after, Fits, meta_of}
-use Rattle.mf_store.specs.Flat.{meta_on}
+use Rattle.mf_store.specs.Writes.{schema_of, Holds, after, Fits}
 use Rattle.mf_store.specs.declared.records.MetaRecord.{MetaRecord}
 use Rattle.mf_store.specs.declared.records.OfficeRecord.{OfficeRecord}
 use Rattle.mf_store.specs.declared.records.StaffRecord.{StaffRecord}
 use Rattle.mf_store.specs.declared.writes.StoreWrite.{StoreWrite}
 use Rattle.mf_store.specs.declared.writes.StoreWrite.TheVariants.{MakeTables, PutMeta, PutOffice, PutStaff}
-use Rattle.mf_store.specs.Stands.{StandsFor, IsClean, Leaves, Begins, HoldsOneOf}
+use Rattle.mf_store.specs.Stands.{StandsFor, Begins}
 
 first_list : MetaRecord → OfficeRecord → StaffRecord → List StoreWrite
 first_list m o s = MakeTables ∷ PutMeta m ∷ PutOffice o ∷ PutStaff s ∷ []

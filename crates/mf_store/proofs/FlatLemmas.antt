@@ -1,13 +1,13 @@
 -- The flat lists of the tables against the offices and their rows: one row found, and one row put.
-use Rattle.std.proofs.Common.{◌≡◌, ◌<◌, ◌≤◌, ◌+◌, ◌-◌, ℕ, zero, suc, Bool, true, false, not, ◌&&◌, cond, List, [], ◌∷◌, ◌++◌, map, filter, find, length, slice_get, Option, None, Some, refl, sym, ap, ◌∙◌, subst, arith, add-one, Ordering, Less, Equal, Greater, is_eq, is_gt, nat_cmp, true≢false, nat_eq, ◌==◌, nat_lt, append_assoc}
+use Rattle.std.proofs.Common.{◌≡◌, ◌<◌, ◌+◌, ◌-◌, ℕ, zero, suc, Bool, true, false, cond, List, [], ◌∷◌, ◌++◌, find, length, slice_get, Option, None, Some, refl, sym, ap, ◌∙◌, subst, arith, Ordering, Less, Greater, is_eq, nat_cmp, true≢false, ◌==◌, nat_lt}
 use Rattle.std.specs.List.{AllByRecursion}
 use Rattle.std.specs.Option.{option_or, is_some, option_map}
 use Rattle.std.specs.Ordering.{ordering_then}
 use Rattle.std.proofs.lemmas.Bool.Decides.{nat_tests}
 use Rattle.std.proofs.lemmas.List.Folds.{find-append}
-use Rattle.sqlite_keyed.specs.Lists.{insert_sorted, delete_where}
+use Rattle.sqlite_keyed.specs.Lists.{insert_sorted}
 use Rattle.mf_tables.specs.Keep.{put_item, drop_item}
-use Rattle.mf_model.specs.Institution.{Institution, Office, Rows, office_at, with_rows, with_office, no_rows, numbered}
+use Rattle.mf_model.specs.Institution.{Office, Rows, office_at, with_rows, with_office, no_rows, numbered}
 use Rattle.mf_model.specs.Tree.{Above, Ascending, is_there}
 use Rattle.mf_model.specs.Store.{rows_of}
 use Rattle.mf_store.specs.Flat.{numbered_from, all_rows}

@@ -7,3 +7,4 @@ pub mod StandLemmas
 pub mod LookLemmas
 pub mod CommitLemmas
 pub mod FirstLemmas
+pub mod VisibleLemmas

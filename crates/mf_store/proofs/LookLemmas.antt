@@ -3,12 +3,12 @@ use Rattle.std.proofs.Common.{◌≡◌, ◌<◌, ◌≤◌, ◌+◌, ◌-◌, �
 use Rattle.std.specs.Option.{option_map, is_some}
 use Rattle.std.specs.List.{AllByRecursion}
 use Rattle.std.proofs.lemmas.Bool.Decides.{nat_tests}
-use Rattle.sqlite.specs.declared.types.Value.TheVariants.{Int, Text}
+use Rattle.sqlite.specs.declared.types.Value.TheVariants.{Int}
 use Rattle.sqlite.specs.Order.{Row}
 use Rattle.sqlite_keyed.proofs.ListLemmas.{slice_get-filter}
-use Rattle.mf_model.specs.Institution.{Institution, Office, Rows, office_at, numbered}
+use Rattle.mf_model.specs.Institution.{Institution, Office, office_at, numbered}
 use Rattle.mf_model.specs.Sound.{IsSound, IsSoundOffice}
-use Rattle.mf_model.specs.Store.{rows_at, rows_of}
+use Rattle.mf_model.specs.Store.{rows_of}
 use Rattle.mf_model.specs.Tree.{parent_of}
 use Rattle.mf_store.specs.Rows.{MetaRow, OfficeRow, StaffRow, ClientRow, meta_row, office_row, staff_row, client_row}
 use Rattle.mf_store.specs.Looks.{is_meta, is_office, is_staff, is_client}

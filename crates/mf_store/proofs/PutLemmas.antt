@@ -1,16 +1,12 @@
 -- What one statement makes of all tables together.
-use Rattle.std.proofs.Common.{◌≡◌, ℕ, None, Some, Option, IsSome, List, [], Ok, sym, ap, ◌∙◌, subst, refl, arith, true≢false}
-use Rattle.sqlite.specs.Change.{created}
+use Rattle.std.proofs.Common.{◌≡◌, None, Some, Option, IsSome, [], sym, subst, arith, true≢false}
 use Rattle.sqlite.specs.Effect.{Database}
-use Rattle.sqlite.specs.Order.{Row}
-use Rattle.sqlite.specs.State.{State, Executes}
-use Rattle.sqlite_catalog.specs.Listing.{IsSound}
+use Rattle.sqlite.specs.State.{State}
 use Rattle.mf_tables.specs.Keep.{Keeps}
 use Rattle.mf_tables.specs.Making.{IsEmpty}
 use Rattle.mf_tables.specs.Tables.{no_schema}
 use Rattle.mf_tables.specs.Writes.{Ran, Serves}
 use Rattle.mf_tables.proofs.KeepLemmas.{keeps_none}
-use Rattle.mf_tables.proofs.KeptLemmas.{Spares}
 use Rattle.mf_tables.proofs.MakeLemmas.{makes_one}
 use Rattle.mf_store.specs.Tables.{schema}
 use Rattle.mf_store.specs.Rows.{MetaRow, OfficeRow, StaffRow, ClientRow, Lists, no_rows, meta_row, office_row, staff_row, client_row, by_meta, by_office, by_staff, by_client, put_meta, put_office, put_staff, put_client}

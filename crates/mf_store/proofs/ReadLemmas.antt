@@ -1,5 +1,5 @@
 -- What each query shows of its table.
-use Rattle.std.proofs.Common.{◌≡◌, ℕ, pos, true, ◌&&◌, List, [], ◌∷◌, map, filter, refl, ap₂, ◌∙◌, is_eq, nat_cmp}
+use Rattle.std.proofs.Common.{◌≡◌, ℕ, pos, ◌&&◌, List, [], ◌∷◌, map, filter, refl, ap₂, ◌∙◌}
 use Rattle.std.specs.Ordering.{ordering_then}
 use Rattle.sqlite.specs.declared.types.Value.TheVariants.{Int, Text}
 use Rattle.sqlite.specs.Order.{Row}

@@ -1,7 +1,6 @@
 -- What a store stands for after a query and after a commit.
-use Rattle.std.proofs.Common.{◌≡◌, ℕ, inl, inr, List, [], ◌∷◌, Option, Some, None, Result, Ok, Err, IfOk, OnOk, IfErr, OnErr, IsTrue, refl, sym, ap, ◌∙◌, subst, arith}
+use Rattle.std.proofs.Common.{◌≡◌, ℕ, inl, inr, List, [], ◌∷◌, Some, Result, Ok, Err, IfOk, OnOk, IfErr, OnErr, IsTrue, refl, sym, ap, ◌∙◌, subst, arith}
 use Rattle.sqlite.specs.Tree.{Trees}
-use Rattle.sqlite.specs.Order.{Row}
 use Rattle.sqlite.specs.Effect.{Database}
 use Rattle.sqlite.specs.State.{State, HasCleanDisk, Survives}
 use Rattle.sqlite.specs.Held.{Held, state}
@@ -11,15 +10,13 @@ use Rattle.sqlite.specs.declared.error.Error.{Error}
 use Rattle.sqlite_trees.specs.declared.store.Store.{Ghosts}
 use Rattle.mf_base.specs.declared.fault.Fault.{Fault}
 use Rattle.mf_base.specs.declared.fault.Fault.TheVariants.{F20}
-use Rattle.mf_tables.specs.Queries.{Answers}
 use Rattle.mf_tables.specs.Writes.{Serves, AllFit, after_all, Turns, IsSettled, MayHold}
 use Rattle.mf_model.specs.Institution.{Institution}
 use Rattle.mf_store.specs.Tables.{schema}
-use Rattle.mf_store.specs.Rows.{Lists}
 use Rattle.mf_store.specs.Flat.{tables_of}
 use Rattle.mf_store.specs.Writes.{schema_of, Holds, after, Fits}
 use Rattle.mf_store.specs.declared.writes.StoreWrite.{StoreWrite}
-use Rattle.mf_store.specs.Stands.{StandsFor, IsClean, Leaves, Stays, Shows, Becomes, HoldsOneOf}
+use Rattle.mf_store.specs.Stands.{StandsFor, IsClean, Leaves, Stays, Becomes}
 
 -- ---- F20 in place of the store's own error
 

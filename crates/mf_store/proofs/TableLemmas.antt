@@ -1,8 +1,7 @@
 -- What each upsert does to its table.
-use Rattle.std.proofs.Common.{◌≡◌, ℕ, ℤ, true, List, [], ◌∷◌, Option, Some, None, refl, ◌∙◌, is_eq, Ok}
+use Rattle.std.proofs.Common.{◌≡◌, ℕ, ℤ, List, [], ◌∷◌, Some, refl, ◌∙◌, is_eq, Ok}
 use Rattle.std.specs.Cmp.{IsTotalOrder}
 use Rattle.std.proofs.lemmas.Cmp.{on_total, then_total, nat_cmp_total}
-use Rattle.sqlite.specs.Kind.TheVariants.{Text}
 use Rattle.sqlite.specs.declared.types.Value.TheVariants.{Int}
 use Rattle.sqlite.specs.State.{State, Executes}
 use Rattle.sqlite_catalog.specs.Listing.{IsSound}

@@ -1,7 +1,7 @@
 -- The rows of an institution: one list a table, each in the order of its key.
-use Rattle.std.specs.Prelude.{ℕ, ◌+◌, List, [], ◌∷◌, ◌++◌, map, option_map, Option}
+use Rattle.std.specs.Prelude.{ℕ, Bool, false, ◌+◌, List, [], ◌∷◌, ◌++◌, map, option_map, Option, Some, None, nat_le}
 use Rattle.mf_base.specs.DayText.{day_text}
-use Rattle.mf_office.specs.Keys.{key_of}
+use Rattle.mf_office.specs.Keys.{key_of, key_depth, raised, is_in_range}
 use Rattle.mf_office.specs.declared.staff.Role.{Role}
 use Rattle.mf_office.specs.declared.staff.Role.TheVariants.{Teller, Officer, Manager}
 use Rattle.mf_model.specs.Institution.{Institution, Office, Rows, Staff, office_at, numbered}
@@ -68,3 +68,19 @@ client_row_at x number i = option_map (client_in x number) (numbered (rows_at x 
 -- the hierarchy text of an office that is there
 abbrev pub key_at : ℕ → Institution → Option (List ℕ)
 key_at x i = option_map (λ (f : Office). key_of (parent_of i.offices) f.number) (office_at x i.offices)
+
+-- the parent that an office's row names
+abbrev pub above_of : Option OfficeRow → Option ℕ
+above_of None = None
+above_of (Some r) = r.parent
+
+-- one hierarchy text lies in the range of another
+abbrev pub sees : Option (List ℕ) → Option (List ℕ) → Bool
+sees None key = false
+sees (Some above) None = false
+sees (Some above) (Some key) = is_in_range above (raised above) key
+
+-- a key of at most five dots, one for each office on the way
+abbrev pub has_room : Option (List ℕ) → Bool
+has_room None = false
+has_room (Some key) = nat_le (key_depth key) 5

@@ -8,9 +8,10 @@ use crate::counts::Kind;
 use crate::reads::role_from;
 use crate::store::Store;
 use mf_base::Fault;
-use mf_model::Counts;
+use mf_model::{Commit, Counts, InstitutionStore, OfficeList};
 use mf_office::{Account, Caller, Name, OfficeNo, Role};
 use sqlite::Alter;
+use std::alloc::Global;
 
 impl<S: Alter> Store<S> {
     ghost use Rattle.mf_model.specs.Store.{role_of, counts_at, client_at};
@@ -51,4 +52,59 @@ impl<S: Alter> Store<S> {
             Some(record) => Ok(Some(Name::new(record.name))),
         }
     }
+}
+
+impl<S: Alter> InstitutionStore for Store<S> {
+    ghost use Rattle.std.proofs.Common.{inr};
+    ghost use Rattle.mf_store.specs.Stands.{StandsFor, IsClean, Leaves};
+
+    ghost stands = { λ store i. StandsFor S.Store store i };
+
+    ghost clean = { λ store. IsClean S.Store store };
+
+    ghost leaves = { λ store is. Leaves S.Store store is };
+
+    fn role(&mut self, _alloc: Global, caller: Caller) -> Result<Option<Role>, Fault> {
+        self.caller(caller)
+    }
+
+    fn is_visible(&mut self, alloc: Global, to: OfficeNo, office: OfficeNo) -> Result<bool, Fault> {
+        self.visible(alloc, to, office)
+    }
+
+    fn is_there(&mut self, _alloc: Global, office: OfficeNo) -> Result<bool, Fault> {
+        self.has_office(office.get())
+    }
+
+    fn has_room_below(&mut self, _alloc: Global, office: OfficeNo) -> Result<bool, Fault> {
+        self.room_below(office)
+    }
+
+    fn counts(&mut self, _alloc: Global, office: OfficeNo) -> Result<Counts, Fault> {
+        self.next_numbers(office)
+    }
+
+    fn client(&mut self, _alloc: Global, client: Account) -> Result<Option<Name>, Fault> {
+        self.find_name(client)
+    }
+
+    fn visible_offices(&mut self, alloc: Global, to: OfficeNo) -> Result<OfficeList, Fault> {
+        self.offices(alloc, to)
+    }
+
+    fn commit(&mut self, alloc: Global, commit: Commit) -> Result<(), Fault> {
+        match commit {
+            Commit::AddOffice {
+                number,
+                parent,
+                name,
+            } => self.add_office(alloc, number, parent, name),
+            Commit::AddStaff { office, name, role } => self.add_staff(office, name, role),
+            Commit::AddClient { office, name } => self.add_client(office, name),
+        }
+    }
+
+    ghost sound = { λ store i stands. stands.sound };
+
+    ghost more = { λ store i is left. record { ours = left.ours; whole = λ clean trees may. inr (left.whole clean trees may) } };
 }

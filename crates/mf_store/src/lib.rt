@@ -11,6 +11,7 @@ mod institution;
 mod reads;
 mod records;
 mod store;
+mod visible;
 mod writes;
 
 pub use store::Store;

@@ -1,4 +1,4 @@
-use Rattle.std.proofs.Common.{◌≡◌, None, [], ◌∷◌, ◌++◌, refl, sym, ap, ◌∙◌}
+use Rattle.std.proofs.Common.{◌≡◌, None, [], ◌∷◌, ◌++◌, refl, ap, ◌∙◌}
 use Rattle.mf_store.specs.declared.writes.StoreWrite.TheVariants.{MakeTables, PutMeta, PutOffice, PutStaff}
 use Rattle.mf_store.specs.declared.records.MetaRecord.{MetaRecord}
 use Rattle.mf_store.specs.declared.records.OfficeRecord.{OfficeRecord}

@@ -1,6 +1,5 @@
-use Rattle.std.proofs.Common.{◌≡◌, ◌∙◌, pos, List, [], ◌∷◌, map, slice_get}
+use Rattle.std.proofs.Common.{◌≡◌, ◌∙◌, List, map, slice_get}
 use Rattle.std.specs.Option.{option_map}
-use Rattle.sqlite.specs.declared.types.Value.TheVariants.{Int}
 use Rattle.mf_store.specs.Flat.{client_row_at}
 use Rattle.mf_store.specs.Rows.{ClientRow, client_row}
 use Rattle.mf_store.specs.Writes.{client_of}

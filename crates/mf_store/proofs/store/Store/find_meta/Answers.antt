@@ -1,6 +1,5 @@
-use Rattle.std.proofs.Common.{◌≡◌, ◌∙◌, pos, Some, List, [], ◌∷◌, map, slice_get}
+use Rattle.std.proofs.Common.{◌≡◌, ◌∙◌, Some, List, map, slice_get}
 use Rattle.std.specs.Option.{option_map}
-use Rattle.sqlite.specs.declared.types.Value.TheVariants.{Int}
 use Rattle.mf_store.specs.Flat.{meta_on}
 use Rattle.mf_store.specs.Rows.{MetaRow, meta_row}
 use Rattle.mf_store.specs.Writes.{meta_of}

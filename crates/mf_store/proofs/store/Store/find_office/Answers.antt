@@ -1,6 +1,5 @@
-use Rattle.std.proofs.Common.{◌≡◌, ◌∙◌, pos, List, [], ◌∷◌, map, slice_get}
+use Rattle.std.proofs.Common.{◌≡◌, ◌∙◌, List, map, slice_get}
 use Rattle.std.specs.Option.{option_map}
-use Rattle.sqlite.specs.declared.types.Value.TheVariants.{Int}
 use Rattle.mf_store.specs.Flat.{office_row_at}
 use Rattle.mf_store.specs.Rows.{OfficeRow, office_row}
 use Rattle.mf_store.specs.Writes.{office_of}

@@ -1,0 +1,191 @@
+-- What an office sees, by the range of its hierarchy text and by parents.
+use Rattle.std.proofs.Common.{◌≡◌, ◌<◌, ◌+◌, ◌↔◌, ◌≤◌, ℕ, zero, suc, Bool, true, false, not, ◌&&◌, ◌||◌, cond, List, [], ◌∷◌, ◌++◌, map, filter, length, take, get_or, Option, None, Some, refl, sym, ap, ap₂, ◌∙◌, subst, subst₂, string_bytes, arith, ◌==◌, nat_lt, nat_cmp, true≢false, nat_le, Ordering, Less, Equal, Greater, is_ge, is_lt}
+use Rattle.std.specs.Option.{is_some, option_map}
+use Rattle.std.specs.Ordering.{ordering_then}
+use Rattle.std.specs.Cmp.Lexicographic.{slice_cmp}
+use Rattle.std.specs.List.{AllByRecursion}
+use Rattle.std.proofs.lemmas.Bool.Decides.{nat_tests}
+use Rattle.std.proofs.lemmas.List.{take_more, map-append, length-map, get_or-map}
+use Rattle.sqlite.specs.declared.types.Value.TheVariants.{Text}
+use Rattle.sqlite.specs.Order.{Row}
+use Rattle.sqlite_keyed.proofs.ListLemmas.{filter-map}
+use Rattle.mf_office.specs.Keys.{key_of, key_depth, raised, is_before}
+use Rattle.mf_office.specs.Keys as office
+use Rattle.mf_office.specs.Tree.{is_within, is_at_or_below, option_any, IsTreeOf}
+use Rattle.mf_office.proofs.KeyLemmas.{range_below}
+use Rattle.mf_model.specs.Institution.{Institution, Office, office_at, new_office}
+use Rattle.mf_model.specs.Tree.{parent_of, is_there, seen_by, seen_office}
+use Rattle.mf_model.specs.Sound.{IsSound}
+use Rattle.mf_store.specs.Rows.{OfficeRow, office_row}
+use Rattle.mf_store.specs.Looks.{is_in_range}
+use Rattle.mf_store.specs.Flat.{office_under, tables_of, key_at, sees, has_room}
+use Rattle.mf_office.specs.declared.office.Office.{Office as Shown}
+use Rattle.mf_model.specs.Desk.{line_of}
+use Rattle.mf_store.specs.Writes.{office_of}
+use Rattle.mf_store.specs.declared.records.OfficeRecord.{OfficeRecord}
+use Rattle.mf_store.specs.Stands.{Shows}
+use Rattle.mf_store.proofs.Texts.{offices_in}
+use Rattle.mf_store.proofs.ReadLemmas.{offices_in_shows}
+use Rattle.mf_store.proofs.CommitLemmas.{number_at, all_there}
+
+-- ---- ranges of texts
+
+before_is : (a b : List ℕ) → is_before a b ≡ is_lt (slice_cmp nat_cmp a b)
+before_is [] [] = refl
+before_is [] (b ∷ bs) = refl
+before_is (a ∷ as_) [] = refl
+before_is (a ∷ as_) (b ∷ bs) = ap (λ t. nat_lt a b || ((a == b) && t)) (before_is as_ bs) ∙ first (slice_cmp nat_cmp as_ bs)
+  where
+    first : (o : Ordering) → (nat_lt a b || ((a == b) && is_lt o)) ≡ is_lt (ordering_then (nat_cmp a b) o)
+    first o = grind (arith, nat_tests)
+
+at_least : (o : Ordering) → not (is_lt o) ≡ is_ge o
+at_least Less = refl
+at_least Equal = refl
+at_least Greater = refl
+
+pub range_is : (low high : List ℕ) (r : OfficeRow) → is_in_range low high r ≡ office.is_in_range low high r.hkey
+range_is low high r = sym (ap₂ ◌&&◌ (ap not (before_is r.hkey low) ∙ at_least (slice_cmp nat_cmp r.hkey low)) (before_is r.hkey high))
+
+-- ---- what is there
+
+other : (there : ℕ → Bool) (o : ℕ) → there o ≡ false → (x : ℕ) → there x ≡ true → (x == o) ≡ false
+other there o gone x here = same (x == o) refl
+  where
+    same : (b : Bool) → (x == o) ≡ b → b ≡ false
+    same false e = refl
+    same true e = let is : x ≡ o = grind (arith, nat_tests) in absurd (true≢false (sym here ∙ ap there is ∙ gone))
+
+-- what is above an office that is there is there
+absent_above : (n : ℕ) (ps : ℕ → Option ℕ) (there : ℕ → Bool) → ((x p : ℕ) → ps x ≡ Some p → there p ≡ true) → (o : ℕ) → there o ≡ false → (x : ℕ) → there x ≡ true → is_within n ps x o ≡ false
+unfolding is_within
+absent_above zero ps there closed o gone x here = other there o gone x here
+absent_above (suc n) ps there closed o gone x here = ap (λ b. b || option_any (ps x) (λ p. is_within n ps p o)) (other there o gone x here) ∙ up (ps x) refl (λ p h. absent_above n ps there closed o gone p h)
+  where
+    up : (q : Option ℕ) → ps x ≡ q → ((p : ℕ) → there p ≡ true → is_within n ps p o ≡ false) → option_any q (λ p. is_within n ps p o) ≡ false
+    up None e more = refl
+    up (Some p) e more = more p (closed x p e)
+
+pub cond_some : {A : Type 0} (b : Bool) (x : A) → is_some (cond b (Some x) None) ≡ b
+cond_some true x = refl
+cond_some false x = refl
+
+cond_none : {A : Type 0} (b : Bool) (o : Option A) → o ≡ None → is_some (cond b o None) ≡ false
+cond_none true o e = ap is_some e
+cond_none false o e = refl
+
+module _ (i : Institution) (sound : IsSound i) (tree : IsTreeOf (is_there i.offices) (parent_of i.offices)) where
+  abbrev fs : List Office
+  fs = i.offices
+
+  abbrev ps : ℕ → Option ℕ
+  ps = parent_of fs
+
+  unseen : (o x : ℕ) → office_at o fs ≡ None → (a : Option Office) → office_at x fs ≡ a → is_some (cond (is_at_or_below ps x o) a None) ≡ false
+  unfolding is_at_or_below
+  unseen o x gone None e = cond_none (is_within 5 ps x o) None refl
+  unseen o x gone (Some f) e = ap (λ b. is_some (cond b (Some f) None)) (absent_above 5 ps (is_there fs) sound.tree.parents_there o (ap is_some gone) x (ap is_some e))
+
+  orphan : (fs : List Office) (x : ℕ) → is_there fs x ≡ false → parent_of fs x ≡ None
+  orphan [] x h = refl
+  orphan (f ∷ fs) x h = go (f.number == x) h (orphan fs x)
+    where
+      go : (b : Bool) → is_some (cond b (Some f) (office_at x fs)) ≡ false → (is_there fs x ≡ false → parent_of fs x ≡ None) → cond b f.parent (parent_of fs x) ≡ None
+      go true h more = absurd (true≢false h)
+      go false h more = more h
+
+  absent : (x : ℕ) → is_there fs x ≡ false → is_within 4 ps x 1 ≡ false
+  unfolding is_within
+  absent x gone = ap (λ q. (x == 1) || option_any q (λ p. is_within 3 ps p 1)) (orphan fs x gone) ∙ ap (λ b. b || false) (one (x == 1) refl)
+    where
+      one : (b : Bool) → (x == 1) ≡ b → b ≡ false
+      one false e = refl
+      one true e = let is : x ≡ 1 = grind (arith, nat_tests) in absurd (true≢false (sym sound.tree.head_there ∙ ap (is_there fs) (sym is) ∙ gone))
+
+  -- one text lies in the range of another where its office is at or below the other's
+  pub range_tree : (o x : ℕ) → is_there fs o ≡ true → is_there fs x ≡ true → office.is_in_range (key_of ps o) (raised (key_of ps o)) (key_of ps x) ≡ is_at_or_below ps x o
+  range_tree o x there here = range_below (is_there fs) ps tree x o here there
+
+  pub visible_is : (o x : ℕ) → sees (key_at o i) (key_at x i) ≡ is_some (seen_office o x i)
+  visible_is o x = go (office_at o fs) refl (office_at x fs) refl
+    where
+      go : (a : Option Office) → office_at o fs ≡ a → (b : Option Office) → office_at x fs ≡ b
+          → sees (option_map (λ (f : Office). key_of ps f.number) a) (option_map (λ (f : Office). key_of ps f.number) b) ≡ is_some (cond (is_at_or_below ps x o) (office_at x fs) None)
+      go None ea b eb = sym (ap (λ c. is_some (cond (is_at_or_below ps x o) c None)) eb ∙ unseen o x ea b eb)
+      go (Some f) ea None eb = sym (cond_none (is_at_or_below ps x o) (office_at x fs) eb)
+      go (Some f) ea (Some h) eb =
+          ap₂ (λ m n. office.is_in_range (key_of ps m) (raised (key_of ps m)) (key_of ps n)) (number_at o fs f ea) (number_at x fs h eb) ∙ range_tree o x (ap is_some ea) (ap is_some eb)
+          ∙ sym (ap (λ c. is_some (cond (is_at_or_below ps x o) c None)) eb ∙ cond_some (is_at_or_below ps x o) h)
+
+  -- room below an office, by the dots of its key
+  pub room_is : (x : ℕ) → ((x : ℕ) → is_there fs x ≡ true → (key_depth (key_of ps x) ≤ 5) ↔ (is_within 4 ps x 1 ≡ true)) → has_room (key_at x i) ≡ is_within 4 ps x 1
+  room_is x law = go (office_at x fs) refl
+    where
+      decided : (b : Bool) (n : ℕ) → (n ≤ 5) ↔ (b ≡ true) → nat_le n 5 ≡ b
+      decided true n h = let low : n ≤ 5 = h.1 refl in grind (arith, nat_tests)
+      decided false n h = two (nat_le n 5) refl
+        where
+          two : (t : Bool) → nat_le n 5 ≡ t → t ≡ false
+          two false e = refl
+          two true e = let low : n ≤ 5 = grind (arith, nat_tests) in sym (h.0 low)
+
+      go : (a : Option Office) → office_at x fs ≡ a → has_room (option_map (λ (f : Office). key_of ps f.number) a) ≡ is_within 4 ps x 1
+      go None e = sym (absent x (ap is_some e))
+      go (Some f) e = ap (λ n. nat_le (key_depth (key_of ps n)) 5) (number_at x fs f e) ∙ decided (is_within 4 ps x 1) (key_depth (key_of ps x)) (law x (ap is_some e))
+
+  filter_alike : (p q : Office → Bool) (gs : List Office) → AllByRecursion (λ f. p f ≡ q f) gs → filter p gs ≡ filter q gs
+  filter_alike p q [] all = refl
+  filter_alike p q (f ∷ gs) all = rw (all.0, filter_alike p q gs all.1)
+
+  -- the rows in the range of an office's text are those of the offices that it sees
+  pub rows_seen : (o : ℕ) → is_there fs o ≡ true → (rows : List Row) → Shows i offices_in (Text (key_of ps o) ∷ Text (raised (key_of ps o)) ∷ []) rows → rows ≡ map (λ f. office_row (office_under ps f)) (seen_by o fs)
+  rows_seen o there rows s =
+      let low = key_of ps o in
+      let p = is_in_range low (raised low) in
+      offices_in_shows low (raised low) s.db rows (tables_of i).offices s.serves.schema_is s.serves.holds.offices s.answers ∙ ap (map office_row) (filter-map p (office_under ps) fs)
+      ∙ ap (λ l. map office_row (map (office_under ps) l)) (filter_alike (λ f. p (office_under ps f)) (λ f. is_at_or_below ps f.number o) fs
+      (all_there fs fs (λ f. p (office_under ps f) ≡ is_at_or_below ps f.number o) sound.tree.ascending (λ f here. range_is low (raised low) (office_under ps f) ∙ range_tree o f.number there here)))
+      ∙ Rattle.sqlite_keyed.proofs.ListLemmas.map-map office_row (office_under ps) (seen_by o fs)
+
+  -- what an office that isn't there sees
+  none_below : (o : ℕ) → office_at o fs ≡ None → seen_by o fs ≡ []
+  unfolding is_at_or_below
+  none_below o gone = none fs (all_there fs fs (λ f. is_within 5 ps f.number o ≡ false) sound.tree.ascending (λ f here. absent_above 5 ps (is_there fs) sound.tree.parents_there o (ap is_some gone) f.number here))
+    where
+      none : (gs : List Office) → AllByRecursion (λ (f : Office). is_within 5 ps f.number o ≡ false) gs → filter (λ f. is_within 5 ps f.number o) gs ≡ []
+      none [] all = refl
+      none (f ∷ gs) all = rw (all.0, none gs all.1)
+
+  pub none_seen : (o : ℕ) (found : Option (List ℕ)) → found ≡ None → found ≡ key_at o i → seen_by o fs ≡ []
+  none_seen o found is are = none_below o (unmapped (office_at o fs) (sym are ∙ is))
+    where
+      unmapped : (a : Option Office) → option_map (λ (f : Office). key_of ps f.number) a ≡ None → a ≡ None
+      unmapped None h = refl
+      unmapped (Some f) h = absurd (let k : Some (key_of ps f.number) ≡ None = h in cc)
+
+  key_known : (o : ℕ) (above : List ℕ) → Some above ≡ key_at o i → (is_there fs o ≡ true) × (above ≡ key_of ps o)
+  key_known o above are = go (office_at o fs) refl are
+    where
+      go : (a : Option Office) → office_at o fs ≡ a → Some above ≡ option_map (λ (f : Office). key_of ps f.number) a → (is_there fs o ≡ true) × (above ≡ key_of ps o)
+      go None e h = absurd (let k : Some above ≡ None = h in cc)
+      go (Some f) e h = let k : Some above ≡ Some (key_of ps f.number) = h in let same : above ≡ key_of ps f.number = cc in (ap is_some e, same ∙ ap (key_of ps) (number_at o fs f e))
+
+  pub offices_are : (o : ℕ) (found : Option (List ℕ)) (above low high : List ℕ) → found ≡ Some above → found ≡ key_at o i → low ≡ above → high ≡ raised above → (rows : List Row) → Shows i offices_in (Text low ∷ Text high ∷ []) rows
+      → rows ≡ map (λ f. office_row (office_under ps f)) (seen_by o fs)
+  offices_are o found above low high is are l h rows s =
+      let known = key_known o above (sym is ∙ are) in
+      rows_seen o known.0 rows (subst₂ (λ a b. Shows i offices_in (Text a ∷ Text b ∷ []) rows) (l ∙ known.1) (h ∙ ap raised known.1) s)
+
+-- ---- rows that are read into lines
+
+pub line_from : (found : OfficeRecord) (n : ℕ) (p : Option ℕ) (name : List ℕ) (ps : ℕ → Option ℕ) (f : Office) → office_of found ≡ office_under ps f → n ≡ found.number → p ≡ found.parent → name ≡ string_bytes found.name
+    → ◌≡◌ {A = Shown} (record { number = n; parent = p; name = name }) (line_of f)
+line_from found n p name ps f e a b d = λ k. record { number = (a ∙ ap (λ (r : OfficeRow). r.number) e) k; parent = (b ∙ ap (λ (r : OfficeRow). r.parent) e) k; name = (d ∙ ap (λ (r : OfficeRow). r.name) e) k }
+
+pub lines_more : {L : Type 0} (row : Office → Row) (line : Office → L) (rows : List Row) (n : ℕ) (item : Row) (x : L) (xs ys : List L) (fs : List Office) → rows ≡ map row fs → n < length rows → item ≡ get_or rows n item → ys ≡ xs ++ x ∷ [] → xs ≡ map line (take n fs)
+    → ((f : Office) → item ≡ row f → x ≡ line f) → ys ≡ map line (take (n + 1) fs)
+lines_more row line rows n item x xs ys fs are low is more before reads =
+    let low' : n < length fs = subst (λ m. n < m) (ap length are ∙ length-map fs row) low in
+    let d = new_office 0 0 [] in
+    let here = reads (get_or fs n d) (is ∙ ap (λ l. get_or l n item) are ∙ get_or-map row fs n d item low') in
+    more ∙ ap₂ ◌++◌ before (ap (λ y. y ∷ []) here) ∙ sym (ap (map line) (take_more fs n d low') ∙ map-append line (take n fs) (get_or fs n d ∷ []))

@@ -1,0 +1,154 @@
+//! What an office sees, by the range of its hierarchy text.
+
+ghost use Rattle.std.specs.Prelude.{◌≡◌, ℕ, List, Option, map, is_some, IfOk, IfErr};
+ghost use Rattle.mf_base.specs.declared.fault.Fault.TheVariants.{F20};
+ghost use Rattle.mf_office.specs.Tree.{is_within};
+ghost use Rattle.mf_model.specs.Institution.{Institution, Office as ModelOffice};
+ghost use Rattle.mf_model.specs.Tree.{parent_of, seen_by, seen_office};
+ghost use Rattle.mf_model.specs.Desk.{line_of};
+ghost use Rattle.mf_store.specs.Flat.{key_at, office_under, sees, has_room};
+ghost use Rattle.mf_store.specs.Rows.{office_row};
+
+use crate::records::{OfficeRecord, Record};
+use crate::store::{Store, given_up};
+use mf_base::Fault;
+use mf_model::{OfficeList, tree_of_offices};
+use mf_office::{Key, Name, Office, OfficeNo, depth_by_key, in_range};
+use sqlite::{Alter, Row, params};
+use std::alloc::Global;
+
+/// The number of an office, as each number in the tables is.
+fn office_number(number: u32) -> Result<OfficeNo, Fault>
+    ensures number { IfOk result (λ n. n ≡ number) }
+    ensures gives_up { IfErr result (λ fault. fault ≡ F20) }
+{
+    match OfficeNo::new(number) {
+        Some(number) => Ok(number),
+        None => Err(Fault::F20),
+    }
+}
+
+/// The number of the office above, where there is one.
+fn parent_number(number: Option<u32>) -> Result<Option<OfficeNo>, Fault>
+    ensures number { IfOk result (λ n. n ≡ number) }
+    ensures gives_up { IfErr result (λ fault. fault ≡ F20) }
+{
+    match number {
+        None => Ok(None),
+        Some(number) => Ok(Some(office_number(number)?)),
+    }
+}
+
+/// The office of a row.
+fn office_from(row: &Row) -> Result<Office, Fault>
+    ensures office { IfOk result (λ office. (parents : ℕ → Option ℕ) (f : ModelOffice) → row.now ≡ office_row (office_under parents f) → office ≡ line_of f) }
+    ensures gives_up { IfErr result (λ fault. fault ≡ F20) }
+{
+    let found = given_up(OfficeRecord::read(row))?;
+    let number = office_number(found.number)?;
+    let parent = parent_number(found.parent)?;
+    Ok(Office {
+        number,
+        parent,
+        name: Name::new(found.name),
+    })
+}
+
+/// The offices of the rows, in order.
+fn offices_from(alloc: Global, rows: &[Row]) -> Result<OfficeList, Fault>
+    ensures offices { IfOk result (λ list. (parents : ℕ → Option ℕ) (fs : List ModelOffice) → rows.now ≡ map (λ f. office_row (office_under parents f)) fs → list ≡ map line_of fs) }
+    ensures gives_up { IfErr result (λ fault. fault ≡ F20) }
+{
+    let mut offices = Vec::new(alloc);
+    for row in rows {
+        offices.push(office_from(row)?)?;
+    }
+    Ok(OfficeList::new(offices))
+}
+
+/// Whether a key lies in the range of another.
+fn is_below(alloc: Global, above: Option<Key>, key: Option<Key>) -> Result<bool, Fault>
+    ensures value { IfOk result (λ below. below ≡ sees above key) }
+    ensures gives_up { IfErr result (λ fault. fault ≡ F20) }
+{
+    let Some(above) = above else {
+        return Ok(false);
+    };
+    let Some(key) = key else {
+        return Ok(false);
+    };
+    let (low, high) = above.range(alloc)?;
+    Ok(in_range(low.as_str(), high.as_str(), key.as_str()))
+}
+
+/// Whether an office with this key has room below it: at most five dots, one for each office on the way.
+fn has_room_below(key: &Option<Key>) -> bool
+    ensures { result ≡ has_room key.now }
+{
+    match key {
+        None => false,
+        Some(key) => key.depth() <= 5,
+    }
+}
+
+impl<S: Alter> Store<S> {
+    ghost use Rattle.mf_store.specs.Stands.{StandsFor, IsClean, Stays};
+
+    /// The key of an office that is there.
+    fn key(&mut self, number: u32) -> Result<Option<Key>, Fault>
+        ensures kept { Stays S.Store self.old self.new }
+        ensures gives_up { IfErr result (λ fault. fault ≡ F20) }
+        ensures value { IsClean S.Store self.new → (i : Institution) → StandsFor S.Store self.old i → IfOk result (λ key. key ≡ key_at number i) }
+    {
+        let Some(office) = self.find_office(number)? else {
+            return Ok(None);
+        };
+        match Key::from_text(office.hkey) {
+            Some(key) => Ok(Some(key)),
+            None => Err(Fault::F20),
+        }
+    }
+
+    /// Whether an office is there and at or below another, by the range of the other's key.
+    pub fn visible(&mut self, alloc: Global, to: OfficeNo, office: OfficeNo) -> Result<bool, Fault>
+        ensures kept { Stays S.Store self.old self.new }
+        ensures gives_up { IfErr result (λ fault. fault ≡ F20) }
+        ensures value { IsClean S.Store self.new → (i : Institution) → StandsFor S.Store self.old i → IfOk result (λ seen. seen ≡ is_some (seen_office to office i)) }
+    {
+        tree_of_offices();
+        let above = self.key(to.get())?;
+        let below = self.key(office.get())?;
+        is_below(alloc, above, below)
+    }
+
+    /// Whether an office has room below it: it is there and less than six deep, the head being one.
+    pub fn room_below(&mut self, office: OfficeNo) -> Result<bool, Fault>
+        ensures kept { Stays S.Store self.old self.new }
+        ensures gives_up { IfErr result (λ fault. fault ≡ F20) }
+        ensures value { IsClean S.Store self.new → (i : Institution) → StandsFor S.Store self.old i → IfOk result (λ room. room ≡ is_within 4 (parent_of i.offices) office 1) }
+    {
+        tree_of_offices();
+        depth_by_key();
+        let key = self.key(office.get())?;
+        Ok(has_room_below(&key))
+    }
+
+    /// The offices at or below one, by number: one query over the range of its key.
+    pub fn offices(&mut self, alloc: Global, to: OfficeNo) -> Result<OfficeList, Fault>
+        ensures kept { Stays S.Store self.old self.new }
+        ensures gives_up { IfErr result (λ fault. fault ≡ F20) }
+        ensures value { IsClean S.Store self.new → (i : Institution) → StandsFor S.Store self.old i → IfOk result (λ list. list ≡ map line_of (seen_by to i.offices)) }
+    {
+        tree_of_offices();
+        let found = self.key(to.get())?;
+        let Some(above) = found else {
+            return Ok(OfficeList::new(Vec::new(alloc)));
+        };
+        let (low, high) = above.range(alloc)?;
+        let rows = self.rows(
+            "SELECT number, parent, hkey, name FROM offices WHERE hkey >= ?1 AND hkey < ?2 ORDER BY number",
+            params![&low, &high],
+        )?;
+        offices_from(alloc, &rows)
+    }
+}
