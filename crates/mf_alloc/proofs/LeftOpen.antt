@@ -195,5 +195,5 @@ rows-twice n order place rows amount overpaid line =
     ∙ ap (λ x. with_paid x (shares_by order (amounts_of order paid more) places)) (rows_paid-by order rows amount)
     ∙ with_paid-twice order (amounts_of order rows amount) (amounts_of order paid more) places rows
     ∙ ap (with_paid rows) (shares_by-same order (λ k. amounts_of order rows amount k + amounts_of order paid more k) (amounts_of order rows (amount + overpaid)) 0 (4 * length rows)
-        (λ k from to. amounts-twice n order place rows amount overpaid k line (omega (arith, line.size))))
+    (λ k from to. amounts-twice n order place rows amount overpaid k line (omega (arith, line.size))))
     ∙ sym (rows_paid-by order rows (amount + overpaid))

@@ -81,8 +81,8 @@ with_paid-some rows (share ∷ shares) =
     (λ x. with_paid rows x ≡ with_paid (pay_into rows share) shares)
     (λ _. with_paid-some (pay_into rows share) shares)
     (λ none.
-        let zero_amount : share.amount ≡ 0 = let low = ltb-false 0 share.amount none in omega arith in
-        with_paid-some rows shares ∙ ap (λ x. with_paid x shares) (sym (pay_into-none rows share zero_amount)))
+    let zero_amount : share.amount ≡ 0 = let low = ltb-false 0 share.amount none in omega arith in
+    with_paid-some rows shares ∙ ap (λ x. with_paid x shares) (sym (pay_into-none rows share zero_amount)))
 
 -- a share paid first or last
 with_paid-move : (rows : List Sums) (share : Share) (shares : List Share) → pay_into (with_paid rows shares) share ≡ with_paid (pay_into rows share) shares
