@@ -7,6 +7,7 @@ use super::*;
 use mf_base::{Day, Freq};
 use mf_catalog::{Calc, ChargeDef, ChargeKind, Method, Name, StrategyName, Terms};
 use std::alloc::Global;
+use std::process::Abort;
 use std::test::Fail;
 
 fn terms(
@@ -59,23 +60,26 @@ fn january() -> Result<Day, Fail>
     Ok(Day::parse(b"2024-01-31").ok_or("no day")?)
 }
 
-/// The text of a schedule from 2024-01-31.
-fn shown(alloc: Global, terms: &Terms, principal: u64, n: u32) -> Result<String, Fail>
-    requires { IsLoanWithinLimits terms.now principal n }
+/// The text of a schedule from 2024-01-31 is this one.
+fn assert_shown(
+    rt: &impl Abort,
+    alloc: Global,
+    terms: &Terms,
+    principal: u64,
+    expected: &str,
+) -> Result<(), Fail>
+    requires { IsLoanWithinLimits terms.now principal 3 }
 {
-    let rows = fresh(alloc, terms, principal, n, january()?)?;
-    Ok(schedule_text(alloc, &rows)?)
+    let rows = fresh(alloc, terms, principal, 3, january()?)?;
+    let text = schedule_text(alloc, &rows)?;
+    assert_eq!(rt; text.as_str(), expected);
+    Ok(())
 }
 
 #[test]
 fn flat_loan(rt: HostRuntime) -> Result<(), Fail> {
-    let rows = fresh(
-        rt.alloc(),
-        &monthly(Method::Flat, 0, 0),
-        120000,
-        12,
-        january()?,
-    )?;
+    let flat = monthly(Method::Flat, 0, 0);
+    let rows = fresh(rt.alloc(), &flat, 120000, 12, january()?)?;
     assert_eq!(rt; rows.len(), 12);
     for row in &rows {
         assert!(rt; row.principal == 10000 && row.interest == 1200);
@@ -85,130 +89,110 @@ fn flat_loan(rt: HostRuntime) -> Result<(), Fail> {
 
 #[test]
 fn the_loan_by_equal_principal(rt: HostRuntime) -> Result<(), Fail> {
-    let text = shown(
-        rt.alloc(),
-        &monthly(Method::EqualPrincipal, 0, 0),
-        100000,
-        3,
-    )?;
-    assert_eq!(rt;
-        text.as_str(),
-        "  1 2024-02-29            333.33             10.00            343.33
+    let expected = "  1 2024-02-29            333.33             10.00            343.33
   2 2024-03-31            333.33              6.67            340.00
   3 2024-04-30            333.34              3.33            336.67
 sum                      1000.00             20.00           1020.00
-"
-    );
-    Ok(())
+";
+    let loan = monthly(Method::EqualPrincipal, 0, 0);
+    assert_shown(&rt, rt.alloc(), &loan, 100000, expected)
 }
 
 #[test]
 fn the_loan_in_fixed_instalments(rt: HostRuntime) -> Result<(), Fail> {
-    let text = shown(rt.alloc(), &monthly(Method::Fixed, 0, 0), 100000, 3)?;
-    assert_eq!(rt;
-        text.as_str(),
-        "  1 2024-02-29            330.03             10.00            340.03
+    let expected = "  1 2024-02-29            330.03             10.00            340.03
   2 2024-03-31            333.33              6.70            340.03
   3 2024-04-30            336.64              3.37            340.01
 sum                      1000.00             20.07           1020.07
-"
-    );
-    Ok(())
+";
+    let loan = monthly(Method::Fixed, 0, 0);
+    assert_shown(&rt, rt.alloc(), &loan, 100000, expected)
 }
 
 #[test]
 fn the_loan_with_grace_of_principal(rt: HostRuntime) -> Result<(), Fail> {
-    let text = shown(rt.alloc(), &monthly(Method::Fixed, 1, 0), 100000, 3)?;
-    assert_eq!(rt;
-        text.as_str(),
-        "  1 2024-02-29              0.00             10.00             10.00
+    let expected = "  1 2024-02-29              0.00             10.00             10.00
   2 2024-03-31            497.51             10.00            507.51
   3 2024-04-30            502.49              5.02            507.51
 sum                      1000.00             25.02           1025.02
-"
-    );
-    Ok(())
+";
+    let loan = monthly(Method::Fixed, 1, 0);
+    assert_shown(&rt, rt.alloc(), &loan, 100000, expected)
 }
 
 #[test]
 fn the_loan_with_grace_of_interest(rt: HostRuntime) -> Result<(), Fail> {
-    let text = shown(
-        rt.alloc(),
-        &monthly(Method::EqualPrincipal, 0, 1),
-        100000,
-        3,
-    )?;
-    assert_eq!(rt;
-        text.as_str(),
-        "  1 2024-02-29            333.33              0.00            333.33
+    let expected = "  1 2024-02-29            333.33              0.00            333.33
   2 2024-03-31            333.33             16.67            350.00
   3 2024-04-30            333.34              3.33            336.67
 sum                      1000.00             20.00           1020.00
-"
-    );
-    Ok(())
+";
+    let loan = monthly(Method::EqualPrincipal, 0, 1);
+    assert_shown(&rt, rt.alloc(), &loan, 100000, expected)
 }
 
 #[test]
 fn the_loan_every_two_weeks(rt: HostRuntime) -> Result<(), Fail> {
     let fortnights = terms(Method::EqualPrincipal, 1200, Freq::Weeks, 2, 0, 0);
-    let text = shown(rt.alloc(), &fortnights, 100000, 3)?;
-    assert_eq!(rt;
-        text.as_str(),
-        "  1 2024-02-14            333.33              4.67            338.00
+    let expected = "  1 2024-02-14            333.33              4.67            338.00
   2 2024-02-28            333.33              3.11            336.44
   3 2024-03-13            333.34              1.56            334.90
 sum                      1000.00              9.34           1009.34
-"
-    );
-    Ok(())
+";
+    assert_shown(&rt, rt.alloc(), &fortnights, 100000, expected)
 }
 
 #[test]
 fn the_smallest_loan(rt: HostRuntime) -> Result<(), Fail> {
     let without_interest = terms(Method::Fixed, 0, Freq::Months, 1, 0, 0);
-    let text = shown(rt.alloc(), &without_interest, 1, 3)?;
-    assert_eq!(rt;
-        text.as_str(),
-        "  1 2024-02-29              0.01              0.00              0.01
+    let expected = "  1 2024-02-29              0.01              0.00              0.01
   2 2024-03-31              0.00              0.00              0.00
   3 2024-04-30              0.00              0.00              0.00
 sum                         0.01              0.00              0.01
-"
+";
+    assert_shown(&rt, rt.alloc(), &without_interest, 1, expected)
+}
+
+/// A flat loan of 10^12 cents at 1000 percent over n periods of a year: each interest, the principal of the first,
+/// the second and the last instalment, and the last due day.
+fn assert_largest(
+    rt: &impl Abort,
+    alloc: Global,
+    n: u32,
+    parts: (u64, u64, u64),
+    last: &[u8],
+) -> Result<(), Fail>
+    requires some { 2 ≤ n }
+    requires most { n ≤ 360 }
+{
+    let yearly = terms(Method::Flat, 100000, Freq::Months, 12, 0, 0);
+    let rows = fresh(alloc, &yearly, 1_000_000_000_000, n, january()?)?;
+    assert!(rt; rows.iter().all(|row| row.interest == 10_000_000_000_000));
+    let end = rows[n as usize - 1];
+    assert_eq!(rt;
+        (rows[0].principal, rows[1].principal, end.principal),
+        parts
     );
-    Ok(())
-}
-
-fn principal_at(rows: &[Instalment], place: usize) -> Option<u64> {
-    rows.get(place).map(|row| row.principal)
-}
-
-#[test]
-fn the_largest_loan(rt: HostRuntime) -> Result<(), Fail> {
-    let yearly = terms(Method::Flat, 100000, Freq::Months, 12, 0, 0);
-    let rows = fresh(rt.alloc(), &yearly, 1_000_000_000_000, 120, january()?)?;
-    assert_eq!(rt; principal_at(&rows, 1), Some(8333333333));
-    assert_eq!(rt; principal_at(&rows, 2), Some(8333333334));
-    assert_eq!(rt; principal_at(&rows, 119), Some(8333333334));
-    assert_eq!(rt; rows.last().map(|row| row.due), Day::read(b"2144-01-31"));
-    for row in &rows {
-        assert_eq!(rt; row.interest, 10_000_000_000_000);
-    }
+    assert_eq!(rt; Some(end.due), Day::read(last));
     Ok(())
 }
 
 #[test]
-fn the_longest_loan(rt: HostRuntime) -> Result<(), Fail> {
-    let yearly = terms(Method::Flat, 100000, Freq::Months, 12, 0, 0);
-    let rows = fresh(rt.alloc(), &yearly, 1_000_000_000_000, 360, january()?)?;
-    assert_eq!(rt; principal_at(&rows, 0), Some(2777777777));
-    assert_eq!(rt; principal_at(&rows, 1), Some(2777777778));
-    assert_eq!(rt; principal_at(&rows, 359), Some(2777777778));
-    assert_eq!(rt; rows.last().map(|row| row.due), Day::read(b"2384-01-31"));
-    for row in &rows {
-        assert_eq!(rt; row.interest, 10_000_000_000_000);
-    }
-    Ok(())
+fn the_largest_loans(rt: HostRuntime) -> Result<(), Fail> {
+    assert_largest(
+        &rt,
+        rt.alloc(),
+        120,
+        (8333333333, 8333333333, 8333333334),
+        b"2144-01-31",
+    )?;
+    assert_largest(
+        &rt,
+        rt.alloc(),
+        360,
+        (2777777777, 2777777778, 2777777778),
+        b"2384-01-31",
+    )
 }
 
 fn charge(alloc: Global, kind: ChargeKind, calc: Calc, value: u64) -> Result<ChargeDef, Fail>
