@@ -4,13 +4,13 @@ use Rattle.std.specs.Prelude.{filter, All}
 use Rattle.std.specs.List.{range_with_len}
 use Rattle.std.proofs.lemmas.Bool.{cases_lt, cases_eq}
 use Rattle.std.proofs.lemmas.List.{get_or-set_same, length-set}
-use Rattle.std.proofs.lemmas.List.Elements.{All-set}
+use Rattle.std.proofs.lemmas.List.Elements.{All-set, All-nil, All-cons}
 use Rattle.mf_alloc.specs.declared.row.Cell.{Cell}
 use Rattle.mf_alloc.specs.declared.row.Portion.{Portion}
 use Rattle.mf_alloc.specs.declared.row.Portion.TheVariants.{Penalty, Fee, Interest, Principal}
 use Rattle.mf_alloc.specs.declared.row.Share.{Share}
 use Rattle.mf_alloc.specs.Sums.{Sums, open_at, IsWhole, AreWhole}
-use Rattle.mf_alloc.specs.Rows.{outstanding, no_row, row_at, pay_row, pay_into, with_paid, place_in_row, IsCell}
+use Rattle.mf_alloc.specs.Rows.{outstanding, no_row, row_at, pay_row, pay_into, with_paid, place_in_row, IsCell, IsPayable}
 use Rattle.mf_alloc.specs.Payment.{start, share_at, is_some_share, shares_of, rest_of}
 use Rattle.mf_alloc.specs.OrderLaws.{IsOrder}
 use Rattle.mf_alloc.proofs.PaymentLemmas.{outstanding-pay_into, start-more}
@@ -197,3 +197,10 @@ rows-twice n order place rows amount overpaid line =
     ∙ ap (with_paid rows) (shares_by-same order (λ k. amounts_of order rows amount k + amounts_of order paid more k) (amounts_of order rows (amount + overpaid)) 0 (4 * length rows)
     (λ k from to. amounts-twice n order place rows amount overpaid k line (omega (arith, line.size))))
     ∙ sym (rows_paid-by order rows (amount + overpaid))
+
+-- shares that can be paid are of cells that are there
+pub payable-cells : (rows : List Sums) (shares : List Share) → IsPayable rows shares → All (λ (s : Share). IsCell (length rows) s.cell) shares
+payable-cells rows [] fits = All-nil (λ (s : Share). IsCell (length rows) s.cell)
+payable-cells rows (share ∷ shares) fits =
+    All-cons (λ (s : Share). IsCell (length rows) s.cell) share shares fits.0
+    (subst (λ (n : ℕ). All (λ (s : Share). IsCell n s.cell) shares) (length-pay_into rows share) (payable-cells (pay_into rows share) shares fits.2))

@@ -60,6 +60,7 @@ fn shares_of<T: Strategy>(
     ensures rest { IfOk result (λ answer. answer.1 ≡ line_rest (T.cell_at strategy.now (length rows.now)) rows.now amount) }
     ensures whole { IfOk result (λ answer. total_of answer.0.items + answer.1 ≡ amount) }
     ensures payable { IfOk result (λ answer. IsPayable rows.now answer.0.items) }
+    ensures cells { IfOk result (λ answer. All (λ share. IsCell (length rows.now) share.cell) answer.0.items) }
     ensures few { IfOk result (λ answer. vec_len answer.0 ≤ 4 * length rows.now) }
     ensures only { IsOkUnless result Fault.F20 }
 {
@@ -94,6 +95,7 @@ pub fn pay<T: Strategy>(
     ensures rest { IfOk result (λ answer. answer.1 ≡ line_rest (T.cell_at strategy.now (length rows.old.items)) rows.old.items amount) }
     ensures whole { IfOk result (λ answer. total_of answer.0.items + answer.1 ≡ amount) }
     ensures few { IfOk result (λ answer. vec_len answer.0 ≤ 4 * vec_len rows.old) }
+    ensures cells { IfOk result (λ answer. All (λ share. IsCell (vec_len rows.old) share.cell) answer.0.items) }
 
     // Each cell's paid rises by its share and nothing else changes, so taking the shares out gives the rows back.
     ensures rows { IfOk result (λ answer. rows.new.items ≡ with_paid rows.old.items answer.0.items) }

@@ -4,6 +4,7 @@ use Rattle.mf_alloc.specs.Rows.{outstanding}
 use Rattle.mf_alloc.specs.Payment.{shares_below, start}
 use Rattle.mf_alloc.specs.OrderLaws.{IsOrder}
 use Rattle.mf_alloc.proofs.PaymentLemmas.{start-more, shares_below-push, shares_below-without, payable-from, total-from, at_end}
+use Rattle.mf_alloc.proofs.LeftOpen.{payable-cells}
 use Rattle.mf_alloc.proofs.payment.shares_of.Goals as goal
 use Rattle.mf_alloc.proofs.payment.shares_of.Goals.{then-share-gt0+in_ok-push, else-share-gt0}
 
@@ -53,3 +54,6 @@ returns-clause-payable g c =
     } in
     payable-from order (g.T.Strategy.place_of c.args.strategy.now n) c.args.rows.now c.args.amount c.loop-k.shares.items is
     (at_end (shares_below order c.args.rows.now c.args.amount) c.loop-k.k (4 * n) c.loop-k.shares.items c.loop-k.invariant.shares end)
+
+pub returns-clause-cells : goal.returns-clause-cells
+returns-clause-cells g c = payable-cells c.args.rows.now c.loop-k.shares.items (returns-clause-payable g c)

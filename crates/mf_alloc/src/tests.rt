@@ -1,0 +1,68 @@
+use crate::{
+    Cell, InterestFirst, MifosStandard, Portion, PrincipalFirst, Row, Share, Strategy, pay, undo,
+};
+use mf_base::{Day, Fault};
+use std::alloc::Global;
+use std::test::Fail;
+
+fn share(instalment: u32, portion: Portion, amount: u64) -> Share {
+    Share {
+        cell: Cell {
+            instalment,
+            portion,
+        },
+        amount,
+    }
+}
+
+/// Pays 5000 on an instalment with a penalty, and answers the first share's amount and how many shares there are.
+fn shares_of<T: Strategy>(
+    alloc: Global,
+    strategy: &T,
+    row: Row,
+    day: Day,
+) -> Result<Vec<Share>, Fault> {
+    let mut rows = Vec::new(alloc);
+    rows.push(row)?;
+    let (shares, _rest) = pay(alloc, strategy, &mut rows, 5000, day)?;
+    Ok(shares)
+}
+
+#[test]
+fn pays_in_each_order(rt: HostRuntime) -> Result<(), Fail> {
+    let day = Day::parse(b"2024-03-31").ok_or("a day")?;
+    let row = Row::fresh(day, [3433, 0, 1000, 33333]);
+    let standard = shares_of(rt.alloc(), &MifosStandard, row, day)?;
+    let expected = [
+        share(1, Portion::Penalty, 3433),
+        share(1, Portion::Interest, 1000),
+        share(1, Portion::Principal, 567),
+    ];
+    assert_eq!(rt; standard.as_slice(), expected.as_slice());
+    let principal = shares_of(rt.alloc(), &PrincipalFirst, row, day)?;
+    assert_eq!(rt;
+        principal.as_slice(),
+        [share(1, Portion::Principal, 5000)].as_slice()
+    );
+    let interest = shares_of(rt.alloc(), &InterestFirst, row, day)?;
+    let expected = [
+        share(1, Portion::Interest, 1000),
+        share(1, Portion::Principal, 4000),
+    ];
+    assert_eq!(rt; interest.as_slice(), expected.as_slice());
+    Ok(())
+}
+
+#[test]
+fn gives_the_rows_back(rt: HostRuntime) -> Result<(), Fail> {
+    let day = Day::parse(b"2024-03-31").ok_or("a day")?;
+    let row = Row::fresh(day, [0, 0, 1000, 33333]);
+    let mut rows = Vec::new(rt.alloc());
+    rows.push(row)?;
+    let (shares, rest) = pay(rt.alloc(), &MifosStandard, &mut rows, 40000, day)?;
+    assert_eq!(rt; rest, 5667);
+    assert_eq!(rt; rows[0].is_open(), false);
+    undo(&mut rows, &shares);
+    assert_eq!(rt; rows.as_slice(), [row].as_slice());
+    Ok(())
+}
