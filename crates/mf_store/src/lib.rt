@@ -15,3 +15,6 @@ mod visible;
 mod writes;
 
 pub use store::Store;
+
+#[cfg(test)]
+mod tests;
