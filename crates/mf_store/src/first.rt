@@ -18,7 +18,7 @@ use sqlite::{Connection, MemStore};
 use std::alloc::Global;
 
 /// The tables, the business day, the head office and its manager.
-pub fn first_writes(alloc: Global, day: Day) -> Result<Vec<StoreWrite>, Fault>
+pub(crate) fn first_writes(alloc: Global, day: Day) -> Result<Vec<StoreWrite>, Fault>
     ensures writes { IfOk result (λ writes. Begins writes.items day) }
     ensures gives_up { IfErr result (λ fault. fault ≡ F20) }
 {

@@ -14,7 +14,7 @@ use mf_office::Role;
 use sqlite::{Alter, params};
 
 /// The role that a number of the table staff stands for.
-pub fn role_from(number: u32) -> Result<Role, Fault>
+pub(crate) fn role_from(number: u32) -> Result<Role, Fault>
     ensures role { IfOk result (λ role. role_number role ≡ number) }
     ensures gives_up { IfErr result (λ fault. fault ≡ F20) }
 {

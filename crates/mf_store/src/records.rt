@@ -2,7 +2,6 @@ ghost use Rattle.std.specs.Prelude.{◌≡◌, List, IfOk, map, option_map, slic
 ghost use Rattle.sqlite.specs.Order.{Row as SqlRow};
 
 use sqlite::{Error, Row};
-use std::alloc::Global;
 
 /// A row of a table, as the program holds it.
 pub trait Record {
@@ -21,24 +20,13 @@ pub trait Record {
 }
 
 /// The record of the first row, if there is one.
-pub fn first<T: Record>(rows: &[Row]) -> Result<Option<T>, Error>
+pub(crate) fn first<T: Record>(rows: &[Row]) -> Result<Option<T>, Error>
     ensures { IfOk result (λ x. (rs : List T.Item) → rows.now ≡ map T.stored rs → option_map T.item x ≡ slice_get rs 0) }
 {
     match rows.first() {
         None => Ok(None),
         Some(row) => Ok(Some(T::read(row)?)),
     }
-}
-
-/// The records of all rows, in order.
-pub fn all<T: Record + Drop>(alloc: Global, rows: &[Row]) -> Result<Vec<T>, Error>
-    ensures { IfOk result (λ xs. (rs : List T.Item) → rows.now ≡ map T.stored rs → map T.item xs.items ≡ rs) }
-{
-    let mut records = Vec::new(alloc);
-    for row in rows {
-        records.push(T::read(row)?)?;
-    }
-    Ok(records)
 }
 
 /// The one row of the table meta: what the file is, and the business day.

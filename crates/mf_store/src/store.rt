@@ -41,7 +41,7 @@ impl<S: Alter> Model for Store<S> {
 }
 
 /// What the store could not do is F20, whatever the cause.
-pub fn given_up<T>(answer: Result<T, Error>) -> Result<T, Fault>
+pub(crate) fn given_up<T>(answer: Result<T, Error>) -> Result<T, Fault>
     ensures ok { IfOk answer (λ x. result ≡ Ok x) }
     ensures err { OnErr answer (result ≡ Err Fault.F20) }
 {
