@@ -12,7 +12,7 @@ use Rattle.mf_catalog.specs.declared.terms.Method.TheVariants.{Flat, EqualPrinci
 use Rattle.mf_words.specs.Options.{microloan_app}
 use Rattle.mf_words.specs.declared.asked.ScheduleWords.{ScheduleWords}
 use Rattle.mf_words.specs.declared.asked.Command.{Command}
-use Rattle.mf_words.specs.declared.asked.Command.TheVariants.{Schedule}
+use Rattle.mf_words.specs.declared.asked.Command.TheVariants.{Batch, Schedule}
 
 abbrev pub method_text : Method → List ℕ
 method_text Flat = codes "flat"
@@ -65,8 +65,10 @@ HasOptions words name rows = subcommand_of microloan_app words ≡ Some (name, r
 
 -- a command's numbers are within their limits
 abbrev pub HasLimits : Command → Type 0
+HasLimits (Batch day) = day ≤ last_entered_day
 HasLimits (Schedule asked) = IsWithinLimits asked
 
 -- what the words ask for
 abbrev pub IsAsked : List Text → Command → Type 0
+IsAsked words (Batch day) = (rows : List Row) × HasOptions words (codes "batch") rows × IsDayAt rows (codes "day") day
 IsAsked words (Schedule asked) = (rows : List Row) × HasOptions words (codes "schedule") rows × AreScheduleWords rows asked

@@ -33,6 +33,10 @@ schedule_app =
     (default_rule (codes "principal-grace") (codes "0")))
     (default_rule (codes "interest-grace") (codes "0"))
 
+-- `batch` with its option
+abbrev pub batch_app : App
+batch_app = with_rule (new_app (codes "batch")) (default_rule (codes "day") (codes "2024-01-01"))
+
 -- the program, which wants a command
 abbrev pub bare_app : App
 bare_app =
@@ -41,4 +45,4 @@ bare_app =
 
 -- the program with its commands
 abbrev pub microloan_app : App
-microloan_app = with_subcommand bare_app schedule_app.top
+microloan_app = with_subcommand (with_subcommand bare_app batch_app.top) schedule_app.top

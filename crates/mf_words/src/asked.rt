@@ -5,6 +5,8 @@ use std::alloc::{AllocError, AllocFailed};
 /// What the program is asked to do.
 #[derive(Clone, Copy, PartialEq, Eq, Debug)]
 pub enum Command {
+    /// Answer the request lines on standard input, over an institution in memory that begins on a day.
+    Batch { day: Day },
     /// Print a schedule.
     Schedule(ScheduleWords),
 }

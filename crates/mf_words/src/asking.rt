@@ -6,8 +6,9 @@ ghost use Rattle.mf_words.specs.declared.asked.Command.{Command};
 
 use crate::asked::{Command, Words};
 use crate::options::microloan_command;
-use crate::reading::schedule_words;
+use crate::reading::{Wrong, schedule_words};
 use crate::refusal::{no_command, refused_by_clap, wrong_option};
+use crate::values::day_at;
 use clap::error::ErrorKind;
 use clap::{ArgMatches, Error};
 use std::alloc::Global;
@@ -34,6 +35,12 @@ pub fn command(alloc: Global, words: &[String]) -> Result<Command, Words>
         Ok(matches) => matches,
         Err(error) => return Err(refused_by_clap(alloc, &error)),
     };
+    if let Some(options) = matches.subcommand_matches("batch") {
+        return match day_at(options, "day") {
+            Some(day) => Ok(Command::Batch { day }),
+            None => Err(wrong_option(alloc, "batch", Wrong::Day)),
+        };
+    }
     let Some(options) = matches.subcommand_matches("schedule") else {
         return Err(no_command(alloc));
     };

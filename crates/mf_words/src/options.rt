@@ -1,7 +1,7 @@
 ghost use Rattle.std.specs.Prelude.{◌≡◌, codes, IfOk, false};
 ghost use Rattle.clap.specs.Words.{app_of, rule_of, new_app, with_rule};
 ghost use Rattle.clap.specs.declared.Command.TheViews.{out-Command as fields_of};
-ghost use Rattle.mf_words.specs.Options.{option_rule, required_rule, default_rule, loan_app, schedule_app, microloan_app};
+ghost use Rattle.mf_words.specs.Options.{option_rule, required_rule, default_rule, batch_app, loan_app, schedule_app, microloan_app};
 
 use clap::{Arg, Command};
 use std::alloc::{AllocError, Global};
@@ -131,15 +131,37 @@ fn schedule_command<'a>(alloc: Global) -> Result<Command<'a>, AllocError>
     with_option(command, interest_grace)
 }
 
+/// The command `batch`.
+fn batch_command<'a>(alloc: Global) -> Result<Command<'a>, AllocError>
+    ensures app { IfOk result (λ c. app_of c ≡ batch_app) }
+    ensures local { IfOk result (λ c. (fields_of c).has_globals ≡ false) }
+{
+    let day = default_option(
+        alloc,
+        "day",
+        "DAY",
+        "2024-01-01",
+        "First business day of the institution",
+    );
+    let command = Command::new(alloc, "batch")
+        .about("Answer request lines, over an institution in memory")
+        .after_help(
+            "Each line of standard input is `caller method path`, then a space and a JSON\nbody where the request has one. Each reply is a status, a space and a body.\n\nDays are 2000-01-01 to 2099-12-31.\n\nExample:\n  echo '1/1 POST /clients {\"office\":1,\"name\":\"Amina\"}' | microloan batch",
+        );
+    with_option(command, day)
+}
+
 /// The program with its commands.
 pub(crate) fn microloan_command<'a>(alloc: Global) -> Result<Command<'a>, AllocError>
     ensures app { IfOk result (λ c. app_of c ≡ microloan_app) }
     ensures local { IfOk result (λ c. (fields_of c).has_globals ≡ false) }
 {
+    let batch = batch_command(alloc)?;
     let schedule = schedule_command(alloc)?;
-    Command::new(alloc, "microloan")
+    let program = Command::new(alloc, "microloan")
         .about("The loan desk of a microfinance institution")
         .subcommand_required(true)
         .disable_help_subcommand(true)
-        .subcommand(schedule)
+        .subcommand(batch)?;
+    program.subcommand(schedule)
 }

@@ -6,7 +6,7 @@ use std::alloc::{AllocError, Global};
 use std::process::Abort;
 use std::test::Fail;
 
-fn words(alloc: Global, line: &str) -> Result<Vec<String>, AllocError> {
+fn words_of(alloc: Global, line: &str) -> Result<Vec<String>, AllocError> {
     let mut all = Vec::new(alloc);
     for word in line.split_whitespace() {
         all.push(String::from_str(alloc, word)?)?;
@@ -16,7 +16,7 @@ fn words(alloc: Global, line: &str) -> Result<Vec<String>, AllocError> {
 
 /// The line that is said of words that are wrong.
 fn line_of(rt: &impl Abort, alloc: Global, line: &str) -> Result<String, AllocError> {
-    let words = words(alloc, line)?;
+    let words = words_of(alloc, line)?;
     match command(alloc, &words) {
         Err(Words::Bad(said)) => Ok(said),
         _ => {
@@ -29,7 +29,7 @@ fn line_of(rt: &impl Abort, alloc: Global, line: &str) -> Result<String, AllocEr
 #[test]
 fn reads_a_schedule(rt: HostRuntime) -> Result<(), Fail> {
     let alloc = rt.alloc();
-    let words = words(
+    let words = words_of(
         alloc,
         "microloan schedule --method declining-equal-principal --principal 100000 --rate 1200 --periods 3 --day 2024-01-31",
     )?;
@@ -52,7 +52,7 @@ fn reads_a_schedule(rt: HostRuntime) -> Result<(), Fail> {
 #[test]
 fn reads_every_option(rt: HostRuntime) -> Result<(), Fail> {
     let alloc = rt.alloc();
-    let words = words(
+    let words = words_of(
         alloc,
         "microloan schedule --interest-grace=1 --principal-grace 2 --every 52 --frequency weeks --day 2099-12-31 --periods 120 --rate 100000 --principal 1000000000000 --method flat",
     )?;
@@ -69,6 +69,25 @@ fn reads_every_option(rt: HostRuntime) -> Result<(), Fail> {
         interest_grace: 1,
     });
     assert!(rt; asked == wanted);
+    Ok(())
+}
+
+#[test]
+fn reads_the_day_of_a_batch(rt: HostRuntime) -> Result<(), Fail> {
+    let alloc = rt.alloc();
+    let words = words_of(alloc, "microloan batch")?;
+    let asked = command(alloc, &words).ok().ok_or("read")?;
+    let day = Day::parse(b"2024-01-01").ok_or("a day")?;
+    assert!(rt; asked == Command::Batch { day });
+    let words = words_of(alloc, "microloan batch --day 2024-01-31")?;
+    let asked = command(alloc, &words).ok().ok_or("read")?;
+    let day = Day::parse(b"2024-01-31").ok_or("a day")?;
+    assert!(rt; asked == Command::Batch { day });
+    let said = line_of(&rt, alloc, "microloan batch --day 2100-01-01")?;
+    assert_eq!(rt;
+        said.as_str(),
+        "microloan: --day wants a day from 2000-01-01 to 2099-12-31, as 2024-01-31; see 'microloan batch --help'"
+    );
     Ok(())
 }
 
@@ -134,7 +153,7 @@ fn says_what_is_wrong_in_one_line(rt: HostRuntime) -> Result<(), Fail> {
 
 /// The help that words ask for.
 fn help_of(rt: &impl Abort, alloc: Global, line: &str) -> Result<String, AllocError> {
-    let words = words(alloc, line)?;
+    let words = words_of(alloc, line)?;
     match command(alloc, &words) {
         Err(Words::Help(text)) => Ok(text),
         _ => {
@@ -155,5 +174,7 @@ fn shows_help(rt: HostRuntime) -> Result<(), Fail> {
     assert!(rt; text.lines().all(|line| line.len() <= 80));
     let help = help_of(&rt, alloc, "microloan --help")?;
     assert!(rt; help.as_str().find("schedule").is_some());
+    let help = help_of(&rt, alloc, "microloan batch --help")?;
+    assert!(rt; help.as_str().lines().all(|line| line.len() <= 80));
     Ok(())
 }
