@@ -1,10 +1,16 @@
 //! The loan desk's program: reads its words, and does what they ask for.
 #![tactic(auto)]
 
+mod batch;
 mod schedule;
 
+ghost use Rattle.std.specs.Prelude.{◌≤◌};
+ghost use Rattle.mf_base.specs.DayText.{last_entered_day};
 ghost use Rattle.mf_words.specs.Asked.{IsWithinLimits};
 
+use batch::answer_lines;
+use mf_base::{Cause, Day};
+use mf_wire::{WatchedReader, WatchedWriter};
 use mf_words::{Command, ScheduleWords, Words, command};
 use schedule::schedule;
 use std::process::ExitCode;
@@ -20,10 +26,31 @@ const BAD_WORDS: u8 = 2;
 fn main(rt: HostRuntime) -> io::Result<ExitCode> {
     let words: Vec<String> = env::args(&rt)?.collect(rt.alloc())?;
     let status = match command(rt.alloc(), &words) {
+        Ok(Command::Batch { day }) => answer_input(&rt, day)?,
         Ok(Command::Schedule(asked)) => print_schedule(&rt, &asked)?,
         Err(words) => refuse_words(&rt, words)?,
     };
     Ok(ExitCode::from(status))
+}
+
+/// Answers the request lines on standard input, and gives the program's status.
+fn answer_input<R: Print + Eprint + Input + AllocGlobal>(rt: &R, day: Day) -> io::Result<u8>
+    requires { day ≤ last_entered_day }
+{
+    let mut source = WatchedReader::new(rt.reader());
+    let mut sink = WatchedWriter::new(io::writer(rt));
+    match answer_lines(rt.alloc(), day, &mut source, &mut sink) {
+        Ok(_) => Ok(DONE),
+        Err(fault) => {
+            let cause = match fault.cause {
+                Cause::Read => "read",
+                Cause::Write => "write",
+                Cause::Memory => "memory",
+            };
+            rt.eprintln(format_args!("microloan: {cause}"))?;
+            Ok(FAULT)
+        }
+    }
 }
 
 /// Prints the schedule that the words ask for, and gives the program's status.
@@ -59,3 +86,6 @@ fn refuse_words<R: Print + Eprint>(rt: &R, words: Words) -> io::Result<u8> {
         }
     }
 }
+
+#[cfg(test)]
+mod tests;
