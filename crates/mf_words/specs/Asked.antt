@@ -65,10 +65,10 @@ HasOptions words name rows = subcommand_of microloan_app words ≡ Some (name, r
 
 -- a command's numbers are within their limits
 abbrev pub HasLimits : Command → Type 0
-HasLimits (Batch day) = day ≤ last_entered_day
+HasLimits (Batch asked) = asked.day ≤ last_entered_day
 HasLimits (Schedule asked) = IsWithinLimits asked
 
 -- what the words ask for
 abbrev pub IsAsked : List Text → Command → Type 0
-IsAsked words (Batch day) = (rows : List Row) × HasOptions words (codes "batch") rows × IsDayAt rows (codes "day") day
+IsAsked words (Batch asked) = (rows : List Row) × HasOptions words (codes "batch") rows × IsDayAt rows (codes "day") asked.day
 IsAsked words (Schedule asked) = (rows : List Row) × HasOptions words (codes "schedule") rows × AreScheduleWords rows asked

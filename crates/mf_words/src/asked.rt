@@ -6,9 +6,16 @@ use std::alloc::{AllocError, AllocFailed};
 #[derive(Clone, Copy, PartialEq, Eq, Debug)]
 pub enum Command {
     /// Answer the request lines on standard input, over an institution in memory that begins on a day.
-    Batch { day: Day },
+    Batch(BatchWords),
     /// Print a schedule.
     Schedule(ScheduleWords),
+}
+
+/// The options of `batch`.
+#[derive(Clone, Copy, PartialEq, Eq, Debug)]
+pub struct BatchWords {
+    /// The first business day of the institution.
+    pub day: Day,
 }
 
 /// The options of `schedule`.

@@ -4,7 +4,7 @@ ghost use Rattle.mf_words.specs.Options.{microloan_app};
 ghost use Rattle.mf_words.specs.Asked.{HasLimits, IsAsked};
 ghost use Rattle.mf_words.specs.declared.asked.Command.{Command};
 
-use crate::asked::{Command, Words};
+use crate::asked::{BatchWords, Command, Words};
 use crate::options::microloan_command;
 use crate::reading::{Wrong, schedule_words};
 use crate::refusal::{no_command, refused_by_clap, wrong_option};
@@ -37,7 +37,7 @@ pub fn command(alloc: Global, words: &[String]) -> Result<Command, Words>
     };
     if let Some(options) = matches.subcommand_matches("batch") {
         return match day_at(options, "day") {
-            Some(day) => Ok(Command::Batch { day }),
+            Some(day) => Ok(Command::Batch(BatchWords { day })),
             None => Err(wrong_option(alloc, "batch", Wrong::Day)),
         };
     }

@@ -8,7 +8,7 @@ mod reading;
 mod refusal;
 mod values;
 
-pub use asked::{Command, ScheduleWords, Words};
+pub use asked::{BatchWords, Command, ScheduleWords, Words};
 pub use asking::command;
 
 #[cfg(test)]

@@ -1,5 +1,5 @@
 //! The words that are read, and what is said of those that are not.
-use crate::{Command, ScheduleWords, Words, command};
+use crate::{BatchWords, Command, ScheduleWords, Words, command};
 use mf_base::{Day, Freq};
 use mf_catalog::Method;
 use std::alloc::{AllocError, Global};
@@ -78,11 +78,11 @@ fn reads_the_day_of_a_batch(rt: HostRuntime) -> Result<(), Fail> {
     let words = words_of(alloc, "microloan batch")?;
     let asked = command(alloc, &words).ok().ok_or("read")?;
     let day = Day::parse(b"2024-01-01").ok_or("a day")?;
-    assert!(rt; asked == Command::Batch { day });
+    assert!(rt; asked == Command::Batch(BatchWords { day }));
     let words = words_of(alloc, "microloan batch --day 2024-01-31")?;
     let asked = command(alloc, &words).ok().ok_or("read")?;
     let day = Day::parse(b"2024-01-31").ok_or("a day")?;
-    assert!(rt; asked == Command::Batch { day });
+    assert!(rt; asked == Command::Batch(BatchWords { day }));
     let said = line_of(&rt, alloc, "microloan batch --day 2100-01-01")?;
     assert_eq!(rt;
         said.as_str(),

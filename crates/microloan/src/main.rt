@@ -9,9 +9,9 @@ ghost use Rattle.mf_base.specs.DayText.{last_entered_day};
 ghost use Rattle.mf_words.specs.Asked.{IsWithinLimits};
 
 use batch::answer_lines;
-use mf_base::{Cause, Day};
+use mf_base::Cause;
 use mf_wire::{WatchedReader, WatchedWriter};
-use mf_words::{Command, ScheduleWords, Words, command};
+use mf_words::{BatchWords, Command, ScheduleWords, Words, command};
 use schedule::schedule;
 use std::process::ExitCode;
 use std::{env, io};
@@ -26,7 +26,7 @@ const BAD_WORDS: u8 = 2;
 fn main(rt: HostRuntime) -> io::Result<ExitCode> {
     let words: Vec<String> = env::args(&rt)?.collect(rt.alloc())?;
     let status = match command(rt.alloc(), &words) {
-        Ok(Command::Batch { day }) => answer_input(&rt, day)?,
+        Ok(Command::Batch(asked)) => answer_input(&rt, &asked)?,
         Ok(Command::Schedule(asked)) => print_schedule(&rt, &asked)?,
         Err(words) => refuse_words(&rt, words)?,
     };
@@ -34,12 +34,15 @@ fn main(rt: HostRuntime) -> io::Result<ExitCode> {
 }
 
 /// Answers the request lines on standard input, and gives the program's status.
-fn answer_input<R: Print + Eprint + Input + AllocGlobal>(rt: &R, day: Day) -> io::Result<u8>
-    requires { day ≤ last_entered_day }
+fn answer_input<R: Print + Eprint + Input + AllocGlobal>(
+    rt: &R,
+    asked: &BatchWords,
+) -> io::Result<u8>
+    requires { asked.now.day ≤ last_entered_day }
 {
     let mut source = WatchedReader::new(rt.reader());
     let mut sink = WatchedWriter::new(io::writer(rt));
-    match answer_lines(rt.alloc(), day, &mut source, &mut sink) {
+    match answer_lines(rt.alloc(), asked.day, &mut source, &mut sink) {
         Ok(_) => Ok(DONE),
         Err(fault) => {
             let cause = match fault.cause {
