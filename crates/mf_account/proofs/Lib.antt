@@ -6,6 +6,7 @@ pub mod StandingLemmas
 pub mod SoundLemmas
 pub mod ConserveLemmas
 pub mod StandingIsOne
+pub mod InOrder
 pub mod WorkedRows
 pub mod ReplayLemmas
 pub mod RewindLemmas

@@ -13,7 +13,7 @@ or_parts true b h = inl refl
 or_parts false b h = inr h
 
 -- what coming before means
-before-parts : (a b : Entry) → is_before a b ≡ true → (a.day < b.day) ⊎ ((a.day ≡ b.day) × (a.seq < b.seq))
+pub before-parts : (a b : Entry) → is_before a b ≡ true → (a.day < b.day) ⊎ ((a.day ≡ b.day) × (a.seq < b.seq))
 before-parts a b is =
     elim (or_parts (ltb a.day b.day) (eqb a.day b.day && ltb a.seq b.seq) is) [
       | inl less ↦ inl (ltb-true a.day b.day less)
@@ -22,18 +22,18 @@ before-parts a b is =
           inr (eqb-true a.day b.day both.0, ltb-true a.seq b.seq both.1)
     ]
 
-before-again : (a b : Entry) → (a.day < b.day) ⊎ ((a.day ≡ b.day) × (a.seq < b.seq)) → is_before a b ≡ true
+pub before-again : (a b : Entry) → (a.day < b.day) ⊎ ((a.day ≡ b.day) × (a.seq < b.seq)) → is_before a b ≡ true
 before-again a b (inl less) = ap (λ x. x || (eqb a.day b.day && ltb a.seq b.seq)) (Rattle.std.proofs.lemmas.Bool.lt-ltb a.day b.day less)
 before-again a b (inr tie) = before-from a b (omega (arith, tie.0)) tie.1
 
-before-asym : (a b : Entry) → is_before a b ≡ true → is_before b a ≡ true → ⊥
+pub before-asym : (a b : Entry) → is_before a b ≡ true → is_before b a ≡ true → ⊥
 before-asym a b one other =
     elim (before-parts a b one) [
       | inl less ↦ elim (before-parts b a other) [ inl more ↦ omega (arith, less, more) | inr tie ↦ omega (arith, less, tie.0) ]
       | inr tie ↦ elim (before-parts b a other) [ inl more ↦ omega (arith, tie.0, more) | inr tie2 ↦ omega (arith, tie.1, tie2.1) ]
     ]
 
-before-trans : (a b c : Entry) → is_before a b ≡ true → is_before b c ≡ true → is_before a c ≡ true
+pub before-trans : (a b c : Entry) → is_before a b ≡ true → is_before b c ≡ true → is_before a c ≡ true
 before-trans a b c one other =
     before-again a c
     (elim (before-parts a b one) [

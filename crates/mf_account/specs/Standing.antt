@@ -1,5 +1,5 @@
 -- The standing entries of a loan, in order.
-use Rattle.std.specs.Prelude.{ℕ, Bool, ◌&&◌, ◌||◌, ◌==◌, nat_lt, if◌then◌else◌, List, [], ◌∷◌, fold, map, slice_index_or, slice_set, None, false}
+use Rattle.std.specs.Prelude.{◌≡◌, ℕ, Bool, ◌&&◌, ◌||◌, ◌==◌, nat_lt, if◌then◌else◌, List, [], ◌∷◌, fold, map, slice_index_or, slice_set, None, false}
 use Rattle.mf_alloc.specs.declared.row.Portion.TheVariants.{Principal}
 use Rattle.mf_account.specs.declared.entry.Kind.TheVariants.{Repay}
 use Rattle.mf_account.specs.declared.entry.Entry.{Entry}
@@ -45,3 +45,13 @@ entry_at entries i = slice_index_or entries i no_entry
 -- an entry marked as reversed, or as not
 abbrev pub with_mark : List Entry → ℕ → Bool → List Entry
 with_mark entries i mark = slice_set entries i (record (entry_at entries i) { reversed = mark })
+
+-- none of a list comes before an entry
+abbrev pub NoneBefore : Entry → List Entry → Type 0
+NoneBefore e [] = Unit {0}
+NoneBefore e (x ∷ xs) = (is_before x e ≡ false) × NoneBefore e xs
+
+-- no later entry comes before an earlier one
+abbrev pub IsInOrder : List Entry → Type 0
+IsInOrder [] = Unit {0}
+IsInOrder (x ∷ xs) = NoneBefore x xs × IsInOrder xs

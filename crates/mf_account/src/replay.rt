@@ -1,6 +1,6 @@
 ghost use Rattle.std.specs.Prelude.{◌≡◌, ℕ, ◌<◌, ◌≤◌, ◌∷◌, [], ◌++◌, IfOk, OnOk, OnErr, IsOkUnless, length, map, All, insert, true, false};
 ghost use Rattle.mf_account.specs.Account.{row_of as first_row, first_state, state_of, settled_of};
-ghost use Rattle.mf_account.specs.Standing.{is_before as comes_before, placed, standing, entries_at, entry_at, with_mark};
+ghost use Rattle.mf_account.specs.Standing.{is_before as comes_before, placed, standing, entries_at, entry_at, with_mark, IsInOrder};
 ghost use Rattle.mf_account.specs.Applicable.{AreApplicable};
 
 use crate::apply::apply_entry;
@@ -18,18 +18,22 @@ fn is_before(a: &Entry, b: &Entry) -> bool
     a.day < b.day || (a.day == b.day && a.seq < b.seq)
 }
 
-/// Where an entry belongs among others in order.
+/// Where an entry belongs among others in order. It looks from the last one on, since most entries come last.
 fn position(entries: &[Entry], order: &[usize], entry: &Entry) -> usize
-    requires { All (λ i. i < length entries.now) order.now }
+    requires within { All (λ i. i < length entries.now) order.now }
+    requires ordered { IsInOrder (entries_at entries.now order.now) }
     ensures within { result ≤ length order.now }
     ensures place { placed entry.now (entries_at entries.now order.now) ≡ insert (entries_at entries.now order.now) result entry.now }
 {
-    for k in 0..order.len() {
-        if is_before(entry, &entries[order[k]]) {
+    let mut k = order.len();
+    while k > 0 {
+        if is_before(entry, &entries[order[k - 1]]) {
+            k -= 1;
+        } else {
             return k;
         }
     }
-    order.len()
+    0
 }
 
 /// The places of the standing entries, in their order.
