@@ -33,7 +33,7 @@ fn percentage(base: u64, value: u64) -> u64
 mod tests {
     use super::*;
     use crate::charge::ChargeKind;
-    use crate::name::Name;
+    use mf_base::Name;
     use std::test::Fail;
 
     fn charge(name: Name, calc: Calc, value: u64) -> ChargeDef

@@ -1,4 +1,4 @@
-use crate::name::Name;
+use mf_base::Name;
 use std::alloc::AllocError;
 
 /// When a charge is taken. An overdue charge is a penalty, every other one a fee.

@@ -4,7 +4,6 @@
 mod amount;
 mod charge;
 mod limits;
-mod name;
 mod terms;
 
 pub use amount::charge_amount;
@@ -13,5 +12,5 @@ pub use limits::{
     GREATEST_AMOUNT, GREATEST_PERCENTAGE, GREATEST_RATE, MOST_DAYS, MOST_GRACE, MOST_INSTALMENTS,
     MOST_MONTHS, MOST_PERIODS, MOST_WEEKS,
 };
-pub use name::Name;
+pub use mf_base::Name;
 pub use terms::{Method, StrategyName, Terms};

@@ -1,6 +1,7 @@
-ghost use Rattle.std.specs.Prelude.{◌≡◌, ℕ, List, string_bytes};
+ghost use Rattle.std.specs.Prelude.{◌≡◌, ℕ};
 ghost use Rattle.mf_office.specs.Numbers.{IsNumberUpTo, number_up_to};
 
+use mf_base::Name;
 use std::marker::Model;
 
 /// The number of an office, from 1 to 9999. The head office is 1.
@@ -40,42 +41,6 @@ impl OfficeNo {
         ensures in_range { IsNumberUpTo 9999 result }
     {
         self.value
-    }
-}
-
-/// A name of an office, a staff member or a client.
-#[derive(Drop, Debug)]
-pub struct Name {
-    text: String,
-}
-
-impl Model for Name {
-    ghost Value = { List ℕ };
-
-    ghost view = { λ name. string_bytes name.text };
-}
-
-impl Name {
-    /// The name with this text. It takes no memory.
-    pub fn new(text: String) -> Name
-        ensures { result ≡ string_bytes text }
-    {
-        Name { text }
-    }
-
-    /// The text.
-    pub fn as_str(&self) -> &str
-        ensures { result.now ≡ self.now }
-    {
-        self.text.as_str()
-    }
-
-    /// Gives the text back. It takes no memory.
-    pub fn into_string(self) -> String
-        ensures { string_bytes result ≡ self }
-    {
-        let Name { text: string } = self;
-        string
     }
 }
 

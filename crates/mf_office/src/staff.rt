@@ -1,7 +1,8 @@
 ghost use Rattle.std.specs.Prelude.{◌≡◌, ℕ};
 ghost use Rattle.mf_office.specs.Numbers.{IsNumberUpTo, number_up_to};
 
-use crate::office::{Name, OfficeNo};
+use crate::office::OfficeNo;
+use mf_base::Name;
 use std::marker::Model;
 
 /// The number of a staff member within their office, from 1 to 9999.

@@ -90,7 +90,7 @@ fn an_office_and_its_manager(rt: HostRuntime) -> Result<(), Fail> {
         role: Role::Manager,
     };
     assert_eq!(rt; head.name.as_str(), "Head Office");
-    assert_eq!(rt; manager.name.into_string().as_str(), "Head Manager");
+    assert_eq!(rt; manager.name.into_text().as_str(), "Head Manager");
     assert!(rt; manager.role > Role::Officer && Role::Officer > Role::Teller);
     Ok(())
 }

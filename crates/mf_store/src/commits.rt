@@ -69,7 +69,7 @@ impl<S: Alter> Store<S> {
             number,
             parent: Some(parent),
             hkey,
-            name: name.into_string(),
+            name: name.into_text(),
         };
         self.make(&[StoreWrite::PutOffice(office)])
     }
@@ -87,7 +87,7 @@ impl<S: Alter> Store<S> {
         let staff = StaffRecord {
             office,
             number: last + 1,
-            name: name.into_string(),
+            name: name.into_text(),
             role: number_of(role),
         };
         self.make(&[StoreWrite::PutStaff(staff)])
@@ -106,7 +106,7 @@ impl<S: Alter> Store<S> {
         let client = ClientRecord {
             office,
             number: last + 1,
-            name: name.into_string(),
+            name: name.into_text(),
         };
         self.make(&[StoreWrite::PutClient(client)])
     }

@@ -1,7 +1,7 @@
 use std::alloc::AllocError;
 use std::marker::Model;
 
-/// The name of a charge or a product. Contracts see its bytes.
+/// A name of an office, a member of staff, a client, a charge or a product. Contracts see its bytes.
 #[derive(Debug, Drop)]
 pub struct Name {
     text: String,
