@@ -1,2 +1,3 @@
 pub mod Charge
 pub mod Limits
+pub mod Product

@@ -1,9 +1,10 @@
-//! Charges, and the terms of a loan.
+//! Charges and products, and the terms of a loan.
 #![tactic(auto)]
 
 mod amount;
 mod charge;
 mod limits;
+mod product;
 mod terms;
 
 pub use amount::charge_amount;
@@ -13,4 +14,5 @@ pub use limits::{
     MOST_MONTHS, MOST_PERIODS, MOST_WEEKS,
 };
 pub use mf_base::Name;
+pub use product::{Product, ProductMembers};
 pub use terms::{Method, StrategyName, Terms};
