@@ -8,3 +8,4 @@ pub mod LookLemmas
 pub mod CommitLemmas
 pub mod FirstLemmas
 pub mod VisibleLemmas
+pub mod OfficeRowsLemmas

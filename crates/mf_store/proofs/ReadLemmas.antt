@@ -14,8 +14,8 @@ use Rattle.mf_tables.proofs.CompareLemmas.{equals_back, and_true, key_step, int_
 use Rattle.mf_tables.proofs.ShownLemmas.{shown_kept}
 use Rattle.mf_store.specs.Tables.{schema}
 use Rattle.mf_store.specs.Rows.{MetaRow, by_meta, meta_row, OfficeRow, by_office, office_row, StaffRow, by_staff, staff_row, ClientRow, by_client, client_row}
-use Rattle.mf_store.specs.Looks.{is_meta, is_office, is_staff, is_client, is_in_range}
-use Rattle.mf_store.proofs.Texts.{find_meta, find_meta_is, find_meta_plain, find_meta_listed, find_office, find_office_is, find_office_plain, find_office_listed, find_staff, find_staff_is, find_staff_plain, find_staff_listed, find_client, find_client_is, find_client_plain, find_client_listed, offices_in, offices_in_is, offices_in_plain, offices_in_listed}
+use Rattle.mf_store.specs.Looks.{is_meta, is_office, is_staff, is_client, is_staff_of, is_client_of, is_in_range}
+use Rattle.mf_store.proofs.Texts.{find_meta, find_meta_is, find_meta_plain, find_meta_listed, find_office, find_office_is, find_office_plain, find_office_listed, find_staff, find_staff_is, find_staff_plain, find_staff_listed, staff_of_office, staff_of_office_is, staff_of_office_plain, staff_of_office_listed, clients_of_office, clients_of_office_is, clients_of_office_plain, clients_of_office_listed, find_client, find_client_is, find_client_plain, find_client_listed, offices_in, offices_in_is, offices_in_plain, offices_in_listed}
 
 -- ---- meta
 
@@ -58,6 +58,10 @@ pub find_staff_shows : (office number : ℕ) (db : Database) (rows : List Row) (
 find_staff_shows office number db rows items has k =
     shown_kept staff_row by_staff schema 5 find_staff find_staff_plain find_staff_listed (eq (col 1 1) (col 0 0) ∷ eq (col 1 2) (col 0 1) ∷ []) _ _ _ find_staff_is _ (is_staff office number) (λ id y. (key_step _ _ _ _ (equals_back y.office office) (and_true _ ∙ equals_back y.number number))) staff_key staff_row (λ id y. refl) (staff_ranks (eq (col 1 1) (col 0 0) ∷ eq (col 1 2) (col 0 1) ∷ [])) (λ t. refl) db items rows has k
 
+pub staff_of_office_shows : (office : ℕ) (db : Database) (rows : List Row) (items : List StaffRow) → db.schema ≡ schema → Keeps staff_row by_staff (db.trees 5) items → Answers staff_of_office (Int (pos office) ∷ []) db rows → rows ≡ map staff_row (filter (is_staff_of office) items)
+staff_of_office_shows office db rows items has k =
+    shown_kept staff_row by_staff schema 5 staff_of_office staff_of_office_plain staff_of_office_listed (eq (col 1 1) (col 0 0) ∷ []) _ _ _ staff_of_office_is _ (is_staff_of office) (λ id y. (and_true _ ∙ equals_back y.office office)) staff_key staff_row (λ id y. refl) (staff_ranks (eq (col 1 1) (col 0 0) ∷ [])) (λ t. refl) db items rows has k
+
 -- ---- clients
 
 abbrev client_key : ClientRow → Row
@@ -69,3 +73,7 @@ client_ranks tests a b = ap₂ ordering_then (int_cmp-pos a.office b.office) (th
 pub find_client_shows : (office number : ℕ) (db : Database) (rows : List Row) (items : List ClientRow) → db.schema ≡ schema → Keeps client_row by_client (db.trees 7) items → Answers find_client (Int (pos office) ∷ Int (pos number) ∷ []) db rows → rows ≡ map client_row (filter (is_client office number) items)
 find_client_shows office number db rows items has k =
     shown_kept client_row by_client schema 7 find_client find_client_plain find_client_listed (eq (col 1 1) (col 0 0) ∷ eq (col 1 2) (col 0 1) ∷ []) _ _ _ find_client_is _ (is_client office number) (λ id y. (key_step _ _ _ _ (equals_back y.office office) (and_true _ ∙ equals_back y.number number))) client_key client_row (λ id y. refl) (client_ranks (eq (col 1 1) (col 0 0) ∷ eq (col 1 2) (col 0 1) ∷ [])) (λ t. refl) db items rows has k
+
+pub clients_of_office_shows : (office : ℕ) (db : Database) (rows : List Row) (items : List ClientRow) → db.schema ≡ schema → Keeps client_row by_client (db.trees 7) items → Answers clients_of_office (Int (pos office) ∷ []) db rows → rows ≡ map client_row (filter (is_client_of office) items)
+clients_of_office_shows office db rows items has k =
+    shown_kept client_row by_client schema 7 clients_of_office clients_of_office_plain clients_of_office_listed (eq (col 1 1) (col 0 0) ∷ []) _ _ _ clients_of_office_is _ (is_client_of office) (λ id y. (and_true _ ∙ equals_back y.office office)) client_key client_row (λ id y. refl) (client_ranks (eq (col 1 1) (col 0 0) ∷ [])) (λ t. refl) db items rows has k

@@ -137,6 +137,21 @@ pub find_staff_listed : reads_listing schema find_staff ≡ false
 unfolding understood everything
 find_staff_listed = refl
 
+abbrev pub staff_of_office : List ℕ
+staff_of_office = codes "SELECT office, number, name, role FROM staff WHERE office = ?1 ORDER BY office, number"
+
+pub staff_of_office_is : command_of (understood schema staff_of_office) ≡ Select (record { lets = []; body = scan 5 (eq (col 1 1) (col 0 0) ∷ []) (col 1 1 ∷ col 1 2 ∷ col 1 3 ∷ col 1 4 ∷ []) (by (col 1 1) ∷ by (col 1 2) ∷ []) }) (codes "office" ∷ codes "number" ∷ codes "name" ∷ codes "role" ∷ [])
+unfolding understood everything
+staff_of_office_is = refl
+
+pub staff_of_office_plain : IsPlain (understood schema staff_of_office)
+unfolding understood everything
+staff_of_office_plain = (refl, refl)
+
+pub staff_of_office_listed : reads_listing schema staff_of_office ≡ false
+unfolding understood everything
+staff_of_office_listed = refl
+
 -- ---- clients
 
 abbrev pub create_clients : List ℕ
@@ -171,6 +186,21 @@ find_client_plain = (refl, refl)
 pub find_client_listed : reads_listing schema find_client ≡ false
 unfolding understood everything
 find_client_listed = refl
+
+abbrev pub clients_of_office : List ℕ
+clients_of_office = codes "SELECT office, number, name FROM clients WHERE office = ?1 ORDER BY office, number"
+
+pub clients_of_office_is : command_of (understood schema clients_of_office) ≡ Select (record { lets = []; body = scan 7 (eq (col 1 1) (col 0 0) ∷ []) (col 1 1 ∷ col 1 2 ∷ col 1 3 ∷ []) (by (col 1 1) ∷ by (col 1 2) ∷ []) }) (codes "office" ∷ codes "number" ∷ codes "name" ∷ [])
+unfolding understood everything
+clients_of_office_is = refl
+
+pub clients_of_office_plain : IsPlain (understood schema clients_of_office)
+unfolding understood everything
+clients_of_office_plain = (refl, refl)
+
+pub clients_of_office_listed : reads_listing schema clients_of_office ≡ false
+unfolding understood everything
+clients_of_office_listed = refl
 
 pub made_is : created (created (created (created no_schema (record meta { tree = 0 })) (record offices { tree = 0 })) (record staff { tree = 0 })) (record clients { tree = 0 }) ≡ schema
 unfolding understood everything

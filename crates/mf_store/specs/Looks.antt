@@ -16,6 +16,13 @@ is_staff office number x = is_eq (ordering_then (nat_cmp office x.office) (nat_c
 abbrev pub is_client : ℕ → ℕ → ClientRow → Bool
 is_client office number x = is_eq (ordering_then (nat_cmp office x.office) (nat_cmp number x.number))
 
+-- the rows of one office
+abbrev pub is_staff_of : ℕ → StaffRow → Bool
+is_staff_of office x = is_eq (nat_cmp office x.office)
+
+abbrev pub is_client_of : ℕ → ClientRow → Bool
+is_client_of office x = is_eq (nat_cmp office x.office)
+
 -- texts are compared byte by byte
 abbrev pub is_in_range : List ℕ → List ℕ → OfficeRow → Bool
 is_in_range low high x = is_ge (slice_cmp nat_cmp x.hkey low) && is_lt (slice_cmp nat_cmp x.hkey high)

@@ -8,12 +8,14 @@ mod commits;
 mod counts;
 mod first;
 mod institution;
+mod office_rows;
 mod reads;
 mod records;
 mod store;
 mod visible;
 mod writes;
 
+pub use office_rows::{OfficeRows, StaffMember};
 pub use store::Store;
 
 #[cfg(test)]

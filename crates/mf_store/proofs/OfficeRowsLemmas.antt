@@ -1,0 +1,114 @@
+-- The rows of one office: those that the queries show, and what is read of them.
+use Rattle.std.proofs.Common.{◌≡◌, ◌<◌, ◌≤◌, ◌+◌, ℕ, zero, suc, pos, Bool, true, false, cond, List, [], ◌∷◌, ◌++◌, map, filter, length, take, get_or, Some, refl, sym, ap, ap₂, ◌∙◌, subst, arith, is_eq, nat_cmp, ◌==◌, string_bytes}
+use Rattle.std.proofs.lemmas.Bool.Decides.{nat_tests}
+use Rattle.std.proofs.lemmas.List.{take_more}
+use Rattle.std.proofs.lemmas.List.Elements.{filter-append}
+use Rattle.sqlite.specs.declared.types.Value.TheVariants.{Int}
+use Rattle.sqlite.specs.Order.{Row}
+use Rattle.mf_office.specs.declared.staff.Role.{Role}
+use Rattle.mf_office.specs.declared.staff.Role.TheVariants.{Teller, Officer, Manager}
+use Rattle.mf_model.specs.Institution.{Institution, Office, Rows, Staff, office_at, no_rows}
+use Rattle.mf_model.specs.Sound.{IsSound}
+use Rattle.mf_model.specs.Store.{rows_of, rows_at}
+use Rattle.mf_model.specs.Tree.{Above, Ascending}
+use Rattle.mf_store.specs.Rows.{StaffRow, ClientRow, staff_row, client_row}
+use Rattle.mf_store.specs.Looks.{is_staff_of, is_client_of}
+use Rattle.mf_store.specs.Flat.{numbered_from, all_rows, staff_in, client_in, role_number, tables_of}
+use Rattle.mf_store.specs.Stands.{Shows}
+use Rattle.mf_store.specs.Writes.{staff_of}
+use Rattle.mf_store.specs.declared.records.StaffRecord.{StaffRecord}
+use Rattle.mf_store.proofs.Texts.{staff_of_office, clients_of_office}
+use Rattle.mf_store.proofs.ReadLemmas.{staff_of_office_shows, clients_of_office_shows}
+
+-- ---- one office's rows among all
+
+module _ {A R : Type 0} (make : ℕ → ℕ → A → R) (of : Rows → List A) (none : of no_rows ≡ []) (p : ℕ → R → Bool) (tests : (x y m : ℕ) (a : A) → p x (make y m a) ≡ is_eq (nat_cmp x y)) where
+  own_kept : (x n : ℕ) (xs : List A) → filter (p x) (numbered_from (make x) n xs) ≡ numbered_from (make x) n xs
+  own_kept x n [] = refl
+  own_kept x n (a ∷ xs) = rw (tests x x n a, (let here : is_eq (nat_cmp x x) ≡ true = grind (arith, nat_tests) in here), own_kept x (n + 1) xs)
+
+  other_left : (x y n : ℕ) (xs : List A) → (y == x) ≡ false → filter (p x) (numbered_from (make y) n xs) ≡ []
+  other_left x y n [] h = refl
+  other_left x y n (a ∷ xs) h = rw (tests x y n a, (let apart : is_eq (nat_cmp x y) ≡ false = grind (arith, nat_tests) in apart)) (other_left x y (n + 1) xs h)
+
+  above_left : (x : ℕ) (fs : List Office) → Above x fs → filter (p x) (all_rows make of fs) ≡ []
+  above_left x [] up = refl
+  above_left x (f ∷ fs) up =
+      let low : x < f.number = up.0 in
+      let apart : (f.number == x) ≡ false = grind (arith, nat_tests) in
+      filter-append (p x) (numbered_from (make f.number) 1 (of f.rows)) (all_rows make of fs) ∙ ap₂ ◌++◌ (other_left x f.number 1 (of f.rows) apart) (above_left x fs up.1)
+
+  append_none : (xs : List R) → xs ++ [] ≡ xs
+  append_none [] = refl
+  append_none (r ∷ xs) = ap (λ l. r ∷ l) (append_none xs)
+
+  pub rows_in_office : (x : ℕ) (fs : List Office) → Ascending fs → filter (p x) (all_rows make of fs) ≡ numbered_from (make x) 1 (of (rows_of (office_at x fs)))
+  rows_in_office x [] up = sym (ap (numbered_from (make x) 1) none)
+  rows_in_office x (f ∷ fs) up = go (f.number == x) refl (rows_in_office x fs up.1)
+    where
+      go : (b : Bool) → (f.number == x) ≡ b → filter (p x) (all_rows make of fs) ≡ numbered_from (make x) 1 (of (rows_of (office_at x fs))) → filter (p x) (all_rows make of (f ∷ fs)) ≡ numbered_from (make x) 1 (of (rows_of (cond b (Some f) (office_at x fs))))
+      go true e more =
+          let same : f.number ≡ x = grind (arith, nat_tests) in
+          filter-append (p x) (numbered_from (make f.number) 1 (of f.rows)) (all_rows make of fs)
+          ∙ ap₂ ◌++◌ (subst (λ n. filter (p x) (numbered_from (make n) 1 (of f.rows)) ≡ numbered_from (make x) 1 (of f.rows)) (sym same) (own_kept x 1 (of f.rows))) (above_left x fs (subst (λ n. Above n fs) same up.0))
+          ∙ append_none (numbered_from (make x) 1 (of f.rows))
+      go false e more = filter-append (p x) (numbered_from (make f.number) 1 (of f.rows)) (all_rows make of fs) ∙ ap₂ ◌++◌ (other_left x f.number 1 (of f.rows) e) more
+
+map_numbered : {A R : Type 0} (row : R → Row) (make : ℕ → A → R) (n : ℕ) (xs : List A) → map row (numbered_from make n xs) ≡ numbered_from (λ m a. row (make m a)) n xs
+map_numbered row make n [] = refl
+map_numbered row make n (a ∷ xs) = ap (λ l. row (make n a) ∷ l) (map_numbered row make (n + 1) xs)
+
+pub staff_shown : (x : ℕ) (i : Institution) (rows : List Row) → IsSound i → Shows i staff_of_office (Int (pos x) ∷ []) rows → rows ≡ numbered_from (λ m s. staff_row (staff_in x m s)) 1 (rows_at x i).staff
+staff_shown x i rows sound s =
+    staff_of_office_shows x s.db rows (tables_of i).staff s.serves.schema_is s.serves.holds.staff s.answers
+    ∙ ap (map staff_row) (rows_in_office staff_in (λ rows. rows.staff) refl is_staff_of (λ x y m a. refl) x i.offices sound.tree.ascending) ∙ map_numbered staff_row (staff_in x) 1 (rows_at x i).staff
+
+pub clients_shown : (x : ℕ) (i : Institution) (rows : List Row) → IsSound i → Shows i clients_of_office (Int (pos x) ∷ []) rows → rows ≡ numbered_from (λ m name. client_row (client_in x m name)) 1 (rows_at x i).clients
+clients_shown x i rows sound s =
+    clients_of_office_shows x s.db rows (tables_of i).clients s.serves.schema_is s.serves.holds.clients s.answers
+    ∙ ap (map client_row) (rows_in_office client_in (λ rows. rows.clients) refl is_client_of (λ x y m a. refl) x i.offices sound.tree.ascending) ∙ map_numbered client_row (client_in x) 1 (rows_at x i).clients
+
+-- ---- rows that are read in turn
+
+length_numbered : {A : Type 0} (row : ℕ → A → Row) (n : ℕ) (xs : List A) → length (numbered_from row n xs) ≡ length xs
+length_numbered row n [] = refl
+length_numbered row n (a ∷ xs) = ap suc (length_numbered row (n + 1) xs)
+
+numbered_at : {A : Type 0} (row : ℕ → A → Row) (n : ℕ) (xs : List A) (k : ℕ) (item : Row) (y : A) → k < length xs → get_or (numbered_from row n xs) k item ≡ row (n + k) (get_or xs k y)
+numbered_at row n [] k item y low = absurd (omega arith)
+numbered_at row n (a ∷ xs) zero item y low = ap (λ m. row m a) (let same : n ≡ n + 0 = omega arith in same)
+numbered_at row n (a ∷ xs) (suc k) item y low = numbered_at row (n + 1) xs k item y (omega arith) ∙ ap (λ m. row m (get_or xs k y)) (let same : n + 1 + k ≡ n + suc k = omega arith in same)
+
+pub read_more : {A : Type 0} (row : ℕ → A → Row) (rows : List Row) (k : ℕ) (item : Row) (y : A) (xs ys all : List A) → rows ≡ numbered_from row 1 all → k < length rows → item ≡ get_or rows k item → ys ≡ xs ++ y ∷ [] → xs ≡ take k all
+    → ((number : ℕ) (a : A) → item ≡ row number a → y ≡ a) → ys ≡ take (k + 1) all
+read_more row rows k item y xs ys all are low is more before reads =
+    let low' : k < length all = subst (λ m. k < m) (ap length are ∙ length_numbered row 1 all) low in
+    let here = reads (1 + k) (get_or all k y) (is ∙ ap (λ l. get_or l k item) are ∙ numbered_at row 1 all k item y low') in
+    more ∙ ap₂ ◌++◌ before (ap (λ a. a ∷ []) here) ∙ sym (take_more all k y low')
+
+take_whole : {A : Type 0} (k : ℕ) (xs : List A) → length xs ≤ k → take k xs ≡ xs
+take_whole zero [] h = refl
+take_whole (suc k) [] h = refl
+take_whole zero (x ∷ xs) h = absurd (omega arith)
+take_whole (suc k) (x ∷ xs) h = ap (λ l. x ∷ l) (take_whole k xs (omega arith))
+
+pub read_all : {A : Type 0} (row : ℕ → A → Row) (rows : List Row) (k : ℕ) (xs all : List A) → rows ≡ numbered_from row 1 all → length rows ≤ k → xs ≡ take k all → xs ≡ all
+read_all row rows k xs all are past is =
+    let same : length rows ≡ length all = ap length are ∙ length_numbered row 1 all in
+    is ∙ take_whole k all (omega (arith, same, past))
+
+-- ---- what a row is read as
+
+pub role_is : (a b : Role) → role_number a ≡ role_number b → a ≡ b
+role_is Teller Teller e = refl
+role_is Teller Officer e = absurd (omega arith)
+role_is Teller Manager e = absurd (omega arith)
+role_is Officer Teller e = absurd (omega arith)
+role_is Officer Officer e = refl
+role_is Officer Manager e = absurd (omega arith)
+role_is Manager Teller e = absurd (omega arith)
+role_is Manager Officer e = absurd (omega arith)
+role_is Manager Manager e = refl
+
+pub member_is : (found : StaffRecord) (name : List ℕ) (role : Role) (x n : ℕ) (s : Staff) → staff_of found ≡ staff_in x n s → name ≡ string_bytes found.name → role_number role ≡ found.role → ◌≡◌ {A = Staff} (record { name = name; role = role }) s
+member_is found name role x n s e b d = λ k. record { name = (b ∙ ap (λ (r : StaffRow). r.name) e) k; role = role_is role s.role (d ∙ ap (λ (r : StaffRow). r.role) e) k }

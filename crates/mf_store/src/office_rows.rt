@@ -1,0 +1,151 @@
+//! The rows of one office, whole: one query a kind, over the range of the office's keys.
+
+ghost use Rattle.std.specs.Prelude.{◌≡◌, ℕ, List, IfOk, IfErr};
+ghost use Rattle.mf_base.specs.declared.fault.Fault.TheVariants.{F20};
+ghost use Rattle.mf_model.specs.Institution.{Institution, Staff};
+ghost use Rattle.mf_model.specs.Store.{rows_at};
+ghost use Rattle.mf_store.specs.Rows.{staff_row, client_row};
+ghost use Rattle.mf_store.specs.Flat.{staff_in, client_in, numbered_from};
+
+use crate::reads::role_from;
+use crate::records::{ClientRecord, Record, StaffRecord};
+use crate::store::{Store, given_up};
+use mf_base::Fault;
+use mf_office::{Name, OfficeNo, Role};
+use sqlite::{Alter, Row, params};
+use std::alloc::Global;
+use std::marker::Model;
+
+/// A member of staff.
+#[derive(Debug, Drop)]
+pub struct StaffMember {
+    pub name: Name,
+    pub role: Role,
+}
+
+impl Model for StaffMember {
+    ghost use Rattle.mf_model.specs.Institution.{Staff};
+
+    ghost Value = { Staff };
+
+    ghost view = { λ member. record { name = member.name; role = member.role } };
+}
+
+/// What belongs to one office: its staff and its clients' names, each by number from 1.
+#[derive(Debug, Drop)]
+pub struct OfficeRows {
+    staff: Vec<StaffMember>,
+    clients: Vec<Name>,
+}
+
+impl Model for OfficeRows {
+    ghost use Rattle.mf_model.specs.Institution.{Rows};
+
+    ghost Value = { Rows };
+
+    ghost view = { λ rows. record { staff = rows.staff.items; clients = rows.clients.items } };
+}
+
+impl OfficeRows {
+    /// The staff: number 1 first.
+    pub fn staff(&self) -> &[StaffMember]
+        ensures { result.now ≡ self.now.staff }
+    {
+        self.staff.as_slice()
+    }
+
+    /// The clients' names: number 1 first.
+    pub fn clients(&self) -> &[Name]
+        ensures { result.now ≡ self.now.clients }
+    {
+        self.clients.as_slice()
+    }
+}
+
+/// The member of staff of a row.
+fn member_from(row: &Row) -> Result<StaffMember, Fault>
+    ensures member { IfOk result (λ member. (office number : ℕ) (s : Staff) → row.now ≡ staff_row (staff_in office number s) → member ≡ s) }
+    ensures gives_up { IfErr result (λ fault. fault ≡ F20) }
+{
+    let found = given_up(StaffRecord::read(row))?;
+    let role = role_from(found.role)?;
+    Ok(StaffMember {
+        name: Name::new(found.name),
+        role,
+    })
+}
+
+/// The staff of the rows, in order.
+fn staff_from(alloc: Global, rows: &[Row]) -> Result<Vec<StaffMember>, Fault>
+    ensures staff { IfOk result (λ list. (office : ℕ) (staff : List Staff) → rows.now ≡ numbered_from (λ number s. staff_row (staff_in office number s)) 1 staff → list.items ≡ staff) }
+    ensures gives_up { IfErr result (λ fault. fault ≡ F20) }
+{
+    let mut staff = Vec::new(alloc);
+    for row in rows {
+        staff.push(member_from(row)?)?;
+    }
+    Ok(staff)
+}
+
+/// The name of a client's row.
+fn name_from(row: &Row) -> Result<Name, Fault>
+    ensures name { IfOk result (λ found. (office number : ℕ) (name : List ℕ) → row.now ≡ client_row (client_in office number name) → found ≡ name) }
+    ensures gives_up { IfErr result (λ fault. fault ≡ F20) }
+{
+    let found = given_up(ClientRecord::read(row))?;
+    Ok(Name::new(found.name))
+}
+
+/// The names of the rows, in order.
+fn names_from(alloc: Global, rows: &[Row]) -> Result<Vec<Name>, Fault>
+    ensures names { IfOk result (λ list. (office : ℕ) (names : List (List ℕ)) → rows.now ≡ numbered_from (λ number name. client_row (client_in office number name)) 1 names → list.items ≡ names) }
+    ensures gives_up { IfErr result (λ fault. fault ≡ F20) }
+{
+    let mut names = Vec::new(alloc);
+    for row in rows {
+        names.push(name_from(row)?)?;
+    }
+    Ok(names)
+}
+
+impl<S: Alter> Store<S> {
+    ghost use Rattle.mf_store.specs.Stands.{StandsFor, IsClean, Stays};
+
+    /// The staff of an office, by number.
+    fn staff_at(&mut self, alloc: Global, office: u32) -> Result<Vec<StaffMember>, Fault>
+        ensures kept { Stays S.Store self.old self.new }
+        ensures gives_up { IfErr result (λ fault. fault ≡ F20) }
+        ensures value { IsClean S.Store self.new → (i : Institution) → StandsFor S.Store self.old i → IfOk result (λ list. list.items ≡ (rows_at office i).staff) }
+    {
+        let rows = self.rows(
+            "SELECT office, number, name, role FROM staff WHERE office = ?1 ORDER BY office, number",
+            params![office],
+        )?;
+        staff_from(alloc, &rows)
+    }
+
+    /// The names of an office's clients, by number.
+    fn clients_at(&mut self, alloc: Global, office: u32) -> Result<Vec<Name>, Fault>
+        ensures kept { Stays S.Store self.old self.new }
+        ensures gives_up { IfErr result (λ fault. fault ≡ F20) }
+        ensures value { IsClean S.Store self.new → (i : Institution) → StandsFor S.Store self.old i → IfOk result (λ list. list.items ≡ (rows_at office i).clients) }
+    {
+        let rows = self.rows(
+            "SELECT office, number, name FROM clients WHERE office = ?1 ORDER BY office, number",
+            params![office],
+        )?;
+        names_from(alloc, &rows)
+    }
+
+    /// The rows of an office, none where it isn't there.
+    pub fn office_rows(&mut self, alloc: Global, office: OfficeNo) -> Result<OfficeRows, Fault>
+        ensures kept { Stays S.Store self.old self.new }
+        ensures gives_up { IfErr result (λ fault. fault ≡ F20) }
+        ensures value { IsClean S.Store self.new → (i : Institution) → StandsFor S.Store self.old i → IfOk result (λ rows. rows ≡ rows_at office i) }
+    {
+        let office = office.get();
+        let staff = self.staff_at(alloc, office)?;
+        let clients = self.clients_at(alloc, office)?;
+        Ok(OfficeRows { staff, clients })
+    }
+}
