@@ -15,7 +15,7 @@ returns g c =
     let first = c.has_office.new.self in
     let mid = c.find_office.new.self in
     let above_key = string_bytes c.in-Some.above.hkey in
-    let office : OfficeRecord = record { number = c.get-number.result; parent = Some c.get-parent.result; hkey = c.in_ok-hkey.hkey; name = c.into_string.result } in
+    let office : OfficeRecord = record { number = c.get-number.result; parent = Some c.get-parent.result; hkey = c.in_ok-hkey.hkey; name = c.into_text.result } in
     let free : c.in_ok-taken.taken ≡ false = search rules in
     let text : string_bytes c.in_ok-hkey.hkey ≡ child_key above_key c.get-number.result = search rules in
     let number = c.get-number.ensures.value in
@@ -25,5 +25,5 @@ returns g c =
     let known = office_known c.in_ok-above.field-0 c.in-Some.above c.get-parent.result i c.in-Some.is (c.in_ok-above.ensures.value clean i (c.in_ok-taken.ensures.kept.same before i s)) in
     office_becomes c.args.number c.args.parent c.args.name above_key i office s.sound sound c.tree_of_offices.ensures
     (none_there (office_at c.args.number i.offices) (ap (is_there i.offices) (sym number) ∙ sym (c.in_ok-taken.ensures.value before i s) ∙ free)) (ap (is_there i.offices) (sym parent) ∙ known.0) (known.1 ∙ ap (key_of (parent_of i.offices)) parent)
-    (same_office c.get-number.result c.args.number c.get-parent.result c.args.parent (string_bytes c.into_string.result) c.args.name (string_bytes c.in_ok-hkey.hkey) (child_key above_key c.args.number) number parent (text ∙ ap (child_key above_key) number) c.into_string.ensures))
+    (same_office c.get-number.result c.args.number c.get-parent.result c.args.parent (string_bytes c.into_text.result) c.args.name (string_bytes c.in_ok-hkey.hkey) (child_key above_key c.args.number) number parent (text ∙ ap (child_key above_key) number) c.into_text.ensures))
     c.make.ensures.premise c.make.ensures.gives_up c.make.ensures.made c.make.ensures.left c.make.ensures.same c.make.ensures.stop
