@@ -27,6 +27,10 @@ told-map f meant (l ∷ ls) (r ∷ rs) =
       | false ↦ told-map f meant ls rs
     ]
 
+-- runs that tell the same replies tell the same texts
+pub same_texts : (meant : Call → Bool) (ls ks : List Line) (i j : Institution) → told meant ls (answers ls i) ≡ told meant ks (answers ks j) → told meant ls (texts_of ls i) ≡ told meant ks (texts_of ks j)
+same_texts meant ls ks i j e = told-map shown_line meant ls (answers ls i) ∙ ap (map shown_line) e ∙ sym (told-map shown_line meant ks (answers ks j))
+
 isolated : (i : Institution) (ls : List Line) → ViewIsPlay i ls → RepliesArePlay i ls → OwnRepliesArePlay i ls → Isolated i ls
 isolated i ls views replies own = record {
   views = views;

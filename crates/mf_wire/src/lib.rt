@@ -3,6 +3,7 @@
 
 mod answering;
 mod body;
+mod laws;
 mod line_buffer;
 mod lines;
 mod paths;
@@ -17,6 +18,7 @@ mod sources;
 mod writing;
 
 pub use answering::answer_text;
+pub use laws::alike_texts;
 pub use refusals::fault_text;
 pub use running::run;
 pub use sinks::{Sink, WatchedWriter, WriteFault};
