@@ -1,6 +1,8 @@
 //! Streams of request lines, run over an institution in vectors. Of that store nothing is proved but that it is safe.
 
 mod books;
+mod limits;
+mod refused;
 mod streams;
 
 use crate::{WatchedReader, WatchedWriter, answer_text, fault_text, run};

@@ -15,10 +15,11 @@ struct Branch {
     clients: Vec<Name>,
 }
 
-/// The offices by number.
+/// The offices by number. One of its calls can be made to give up.
 #[derive(Drop)]
 pub struct Books {
     branches: Vec<Branch>,
+    calls_to_refusal: Option<u32>,
 }
 
 fn name(alloc: Global, text: &str) -> Result<Name, Fault>
@@ -54,7 +55,32 @@ impl Books {
             staff,
             clients: Vec::new(alloc),
         })?;
-        Ok(Books { branches })
+        Ok(Books {
+            branches,
+            calls_to_refusal: None,
+        })
+    }
+
+    /// After so many further calls one gives up.
+    pub fn refuse_after(&mut self, calls: u32) {
+        self.calls_to_refusal = Some(calls);
+    }
+
+    /// Gives up if the call is the one that is to.
+    fn called(&mut self) -> Result<(), Fault>
+        ensures { IfErr result (λ fault. fault ≡ Fault.F20) }
+    {
+        match self.calls_to_refusal {
+            None => Ok(()),
+            Some(0) => {
+                self.calls_to_refusal = None;
+                Err(Fault::F20)
+            }
+            Some(calls) => {
+                self.calls_to_refusal = Some(calls - 1);
+                Ok(())
+            }
+        }
     }
 
     fn find(&self, number: OfficeNo) -> Option<&Branch> {
@@ -136,6 +162,7 @@ impl InstitutionStore for Books {
     ghost more = { λ _ _ _ h. absurd h };
 
     fn role(&mut self, _alloc: Global, caller: Caller) -> Result<Option<Role>, Fault> {
+        self.called()?;
         let Some(branch) = self.find(caller.office) else {
             return Ok(None);
         };
@@ -149,14 +176,17 @@ impl InstitutionStore for Books {
         to: OfficeNo,
         office: OfficeNo,
     ) -> Result<bool, Fault> {
+        self.called()?;
         Ok(self.find(office).is_some() && self.is_within(5, office, to))
     }
 
     fn is_there(&mut self, _alloc: Global, office: OfficeNo) -> Result<bool, Fault> {
+        self.called()?;
         Ok(self.find(office).is_some())
     }
 
     fn has_room_below(&mut self, _alloc: Global, office: OfficeNo) -> Result<bool, Fault> {
+        self.called()?;
         let Some(head) = OfficeNo::new(1) else {
             return Err(Fault::F20);
         };
@@ -164,6 +194,7 @@ impl InstitutionStore for Books {
     }
 
     fn counts(&mut self, _alloc: Global, office: OfficeNo) -> Result<Counts, Fault> {
+        self.called()?;
         let Some(branch) = self.find(office) else {
             return Ok(Counts {
                 staff: 0,
@@ -180,6 +211,7 @@ impl InstitutionStore for Books {
     }
 
     fn client(&mut self, alloc: Global, client: Account) -> Result<Option<Name>, Fault> {
+        self.called()?;
         let Some(branch) = self.find(client.office) else {
             return Ok(None);
         };
@@ -191,6 +223,7 @@ impl InstitutionStore for Books {
     }
 
     fn visible_offices(&mut self, alloc: Global, to: OfficeNo) -> Result<OfficeList, Fault> {
+        self.called()?;
         let mut offices = Vec::new(alloc);
         for branch in &self.branches {
             if self.is_within(5, branch.office.number, to) {
@@ -205,6 +238,7 @@ impl InstitutionStore for Books {
     }
 
     fn commit(&mut self, alloc: Global, commit: Commit) -> Result<(), Fault> {
+        self.called()?;
         match commit {
             Commit::AddOffice {
                 number,
