@@ -1,1 +1,2 @@
 pub mod AmountLemmas
+pub mod ProductLemmas

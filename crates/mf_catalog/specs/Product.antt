@@ -1,5 +1,6 @@
 -- Products: which charges they name, what they lend, and the terms that they give a loan. A catalogue's charges are a function from numbers, which gives None where no charge has the number.
-use Rattle.std.specs.Prelude.{◌≡◌, ◌⊎◌, ℕ, ◌≤◌, Bool, true, false, cond, ◌&&◌, List, [], ◌∷◌, ◌==◌, nat_le, nat_lt, is_some, Option, Some, None, Result, Ok, Err}
+use Rattle.std.specs.List.{find}
+use Rattle.std.specs.Prelude.{ℕ, ◌≤◌, Bool, true, false, cond, ◌&&◌, List, ◌==◌, nat_le, nat_lt, is_some, Option, Some, None, Result, Ok, Err}
 use Rattle.mf_base.specs.declared.fault.Fault.{Fault}
 use Rattle.mf_base.specs.declared.fault.Fault.TheVariants.{F7, F8}
 use Rattle.mf_catalog.specs.declared.charge.ChargeDef.{ChargeDef}
@@ -13,8 +14,7 @@ use Rattle.mf_catalog.specs.Limits.{longest_step}
 
 -- the charge of this number in a list
 abbrev pub charge_at : List ChargeDef → ℕ → Option ChargeDef
-charge_at [] k = None
-charge_at (c ∷ cs) k = cond (c.number == k) (Some c) (charge_at cs k)
+charge_at charges k = find (λ charge. charge.number == k) charges
 
 abbrev pub same_kind : ChargeKind → ChargeKind → Bool
 same_kind Disbursement Disbursement = true

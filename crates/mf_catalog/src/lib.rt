@@ -3,12 +3,16 @@
 
 mod amount;
 mod charge;
+mod laws;
+mod lending;
 mod limits;
 mod product;
 mod terms;
 
 pub use amount::charge_amount;
 pub use charge::{Calc, ChargeDef, ChargeKind};
+pub use laws::terms_within_limits;
+pub use lending::{check_loan, check_product, terms_for, terms_of};
 pub use limits::{
     GREATEST_AMOUNT, GREATEST_PERCENTAGE, GREATEST_RATE, MOST_DAYS, MOST_GRACE, MOST_INSTALMENTS,
     MOST_MONTHS, MOST_PERIODS, MOST_WEEKS,
@@ -16,3 +20,6 @@ pub use limits::{
 pub use mf_base::Name;
 pub use product::{Product, ProductMembers};
 pub use terms::{Method, StrategyName, Terms};
+
+#[cfg(test)]
+mod tests;
