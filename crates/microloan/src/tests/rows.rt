@@ -1,0 +1,83 @@
+//! Streams whose every reply is known.
+
+use super::written;
+use std::alloc::Global;
+use std::test::Fail;
+
+pub const FIRST: &str = "1/1 POST /clients {\"office\":1,\"name\":\"Amina\"}\n\
+1/1 GET /clients/0001-000001\n\
+1/1 GET /clients/0001-000002\n\
+1/1 GET /clients/1-1\n\
+1/1 POST /clients {\"office\":2,\"name\":\"B\"}\n\
+1/1 PUT /clients\n\
+01/1 GET /clients/0001-000001\n\
+2/1 GET /clients/0001-000001\n";
+
+pub const FIRST_REPLIES: &str = "201 {\"client\":\"0001-000001\"}\n\
+200 {\"client\":\"0001-000001\",\"name\":\"Amina\"}\n\
+404 {\"fault\":\"F4\"}\n\
+400 {\"fault\":\"F1\"}\n\
+404 {\"fault\":\"F4\"}\n\
+405 {\"fault\":\"F6\"}\n\
+400 {\"fault\":\"F1\"}\n\
+401 {\"fault\":\"F2\"}\n";
+
+pub const BRANCHES: &str = "1/1 POST /offices {\"number\":2,\"parent\":1,\"name\":\"North\"}\n\
+1/1 POST /offices {\"number\":20,\"parent\":1,\"name\":\"South\"}\n\
+1/1 POST /offices {\"number\":5,\"parent\":2,\"name\":\"Mill\"}\n\
+1/1 POST /staff {\"office\":2,\"name\":\"Ben\",\"role\":\"officer\"}\n\
+2/1 GET /offices\n\
+2/1 POST /clients {\"office\":5,\"name\":\"C\"}\n\
+2/1 POST /clients {\"office\":20,\"name\":\"C\"}\n\
+2/1 POST /clients {\"office\":77,\"name\":\"C\"}\n\
+2/1 POST /staff {\"office\":20,\"name\":\"D\",\"role\":\"teller\"}\n\
+1/1 POST /offices {\"number\":5,\"parent\":1,\"name\":\"X\"}\n";
+
+pub const BRANCHES_REPLIES: &str = "201 {\"office\":2}\n\
+201 {\"office\":20}\n\
+201 {\"office\":5}\n\
+201 {\"staff\":\"2/1\"}\n\
+200 {\"offices\":[{\"name\":\"North\",\"number\":2,\"parent\":1},{\"name\":\"Mill\",\"number\":5,\"parent\":2}]}\n\
+201 {\"client\":\"0005-000001\"}\n\
+404 {\"fault\":\"F4\"}\n\
+404 {\"fault\":\"F4\"}\n\
+403 {\"fault\":\"F3\"}\n\
+409 {\"fault\":\"F16\"}\n";
+
+pub const CHAIN: &str = "1/1 POST /offices {\"number\":2,\"parent\":1,\"name\":\"A\"}\n\
+1/1 POST /offices {\"number\":3,\"parent\":2,\"name\":\"B\"}\n\
+1/1 POST /offices {\"number\":4,\"parent\":3,\"name\":\"C\"}\n\
+1/1 POST /offices {\"number\":5,\"parent\":4,\"name\":\"D\"}\n\
+1/1 POST /offices {\"number\":6,\"parent\":5,\"name\":\"E\"}\n\
+1/1 POST /offices {\"number\":7,\"parent\":6,\"name\":\"F\"}\n";
+
+pub const CHAIN_REPLIES: &str = "201 {\"office\":2}\n\
+201 {\"office\":3}\n\
+201 {\"office\":4}\n\
+201 {\"office\":5}\n\
+201 {\"office\":6}\n\
+409 {\"fault\":\"F18\"}\n";
+
+/// Whether a new institution gives these replies to these lines.
+fn are_replies(alloc: Global, lines: &str, replies: &str) -> Result<bool, Fail> {
+    let written = written(alloc, lines.as_bytes())?;
+    Ok(written.as_slice() == replies.as_bytes())
+}
+
+#[test]
+fn a_client_is_entered_and_read(rt: HostRuntime) -> Result<(), Fail> {
+    assert!(rt; are_replies(rt.alloc(), FIRST, FIRST_REPLIES)?);
+    Ok(())
+}
+
+#[test]
+fn a_branch_sees_its_own_part_of_the_tree(rt: HostRuntime) -> Result<(), Fail> {
+    assert!(rt; are_replies(rt.alloc(), BRANCHES, BRANCHES_REPLIES)?);
+    Ok(())
+}
+
+#[test]
+fn a_seventh_level_is_refused(rt: HostRuntime) -> Result<(), Fail> {
+    assert!(rt; are_replies(rt.alloc(), CHAIN, CHAIN_REPLIES)?);
+    Ok(())
+}
