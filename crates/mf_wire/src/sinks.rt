@@ -51,7 +51,11 @@ impl<W: Write + Drop> WatchedWriter<W> {
     pub fn into_inner(self) -> W
         ensures { result ≡ writes_to self }
     {
-        self.writer
+        let WatchedWriter {
+            writer,
+            has_failed: _,
+        } = self;
+        writer
     }
 }
 

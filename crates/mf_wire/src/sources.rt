@@ -50,7 +50,11 @@ impl<R: Read + Drop> WatchedReader<R> {
     pub fn into_inner(self) -> R
         ensures { result ≡ reads_from self }
     {
-        self.reader
+        let WatchedReader {
+            reader,
+            has_failed: _,
+        } = self;
+        reader
     }
 }
 
