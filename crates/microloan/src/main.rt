@@ -24,13 +24,23 @@ const FAULT: u8 = 1;
 const BAD_WORDS: u8 = 2;
 
 fn main(rt: HostRuntime) -> io::Result<ExitCode> {
-    let words: Vec<String> = env::args(&rt)?.collect(rt.alloc())?;
-    let status = match command(rt.alloc(), &words) {
+    let asked = match given_words(&rt) {
+        Ok(words) => command(rt.alloc(), &words),
+        Err(error) if error.kind() == io::ErrorKind::OutOfMemory => Err(Words::Memory),
+        Err(error) => return Err(error),
+    };
+    let status = match asked {
         Ok(Command::Batch(asked)) => answer_input(&rt, &asked)?,
         Ok(Command::Schedule(asked)) => print_schedule(&rt, &asked)?,
         Err(words) => refuse_words(&rt, words)?,
     };
     Ok(ExitCode::from(status))
+}
+
+/// The words that the program is given.
+fn given_words(rt: &HostRuntime) -> io::Result<Vec<String>> {
+    let words = env::args(rt)?.collect(rt.alloc())?;
+    Ok(words)
 }
 
 /// Answers the request lines on standard input, and gives the program's status.
