@@ -1,0 +1,265 @@
+//! A loan under test, and what is done to it.
+
+ghost use Rattle.std.specs.Prelude.{◌≡◌, ℕ, ◌+◌, ◌<◌, ◌≤◌, None, false, IsTrue, IfOk, IfSome, length};
+ghost use Rattle.mf_alloc.specs.declared.row.Portion.TheVariants.{Principal};
+ghost use Rattle.mf_base.specs.DayText.{last_entered_day};
+ghost use Rattle.mf_catalog.specs.Limits.{IsChargeWithinLimits};
+ghost use Rattle.mf_schedule.specs.Fresh.{IsLoanWithinLimits};
+ghost use Rattle.mf_account.specs.Standing.{entry_at};
+ghost use Rattle.mf_account.specs.Refusals.{HasForm};
+
+use crate::{Entry, Kind, LoanAccount};
+use mf_alloc::Portion;
+use mf_base::{Day, Fault, Freq, Name};
+use mf_catalog::{Calc, ChargeDef, ChargeKind, Method, StrategyName, Terms};
+use mf_office::{Caller, OfficeNo, StaffNo};
+use std::alloc::Global;
+
+/// What is done to a loan.
+#[derive(Clone, Copy, Debug)]
+pub(crate) enum Step {
+    Repay { day: &'static str, amount: u64 },
+    Fee { instalment: u32, amount: u64 },
+    Penalty { instalment: u32, amount: u64 },
+    WaiveInterest { instalment: u32 },
+    WriteOff,
+    Refund,
+    Reverse { seq: u32 },
+}
+
+pub(crate) fn repayment(day: &'static str, amount: u64) -> Step {
+    Step::Repay { day, amount }
+}
+
+/// 20000 cents on the first due day and 50000 on the second.
+pub(crate) const TWO_REPAYMENTS: [Step; 2] = [
+    Step::Repay {
+        day: "2024-02-29",
+        amount: 20000,
+    },
+    Step::Repay {
+        day: "2024-03-31",
+        amount: 50000,
+    },
+];
+
+/// A loan of 100000 cents at 12 percent for 3 months of equal principal, disbursed on 2024-01-31. The business day is
+/// 2024-03-31.
+#[derive(Debug, Drop)]
+pub(crate) struct OpenLoan {
+    pub account: LoanAccount,
+    business_day: Day,
+    ghost disbursed: { account.day ≤ business_day },
+}
+
+fn terms(strategy: StrategyName, overdue: Option<ChargeDef>) -> Terms
+    requires { IfSome overdue IsChargeWithinLimits }
+    ensures { IsLoanWithinLimits result 100000 3 }
+{
+    Terms {
+        method: Method::EqualPrincipal,
+        rate: 1200,
+        freq: Freq::Months,
+        every: 1,
+        principal_grace: 0,
+        interest_grace: 0,
+        strategy,
+        disbursement: None,
+        instalment: None,
+        overdue,
+    }
+}
+
+/// A charge of 10 percent of what is overdue.
+fn overdue_charge(alloc: Global) -> ChargeDef
+    ensures { IsChargeWithinLimits result }
+{
+    ChargeDef {
+        number: 1,
+        name: Name::new(String::new(alloc)),
+        kind: ChargeKind::Overdue,
+        calc: Calc::OfBoth,
+        value: 1000,
+    }
+}
+
+fn day(text: &str) -> Result<Day, Fault>
+    ensures { IfOk result (λ d. d ≤ last_entered_day) }
+{
+    match Day::parse(text.as_bytes()) {
+        Some(day) => Ok(day),
+        None => Err(Fault::F1),
+    }
+}
+
+fn disbursed(alloc: Global, terms: Terms) -> Result<OpenLoan, Fault>
+    requires { IsLoanWithinLimits terms 100000 3 }
+{
+    let first = day("2024-01-31")?;
+    let business_day = day("2024-03-31")?;
+    if business_day < first {
+        return Err(Fault::F17);
+    }
+    let account = LoanAccount::replay(alloc, terms, 100000, 3, first, Vec::new(alloc))?;
+    Ok(OpenLoan {
+        account,
+        business_day,
+    })
+}
+
+/// Whether a day is not before any entry's.
+fn is_latest(entries: &[Entry], day: Day) -> bool
+    ensures { IsTrue result → (i : ℕ) → i < length entries.now → (entry_at entries.now i).day ≤ day }
+{
+    entries.iter().all(|entry| entry.day <= day)
+}
+
+/// Whether an entry of another kind than a repayment has the day and the receipt of its kind.
+fn is_of_the_day(entry: &Entry, business_day: Day) -> bool
+    ensures { IsTrue result → (entry.now.day ≡ business_day) × (entry.now.receipt ≡ None) }
+{
+    entry.day == business_day && entry.receipt.is_none()
+}
+
+/// Whether an entry names no instalment and no portion.
+fn is_whole(entry: &Entry) -> bool
+    ensures { IsTrue result → (entry.now.instalment ≡ 0) × (entry.now.portion ≡ Principal) }
+{
+    entry.instalment == 0 && matches!(entry.portion, Portion::Principal)
+}
+
+/// Whether an entry's columns are its kind's.
+fn has_form(entry: &Entry, business_day: Day) -> bool
+    ensures { IsTrue result → HasForm entry.now.kind business_day entry.now }
+{
+    match entry.kind {
+        Kind::Repay => 1 <= entry.amount && entry.amount <= 1_000_000_000_000 && is_whole(entry),
+        Kind::Fee => { is_of_the_day(entry, business_day) && matches!(entry.portion, Portion::Fee) }
+        Kind::Penalty => {
+            is_of_the_day(entry, business_day) && matches!(entry.portion, Portion::Penalty)
+        }
+        Kind::Waive => {
+            is_of_the_day(entry, business_day)
+                && entry.amount == 0
+                && !matches!(entry.portion, Portion::Principal)
+        }
+        Kind::WriteOff | Kind::Refund => {
+            is_of_the_day(entry, business_day) && entry.amount == 0 && is_whole(entry)
+        }
+    }
+}
+
+fn manager() -> Option<Caller> {
+    Some(Caller {
+        office: OfficeNo::new(1)?,
+        staff: StaffNo::new(1)?,
+    })
+}
+
+impl OpenLoan {
+    /// The loan, with nothing entered.
+    pub fn new(alloc: Global, strategy: StrategyName) -> Result<OpenLoan, Fault> {
+        disbursed(alloc, terms(strategy, None))
+    }
+
+    /// The same, with a charge on overdue instalments.
+    pub fn with_penalties(alloc: Global, strategy: StrategyName) -> Result<OpenLoan, Fault> {
+        disbursed(alloc, terms(strategy, Some(overdue_charge(alloc))))
+    }
+
+    /// The loan after steps, none of them refused.
+    pub fn after(alloc: Global, steps: &[Step]) -> Result<OpenLoan, Fault> {
+        let mut loan = OpenLoan::new(alloc, StrategyName::MifosStandard)?;
+        loan.take_all(alloc, steps)?;
+        Ok(loan)
+    }
+
+    /// Takes steps up to the first that is refused.
+    pub fn take_all(&mut self, alloc: Global, steps: &[Step]) -> Result<(), Fault> {
+        for step in steps {
+            self.take(alloc, *step)?;
+        }
+        Ok(())
+    }
+
+    /// Takes a step.
+    pub fn take(&mut self, alloc: Global, step: Step) -> Result<(), Fault> {
+        let today = self.business_day;
+        match step {
+            Step::Repay { day: text, amount } => {
+                self.enter(
+                    alloc,
+                    Kind::Repay,
+                    day(text)?,
+                    amount,
+                    0,
+                    Portion::Principal,
+                )
+            }
+            Step::Fee { instalment, amount } => {
+                self.enter(alloc, Kind::Fee, today, amount, instalment, Portion::Fee)
+            }
+            Step::Penalty { instalment, amount } => {
+                self.enter(
+                    alloc,
+                    Kind::Penalty,
+                    today,
+                    amount,
+                    instalment,
+                    Portion::Penalty,
+                )
+            }
+            Step::WaiveInterest { instalment } => {
+                self.enter(alloc, Kind::Waive, today, 0, instalment, Portion::Interest)
+            }
+            Step::WriteOff => self.enter(alloc, Kind::WriteOff, today, 0, 0, Portion::Principal),
+            Step::Refund => self.enter(alloc, Kind::Refund, today, 0, 0, Portion::Principal),
+            Step::Reverse { seq } => self.account.reverse(alloc, seq),
+        }
+    }
+
+    /// Enters an entry with the next number.
+    fn enter(
+        &mut self,
+        alloc: Global,
+        kind: Kind,
+        day: Day,
+        amount: u64,
+        instalment: u32,
+        portion: Portion,
+    ) -> Result<(), Fault> {
+        let entered = self.account.entries().len();
+        let (Some(staff), Ok(entered)) = (manager(), u32::try_from(entered)) else {
+            return Err(Fault::F2);
+        };
+        if entered >= 9999 {
+            return Err(Fault::F18);
+        }
+        self.offer(
+            alloc,
+            Entry {
+                seq: entered + 1,
+                kind,
+                day,
+                amount,
+                instalment,
+                portion,
+                receipt: None,
+                staff,
+                reversed: false,
+            },
+        )
+    }
+
+    /// Enters an entry, where it may be offered.
+    fn offer(&mut self, alloc: Global, entry: Entry) -> Result<(), Fault>
+        requires next { entry.seq ≡ length self.old.account.entries + 1 }
+        requires stands { entry.reversed ≡ false }
+    {
+        let entries = self.account.entries();
+        if !is_latest(entries, self.business_day) || !has_form(&entry, self.business_day) {
+            return Err(Fault::F1);
+        }
+        self.account.enter(alloc, entry, self.business_day)
+    }
+}
