@@ -181,7 +181,7 @@ waiver_then = refl
 waiver_waived : sums (λ r. r.waived) (state_of usual schedule waiver_then_paid) ≡ 0 ∷ 0 ∷ 0 ∷ 0 ∷ []
 waiver_waived = refl
 
--- written off after row 10
+-- written off after the two repayments
 abbrev written_off_after : List Entry
 written_off_after = repay 1 february 20000 ∷ repay 2 march 50000 ∷ entry_of 3 WriteOff march 0 0 Principal false ∷ []
 
