@@ -1,6 +1,6 @@
 -- What is conserved: money that was repaid, the principal, and that overpaid and outstanding are never both above 0.
-use Rattle.std.proofs.Common.{◌≡◌, ◌≢◌, ℕ, zero, suc, ◌+◌, ◌-◌, ◌*◌, ◌^◌, ◌<◌, ◌≤◌, List, [], ◌∷◌, ◌++◌, length, map, get_or, set, sum, inl, inr, arith, refl, ◌∙◌, ap, subst, sym}
-use Rattle.std.specs.Prelude.{sum_by, All, filter}
+use Rattle.std.proofs.Common.{◌≡◌, ◌≢◌, ℕ, zero, suc, ◌+◌, ◌-◌, ◌*◌, ◌^◌, ◌<◌, List, [], ◌∷◌, length, map, get_or, set, sum, inl, inr, arith, refl, ◌∙◌, ap, subst, sym}
+use Rattle.std.specs.Prelude.{sum_by, All}
 use Rattle.std.specs.List.{range_with_len}
 use Rattle.std.proofs.lemmas.Bool.{cases_lt, cond_both}
 use Rattle.std.proofs.lemmas.List.{get_or-set_other, set_past}
@@ -15,7 +15,7 @@ use Rattle.mf_alloc.specs.declared.row.Portion.{Portion}
 use Rattle.mf_alloc.specs.declared.row.Portion.TheVariants.{Penalty as PenaltyPart, Fee as FeePart, Interest, Principal}
 use Rattle.mf_alloc.specs.Sums.{Sums, open_at, IsWhole, AreWhole}
 use Rattle.mf_alloc.specs.Rows.{outstanding, no_row, row_at, changed, place_in_row, IsCell}
-use Rattle.mf_alloc.specs.Payment.{shares_of, rest_of}
+use Rattle.mf_alloc.specs.Payment.{shares_of}
 use Rattle.mf_alloc.specs.Order.{cell_by, place_by, standard}
 use Rattle.mf_alloc.specs.OrderLaws.{in_range-place_by, forth-place_by}
 use Rattle.mf_alloc.specs.OrderLaws.{IsOrder}
@@ -25,16 +25,16 @@ use Rattle.mf_account.specs.declared.entry.Kind.{Kind}
 use Rattle.mf_account.specs.declared.entry.Kind.TheVariants.{Repay, Fee, Penalty, Waive, WriteOff, Refund}
 use Rattle.mf_account.specs.declared.settled.How.{How}
 use Rattle.mf_account.specs.declared.settled.How.TheVariants.{Paid, Waived, WrittenOff}
-use Rattle.mf_account.specs.Kinds.{money_in, money_out}
+use Rattle.mf_account.specs.Kinds.{money_in}
 use Rattle.mf_account.specs.Effect.{State, Part, after, settle, settle_row, owe_row, with_settled, with_charge, whole_part, is_some_part, some_parts, parts_by, parts_cleared, parts_paid, parts_of, own_effect, state_acted, own_share, later_share, paid_at}
 use Rattle.mf_account.specs.AtOnce.{paid_part, rows_charged}
 use Rattle.mf_account.specs.Account.{after_all, first_state, row_of, sum_at}
 use Rattle.mf_account.specs.Standing.{standing}
 use Rattle.mf_account.specs.Applicable.{IsSettleable}
 use Rattle.mf_account.specs.Undo.{paid_by, paid_in}
-use Rattle.mf_account.specs.Loan.{Loan, HasColumns, IsEntry, IsSound, schedule_of, orders_of, state_of_loan}
+use Rattle.mf_account.specs.Loan.{Loan, HasColumns, IsEntry, IsSound, schedule_of, state_of_loan}
 use Rattle.mf_account.specs.Balance.{balances_of, repaid, HasRoom}
-use Rattle.mf_account.proofs.EffectLemmas.{with_settled-paid, length-with_charge}
+use Rattle.mf_account.proofs.EffectLemmas.{with_settled-paid}
 use Rattle.mf_account.proofs.OnceLemmas.{rows-after, money-after, refunded-after, length-acted}
 use Rattle.mf_account.proofs.UndoLemmas.{money_out-le}
 use Rattle.mf_alloc.specs.Sums.{IsRowWithin, AreWithin}

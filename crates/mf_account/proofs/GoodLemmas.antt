@@ -1,16 +1,14 @@
 -- What every state of a sound loan keeps: four sums of each kind, what is settled at most what is owed, and room for more.
-use Rattle.std.proofs.Common.{◌≡◌, ◌≢◌, ℕ, zero, suc, ◌+◌, ◌-◌, ◌*◌, ◌^◌, ◌<◌, ◌≤◌, ◌⊎◌, List, [], ◌∷◌, ◌++◌, length, map, get_or, set, inl, inr, arith, refl, ◌∙◌, ap, subst, sym}
+use Rattle.std.proofs.Common.{◌≡◌, ◌≢◌, ℕ, zero, suc, ◌+◌, ◌-◌, ◌^◌, ◌<◌, ◌≤◌, ◌⊎◌, List, [], ◌∷◌, ◌++◌, length, map, get_or, inl, inr, arith, ◌∙◌, ap, subst, sym}
 use Rattle.std.specs.Prelude.{sum_by, All}
-use Rattle.std.proofs.lemmas.Bool.{cases_lt, cases_eq, cond_both}
+use Rattle.std.proofs.lemmas.Bool.{cases_lt, cases_eq}
 use Rattle.std.proofs.lemmas.List.{get_or-set_same, get_or-set_other, set_past, length-set}
-use Rattle.std.proofs.lemmas.List.Elements.{All-set, All-nil, All-cons, All-head, All-tail}
+use Rattle.std.proofs.lemmas.List.Elements.{All-set, All-head, All-tail}
 use Rattle.std.proofs.lemmas.List.Sums.{sum_by-append, sum_by-set}
 use Rattle.mf_alloc.specs.declared.row.Cell.{Cell}
 use Rattle.mf_alloc.specs.declared.row.Share.{Share}
-use Rattle.mf_alloc.specs.declared.row.Portion.{Portion}
-use Rattle.mf_alloc.specs.declared.row.Portion.TheVariants.{Penalty as PenaltyPart, Fee as FeePart, Interest, Principal}
-use Rattle.mf_alloc.specs.Sums.{Sums, open_at, IsWithin, IsRowWithin, AreWithin, IsWhole, AreWhole}
-use Rattle.mf_alloc.specs.Rows.{outstanding, no_row, row_at, changed, raised, place_in_row, IsCell, IsPayable, pay_into}
+use Rattle.mf_alloc.specs.Sums.{Sums, open_at, IsRowWithin, AreWithin, IsWhole, AreWhole}
+use Rattle.mf_alloc.specs.Rows.{no_row, row_at, changed, raised, place_in_row, IsPayable, pay_into}
 use Rattle.mf_alloc.specs.OrderLaws.{IsOrder}
 use Rattle.mf_alloc.proofs.PaymentLemmas.{shares_payable}
 use Rattle.mf_alloc.proofs.LeftOpen.{IsLine, place_in_row-small}
@@ -19,11 +17,11 @@ use Rattle.mf_account.specs.declared.entry.Kind.{Kind}
 use Rattle.mf_account.specs.declared.entry.Kind.TheVariants.{Repay, Fee, Penalty, Waive, WriteOff, Refund}
 use Rattle.mf_account.specs.declared.settled.How.{How}
 use Rattle.mf_account.specs.declared.settled.How.TheVariants.{Paid, Waived, WrittenOff}
-use Rattle.mf_account.specs.Kinds.{money_in, money_out}
-use Rattle.mf_account.specs.Effect.{State, Part, after, settle, settle_row, owe_row, with_settled, with_charge, parts_by, parts_cleared, parts_of}
-use Rattle.mf_account.specs.AtOnce.{paid_part, rows_charged, rows_cleared, money_to_pay, shares_at_once, parts_at_once}
-use Rattle.mf_account.specs.Account.{Orders, after_all, sum_at}
-use Rattle.mf_account.specs.Applicable.{HasInstalment, HasRow, HasCell, IsApplicable, AreApplicable, IsSettleable}
+use Rattle.mf_account.specs.Kinds.{money_in}
+use Rattle.mf_account.specs.Effect.{State, Part, after, settle, settle_row, owe_row, with_settled, with_charge, parts_cleared, parts_of}
+use Rattle.mf_account.specs.AtOnce.{paid_part, rows_charged, rows_cleared, money_to_pay, shares_at_once}
+use Rattle.mf_account.specs.Account.{after_all}
+use Rattle.mf_account.specs.Applicable.{HasInstalment, HasRow, HasCell, AreApplicable, IsSettleable}
 use Rattle.mf_account.proofs.EffectLemmas.{cleared_settleable, length-with_charge, length-with_settled}
 use Rattle.mf_account.proofs.OnceLemmas.{rows-after, parts-once, money-after, refunded-after}
 use Rattle.mf_account.proofs.UndoLemmas.{money_out-le}

@@ -1,5 +1,5 @@
 -- A list in order, looked at from its end.
-use Rattle.std.proofs.Common.{◌≡◌, ◌≢◌, ℕ, zero, suc, ◌+◌, ◌-◌, ◌<◌, ◌≤◌, ◌⊎◌, Bool, true, false, true≢false, List, [], ◌∷◌, length, get_or, inl, inr, arith, refl, ◌∙◌, ap, subst, sym}
+use Rattle.std.proofs.Common.{◌≡◌, ℕ, zero, suc, ◌-◌, ◌<◌, ◌≤◌, ◌⊎◌, true, false, true≢false, List, [], ◌∷◌, length, get_or, inl, inr, arith, ◌∙◌, ap, sym}
 use Rattle.std.specs.Prelude.{insert, fold}
 use Rattle.std.proofs.lemmas.Bool.{cases_lt, cases_Bool, cond_both}
 use Rattle.mf_account.specs.declared.entry.Entry.{Entry}

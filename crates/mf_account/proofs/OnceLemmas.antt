@@ -1,5 +1,5 @@
 -- What an entry settles is what its rows gain, and one payment of all its money gives the same.
-use Rattle.std.proofs.Common.{◌≡◌, ℕ, zero, suc, ◌+◌, ◌-◌, ◌*◌, ◌<◌, ◌≤◌, Bool, true, false, cond, List, [], ◌∷◌, ◌++◌, length, map, arith, refl, ◌∙◌, ap, subst, sym, sum}
+use Rattle.std.proofs.Common.{◌≡◌, ℕ, ◌+◌, ◌-◌, ◌*◌, ◌<◌, true, false, cond, List, [], ◌∷◌, ◌++◌, length, map, arith, refl, ◌∙◌, ap, subst, sym}
 use Rattle.std.specs.Prelude.{filter, sum_by}
 use Rattle.std.specs.List.{range_with_len}
 use Rattle.std.proofs.lemmas.Bool.{cond_both, ltb-false}
@@ -7,18 +7,18 @@ use Rattle.std.proofs.lemmas.List.Sums.{sum_by-append}
 use Rattle.mf_alloc.specs.declared.row.Cell.{Cell}
 use Rattle.mf_alloc.specs.declared.row.Share.{Share}
 use Rattle.mf_alloc.specs.Sums.{Sums}
-use Rattle.mf_alloc.specs.Rows.{pay_into, with_paid}
-use Rattle.mf_alloc.specs.Payment.{share_at, shares_of, rest_of, is_some_share, total_of}
+use Rattle.mf_alloc.specs.Rows.{with_paid}
+use Rattle.mf_alloc.specs.Payment.{share_at, rest_of, is_some_share, total_of}
 use Rattle.mf_alloc.proofs.PaymentLemmas.{total-shares}
 use Rattle.mf_alloc.proofs.TwoPayments.{share_in, shares_by, with_paid-some, with_paid-twice, pay_into-none}
-use Rattle.mf_alloc.proofs.LeftOpen.{IsLine, amounts_of, rows_paid, rows_paid-by, length-rows_paid, shares_by-same, amounts-twice, rest-twice}
+use Rattle.mf_alloc.proofs.LeftOpen.{IsLine, amounts_of, rows_paid-by, length-rows_paid, shares_by-same, amounts-twice, rest-twice}
 use Rattle.mf_account.specs.declared.entry.Entry.{Entry}
 use Rattle.mf_account.specs.declared.entry.Kind.{Kind}
 use Rattle.mf_account.specs.declared.entry.Kind.TheVariants.{Repay, Fee, Penalty, Waive, WriteOff, Refund}
-use Rattle.mf_account.specs.declared.settled.How.TheVariants.{Paid, Waived, WrittenOff}
+use Rattle.mf_account.specs.declared.settled.How.TheVariants.{Waived, WrittenOff}
 use Rattle.mf_account.specs.Kinds.{money_in, money_out}
 use Rattle.mf_account.specs.Effect.{State, Part, with_settled, with_charge, whole_part, is_some_part, some_parts, parts_by, parts_cleared, own_effect, state_acted, after, own_share, later_share, paid_at, parts_paid, parts_of}
-use Rattle.mf_account.specs.AtOnce.{paid_part, rows_charged, rows_cleared, with_cleared, money_to_pay, shares_at_once, parts_at_once, after_at_once}
+use Rattle.mf_account.specs.AtOnce.{paid_part, rows_charged, rows_cleared, money_to_pay, shares_at_once, parts_at_once, after_at_once}
 use Rattle.mf_account.specs.Undo.{paid_by, paid_in}
 use Rattle.mf_account.proofs.EffectLemmas.{with_settled-paid, with_settled-append, length-with_charge, length-with_settled}
 

@@ -1,8 +1,7 @@
 -- A replay so far.
-use Rattle.std.proofs.Common.{◌≡◌, ℕ, suc, ◌+◌, ◌<◌, ◌≤◌, List, [], ◌∷◌, ◌++◌, length, get_or, map, drop, arith, refl, ◌∙◌, ap, sym, subst, append_assoc, add-one, drop-cons}
+use Rattle.std.proofs.Common.{◌≡◌, ℕ, suc, ◌+◌, ◌<◌, List, [], ◌∷◌, ◌++◌, length, get_or, drop, refl, ◌∙◌, ap, sym, subst, append_assoc, add-one, drop-cons}
 use Rattle.std.proofs.lemmas.List.{length-map, get_or_default}
 use Rattle.mf_schedule.specs.declared.instalment.Instalment.{Instalment}
-use Rattle.mf_alloc.specs.Sums.{Sums}
 use Rattle.mf_account.specs.declared.entry.Entry.{Entry}
 use Rattle.mf_account.specs.declared.settled.Settled.{Settled}
 use Rattle.mf_account.specs.Effect.{State, after, parts_of}

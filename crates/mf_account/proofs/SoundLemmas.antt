@@ -1,7 +1,6 @@
 -- A sound loan can be replayed, and stays sound when an entry is entered or reversed.
-use Rattle.std.proofs.Common.{◌≡◌, ◌≢◌, ℕ, zero, suc, ◌+◌, ◌-◌, ◌*◌, ◌^◌, ◌<◌, ◌≤◌, ◌⊎◌, Bool, true, false, not, ◌&&◌, ◌||◌, cond, eqb, leb, ltb, true≢false, ◌==◌, List, [], ◌∷◌, ◌++◌, length, map, get_or, set, Option, Some, None, inl, inr, arith, refl, ◌∙◌, ap, subst, sym, length-append}
+use Rattle.std.proofs.Common.{◌≡◌, ◌≢◌, ℕ, zero, suc, ◌+◌, ◌-◌, ◌*◌, ◌^◌, ◌<◌, ◌≤◌, Bool, true, false, not, ◌&&◌, ◌||◌, cond, eqb, leb, ltb, true≢false, ◌==◌, List, [], ◌∷◌, ◌++◌, length, map, get_or, Option, Some, None, inl, inr, arith, refl, ◌∙◌, ap, subst, sym, length-append}
 use Rattle.std.specs.Prelude.{sum_by, All, fold, is_some}
-use Rattle.std.specs.List.{range_with_len, list_any}
 use Rattle.std.proofs.Math.ListN.{get_or-append}
 use Rattle.std.proofs.lemmas.Bool.{cases_lt, cases_eq, cond_both, leb-true, leb-false, ltb-false, eqb-false, eq-eqb, lt-ltb, and_parts}
 use Rattle.std.proofs.lemmas.List.{length-map, get_or-append_right, get_or-set_same, get_or-set_other, length-set}
@@ -10,12 +9,11 @@ use Rattle.std.proofs.lemmas.List.Folds.{list_any_at}
 use Rattle.std.proofs.lemmas.List.Elements.{All-nil, All-cons, All-head, All-tail, All-append, All-set, All-weaker}
 use Rattle.std.proofs.lemmas.List.Sums.{sum_by-append}
 use Rattle.mf_base.specs.declared.fault.Fault.{Fault}
-use Rattle.mf_base.specs.declared.fault.Fault.TheVariants.{F8, F9, F10, F11, F12, F13, F14, F18}
+use Rattle.mf_base.specs.declared.fault.Fault.TheVariants.{F8, F9, F10, F11, F14, F18}
 use Rattle.mf_catalog.specs.declared.terms.StrategyName.{StrategyName}
 use Rattle.mf_schedule.specs.declared.instalment.Instalment.{Instalment}
-use Rattle.mf_schedule.specs.Fresh.{fresh_schedule, total_owed, instalment_of}
+use Rattle.mf_schedule.specs.Fresh.{total_owed, instalment_of}
 use Rattle.mf_schedule.proofs.BoundLemmas.{scheduled_owed-le}
-use Rattle.mf_alloc.specs.declared.row.Portion.TheVariants.{Principal}
 use Rattle.mf_alloc.specs.Sums.{Sums, IsWhole, AreWhole, nothing}
 use Rattle.mf_alloc.specs.Order.{cell_by, place_by}
 use Rattle.mf_alloc.specs.OrderLaws.{is_cell-cell_by, back-cell_by}
@@ -24,7 +22,6 @@ use Rattle.mf_account.specs.declared.entry.Entry.{Entry}
 use Rattle.mf_account.specs.declared.entry.Kind.{Kind}
 use Rattle.mf_account.specs.declared.entry.Kind.TheVariants.{Repay, Fee, Penalty, Waive, WriteOff, Refund}
 use Rattle.mf_account.specs.Kinds.{is_seal}
-use Rattle.mf_account.specs.Effect.{State}
 use Rattle.mf_account.specs.Account.{first_state, row_of}
 use Rattle.mf_account.specs.Standing.{is_before, placed, with_entry, standing, no_entry, entry_at, with_mark}
 use Rattle.mf_account.specs.Applicable.{AreApplicable}

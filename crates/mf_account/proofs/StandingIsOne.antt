@@ -1,12 +1,11 @@
 -- That the standing entries are the one ascending list of those not reversed.
-use Rattle.std.proofs.Common.{◌≡◌, ◌≢◌, ℕ, zero, suc, ◌+◌, ◌<◌, ◌≤◌, ◌⊎◌, Bool, true, false, ◌&&◌, ◌||◌, eqb, ltb, true≢false, List, [], ◌∷◌, length, get_or, inl, inr, arith, refl, ◌∙◌, ap, subst, sym}
+use Rattle.std.proofs.Common.{◌≡◌, ◌≢◌, ℕ, suc, ◌+◌, ◌<◌, ◌⊎◌, Bool, true, false, ◌&&◌, ◌||◌, eqb, ltb, true≢false, List, [], ◌∷◌, length, inl, inr, arith, refl, ◌∙◌, ap, subst, sym}
 use Rattle.std.specs.Prelude.{fold}
 use Rattle.std.proofs.lemmas.Bool.{cases_lt, cases_Bool, cond_both, ltb-true, ltb-false, eqb-true, and_parts}
 use Rattle.mf_account.specs.declared.entry.Entry.{Entry}
 use Rattle.mf_account.specs.Standing.{is_before, placed, with_entry, standing, entry_at}
-use Rattle.mf_account.specs.Loan.{AreEntries}
 use Rattle.mf_account.specs.StandingLaw.{IsAmong, Precedes, Ascends, IsStandingOf, StandingIsOne}
-use Rattle.mf_account.proofs.SoundLemmas.{before-from, or_true}
+use Rattle.mf_account.proofs.SoundLemmas.{before-from}
 
 or_parts : (a b : Bool) → (a || b) ≡ true → (a ≡ true) ⊎ (b ≡ true)
 or_parts true b h = inl refl

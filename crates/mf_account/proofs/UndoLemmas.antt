@@ -1,16 +1,10 @@
 -- Taking entries back gives the very state before them.
-use Rattle.std.proofs.Common.{◌≡◌, ◌≢◌, ℕ, zero, suc, ◌+◌, ◌-◌, ◌*◌, ◌<◌, ◌≤◌, Bool, true, false, cond, List, [], ◌∷◌, ◌++◌, length, map, arith, refl, ◌∙◌, ap, subst, sym}
-use Rattle.std.specs.Prelude.{filter, sum_by}
-use Rattle.std.specs.List.{range_with_len}
-use Rattle.std.proofs.lemmas.Bool.{cond_both}
-use Rattle.std.proofs.lemmas.List.Sums.{sum_by-append}
+use Rattle.std.proofs.Common.{◌≡◌, ◌≢◌, ℕ, ◌+◌, ◌-◌, ◌≤◌, List, [], ◌∷◌, arith, refl, ◌∙◌, ap, sym}
 use Rattle.mf_alloc.specs.declared.row.Cell.{Cell}
 use Rattle.mf_alloc.specs.Sums.{Sums}
-use Rattle.mf_alloc.specs.declared.row.Share.{Share}
 use Rattle.mf_alloc.specs.declared.row.Portion.TheVariants.{Penalty as PenaltyPart, Fee as FeePart}
-use Rattle.mf_alloc.specs.Rows.{changed, raised, lowered, place_in_row, pay_row, unpay_row}
-use Rattle.mf_alloc.specs.Payment.{shares_of, rest_of, total_of}
-use Rattle.mf_alloc.proofs.PaymentLemmas.{changed-back, lowered-raised, unpay-pay, total-shares}
+use Rattle.mf_alloc.specs.Rows.{place_in_row}
+use Rattle.mf_alloc.proofs.PaymentLemmas.{changed-back, lowered-raised, unpay-pay}
 use Rattle.mf_account.specs.declared.entry.Entry.{Entry}
 use Rattle.mf_account.specs.declared.entry.Kind.{Kind}
 use Rattle.mf_account.specs.declared.entry.Kind.TheVariants.{Repay, Fee, Penalty, Waive, WriteOff, Refund}
@@ -18,10 +12,10 @@ use Rattle.mf_account.specs.declared.settled.How.{How}
 use Rattle.mf_account.specs.declared.settled.How.TheVariants.{Paid, Waived, WrittenOff}
 use Rattle.mf_account.specs.Kinds.{money_in, money_out}
 use Rattle.mf_account.specs.Effect.{State, Part, after, parts_of, settle_row, owe_row, settle, with_settled, with_charge}
-use Rattle.mf_account.specs.AtOnce.{rows_charged, money_to_pay}
+use Rattle.mf_account.specs.AtOnce.{rows_charged}
 use Rattle.mf_account.proofs.OnceLemmas.{rows-after, money-after, refunded-after}
 use Rattle.mf_account.specs.Account.{Orders, after_all}
-use Rattle.mf_account.specs.Undo.{unsettle_row, unowe_row, unsettle, without_settled, without_charge, paid_by, paid_in, before_entry, all_parts, before_all, RefundIsLast}
+use Rattle.mf_account.specs.Undo.{unsettle_row, unowe_row, unsettle, without_settled, without_charge, paid_in, before_entry, all_parts, before_all, RefundIsLast}
 
 unsettle_row-settle_row : (how : How) (p amount : ℕ) (row : Sums) → unsettle_row how p amount (settle_row how p amount row) ≡ row
 unsettle_row-settle_row Paid p amount row = unpay-pay p amount row

@@ -1,13 +1,12 @@
 -- Worked accounts, computed from the definitions: 100000 cents at 12 percent for 3 months from 2024-01-31, equal principal.
-use Rattle.std.proofs.Common.{◌≡◌, ℕ, Bool, true, false, List, [], ◌∷◌, map, refl, None, Some}
-use Rattle.mf_base.specs.Calendar.{day_of, date_of}
-use Rattle.mf_base.specs.declared.day.Freq.TheVariants.{Weeks, Months}
+use Rattle.std.proofs.Common.{◌≡◌, ℕ, Bool, true, false, List, [], ◌∷◌, refl, None}
+use Rattle.mf_base.specs.Calendar.{day_of}
+use Rattle.mf_base.specs.declared.day.Freq.TheVariants.{Months}
 use Rattle.mf_catalog.specs.declared.terms.Terms.{Terms}
 use Rattle.mf_catalog.specs.declared.terms.Method.TheVariants.{EqualPrincipal}
 use Rattle.mf_catalog.specs.declared.terms.StrategyName.TheVariants.{MifosStandard}
 use Rattle.mf_schedule.specs.declared.instalment.Instalment.{Instalment}
 use Rattle.mf_schedule.specs.Fresh.{fresh_schedule}
-use Rattle.mf_alloc.specs.declared.row.Cell.{Cell}
 use Rattle.mf_alloc.specs.declared.row.Portion.{Portion}
 use Rattle.mf_alloc.specs.declared.row.Portion.TheVariants.{Penalty as PenaltyPart, Fee as FeePart, Interest, Principal}
 use Rattle.mf_alloc.specs.Sums.{Sums, open_at}
@@ -17,7 +16,7 @@ use Rattle.mf_account.specs.declared.entry.Kind.{Kind}
 use Rattle.mf_account.specs.declared.entry.Kind.TheVariants.{Repay, Fee, Penalty, Waive, WriteOff, Refund}
 use Rattle.mf_account.specs.declared.settled.Settled.{Settled}
 use Rattle.mf_account.specs.declared.settled.How.{How}
-use Rattle.mf_account.specs.declared.settled.How.TheVariants.{Paid, Waived, WrittenOff}
+use Rattle.mf_account.specs.declared.settled.How.TheVariants.{Paid, Waived}
 use Rattle.mf_account.specs.Effect.{State}
 use Rattle.mf_account.specs.Account.{Orders, state_of, settled_of, status_of, sum_at}
 use Rattle.std.specs.Prelude.{sum_by}

@@ -1,8 +1,7 @@
 -- What the code asks of an entry and a state, so that no sum overflows and each cell is there.
 use Rattle.std.specs.Prelude.{ℕ, ◌+◌, ◌<◌, ◌≤◌, ◌^◌, List, [], ◌∷◌, length, slice_index, All}
-use Rattle.mf_alloc.specs.declared.row.Portion.TheVariants.{Penalty as PenaltyPart, Fee as FeePart}
+use Rattle.mf_alloc.specs.declared.row.Portion.TheVariants.{Penalty as PenaltyPart}
 use Rattle.mf_alloc.specs.Sums.{Sums, AreWhole}
-use Rattle.mf_alloc.specs.declared.row.Cell.{Cell}
 use Rattle.mf_alloc.specs.Rows.{IsCell, row_at, outstanding}
 use Rattle.mf_account.specs.declared.entry.Entry.{Entry}
 use Rattle.mf_account.specs.declared.entry.Kind.{Kind}

@@ -3,7 +3,6 @@ use Rattle.std.specs.Prelude.{ℕ, ◌+◌, ◌*◌, nat_lt, Bool, List, [], ◌
 use Rattle.std.specs.List.{range_with_len}
 use Rattle.mf_alloc.specs.declared.row.Cell.{Cell}
 use Rattle.mf_alloc.specs.declared.row.Portion.TheVariants.{Penalty as PenaltyPart, Fee as FeePart}
-use Rattle.mf_alloc.specs.declared.row.Share.{Share}
 use Rattle.mf_alloc.specs.Sums.{Sums}
 use Rattle.mf_alloc.specs.Rows.{outstanding, changed, raised, place_in_row, pay_row, with_paid}
 use Rattle.mf_alloc.specs.Payment.{share_at, shares_of, rest_of}

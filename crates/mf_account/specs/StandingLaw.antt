@@ -1,5 +1,5 @@
 -- The standing entries are the one list of those not reversed that ascends by day and number.
-use Rattle.std.specs.Prelude.{◌≡◌, ℕ, ◌⊎◌, Bool, true, false, List, [], ◌∷◌}
+use Rattle.std.specs.Prelude.{◌≡◌, ℕ, ◌⊎◌, true, false, List, [], ◌∷◌}
 use Rattle.mf_account.specs.declared.entry.Entry.{Entry}
 use Rattle.mf_account.specs.Standing.{is_before, standing}
 use Rattle.mf_account.specs.Loan.{AreEntries}

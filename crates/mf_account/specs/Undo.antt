@@ -1,5 +1,5 @@
 -- Back from the state after entries to the state before, by what they settled and with nothing known of it.
-use Rattle.std.specs.Prelude.{◌≡◌, ℕ, ◌+◌, ◌-◌, ◌==◌, ◌≢◌, List, [], ◌∷◌, sum_by}
+use Rattle.std.specs.Prelude.{ℕ, ◌+◌, ◌-◌, ◌≢◌, List, [], ◌∷◌, sum_by}
 use Rattle.mf_alloc.specs.declared.row.Portion.TheVariants.{Penalty as PenaltyPart, Fee as FeePart}
 use Rattle.mf_alloc.specs.Sums.{Sums}
 use Rattle.mf_alloc.specs.Rows.{changed, lowered, place_in_row, unpay_row}

@@ -1,13 +1,11 @@
 use Rattle.std.proofs.Common.{ℕ, ◌≡◌, ◌+◌, ◌-◌, ◌∙◌, ap, sym, subst, arith, length, List, map, ◌++◌, refl}
 use Rattle.mf_alloc.specs.declared.row.Share.{Share}
-use Rattle.mf_alloc.specs.declared.row.Cell.{Cell}
 use Rattle.mf_account.specs.Account.{numbered}
 use Rattle.mf_alloc.specs.Sums.{Sums, AreWhole}
 use Rattle.mf_alloc.specs.Payment.{shares_of, rest_of}
 use Rattle.mf_alloc.proofs.LeftOpen.{IsLine}
-use Rattle.mf_account.specs.Kinds.{money_in, money_out}
 use Rattle.mf_account.specs.Effect.{State, after, parts_of}
-use Rattle.mf_account.specs.AtOnce.{rows_cleared, money_to_pay, paid_part, after_at_once}
+use Rattle.mf_account.specs.AtOnce.{money_to_pay, paid_part, after_at_once}
 use Rattle.mf_account.proofs.EffectLemmas.{state-applied, parts-applied}
 use Rattle.mf_account.proofs.OnceLemmas.{after-once, parts-once}
 use Rattle.mf_account.proofs.apply.apply_entry.Goals as goal

@@ -1,11 +1,9 @@
-use Rattle.std.proofs.Common.{ℕ, ◌≡◌, ap, ◌∙◌, length, List}
+use Rattle.std.proofs.Common.{ap, ◌∙◌, length, List}
 use Rattle.mf_alloc.specs.Sums.{Sums}
-use Rattle.mf_account.specs.Effect.{with_charge, with_settled}
+use Rattle.mf_account.specs.Effect.{with_charge}
 use Rattle.mf_account.specs.AtOnce.{with_cleared}
-use Rattle.mf_account.specs.Account.{part_of}
 use Rattle.mf_account.proofs.EffectLemmas.{with_cleared-from, length-with_charge}
 use Rattle.mf_account.proofs.effect.charge_and_clear.Goals as goal
-use Rattle.std.proofs.Common.{map}
 
 pub returns-clause-rows : goal.returns-clause-rows
 returns-clause-rows g c =

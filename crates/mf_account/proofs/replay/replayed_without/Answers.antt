@@ -1,4 +1,4 @@
-use Rattle.std.proofs.Common.{List, ◌∙◌, sym, subst, length, ap, true, false}
+use Rattle.std.proofs.Common.{List, ◌∙◌, sym, subst, length, ap, false}
 use Rattle.mf_account.specs.declared.entry.Entry.{Entry}
 use Rattle.mf_account.specs.Account.{first_state}
 use Rattle.mf_account.specs.Standing.{standing, with_mark}

@@ -1,13 +1,6 @@
-use Rattle.std.proofs.Common.{ℕ, ◌≡◌, ◌<◌, ◌-◌, ◌+◌, ◌∙◌, arith, length, take, drop, List, map, ap, sym, subst}
-use Rattle.mf_alloc.specs.Sums.{AreWithin}
-use Rattle.mf_account.specs.declared.entry.Entry.{Entry}
-use Rattle.mf_account.specs.declared.settled.Settled.{Settled}
-use Rattle.mf_account.specs.Account.{Orders, part_of, after_all}
-use Rattle.mf_account.specs.Effect.{State}
-use Rattle.mf_account.specs.Undo.{without_charge, without_settled}
-use Rattle.mf_account.specs.Rewind.{IsRewindable}
-use Rattle.mf_account.specs.Standing.{entry_at}
-use Rattle.mf_account.proofs.RewindLemmas.{IsBack, IsStep, back_step, read_entry, cells-part, charge-at, within-at, back-after}
+use Rattle.std.proofs.Common.{◌≡◌, ◌-◌, ◌∙◌, arith, length, take, drop, map, ap}
+use Rattle.mf_account.specs.Account.{part_of, after_all}
+use Rattle.mf_account.proofs.RewindLemmas.{back_step, read_entry, cells-part, charge-at, within-at, back-after}
 use Rattle.mf_account.proofs.rewind.rewind_book.Goals as goal
 
 pub take_back-requires-clause-charge : goal.take_back-requires-clause-charge

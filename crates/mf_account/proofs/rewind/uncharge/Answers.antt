@@ -1,4 +1,4 @@
-use Rattle.std.proofs.Common.{ℕ, ◌≡◌, length, subst}
+use Rattle.std.proofs.Common.{length, subst}
 use Rattle.mf_alloc.specs.Sums.{AreWithin}
 use Rattle.mf_account.specs.declared.entry.Kind.{Kind}
 use Rattle.mf_account.specs.declared.entry.Kind.TheVariants.{Fee, Penalty}

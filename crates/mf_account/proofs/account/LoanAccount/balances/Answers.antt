@@ -1,6 +1,6 @@
 use Rattle.std.proofs.Common.{ℕ, ◌≡◌, ◌+◌, ◌<◌, sym, subst, sum, get_or}
 use Rattle.mf_account.specs.declared.balances.Balances.{Balances}
-use Rattle.mf_account.specs.Balance.{balances_of, repaid}
+use Rattle.mf_account.specs.Balance.{repaid}
 use Rattle.mf_account.proofs.ConserveLemmas.{balances-repaid, balances-principal, balances-apart, balances-whole}
 use Rattle.mf_account.proofs.account.LoanAccount.balances.Goals as goal
 

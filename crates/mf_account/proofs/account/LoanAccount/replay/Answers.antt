@@ -1,4 +1,4 @@
-use Rattle.std.proofs.Common.{ℕ, ◌≡◌, ◌∙◌, ap, sym, subst, arith, length, List}
+use Rattle.std.proofs.Common.{◌≡◌, ◌∙◌, ap, sym, subst, arith, length, List}
 use Rattle.mf_schedule.specs.declared.instalment.Instalment.{Instalment}
 use Rattle.mf_schedule.specs.Fresh.{fee_at_disbursement}
 use Rattle.mf_account.specs.declared.entry.Entry.{Entry}
