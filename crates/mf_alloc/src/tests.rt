@@ -1,11 +1,17 @@
+ghost use Rattle.std.specs.Prelude.{◌≡◌};
+
 use crate::{
-    Cell, InterestFirst, MifosStandard, Portion, PrincipalFirst, Row, Share, Strategy, pay, undo,
+    Cell, InterestFirst, MifosStandard, Portion, PrincipalFirst, Row, Share, Strategy, outstanding,
+    pay, undo,
 };
 use mf_base::{Day, Fault};
+use mf_catalog::StrategyName;
 use std::alloc::Global;
 use std::test::Fail;
 
-fn share(instalment: u32, portion: Portion, amount: u64) -> Share {
+fn share(instalment: u32, portion: Portion, amount: u64) -> Share
+    ensures cell { result.cell ≡ record { instalment = instalment; portion = portion } }
+{
     Share {
         cell: Cell {
             instalment,
@@ -64,5 +70,24 @@ fn gives_the_rows_back(rt: HostRuntime) -> Result<(), Fail> {
     assert_eq!(rt; rows[0].is_open(), false);
     undo(&mut rows, &shares);
     assert_eq!(rt; rows.as_slice(), [row].as_slice());
+    Ok(())
+}
+
+#[test]
+fn finds_cells_and_places(rt: HostRuntime) {
+    let cell = share(2, Portion::Interest, 0).cell;
+    assert_eq!(rt; MifosStandard.place(3, cell), 6);
+    assert_eq!(rt; PrincipalFirst.place(3, cell), 5);
+    assert_eq!(rt; InterestFirst.place(3, cell), 4);
+    assert_eq!(rt; StrategyName::InterestFirst.cell(3, 4), cell);
+}
+
+#[test]
+fn reads_a_cell(rt: HostRuntime) -> Result<(), Fail> {
+    let day = Day::parse(b"2024-03-31").ok_or("a day")?;
+    let rows = [Row::fresh(day, [0, 0, 1000, 33333])];
+    let cell = share(1, Portion::Interest, 0).cell;
+    assert_eq!(rt; outstanding(&rows, cell), 1000);
+    assert_eq!(rt; rows[0].outstanding(Portion::Principal), 33333);
     Ok(())
 }

@@ -2,7 +2,7 @@
 
 use super::opened::{OpenLoan, Step, TWO_REPAYMENTS, repayment};
 use super::{fresh_balances, share};
-use crate::Balances;
+use crate::{Balances, Receipt};
 use mf_alloc::Portion;
 use mf_base::Fault;
 use std::test::Fail;
@@ -78,5 +78,14 @@ fn refuses_days_outside(rt: HostRuntime) -> Result<(), Fail> {
     let after = loan.take(rt.alloc(), repayment("2024-04-01", 20000));
     assert_eq!(rt; after, Err(Fault::F10));
     assert_eq!(rt; loan.account.balances(), fresh_balances());
+    Ok(())
+}
+
+#[test]
+fn keeps_a_receipt(rt: HostRuntime) -> Result<(), Fail> {
+    let receipt = Receipt::new(format!(in rt.alloc(); "R-1")?);
+    assert_eq!(rt; receipt.as_str(), "R-1");
+    let text = receipt.into_text();
+    assert_eq!(rt; text.as_str(), "R-1");
     Ok(())
 }
