@@ -85,9 +85,9 @@ fn finds_cells_and_places(rt: HostRuntime) {
 #[test]
 fn reads_a_cell(rt: HostRuntime) -> Result<(), Fail> {
     let day = Day::parse(b"2024-03-31").ok_or("a day")?;
-    let rows = [Row::fresh(day, [0, 0, 1000, 33333])];
+    let row = Row::fresh(day, [0, 0, 1000, 33333]);
     let cell = share(1, Portion::Interest, 0).cell;
-    assert_eq!(rt; outstanding(&rows, cell), 1000);
-    assert_eq!(rt; rows[0].outstanding(Portion::Principal), 33333);
+    assert_eq!(rt; outstanding(&[row], cell), 1000);
+    assert_eq!(rt; row.outstanding(Portion::Principal), 33333);
     Ok(())
 }
