@@ -1,22 +1,43 @@
 -- An institution: what all offices share, and for each office its own rows. Within an office things are numbered by their places, from 1. Texts are lists of bytes, days are numbers of days.
-use Rattle.std.specs.Prelude.{ℕ, ◌-◌, cond, List, [], ◌∷◌, ◌==◌, nat_lt, slice_get, Option, Some, None, codes}
+use Rattle.std.specs.Prelude.{ℕ, ◌-◌, Bool, cond, List, [], ◌∷◌, ◌==◌, nat_lt, slice_get, option_map, Option, Some, None, codes}
+use Rattle.mf_catalog.specs.declared.charge.ChargeDef.{ChargeDef}
+use Rattle.mf_catalog.specs.declared.charge.ChargeKind.{ChargeKind}
+use Rattle.mf_catalog.specs.declared.charge.Calc.{Calc}
+use Rattle.mf_catalog.specs.declared.product.Product.{Product}
+use Rattle.mf_catalog.specs.declared.product.ProductMembers.{ProductMembers}
 use Rattle.mf_office.specs.declared.staff.Role.{Role}
 use Rattle.mf_office.specs.declared.staff.Role.TheVariants.{Manager}
+use Rattle.mf_model.specs.declared.loan.Loan.{Loan}
+
+-- a charge of the catalogue
+pub record Charge : Type 0 where
+  pub name : List ℕ
+  pub kind : ChargeKind
+  pub calc : Calc
+  pub value : ℕ
+
+-- a product of the catalogue; a retired one lends no more
+pub record Offer : Type 0 where
+  pub members : ProductMembers
+  pub retired : Bool
 
 -- what all offices share
 pub record Catalogue : Type 0 where
   -- the business day
   pub day : ℕ
+  pub charges : List Charge
+  pub products : List Offer
 
 -- a member of staff of an office
 pub record Staff : Type 0 where
   pub name : List ℕ
   pub role : Role
 
--- what belongs to one office: its staff, and the names of its clients
+-- what belongs to one office: its staff, the names of its clients, and its loans
 pub record Rows : Type 0 where
   pub staff : List Staff
   pub clients : List (List ℕ)
+  pub loans : List Loan
 
 -- an office; the head has no parent
 pub record Office : Type 0 where
@@ -40,6 +61,27 @@ pub data Change : Type 0 where
 abbrev pub numbered : {A : Type 0} → List A → ℕ → Option A
 numbered xs n = cond (n == 0) None (slice_get xs (n - 1))
 
+-- the list, with the thing of this number changed
+abbrev pub with_numbered : {A : Type 0} → ℕ → (A → A) → List A → List A
+with_numbered n change [] = []
+with_numbered n change (x ∷ xs) = cond (n == 1) (change x ∷ xs) (x ∷ with_numbered (n - 1) change xs)
+
+-- a charge and its number
+abbrev pub charge_def : ℕ → Charge → ChargeDef
+charge_def n c = record { number = n; name = c.name; kind = c.kind; calc = c.calc; value = c.value }
+
+-- a product and its number
+abbrev pub product_of : ℕ → Offer → Product
+product_of n p = record { number = n; members = p.members; retired = p.retired }
+
+-- the charge of this number
+abbrev pub charge_in : Catalogue → ℕ → Option ChargeDef
+charge_in k n = option_map (charge_def n) (numbered k.charges n)
+
+-- the product of this number
+abbrev pub product_in : Catalogue → ℕ → Option Product
+product_in k n = option_map (product_of n) (numbered k.products n)
+
 -- the office of this number
 abbrev pub office_at : ℕ → List Office → Option Office
 office_at x [] = None
@@ -57,7 +99,7 @@ with_office new (f ∷ fs) = cond (nat_lt new.number f.number) (new ∷ f ∷ fs
 
 -- an office that has nothing yet
 abbrev pub no_rows : Rows
-no_rows = record { staff = []; clients = [] }
+no_rows = record { staff = []; clients = []; loans = [] }
 
 -- an office under a parent, which has nothing yet
 abbrev pub new_office : ℕ → ℕ → List ℕ → Office
@@ -77,11 +119,11 @@ after_maybe (Some change) i = after change i
 -- a new institution on a day: the head office with its manager, and nothing else
 abbrev pub newly_made : ℕ → Institution
 newly_made day = record {
-  catalogue = record { day = day };
+  catalogue = record { day = day; charges = []; products = [] };
   offices = record {
     number = 1;
     parent = None;
     name = codes "Head Office";
-    rows = record { staff = record { name = codes "Head Manager"; role = Manager } ∷ []; clients = [] };
+    rows = record { staff = record { name = codes "Head Manager"; role = Manager } ∷ []; clients = []; loans = [] };
   } ∷ [];
 }

@@ -1,12 +1,23 @@
 -- What every institution that comes about keeps true, and what is asked of the requests that keep it so.
-use Rattle.std.specs.Prelude.{◌≡◌, ℕ, ◌≤◌, Bool, true, not, ◌&&◌, List, length, ◌==◌, nat_le}
+use Rattle.std.specs.Prelude.{◌≡◌, ℕ, ◌≤◌, Bool, true, false, not, ◌&&◌, List, length, is_some, Option, Some, None, ◌==◌, nat_le}
 use Rattle.std.specs.List.{AllByRecursion, list_all}
 use Rattle.std.specs.Str.{IsUtf8, chars}
 use Rattle.mf_base.specs.DayText.{last_entered_day}
 use Rattle.mf_office.specs.Numbers.{IsNumberUpTo}
+use Rattle.mf_office.specs.declared.account.Account.{Account}
 use Rattle.mf_model.specs.declared.request.Request.{Request}
-use Rattle.mf_model.specs.declared.request.Request.TheVariants.{Malformed, PostOffices, GetOffices, PostStaff, PostClients, GetClient}
-use Rattle.mf_model.specs.Institution.{Institution, Staff, Rows, Office}
+use Rattle.mf_catalog.specs.declared.charge.Calc.{Calc}
+use Rattle.mf_catalog.specs.declared.charge.ChargeDef.{ChargeDef}
+use Rattle.mf_catalog.specs.declared.limits.TheConstants.{GREATEST_AMOUNT, MOST_PERIODS}
+use Rattle.mf_catalog.specs.declared.product.Product.{Product}
+use Rattle.mf_catalog.specs.declared.product.ProductMembers.{ProductMembers}
+use Rattle.mf_catalog.specs.Limits.{greatest_value}
+use Rattle.mf_catalog.specs.Product.{AreMembersWithinLimits, is_consistent, allows}
+use Rattle.mf_model.specs.declared.loan.Loan.{Loan}
+use Rattle.mf_model.specs.declared.loan.Stage.{Stage}
+use Rattle.mf_model.specs.declared.loan.Stage.TheVariants.{Submitted, Approved, Withdrawn, Rejected}
+use Rattle.mf_model.specs.declared.request.Request.TheVariants.{Malformed, PostOffices, GetOffices, PostStaff, PostClients, GetClient, GetBusinessDay, PutBusinessDay, PostCharges, GetCharge, PostProducts, GetProduct, RetireProduct, PostLoans, GetLoan, ApproveLoan, RejectLoan, WithdrawLoan, UndoApproval, GetLoans}
+use Rattle.mf_model.specs.Institution.{Institution, Catalogue, Charge, Offer, Staff, Rows, Office, numbered, charge_in, product_in}
 use Rattle.mf_model.specs.Tree.{IsTree}
 use Rattle.mf_model.specs.Run.{Line}
 
@@ -21,23 +32,73 @@ pub record IsName (name : List ℕ) : Type 0 where
   pub most : length (chars name) ≤ 100
   pub plain : list_all is_plain (chars name) ≡ true
 
--- an office has no more rows than the limits allow, and each name is one
-pub record IsSoundRows (rows : Rows) : Type 0 where
+-- a charge's value lies within the limits of its kind of computing
+pub record IsValue (calc : Calc) (value : ℕ) : Type 0 where
+  pub some : 1 ≤ value
+  pub most : value ≤ greatest_value calc
+
+pub record IsSoundCharge (c : Charge) : Type 0 where
+  pub name : IsName c.name
+  pub value : IsValue c.calc c.value
+
+-- the members of a product that is read
+pub record AreMembers (p : ProductMembers) : Type 0 where
+  pub name : IsName p.name
+  pub limits : AreMembersWithinLimits p
+
+-- a product is consistent, and names charges that are there and of the right kinds
+pub record IsSoundOffer (charges : ℕ → Option ChargeDef) (p : Offer) : Type 0 where
+  pub members : AreMembers p.members
+  pub consistent : is_consistent charges p.members ≡ true
+
+-- the business day is at most 2099-12-31
+pub record IsSoundCatalogue (k : Catalogue) : Type 0 where
+  pub day : k.day ≤ last_entered_day
+  pub charge_limit : length k.charges ≤ 999
+  pub charges : AllByRecursion IsSoundCharge k.charges
+  pub product_limit : length k.products ≤ 999
+  pub products : AllByRecursion (IsSoundOffer (charge_in k)) k.products
+
+-- the product is there and its limits allow this
+abbrev pub lends : Option Product → ℕ → ℕ → Bool
+lends None principal periods = false
+lends (Some p) principal periods = allows p.members principal periods
+
+-- a day of approval is not after the business day
+abbrev pub IsStageBy : ℕ → Stage → Type 0
+IsStageBy today Submitted = Unit {0}
+IsStageBy today (Approved day) = day ≤ today
+IsStageBy today Withdrawn = Unit {0}
+IsStageBy today Rejected = Unit {0}
+
+-- a loan's client is there, and its product is there and allows its principal and periods, retired or not
+pub record IsSoundLoan (k : Catalogue) (clients : List (List ℕ)) (l : Loan) : Type 0 where
+  pub client : is_some (numbered clients l.client) ≡ true
+  pub product : lends (product_in k l.product) l.principal l.periods ≡ true
+  pub stage : IsStageBy k.day l.stage
+
+-- an office has no more rows than the limits allow, each name is one, and each loan is sound
+pub record IsSoundRows (k : Catalogue) (rows : Rows) : Type 0 where
   pub staff_limit : length rows.staff ≤ 9999
   pub staff_names : AllByRecursion (λ (s : Staff). IsName s.name) rows.staff
   pub client_limit : length rows.clients ≤ 999999
   pub client_names : AllByRecursion IsName rows.clients
+  pub loan_limit : length rows.loans ≤ 999999
+  pub loans : AllByRecursion (IsSoundLoan k rows.clients) rows.loans
 
-pub record IsSoundOffice (f : Office) : Type 0 where
+pub record IsSoundOffice (k : Catalogue) (f : Office) : Type 0 where
   pub number : IsNumberUpTo 9999 f.number
   pub name : IsName f.name
-  pub rows : IsSoundRows f.rows
+  pub rows : IsSoundRows k f.rows
 
--- the business day is at most 2099-12-31
 pub record IsSound (i : Institution) : Type 0 where
-  pub day : i.catalogue.day ≤ last_entered_day
+  pub catalogue : IsSoundCatalogue i.catalogue
   pub tree : IsTree i.offices
-  pub each : AllByRecursion IsSoundOffice i.offices
+  pub each : AllByRecursion (IsSoundOffice i.catalogue) i.offices
+
+-- an account's numbers
+abbrev pub IsAccount : Account → Type 0
+IsAccount account = IsNumberUpTo 9999 account.office × IsNumberUpTo 999999 account.number
 
 -- the members of the request lie in their ranges, as they do of each that was read
 abbrev pub IsInRange : Request → Type 0
@@ -46,7 +107,21 @@ IsInRange (PostOffices number parent name) = IsNumberUpTo 9999 number × IsNumbe
 IsInRange GetOffices = Unit {0}
 IsInRange (PostStaff office name role) = IsNumberUpTo 9999 office × IsName name
 IsInRange (PostClients office name) = IsNumberUpTo 9999 office × IsName name
-IsInRange (GetClient client) = IsNumberUpTo 9999 client.office × IsNumberUpTo 999999 client.number
+IsInRange (GetClient client) = IsAccount client
+IsInRange GetBusinessDay = Unit {0}
+IsInRange (PutBusinessDay day) = day ≤ last_entered_day
+IsInRange (PostCharges name kind calc value) = IsName name × IsValue calc value
+IsInRange (GetCharge charge) = charge ≤ 999999999
+IsInRange (PostProducts members) = AreMembers members
+IsInRange (GetProduct product) = product ≤ 999999999
+IsInRange (RetireProduct product) = product ≤ 999999999
+IsInRange (PostLoans client product principal periods) = IsAccount client × (product ≤ 999999999) × ((1 ≤ principal) × (principal ≤ GREATEST_AMOUNT)) × ((1 ≤ periods) × (periods ≤ MOST_PERIODS))
+IsInRange (GetLoan loan) = IsAccount loan
+IsInRange (ApproveLoan loan) = IsAccount loan
+IsInRange (RejectLoan loan) = IsAccount loan
+IsInRange (WithdrawLoan loan) = IsAccount loan
+IsInRange (UndoApproval loan) = IsAccount loan
+IsInRange (GetLoans office after) = (office ≤ 999999999) × (after ≤ 999999)
 
 abbrev pub AreInRange : List Line → Type 0
 AreInRange ls = AllByRecursion (λ (l : Line). IsInRange l.call.request) ls

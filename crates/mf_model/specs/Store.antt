@@ -6,10 +6,14 @@ use Rattle.mf_office.specs.declared.staff.Role.{Role}
 use Rattle.mf_office.specs.declared.caller.Caller.{Caller}
 use Rattle.mf_office.specs.declared.account.Account.{Account}
 use Rattle.mf_model.specs.declared.commit.Commit.{Commit}
-use Rattle.mf_model.specs.declared.commit.Commit.TheVariants.{AddOffice, AddStaff, AddClient}
+use Rattle.mf_model.specs.declared.commit.Commit.TheVariants.{AddOffice, AddStaff, AddClient, SetDay, AddCharge, AddProduct, RetireProduct, AddLoan, SetStage}
+use Rattle.mf_model.specs.declared.loan.Loan.{Loan}
+use Rattle.mf_model.specs.declared.loan.LoanLine.{LoanLine}
+use Rattle.mf_model.specs.declared.store.CatalogueCounts.{CatalogueCounts}
 use Rattle.mf_model.specs.declared.store.Counts.{Counts}
-use Rattle.mf_model.specs.Institution.{Institution, Office, Rows, Staff, Change, Rows_become, Office_added, after, office_at, no_rows, numbered}
-use Rattle.mf_model.specs.Desk.{staff_at, staff_added, client_added, outcome, change_in}
+use Rattle.mf_model.specs.Institution.{Institution, Office, Rows, Staff, Change, Catalogue_becomes, Rows_become, Office_added, after, office_at, no_rows, numbered}
+use Rattle.mf_model.specs.Loans.{lines_above}
+use Rattle.mf_model.specs.Desk.{staff_at, staff_added, client_added, day_set, charge_added, product_added, product_retired, loan_added, loan_staged, outcome, change_in}
 use Rattle.mf_model.specs.Run.{Line, next}
 use Rattle.mf_model.specs.Sound.{IsSound}
 
@@ -25,19 +29,37 @@ rows_at x i = rows_of (office_at x i.offices)
 abbrev pub role_of : Caller → Institution → Option Role
 role_of c i = option_map (λ (s : Staff). s.role) (staff_at i c)
 
--- how many staff and clients an office has
+-- how many staff, clients and loans an office has
 abbrev pub counts_at : ℕ → Institution → Counts
-counts_at x i = record { staff = length (rows_at x i).staff; clients = length (rows_at x i).clients }
+counts_at x i = record { staff = length (rows_at x i).staff; clients = length (rows_at x i).clients; loans = length (rows_at x i).loans }
+
+-- how many charges and products there are
+abbrev pub catalogue_counts : Institution → CatalogueCounts
+catalogue_counts i = record { charges = length i.catalogue.charges; products = length i.catalogue.products }
 
 -- the name of a client of an office
 abbrev pub client_at : Account → Institution → Option (List ℕ)
 client_at client i = numbered (rows_at client.office i).clients client.number
+
+-- a loan of an office
+abbrev pub loan_at : Account → Institution → Option Loan
+loan_at loan i = numbered (rows_at loan.office i).loans loan.number
+
+-- the first 100 loans of office x with a number above n
+abbrev pub loans_at : ℕ → ℕ → Institution → List LoanLine
+loans_at x n i = lines_above x n (rows_at x i).loans
 
 -- the change that a commit is
 abbrev pub change_of : Commit → Institution → Change
 change_of (AddOffice number parent name) i = Office_added number parent name
 change_of (AddStaff office name role) i = Rows_become office (staff_added name role (rows_at office i))
 change_of (AddClient office name) i = Rows_become office (client_added name (rows_at office i))
+change_of (SetDay day) i = Catalogue_becomes (day_set day i.catalogue)
+change_of (AddCharge name kind calc value) i = Catalogue_becomes (charge_added (record { name = name; kind = kind; calc = calc; value = value }) i.catalogue)
+change_of (AddProduct members) i = Catalogue_becomes (product_added members i.catalogue)
+change_of (RetireProduct product) i = Catalogue_becomes (product_retired product i.catalogue)
+change_of (AddLoan office loan) i = Rows_become office (loan_added loan (rows_at office i))
+change_of (SetStage loan stage) i = Rows_become loan.office (loan_staged loan.number stage (rows_at loan.office i))
 
 -- the institution after a commit
 abbrev pub committed : Commit → Institution → Institution

@@ -1,4 +1,7 @@
-use mf_office::{Name, OfficeNo, Role};
+use crate::loan::{Loan, Stage};
+use mf_base::Day;
+use mf_catalog::{Calc, ChargeKind, ProductMembers};
+use mf_office::{Account, Name, OfficeNo, Role};
 
 /// A change that the store makes whole or not at all.
 #[derive(Debug, Drop)]
@@ -19,5 +22,34 @@ pub enum Commit {
     AddClient {
         office: OfficeNo,
         name: Name,
+    },
+    /// The business day becomes this one.
+    SetDay {
+        day: Day,
+    },
+    /// One more charge, with the next number.
+    AddCharge {
+        name: Name,
+        kind: ChargeKind,
+        calc: Calc,
+        value: u64,
+    },
+    /// One more product, with the next number.
+    AddProduct {
+        members: ProductMembers,
+    },
+    /// A product that is there lends no more.
+    RetireProduct {
+        product: u32,
+    },
+    /// One more loan of an office, with the next number.
+    AddLoan {
+        office: OfficeNo,
+        loan: Loan,
+    },
+    /// A loan that is there comes to this stage.
+    SetStage {
+        loan: Account,
+        stage: Stage,
     },
 }

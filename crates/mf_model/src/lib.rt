@@ -4,6 +4,7 @@
 
 mod commit;
 mod laws;
+mod loan;
 mod names;
 mod reply;
 mod request;
@@ -14,7 +15,8 @@ pub use laws::{
     alike, alike_but_given_up, answered_by_view, confinement, effects, isolation,
     isolation_with_memory, longer_run, soundness, tree_of_offices, worked_rows,
 };
+pub use loan::{Loan, LoanLine, LoanList, Stage};
 pub use names::is_name;
 pub use reply::{OfficeList, Reply};
 pub use request::{Call, Request};
-pub use store::{Counts, InstitutionStore};
+pub use store::{CatalogueCounts, Counts, InstitutionStore};

@@ -1,5 +1,8 @@
 ghost use Rattle.std.specs.Prelude.{◌≡◌};
 
+use crate::loan::{Loan, LoanList};
+use mf_base::Day;
+use mf_catalog::{ChargeDef, Product};
 use mf_office::{Account, Caller, Name, Office, OfficeNo};
 use std::marker::Model;
 
@@ -55,4 +58,32 @@ pub enum Reply {
     ClientMade(Account),
     /// A client and its name.
     ClientShown { client: Account, name: Name },
+    /// The business day.
+    DayShown(Day),
+    /// The new business day.
+    DaySet(Day),
+    /// A new charge, by its number.
+    ChargeMade(u32),
+    /// A charge.
+    ChargeShown(ChargeDef),
+    /// A new product, by its number.
+    ProductMade(u32),
+    /// A product.
+    ProductShown(Product),
+    /// A product that lends no more, by its number.
+    ProductRetired(u32),
+    /// A new loan.
+    LoanMade(Account),
+    /// A loan, before it is disbursed.
+    LoanShown { account: Account, loan: Loan },
+    /// An approved loan.
+    LoanApproved(Account),
+    /// A rejected loan.
+    LoanRejected(Account),
+    /// A withdrawn loan.
+    LoanWithdrawn(Account),
+    /// A loan that is pending again.
+    ApprovalUndone(Account),
+    /// Loans of an office, by number.
+    LoansShown(LoanList),
 }

@@ -1,6 +1,8 @@
 use crate::commit::Commit;
+use crate::loan::{Loan, LoanList};
 use crate::reply::OfficeList;
-use mf_base::Fault;
+use mf_base::{Day, Fault};
+use mf_catalog::{ChargeDef, Product};
 use mf_office::{Account, Caller, Name, OfficeNo, Role};
 use std::alloc::Global;
 
@@ -9,6 +11,14 @@ use std::alloc::Global;
 pub struct Counts {
     pub staff: u32,
     pub clients: u32,
+    pub loans: u32,
+}
+
+/// How many charges and products the catalogue has.
+#[derive(Clone, Copy, PartialEq, Eq, Debug)]
+pub struct CatalogueCounts {
+    pub charges: u32,
+    pub products: u32,
 }
 
 /// A store of one institution. Each call answers what the institution says, or gives up with F20 and has changed
@@ -17,11 +27,11 @@ pub struct Counts {
 pub trait InstitutionStore {
     ghost use Rattle.std.specs.Prelude.{◌≡◌, ℕ, List, ◌∷◌, map, is_some, true};
     ghost use Rattle.mf_office.specs.Tree.{is_within};
-    ghost use Rattle.mf_model.specs.Institution.{Institution};
+    ghost use Rattle.mf_model.specs.Institution.{Institution, charge_in, product_in};
     ghost use Rattle.mf_model.specs.Tree.{parent_of, seen_by, seen_office, is_there};
     ghost use Rattle.mf_model.specs.Desk.{line_of};
     ghost use Rattle.mf_model.specs.Sound.{IsSound};
-    ghost use Rattle.mf_model.specs.Store.{Reads, Commits, role_of, counts_at, client_at};
+    ghost use Rattle.mf_model.specs.Store.{Reads, Commits, role_of, counts_at, client_at, catalogue_counts, loan_at, loans_at};
 
     /// The store stands for this institution.
     ghost stands: { Self → Institution → Type 0 };
@@ -55,6 +65,30 @@ pub trait InstitutionStore {
     /// The name of a client, or None where there is no such client.
     fn client(&mut self, alloc: Global, client: Account) -> Result<Option<Name>, Fault>
         ensures { Reads stands clean leaves (client_at client) self.old self.new result };
+
+    /// The business day.
+    fn business_day(&mut self, alloc: Global) -> Result<Day, Fault>
+        ensures { Reads stands clean leaves (λ i. i.catalogue.day) self.old self.new result };
+
+    /// How many charges and products the catalogue has.
+    fn catalogue_counts(&mut self, alloc: Global) -> Result<CatalogueCounts, Fault>
+        ensures { Reads stands clean leaves catalogue_counts self.old self.new result };
+
+    /// A charge, or None where the catalogue has none with this number.
+    fn charge(&mut self, alloc: Global, number: u32) -> Result<Option<ChargeDef>, Fault>
+        ensures { Reads stands clean leaves (λ i. charge_in i.catalogue number) self.old self.new result };
+
+    /// A product, or None where the catalogue has none with this number.
+    fn product(&mut self, alloc: Global, number: u32) -> Result<Option<Product>, Fault>
+        ensures { Reads stands clean leaves (λ i. product_in i.catalogue number) self.old self.new result };
+
+    /// A loan, or None where there is no such loan.
+    fn loan(&mut self, alloc: Global, loan: Account) -> Result<Option<Loan>, Fault>
+        ensures { Reads stands clean leaves (loan_at loan) self.old self.new result };
+
+    /// The first 100 loans of an office whose number is above one, by number; none where the office isn't there.
+    fn loans(&mut self, alloc: Global, office: OfficeNo, after: u32) -> Result<LoanList, Fault>
+        ensures { Reads stands clean leaves (loans_at office after) self.old self.new result };
 
     /// The offices at or below one, by number.
     fn visible_offices(&mut self, alloc: Global, to: OfficeNo) -> Result<OfficeList, Fault>
