@@ -6,7 +6,7 @@ ghost use Rattle.mf_model.specs.Institution.{Institution, Catalogue, Rows, Chang
 ghost use Rattle.mf_model.specs.Tree.{IsTree, view, is_there, parent_of};
 ghost use Rattle.mf_model.specs.Desk.{effect, outcome, change_in};
 ghost use Rattle.mf_model.specs.Sound.{IsSound, IsInRange, AreInRange};
-ghost use Rattle.mf_model.specs.WorkedRows.{first_day, branches, chain};
+ghost use Rattle.mf_model.specs.WorkedRows.{first_day, branches, chain, lending};
 ghost use Rattle.mf_base.specs.DayText.{last_entered_day};
 ghost use Rattle.mf_office.specs.Tree.{IsTreeOf};
 ghost use Rattle.mf_model.specs.declared.request.Call.{Call};
@@ -108,6 +108,7 @@ pub fn worked_rows()
     ensures first_day { (day : ℕ) → answers (map (λ row. row.0) first_day) (newly_made day) ≡ map (λ row. row.1) first_day }
     ensures branches { (day : ℕ) → answers (map (λ row. row.0) branches) (newly_made day) ≡ map (λ row. row.1) branches }
     ensures chain { (day : ℕ) → answers (map (λ row. row.0) chain) (newly_made day) ≡ map (λ row. row.1) chain }
+    ensures lending { (day : ℕ) → answers (map (λ row. row.0) lending) (newly_made day) ≡ map (λ row. row.1) lending }
 {}
 
 /// The offices of a sound institution are a tree as the keys of offices know it.

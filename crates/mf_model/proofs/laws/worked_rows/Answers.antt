@@ -13,3 +13,7 @@ returns-clause-branches c = λ day. refl
 pub returns-clause-chain : goal.returns-clause-chain
 unfolding is_at_or_below is_within
 returns-clause-chain c = λ day. refl
+
+pub returns-clause-lending : goal.returns-clause-lending
+unfolding is_at_or_below is_within
+returns-clause-lending c = λ day. refl
