@@ -11,7 +11,7 @@ use Rattle.mf_desk.specs.declared.decision.Decision.{Decision}
 use Rattle.mf_model.specs.Institution.{Institution, Staff}
 use Rattle.mf_model.specs.Desk.{Plan, plan, need, meets, Outcome, outcome, staff_at, permitted, sent_by}
 use Rattle.mf_model.specs.Store.{Reads, role_of}
-use Rattle.mf_desk.specs.Answers.{becomes, acted, call_of, decided, Decides}
+use Rattle.mf_desk.specs.Answers.{becomes, acted, call_of, decided, Decides, Asks}
 
 module _ {S : Type 0} (stands : S → Institution → Type 0) (clean : S → Type 0) (leaves : S → List Institution → Type 0) where
   -- what is decided after a reading, where the value that was read leads from the one outcome to the other
@@ -32,6 +32,54 @@ module _ {S : Type 0} (stands : S → Institution → Type 0) (clean : S → Typ
     decides = λ k i s. tt;
     refuses = λ k i s. inr (leads i (read.value_is k i s));
     stop = read.stop;
+  }
+
+  -- a refusal before any reading
+  pub refuses_at_once : (told : Institution → Outcome) (store : S) (fault : Fault) → ((i : Institution) → stands store i → told i ≡ Err fault) → Decides stands clean leaves told store store (Err fault)
+  refuses_at_once told store fault leads = record {
+    premise = λ k. k;
+    same = λ k i s. s;
+    decides = λ k i s. tt;
+    refuses = λ k i s. inr (leads i s);
+    stop = λ k is l. l;
+  }
+
+  -- what is known of the institution after some readings
+  pub record Learns (Holds : Institution → Type 0) (old new : S) : Type 0 where
+    pub premise : clean new → clean old
+    pub same : clean new → (i : Institution) → stands old i → stands new i
+    pub holds : clean new → (i : Institution) → stands old i → Holds i
+    pub stop : clean new → (is : List Institution) → leaves old is → leaves new is
+
+  pub learns : {R : Type 0} (value : Institution → Result R Fault) (old new : S) (r : R) → Asks stands clean leaves value old new (Ok r) → Learns (λ i. value i ≡ Ok r) old new
+  learns value old new r ask = record { premise = ask.premise; same = ask.same; holds = ask.gives; stop = ask.stop }
+
+  pub learns_both : (P Q : Institution → Type 0) (old mid new : S) → Learns P old mid → Learns Q mid new → Learns (λ i. P i × Q i) old new
+  learns_both P Q old mid new p q = record {
+    premise = λ k. p.premise (q.premise k);
+    same = λ k i s. q.same k i (p.same (q.premise k) i s);
+    holds = λ k i s. (p.holds (q.premise k) i s, q.holds k i (p.same (q.premise k) i s));
+    stop = λ k is l. q.stop k is (p.stop (q.premise k) is l);
+  }
+
+  -- what is decided after that
+  pub learned_decides : (Holds : Institution → Type 0) (told then_told : Institution → Outcome) (old mid new : S) (result : Result Decision Fault) → Learns Holds old mid → ((i : Institution) → Holds i → told i ≡ then_told i) → Decides stands clean leaves then_told mid new result → Decides stands clean leaves told old new result
+  learned_decides Holds told then_told old mid new result l leads d = record {
+    premise = λ k. l.premise (d.premise k);
+    same = λ k i s. d.same k i (l.same (d.premise k) i s);
+    decides = λ k i s. subst (λ (o : Outcome). IfOk result (λ x. o ≡ decided x i)) (sym (leads i (l.holds (d.premise k) i s))) (d.decides k i (l.same (d.premise k) i s));
+    refuses = λ k i s. subst (λ (o : Outcome). IfErr result (λ fault. (fault ≡ F20) ⊎ (o ≡ Err fault))) (sym (leads i (l.holds (d.premise k) i s))) (d.refuses k i (l.same (d.premise k) i s));
+    stop = λ k is x. d.stop k is (l.stop (d.premise k) is x);
+  }
+
+  -- a refusal after that
+  pub learned_refuses : (Holds : Institution → Type 0) (told : Institution → Outcome) (old new : S) (fault : Fault) → Learns Holds old new → ((i : Institution) → Holds i → (fault ≡ F20) ⊎ (told i ≡ Err fault)) → Decides stands clean leaves told old new (Err fault)
+  learned_refuses Holds told old new fault l leads = record {
+    premise = l.premise;
+    same = l.same;
+    decides = λ k i s. tt;
+    refuses = λ k i s. leads i (l.holds k i s);
+    stop = l.stop;
   }
 
 abbrev pub IsRequest : Request → Type 0

@@ -2,9 +2,14 @@
 #![tactic(auto)]
 
 mod answering;
+mod catalogue;
 mod decision;
+mod loans;
+mod offices;
+mod products;
 mod roles;
 mod routes;
+mod sight;
 
 pub use answering::answer;
 pub use mf_model::{Call, OfficeList, Reply, Request};

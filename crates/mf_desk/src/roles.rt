@@ -10,9 +10,24 @@ pub fn may_send(request: &Request, role: Role, office: OfficeNo) -> bool
 {
     let is_manager = matches!(role, Role::Manager);
     match request {
-        Request::PostOffices { .. } => is_manager && office.get() == 1,
-        Request::PostStaff { .. } => is_manager,
-        Request::PostClients { .. } => !matches!(role, Role::Teller),
-        Request::Malformed(_) | Request::GetOffices | Request::GetClient { .. } => true,
+        Request::PostOffices { .. }
+        | Request::PutBusinessDay { .. }
+        | Request::PostCharges { .. }
+        | Request::PostProducts { .. }
+        | Request::RetireProduct { .. } => is_manager && office.get() == 1,
+        Request::PostStaff { .. }
+        | Request::ApproveLoan { .. }
+        | Request::RejectLoan { .. }
+        | Request::UndoApproval { .. } => is_manager,
+        Request::PostClients { .. } | Request::PostLoans { .. } | Request::WithdrawLoan { .. } =>
+            !matches!(role, Role::Teller),
+        Request::Malformed(_)
+        | Request::GetOffices
+        | Request::GetClient { .. }
+        | Request::GetBusinessDay
+        | Request::GetCharge { .. }
+        | Request::GetProduct { .. }
+        | Request::GetLoan { .. }
+        | Request::GetLoans { .. } => true,
     }
 }

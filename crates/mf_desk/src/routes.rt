@@ -1,178 +1,18 @@
 //! What becomes of each request that its caller may send.
 
-ghost use Rattle.std.specs.Prelude.{◌≡◌};
-ghost use Rattle.mf_model.specs.declared.request.Request.TheVariants.{PostOffices, GetOffices, PostStaff, PostClients, GetClient};
-ghost use Rattle.mf_model.specs.Desk.{next_of};
 ghost use Rattle.mf_desk.specs.Answers.{Decides, acted};
 
+use crate::catalogue::{get_business_day, get_charge, post_charges, put_business_day};
 use crate::decision::Decision;
+use crate::loans::{
+    approve_loan, get_loan, get_loans, post_loans, reject_loan, undo_approval, withdraw_loan,
+};
+use crate::offices::{get_client, get_offices, post_clients, post_offices, post_staff};
+use crate::products::{get_product, post_products, retire_product};
 use mf_base::Fault;
-use mf_model::{Commit, InstitutionStore, Reply, Request};
-use mf_office::{Account, AccountNo, Caller, Name, OfficeNo, Role, StaffNo, next_number};
+use mf_model::{InstitutionStore, Request};
+use mf_office::Caller;
 use std::alloc::Global;
-
-/// The number of the next member of staff; F18 where the office has 9,999.
-fn next_staff(used: u32) -> Result<StaffNo, Fault>
-    ensures { result ≡ next_of used 9999 }
-{
-    let number = match next_number(used, StaffNo::MAX) {
-        Ok(number) => number,
-        Err(fault) => return Err(fault),
-    };
-    match StaffNo::new(number) {
-        Some(number) => Ok(number),
-        None => Err(Fault::F18),
-    }
-}
-
-/// The number of the next client; F18 where the office has 999,999.
-fn next_client(used: u32) -> Result<AccountNo, Fault>
-    ensures { result ≡ next_of used 999999 }
-{
-    let number = match next_number(used, AccountNo::MAX) {
-        Ok(number) => number,
-        Err(fault) => return Err(fault),
-    };
-    match AccountNo::new(number) {
-        Some(number) => Ok(number),
-        None => Err(Fault::F18),
-    }
-}
-
-fn post_offices<S: InstitutionStore>(
-    alloc: Global,
-    store: &mut S,
-    caller: Caller,
-    number: OfficeNo,
-    parent: OfficeNo,
-    name: Name,
-) -> Result<Decision, Fault>
-    ensures { Decides S.stands S.clean S.leaves (acted caller (PostOffices number parent name)) store.old store.new result }
-{
-    match store.is_visible(alloc, caller.office, parent) {
-        Ok(true) => {}
-        Ok(false) => return Err(Fault::F4),
-        Err(fault) => return Err(fault),
-    }
-    match store.is_there(alloc, number) {
-        Ok(false) => {}
-        Ok(true) => return Err(Fault::F16),
-        Err(fault) => return Err(fault),
-    }
-    match store.has_room_below(alloc, parent) {
-        Ok(true) => Ok(Decision {
-            reply: Reply::OfficeMade(number),
-            commit: Some(Commit::AddOffice {
-                number,
-                parent,
-                name,
-            }),
-        }),
-        Ok(false) => Err(Fault::F18),
-        Err(fault) => Err(fault),
-    }
-}
-
-fn get_offices<S: InstitutionStore>(
-    alloc: Global,
-    store: &mut S,
-    caller: Caller,
-) -> Result<Decision, Fault>
-    ensures { Decides S.stands S.clean S.leaves (acted caller GetOffices) store.old store.new result }
-{
-    match store.visible_offices(alloc, caller.office) {
-        Ok(offices) => Ok(Decision {
-            reply: Reply::Offices(offices),
-            commit: None,
-        }),
-        Err(fault) => Err(fault),
-    }
-}
-
-fn post_staff<S: InstitutionStore>(
-    alloc: Global,
-    store: &mut S,
-    caller: Caller,
-    office: OfficeNo,
-    name: Name,
-    role: Role,
-) -> Result<Decision, Fault>
-    ensures { Decides S.stands S.clean S.leaves (acted caller (PostStaff office name role)) store.old store.new result }
-{
-    match store.is_visible(alloc, caller.office, office) {
-        Ok(true) => {}
-        Ok(false) => return Err(Fault::F4),
-        Err(fault) => return Err(fault),
-    }
-    let counts = match store.counts(alloc, office) {
-        Ok(counts) => counts,
-        Err(fault) => return Err(fault),
-    };
-    match next_staff(counts.staff) {
-        Ok(staff) => Ok(Decision {
-            reply: Reply::StaffMade(Caller { office, staff }),
-            commit: Some(Commit::AddStaff { office, name, role }),
-        }),
-        Err(fault) => Err(fault),
-    }
-}
-
-fn post_clients<S: InstitutionStore>(
-    alloc: Global,
-    store: &mut S,
-    caller: Caller,
-    office: OfficeNo,
-    name: Name,
-) -> Result<Decision, Fault>
-    ensures { Decides S.stands S.clean S.leaves (acted caller (PostClients office name)) store.old store.new result }
-{
-    match store.is_visible(alloc, caller.office, office) {
-        Ok(true) => {}
-        Ok(false) => return Err(Fault::F4),
-        Err(fault) => return Err(fault),
-    }
-    let counts = match store.counts(alloc, office) {
-        Ok(counts) => counts,
-        Err(fault) => return Err(fault),
-    };
-    match next_client(counts.clients) {
-        Ok(number) => Ok(Decision {
-            reply: Reply::ClientMade(Account { office, number }),
-            commit: Some(Commit::AddClient { office, name }),
-        }),
-        Err(fault) => Err(fault),
-    }
-}
-
-fn get_client<S: InstitutionStore>(
-    alloc: Global,
-    store: &mut S,
-    caller: Caller,
-    client: Account,
-) -> Result<Decision, Fault>
-    ensures { Decides S.stands S.clean S.leaves (acted caller (GetClient client)) store.old store.new result }
-{
-    let Account { office, number } = client;
-    match store.is_visible(alloc, caller.office, office) {
-        Ok(true) => {}
-        Ok(false) => return Err(Fault::F4),
-        Err(fault) => return Err(fault),
-    }
-    let found = match store.client(alloc, Account { office, number }) {
-        Ok(found) => found,
-        Err(fault) => return Err(fault),
-    };
-    let Some(name) = found else {
-        return Err(Fault::F4);
-    };
-    Ok(Decision {
-        reply: Reply::ClientShown {
-            client: Account { office, number },
-            name,
-        },
-        commit: None,
-    })
-}
 
 /// Decides a request that its caller may send.
 pub fn act<S: InstitutionStore>(
@@ -196,5 +36,29 @@ pub fn act<S: InstitutionStore>(
         }
         Request::PostClients { office, name } => post_clients(alloc, store, caller, office, name),
         Request::GetClient { client } => get_client(alloc, store, caller, client),
+        Request::GetBusinessDay => get_business_day(alloc, store),
+        Request::PutBusinessDay { day } => put_business_day(alloc, store, day),
+        Request::PostCharges {
+            name,
+            kind,
+            calc,
+            value,
+        } => post_charges(alloc, store, name, kind, calc, value),
+        Request::GetCharge { charge } => get_charge(alloc, store, charge),
+        Request::GetProduct { product } => get_product(alloc, store, product),
+        Request::RetireProduct { product } => retire_product(alloc, store, product),
+        Request::PostLoans {
+            client,
+            product,
+            principal,
+            periods,
+        } => post_loans(alloc, store, caller, client, product, principal, periods),
+        Request::GetLoan { loan } => get_loan(alloc, store, caller, loan),
+        Request::ApproveLoan { loan } => approve_loan(alloc, store, caller, loan),
+        Request::RejectLoan { loan } => reject_loan(alloc, store, caller, loan),
+        Request::WithdrawLoan { loan } => withdraw_loan(alloc, store, caller, loan),
+        Request::UndoApproval { loan } => undo_approval(alloc, store, caller, loan),
+        Request::GetLoans { office, after } => get_loans(alloc, store, caller, office, after),
+        Request::PostProducts { members } => post_products(alloc, store, members),
     }
 }

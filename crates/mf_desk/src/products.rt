@@ -1,0 +1,186 @@
+//! Products, which all offices share.
+
+ghost use Rattle.std.specs.Prelude.{◌≡◌, ◌⊎◌, true, false, [], ◌++◌, IfOk, IfErr};
+ghost use Rattle.mf_base.specs.declared.fault.Fault.TheVariants.{F8, F20};
+ghost use Rattle.mf_catalog.specs.Product.{charge_at, is_consistent};
+ghost use Rattle.mf_model.specs.Desk.{add_product, show_product, retire_product};
+ghost use Rattle.mf_desk.specs.Answers.{Asks, Decides, in_catalogue};
+ghost use Rattle.mf_desk.specs.Charges.{number_of, charge_named, before, listed, product_made};
+
+use crate::catalogue::next_in_catalogue;
+use crate::decision::Decision;
+use mf_base::Fault;
+use mf_catalog::{ChargeDef, ProductMembers, check_product};
+use mf_model::{Commit, InstitutionStore, Reply};
+use std::alloc::Global;
+
+/// The charge that is named, if one is; F4 where it isn't there.
+fn find_charge<S: InstitutionStore>(
+    alloc: Global,
+    store: &mut S,
+    named: Option<u32>,
+) -> Result<Option<ChargeDef>, Fault>
+    ensures found { Asks S.stands S.clean S.leaves (charge_named named) store.old store.new result }
+    ensures numbered { IfOk result (λ charge. number_of charge ≡ named) }
+{
+    let Some(number) = named else {
+        return Ok(None);
+    };
+    match store.charge(alloc, number) {
+        Ok(Some(charge)) => {
+            let ChargeDef {
+                number: _,
+                name,
+                kind,
+                calc,
+                value,
+            } = charge;
+            Ok(Some(ChargeDef {
+                number,
+                name,
+                kind,
+                calc,
+                value,
+            }))
+        }
+        Ok(None) => Err(Fault::F4),
+        Err(fault) => Err(fault),
+    }
+}
+
+/// A charge, if there is one, after others.
+fn push_charge(charges: &mut Vec<ChargeDef>, charge: Option<ChargeDef>) -> Result<(), Fault>
+    ensures ok { IfOk result (λ u. charges.new.items ≡ charges.old.items ++ before charge []) }
+    ensures err { IfErr result (λ fault. fault ≡ F20) }
+{
+    match charge {
+        None => Ok(()),
+        Some(charge) => match charges.push(charge) {
+            Ok(()) => Ok(()),
+            Err(_) => Err(Fault::F20),
+        },
+    }
+}
+
+/// Those of three charges that there are.
+fn list_charges(
+    alloc: Global,
+    disbursement: Option<ChargeDef>,
+    instalment: Option<ChargeDef>,
+    overdue: Option<ChargeDef>,
+) -> Result<Vec<ChargeDef>, Fault>
+    ensures ok { IfOk result (λ charges. charges.items ≡ listed disbursement instalment overdue) }
+    ensures err { IfErr result (λ fault. fault ≡ F20) }
+{
+    let mut charges = Vec::new(alloc);
+    push_charge(&mut charges, disbursement)?;
+    push_charge(&mut charges, instalment)?;
+    push_charge(&mut charges, overdue)?;
+    Ok(charges)
+}
+
+/// Whether a product is consistent with the charges that it names; F8 where it isn't.
+fn check_named(
+    alloc: Global,
+    members: &ProductMembers,
+    disbursement: Option<ChargeDef>,
+    instalment: Option<ChargeDef>,
+    overdue: Option<ChargeDef>,
+) -> Result<(), Fault>
+    requires disbursement { number_of disbursement ≡ members.now.disbursement_charge }
+    requires instalment { number_of instalment ≡ members.now.instalment_charge }
+    requires overdue { number_of overdue ≡ members.now.overdue_charge }
+    ensures ok { IfOk result (λ u. is_consistent (charge_at (listed disbursement instalment overdue)) members.now ≡ true) }
+    ensures err { IfErr result (λ fault. (fault ≡ F20) ⊎ ((fault ≡ F8) × (is_consistent (charge_at (listed disbursement instalment overdue)) members.now ≡ false))) }
+{
+    let charges = match list_charges(alloc, disbursement, instalment, overdue) {
+        Ok(charges) => charges,
+        Err(fault) => return Err(fault),
+    };
+    check_product(members, charges.as_slice())
+}
+
+/// The next product, of members that are consistent.
+fn make_product<S: InstitutionStore>(
+    alloc: Global,
+    store: &mut S,
+    members: ProductMembers,
+) -> Result<Decision, Fault>
+    ensures { Decides S.stands S.clean S.leaves (product_made members) store.old store.new result }
+{
+    let counts = match store.catalogue_counts(alloc) {
+        Ok(counts) => counts,
+        Err(fault) => return Err(fault),
+    };
+    match next_in_catalogue(counts.products) {
+        Ok(number) => Ok(Decision {
+            reply: Reply::ProductMade(number),
+            commit: Some(Commit::AddProduct { members }),
+        }),
+        Err(fault) => Err(fault),
+    }
+}
+
+pub fn post_products<S: InstitutionStore>(
+    alloc: Global,
+    store: &mut S,
+    members: ProductMembers,
+) -> Result<Decision, Fault>
+    ensures { Decides S.stands S.clean S.leaves (in_catalogue (add_product members)) store.old store.new result }
+{
+    let disbursement = match find_charge(alloc, store, members.disbursement_charge) {
+        Ok(charge) => charge,
+        Err(fault) => return Err(fault),
+    };
+    let instalment = match find_charge(alloc, store, members.instalment_charge) {
+        Ok(charge) => charge,
+        Err(fault) => return Err(fault),
+    };
+    let overdue = match find_charge(alloc, store, members.overdue_charge) {
+        Ok(charge) => charge,
+        Err(fault) => return Err(fault),
+    };
+    match check_named(alloc, &members, disbursement, instalment, overdue) {
+        Ok(()) => {}
+        Err(fault) => return Err(fault),
+    }
+    make_product(alloc, store, members)
+}
+
+pub fn get_product<S: InstitutionStore>(
+    alloc: Global,
+    store: &mut S,
+    product: u32,
+) -> Result<Decision, Fault>
+    ensures { Decides S.stands S.clean S.leaves (in_catalogue (show_product product)) store.old store.new result }
+{
+    match store.product(alloc, product) {
+        Ok(Some(product)) => Ok(Decision {
+            reply: Reply::ProductShown(product),
+            commit: None,
+        }),
+        Ok(None) => Err(Fault::F4),
+        Err(fault) => Err(fault),
+    }
+}
+
+pub fn retire_product<S: InstitutionStore>(
+    alloc: Global,
+    store: &mut S,
+    product: u32,
+) -> Result<Decision, Fault>
+    ensures { Decides S.stands S.clean S.leaves (in_catalogue (retire_product product)) store.old store.new result }
+{
+    let found = match store.product(alloc, product) {
+        Ok(Some(found)) => found,
+        Ok(None) => return Err(Fault::F4),
+        Err(fault) => return Err(fault),
+    };
+    if found.retired {
+        return Err(Fault::F7);
+    }
+    Ok(Decision {
+        reply: Reply::ProductRetired(product),
+        commit: Some(Commit::RetireProduct { product }),
+    })
+}
