@@ -3,7 +3,7 @@ use Rattle.std.specs.Prelude.{string_bytes}
 use Rattle.mf_base.specs.declared.fault.Fault.TheVariants.{F20}
 use Rattle.mf_wire.specs.Replies.{replyable}
 use Rattle.mf_wire.specs.Shown.{reply_status, reply_body, IsText}
-use Rattle.mf_wire.proofs.Calling.{told_of_answer}
+use Rattle.mf_wire.proofs.Calling.{told_of_answer, told_given_up}
 use Rattle.mf_wire.proofs.answering.answer_text.Goals as goal
 
 pub returns-clause-calls : goal.returns-clause-calls
@@ -15,3 +15,6 @@ returns-clause-calls g c =
     (λ f e. subst (λ x. IsText x (Err f)) (sym (c.replyable.ensures.value ∙ e)) refl)
     (λ r f h. let w : f ≡ F20 = search rules in w)
     c.answer_parts.ensures.told c.answer_parts.ensures.changes
+
+pub returns-in_default-clause-calls : goal.returns-in_default-clause-calls
+returns-in_default-clause-calls g c = told_given_up _ _ _ _ _ c.args.store.now (g.met.S.InstitutionStore.more c.args.store.now) refl
