@@ -8,3 +8,4 @@ pub mod Serving
 pub mod Status
 pub mod Whole
 pub mod Writes
+pub mod PathNumbers
