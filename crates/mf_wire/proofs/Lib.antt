@@ -9,3 +9,4 @@ pub mod Status
 pub mod Whole
 pub mod Writes
 pub mod PathNumbers
+pub mod DayTexts

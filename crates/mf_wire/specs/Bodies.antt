@@ -1,13 +1,16 @@
 -- What a body says, as JSON.
-use Rattle.std.specs.Prelude.{◌≡◌, ◌⊎◌, ℕ, Bool, ◌&&◌, cond, List, length, nat_le, codes, Option, Some, None, option_and_then, Result, MatchResult}
-use Rattle.std.specs.List.{list_all}
+use Rattle.std.specs.Prelude.{◌≡◌, ◌⊎◌, ℕ, ◌+◌, Bool, ◌&&◌, cond, List, length, nat_le, codes, Option, Some, None, is_some, option_map, option_and_then, Result, MatchResult}
+use Rattle.std.specs.List.{list_all, find, range_with_len}
 use Rattle.std.specs.Str.{is_utf8, chars, bytes_eq}
 use Rattle.serde_json.specs.Data.{Data}
 use Rattle.serde_json.specs.Read.{read}
-use Rattle.serde_json.specs.Find.{get, as_number, as_u64, as_str}
+use Rattle.serde_json.specs.Find.{get, as_null, as_number, as_u64, as_str}
+use Rattle.mf_base.specs.DayText.{day_text, last_entered_day}
 use Rattle.mf_base.specs.declared.fault.Fault.{Fault}
 use Rattle.mf_base.specs.declared.fault.Fault.TheVariants.{F1, F20}
 use Rattle.mf_office.specs.Numbers.{number_up_to}
+use Rattle.mf_office.specs.Texts.{account_of}
+use Rattle.mf_office.specs.declared.account.Account.{Account}
 use Rattle.mf_office.specs.declared.staff.Role.{Role}
 use Rattle.mf_office.specs.declared.staff.Role.TheVariants.{Teller, Officer, Manager}
 use Rattle.mf_model.specs.Sound.{is_plain}
@@ -45,6 +48,39 @@ role_named text =
 -- a member that names a role
 abbrev pub role_at : List ℕ → Data → Option Role
 role_at member d = option_and_then role_named (text_at member d)
+
+-- the number, where it lies from a least to a greatest
+abbrev pub within : ℕ → ℕ → ℕ → Option ℕ
+within least greatest n = cond (nat_le least n && nat_le n greatest) (Some n) None
+
+-- a member that is a whole number from a least to a greatest
+abbrev pub number_at : ℕ → ℕ → List ℕ → Data → Option ℕ
+number_at least greatest name d = option_and_then (within least greatest) (whole_at name d)
+
+-- no number where there is none or where it is null, and else a whole number up to a greatest
+abbrev pub optional_number : ℕ → Option Data → Option (Option ℕ)
+optional_number greatest None = Some None
+optional_number greatest (Some d) = cond (is_some (as_null d)) (Some None) (option_map (λ n. Some n) (option_and_then (within 0 greatest) (option_and_then as_u64 (as_number d))))
+
+-- a member that may be absent or null, and else is a whole number up to a greatest
+abbrev pub optional_number_at : ℕ → List ℕ → Data → Option (Option ℕ)
+optional_number_at greatest name d = optional_number greatest (get name d)
+
+-- a member that is an account's text
+abbrev pub account_at : List ℕ → Data → Option Account
+account_at name d = option_and_then account_of (text_at name d)
+
+-- the day of a text, of so many days
+unfoldable pub day_among : ℕ → List ℕ → Option ℕ
+day_among count text = find (λ day. bytes_eq text (day_text day)) (range_with_len 0 count)
+
+-- the day of a text, of those that may be entered
+abbrev pub day_named : List ℕ → Option ℕ
+day_named text = day_among (last_entered_day + 1) text
+
+-- a member that is a day's text
+abbrev pub day_at : List ℕ → Data → Option ℕ
+day_at name d = option_and_then day_named (text_at name d)
 
 -- a call that reads gives what is there, or F1 where nothing is, or gives up with F20
 abbrev pub Gives : {A : Type 0} → Option A → Result A Fault → Type 0

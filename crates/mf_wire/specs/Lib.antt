@@ -1,5 +1,6 @@
 pub mod Bodies
 pub mod Cut
+pub mod Named
 pub mod PathParts
 pub mod Reading
 pub mod Replies

@@ -1,12 +1,13 @@
 // A request's body, as JSON.
-ghost use Rattle.std.specs.Prelude.{◌≡◌, Some, None, option_map, option_and_then, IfOk, IfErr, ◌⊎◌};
+ghost use Rattle.std.specs.Prelude.{◌≡◌, ◌≤◌, Some, None, option_map, option_and_then, IfOk, IfErr, IfSome, ◌⊎◌};
 ghost use Rattle.serde_json.specs.View.{view};
-ghost use Rattle.mf_wire.specs.Bodies.{json_of, whole_at, text_at, name_at, office_at, role_named, role_at, Gives};
-ghost use Rattle.mf_model.specs.Sound.{IsName};
+ghost use Rattle.mf_wire.specs.Bodies.{json_of, whole_at, text_at, name_at, office_at, role_named, role_at, within as within_limits, number_at, optional_number_at, account_at, day_named as day_of, day_at, Gives};
+ghost use Rattle.mf_model.specs.Sound.{IsName, IsAccount};
+ghost use Rattle.mf_base.specs.DayText.{last_entered_day};
 
-use mf_base::Fault;
+use mf_base::{Day, Fault};
 use mf_model::is_name;
-use mf_office::{Name, OfficeNo, Role};
+use mf_office::{Account, Name, OfficeNo, Role};
 use serde_json::Value;
 use std::alloc::Global;
 
@@ -89,4 +90,73 @@ pub fn role(body: &Value, member: &str) -> Option<Role>
     ensures { result ≡ role_at member.now (view body.now) }
 {
     role_of_text(text(body, member)?)
+}
+
+/// The number, where it lies from the least to the greatest.
+fn within(number: u64, least: u64, greatest: u64) -> Option<u64>
+    ensures value { result ≡ within_limits least greatest number }
+    ensures least { IfSome result (λ n. least ≤ n) }
+    ensures greatest { IfSome result (λ n. n ≤ greatest) }
+{
+    if least <= number && number <= greatest {
+        Some(number)
+    } else {
+        None
+    }
+}
+
+/// A member that is a whole number from a least to a greatest.
+pub fn long_number(body: &Value, member: &str, least: u64, greatest: u64) -> Option<u64>
+    ensures value { result ≡ number_at least greatest member.now (view body.now) }
+    ensures least { IfSome result (λ n. least ≤ n) }
+    ensures greatest { IfSome result (λ n. n ≤ greatest) }
+{
+    within(whole(body, member)?, least, greatest)
+}
+
+/// A member that is a whole number from a least to a greatest.
+pub fn number(body: &Value, member: &str, least: u32, greatest: u32) -> Option<u32>
+    ensures value { result ≡ number_at least greatest member.now (view body.now) }
+    ensures least { IfSome result (λ n. least ≤ n) }
+    ensures greatest { IfSome result (λ n. n ≤ greatest) }
+{
+    let number = long_number(body, member, least as u64, greatest as u64)?;
+    Some(number as u32)
+}
+
+/// A member that may be absent or null, and else is a whole number up to a greatest. None is for any other member.
+pub fn optional_number(body: &Value, member: &str, greatest: u32) -> Option<Option<u32>>
+    ensures { result ≡ optional_number_at greatest member.now (view body.now) }
+{
+    let Some(value) = body.get(member) else {
+        return Some(None);
+    };
+    if value.is_null() {
+        return Some(None);
+    }
+    let number = within(value.as_u64()?, 0, greatest as u64)?;
+    Some(Some(number as u32))
+}
+
+/// A member that is an account's text.
+pub fn account(body: &Value, member: &str) -> Option<Account>
+    ensures value { result ≡ account_at member.now (view body.now) }
+    ensures in_range { IfSome result IsAccount }
+{
+    Account::parse(text(body, member)?.as_bytes())
+}
+
+fn day_of_text(text: &[u8]) -> Option<Day>
+    ensures value { result ≡ day_of text.now }
+    ensures in_range { IfSome result (λ day. day ≤ last_entered_day) }
+{
+    Day::parse(text)
+}
+
+/// A member that is the text of a day that may be entered.
+pub fn day(body: &Value, member: &str) -> Option<Day>
+    ensures value { result ≡ day_at member.now (view body.now) }
+    ensures in_range { IfSome result (λ day. day ≤ last_entered_day) }
+{
+    day_of_text(text(body, member)?.as_bytes())
 }

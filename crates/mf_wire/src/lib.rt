@@ -6,6 +6,7 @@ mod body;
 mod laws;
 mod line_buffer;
 mod lines;
+mod named;
 mod paths;
 mod refusals;
 mod request;
