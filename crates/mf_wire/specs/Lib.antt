@@ -1,7 +1,11 @@
 pub mod Bodies
+pub mod CatalogueRequests
 pub mod Cut
+pub mod LoanRequests
 pub mod Named
+pub mod OfficeRequests
 pub mod PathParts
+pub mod ProductRequests
 pub mod Reading
 pub mod Replies
 pub mod RequestLine

@@ -1,15 +1,17 @@
 // What a request asks, by its method, its path and its body.
-ghost use Rattle.std.specs.Prelude.{◌≡◌, ◌≢◌, ◌⊎◌, [], option_and_then, IfOk, IfErr};
+ghost use Rattle.std.specs.Prelude.{◌≡◌, ◌≢◌, ◌⊎◌, IfOk, IfErr};
 ghost use Rattle.mf_model.specs.Sound.{IsInRange};
-ghost use Rattle.mf_wire.specs.Bodies.{json_of, Gives};
-ghost use Rattle.mf_wire.specs.Requests.{method_named, endpoint_of, new_office as office_asked, new_staff as staff_asked, new_client as client_asked, asked_at, asked};
+ghost use Rattle.mf_wire.specs.Bodies.{Gives};
+ghost use Rattle.mf_wire.specs.Requests.{method_named, got_at, posted_at, put_at, endpoint_of, asked_at, asked};
 
-use crate::body::{json, name, office, role};
-use crate::paths::part;
+mod catalogue;
+mod loans;
+mod offices;
+mod products;
+
 use crate::routes::{Route, Routes};
 use mf_base::Fault;
 use mf_model::Request;
-use mf_office::Account;
 use std::alloc::Global;
 
 /// The methods that some route has. Other tokens are the method of no route.
@@ -17,6 +19,7 @@ use std::alloc::Global;
 pub enum Method {
     Get,
     Post,
+    Put,
     Other,
 }
 
@@ -28,6 +31,20 @@ pub enum Endpoint {
     PostStaff,
     PostClients,
     GetClient,
+    GetBusinessDay,
+    PutBusinessDay,
+    PostCharges,
+    GetCharge,
+    PostProducts,
+    GetProduct,
+    RetireProduct,
+    PostLoans,
+    GetLoan,
+    ApproveLoan,
+    RejectLoan,
+    WithdrawLoan,
+    UndoApproval,
+    GetLoans,
 }
 
 fn method_of(text: &[u8]) -> Method
@@ -37,84 +54,64 @@ fn method_of(text: &[u8]) -> Method
         Method::Get
     } else if text == b"POST".as_slice() {
         Method::Post
+    } else if text == b"PUT".as_slice() {
+        Method::Put
     } else {
         Method::Other
+    }
+}
+
+fn get_endpoint(route: Route) -> Option<Endpoint>
+    ensures { result ≡ got_at route }
+{
+    match route {
+        Route::Offices => Some(Endpoint::GetOffices),
+        Route::Client => Some(Endpoint::GetClient),
+        Route::BusinessDay => Some(Endpoint::GetBusinessDay),
+        Route::Charge => Some(Endpoint::GetCharge),
+        Route::Product => Some(Endpoint::GetProduct),
+        Route::Loan => Some(Endpoint::GetLoan),
+        Route::OfficeLoans => Some(Endpoint::GetLoans),
+        _ => None,
+    }
+}
+
+fn post_endpoint(route: Route) -> Option<Endpoint>
+    ensures { result ≡ posted_at route }
+{
+    match route {
+        Route::Offices => Some(Endpoint::PostOffices),
+        Route::Staff => Some(Endpoint::PostStaff),
+        Route::Clients => Some(Endpoint::PostClients),
+        Route::Charges => Some(Endpoint::PostCharges),
+        Route::Products => Some(Endpoint::PostProducts),
+        Route::ProductRetire => Some(Endpoint::RetireProduct),
+        Route::Loans => Some(Endpoint::PostLoans),
+        Route::LoanApprove => Some(Endpoint::ApproveLoan),
+        Route::LoanReject => Some(Endpoint::RejectLoan),
+        Route::LoanWithdraw => Some(Endpoint::WithdrawLoan),
+        Route::LoanUndoApproval => Some(Endpoint::UndoApproval),
+        _ => None,
+    }
+}
+
+fn put_endpoint(route: Route) -> Option<Endpoint>
+    ensures { result ≡ put_at route }
+{
+    match route {
+        Route::BusinessDay => Some(Endpoint::PutBusinessDay),
+        _ => None,
     }
 }
 
 fn endpoint_at(route: Route, method: Method) -> Option<Endpoint>
     ensures { result ≡ endpoint_of route method }
 {
-    match (route, method) {
-        (Route::Offices, Method::Post) => Some(Endpoint::PostOffices),
-        (Route::Offices, Method::Get) => Some(Endpoint::GetOffices),
-        (Route::Staff, Method::Post) => Some(Endpoint::PostStaff),
-        (Route::Clients, Method::Post) => Some(Endpoint::PostClients),
-        (Route::Client, Method::Get) => Some(Endpoint::GetClient),
-        _ => None,
-    }
-}
-
-fn new_office(alloc: Global, body: &[u8]) -> Result<Request, Fault>
-    ensures value { Gives (option_and_then office_asked (json_of body.now)) result }
-    ensures in_range { IfOk result IsInRange }
-{
-    let body = json(alloc, body)?;
-    let Some(number) = office(&body, "number") else {
-        return Err(Fault::F1);
-    };
-    let Some(parent) = office(&body, "parent") else {
-        return Err(Fault::F1);
-    };
-    match name(alloc, &body, "name") {
-        Ok(name) => Ok(Request::PostOffices {
-            number,
-            parent,
-            name,
-        }),
-        Err(fault) => Err(fault),
-    }
-}
-
-fn new_staff(alloc: Global, body: &[u8]) -> Result<Request, Fault>
-    ensures value { Gives (option_and_then staff_asked (json_of body.now)) result }
-    ensures in_range { IfOk result IsInRange }
-{
-    let body = json(alloc, body)?;
-    let Some(office) = office(&body, "office") else {
-        return Err(Fault::F1);
-    };
-    let Some(role) = role(&body, "role") else {
-        return Err(Fault::F1);
-    };
-    match name(alloc, &body, "name") {
-        Ok(name) => Ok(Request::PostStaff { office, name, role }),
-        Err(fault) => Err(fault),
-    }
-}
-
-fn new_client(alloc: Global, body: &[u8]) -> Result<Request, Fault>
-    ensures value { Gives (option_and_then client_asked (json_of body.now)) result }
-    ensures in_range { IfOk result IsInRange }
-{
-    let body = json(alloc, body)?;
-    let Some(office) = office(&body, "office") else {
-        return Err(Fault::F1);
-    };
-    match name(alloc, &body, "name") {
-        Ok(name) => Ok(Request::PostClients { office, name }),
-        Err(fault) => Err(fault),
-    }
-}
-
-/// The client that a path names after its second slash.
-fn client_request(path: &[u8]) -> Result<Request, Fault>
-    ensures value { Gives (asked_at Endpoint.GetClient path.now []) result }
-    ensures in_range { IfOk result IsInRange }
-{
-    match Account::parse(part(path, 2)) {
-        Some(client) => Ok(Request::GetClient { client }),
-        None => Err(Fault::F1),
+    match method {
+        Method::Get => get_endpoint(route),
+        Method::Post => post_endpoint(route),
+        Method::Put => put_endpoint(route),
+        Method::Other => None,
     }
 }
 
@@ -123,11 +120,25 @@ fn request_at(alloc: Global, endpoint: Endpoint, path: &[u8], body: &[u8]) -> Re
     ensures in_range { IfOk result IsInRange }
 {
     match endpoint {
-        Endpoint::PostOffices => new_office(alloc, body),
+        Endpoint::PostOffices => offices::new_office(alloc, body),
         Endpoint::GetOffices => Ok(Request::GetOffices),
-        Endpoint::PostStaff => new_staff(alloc, body),
-        Endpoint::PostClients => new_client(alloc, body),
-        Endpoint::GetClient => client_request(path),
+        Endpoint::PostStaff => offices::new_staff(alloc, body),
+        Endpoint::PostClients => offices::new_client(alloc, body),
+        Endpoint::GetClient => offices::client_request(path),
+        Endpoint::GetBusinessDay => Ok(Request::GetBusinessDay),
+        Endpoint::PutBusinessDay => catalogue::later_day(alloc, body),
+        Endpoint::PostCharges => catalogue::new_charge(alloc, body),
+        Endpoint::GetCharge => catalogue::get_charge(path),
+        Endpoint::PostProducts => products::new_product(alloc, body),
+        Endpoint::GetProduct => products::get_product(path),
+        Endpoint::RetireProduct => products::retire_product(path),
+        Endpoint::PostLoans => loans::new_loan(alloc, body),
+        Endpoint::GetLoan => loans::get_loan(path),
+        Endpoint::ApproveLoan => loans::approve_loan(path),
+        Endpoint::RejectLoan => loans::reject_loan(path),
+        Endpoint::WithdrawLoan => loans::withdraw_loan(path),
+        Endpoint::UndoApproval => loans::undo_approval(path),
+        Endpoint::GetLoans => loans::get_loans(path),
     }
 }
 

@@ -12,14 +12,40 @@ pub enum Route {
     Staff,
     Clients,
     Client,
+    BusinessDay,
+    Charges,
+    Charge,
+    Products,
+    Product,
+    ProductRetire,
+    Loans,
+    Loan,
+    LoanApprove,
+    LoanReject,
+    LoanWithdraw,
+    LoanUndoApproval,
+    OfficeLoans,
 }
 
 /// The paths, as `matchit` writes them.
-pub const ROUTES: [(&str, Route); 4] = [
+pub const ROUTES: [(&str, Route); 17] = [
     ("/offices", Route::Offices),
     ("/staff", Route::Staff),
     ("/clients", Route::Clients),
     ("/clients/{client}", Route::Client),
+    ("/business-day", Route::BusinessDay),
+    ("/charges", Route::Charges),
+    ("/charges/{charge}", Route::Charge),
+    ("/products", Route::Products),
+    ("/products/{product}", Route::Product),
+    ("/products/{product}/retire", Route::ProductRetire),
+    ("/loans", Route::Loans),
+    ("/loans/{loan}", Route::Loan),
+    ("/loans/{loan}/approve", Route::LoanApprove),
+    ("/loans/{loan}/reject", Route::LoanReject),
+    ("/loans/{loan}/withdraw", Route::LoanWithdraw),
+    ("/loans/{loan}/undo-approval", Route::LoanUndoApproval),
+    ("/offices/{office}/loans/{after}", Route::OfficeLoans),
 ];
 
 fn add(router: &mut Router<Route>, route: &(&'static str, Route)) -> Result<(), InsertError>
