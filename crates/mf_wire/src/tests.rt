@@ -3,6 +3,7 @@
 mod books;
 mod limits;
 mod refused;
+mod requests;
 mod streams;
 
 use crate::{WatchedReader, WatchedWriter, answer_text, fault_text, run};
