@@ -1,7 +1,10 @@
 pub mod Bodies
+pub mod Catalogue
 pub mod CatalogueRequests
 pub mod Cut
+pub mod Json
 pub mod LoanRequests
+pub mod LoanTexts
 pub mod Named
 pub mod OfficeRequests
 pub mod PathParts

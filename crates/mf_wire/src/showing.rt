@@ -6,6 +6,12 @@ ghost use Rattle.mf_model.specs.declared.reply.Reply.TheVariants.{OfficeMade, Of
 ghost use Rattle.mf_wire.specs.Replies.{reply_line};
 ghost use Rattle.mf_wire.specs.Shown.{office_data, reply_data, reply_status, reply_body};
 
+mod catalogue;
+mod loans;
+mod members;
+
+use catalogue::{charge_made, charge_shown, day_value, product_shown, product_value};
+use loans::{loan_made, loan_shown, loans_shown, status_value};
 use mf_base::Fault;
 use mf_model::Reply;
 use mf_office::{Account, Caller, Name, Office, OfficeNo};
@@ -85,6 +91,20 @@ fn reply_value(alloc: Global, reply: &Reply) -> Result<Value, Fault>
         Reply::StaffMade(staff) => staff_made(alloc, *staff),
         Reply::ClientMade(client) => client_made(alloc, *client),
         Reply::ClientShown { client, name } => client_shown(alloc, *client, name),
+        Reply::DayShown(day) | Reply::DaySet(day) => day_value(alloc, *day),
+        Reply::ChargeMade(charge) => Ok(charge_made(alloc, *charge)?),
+        Reply::ChargeShown(charge) => Ok(charge_shown(alloc, charge)?),
+        Reply::ProductMade(product) | Reply::ProductRetired(product) => {
+            Ok(product_value(alloc, *product)?)
+        }
+        Reply::ProductShown(product) => Ok(product_shown(alloc, product)?),
+        Reply::LoanMade(loan) => loan_made(alloc, *loan),
+        Reply::LoanShown { account, loan } => loan_shown(alloc, *account, loan),
+        Reply::LoanApproved(loan) => status_value(alloc, *loan, 200),
+        Reply::LoanRejected(loan) => status_value(alloc, *loan, 500),
+        Reply::LoanWithdrawn(loan) => status_value(alloc, *loan, 400),
+        Reply::ApprovalUndone(loan) => status_value(alloc, *loan, 100),
+        Reply::LoansShown(lines) => loans_shown(alloc, lines.as_slice()),
     }
 }
 
@@ -111,8 +131,25 @@ pub fn status(reply: &Reply) -> u16
     ensures { result ≡ reply_status reply.now }
 {
     match reply {
-        Reply::OfficeMade(_) | Reply::StaffMade(_) | Reply::ClientMade(_) => 201,
-        Reply::Offices(_) | Reply::ClientShown { .. } => 200,
+        Reply::OfficeMade(_)
+        | Reply::StaffMade(_)
+        | Reply::ClientMade(_)
+        | Reply::ChargeMade(_)
+        | Reply::ProductMade(_)
+        | Reply::LoanMade(_) => 201,
+        Reply::Offices(_)
+        | Reply::ClientShown { .. }
+        | Reply::DayShown(_)
+        | Reply::DaySet(_)
+        | Reply::ChargeShown(_)
+        | Reply::ProductShown(_)
+        | Reply::ProductRetired(_)
+        | Reply::LoanShown { .. }
+        | Reply::LoanApproved(_)
+        | Reply::LoanRejected(_)
+        | Reply::LoanWithdrawn(_)
+        | Reply::ApprovalUndone(_)
+        | Reply::LoansShown(_) => 200,
     }
 }
 
