@@ -5,6 +5,7 @@ mod limits;
 mod refused;
 mod requests;
 mod streams;
+mod texts;
 
 use crate::{WatchedReader, WatchedWriter, answer_text, fault_text, run};
 use books::Books;
