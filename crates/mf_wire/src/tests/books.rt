@@ -3,8 +3,9 @@
 ghost use Rattle.std.specs.Prelude.{◌≡◌, IfOk, IfErr};
 ghost use Rattle.mf_office.specs.Numbers.{IsNumberUpTo};
 
-use mf_base::Fault;
-use mf_model::{Commit, Counts, InstitutionStore, OfficeList};
+use mf_base::{Day, Fault};
+use mf_catalog::{ChargeDef, Product};
+use mf_model::{CatalogueCounts, Commit, Counts, InstitutionStore, Loan, LoanList, OfficeList};
 use mf_office::{Account, AccountNo, Caller, Name, Office, OfficeNo, Role};
 use std::alloc::Global;
 
@@ -199,6 +200,7 @@ impl InstitutionStore for Books {
             return Ok(Counts {
                 staff: 0,
                 clients: 0,
+                loans: 0,
             });
         };
         let (Ok(staff), Ok(clients)) = (
@@ -207,7 +209,11 @@ impl InstitutionStore for Books {
         ) else {
             return Err(Fault::F20);
         };
-        Ok(Counts { staff, clients })
+        Ok(Counts {
+            staff,
+            clients,
+            loans: 0,
+        })
     }
 
     fn client(&mut self, alloc: Global, client: Account) -> Result<Option<Name>, Fault> {
@@ -220,6 +226,31 @@ impl InstitutionStore for Books {
             return Ok(None);
         };
         Ok(Some(name(alloc, found.as_str())?))
+    }
+
+    // The books keep no catalogue and no loans: they give up there.
+    fn business_day(&mut self, _alloc: Global) -> Result<Day, Fault> {
+        Err(Fault::F20)
+    }
+
+    fn catalogue_counts(&mut self, _alloc: Global) -> Result<CatalogueCounts, Fault> {
+        Err(Fault::F20)
+    }
+
+    fn charge(&mut self, _alloc: Global, _number: u32) -> Result<Option<ChargeDef>, Fault> {
+        Err(Fault::F20)
+    }
+
+    fn product(&mut self, _alloc: Global, _number: u32) -> Result<Option<Product>, Fault> {
+        Err(Fault::F20)
+    }
+
+    fn loan(&mut self, _alloc: Global, _loan: Account) -> Result<Option<Loan>, Fault> {
+        Err(Fault::F20)
+    }
+
+    fn loans(&mut self, _alloc: Global, _office: OfficeNo, _after: u32) -> Result<LoanList, Fault> {
+        Err(Fault::F20)
     }
 
     fn visible_offices(&mut self, alloc: Global, to: OfficeNo) -> Result<OfficeList, Fault> {
@@ -254,6 +285,7 @@ impl InstitutionStore for Books {
             ),
             Commit::AddStaff { office, role, .. } => self.add_staff(office, role),
             Commit::AddClient { office, name } => self.add_client(office, name),
+            _ => Err(Fault::F20),
         }
     }
 }
