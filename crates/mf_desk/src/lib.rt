@@ -15,4 +15,6 @@ pub use answering::answer;
 pub use mf_model::{Call, OfficeList, Reply, Request};
 
 #[cfg(test)]
+mod books;
+#[cfg(test)]
 mod tests;

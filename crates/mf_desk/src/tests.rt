@@ -1,229 +1,24 @@
-//! The desk over an institution in vectors. Of that store nothing is proved but that it is safe: these tests run it.
+//! The desk over an institution in vectors.
 
-ghost use Rattle.std.specs.Prelude.{◌≡◌, IfOk, IfErr};
-ghost use Rattle.mf_office.specs.Numbers.{IsNumberUpTo};
-ghost use Rattle.mf_model.specs.Sound.{IsInRange};
+ghost use Rattle.std.specs.Prelude.{◌≡◌, ◌≤◌, IfOk};
+ghost use Rattle.mf_base.specs.DayText.{last_entered_day};
+ghost use Rattle.mf_model.specs.Sound.{AreMembers, IsAccount, IsInRange};
 
 use super::answer;
-use mf_base::Fault;
-use mf_model::{Commit, Counts, InstitutionStore, OfficeList, Reply, Request, is_name};
-use mf_office::{Account, AccountNo, Caller, Name, Office, OfficeNo, Role};
+use crate::books::{Books, name, office_no};
+use mf_base::{Day, Fault, Freq};
+use mf_catalog::{Calc, ChargeKind, Method, ProductMembers, StrategyName};
+use mf_model::{LoanList, Reply, Request, is_name};
+use mf_office::{Account, AccountNo, Caller, Office, Role};
 use std::alloc::Global;
 use std::test::Fail;
 
-#[derive(Drop)]
-struct Branch {
-    office: Office,
-    staff: Vec<Role>,
-    clients: Vec<Name>,
-}
-
-/// The offices by number.
-#[derive(Drop)]
-struct Books {
-    branches: Vec<Branch>,
-}
-
-fn name(alloc: Global, text: &str) -> Result<Name, Fault>
-    ensures text { IfOk result (λ name. name ≡ text.now) }
-    ensures err { IfErr result (λ fault. fault ≡ Fault.F20) }
+fn day(text: &[u8]) -> Result<Day, Fault>
+    ensures { IfOk result (λ day. day ≤ last_entered_day) }
 {
-    Ok(Name::new(String::from_str(alloc, text)?))
-}
-
-fn office_no(number: u32) -> Result<OfficeNo, Fault>
-    ensures { IfOk result (IsNumberUpTo 9999) }
-{
-    let Some(office) = OfficeNo::new(number) else {
-        return Err(Fault::F1);
-    };
-    let _number = office.get();
-    Ok(office)
-}
-
-impl Books {
-    /// The head office with its manager.
-    fn new(alloc: Global) -> Result<Books, Fault> {
-        let mut staff = Vec::new(alloc);
-        staff.push(Role::Manager)?;
-        let office = Office {
-            number: office_no(1)?,
-            parent: None,
-            name: name(alloc, "Head Office")?,
-        };
-        let mut branches = Vec::new(alloc);
-        branches.push(Branch {
-            office,
-            staff,
-            clients: Vec::new(alloc),
-        })?;
-        Ok(Books { branches })
-    }
-
-    fn find(&self, number: OfficeNo) -> Option<&Branch> {
-        self.branches
-            .iter()
-            .find(|branch| branch.office.number == number)
-    }
-
-    /// Whether `above` is the office, or one of so many next above it.
-    fn is_within(&self, steps: u32, number: OfficeNo, above: OfficeNo) -> bool {
-        let mut at = number;
-        for _ in 0..steps {
-            if at == above {
-                return true;
-            }
-            let Some(branch) = self.find(at) else {
-                return false;
-            };
-            let Some(parent) = branch.office.parent else {
-                return false;
-            };
-            at = parent;
-        }
-        at == above
-    }
-
-    fn add_office(&mut self, alloc: Global, office: Office) -> Result<(), Fault>
-        ensures { IfErr result (λ fault. fault ≡ Fault.F20) }
-    {
-        let number = office.number;
-        let at = self
-            .branches
-            .iter()
-            .position(|branch| branch.office.number > number)
-            .unwrap_or(self.branches.len());
-        let branch = Branch {
-            office,
-            staff: Vec::new(alloc),
-            clients: Vec::new(alloc),
-        };
-        self.branches.insert(at, branch)?;
-        Ok(())
-    }
-
-    fn add_staff(&mut self, office: OfficeNo, role: Role) -> Result<(), Fault>
-        ensures { IfErr result (λ fault. fault ≡ Fault.F20) }
-    {
-        for branch in self.branches.iter_mut() {
-            if branch.office.number == office {
-                branch.staff.push(role)?;
-                return Ok(());
-            }
-        }
-        Ok(())
-    }
-
-    fn add_client(&mut self, office: OfficeNo, name: Name) -> Result<(), Fault>
-        ensures { IfErr result (λ fault. fault ≡ Fault.F20) }
-    {
-        for branch in self.branches.iter_mut() {
-            if branch.office.number == office {
-                branch.clients.push(name)?;
-                return Ok(());
-            }
-        }
-        Ok(())
-    }
-}
-
-impl InstitutionStore for Books {
-    ghost stands = { λ _ _. ⊥ };
-
-    ghost clean = { λ _. Unit {0} };
-
-    ghost leaves = { λ _ _. ⊥ };
-
-    ghost sound = { λ _ _ h. absurd h };
-
-    ghost more = { λ _ _ _ h. absurd h };
-
-    fn role(&mut self, _alloc: Global, caller: Caller) -> Result<Option<Role>, Fault> {
-        let Some(branch) = self.find(caller.office) else {
-            return Ok(None);
-        };
-        let place = caller.staff.get() - 1;
-        Ok(branch.staff.get(place as usize).copied())
-    }
-
-    fn is_visible(
-        &mut self,
-        _alloc: Global,
-        to: OfficeNo,
-        office: OfficeNo,
-    ) -> Result<bool, Fault> {
-        Ok(self.find(office).is_some() && self.is_within(5, office, to))
-    }
-
-    fn is_there(&mut self, _alloc: Global, office: OfficeNo) -> Result<bool, Fault> {
-        Ok(self.find(office).is_some())
-    }
-
-    fn has_room_below(&mut self, _alloc: Global, office: OfficeNo) -> Result<bool, Fault> {
-        let Some(head) = OfficeNo::new(1) else {
-            return Err(Fault::F20);
-        };
-        Ok(self.is_within(4, office, head))
-    }
-
-    fn counts(&mut self, _alloc: Global, office: OfficeNo) -> Result<Counts, Fault> {
-        let Some(branch) = self.find(office) else {
-            return Ok(Counts {
-                staff: 0,
-                clients: 0,
-            });
-        };
-        let (Ok(staff), Ok(clients)) = (
-            u32::try_from(branch.staff.len()),
-            u32::try_from(branch.clients.len()),
-        ) else {
-            return Err(Fault::F20);
-        };
-        Ok(Counts { staff, clients })
-    }
-
-    fn client(&mut self, alloc: Global, client: Account) -> Result<Option<Name>, Fault> {
-        let Some(branch) = self.find(client.office) else {
-            return Ok(None);
-        };
-        let place = client.number.get() - 1;
-        let Some(found) = branch.clients.get(place as usize) else {
-            return Ok(None);
-        };
-        Ok(Some(name(alloc, found.as_str())?))
-    }
-
-    fn visible_offices(&mut self, alloc: Global, to: OfficeNo) -> Result<OfficeList, Fault> {
-        let mut offices = Vec::new(alloc);
-        for branch in &self.branches {
-            if self.is_within(5, branch.office.number, to) {
-                offices.push(Office {
-                    number: branch.office.number,
-                    parent: branch.office.parent,
-                    name: name(alloc, branch.office.name.as_str())?,
-                })?;
-            }
-        }
-        Ok(OfficeList::new(offices))
-    }
-
-    fn commit(&mut self, alloc: Global, commit: Commit) -> Result<(), Fault> {
-        match commit {
-            Commit::AddOffice {
-                number,
-                parent,
-                name,
-            } => self.add_office(
-                alloc,
-                Office {
-                    number,
-                    parent: Some(parent),
-                    name,
-                },
-            ),
-            Commit::AddStaff { office, role, .. } => self.add_staff(office, role),
-            Commit::AddClient { office, name } => self.add_client(office, name),
-        }
+    match Day::parse(text) {
+        Some(day) => Ok(day),
+        None => Err(Fault::F1),
     }
 }
 
@@ -236,6 +31,48 @@ fn office_line(alloc: Global, office: &Office) -> Result<String, Fault> {
             let parent = parent.get();
             Ok(format!(in alloc; " {number} {name} under {parent}")?)
         }
+    }
+}
+
+fn loan_lines(alloc: Global, loans: &LoanList) -> Result<String, Fault> {
+    let mut text = String::from_str(alloc, "loans")?;
+    for line in loans.as_slice() {
+        let loan = line.loan.text(alloc)?;
+        let status = line.status;
+        let line = format!(in alloc; " {loan} {status}")?;
+        text.push_str(line.as_str())?;
+    }
+    Ok(text)
+}
+
+fn at_status(alloc: Global, loan: Account, status: u16) -> Result<String, Fault> {
+    let loan = loan.text(alloc)?;
+    Ok(format!(in alloc; "{loan} {status}")?)
+}
+
+fn numbered(alloc: Global, number: u32, name: &str) -> Result<String, Fault> {
+    Ok(format!(in alloc; "{number} {name}")?)
+}
+
+/// A reply on the catalogue or on loans in a few words.
+fn shown_later(alloc: Global, reply: &Reply) -> Result<String, Fault> {
+    match reply {
+        Reply::DayShown(day) | Reply::DaySet(day) => day.text(alloc),
+        Reply::ChargeMade(number) => numbered(alloc, *number, "charge"),
+        Reply::ChargeShown(charge) => numbered(alloc, charge.number, charge.name.as_str()),
+        Reply::ProductMade(number) => numbered(alloc, *number, "product"),
+        Reply::ProductShown(product) => {
+            numbered(alloc, product.number, product.members.name.as_str())
+        }
+        Reply::ProductRetired(number) => numbered(alloc, *number, "retired"),
+        Reply::LoanMade(loan) => loan.text(alloc),
+        Reply::LoanShown { account, loan } => at_status(alloc, *account, loan.stage.status()),
+        Reply::LoanApproved(loan) => at_status(alloc, *loan, 200),
+        Reply::LoanRejected(loan) => at_status(alloc, *loan, 500),
+        Reply::LoanWithdrawn(loan) => at_status(alloc, *loan, 400),
+        Reply::ApprovalUndone(loan) => at_status(alloc, *loan, 100),
+        Reply::LoansShown(loans) => loan_lines(alloc, loans),
+        _ => Ok(String::from_str(alloc, "another")?),
     }
 }
 
@@ -261,6 +98,7 @@ fn shown(alloc: Global, reply: &Reply) -> Result<String, Fault> {
             let name = name.as_str();
             Ok(format!(in alloc; "{client} {name}")?)
         }
+        later => shown_later(alloc, later),
     }
 }
 
@@ -351,6 +189,93 @@ fn client(
     send(alloc, books, caller, Request::GetClient { client })
 }
 
+fn account(number: u32) -> Result<Account, Fault>
+    ensures { IfOk result IsAccount }
+{
+    let office = office_no(1)?;
+    let number = AccountNo::new(number).ok_or(Fault::F1)?;
+    let _number = number.get();
+    Ok(Account { office, number })
+}
+
+fn members(alloc: Global, instalment_charge: Option<u32>) -> Result<ProductMembers, Fault>
+    ensures { IfOk result AreMembers }
+{
+    if !is_name("P") {
+        return Err(Fault::F1);
+    }
+    Ok(ProductMembers {
+        name: name(alloc, "P")?,
+        method: Method::EqualPrincipal,
+        rate: 1200,
+        freq: Freq::Months,
+        every: 1,
+        principal_grace: 0,
+        interest_grace: 0,
+        min_principal: 1,
+        max_principal: 1000000,
+        min_periods: 1,
+        max_periods: 12,
+        strategy: StrategyName::MifosStandard,
+        disbursement_charge: None,
+        instalment_charge,
+        overdue_charge: None,
+    })
+}
+
+fn add_product(
+    alloc: Global,
+    books: &mut Books,
+    instalment_charge: Option<u32>,
+) -> Result<String, Fault> {
+    let members = members(alloc, instalment_charge)?;
+    send(alloc, books, "1/1", Request::PostProducts { members })
+}
+
+fn submit(
+    alloc: Global,
+    books: &mut Books,
+    product: u32,
+    principal: u64,
+    periods: u32,
+) -> Result<String, Fault> {
+    let is_product = product < 1000;
+    let is_principal = 1 <= principal && principal <= 1000001;
+    let are_periods = 1 <= periods && periods <= 13;
+    if !(is_product && is_principal && are_periods) {
+        return Err(Fault::F1);
+    }
+    let request = Request::PostLoans {
+        client: account(1)?,
+        product,
+        principal,
+        periods,
+    };
+    send(alloc, books, "1/1", request)
+}
+
+fn approve(alloc: Global, books: &mut Books) -> Result<String, Fault> {
+    let loan = account(1)?;
+    send(alloc, books, "1/1", Request::ApproveLoan { loan })
+}
+
+fn retire(alloc: Global, books: &mut Books) -> Result<String, Fault> {
+    send(alloc, books, "1/1", Request::RetireProduct { product: 1 })
+}
+
+fn new_books(alloc: Global) -> Result<Books, Fault> {
+    Books::new(alloc, day(b"2024-01-31")?)
+}
+
+/// A product, a client and a submitted loan.
+fn with_loan(alloc: Global) -> Result<Books, Fault> {
+    let mut books = new_books(alloc)?;
+    let _product = add_product(alloc, &mut books, None)?;
+    let _client = add_client(alloc, &mut books, "1/1", 1, "Amina")?;
+    let _loan = submit(alloc, &mut books, 1, 100000, 3)?;
+    Ok(books)
+}
+
 fn is_text(told: &Result<String, Fault>, text: &str) -> bool {
     match told {
         Ok(told) => told.as_str() == text,
@@ -368,7 +293,7 @@ fn is_fault(told: &Result<String, Fault>, fault: Fault) -> bool {
 #[test]
 fn a_client_is_entered_and_read(rt: HostRuntime) -> Result<(), Fail> {
     let alloc = rt.alloc();
-    let mut books = Books::new(alloc)?;
+    let mut books = new_books(alloc)?;
     let made = add_client(alloc, &mut books, "1/1", 1, "Amina");
     assert!(rt; is_text(&made, "0001-000001"));
     let read = client(alloc, &mut books, "1/1", 1, 1);
@@ -387,7 +312,7 @@ fn a_client_is_entered_and_read(rt: HostRuntime) -> Result<(), Fail> {
 #[test]
 fn branches_see_their_own(rt: HostRuntime) -> Result<(), Fail> {
     let alloc = rt.alloc();
-    let mut books = Books::new(alloc)?;
+    let mut books = new_books(alloc)?;
     let north = add_office(alloc, &mut books, "1/1", 2, 1, "North");
     assert!(rt; is_text(&north, "office 2"));
     let south = add_office(alloc, &mut books, "1/1", 20, 1, "South");
@@ -414,12 +339,114 @@ fn branches_see_their_own(rt: HostRuntime) -> Result<(), Fail> {
 #[test]
 fn six_levels_and_no_more(rt: HostRuntime) -> Result<(), Fail> {
     let alloc = rt.alloc();
-    let mut books = Books::new(alloc)?;
+    let mut books = new_books(alloc)?;
     for parent in 1..6u32 {
         let made = add_office(alloc, &mut books, "1/1", parent + 1, parent, "Level");
         assert!(rt; made.is_ok());
     }
     let seventh = add_office(alloc, &mut books, "1/1", 7, 6, "Level");
     assert!(rt; is_fault(&seventh, Fault::F18));
+    Ok(())
+}
+
+#[test]
+fn a_loan_is_approved_once(rt: HostRuntime) -> Result<(), Fail> {
+    let alloc = rt.alloc();
+    let mut books = with_loan(alloc)?;
+    let once = approve(alloc, &mut books);
+    assert!(rt; is_text(&once, "0001-000001 200"));
+    let twice = approve(alloc, &mut books);
+    assert!(rt; is_fault(&twice, Fault::F9));
+    let loan = account(1)?;
+    let withdrawn = send(alloc, &mut books, "1/1", Request::WithdrawLoan { loan });
+    assert!(rt; is_fault(&withdrawn, Fault::F9));
+    Ok(())
+}
+
+#[test]
+fn an_approval_is_undone(rt: HostRuntime) -> Result<(), Fail> {
+    let alloc = rt.alloc();
+    let mut books = with_loan(alloc)?;
+    let _approved = approve(alloc, &mut books);
+    let loan = account(1)?;
+    let undone = send(alloc, &mut books, "1/1", Request::UndoApproval { loan });
+    assert!(rt; is_text(&undone, "0001-000001 100"));
+    let listing = Request::GetLoans {
+        office: 1,
+        after: 0,
+    };
+    let listed = send(alloc, &mut books, "1/1", listing);
+    assert!(rt; is_text(&listed, "loans 0001-000001 100"));
+    Ok(())
+}
+
+#[test]
+fn a_product_lends_within_its_limits(rt: HostRuntime) -> Result<(), Fail> {
+    let alloc = rt.alloc();
+    let mut books = with_loan(alloc)?;
+    let too_much = submit(alloc, &mut books, 1, 1000001, 3);
+    assert!(rt; is_fault(&too_much, Fault::F8));
+    let too_long = submit(alloc, &mut books, 1, 100000, 13);
+    assert!(rt; is_fault(&too_long, Fault::F8));
+    let missing = submit(alloc, &mut books, 2, 100000, 3);
+    assert!(rt; is_fault(&missing, Fault::F4));
+    Ok(())
+}
+
+#[test]
+fn a_retired_product_lends_no_more(rt: HostRuntime) -> Result<(), Fail> {
+    let alloc = rt.alloc();
+    let mut books = with_loan(alloc)?;
+    let once = retire(alloc, &mut books);
+    assert!(rt; is_text(&once, "1 retired"));
+    let twice = retire(alloc, &mut books);
+    assert!(rt; is_fault(&twice, Fault::F7));
+    let loan = submit(alloc, &mut books, 1, 1000001, 3);
+    assert!(rt; is_fault(&loan, Fault::F7));
+    Ok(())
+}
+
+#[test]
+fn a_product_names_instalment_charges(rt: HostRuntime) -> Result<(), Fail> {
+    let alloc = rt.alloc();
+    let mut books = new_books(alloc)?;
+    if !is_name("Visit") {
+        return Err(Fail::from(Fault::F1));
+    }
+    let visit = Request::PostCharges {
+        name: name(alloc, "Visit")?,
+        kind: ChargeKind::DueDate,
+        calc: Calc::Flat,
+        value: 500,
+    };
+    let made = send(alloc, &mut books, "1/1", visit);
+    assert!(rt; is_text(&made, "1 charge"));
+    let other_kind = add_product(alloc, &mut books, Some(1));
+    assert!(rt; is_fault(&other_kind, Fault::F8));
+    let missing = add_product(alloc, &mut books, Some(9));
+    assert!(rt; is_fault(&missing, Fault::F4));
+    Ok(())
+}
+
+#[test]
+fn the_day_goes_forward(rt: HostRuntime) -> Result<(), Fail> {
+    let alloc = rt.alloc();
+    let mut books = new_books(alloc)?;
+    let present = day(b"2024-01-31")?;
+    let same = send(
+        alloc,
+        &mut books,
+        "1/1",
+        Request::PutBusinessDay { day: present },
+    );
+    assert!(rt; is_fault(&same, Fault::F17));
+    let later = day(b"2024-03-31")?;
+    let set = send(
+        alloc,
+        &mut books,
+        "1/1",
+        Request::PutBusinessDay { day: later },
+    );
+    assert!(rt; is_text(&set, "2024-03-31"));
     Ok(())
 }
