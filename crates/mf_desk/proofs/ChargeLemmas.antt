@@ -1,5 +1,5 @@
 -- The charges that a product names are the same in the list of them as in the catalogue.
-use Rattle.std.proofs.Common.{◌≡◌, ℕ, Bool, true, false, cond, List, [], ◌∷◌, length, Option, Some, None, Ok, Err, refl, sym, ap, ◌∙◌, subst, inl, inr, arith}
+use Rattle.std.proofs.Common.{◌≡◌, ℕ, Bool, true, false, cond, List, [], length, Option, Some, None, Ok, Err, refl, sym, ap, ◌∙◌, subst, inl, inr, arith}
 use Rattle.std.specs.Prelude.{◌==◌, ◌&&◌, ◌⊎◌, Result, is_some}
 use Rattle.std.proofs.lemmas.Bool.Decides.{nat_tests}
 use Rattle.mf_base.specs.declared.fault.Fault.{Fault}
@@ -8,7 +8,7 @@ use Rattle.mf_catalog.specs.declared.charge.ChargeDef.{ChargeDef}
 use Rattle.mf_catalog.specs.declared.charge.ChargeKind.{ChargeKind}
 use Rattle.mf_catalog.specs.declared.charge.ChargeKind.TheVariants.{Disbursement, Instalment, Overdue}
 use Rattle.mf_catalog.specs.declared.product.ProductMembers.{ProductMembers}
-use Rattle.mf_catalog.specs.Product.{charge_at, is_there, has_kind, is_of_kind, charges_there, kinds_right, limits_agree, is_consistent}
+use Rattle.mf_catalog.specs.Product.{charge_at, is_there, has_kind, is_of_kind, charges_there, limits_agree, is_consistent}
 use Rattle.mf_model.specs.Institution.{Institution, charge_in}
 use Rattle.mf_model.specs.Desk.{of_catalogue, next_of, with_value, with_found, product_added, add_product}
 use Rattle.mf_model.specs.declared.reply.Reply.TheVariants.{ProductMade}
