@@ -58,6 +58,43 @@ pub const CHAIN_REPLIES: &str = "201 {\"office\":2}\n\
 201 {\"office\":6}\n\
 409 {\"fault\":\"F18\"}\n";
 
+pub const LENDING: &str =
+    "1/1 POST /products {\"name\":\"P\",\"method\":\"declining-equal-principal\",\"rate\":1200,\"frequency\":\"months\",\"every\":1,\"principal_grace\":0,\"interest_grace\":0,\"min_principal\":1,\"max_principal\":1000000,\"min_periods\":1,\"max_periods\":12,\"strategy\":\"mifos-standard-strategy\"}\n\
+1/1 POST /clients {\"office\":1,\"name\":\"Amina\"}\n\
+1/1 POST /loans {\"client\":\"0001-000001\",\"product\":1,\"principal\":100000,\"periods\":3}\n\
+1/1 POST /charges {\"name\":\"Visit\",\"kind\":\"due-date\",\"calc\":\"flat\",\"value\":500}\n\
+1/1 POST /products {\"name\":\"P\",\"method\":\"declining-equal-principal\",\"rate\":1200,\"frequency\":\"months\",\"every\":1,\"principal_grace\":0,\"interest_grace\":0,\"min_principal\":1,\"max_principal\":1000000,\"min_periods\":1,\"max_periods\":12,\"strategy\":\"mifos-standard-strategy\",\"instalment_charge\":1}\n\
+1/1 POST /products {\"name\":\"P\",\"method\":\"declining-equal-principal\",\"rate\":1200,\"frequency\":\"months\",\"every\":1,\"principal_grace\":0,\"interest_grace\":0,\"min_principal\":1,\"max_principal\":1000000,\"min_periods\":1,\"max_periods\":12,\"strategy\":\"mifos-standard-strategy\",\"instalment_charge\":9}\n\
+1/1 POST /loans {\"client\":\"0001-000001\",\"product\":1,\"principal\":1000001,\"periods\":3}\n\
+1/1 POST /loans {\"client\":\"0001-000001\",\"product\":1,\"principal\":100000,\"periods\":13}\n\
+1/1 POST /loans {\"client\":\"0001-000001\",\"product\":1,\"principal\":0,\"periods\":3}\n\
+1/1 POST /loans/0001-000001/approve\n\
+1/1 POST /loans/0001-000001/approve\n\
+1/1 POST /loans/0001-000001/withdraw\n\
+1/1 POST /loans/0001-000001/undo-approval\n\
+1/1 GET /offices/1/loans/0\n\
+1/1 POST /products/1/retire\n\
+1/1 POST /products/1/retire\n\
+1/1 POST /loans {\"client\":\"0001-000001\",\"product\":1,\"principal\":1000001,\"periods\":3}\n";
+
+pub const LENDING_REPLIES: &str = "201 {\"product\":1}\n\
+201 {\"client\":\"0001-000001\"}\n\
+201 {\"loan\":\"0001-000001\"}\n\
+201 {\"charge\":1}\n\
+409 {\"fault\":\"F8\"}\n\
+404 {\"fault\":\"F4\"}\n\
+409 {\"fault\":\"F8\"}\n\
+409 {\"fault\":\"F8\"}\n\
+400 {\"fault\":\"F1\"}\n\
+200 {\"loan\":\"0001-000001\",\"status\":200}\n\
+409 {\"fault\":\"F9\"}\n\
+409 {\"fault\":\"F9\"}\n\
+200 {\"loan\":\"0001-000001\",\"status\":100}\n\
+200 {\"loans\":[{\"loan\":\"0001-000001\",\"status\":100}]}\n\
+200 {\"product\":1}\n\
+409 {\"fault\":\"F7\"}\n\
+409 {\"fault\":\"F7\"}\n";
+
 /// Whether a new institution gives these replies to these lines.
 fn are_replies(alloc: Global, lines: &str, replies: &str) -> Result<bool, Fail> {
     let written = written(alloc, lines.as_bytes())?;
@@ -79,5 +116,11 @@ fn a_branch_sees_its_own_part_of_the_tree(rt: HostRuntime) -> Result<(), Fail> {
 #[test]
 fn a_seventh_level_is_refused(rt: HostRuntime) -> Result<(), Fail> {
     assert!(rt; are_replies(rt.alloc(), CHAIN, CHAIN_REPLIES)?);
+    Ok(())
+}
+
+#[test]
+fn a_product_lends_until_it_is_retired(rt: HostRuntime) -> Result<(), Fail> {
+    assert!(rt; are_replies(rt.alloc(), LENDING, LENDING_REPLIES)?);
     Ok(())
 }
