@@ -19,8 +19,8 @@ use Rattle.mf_model.specs.Desk.{staff_added, client_added}
 use Rattle.mf_model.specs.Sound.{IsSound}
 use Rattle.mf_model.specs.Store.{Commits, committed, rows_at}
 use Rattle.mf_model.specs.Tree.{parent_of, is_there, Above, Ascending}
-use Rattle.mf_store.specs.Rows.{OfficeRow, StaffRow, ClientRow, MetaRow, Lists, by_office, by_staff, by_client}
-use Rattle.mf_store.specs.Flat.{tables_of, office_under, office_row_at, staff_in, client_in}
+use Rattle.mf_store.specs.Rows.{OfficeRow, StaffRow, ClientRow, LoanRow, Lists, by_office, by_staff, by_client, by_loan}
+use Rattle.mf_store.specs.Flat.{tables_of, office_under, office_row_at, staff_in, client_in, loan_in}
 use Rattle.mf_store.specs.Writes.{office_of, staff_of, client_of}
 use Rattle.mf_store.specs.declared.records.OfficeRecord.{OfficeRecord}
 use Rattle.mf_store.specs.declared.records.StaffRecord.{StaffRecord}
@@ -76,8 +76,10 @@ module _ {S : Type 0} (g : Ghosts S) (commit : Commit) where
     stop = λ clean i is s sound l. let now = premise clean in stop clean i (committed commit i) is (kept.same now i s) (becomes now i s sound) (kept.stop now is l);
   }
 
-same_lists : {meta : List MetaRow} {o p : List OfficeRow} {s t : List StaffRow} {c d : List ClientRow} → o ≡ p → s ≡ t → c ≡ d → ◌≡◌ {A = Lists} (record { meta = meta; offices = o; staff = s; clients = c }) (record { meta = meta; offices = p; staff = t; clients = d })
-same_lists {meta} a b e = λ k. record { meta = meta; offices = a k; staff = b k; clients = e k }
+-- the rows of the offices, where the catalogue's are as they were
+pub same_lists : (i : Institution) {o p : List OfficeRow} {s t : List StaffRow} {c d : List ClientRow} {l m : List LoanRow} → o ≡ p → s ≡ t → c ≡ d → l ≡ m
+    → ◌≡◌ {A = Lists} (record (tables_of i) { offices = o; staff = s; clients = c; loans = l }) (record (tables_of i) { offices = p; staff = t; clients = d; loans = m })
+same_lists i a b e h = λ k. record (tables_of i) { offices = a k; staff = b k; clients = e k; loans = h k }
 
 -- ---- one more row of an office
 
@@ -89,7 +91,7 @@ under-with_rows : (ps : ℕ → Option ℕ) (x : ℕ) (new : Rows) (fs : List Of
 under-with_rows ps x new [] = refl
 under-with_rows ps x new (f ∷ fs) = ap (λ l. office_under ps f ∷ l) (under-with_rows ps x new fs)
 
-offices-with_rows : (x : ℕ) (new : Rows) (fs : List Office) → map (office_under (parent_of fs)) fs ≡ map (office_under (parent_of (with_rows x new fs))) (with_rows x new fs)
+pub offices-with_rows : (x : ℕ) (new : Rows) (fs : List Office) → map (office_under (parent_of fs)) fs ≡ map (office_under (parent_of (with_rows x new fs))) (with_rows x new fs)
 offices-with_rows x new fs = under-with_rows (parent_of fs) x new fs ∙ (λ k. map (office_under (λ y. sym (parent_of-with_rows x new fs y) k)) (with_rows x new fs))
 
 pub client_becomes : (x : ℕ) (name : List ℕ) (i : Institution) (c : ClientRecord) → IsSound i → IsSound (committed (AddClient x name) i) → is_there i.offices x ≡ true → client_of c ≡ client_in x (length (rows_at x i).clients + 1) name
@@ -97,8 +99,9 @@ pub client_becomes : (x : ℕ) (name : List ℕ) (i : Institution) (c : ClientRe
 client_becomes x name i c before sound there is = record {
   sound = sound;
   fits = (refl, tt);
-  is = ap Some (same_lists (offices-with_rows x new i.offices) (same_rows_of staff_in (λ rows. rows.staff) refl by_staff (λ x n y m a b. refl) x new i.offices before.tree.ascending refl)
-      (ap (λ r. put_item by_client r (tables_of i).clients) is ∙ put_row_of client_in (λ rows. rows.clients) refl by_client (λ x n y m a b. refl) x name new i.offices before.tree.ascending there refl));
+  is = ap Some (same_lists i (offices-with_rows x new i.offices) (same_rows_of staff_in (λ rows. rows.staff) refl by_staff (λ x n y m a b. refl) x new i.offices before.tree.ascending refl)
+      (ap (λ r. put_item by_client r (tables_of i).clients) is ∙ put_row_of client_in (λ rows. rows.clients) refl by_client (λ x n y m a b. refl) x name new i.offices before.tree.ascending there refl)
+      (same_rows_of loan_in (λ rows. rows.loans) refl by_loan (λ x n y m a b. refl) x new i.offices before.tree.ascending refl));
 }
   where
     new : Rows
@@ -109,9 +112,10 @@ pub staff_becomes : (x : ℕ) (name : List ℕ) (role : Role) (i : Institution) 
 staff_becomes x name role i s before sound there is = record {
   sound = sound;
   fits = (refl, tt);
-  is = ap Some (same_lists (offices-with_rows x new i.offices)
+  is = ap Some (same_lists i (offices-with_rows x new i.offices)
       (ap (λ r. put_item by_staff r (tables_of i).staff) is ∙ put_row_of staff_in (λ rows. rows.staff) refl by_staff (λ x n y m a b. refl) x (record { name = name; role = role }) new i.offices before.tree.ascending there refl)
-      (same_rows_of client_in (λ rows. rows.clients) refl by_client (λ x n y m a b. refl) x new i.offices before.tree.ascending refl));
+      (same_rows_of client_in (λ rows. rows.clients) refl by_client (λ x n y m a b. refl) x new i.offices before.tree.ascending refl)
+      (same_rows_of loan_in (λ rows. rows.loans) refl by_loan (λ x n y m a b. refl) x new i.offices before.tree.ascending refl));
 }
   where
     new : Rows
@@ -213,8 +217,8 @@ unfolding key_of
 office_becomes x parent name key i o before sound trees free there key_is is = record {
   sound = sound;
   fits = (refl, tt);
-  is = ap Some (same_lists (ap (λ r. put_item by_office r (map (office_under ps) fs)) (is ∙ row_is) ∙ ap (put_item by_office (office_under qs new)) (under_alike ps qs fs (all_there fs fs (λ f. key_of qs f.number ≡ key_of ps f.number) before.tree.ascending (λ f here. kept_key f.number here)))
-      ∙ office_put qs new fs before.tree.ascending free) (no_rows_of staff_in (λ rows. rows.staff) refl by_staff (λ x n y m a b. refl) new fs refl) (no_rows_of client_in (λ rows. rows.clients) refl by_client (λ x n y m a b. refl) new fs refl));
+  is = ap Some (same_lists i (ap (λ r. put_item by_office r (map (office_under ps) fs)) (is ∙ row_is) ∙ ap (put_item by_office (office_under qs new)) (under_alike ps qs fs (all_there fs fs (λ f. key_of qs f.number ≡ key_of ps f.number) before.tree.ascending (λ f here. kept_key f.number here)))
+      ∙ office_put qs new fs before.tree.ascending free) (no_rows_of staff_in (λ rows. rows.staff) refl by_staff (λ x n y m a b. refl) new fs refl) (no_rows_of client_in (λ rows. rows.clients) refl by_client (λ x n y m a b. refl) new fs refl) (no_rows_of loan_in (λ rows. rows.loans) refl by_loan (λ x n y m a b. refl) new fs refl));
 }
   where
     fs : List Office

@@ -33,6 +33,9 @@ begins writes day m o s is one schema text number parent key head office staff m
     offices = record { number = number k; parent = parent k; hkey = key k; name = head k } ∷ [];
     staff = record { office = office k; number = staff k; name = manager k; role = role k } ∷ [];
     clients = [];
+    charges = [];
+    products = [];
+    loans = [];
   });
 })
 

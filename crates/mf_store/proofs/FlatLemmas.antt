@@ -1,5 +1,5 @@
 -- The flat lists of the tables against the offices and their rows: one row found, and one row put.
-use Rattle.std.proofs.Common.{◌≡◌, ◌<◌, ◌+◌, ◌-◌, ℕ, zero, suc, Bool, true, false, cond, List, [], ◌∷◌, ◌++◌, find, length, slice_get, Option, None, Some, refl, sym, ap, ◌∙◌, subst, arith, Ordering, Less, Greater, is_eq, nat_cmp, true≢false, ◌==◌, nat_lt}
+use Rattle.std.proofs.Common.{◌≡◌, ◌<◌, ◌+◌, ◌-◌, ℕ, zero, suc, Bool, true, false, cond, List, [], ◌∷◌, ◌++◌, find, length, slice_get, Option, None, Some, refl, sym, ap, ◌∙◌, subst, arith, Ordering, Less, Equal, Greater, is_eq, nat_cmp, true≢false, ◌==◌, nat_lt}
 use Rattle.std.specs.List.{AllByRecursion}
 use Rattle.std.specs.Option.{option_or, is_some, option_map}
 use Rattle.std.specs.Ordering.{ordering_then}
@@ -7,7 +7,7 @@ use Rattle.std.proofs.lemmas.Bool.Decides.{nat_tests}
 use Rattle.std.proofs.lemmas.List.Folds.{find-append}
 use Rattle.sqlite_keyed.specs.Lists.{insert_sorted}
 use Rattle.mf_tables.specs.Keep.{put_item, drop_item}
-use Rattle.mf_model.specs.Institution.{Office, Rows, office_at, with_rows, with_office, no_rows, numbered}
+use Rattle.mf_model.specs.Institution.{Office, Rows, office_at, with_rows, with_office, no_rows, numbered, with_numbered}
 use Rattle.mf_model.specs.Tree.{Above, Ascending, is_there}
 use Rattle.mf_model.specs.Store.{rows_of}
 use Rattle.mf_store.specs.Flat.{numbered_from, all_rows}
@@ -27,6 +27,10 @@ put_first cmp r ys all = ap (insert_sorted cmp r) (drop_none cmp r ys all) ∙ f
     first : (ys : List _) → AllByRecursion (λ y. cmp r y ≡ Less) ys → insert_sorted cmp r ys ≡ r ∷ ys
     first [] all = refl
     first (y ∷ ys) all = rw all.0
+
+-- in place of the row with its key
+pub put_over : {R : Type 0} (cmp : R → R → Ordering) (r y : R) (ys : List R) → cmp r y ≡ Equal → AllByRecursion (λ z. cmp r z ≡ Less) ys → put_item cmp r (y ∷ ys) ≡ r ∷ ys
+put_over cmp r y ys h all = ap (insert_sorted cmp r) (let tied : drop_item cmp r (y ∷ ys) ≡ drop_item cmp r ys = rw h refl in tied) ∙ put_first cmp r ys all
 
 -- ---- offices by number
 
@@ -66,6 +70,51 @@ greater x y n m h = grind (arith, nat_tests)
 
 later : (x n m : ℕ) → m < n → ordering_then (nat_cmp x x) (nat_cmp n m) ≡ Greater
 later x n m h = grind (arith, nat_tests)
+
+-- ---- rows of one list, by number
+
+module _ {A R : Type 0} (make : ℕ → A → R) (p : ℕ → R → Bool) (tests : (k m : ℕ) (a : A) → p k (make m a) ≡ is_eq (nat_cmp k m)) where
+  find_listed_later : (k n : ℕ) (xs : List A) → k < n → find (p k) (numbered_from make n xs) ≡ None
+  find_listed_later k n [] h = refl
+  find_listed_later k n (a ∷ xs) h = rw (tests k n a, (let apart : is_eq (nat_cmp k n) ≡ false = grind (arith, nat_tests) in apart)) (find_listed_later k (n + 1) xs (omega arith))
+
+  find_listed_own : (k n d : ℕ) (xs : List A) → k ≡ n + d → find (p k) (numbered_from make n xs) ≡ option_map (make k) (slice_get xs d)
+  find_listed_own k n d [] e = refl
+  find_listed_own k n zero (a ∷ xs) e = rw (tests k n a, (let here : is_eq (nat_cmp k n) ≡ true = grind (arith, nat_tests) in here)) (ap (λ m. Some (make m a)) (let same : n ≡ k = omega arith in same))
+  find_listed_own k n (suc d) (a ∷ xs) e = rw (tests k n a, (let apart : is_eq (nat_cmp k n) ≡ false = grind (arith, nat_tests) in apart)) (find_listed_own k (n + 1) d xs (omega arith))
+
+  -- a row by its number
+  pub find_listed : (k : ℕ) (xs : List A) → find (p k) (numbered_from make 1 xs) ≡ option_map (make k) (numbered xs k)
+  find_listed zero xs = find_listed_later zero 1 xs (omega arith)
+  find_listed (suc k) xs = find_listed_own (suc k) 1 k xs (omega arith) ∙ ap (option_map (make (suc k))) (sym (numbered-suc xs k))
+
+module _ {A R : Type 0} (make : ℕ → A → R) (cmp : R → R → Ordering) (ranks : (n m : ℕ) (a b : A) → cmp (make n a) (make m b) ≡ nat_cmp n m) where
+  -- one more row, under the next number
+  pub put_listed_last : (a : A) (n m : ℕ) (xs : List A) → n ≡ m + length xs → put_item cmp (make n a) (numbered_from make m xs) ≡ numbered_from make m (xs ++ a ∷ [])
+  put_listed_last a n m [] e = ap (λ k. make k a ∷ []) (let same : n ≡ m = omega arith in same)
+  put_listed_last a n m (b ∷ xs) e =
+      put_past cmp (make n a) (make m b) (numbered_from make (m + 1) xs) (ranks n m a b ∙ (let past : nat_cmp n m ≡ Greater = grind (arith, nat_tests) in past)) ∙ ap (λ l. make m b ∷ l) (put_listed_last a n (m + 1) xs (omega arith))
+
+  listed_after : (n m : ℕ) (a : A) (xs : List A) → n < m → AllByRecursion (λ y. cmp (make n a) y ≡ Less) (numbered_from make m xs)
+  listed_after n m a [] h = tt
+  listed_after n m a (b ∷ xs) h = (ranks n m a b ∙ (let low : nat_cmp n m ≡ Less = grind (arith, nat_tests) in low), listed_after n (m + 1) a xs (omega arith))
+
+  put_listed_over : (change : A → A) (a : A) (n m d : ℕ) (xs : List A) → n ≡ m + d → slice_get xs d ≡ Some a → put_item cmp (make n (change a)) (numbered_from make m xs) ≡ numbered_from make m (with_numbered (suc d) change xs)
+  put_listed_over change a n m d [] e at = absurd (let k : None ≡ Some a = at in cc)
+  put_listed_over change a n m zero (b ∷ xs) e at =
+      let k : Some b ≡ Some a = at in
+      let is : b ≡ a = cc in
+      let same : n ≡ m = omega arith in
+      put_over cmp (make n (change a)) (make m b) (numbered_from make (m + 1) xs) (ranks n m (change a) b ∙ (let tied : nat_cmp n m ≡ Equal = grind (arith, nat_tests) in tied)) (listed_after n (m + 1) (change a) xs (omega arith))
+      ∙ (λ t. make (same t) (change (sym is t)) ∷ numbered_from make (m + 1) xs)
+  put_listed_over change a n m (suc d) (b ∷ xs) e at =
+      put_past cmp (make n (change a)) (make m b) (numbered_from make (m + 1) xs) (ranks n m (change a) b ∙ (let past : nat_cmp n m ≡ Greater = grind (arith, nat_tests) in past))
+      ∙ ap (λ l. make m b ∷ l) (put_listed_over change a n (m + 1) d xs (omega arith) at)
+
+  -- the row of this number, changed
+  pub put_listed : (change : A → A) (a : A) (n : ℕ) (xs : List A) → numbered xs n ≡ Some a → put_item cmp (make n (change a)) (numbered_from make 1 xs) ≡ numbered_from make 1 (with_numbered n change xs)
+  put_listed change a zero xs at = absurd (let k : None ≡ Some a = at in cc)
+  put_listed change a (suc d) xs at = put_listed_over change a (suc d) 1 d xs (omega arith) (sym (numbered-suc xs d) ∙ at)
 
 module _ {A R : Type 0} (make : ℕ → ℕ → A → R) (of : Rows → List A) (none : of no_rows ≡ []) where
   module _ (p : ℕ → ℕ → R → Bool) (tests : (x k y m : ℕ) (a : A) → p x k (make y m a) ≡ is_eq (ordering_then (nat_cmp x y) (nat_cmp k m))) where
@@ -120,6 +169,16 @@ module _ {A R : Type 0} (make : ℕ → ℕ → A → R) (of : Rows → List A) 
     last_in_office x a m [] ys n e after = put_first cmp (make x n a) ys after ∙ ap (λ k. make x k a ∷ ys) (let same : n ≡ m = omega arith in same)
     last_in_office x a m (b ∷ xs) ys n e after = put_past cmp (make x n a) (make x m b) (numbered_from (make x) (m + 1) xs ++ ys) (ranks x n x m a b ∙ later x n m (omega arith)) ∙ ap (λ l. make x m b ∷ l) (last_in_office x a (m + 1) xs ys n (omega arith) after)
 
+    tied_here : (x n m : ℕ) → n ≡ m → ordering_then (nat_cmp x x) (nat_cmp n m) ≡ Equal
+    tied_here x n m h = grind (arith, nat_tests)
+
+    sooner : (x n m : ℕ) → n < m → ordering_then (nat_cmp x x) (nat_cmp n m) ≡ Less
+    sooner x n m h = grind (arith, nat_tests)
+
+    own_after : (x n : ℕ) (a : A) (ys : List R) → AllByRecursion (λ y. cmp (make x n a) y ≡ Less) ys → (m : ℕ) (xs : List A) → n < m → AllByRecursion (λ y. cmp (make x n a) y ≡ Less) (numbered_from (make x) m xs ++ ys)
+    own_after x n a ys after m [] h = after
+    own_after x n a ys after m (b ∷ xs) h = (ranks x n x m a b ∙ sooner x n m h, own_after x n a ys after (m + 1) xs (omega arith))
+
     all_after : (x n : ℕ) (a : A) (fs : List Office) → Above x fs → AllByRecursion (λ y. cmp (make x n a) y ≡ Less) (all_rows make of fs)
     all_after x n a [] h = tt
     all_after x n a (f ∷ fs) h = both (all_after x n a fs h.1) 1 (of f.rows)
@@ -146,6 +205,43 @@ module _ {A R : Type 0} (make : ℕ → ℕ → A → R) (of : Rows → List A) 
         go false e there is more =
             let low : f.number < x = below x fs up.0 there in
             past_office x _ a f.number 1 (of f.rows) (all_rows make of fs) low ∙ ap (λ l. numbered_from (make f.number) 1 (of f.rows) ++ l) (more there is)
+
+    over_in_office : (change : A → A) (a : A) (x n m d : ℕ) (xs : List A) (ys : List R) → n ≡ m + d → slice_get xs d ≡ Some a → AllByRecursion (λ y. cmp (make x n (change a)) y ≡ Less) ys
+        → put_item cmp (make x n (change a)) (numbered_from (make x) m xs ++ ys) ≡ numbered_from (make x) m (with_numbered (suc d) change xs) ++ ys
+    over_in_office change a x n m d [] ys e at after = absurd (let k : None ≡ Some a = at in cc)
+    over_in_office change a x n m zero (b ∷ xs) ys e at after =
+        let k : Some b ≡ Some a = at in
+        let is : b ≡ a = cc in
+        let same : n ≡ m = omega arith in
+        put_over cmp (make x n (change a)) (make x m b) (numbered_from (make x) (m + 1) xs ++ ys) (ranks x n x m (change a) b ∙ tied_here x n m same) (own_after x n (change a) ys after (m + 1) xs (omega arith))
+        ∙ (λ t. make x (same t) (change (sym is t)) ∷ numbered_from (make x) (m + 1) xs ++ ys)
+    over_in_office change a x n m (suc d) (b ∷ xs) ys e at after =
+        put_past cmp (make x n (change a)) (make x m b) (numbered_from (make x) (m + 1) xs ++ ys) (ranks x n x m (change a) b ∙ later x n m (omega arith))
+        ∙ ap (λ l. make x m b ∷ l) (over_in_office change a x n (m + 1) d xs ys (omega arith) at after)
+
+    -- the row of this number of an office, changed
+    pub put_over_of : (change : A → A) (a : A) (x n : ℕ) (new : Rows) (fs : List Office) → Ascending fs → numbered (of (rows_of (office_at x fs))) n ≡ Some a → of new ≡ with_numbered n change (of (rows_of (office_at x fs)))
+        → put_item cmp (make x n (change a)) (all_rows make of fs) ≡ all_rows make of (with_rows x new fs)
+    put_over_of change a x zero new fs up at is = absurd (let k : None ≡ Some a = at in cc)
+    put_over_of change a x (suc n) new [] up at is = absurd (let k : None ≡ Some a = sym (ap (λ l. numbered l (suc n)) none ∙ numbered-suc [] n) ∙ at in cc)
+    put_over_of change a x (suc n) new (f ∷ fs) up at is = go (f.number == x) refl at is (put_over_of change a x (suc n) new fs up.1)
+      where
+        go : (b : Bool) → (f.number == x) ≡ b → numbered (of (rows_of (cond b (Some f) (office_at x fs)))) (suc n) ≡ Some a → of new ≡ with_numbered (suc n) change (of (rows_of (cond b (Some f) (office_at x fs))))
+            → (numbered (of (rows_of (office_at x fs))) (suc n) ≡ Some a → of new ≡ with_numbered (suc n) change (of (rows_of (office_at x fs))) → put_item cmp (make x (suc n) (change a)) (all_rows make of fs) ≡ all_rows make of (with_rows x new fs))
+            → put_item cmp (make x (suc n) (change a)) (all_rows make of (f ∷ fs)) ≡ numbered_from (make f.number) 1 (of (cond b new f.rows)) ++ all_rows make of (with_rows x new fs)
+        go true e at is more =
+            let same : f.number ≡ x = grind (arith, nat_tests) in
+            let above : Above x fs = subst (λ n. Above n fs) same up.0 in
+            subst (λ y. put_item cmp (make x (suc n) (change a)) (numbered_from (make y) 1 (of f.rows) ++ all_rows make of fs) ≡ numbered_from (make y) 1 (of new) ++ all_rows make of (with_rows x new fs)) (sym same)
+            (over_in_office change a x (suc n) 1 n (of f.rows) (all_rows make of fs) (omega arith) (sym (numbered-suc (of f.rows) n) ∙ at) (all_after x (suc n) (change a) fs above) ∙ ap (λ xs. numbered_from (make x) 1 xs ++ all_rows make of fs) (sym is)
+            ∙ ap (λ gs. numbered_from (make x) 1 (of new) ++ all_rows make of gs) (sym (with_rows-above x new fs above)))
+        go false e at is more =
+            let low : f.number < x = below x fs up.0 (seen (office_at x fs) at) in
+            past_office x _ (change a) f.number 1 (of f.rows) (all_rows make of fs) low ∙ ap (λ l. numbered_from (make f.number) 1 (of f.rows) ++ l) (more at is)
+          where
+            seen : (o : Option Office) → numbered (of (rows_of o)) (suc n) ≡ Some a → is_some o ≡ true
+            seen None h = absurd (let k : None ≡ Some a = sym (ap (λ l. numbered l (suc n)) none ∙ numbered-suc [] n) ∙ h in cc)
+            seen (Some g) h = refl
 
     -- where the rows of this kind are as they were
     pub same_rows_of : (x : ℕ) (new : Rows) (fs : List Office) → Ascending fs → of new ≡ of (rows_of (office_at x fs)) → all_rows make of fs ≡ all_rows make of (with_rows x new fs)

@@ -9,3 +9,5 @@ pub mod CommitLemmas
 pub mod FirstLemmas
 pub mod VisibleLemmas
 pub mod OfficeRowsLemmas
+pub mod CatalogueLemmas
+pub mod LoanLemmas

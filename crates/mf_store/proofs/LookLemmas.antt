@@ -6,20 +6,20 @@ use Rattle.std.proofs.lemmas.Bool.Decides.{nat_tests}
 use Rattle.sqlite.specs.declared.types.Value.TheVariants.{Int}
 use Rattle.sqlite.specs.Order.{Row}
 use Rattle.sqlite_keyed.proofs.ListLemmas.{slice_get-filter}
-use Rattle.mf_model.specs.Institution.{Institution, Office, office_at, numbered}
-use Rattle.mf_model.specs.Sound.{IsSound, IsSoundOffice}
+use Rattle.mf_model.specs.Institution.{Institution, Catalogue, Office, office_at, numbered}
+use Rattle.mf_model.specs.Sound.{IsSound, IsSoundOffice, IsSoundRows}
 use Rattle.mf_model.specs.Store.{rows_of}
 use Rattle.mf_model.specs.Tree.{parent_of}
-use Rattle.mf_store.specs.Rows.{MetaRow, OfficeRow, StaffRow, ClientRow, meta_row, office_row, staff_row, client_row}
-use Rattle.mf_store.specs.Looks.{is_meta, is_office, is_staff, is_client}
-use Rattle.mf_store.specs.Flat.{meta_on, office_under, staff_in, client_in, tables_of, office_row_at, staff_row_at, client_row_at}
+use Rattle.mf_store.specs.Rows.{MetaRow, OfficeRow, StaffRow, ClientRow, ChargeRow, ProductRow, LoanRow, meta_row, office_row, staff_row, client_row, charge_row, product_row, loan_row}
+use Rattle.mf_store.specs.Looks.{is_meta, is_office, is_staff, is_client, is_charge, is_product, is_loan}
+use Rattle.mf_store.specs.Flat.{meta_on, office_under, staff_in, client_in, charge_as, product_as, loan_in, tables_of, office_row_at, staff_row_at, client_row_at, charge_row_at, product_row_at, loan_row_at}
 use Rattle.mf_store.specs.Stands.{Shows}
 use Rattle.mf_store.specs.Counts.{count_of}
 use Rattle.mf_store.specs.declared.counts.Kind.{Kind}
-use Rattle.mf_store.specs.declared.counts.Kind.TheVariants.{Staff, Clients}
-use Rattle.mf_store.proofs.Texts.{find_meta, find_office, find_staff, find_client}
-use Rattle.mf_store.proofs.ReadLemmas.{find_meta_shows, find_office_shows, find_staff_shows, find_client_shows}
-use Rattle.mf_store.proofs.FlatLemmas.{find_row}
+use Rattle.mf_store.specs.declared.counts.Kind.TheVariants.{Staff, Clients, Loans, Charges, Products}
+use Rattle.mf_store.proofs.Texts.{find_meta, find_office, find_staff, find_client, find_charge, find_product, find_loan}
+use Rattle.mf_store.proofs.ReadLemmas.{find_meta_shows, find_office_shows, find_staff_shows, find_client_shows, find_charge_shows, find_product_shows, find_loan_shows}
+use Rattle.mf_store.proofs.FlatLemmas.{find_row, find_listed}
 
 -- the first row that a look-up shows
 shown_first : {R V : Type 0} (row : R → Row) (p : R → Bool) (of : V → R) (items : List R) (rows : List Row) (found : Option V) → rows ≡ map row (filter p items) → ((rs : List R) → rows ≡ map row rs → option_map of found ≡ slice_get rs 0) → option_map of found ≡ find p items
@@ -56,6 +56,24 @@ client_found of x number i rows found sound s reads =
     shown_first client_row (is_client x number) of (tables_of i).clients rows found (find_client_shows x number s.db rows (tables_of i).clients s.serves.schema_is s.serves.holds.clients s.answers) reads
     ∙ find_row client_in (λ rows. rows.clients) refl is_client (λ x k y m a. refl) x number i.offices sound.tree.ascending
 
+pub loan_found : {V : Type 0} (of : V → LoanRow) (x number : ℕ) (i : Institution) (rows : List Row) (found : Option V) → IsSound i → Shows i find_loan (Int (pos x) ∷ Int (pos number) ∷ []) rows
+    → ((rs : List LoanRow) → rows ≡ map loan_row rs → option_map of found ≡ slice_get rs 0) → option_map of found ≡ loan_row_at x number i
+loan_found of x number i rows found sound s reads =
+    shown_first loan_row (is_loan x number) of (tables_of i).loans rows found (find_loan_shows x number s.db rows (tables_of i).loans s.serves.schema_is s.serves.holds.loans s.answers) reads
+    ∙ find_row loan_in (λ rows. rows.loans) refl is_loan (λ x k y m a. refl) x number i.offices sound.tree.ascending
+
+pub charge_found : {V : Type 0} (of : V → ChargeRow) (number : ℕ) (i : Institution) (rows : List Row) (found : Option V) → Shows i find_charge (Int (pos number) ∷ []) rows → ((rs : List ChargeRow) → rows ≡ map charge_row rs → option_map of found ≡ slice_get rs 0)
+    → option_map of found ≡ charge_row_at number i
+charge_found of number i rows found s reads =
+    shown_first charge_row (is_charge number) of (tables_of i).charges rows found (find_charge_shows number s.db rows (tables_of i).charges s.serves.schema_is s.serves.holds.charges s.answers) reads
+    ∙ find_listed charge_as is_charge (λ k m a. refl) number i.catalogue.charges
+
+pub product_found : {V : Type 0} (of : V → ProductRow) (number : ℕ) (i : Institution) (rows : List Row) (found : Option V) → Shows i find_product (Int (pos number) ∷ []) rows → ((rs : List ProductRow) → rows ≡ map product_row rs → option_map of found ≡ slice_get rs 0)
+    → option_map of found ≡ product_row_at number i
+product_found of number i rows found s reads =
+    shown_first product_row (is_product number) of (tables_of i).products rows found (find_product_shows number s.db rows (tables_of i).products s.serves.schema_is s.serves.holds.products s.answers) reads
+    ∙ find_listed product_as is_product (λ k m a. refl) number i.catalogue.products
+
 -- ---- numbers without gaps
 
 placed : {A : Type 0} (xs : List A) (d : ℕ) → (IsTrue (is_some (slice_get xs d)) → d < length xs) × (d < length xs → IsTrue (is_some (slice_get xs d)))
@@ -76,17 +94,19 @@ mapped_some f g None (Some b) e = absurd (let e' = e in cc)
 mapped_some f g (Some a) None e = absurd (let e' = e in cc)
 mapped_some f g (Some a) (Some b) e = refl
 
--- ---- no office has more than the limits allow
+-- ---- there are no more than the limits allow
 
-office_sound : (x : ℕ) (fs : List Office) → AllByRecursion IsSoundOffice fs → (length (rows_of (office_at x fs)).staff ≤ 9999) × (length (rows_of (office_at x fs)).clients ≤ 999999)
-office_sound x [] all = (omega arith, omega arith)
-office_sound x (f ∷ fs) all = go (f.number == x) (office_sound x fs all.1)
+pub office_sound : (k : Catalogue) (x : ℕ) (fs : List Office) → AllByRecursion (IsSoundOffice k) fs → IsSoundRows k (rows_of (office_at x fs))
+office_sound k x [] all = record { staff_limit = omega arith; staff_names = tt; client_limit = omega arith; client_names = tt; loan_limit = omega arith; loans = tt }
+office_sound k x (f ∷ fs) all = go (f.number == x) (office_sound k x fs all.1)
   where
-    go : (b : Bool) → (length (rows_of (office_at x fs)).staff ≤ 9999) × (length (rows_of (office_at x fs)).clients ≤ 999999)
-        → (length (rows_of (cond b (Some f) (office_at x fs))).staff ≤ 9999) × (length (rows_of (cond b (Some f) (office_at x fs))).clients ≤ 999999)
-    go true more = (all.0.rows.staff_limit, all.0.rows.client_limit)
+    go : (b : Bool) → IsSoundRows k (rows_of (office_at x fs)) → IsSoundRows k (rows_of (cond b (Some f) (office_at x fs)))
+    go true more = all.0.rows
     go false more = more
 
-pub count_limit : (kind : Kind) (x : ℕ) (i : Institution) → IsSound i → count_of kind x i ≤ 999999
-count_limit Staff x i sound = let most = (office_sound x i.offices sound.each).0 in omega arith
-count_limit Clients x i sound = (office_sound x i.offices sound.each).1
+pub count_limit : (kind : Kind) (i : Institution) → IsSound i → count_of kind i ≤ 999999
+count_limit (Staff x) i sound = let most = (office_sound i.catalogue x i.offices sound.each).staff_limit in omega arith
+count_limit (Clients x) i sound = (office_sound i.catalogue x i.offices sound.each).client_limit
+count_limit (Loans x) i sound = (office_sound i.catalogue x i.offices sound.each).loan_limit
+count_limit Charges i sound = let most = sound.catalogue.charge_limit in omega arith
+count_limit Products i sound = let most = sound.catalogue.product_limit in omega arith

@@ -11,14 +11,14 @@ use Rattle.mf_model.specs.Institution.{Institution, Office, Rows, Staff, office_
 use Rattle.mf_model.specs.Sound.{IsSound}
 use Rattle.mf_model.specs.Store.{rows_of, rows_at}
 use Rattle.mf_model.specs.Tree.{Above, Ascending}
-use Rattle.mf_store.specs.Rows.{StaffRow, ClientRow, staff_row, client_row}
-use Rattle.mf_store.specs.Looks.{is_staff_of, is_client_of}
-use Rattle.mf_store.specs.Flat.{numbered_from, all_rows, staff_in, client_in, role_number, tables_of}
+use Rattle.mf_store.specs.Rows.{StaffRow, ClientRow, staff_row, client_row, loan_row}
+use Rattle.mf_store.specs.Looks.{is_staff_of, is_client_of, is_loan_of}
+use Rattle.mf_store.specs.Flat.{numbered_from, all_rows, staff_in, client_in, loan_in, role_number, tables_of}
 use Rattle.mf_store.specs.Stands.{Shows}
 use Rattle.mf_store.specs.Writes.{staff_of}
 use Rattle.mf_store.specs.declared.records.StaffRecord.{StaffRecord}
-use Rattle.mf_store.proofs.Texts.{staff_of_office, clients_of_office}
-use Rattle.mf_store.proofs.ReadLemmas.{staff_of_office_shows, clients_of_office_shows}
+use Rattle.mf_store.proofs.Texts.{staff_of_office, clients_of_office, loans_of_office}
+use Rattle.mf_store.proofs.ReadLemmas.{staff_of_office_shows, clients_of_office_shows, loans_of_office_shows}
 
 -- ---- one office's rows among all
 
@@ -54,7 +54,7 @@ module _ {A R : Type 0} (make : ℕ → ℕ → A → R) (of : Rows → List A) 
           ∙ append_none (numbered_from (make x) 1 (of f.rows))
       go false e more = filter-append (p x) (numbered_from (make f.number) 1 (of f.rows)) (all_rows make of fs) ∙ ap₂ ◌++◌ (other_left x f.number 1 (of f.rows) e) more
 
-map_numbered : {A R : Type 0} (row : R → Row) (make : ℕ → A → R) (n : ℕ) (xs : List A) → map row (numbered_from make n xs) ≡ numbered_from (λ m a. row (make m a)) n xs
+pub map_numbered : {A R : Type 0} (row : R → Row) (make : ℕ → A → R) (n : ℕ) (xs : List A) → map row (numbered_from make n xs) ≡ numbered_from (λ m a. row (make m a)) n xs
 map_numbered row make n [] = refl
 map_numbered row make n (a ∷ xs) = ap (λ l. row (make n a) ∷ l) (map_numbered row make (n + 1) xs)
 
@@ -67,6 +67,11 @@ pub clients_shown : (x : ℕ) (i : Institution) (rows : List Row) → IsSound i 
 clients_shown x i rows sound s =
     clients_of_office_shows x s.db rows (tables_of i).clients s.serves.schema_is s.serves.holds.clients s.answers
     ∙ ap (map client_row) (rows_in_office client_in (λ rows. rows.clients) refl is_client_of (λ x y m a. refl) x i.offices sound.tree.ascending) ∙ map_numbered client_row (client_in x) 1 (rows_at x i).clients
+
+pub loans_shown : (x : ℕ) (i : Institution) (rows : List Row) → IsSound i → Shows i loans_of_office (Int (pos x) ∷ []) rows → rows ≡ numbered_from (λ m l. loan_row (loan_in x m l)) 1 (rows_at x i).loans
+loans_shown x i rows sound s =
+    loans_of_office_shows x s.db rows (tables_of i).loans s.serves.schema_is s.serves.holds.loans s.answers
+    ∙ ap (map loan_row) (rows_in_office loan_in (λ rows. rows.loans) refl is_loan_of (λ x y m a. refl) x i.offices sound.tree.ascending) ∙ map_numbered loan_row (loan_in x) 1 (rows_at x i).loans
 
 -- ---- rows that are read in turn
 

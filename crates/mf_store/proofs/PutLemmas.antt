@@ -9,10 +9,10 @@ use Rattle.mf_tables.specs.Writes.{Ran, Serves}
 use Rattle.mf_tables.proofs.KeepLemmas.{keeps_none}
 use Rattle.mf_tables.proofs.MakeLemmas.{makes_one}
 use Rattle.mf_store.specs.Tables.{schema}
-use Rattle.mf_store.specs.Rows.{MetaRow, OfficeRow, StaffRow, ClientRow, Lists, no_rows, meta_row, office_row, staff_row, client_row, by_meta, by_office, by_staff, by_client, put_meta, put_office, put_staff, put_client}
+use Rattle.mf_store.specs.Rows.{MetaRow, OfficeRow, StaffRow, ClientRow, ChargeRow, ProductRow, LoanRow, Lists, no_rows, meta_row, office_row, staff_row, client_row, charge_row, product_row, loan_row, by_meta, by_office, by_staff, by_client, by_charge, by_product, by_loan, put_meta, put_office, put_staff, put_client, put_charge, put_product, put_loan}
 use Rattle.mf_store.specs.Writes.{changed, schema_of, Holds, Making, Putting}
-use Rattle.mf_store.proofs.Texts.{create_meta, create_offices, create_staff, create_clients, defines_meta, defines_offices, defines_staff, defines_clients, made_is, upsert_meta, upsert_office, upsert_staff, upsert_client}
-use Rattle.mf_store.proofs.TableLemmas.{by_meta_total, by_office_total, by_staff_total, by_client_total, puts_meta, puts_office, puts_staff, puts_client}
+use Rattle.mf_store.proofs.Texts.{create_meta, create_offices, create_staff, create_clients, create_charges, create_products, create_loans, defines_meta, defines_offices, defines_staff, defines_clients, defines_charges, defines_products, defines_loans, made_is, upsert_meta, upsert_office, upsert_staff, upsert_client, upsert_charge, upsert_product, upsert_loan}
+use Rattle.mf_store.proofs.TableLemmas.{by_meta_total, by_office_total, by_staff_total, by_client_total, by_charge_total, by_product_total, by_loan_total, puts_meta, puts_office, puts_staff, puts_client, puts_charge, puts_product, puts_loan}
 
 abbrev pub StandsAs : Database → Option Lists → Type 0
 StandsAs = Serves schema_of Holds
@@ -35,6 +35,9 @@ putting_meta x old new ran = record { mode = ran.mode; was_open = ran.was_open; 
             offices = subst (λ t. Keeps office_row by_office t m.offices) (sym (spared.1.0 (λ e. absurd (omega arith)))) s.holds.offices;
             staff = subst (λ t. Keeps staff_row by_staff t m.staff) (sym (spared.1.1.0 (λ e. absurd (omega arith)))) s.holds.staff;
             clients = subst (λ t. Keeps client_row by_client t m.clients) (sym (spared.1.1.1.0 (λ e. absurd (omega arith)))) s.holds.clients;
+            charges = subst (λ t. Keeps charge_row by_charge t m.charges) (sym (spared.1.1.1.1.0 (λ e. absurd (omega arith)))) s.holds.charges;
+            products = subst (λ t. Keeps product_row by_product t m.products) (sym (spared.1.1.1.1.1.0 (λ e. absurd (omega arith)))) s.holds.products;
+            loans = subst (λ t. Keeps loan_row by_loan t m.loans) (sym (spared.1.1.1.1.1.1.0 (λ e. absurd (omega arith)))) s.holds.loans;
           };
         }
 
@@ -53,6 +56,9 @@ putting_office x old new ran = record { mode = ran.mode; was_open = ran.was_open
             offices = did.1;
             staff = subst (λ t. Keeps staff_row by_staff t m.staff) (sym (spared.1.1.0 (λ e. absurd (omega arith)))) s.holds.staff;
             clients = subst (λ t. Keeps client_row by_client t m.clients) (sym (spared.1.1.1.0 (λ e. absurd (omega arith)))) s.holds.clients;
+            charges = subst (λ t. Keeps charge_row by_charge t m.charges) (sym (spared.1.1.1.1.0 (λ e. absurd (omega arith)))) s.holds.charges;
+            products = subst (λ t. Keeps product_row by_product t m.products) (sym (spared.1.1.1.1.1.0 (λ e. absurd (omega arith)))) s.holds.products;
+            loans = subst (λ t. Keeps loan_row by_loan t m.loans) (sym (spared.1.1.1.1.1.1.0 (λ e. absurd (omega arith)))) s.holds.loans;
           };
         }
 
@@ -71,6 +77,9 @@ putting_staff x old new ran = record { mode = ran.mode; was_open = ran.was_open;
             offices = subst (λ t. Keeps office_row by_office t m.offices) (sym (spared.1.0 (λ e. absurd (omega arith)))) s.holds.offices;
             staff = did.1;
             clients = subst (λ t. Keeps client_row by_client t m.clients) (sym (spared.1.1.1.0 (λ e. absurd (omega arith)))) s.holds.clients;
+            charges = subst (λ t. Keeps charge_row by_charge t m.charges) (sym (spared.1.1.1.1.0 (λ e. absurd (omega arith)))) s.holds.charges;
+            products = subst (λ t. Keeps product_row by_product t m.products) (sym (spared.1.1.1.1.1.0 (λ e. absurd (omega arith)))) s.holds.products;
+            loans = subst (λ t. Keeps loan_row by_loan t m.loans) (sym (spared.1.1.1.1.1.1.0 (λ e. absurd (omega arith)))) s.holds.loans;
           };
         }
 
@@ -89,6 +98,72 @@ putting_client x old new ran = record { mode = ran.mode; was_open = ran.was_open
             offices = subst (λ t. Keeps office_row by_office t m.offices) (sym (spared.1.0 (λ e. absurd (omega arith)))) s.holds.offices;
             staff = subst (λ t. Keeps staff_row by_staff t m.staff) (sym (spared.1.1.0 (λ e. absurd (omega arith)))) s.holds.staff;
             clients = did.1;
+            charges = subst (λ t. Keeps charge_row by_charge t m.charges) (sym (spared.1.1.1.1.0 (λ e. absurd (omega arith)))) s.holds.charges;
+            products = subst (λ t. Keeps product_row by_product t m.products) (sym (spared.1.1.1.1.1.0 (λ e. absurd (omega arith)))) s.holds.products;
+            loans = subst (λ t. Keeps loan_row by_loan t m.loans) (sym (spared.1.1.1.1.1.1.0 (λ e. absurd (omega arith)))) s.holds.loans;
+          };
+        }
+
+pub putting_charge : (x : ChargeRow) (old new : State) → Ran upsert_charge (charge_row x) old new → Putting (put_charge x) old new
+putting_charge x old new ran = record { mode = ran.mode; was_open = ran.was_open; turns = turns }
+  where
+    turns : (lists : Option Lists) → StandsAs old.now lists → IsSome lists → StandsAs new.now (changed (put_charge x) lists)
+    turns None s there = nothing_there there
+    turns (Some m) s there =
+        let did = puts_charge x old new ran.count m.charges s.schema_is s.holds.charges ran.ran in
+        let spared = did.2 in record {
+          schema_is = did.0;
+          holds = record {
+            sound = did.3;
+            meta = subst (λ t. Keeps meta_row by_meta t m.meta) (sym (spared.0 (λ e. absurd (omega arith)))) s.holds.meta;
+            offices = subst (λ t. Keeps office_row by_office t m.offices) (sym (spared.1.0 (λ e. absurd (omega arith)))) s.holds.offices;
+            staff = subst (λ t. Keeps staff_row by_staff t m.staff) (sym (spared.1.1.0 (λ e. absurd (omega arith)))) s.holds.staff;
+            clients = subst (λ t. Keeps client_row by_client t m.clients) (sym (spared.1.1.1.0 (λ e. absurd (omega arith)))) s.holds.clients;
+            charges = did.1;
+            products = subst (λ t. Keeps product_row by_product t m.products) (sym (spared.1.1.1.1.1.0 (λ e. absurd (omega arith)))) s.holds.products;
+            loans = subst (λ t. Keeps loan_row by_loan t m.loans) (sym (spared.1.1.1.1.1.1.0 (λ e. absurd (omega arith)))) s.holds.loans;
+          };
+        }
+
+pub putting_product : (x : ProductRow) (old new : State) → Ran upsert_product (product_row x) old new → Putting (put_product x) old new
+putting_product x old new ran = record { mode = ran.mode; was_open = ran.was_open; turns = turns }
+  where
+    turns : (lists : Option Lists) → StandsAs old.now lists → IsSome lists → StandsAs new.now (changed (put_product x) lists)
+    turns None s there = nothing_there there
+    turns (Some m) s there =
+        let did = puts_product x old new ran.count m.products s.schema_is s.holds.products ran.ran in
+        let spared = did.2 in record {
+          schema_is = did.0;
+          holds = record {
+            sound = did.3;
+            meta = subst (λ t. Keeps meta_row by_meta t m.meta) (sym (spared.0 (λ e. absurd (omega arith)))) s.holds.meta;
+            offices = subst (λ t. Keeps office_row by_office t m.offices) (sym (spared.1.0 (λ e. absurd (omega arith)))) s.holds.offices;
+            staff = subst (λ t. Keeps staff_row by_staff t m.staff) (sym (spared.1.1.0 (λ e. absurd (omega arith)))) s.holds.staff;
+            clients = subst (λ t. Keeps client_row by_client t m.clients) (sym (spared.1.1.1.0 (λ e. absurd (omega arith)))) s.holds.clients;
+            charges = subst (λ t. Keeps charge_row by_charge t m.charges) (sym (spared.1.1.1.1.0 (λ e. absurd (omega arith)))) s.holds.charges;
+            products = did.1;
+            loans = subst (λ t. Keeps loan_row by_loan t m.loans) (sym (spared.1.1.1.1.1.1.0 (λ e. absurd (omega arith)))) s.holds.loans;
+          };
+        }
+
+pub putting_loan : (x : LoanRow) (old new : State) → Ran upsert_loan (loan_row x) old new → Putting (put_loan x) old new
+putting_loan x old new ran = record { mode = ran.mode; was_open = ran.was_open; turns = turns }
+  where
+    turns : (lists : Option Lists) → StandsAs old.now lists → IsSome lists → StandsAs new.now (changed (put_loan x) lists)
+    turns None s there = nothing_there there
+    turns (Some m) s there =
+        let did = puts_loan x old new ran.count m.loans s.schema_is s.holds.loans ran.ran in
+        let spared = did.2 in record {
+          schema_is = did.0;
+          holds = record {
+            sound = did.3;
+            meta = subst (λ t. Keeps meta_row by_meta t m.meta) (sym (spared.0 (λ e. absurd (omega arith)))) s.holds.meta;
+            offices = subst (λ t. Keeps office_row by_office t m.offices) (sym (spared.1.0 (λ e. absurd (omega arith)))) s.holds.offices;
+            staff = subst (λ t. Keeps staff_row by_staff t m.staff) (sym (spared.1.1.0 (λ e. absurd (omega arith)))) s.holds.staff;
+            clients = subst (λ t. Keeps client_row by_client t m.clients) (sym (spared.1.1.1.0 (λ e. absurd (omega arith)))) s.holds.clients;
+            charges = subst (λ t. Keeps charge_row by_charge t m.charges) (sym (spared.1.1.1.1.0 (λ e. absurd (omega arith)))) s.holds.charges;
+            products = subst (λ t. Keeps product_row by_product t m.products) (sym (spared.1.1.1.1.1.0 (λ e. absurd (omega arith)))) s.holds.products;
+            loans = did.1;
           };
         }
 
@@ -106,17 +181,23 @@ stands_empty db e = record {
     offices = subst (λ t. Keeps office_row by_office t []) (sym e.empty.1.0) (keeps_none by_office by_office_total office_row);
     staff = subst (λ t. Keeps staff_row by_staff t []) (sym e.empty.1.1.0) (keeps_none by_staff by_staff_total staff_row);
     clients = subst (λ t. Keeps client_row by_client t []) (sym e.empty.1.1.1.0) (keeps_none by_client by_client_total client_row);
+    charges = subst (λ t. Keeps charge_row by_charge t []) (sym e.empty.1.1.1.1.0) (keeps_none by_charge by_charge_total charge_row);
+    products = subst (λ t. Keeps product_row by_product t []) (sym e.empty.1.1.1.1.1.0) (keeps_none by_product by_product_total product_row);
+    loans = subst (λ t. Keeps loan_row by_loan t []) (sym e.empty.1.1.1.1.1.1.0) (keeps_none by_loan by_loan_total loan_row);
   };
 }
 
-pub making : (a b c d e : State) → Ran create_meta [] a b → Ran create_offices [] b c → Ran create_staff [] c d → Ran create_clients [] d e → Making a e
-making a b c d e one two three four = record { mode = four.mode; was_open = one.was_open; turns = turns }
+pub making : (a b c d e f g h : State) → Ran create_meta [] a b → Ran create_offices [] b c → Ran create_staff [] c d → Ran create_clients [] d e → Ran create_charges [] e f → Ran create_products [] f g → Ran create_loans [] g h → Making a h
+making a b c d e f g h one two three four five six seven = record { mode = seven.mode; was_open = one.was_open; turns = turns }
   where
-    turns : (lists : Option Lists) → StandsAs a.now lists → lists ≡ None → StandsAs e.now (Some no_rows)
+    turns : (lists : Option Lists) → StandsAs a.now lists → lists ≡ None → StandsAs h.now (Some no_rows)
     turns lists s none =
         let first = empty_at_first a.now (subst (StandsAs a.now) none s) in
         let has_meta = makes_one _ _ create_meta a b one.count defines_meta first one.ran in
         let has_offices = makes_one _ _ create_offices b c two.count defines_offices has_meta two.ran in
         let has_staff = makes_one _ _ create_staff c d three.count defines_staff has_offices three.ran in
         let has_clients = makes_one _ _ create_clients d e four.count defines_clients has_staff four.ran in
-        stands_empty e.now (subst (λ s. IsEmpty s e.now) made_is has_clients)
+        let has_charges = makes_one _ _ create_charges e f five.count defines_charges has_clients five.ran in
+        let has_products = makes_one _ _ create_products f g six.count defines_products has_charges six.ran in
+        let has_loans = makes_one _ _ create_loans g h seven.count defines_loans has_products seven.ran in
+        stands_empty h.now (subst (λ s. IsEmpty s h.now) made_is has_loans)

@@ -1,13 +1,28 @@
 -- The rows of an institution: one list a table, each in the order of its key.
-use Rattle.std.specs.Prelude.{ℕ, Bool, false, ◌+◌, List, [], ◌∷◌, ◌++◌, map, option_map, Option, Some, None, nat_le}
+use Rattle.std.specs.Prelude.{ℕ, pos, Bool, true, false, ◌+◌, List, [], ◌∷◌, ◌++◌, map, option_map, Option, Some, None, nat_le}
 use Rattle.mf_base.specs.DayText.{day_text}
+use Rattle.mf_base.specs.declared.day.Freq.{Freq}
+use Rattle.mf_base.specs.declared.day.Freq.TheVariants.{Weeks, Months}
+use Rattle.mf_catalog.specs.declared.charge.ChargeKind.{ChargeKind}
+use Rattle.mf_catalog.specs.declared.charge.ChargeKind.TheVariants.{Disbursement, Instalment, Overdue, DueDate}
+use Rattle.mf_catalog.specs.declared.charge.Calc.{Calc}
+use Rattle.mf_catalog.specs.declared.charge.Calc.TheVariants as calc
+use Rattle.mf_catalog.specs.declared.terms.Method.{Method}
+use Rattle.mf_catalog.specs.declared.terms.Method.TheVariants as method
+use Rattle.mf_catalog.specs.declared.terms.StrategyName.{StrategyName}
+use Rattle.mf_catalog.specs.declared.terms.StrategyName.TheVariants.{MifosStandard, PrincipalFirst, InterestFirst}
 use Rattle.mf_office.specs.Keys.{key_of, key_depth, raised, is_in_range}
 use Rattle.mf_office.specs.declared.staff.Role.{Role}
 use Rattle.mf_office.specs.declared.staff.Role.TheVariants.{Teller, Officer, Manager}
-use Rattle.mf_model.specs.Institution.{Institution, Office, Rows, Staff, office_at, numbered}
+use Rattle.mf_model.specs.Institution.{Institution, Charge, Offer, Office, Rows, Staff, office_at, numbered}
+use Rattle.mf_model.specs.Loans.{status_of}
+use Rattle.mf_model.specs.declared.loan.Loan.{Loan}
+use Rattle.mf_model.specs.declared.loan.LoanLine.{LoanLine}
+use Rattle.mf_model.specs.declared.loan.Stage.{Stage}
+use Rattle.mf_model.specs.declared.loan.Stage.TheVariants.{Submitted, Approved, Withdrawn, Rejected}
 use Rattle.mf_model.specs.Store.{rows_at}
 use Rattle.mf_model.specs.Tree.{parent_of}
-use Rattle.mf_store.specs.Rows.{MetaRow, OfficeRow, StaffRow, ClientRow, Lists}
+use Rattle.mf_store.specs.Rows.{MetaRow, OfficeRow, StaffRow, ClientRow, ChargeRow, ProductRow, LoanRow, Lists}
 
 -- the number of the schema that these tables are
 abbrev pub schema_number : ℕ
@@ -18,6 +33,45 @@ abbrev pub role_number : Role → ℕ
 role_number Teller = 1
 role_number Officer = 2
 role_number Manager = 3
+
+-- the numbers that the catalogue's choices are kept as, each from 1
+abbrev pub kind_number : ChargeKind → ℕ
+kind_number Disbursement = 1
+kind_number Instalment = 2
+kind_number Overdue = 3
+kind_number DueDate = 4
+
+abbrev pub calc_number : Calc → ℕ
+calc_number calc.Flat = 1
+calc_number calc.OfAmount = 2
+calc_number calc.OfInterest = 3
+calc_number calc.OfBoth = 4
+
+abbrev pub method_number : Method → ℕ
+method_number method.Flat = 1
+method_number method.EqualPrincipal = 2
+method_number method.Fixed = 3
+
+abbrev pub frequency_number : Freq → ℕ
+frequency_number Weeks = 1
+frequency_number Months = 2
+
+abbrev pub strategy_number : StrategyName → ℕ
+strategy_number MifosStandard = 1
+strategy_number PrincipalFirst = 2
+strategy_number InterestFirst = 3
+
+-- 1 for yes
+abbrev pub flag_number : Bool → ℕ
+flag_number false = 0
+flag_number true = 1
+
+-- the text of the day on which a loan was approved, where it stands approved
+abbrev pub approval_text : Stage → Option (List ℕ)
+approval_text Submitted = None
+approval_text (Approved day) = Some (day_text day)
+approval_text Withdrawn = None
+approval_text Rejected = None
 
 abbrev pub meta_on : ℕ → MetaRow
 meta_on day = record { one = 1; schema = schema_number; day = day_text day }
@@ -33,6 +87,40 @@ staff_in office number s = record { office = office; number = number; name = s.n
 -- the row of a client: office, number
 abbrev pub client_in : ℕ → ℕ → List ℕ → ClientRow
 client_in office number name = record { office = office; number = number; name = name }
+
+-- the row of a charge under its number
+abbrev pub charge_as : ℕ → Charge → ChargeRow
+charge_as number c = record { number = number; name = c.name; kind = kind_number c.kind; calc = calc_number c.calc; value = pos c.value }
+
+-- the row of a product under its number
+abbrev pub product_as : ℕ → Offer → ProductRow
+product_as number p = record {
+  number = number;
+  name = p.members.name;
+  method = method_number p.members.method;
+  rate = p.members.rate;
+  frequency = frequency_number p.members.freq;
+  every = p.members.every;
+  principal_grace = p.members.principal_grace;
+  interest_grace = p.members.interest_grace;
+  min_principal = pos p.members.min_principal;
+  max_principal = pos p.members.max_principal;
+  min_periods = p.members.min_periods;
+  max_periods = p.members.max_periods;
+  strategy = strategy_number p.members.strategy;
+  disbursement_charge = p.members.disbursement_charge;
+  instalment_charge = p.members.instalment_charge;
+  overdue_charge = p.members.overdue_charge;
+  retired = flag_number p.retired;
+}
+
+-- the row of a loan: office, number
+abbrev pub loan_in : ℕ → ℕ → Loan → LoanRow
+loan_in office number l = record { office = office; number = number; client = l.client; product = l.product; principal = pos l.principal; periods = l.periods; stage = status_of l.stage; approved = approval_text l.stage; disbursed = None }
+
+-- a loan in a list of loans: office, number
+abbrev pub line_in : ℕ → ℕ → Loan → LoanLine
+line_in office number l = record { loan = record { office = office; number = number }; status = status_of l.stage }
 
 -- rows numbered by their places, the first with this number
 abbrev pub numbered_from : {A R : Type 0} → (ℕ → A → R) → ℕ → List A → List R
@@ -51,6 +139,9 @@ tables_of i = record {
   offices = map (office_under (parent_of i.offices)) i.offices;
   staff = all_rows staff_in (λ rows. rows.staff) i.offices;
   clients = all_rows client_in (λ rows. rows.clients) i.offices;
+  charges = numbered_from charge_as 1 i.catalogue.charges;
+  products = numbered_from product_as 1 i.catalogue.products;
+  loans = all_rows loan_in (λ rows. rows.loans) i.offices;
 }
 
 -- the row of an office that is there
@@ -64,6 +155,18 @@ staff_row_at x number i = option_map (staff_in x number) (numbered (rows_at x i)
 -- the row of a client who is there
 abbrev pub client_row_at : ℕ → ℕ → Institution → Option ClientRow
 client_row_at x number i = option_map (client_in x number) (numbered (rows_at x i).clients number)
+
+-- the row of a charge that is there
+abbrev pub charge_row_at : ℕ → Institution → Option ChargeRow
+charge_row_at number i = option_map (charge_as number) (numbered i.catalogue.charges number)
+
+-- the row of a product that is there
+abbrev pub product_row_at : ℕ → Institution → Option ProductRow
+product_row_at number i = option_map (product_as number) (numbered i.catalogue.products number)
+
+-- the row of a loan that is there
+abbrev pub loan_row_at : ℕ → ℕ → Institution → Option LoanRow
+loan_row_at x number i = option_map (loan_in x number) (numbered (rows_at x i).loans number)
 
 -- the hierarchy text of an office that is there
 abbrev pub key_at : ℕ → Institution → Option (List ℕ)

@@ -1,10 +1,10 @@
 -- The rows of the tables, each table's as a list in the order of its key.
-use Rattle.std.specs.Prelude.{ℕ, pos, List, [], ◌∷◌, Option}
+use Rattle.std.specs.Prelude.{ℕ, ℤ, pos, List, [], ◌∷◌, Option}
 use Rattle.std.specs.declared.cmp.Ordering.{Ordering}
 use Rattle.std.specs.Ordering.{nat_cmp, ordering_then}
 use Rattle.sqlite.specs.declared.types.Value.TheVariants.{Int, Text as Words}
 use Rattle.sqlite.specs.Order.{Row}
-use Rattle.mf_tables.specs.Values.{or_null}
+use Rattle.mf_tables.specs.Values.{or_null, or_text}
 use Rattle.mf_tables.specs.Keep.{put_item}
 
 -- the one row of what the file is: its schema's number and the business day
@@ -57,14 +57,75 @@ by_client a b = ordering_then (nat_cmp a.office b.office) (nat_cmp a.number b.nu
 abbrev pub client_row : ClientRow → Row
 client_row x = Int (pos x.office) ∷ Int (pos x.number) ∷ Words x.name ∷ []
 
+-- a charge of the catalogue; an amount is a signed number, as the columns of SQL are
+pub record ChargeRow : Type 0 where
+  pub number : ℕ
+  pub name : List ℕ
+  pub kind : ℕ
+  pub calc : ℕ
+  pub value : ℤ
+
+abbrev pub by_charge : ChargeRow → ChargeRow → Ordering
+by_charge a b = nat_cmp a.number b.number
+
+abbrev pub charge_row : ChargeRow → Row
+charge_row x = Int (pos x.number) ∷ Words x.name ∷ Int (pos x.kind) ∷ Int (pos x.calc) ∷ Int x.value ∷ []
+
+-- a product of the catalogue
+pub record ProductRow : Type 0 where
+  pub number : ℕ
+  pub name : List ℕ
+  pub method : ℕ
+  pub rate : ℕ
+  pub frequency : ℕ
+  pub every : ℕ
+  pub principal_grace : ℕ
+  pub interest_grace : ℕ
+  pub min_principal : ℤ
+  pub max_principal : ℤ
+  pub min_periods : ℕ
+  pub max_periods : ℕ
+  pub strategy : ℕ
+  pub disbursement_charge : Option ℕ
+  pub instalment_charge : Option ℕ
+  pub overdue_charge : Option ℕ
+  pub retired : ℕ
+
+abbrev pub by_product : ProductRow → ProductRow → Ordering
+by_product a b = nat_cmp a.number b.number
+
+abbrev pub product_row : ProductRow → Row
+product_row x = Int (pos x.number) ∷ Words x.name ∷ Int (pos x.method) ∷ Int (pos x.rate) ∷ Int (pos x.frequency) ∷ Int (pos x.every) ∷ Int (pos x.principal_grace) ∷ Int (pos x.interest_grace) ∷ Int x.min_principal ∷ Int x.max_principal ∷ Int (pos x.min_periods) ∷ Int (pos x.max_periods) ∷ Int (pos x.strategy) ∷ or_null x.disbursement_charge ∷ or_null x.instalment_charge ∷ or_null x.overdue_charge ∷ Int (pos x.retired) ∷ []
+
+-- a loan of an office
+pub record LoanRow : Type 0 where
+  pub office : ℕ
+  pub number : ℕ
+  pub client : ℕ
+  pub product : ℕ
+  pub principal : ℤ
+  pub periods : ℕ
+  pub stage : ℕ
+  pub approved : Option (List ℕ)
+  pub disbursed : Option (List ℕ)
+
+abbrev pub by_loan : LoanRow → LoanRow → Ordering
+by_loan a b = ordering_then (nat_cmp a.office b.office) (nat_cmp a.number b.number)
+
+abbrev pub loan_row : LoanRow → Row
+loan_row x = Int (pos x.office) ∷ Int (pos x.number) ∷ Int (pos x.client) ∷ Int (pos x.product) ∷ Int x.principal ∷ Int (pos x.periods) ∷ Int (pos x.stage) ∷ or_text x.approved ∷ or_text x.disbursed ∷ []
+
 pub record Lists : Type 0 where
   pub meta : List MetaRow
   pub offices : List OfficeRow
   pub staff : List StaffRow
   pub clients : List ClientRow
+  pub charges : List ChargeRow
+  pub products : List ProductRow
+  pub loans : List LoanRow
 
 abbrev pub no_rows : Lists
-no_rows = record { meta = []; offices = []; staff = []; clients = [] }
+no_rows = record { meta = []; offices = []; staff = []; clients = []; charges = []; products = []; loans = [] }
 
 abbrev pub put_meta : MetaRow → Lists → Lists
 put_meta x lists = record lists { meta = put_item by_meta x lists.meta }
@@ -77,3 +138,12 @@ put_staff x lists = record lists { staff = put_item by_staff x lists.staff }
 
 abbrev pub put_client : ClientRow → Lists → Lists
 put_client x lists = record lists { clients = put_item by_client x lists.clients }
+
+abbrev pub put_charge : ChargeRow → Lists → Lists
+put_charge x lists = record lists { charges = put_item by_charge x lists.charges }
+
+abbrev pub put_product : ProductRow → Lists → Lists
+put_product x lists = record lists { products = put_item by_product x lists.products }
+
+abbrev pub put_loan : LoanRow → Lists → Lists
+put_loan x lists = record lists { loans = put_item by_loan x lists.loans }

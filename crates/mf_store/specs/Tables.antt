@@ -2,7 +2,7 @@
 use Rattle.std.specs.Prelude.{[], ◌∷◌, codes}
 use Rattle.sqlite.specs.Table.{Table}
 use Rattle.sqlite.specs.Schema.{Schema}
-use Rattle.mf_tables.specs.Tables.{int, text, maybe_int, table_with, table_of, index_on}
+use Rattle.mf_tables.specs.Tables.{int, text, maybe_int, maybe_text, table_with, table_of, index_on}
 
 abbrev pub meta : Table
 meta = table_of 0 (codes "meta") (int (codes "one") ∷ int (codes "schema") ∷ text (codes "day") ∷ []) (1 ∷ [])
@@ -16,9 +16,18 @@ staff = table_of 5 (codes "staff") (int (codes "office") ∷ int (codes "number"
 abbrev pub clients : Table
 clients = table_of 7 (codes "clients") (int (codes "office") ∷ int (codes "number") ∷ text (codes "name") ∷ []) (1 ∷ 2 ∷ [])
 
+abbrev pub charges : Table
+charges = table_of 9 (codes "charges") (int (codes "number") ∷ text (codes "name") ∷ int (codes "kind") ∷ int (codes "calc") ∷ int (codes "value") ∷ []) (1 ∷ [])
+
+abbrev pub products : Table
+products = table_of 11 (codes "products") (int (codes "number") ∷ text (codes "name") ∷ int (codes "method") ∷ int (codes "rate") ∷ int (codes "frequency") ∷ int (codes "every") ∷ int (codes "principal_grace") ∷ int (codes "interest_grace") ∷ int (codes "min_principal") ∷ int (codes "max_principal") ∷ int (codes "min_periods") ∷ int (codes "max_periods") ∷ int (codes "strategy") ∷ maybe_int (codes "disbursement_charge") ∷ maybe_int (codes "instalment_charge") ∷ maybe_int (codes "overdue_charge") ∷ int (codes "retired") ∷ []) (1 ∷ [])
+
+abbrev pub loans : Table
+loans = table_of 13 (codes "loans") (int (codes "office") ∷ int (codes "number") ∷ int (codes "client") ∷ int (codes "product") ∷ int (codes "principal") ∷ int (codes "periods") ∷ int (codes "stage") ∷ maybe_text (codes "approved") ∷ maybe_text (codes "disbursed") ∷ []) (1 ∷ 2 ∷ [])
+
 abbrev pub schema : Schema
 schema = record {
-  tables = meta ∷ offices ∷ staff ∷ clients ∷ [];
-  indexes = index_on 0 1 (codes "sqlite_autoindex_meta_1") (1 ∷ []) ∷ index_on 2 3 (codes "sqlite_autoindex_offices_1") (3 ∷ []) ∷ index_on 2 4 (codes "sqlite_autoindex_offices_2") (1 ∷ []) ∷ index_on 5 6 (codes "sqlite_autoindex_staff_1") (1 ∷ 2 ∷ []) ∷ index_on 7 8 (codes "sqlite_autoindex_clients_1") (1 ∷ 2 ∷ []) ∷ [];
+  tables = meta ∷ offices ∷ staff ∷ clients ∷ charges ∷ products ∷ loans ∷ [];
+  indexes = index_on 0 1 (codes "sqlite_autoindex_meta_1") (1 ∷ []) ∷ index_on 2 3 (codes "sqlite_autoindex_offices_1") (3 ∷ []) ∷ index_on 2 4 (codes "sqlite_autoindex_offices_2") (1 ∷ []) ∷ index_on 5 6 (codes "sqlite_autoindex_staff_1") (1 ∷ 2 ∷ []) ∷ index_on 7 8 (codes "sqlite_autoindex_clients_1") (1 ∷ 2 ∷ []) ∷ index_on 9 10 (codes "sqlite_autoindex_charges_1") (1 ∷ []) ∷ index_on 11 12 (codes "sqlite_autoindex_products_1") (1 ∷ []) ∷ index_on 13 14 (codes "sqlite_autoindex_loans_1") (1 ∷ 2 ∷ []) ∷ [];
   views = [];
 }

@@ -5,11 +5,11 @@ ghost use Rattle.std.specs.Prelude.{◌≡◌, IfErr, IfOk};
 ghost use Rattle.mf_base.specs.declared.fault.Fault.TheVariants.{F20};
 ghost use Rattle.mf_model.specs.Institution.{Institution};
 ghost use Rattle.mf_model.specs.Store.{Commits};
-ghost use Rattle.mf_store.specs.Flat.{role_number};
 ghost use Rattle.mf_model.specs.Tree.{is_there};
 ghost use Rattle.mf_model.specs.declared.commit.Commit.TheVariants.{AddOffice, AddStaff, AddClient};
 
 use crate::counts::Kind;
+use crate::numbers::number_of_role;
 use crate::records::{ClientRecord, OfficeRecord, StaffRecord};
 use crate::store::Store;
 use crate::writes::StoreWrite;
@@ -18,17 +18,6 @@ use mf_model::tree_of_offices;
 use mf_office::{Name, OfficeNo, Role};
 use sqlite::Alter;
 use std::alloc::Global;
-
-/// The number that stands for a role in the table staff.
-fn number_of(role: Role) -> u32
-    ensures { result ≡ role_number role }
-{
-    match role {
-        Role::Teller => 1,
-        Role::Officer => 2,
-        Role::Manager => 3,
-    }
-}
 
 impl<S: Alter> Store<S> {
     ghost use Rattle.mf_store.specs.Stands.{StandsFor, IsClean, Leaves, Stays};
@@ -83,12 +72,12 @@ impl<S: Alter> Store<S> {
         if !there {
             return Err(Fault::F20);
         }
-        let last = self.last_number(Kind::Staff, office)?;
+        let last = self.last_number(Kind::Staff(office))?;
         let staff = StaffRecord {
             office,
             number: last + 1,
             name: name.into_text(),
-            role: number_of(role),
+            role: number_of_role(role),
         };
         self.make(&[StoreWrite::PutStaff(staff)])
     }
@@ -102,7 +91,7 @@ impl<S: Alter> Store<S> {
         if !there {
             return Err(Fault::F20);
         }
-        let last = self.last_number(Kind::Clients, office)?;
+        let last = self.last_number(Kind::Clients(office))?;
         let client = ClientRecord {
             office,
             number: last + 1,

@@ -1,5 +1,5 @@
-//! The last number of an office's staff or clients. Numbers run from 1 without gaps, so look-ups by key find it: the
-//! cost is a logarithm of the office's own rows.
+//! The last number of an office's staff, clients or loans, or of the catalogue's charges or products. Numbers run from
+//! 1 without gaps, so look-ups by key find it: the cost is a logarithm of how many there are, and nothing else is read.
 
 ghost use Rattle.std.specs.Prelude.{◌≡◌, ◌<◌, ◌≤◌, ◌↔◌, IsTrue, IfOk, IfErr};
 ghost use Rattle.mf_base.specs.declared.fault.Fault.TheVariants.{F20};
@@ -10,41 +10,47 @@ use crate::store::Store;
 use mf_base::Fault;
 use sqlite::Alter;
 
-/// What an office numbers from 1.
+/// What is numbered from 1: rows of one office, or of the catalogue.
 #[derive(Clone, Copy, PartialEq, Eq, Debug)]
 pub enum Kind {
-    Staff,
-    Clients,
+    Staff(u32),
+    Clients(u32),
+    Loans(u32),
+    Charges,
+    Products,
 }
 
-/// No office has more of a kind.
+/// There are no more of a kind.
 const MOST: u32 = 999_999;
 
 impl<S: Alter> Store<S> {
     ghost use Rattle.mf_store.specs.Stands.{StandsFor, IsClean, Stays};
 
-    /// Whether the office has this number of the kind.
-    fn has(&mut self, kind: Kind, office: u32, number: u32) -> Result<bool, Fault>
+    /// Whether there is one of the kind with this number.
+    fn has(&mut self, kind: Kind, number: u32) -> Result<bool, Fault>
         ensures kept { Stays S.Store self.old self.new }
         ensures gives_up { IfErr result (λ fault. fault ≡ F20) }
-        ensures value { IsClean S.Store self.new → (i : Institution) → StandsFor S.Store self.old i → IfOk result (λ there. IsTrue there ↔ ((1 ≤ number) × (number ≤ count_of kind office i))) }
+        ensures value { IsClean S.Store self.new → (i : Institution) → StandsFor S.Store self.old i → IfOk result (λ there. IsTrue there ↔ ((1 ≤ number) × (number ≤ count_of kind i))) }
     {
         match kind {
-            Kind::Staff => Ok(self.find_staff(office, number)?.is_some()),
-            Kind::Clients => Ok(self.find_client(office, number)?.is_some()),
+            Kind::Staff(office) => Ok(self.find_staff(office, number)?.is_some()),
+            Kind::Clients(office) => Ok(self.find_client(office, number)?.is_some()),
+            Kind::Loans(office) => Ok(self.find_loan(office, number)?.is_some()),
+            Kind::Charges => Ok(self.find_charge(number)?.is_some()),
+            Kind::Products => Ok(self.find_product(number)?.is_some()),
         }
     }
 
     /// A number above the last, at most twice it.
-    fn above_last(&mut self, kind: Kind, office: u32) -> Result<u32, Fault>
+    fn above_last(&mut self, kind: Kind) -> Result<u32, Fault>
         ensures kept { Stays S.Store self.old self.new }
         ensures gives_up { IfErr result (λ fault. fault ≡ F20) }
         ensures bound { IfOk result (λ high. (0 < high) × (high ≤ 2_000_000)) }
-        ensures value { IsClean S.Store self.new → (i : Institution) → StandsFor S.Store self.old i → IfOk result (λ high. count_of kind office i < high) }
+        ensures value { IsClean S.Store self.new → (i : Institution) → StandsFor S.Store self.old i → IfOk result (λ high. count_of kind i < high) }
     {
         let mut high = 1u32;
         while high <= MOST {
-            if !self.has(kind, office, high)? {
+            if !self.has(kind, high)? {
                 return Ok(high);
             }
             high *= 2;
@@ -53,18 +59,18 @@ impl<S: Alter> Store<S> {
     }
 
     /// The last number, which lies below `bound`.
-    fn last_below(&mut self, kind: Kind, office: u32, bound: u32) -> Result<u32, Fault>
+    fn last_below(&mut self, kind: Kind, bound: u32) -> Result<u32, Fault>
         requires { 0 < bound }
         ensures kept { Stays S.Store self.old self.new }
         ensures gives_up { IfErr result (λ fault. fault ≡ F20) }
         ensures below { IfOk result (λ last. last < bound) }
-        ensures value { IsClean S.Store self.new → (i : Institution) → StandsFor S.Store self.old i → count_of kind office i < bound → IfOk result (λ last. last ≡ count_of kind office i) }
+        ensures value { IsClean S.Store self.new → (i : Institution) → StandsFor S.Store self.old i → count_of kind i < bound → IfOk result (λ last. last ≡ count_of kind i) }
     {
         let mut low = 0u32;
         let mut high = bound;
         while high - low > 1 {
             let middle = low + (high - low) / 2;
-            let there = self.has(kind, office, middle)?;
+            let there = self.has(kind, middle)?;
             if there {
                 low = middle;
             } else {
@@ -74,14 +80,14 @@ impl<S: Alter> Store<S> {
         Ok(low)
     }
 
-    /// How many of the kind the office has.
-    pub(crate) fn last_number(&mut self, kind: Kind, office: u32) -> Result<u32, Fault>
+    /// How many of the kind there are.
+    pub(crate) fn last_number(&mut self, kind: Kind) -> Result<u32, Fault>
         ensures kept { Stays S.Store self.old self.new }
         ensures gives_up { IfErr result (λ fault. fault ≡ F20) }
         ensures bound { IfOk result (λ last. last < 2_000_000) }
-        ensures value { IsClean S.Store self.new → (i : Institution) → StandsFor S.Store self.old i → IfOk result (λ last. last ≡ count_of kind office i) }
+        ensures value { IsClean S.Store self.new → (i : Institution) → StandsFor S.Store self.old i → IfOk result (λ last. last ≡ count_of kind i) }
     {
-        let bound = self.above_last(kind, office)?;
-        self.last_below(kind, office, bound)
+        let bound = self.above_last(kind)?;
+        self.last_below(kind, bound)
     }
 }

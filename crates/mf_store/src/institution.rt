@@ -5,10 +5,11 @@ ghost use Rattle.mf_base.specs.declared.fault.Fault.TheVariants.{F20};
 ghost use Rattle.mf_model.specs.Institution.{Institution};
 
 use crate::counts::Kind;
-use crate::reads::role_from;
+use crate::numbers::role_from;
 use crate::store::Store;
-use mf_base::Fault;
-use mf_model::{Commit, Counts, InstitutionStore, OfficeList};
+use mf_base::{Day, Fault};
+use mf_catalog::{ChargeDef, Product};
+use mf_model::{CatalogueCounts, Commit, Counts, InstitutionStore, Loan, LoanList, OfficeList};
 use mf_office::{Account, Caller, Name, OfficeNo, Role};
 use sqlite::Alter;
 use std::alloc::Global;
@@ -29,16 +30,21 @@ impl<S: Alter> Store<S> {
         }
     }
 
-    /// How many staff and clients an office has: one less than their next numbers.
+    /// How many staff, clients and loans an office has: one less than their next numbers.
     pub fn next_numbers(&mut self, office: OfficeNo) -> Result<Counts, Fault>
         ensures kept { Stays S.Store self.old self.new }
         ensures gives_up { IfErr result (λ fault. fault ≡ F20) }
         ensures value { IsClean S.Store self.new → (i : Institution) → StandsFor S.Store self.old i → IfOk result (λ counts. counts ≡ counts_at office i) }
     {
         let office = office.get();
-        let staff = self.last_number(Kind::Staff, office)?;
-        let clients = self.last_number(Kind::Clients, office)?;
-        Ok(Counts { staff, clients })
+        let staff = self.last_number(Kind::Staff(office))?;
+        let clients = self.last_number(Kind::Clients(office))?;
+        let loans = self.last_number(Kind::Loans(office))?;
+        Ok(Counts {
+            staff,
+            clients,
+            loans,
+        })
     }
 
     /// The name of a client, or None where there is no such client.
@@ -88,6 +94,30 @@ impl<S: Alter> InstitutionStore for Store<S> {
         self.find_name(client)
     }
 
+    fn business_day(&mut self, _alloc: Global) -> Result<Day, Fault> {
+        self.today()
+    }
+
+    fn catalogue_counts(&mut self, _alloc: Global) -> Result<CatalogueCounts, Fault> {
+        self.count_catalogue()
+    }
+
+    fn charge(&mut self, _alloc: Global, number: u32) -> Result<Option<ChargeDef>, Fault> {
+        self.charge_at(number)
+    }
+
+    fn product(&mut self, _alloc: Global, number: u32) -> Result<Option<Product>, Fault> {
+        self.product_at(number)
+    }
+
+    fn loan(&mut self, _alloc: Global, loan: Account) -> Result<Option<Loan>, Fault> {
+        self.loan_at(loan)
+    }
+
+    fn loans(&mut self, alloc: Global, office: OfficeNo, after: u32) -> Result<LoanList, Fault> {
+        self.loans_above(alloc, office, after)
+    }
+
     fn visible_offices(&mut self, alloc: Global, to: OfficeNo) -> Result<OfficeList, Fault> {
         self.offices(alloc, to)
     }
@@ -101,6 +131,17 @@ impl<S: Alter> InstitutionStore for Store<S> {
             } => self.add_office(alloc, number, parent, name),
             Commit::AddStaff { office, name, role } => self.add_staff(office, name, role),
             Commit::AddClient { office, name } => self.add_client(office, name),
+            Commit::SetDay { day } => self.set_day(alloc, day),
+            Commit::AddCharge {
+                name,
+                kind,
+                calc,
+                value,
+            } => self.add_charge(name, kind, calc, value),
+            Commit::AddProduct { members } => self.add_product(members),
+            Commit::RetireProduct { product } => self.retire_product(product),
+            Commit::AddLoan { office, loan } => self.add_loan(alloc, office, loan),
+            Commit::SetStage { loan, stage } => self.set_stage(alloc, loan, stage),
         }
     }
 

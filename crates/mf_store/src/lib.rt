@@ -4,10 +4,13 @@
 //! stop leaves. Every want of memory and every fault of the store is F20.
 #![tactic(auto)]
 
+mod catalogue;
 mod commits;
 mod counts;
 mod first;
 mod institution;
+mod loans;
+mod numbers;
 mod office_rows;
 mod reads;
 mod records;

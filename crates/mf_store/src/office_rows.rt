@@ -4,13 +4,16 @@ ghost use Rattle.std.specs.Prelude.{◌≡◌, ℕ, List, IfOk, IfErr};
 ghost use Rattle.mf_base.specs.declared.fault.Fault.TheVariants.{F20};
 ghost use Rattle.mf_model.specs.Institution.{Institution, Staff};
 ghost use Rattle.mf_model.specs.Store.{rows_at};
-ghost use Rattle.mf_store.specs.Rows.{staff_row, client_row};
-ghost use Rattle.mf_store.specs.Flat.{staff_in, client_in, numbered_from};
+ghost use Rattle.mf_model.specs.declared.loan.Loan.{Loan as ModelLoan};
+ghost use Rattle.mf_store.specs.Rows.{staff_row, client_row, loan_row};
+ghost use Rattle.mf_store.specs.Flat.{staff_in, client_in, loan_in, numbered_from};
 
-use crate::reads::role_from;
-use crate::records::{ClientRecord, Record, StaffRecord};
+use crate::loans::loan_from;
+use crate::numbers::role_from;
+use crate::records::{ClientRecord, LoanRecord, Record, StaffRecord};
 use crate::store::{Store, given_up};
 use mf_base::Fault;
+use mf_model::Loan;
 use mf_office::{Name, OfficeNo, Role};
 use sqlite::{Alter, Row, params};
 use std::alloc::Global;
@@ -31,11 +34,12 @@ impl Model for StaffMember {
     ghost view = { λ member. record { name = member.name; role = member.role } };
 }
 
-/// What belongs to one office: its staff and its clients' names, each by number from 1.
+/// What belongs to one office: its staff, its clients' names and its loans, each by number from 1.
 #[derive(Debug, Drop)]
 pub struct OfficeRows {
     staff: Vec<StaffMember>,
     clients: Vec<Name>,
+    loans: Vec<Loan>,
 }
 
 impl Model for OfficeRows {
@@ -43,7 +47,7 @@ impl Model for OfficeRows {
 
     ghost Value = { Rows };
 
-    ghost view = { λ rows. record { staff = rows.staff.items; clients = rows.clients.items } };
+    ghost view = { λ rows. record { staff = rows.staff.items; clients = rows.clients.items; loans = rows.loans.items } };
 }
 
 impl OfficeRows {
@@ -59,6 +63,13 @@ impl OfficeRows {
         ensures { result.now ≡ self.now.clients }
     {
         self.clients.as_slice()
+    }
+
+    /// The loans: number 1 first.
+    pub fn loans(&self) -> &[Loan]
+        ensures { result.now ≡ self.now.loans }
+    {
+        self.loans.as_slice()
     }
 }
 
@@ -108,6 +119,27 @@ fn names_from(alloc: Global, rows: &[Row]) -> Result<Vec<Name>, Fault>
     Ok(names)
 }
 
+/// The loan of a row.
+fn loan_in_row(row: &Row) -> Result<Loan, Fault>
+    ensures loan { IfOk result (λ found. (office number : ℕ) (l : ModelLoan) → row.now ≡ loan_row (loan_in office number l) → found ≡ l) }
+    ensures gives_up { IfErr result (λ fault. fault ≡ F20) }
+{
+    let found = given_up(LoanRecord::read(row))?;
+    loan_from(found)
+}
+
+/// The loans of the rows, in order.
+fn loans_from(alloc: Global, rows: &[Row]) -> Result<Vec<Loan>, Fault>
+    ensures loans { IfOk result (λ list. (office : ℕ) (loans : List ModelLoan) → rows.now ≡ numbered_from (λ number l. loan_row (loan_in office number l)) 1 loans → list.items ≡ loans) }
+    ensures gives_up { IfErr result (λ fault. fault ≡ F20) }
+{
+    let mut loans = Vec::new(alloc);
+    for row in rows {
+        loans.push(loan_in_row(row)?)?;
+    }
+    Ok(loans)
+}
+
 impl<S: Alter> Store<S> {
     ghost use Rattle.mf_store.specs.Stands.{StandsFor, IsClean, Stays};
 
@@ -137,6 +169,19 @@ impl<S: Alter> Store<S> {
         names_from(alloc, &rows)
     }
 
+    /// The loans of an office, by number.
+    fn loans_of(&mut self, alloc: Global, office: u32) -> Result<Vec<Loan>, Fault>
+        ensures kept { Stays S.Store self.old self.new }
+        ensures gives_up { IfErr result (λ fault. fault ≡ F20) }
+        ensures value { IsClean S.Store self.new → (i : Institution) → StandsFor S.Store self.old i → IfOk result (λ list. list.items ≡ (rows_at office i).loans) }
+    {
+        let rows = self.rows(
+            "SELECT office, number, client, product, principal, periods, stage, approved, disbursed FROM loans WHERE office = ?1 ORDER BY office, number",
+            params![office],
+        )?;
+        loans_from(alloc, &rows)
+    }
+
     /// The rows of an office, none where it isn't there.
     pub fn office_rows(&mut self, alloc: Global, office: OfficeNo) -> Result<OfficeRows, Fault>
         ensures kept { Stays S.Store self.old self.new }
@@ -146,6 +191,11 @@ impl<S: Alter> Store<S> {
         let office = office.get();
         let staff = self.staff_at(alloc, office)?;
         let clients = self.clients_at(alloc, office)?;
-        Ok(OfficeRows { staff, clients })
+        let loans = self.loans_of(alloc, office)?;
+        Ok(OfficeRows {
+            staff,
+            clients,
+            loans,
+        })
     }
 }

@@ -4,27 +4,16 @@ ghost use Rattle.std.specs.Prelude.{◌≡◌, ◌≤◌, ℕ, IfOk, IfErr, Some
 ghost use Rattle.mf_base.specs.declared.fault.Fault.TheVariants.{F20};
 ghost use Rattle.mf_base.specs.DayText.{last_day};
 ghost use Rattle.mf_model.specs.Institution.{Institution};
-ghost use Rattle.mf_store.specs.Flat.{meta_on, office_row_at, staff_row_at, client_row_at, role_number};
-ghost use Rattle.mf_store.specs.Writes.{meta_of, office_of, staff_of, client_of};
+ghost use Rattle.mf_store.specs.Flat.{meta_on, office_row_at, staff_row_at, client_row_at, charge_row_at, product_row_at, loan_row_at};
+ghost use Rattle.mf_store.specs.Writes.{meta_of, office_of, staff_of, client_of, charge_of, product_of, loan_of};
 
-use crate::records::{ClientRecord, MetaRecord, OfficeRecord, StaffRecord, first};
+use crate::records::{
+    ChargeRecord, ClientRecord, LoanRecord, MetaRecord, OfficeRecord, ProductRecord, StaffRecord,
+    first,
+};
 use crate::store::{Store, given_up};
 use mf_base::{Day, Fault};
-use mf_office::Role;
 use sqlite::{Alter, params};
-
-/// The role that a number of the table staff stands for.
-pub(crate) fn role_from(number: u32) -> Result<Role, Fault>
-    ensures role { IfOk result (λ role. role_number role ≡ number) }
-    ensures gives_up { IfErr result (λ fault. fault ≡ F20) }
-{
-    match number {
-        1 => Ok(Role::Teller),
-        2 => Ok(Role::Officer),
-        3 => Ok(Role::Manager),
-        _ => Err(Fault::F20),
-    }
-}
 
 /// The day that the table meta holds.
 fn day_in(meta: Option<MetaRecord>) -> Result<Day, Fault>
@@ -56,7 +45,7 @@ impl<S: Alter> Store<S> {
     }
 
     /// The business day.
-    pub fn business_day(&mut self) -> Result<Day, Fault>
+    pub fn today(&mut self) -> Result<Day, Fault>
         ensures kept { Stays S.Store self.old self.new }
         ensures gives_up { IfErr result (λ fault. fault ≡ F20) }
         ensures value { IsClean S.Store self.new → (i : Institution) → StandsFor S.Store self.old i → IfOk result (λ day. day ≡ i.catalogue.day) }
@@ -104,6 +93,42 @@ impl<S: Alter> Store<S> {
     {
         let rows = self.rows(
             "SELECT office, number, name FROM clients WHERE office = ?1 AND number = ?2 ORDER BY office, number",
+            params![office, number],
+        )?;
+        given_up(first(&rows))
+    }
+
+    pub(crate) fn find_charge(&mut self, number: u32) -> Result<Option<ChargeRecord>, Fault>
+        ensures kept { Stays S.Store self.old self.new }
+        ensures gives_up { IfErr result (λ fault. fault ≡ F20) }
+        ensures value { IsClean S.Store self.new → (i : Institution) → StandsFor S.Store self.old i → IfOk result (λ x. option_map charge_of x ≡ charge_row_at number i) }
+    {
+        let rows = self.rows(
+            "SELECT number, name, kind, calc, value FROM charges WHERE number = ?1 ORDER BY number",
+            params![number],
+        )?;
+        given_up(first(&rows))
+    }
+
+    pub(crate) fn find_product(&mut self, number: u32) -> Result<Option<ProductRecord>, Fault>
+        ensures kept { Stays S.Store self.old self.new }
+        ensures gives_up { IfErr result (λ fault. fault ≡ F20) }
+        ensures value { IsClean S.Store self.new → (i : Institution) → StandsFor S.Store self.old i → IfOk result (λ x. option_map product_of x ≡ product_row_at number i) }
+    {
+        let rows = self.rows(
+            "SELECT number, name, method, rate, frequency, every, principal_grace, interest_grace, min_principal, max_principal, min_periods, max_periods, strategy, disbursement_charge, instalment_charge, overdue_charge, retired FROM products WHERE number = ?1 ORDER BY number",
+            params![number],
+        )?;
+        given_up(first(&rows))
+    }
+
+    pub(crate) fn find_loan(&mut self, office: u32, number: u32) -> Result<Option<LoanRecord>, Fault>
+        ensures kept { Stays S.Store self.old self.new }
+        ensures gives_up { IfErr result (λ fault. fault ≡ F20) }
+        ensures value { IsClean S.Store self.new → (i : Institution) → StandsFor S.Store self.old i → IfOk result (λ x. option_map loan_of x ≡ loan_row_at office number i) }
+    {
+        let rows = self.rows(
+            "SELECT office, number, client, product, principal, periods, stage, approved, disbursed FROM loans WHERE office = ?1 AND number = ?2 ORDER BY office, number",
             params![office, number],
         )?;
         given_up(first(&rows))

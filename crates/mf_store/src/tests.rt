@@ -89,7 +89,7 @@ fn a_new_institution(rt: HostRuntime) -> Result<(), Fail> {
     assert_eq!(rt; store.caller(caller(2, 1)?)?, None);
     let counts = store.next_numbers(office(1)?)?;
     assert_eq!(rt; (counts.staff, counts.clients), (1, 0));
-    assert_eq!(rt; Some(store.business_day()?), Day::parse(b"2024-01-01"));
+    assert_eq!(rt; Some(store.today()?), Day::parse(b"2024-01-01"));
     let all = store.offices(alloc, office(1)?)?;
     assert_eq!(rt; line(alloc, &all)?.as_str(), "1<0 Head Office;");
     Ok(())

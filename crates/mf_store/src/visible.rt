@@ -18,7 +18,7 @@ use sqlite::{Alter, Row, params};
 use std::alloc::Global;
 
 /// The number of an office, as each number in the tables is.
-fn office_number(number: u32) -> Result<OfficeNo, Fault>
+pub(crate) fn office_number(number: u32) -> Result<OfficeNo, Fault>
     ensures number { IfOk result (λ n. n ≡ number) }
     ensures gives_up { IfErr result (λ fault. fault ≡ F20) }
 {

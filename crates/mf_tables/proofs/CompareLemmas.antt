@@ -1,5 +1,5 @@
 -- SQL's comparisons and casts of the values that items are stored as.
-use Rattle.std.proofs.Common.{◌≡◌, ℕ, ℤ, pos, Bool, true, false, ◌&&◌, ◌||◌, cond, List, [], ◌∷◌, refl, sym, ap, ap₂, ◌∙◌, arith, Ordering, Less, Equal, Greater, is_eq, is_ge, is_lt, nat_cmp, Option, None, Some}
+use Rattle.std.proofs.Common.{◌≡◌, ℕ, ℤ, pos, Bool, true, false, ◌&&◌, ◌||◌, cond, List, [], ◌∷◌, refl, sym, ap, ap₂, ◌∙◌, arith, Ordering, Less, Equal, Greater, is_eq, is_ge, is_lt, is_gt, nat_cmp, string_bytes, String, Option, None, Some, option_map}
 use Rattle.std.specs.Ordering.{ordering_then}
 use Rattle.std.proofs.lemmas.Bool.{and_parts, and_from}
 use Rattle.std.proofs.lemmas.Bool.Decides.{nat_tests}
@@ -18,7 +18,7 @@ use Rattle.sqlite.specs.Collation.TheVariants.{Binary}
 use Rattle.sqlite_schema.specs.declared.schema.Column.{Column}
 use Rattle.sqlite_rules.specs.Cast.{cast_all}
 use Rattle.sqlite_sql.specs.declared.ops.BinaryOp.TheVariants.{Compare}
-use Rattle.sqlite_sql.specs.declared.ops.CompareOp.TheVariants.{Eq, Lt, Ge}
+use Rattle.sqlite_sql.specs.declared.ops.CompareOp.TheVariants.{Eq, Lt, Ge, Gt}
 use Rattle.sqlite_value.proofs.OrderLemmas.{value_cmp-Int, value_cmp-Text}
 use Rattle.std.specs.Cmp.Lexicographic.{slice_cmp}
 use Rattle.mf_tables.specs.Keep.{same_id}
@@ -50,6 +50,10 @@ at_least_text a b = truth_back _ ∙ ap is_ge (value_cmp-Text a b)
 pub below_text : (a b : List ℕ) → is_true (binary (Compare Lt Binary) (Text a) (Text b)) ≡ is_lt (slice_cmp nat_cmp a b)
 unfolding binary
 below_text a b = truth_back _ ∙ ap is_lt (value_cmp-Text a b)
+
+pub above_number : (a b : ℕ) → is_true (binary (Compare Gt Binary) (Int (pos a)) (Int (pos b))) ≡ is_gt (nat_cmp a b)
+unfolding binary
+above_number a b = truth_back _ ∙ ap is_gt (int_cmp-pos a b)
 
 pub eq_back : (a b : ℕ) → is_eq (nat_cmp a b) ≡ is_eq (nat_cmp b a)
 eq_back a b = grind (arith, nat_tests)
@@ -160,6 +164,11 @@ number_same a b h = ap (λ n. Int (pos n)) (same_number a b h)
 pub bound_number : (n : Option ℕ) → bound_value (sql.or_null (λ k. Int (pos k)) n) ≡ or_null n
 bound_number None = refl
 bound_number (Some k) = refl
+
+-- and so is an absent text
+pub bound_text : {Z : Type 0} (t : Option (String Z)) → bound_value (sql.or_null (λ s. Text (string_bytes s)) t) ≡ or_text (option_map string_bytes t)
+bound_text None = refl
+bound_text (Some t) = refl
 
 -- the parameters of a statement, one by one
 pub also : {v w : Value} {vs ws : Row} → v ≡ w → vs ≡ ws → ◌≡◌ {A = Row} (v ∷ vs) (w ∷ ws)

@@ -14,11 +14,11 @@ returns g c =
     let old = c.args.self.now in
     let first = c.has_office.new.self in
     let mid = c.last_number.new.self in
-    let staff : StaffRecord = record { office = c.get-office.result; number = c.in_ok-last.last + 1; name = c.into_text.result; role = c.number_of.result } in
+    let staff : StaffRecord = record { office = c.get-office.result; number = c.in_ok-last.last + 1; name = c.into_text.result; role = c.number_of_role.result } in
     let there : c.in_ok-there.there ≡ true = search rules in
     made_by g.S.Store (AddStaff c.args.office c.args.name c.args.role) old mid c.make.new.self (PutStaff staff ∷ []) c.make.result (stays_then g.S.Store old first mid c.in_ok-there.ensures.kept c.in_ok-last.ensures.kept)
     (λ clean i s sound. let before = c.in_ok-last.ensures.kept.premise clean in
     staff_becomes c.args.office c.args.name c.args.role i staff s.sound sound (ap (is_there i.offices) (sym c.get-office.ensures.value) ∙ sym (c.in_ok-there.ensures.value before i s) ∙ there)
-    (same_staff c.get-office.result c.args.office c.in_ok-last.last (length (rows_at c.args.office i).staff) c.number_of.result (role_number c.args.role) (string_bytes c.into_text.result) c.args.name c.get-office.ensures.value
-    (c.in_ok-last.ensures.value clean i (c.in_ok-there.ensures.kept.same before i s) ∙ ap (λ x. length (rows_at x i).staff) c.get-office.ensures.value) c.number_of.ensures c.into_text.ensures))
+    (same_staff c.get-office.result c.args.office c.in_ok-last.last (length (rows_at c.args.office i).staff) c.number_of_role.result (role_number c.args.role) (string_bytes c.into_text.result) c.args.name c.get-office.ensures.value
+    (c.in_ok-last.ensures.value clean i (c.in_ok-there.ensures.kept.same before i s) ∙ ap (λ x. length (rows_at x i).staff) c.get-office.ensures.value) c.number_of_role.ensures c.into_text.ensures))
     c.make.ensures.premise c.make.ensures.gives_up c.make.ensures.made c.make.ensures.left c.make.ensures.same c.make.ensures.stop

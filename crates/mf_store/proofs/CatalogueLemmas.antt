@@ -1,0 +1,203 @@
+-- The catalogue: what the rows of charges and products are read as, and its commits.
+use Rattle.std.proofs.Common.{◌≡◌, ◌+◌, ℕ, ℤ, pos, Bool, true, false, cond, List, [], ◌∷◌, ◌++◌, length, Option, None, Some, refl, sym, ap, ◌∙◌, arith, ◌==◌, string_bytes}
+use Rattle.std.specs.Option.{option_map}
+use Rattle.mf_base.specs.DayText.{day_text}
+use Rattle.mf_base.specs.declared.day.Freq.{Freq}
+use Rattle.mf_base.specs.declared.day.Freq.TheVariants.{Weeks, Months}
+use Rattle.mf_catalog.specs.declared.charge.ChargeDef.{ChargeDef}
+use Rattle.mf_catalog.specs.declared.charge.ChargeKind.{ChargeKind}
+use Rattle.mf_catalog.specs.declared.charge.ChargeKind.TheVariants.{Disbursement, Instalment, Overdue, DueDate}
+use Rattle.mf_catalog.specs.declared.charge.Calc.{Calc}
+use Rattle.mf_catalog.specs.declared.charge.Calc.TheVariants as calc
+use Rattle.mf_catalog.specs.declared.product.Product.{Product}
+use Rattle.mf_catalog.specs.declared.product.ProductMembers.{ProductMembers}
+use Rattle.mf_catalog.specs.declared.terms.Method.{Method}
+use Rattle.mf_catalog.specs.declared.terms.Method.TheVariants as method
+use Rattle.mf_catalog.specs.declared.terms.StrategyName.{StrategyName}
+use Rattle.mf_catalog.specs.declared.terms.StrategyName.TheVariants.{MifosStandard, PrincipalFirst, InterestFirst}
+use Rattle.mf_tables.specs.Keep.{put_item}
+use Rattle.mf_model.specs.Institution.{Institution, Charge, Offer, numbered, with_numbered, charge_def, product_of as product_numbered}
+use Rattle.mf_model.specs.Sound.{IsSound}
+use Rattle.mf_model.specs.Store.{committed}
+use Rattle.mf_model.specs.declared.commit.Commit.TheVariants.{SetDay, AddCharge, AddProduct, RetireProduct}
+use Rattle.mf_store.specs.Rows.{ChargeRow, ProductRow, by_meta, by_charge, by_product}
+use Rattle.mf_store.specs.Flat.{tables_of, numbered_from, kind_number, calc_number, method_number, frequency_number, strategy_number, flag_number, charge_as, product_as}
+use Rattle.mf_store.specs.Writes.{meta_of, charge_of, product_of}
+use Rattle.mf_store.specs.declared.records.MetaRecord.{MetaRecord}
+use Rattle.mf_store.specs.declared.records.ChargeRecord.{ChargeRecord}
+use Rattle.mf_store.specs.declared.records.ProductRecord.{ProductRecord}
+use Rattle.mf_store.specs.declared.writes.StoreWrite.TheVariants.{PutMeta, PutCharge, PutProduct}
+use Rattle.mf_store.specs.Stands.{Becomes}
+use Rattle.mf_store.proofs.FlatLemmas.{put_listed, put_listed_last}
+
+-- ---- a number stands for one choice
+
+kind_at : ℕ → ChargeKind
+kind_at n = cond (n == 1) Disbursement (cond (n == 2) Instalment (cond (n == 3) Overdue DueDate))
+
+kind_back : (k : ChargeKind) → kind_at (kind_number k) ≡ k
+kind_back Disbursement = refl
+kind_back Instalment = refl
+kind_back Overdue = refl
+kind_back DueDate = refl
+
+pub kind_is : (a b : ChargeKind) → kind_number a ≡ kind_number b → a ≡ b
+kind_is a b e = sym (kind_back a) ∙ ap kind_at e ∙ kind_back b
+
+calc_at : ℕ → Calc
+calc_at n = cond (n == 1) calc.Flat (cond (n == 2) calc.OfAmount (cond (n == 3) calc.OfInterest calc.OfBoth))
+
+calc_back : (k : Calc) → calc_at (calc_number k) ≡ k
+calc_back calc.Flat = refl
+calc_back calc.OfAmount = refl
+calc_back calc.OfInterest = refl
+calc_back calc.OfBoth = refl
+
+pub calc_is : (a b : Calc) → calc_number a ≡ calc_number b → a ≡ b
+calc_is a b e = sym (calc_back a) ∙ ap calc_at e ∙ calc_back b
+
+method_at : ℕ → Method
+method_at n = cond (n == 1) method.Flat (cond (n == 2) method.EqualPrincipal method.Fixed)
+
+method_back : (k : Method) → method_at (method_number k) ≡ k
+method_back method.Flat = refl
+method_back method.EqualPrincipal = refl
+method_back method.Fixed = refl
+
+pub method_is : (a b : Method) → method_number a ≡ method_number b → a ≡ b
+method_is a b e = sym (method_back a) ∙ ap method_at e ∙ method_back b
+
+frequency_at : ℕ → Freq
+frequency_at n = cond (n == 1) Weeks Months
+
+frequency_back : (k : Freq) → frequency_at (frequency_number k) ≡ k
+frequency_back Weeks = refl
+frequency_back Months = refl
+
+pub frequency_is : (a b : Freq) → frequency_number a ≡ frequency_number b → a ≡ b
+frequency_is a b e = sym (frequency_back a) ∙ ap frequency_at e ∙ frequency_back b
+
+strategy_at : ℕ → StrategyName
+strategy_at n = cond (n == 1) MifosStandard (cond (n == 2) PrincipalFirst InterestFirst)
+
+strategy_back : (k : StrategyName) → strategy_at (strategy_number k) ≡ k
+strategy_back MifosStandard = refl
+strategy_back PrincipalFirst = refl
+strategy_back InterestFirst = refl
+
+pub strategy_is : (a b : StrategyName) → strategy_number a ≡ strategy_number b → a ≡ b
+strategy_is a b e = sym (strategy_back a) ∙ ap strategy_at e ∙ strategy_back b
+
+flag_at : ℕ → Bool
+flag_at n = cond (n == 0) false true
+
+flag_back : (k : Bool) → flag_at (flag_number k) ≡ k
+flag_back false = refl
+flag_back true = refl
+
+pub flag_is : (a b : Bool) → flag_number a ≡ flag_number b → a ≡ b
+flag_is a b e = sym (flag_back a) ∙ ap flag_at e ∙ flag_back b
+
+pub amount_is : (a b : ℕ) → pos a ≡ pos b → a ≡ b
+amount_is a b e = cc
+
+-- ---- what a row is read as
+
+pub charge_is : (row : ChargeRecord) (name : List ℕ) (kind : ChargeKind) (calc : Calc) (value n : ℕ) (c : Charge) → charge_of row ≡ charge_as n c → name ≡ string_bytes row.name → kind_number kind ≡ row.kind → calc_number calc ≡ row.calc → pos value ≡ row.value
+    → ◌≡◌ {A = ChargeDef} (record { number = row.number; name = name; kind = kind; calc = calc; value = value }) (charge_def n c)
+charge_is row name kind calc value n c e a b d v = λ k. record {
+  number = ap (λ (r : ChargeRow). r.number) e k;
+  name = (a ∙ ap (λ (r : ChargeRow). r.name) e) k;
+  kind = kind_is kind c.kind (b ∙ ap (λ (r : ChargeRow). r.kind) e) k;
+  calc = calc_is calc c.calc (d ∙ ap (λ (r : ChargeRow). r.calc) e) k;
+  value = amount_is value c.value (v ∙ ap (λ (r : ChargeRow). r.value) e) k;
+}
+
+pub product_is : (row : ProductRecord) (name : List ℕ) (method : Method) (freq : Freq) (strategy : StrategyName) (least most : ℕ) (retired : Bool) (n : ℕ) (p : Offer) → product_of row ≡ product_as n p
+    → name ≡ string_bytes row.name → method_number method ≡ row.method → frequency_number freq ≡ row.frequency → strategy_number strategy ≡ row.strategy → pos least ≡ row.min_principal → pos most ≡ row.max_principal → flag_number retired ≡ row.retired
+    → ◌≡◌ {A = Product} (record {
+      number = row.number;
+      members = record {
+        name = name;
+        method = method;
+        rate = row.rate;
+        freq = freq;
+        every = row.every;
+        principal_grace = row.principal_grace;
+        interest_grace = row.interest_grace;
+        min_principal = least;
+        max_principal = most;
+        min_periods = row.min_periods;
+        max_periods = row.max_periods;
+        strategy = strategy;
+        disbursement_charge = row.disbursement_charge;
+        instalment_charge = row.instalment_charge;
+        overdue_charge = row.overdue_charge;
+      };
+      retired = retired;
+    }) (product_numbered n p)
+product_is row name method freq strategy least most retired n p e a b c d f g h = λ k. record {
+  number = ap (λ (r : ProductRow). r.number) e k;
+  members = record {
+    name = (a ∙ ap (λ (r : ProductRow). r.name) e) k;
+    method = method_is method p.members.method (b ∙ ap (λ (r : ProductRow). r.method) e) k;
+    rate = ap (λ (r : ProductRow). r.rate) e k;
+    freq = frequency_is freq p.members.freq (c ∙ ap (λ (r : ProductRow). r.frequency) e) k;
+    every = ap (λ (r : ProductRow). r.every) e k;
+    principal_grace = ap (λ (r : ProductRow). r.principal_grace) e k;
+    interest_grace = ap (λ (r : ProductRow). r.interest_grace) e k;
+    min_principal = amount_is least p.members.min_principal (f ∙ ap (λ (r : ProductRow). r.min_principal) e) k;
+    max_principal = amount_is most p.members.max_principal (g ∙ ap (λ (r : ProductRow). r.max_principal) e) k;
+    min_periods = ap (λ (r : ProductRow). r.min_periods) e k;
+    max_periods = ap (λ (r : ProductRow). r.max_periods) e k;
+    strategy = strategy_is strategy p.members.strategy (d ∙ ap (λ (r : ProductRow). r.strategy) e) k;
+    disbursement_charge = ap (λ (r : ProductRow). r.disbursement_charge) e k;
+    instalment_charge = ap (λ (r : ProductRow). r.instalment_charge) e k;
+    overdue_charge = ap (λ (r : ProductRow). r.overdue_charge) e k;
+  };
+  retired = flag_is retired p.retired (h ∙ ap (λ (r : ProductRow). r.retired) e) k;
+}
+
+-- a row that was found is that of something that is there
+pub known : {A R V : Type 0} (of : V → R) (make : A → R) (found : Option V) (row : V) (o : Option A) → found ≡ Some row → option_map of found ≡ option_map make o → (a : A) × (o ≡ Some a) × (of row ≡ make a)
+known of make found row o is e = go o (sym (ap (option_map of) is) ∙ e)
+  where
+    go : (o : Option _) → Some (of row) ≡ option_map make o → (a : _) × (o ≡ Some a) × (of row ≡ make a)
+    go None h = absurd (let k : Some (of row) ≡ None = h in cc)
+    go (Some a) h = (a, refl, (let k : Some (of row) ≡ Some (make a) = h in cc))
+
+-- ---- the commits
+
+pub day_becomes : (day : ℕ) (i : Institution) (m : MetaRecord) → IsSound (committed (SetDay day) i) → m.one ≡ 1 → m.schema ≡ 1 → string_bytes m.day ≡ day_text day → Becomes (PutMeta m ∷ []) i (committed (SetDay day) i)
+day_becomes day i m sound one schema text = record {
+  sound = sound;
+  fits = (refl, tt);
+  is = λ k. Some (record (tables_of i) { meta = put_item by_meta (record { one = one k; schema = schema k; day = text k }) (tables_of i).meta });
+}
+
+pub charge_becomes : (c : Charge) (i : Institution) (x : ChargeRecord) → IsSound (committed (AddCharge c.name c.kind c.calc c.value) i) → charge_of x ≡ charge_as (length i.catalogue.charges + 1) c
+    → Becomes (PutCharge x ∷ []) i (committed (AddCharge c.name c.kind c.calc c.value) i)
+charge_becomes c i x sound is = record { sound = sound; fits = (refl, tt); is = λ k. Some (record (tables_of i) { charges = charges k }) }
+  where
+    charges : put_item by_charge (charge_of x) (tables_of i).charges ≡ numbered_from charge_as 1 (i.catalogue.charges ++ c ∷ [])
+    charges = ap (λ r. put_item by_charge r (tables_of i).charges) is ∙ put_listed_last charge_as by_charge (λ n m a b. refl) c (length i.catalogue.charges + 1) 1 i.catalogue.charges (omega arith)
+
+pub product_becomes : (members : ProductMembers) (i : Institution) (x : ProductRecord) → IsSound (committed (AddProduct members) i) → product_of x ≡ product_as (length i.catalogue.products + 1) (record { members = members; retired = false })
+    → Becomes (PutProduct x ∷ []) i (committed (AddProduct members) i)
+product_becomes members i x sound is = record { sound = sound; fits = (refl, tt); is = λ k. Some (record (tables_of i) { products = products k }) }
+  where
+    new : Offer
+    new = record { members = members; retired = false }
+
+    products : put_item by_product (product_of x) (tables_of i).products ≡ numbered_from product_as 1 (i.catalogue.products ++ new ∷ [])
+    products = ap (λ r. put_item by_product r (tables_of i).products) is ∙ put_listed_last product_as by_product (λ n m a b. refl) new (length i.catalogue.products + 1) 1 i.catalogue.products (omega arith)
+
+pub retired_becomes : (n : ℕ) (p : Offer) (i : Institution) (x : ProductRecord) → IsSound (committed (RetireProduct n) i) → numbered i.catalogue.products n ≡ Some p → product_of x ≡ product_as n (record p { retired = true })
+    → Becomes (PutProduct x ∷ []) i (committed (RetireProduct n) i)
+retired_becomes n p i x sound there is = record { sound = sound; fits = (refl, tt); is = λ k. Some (record (tables_of i) { products = products k }) }
+  where
+    change : Offer → Offer
+    change o = record o { retired = true }
+
+    products : put_item by_product (product_of x) (tables_of i).products ≡ numbered_from product_as 1 (with_numbered n change i.catalogue.products)
+    products = ap (λ r. put_item by_product r (tables_of i).products) is ∙ put_listed product_as by_product (λ n m a b. refl) change p n i.catalogue.products there

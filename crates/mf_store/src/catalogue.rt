@@ -1,0 +1,221 @@
+//! The catalogue: its charges and products by number, and the commits that change it.
+
+ghost use Rattle.std.specs.Prelude.{◌≡◌, ℕ, false, IfOk, IfErr};
+ghost use Rattle.mf_base.specs.declared.fault.Fault.TheVariants.{F20};
+ghost use Rattle.mf_model.specs.Institution.{Institution, Charge, Offer, charge_def, charge_in, product_in, product_of as product_numbered};
+ghost use Rattle.mf_model.specs.Store.{Commits, catalogue_counts};
+ghost use Rattle.mf_model.specs.declared.commit.Commit.TheVariants.{SetDay, AddCharge, AddProduct, RetireProduct};
+ghost use Rattle.mf_store.specs.Flat.{charge_as, product_as};
+ghost use Rattle.mf_store.specs.Writes.{charge_of, product_of};
+
+use crate::counts::Kind;
+use crate::numbers::{
+    calc_from, flag_from, frequency_from, kind_from, method_from, number_of_calc,
+    number_of_frequency, number_of_kind, number_of_method, number_of_strategy, signed,
+    strategy_from, unsigned,
+};
+use crate::records::{ChargeRecord, MetaRecord, ProductRecord};
+use crate::store::Store;
+use crate::writes::StoreWrite;
+use mf_base::{Day, Fault, Name};
+use mf_catalog::{Calc, ChargeDef, ChargeKind, Product, ProductMembers};
+use mf_model::CatalogueCounts;
+use sqlite::Alter;
+use std::alloc::Global;
+
+/// The charge of a row.
+fn charge_from(row: ChargeRecord) -> Result<ChargeDef, Fault>
+    ensures charge { IfOk result (λ charge. (number : ℕ) (c : Charge) → charge_of row ≡ charge_as number c → charge ≡ charge_def number c) }
+    ensures gives_up { IfErr result (λ fault. fault ≡ F20) }
+{
+    let kind = kind_from(row.kind)?;
+    let calc = calc_from(row.calc)?;
+    let value = unsigned(row.value)?;
+    Ok(ChargeDef {
+        number: row.number,
+        name: Name::new(row.name),
+        kind,
+        calc,
+        value,
+    })
+}
+
+/// The row of a charge.
+fn charge_row(
+    number: u32,
+    name: Name,
+    kind: ChargeKind,
+    calc: Calc,
+    value: u64,
+) -> Result<ChargeRecord, Fault>
+    ensures row { IfOk result (λ row. charge_of row ≡ charge_as number (record { name = name; kind = kind; calc = calc; value = value })) }
+    ensures gives_up { IfErr result (λ fault. fault ≡ F20) }
+{
+    let stored = signed(value)?;
+    Ok(ChargeRecord {
+        number,
+        name: name.into_text(),
+        kind: number_of_kind(kind),
+        calc: number_of_calc(calc),
+        value: stored,
+    })
+}
+
+/// The product of a row.
+fn product_from(row: ProductRecord) -> Result<Product, Fault>
+    ensures product { IfOk result (λ product. (number : ℕ) (p : Offer) → product_of row ≡ product_as number p → product ≡ product_numbered number p) }
+    ensures gives_up { IfErr result (λ fault. fault ≡ F20) }
+{
+    let method = method_from(row.method)?;
+    let freq = frequency_from(row.frequency)?;
+    let strategy = strategy_from(row.strategy)?;
+    let min_principal = unsigned(row.min_principal)?;
+    let max_principal = unsigned(row.max_principal)?;
+    let retired = flag_from(row.retired)?;
+    Ok(Product {
+        number: row.number,
+        members: ProductMembers {
+            name: Name::new(row.name),
+            method,
+            rate: row.rate,
+            freq,
+            every: row.every,
+            principal_grace: row.principal_grace,
+            interest_grace: row.interest_grace,
+            min_principal,
+            max_principal,
+            min_periods: row.min_periods,
+            max_periods: row.max_periods,
+            strategy,
+            disbursement_charge: row.disbursement_charge,
+            instalment_charge: row.instalment_charge,
+            overdue_charge: row.overdue_charge,
+        },
+        retired,
+    })
+}
+
+/// The row of a new product.
+fn product_row(number: u32, members: ProductMembers) -> Result<ProductRecord, Fault>
+    ensures row { IfOk result (λ row. product_of row ≡ product_as number (record { members = members; retired = false })) }
+    ensures gives_up { IfErr result (λ fault. fault ≡ F20) }
+{
+    let min_principal = signed(members.min_principal)?;
+    let max_principal = signed(members.max_principal)?;
+    Ok(ProductRecord {
+        number,
+        name: members.name.into_text(),
+        method: number_of_method(members.method),
+        rate: members.rate,
+        frequency: number_of_frequency(members.freq),
+        every: members.every,
+        principal_grace: members.principal_grace,
+        interest_grace: members.interest_grace,
+        min_principal,
+        max_principal,
+        min_periods: members.min_periods,
+        max_periods: members.max_periods,
+        strategy: number_of_strategy(members.strategy),
+        disbursement_charge: members.disbursement_charge,
+        instalment_charge: members.instalment_charge,
+        overdue_charge: members.overdue_charge,
+        retired: 0,
+    })
+}
+
+/// The row of the same product, retired.
+fn retired(row: ProductRecord) -> ProductRecord
+    ensures { product_of result ≡ record (product_of row) { retired = 1 } }
+{
+    let mut row = row;
+    row.retired = 1;
+    row
+}
+
+impl<S: Alter> Store<S> {
+    ghost use Rattle.mf_store.specs.Stands.{StandsFor, IsClean, Leaves, Stays};
+
+    /// How many charges and products the catalogue has: one less than their next numbers.
+    pub fn count_catalogue(&mut self) -> Result<CatalogueCounts, Fault>
+        ensures kept { Stays S.Store self.old self.new }
+        ensures gives_up { IfErr result (λ fault. fault ≡ F20) }
+        ensures value { IsClean S.Store self.new → (i : Institution) → StandsFor S.Store self.old i → IfOk result (λ counts. counts ≡ catalogue_counts i) }
+    {
+        let charges = self.last_number(Kind::Charges)?;
+        let products = self.last_number(Kind::Products)?;
+        Ok(CatalogueCounts { charges, products })
+    }
+
+    /// A charge, or None where there is none with this number.
+    pub fn charge_at(&mut self, number: u32) -> Result<Option<ChargeDef>, Fault>
+        ensures kept { Stays S.Store self.old self.new }
+        ensures gives_up { IfErr result (λ fault. fault ≡ F20) }
+        ensures value { IsClean S.Store self.new → (i : Institution) → StandsFor S.Store self.old i → IfOk result (λ charge. charge ≡ charge_in i.catalogue number) }
+    {
+        match self.find_charge(number)? {
+            None => Ok(None),
+            Some(row) => Ok(Some(charge_from(row)?)),
+        }
+    }
+
+    /// A product, or None where there is none with this number.
+    pub fn product_at(&mut self, number: u32) -> Result<Option<Product>, Fault>
+        ensures kept { Stays S.Store self.old self.new }
+        ensures gives_up { IfErr result (λ fault. fault ≡ F20) }
+        ensures value { IsClean S.Store self.new → (i : Institution) → StandsFor S.Store self.old i → IfOk result (λ product. product ≡ product_in i.catalogue number) }
+    {
+        let Some(row) = self.find_product(number)? else {
+            return Ok(None);
+        };
+        let product = product_from(row)?;
+        Ok(Some(product))
+    }
+
+    /// Makes this the business day.
+    pub fn set_day(&mut self, alloc: Global, day: Day) -> Result<(), Fault>
+        ensures { Commits (StandsFor S.Store) (IsClean S.Store) (Leaves S.Store) (SetDay day) self.old self.new result }
+    {
+        let text = day.text(alloc)?;
+        let meta = MetaRecord {
+            one: 1,
+            schema: 1,
+            day: text,
+        };
+        self.make(&[StoreWrite::PutMeta(meta)])
+    }
+
+    /// Adds a charge, under the next number.
+    pub fn add_charge(
+        &mut self,
+        name: Name,
+        kind: ChargeKind,
+        calc: Calc,
+        value: u64,
+    ) -> Result<(), Fault>
+        ensures { Commits (StandsFor S.Store) (IsClean S.Store) (Leaves S.Store) (AddCharge name kind calc value) self.old self.new result }
+    {
+        let last = self.last_number(Kind::Charges)?;
+        let row = charge_row(last + 1, name, kind, calc, value)?;
+        self.make(&[StoreWrite::PutCharge(row)])
+    }
+
+    /// Adds a product, under the next number.
+    pub fn add_product(&mut self, members: ProductMembers) -> Result<(), Fault>
+        ensures { Commits (StandsFor S.Store) (IsClean S.Store) (Leaves S.Store) (AddProduct members) self.old self.new result }
+    {
+        let last = self.last_number(Kind::Products)?;
+        let row = product_row(last + 1, members)?;
+        self.make(&[StoreWrite::PutProduct(row)])
+    }
+
+    /// Retires a product that is there.
+    pub fn retire_product(&mut self, product: u32) -> Result<(), Fault>
+        ensures { Commits (StandsFor S.Store) (IsClean S.Store) (Leaves S.Store) (RetireProduct product) self.old self.new result }
+    {
+        let Some(found) = self.find_product(product)? else {
+            return Err(Fault::F20);
+        };
+        let row = retired(found);
+        self.make(&[StoreWrite::PutProduct(row)])
+    }
+}
