@@ -1,5 +1,5 @@
 -- The catalogue: what the rows of charges and products are read as, and its commits.
-use Rattle.std.proofs.Common.{◌≡◌, ◌+◌, ℕ, ℤ, pos, Bool, true, false, cond, List, [], ◌∷◌, ◌++◌, length, Option, None, Some, refl, sym, ap, ◌∙◌, arith, ◌==◌, string_bytes}
+use Rattle.std.proofs.Common.{◌≡◌, ◌+◌, ℕ, pos, Bool, true, false, cond, List, [], ◌∷◌, ◌++◌, length, Option, None, Some, refl, sym, ap, ◌∙◌, arith, ◌==◌, string_bytes}
 use Rattle.std.specs.Option.{option_map}
 use Rattle.mf_base.specs.DayText.{day_text}
 use Rattle.mf_base.specs.declared.day.Freq.{Freq}
@@ -22,7 +22,7 @@ use Rattle.mf_model.specs.Store.{committed}
 use Rattle.mf_model.specs.declared.commit.Commit.TheVariants.{SetDay, AddCharge, AddProduct, RetireProduct}
 use Rattle.mf_store.specs.Rows.{ChargeRow, ProductRow, by_meta, by_charge, by_product}
 use Rattle.mf_store.specs.Flat.{tables_of, numbered_from, kind_number, calc_number, method_number, frequency_number, strategy_number, flag_number, charge_as, product_as}
-use Rattle.mf_store.specs.Writes.{meta_of, charge_of, product_of}
+use Rattle.mf_store.specs.Writes.{charge_of, product_of}
 use Rattle.mf_store.specs.declared.records.MetaRecord.{MetaRecord}
 use Rattle.mf_store.specs.declared.records.ChargeRecord.{ChargeRecord}
 use Rattle.mf_store.specs.declared.records.ProductRecord.{ProductRecord}
@@ -32,7 +32,7 @@ use Rattle.mf_store.proofs.FlatLemmas.{put_listed, put_listed_last}
 
 -- ---- a number stands for one choice
 
-kind_at : ℕ → ChargeKind
+abbrev kind_at : ℕ → ChargeKind
 kind_at n = cond (n == 1) Disbursement (cond (n == 2) Instalment (cond (n == 3) Overdue DueDate))
 
 kind_back : (k : ChargeKind) → kind_at (kind_number k) ≡ k
@@ -44,7 +44,7 @@ kind_back DueDate = refl
 pub kind_is : (a b : ChargeKind) → kind_number a ≡ kind_number b → a ≡ b
 kind_is a b e = sym (kind_back a) ∙ ap kind_at e ∙ kind_back b
 
-calc_at : ℕ → Calc
+abbrev calc_at : ℕ → Calc
 calc_at n = cond (n == 1) calc.Flat (cond (n == 2) calc.OfAmount (cond (n == 3) calc.OfInterest calc.OfBoth))
 
 calc_back : (k : Calc) → calc_at (calc_number k) ≡ k
@@ -56,7 +56,7 @@ calc_back calc.OfBoth = refl
 pub calc_is : (a b : Calc) → calc_number a ≡ calc_number b → a ≡ b
 calc_is a b e = sym (calc_back a) ∙ ap calc_at e ∙ calc_back b
 
-method_at : ℕ → Method
+abbrev method_at : ℕ → Method
 method_at n = cond (n == 1) method.Flat (cond (n == 2) method.EqualPrincipal method.Fixed)
 
 method_back : (k : Method) → method_at (method_number k) ≡ k
@@ -67,7 +67,7 @@ method_back method.Fixed = refl
 pub method_is : (a b : Method) → method_number a ≡ method_number b → a ≡ b
 method_is a b e = sym (method_back a) ∙ ap method_at e ∙ method_back b
 
-frequency_at : ℕ → Freq
+abbrev frequency_at : ℕ → Freq
 frequency_at n = cond (n == 1) Weeks Months
 
 frequency_back : (k : Freq) → frequency_at (frequency_number k) ≡ k
@@ -77,7 +77,7 @@ frequency_back Months = refl
 pub frequency_is : (a b : Freq) → frequency_number a ≡ frequency_number b → a ≡ b
 frequency_is a b e = sym (frequency_back a) ∙ ap frequency_at e ∙ frequency_back b
 
-strategy_at : ℕ → StrategyName
+abbrev strategy_at : ℕ → StrategyName
 strategy_at n = cond (n == 1) MifosStandard (cond (n == 2) PrincipalFirst InterestFirst)
 
 strategy_back : (k : StrategyName) → strategy_at (strategy_number k) ≡ k
@@ -88,7 +88,7 @@ strategy_back InterestFirst = refl
 pub strategy_is : (a b : StrategyName) → strategy_number a ≡ strategy_number b → a ≡ b
 strategy_is a b e = sym (strategy_back a) ∙ ap strategy_at e ∙ strategy_back b
 
-flag_at : ℕ → Bool
+abbrev flag_at : ℕ → Bool
 flag_at n = cond (n == 0) false true
 
 flag_back : (k : Bool) → flag_at (flag_number k) ≡ k

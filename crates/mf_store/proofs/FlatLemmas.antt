@@ -71,6 +71,12 @@ greater x y n m h = grind (arith, nat_tests)
 later : (x n m : ℕ) → m < n → ordering_then (nat_cmp x x) (nat_cmp n m) ≡ Greater
 later x n m h = grind (arith, nat_tests)
 
+with_numbered_later : {A : Type 0} (d : ℕ) (change : A → A) (b : A) (xs : List A) → with_numbered (suc (suc d)) change (b ∷ xs) ≡ b ∷ with_numbered (suc d) change xs
+with_numbered_later d change b xs =
+    let later : (suc (suc d) == 1) ≡ false = grind (arith, nat_tests) in
+    let place : suc (suc d) - 1 ≡ suc d = omega arith in
+    ap (λ t. cond t (change b ∷ xs) (b ∷ with_numbered (suc (suc d) - 1) change xs)) later ∙ ap (λ n. b ∷ with_numbered n change xs) place
+
 -- ---- rows of one list, by number
 
 module _ {A R : Type 0} (make : ℕ → A → R) (p : ℕ → R → Bool) (tests : (k m : ℕ) (a : A) → p k (make m a) ≡ is_eq (nat_cmp k m)) where
@@ -109,7 +115,7 @@ module _ {A R : Type 0} (make : ℕ → A → R) (cmp : R → R → Ordering) (r
       ∙ (λ t. make (same t) (change (sym is t)) ∷ numbered_from make (m + 1) xs)
   put_listed_over change a n m (suc d) (b ∷ xs) e at =
       put_past cmp (make n (change a)) (make m b) (numbered_from make (m + 1) xs) (ranks n m (change a) b ∙ (let past : nat_cmp n m ≡ Greater = grind (arith, nat_tests) in past))
-      ∙ ap (λ l. make m b ∷ l) (put_listed_over change a n (m + 1) d xs (omega arith) at)
+      ∙ ap (λ l. make m b ∷ l) (put_listed_over change a n (m + 1) d xs (omega arith) at) ∙ ap (numbered_from make m) (sym (with_numbered_later d change b xs))
 
   -- the row of this number, changed
   pub put_listed : (change : A → A) (a : A) (n : ℕ) (xs : List A) → numbered xs n ≡ Some a → put_item cmp (make n (change a)) (numbered_from make 1 xs) ≡ numbered_from make 1 (with_numbered n change xs)
@@ -217,7 +223,7 @@ module _ {A R : Type 0} (make : ℕ → ℕ → A → R) (of : Rows → List A) 
         ∙ (λ t. make x (same t) (change (sym is t)) ∷ numbered_from (make x) (m + 1) xs ++ ys)
     over_in_office change a x n m (suc d) (b ∷ xs) ys e at after =
         put_past cmp (make x n (change a)) (make x m b) (numbered_from (make x) (m + 1) xs ++ ys) (ranks x n x m (change a) b ∙ later x n m (omega arith))
-        ∙ ap (λ l. make x m b ∷ l) (over_in_office change a x n (m + 1) d xs ys (omega arith) at after)
+        ∙ ap (λ l. make x m b ∷ l) (over_in_office change a x n (m + 1) d xs ys (omega arith) at after) ∙ ap (λ l. numbered_from (make x) m l ++ ys) (sym (with_numbered_later d change b xs))
 
     -- the row of this number of an office, changed
     pub put_over_of : (change : A → A) (a : A) (x n : ℕ) (new : Rows) (fs : List Office) → Ascending fs → numbered (of (rows_of (office_at x fs))) n ≡ Some a → of new ≡ with_numbered n change (of (rows_of (office_at x fs)))

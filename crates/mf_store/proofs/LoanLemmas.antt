@@ -1,5 +1,5 @@
 -- Loans: what their rows are read as, the lists of them, and their commits.
-use Rattle.std.proofs.Common.{◌≡◌, ◌<◌, ◌≤◌, ◌+◌, ℕ, ℤ, zero, suc, pos, Bool, true, false, ◌&&◌, List, [], ◌∷◌, ◌++◌, map, filter, length, take, drop, get_or, Option, None, Some, refl, sym, ap, ap₂, ◌∙◌, subst, arith, is_eq, is_gt, nat_cmp, string_bytes}
+use Rattle.std.proofs.Common.{◌≡◌, ◌<◌, ◌≤◌, ◌+◌, ℕ, zero, suc, pos, true, false, ◌&&◌, List, [], ◌∷◌, ◌++◌, map, filter, length, take, drop, get_or, Some, refl, sym, ap, ap₂, ◌∙◌, subst, arith, is_eq, is_gt, nat_cmp, string_bytes}
 use Rattle.std.specs.Option.{option_map}
 use Rattle.std.proofs.lemmas.Bool.{and_parts}
 use Rattle.std.proofs.lemmas.Bool.Decides.{nat_tests}
@@ -23,7 +23,7 @@ use Rattle.mf_model.specs.Store.{committed, rows_at}
 use Rattle.mf_model.specs.Tree.{is_there}
 use Rattle.mf_store.specs.Rows.{LoanRow, by_staff, by_client, by_loan, loan_row}
 use Rattle.mf_store.specs.Looks.{is_loan_of, is_loan_above}
-use Rattle.mf_store.specs.Flat.{tables_of, numbered_from, all_rows, staff_in, client_in, loan_in, line_in, approval_text}
+use Rattle.mf_store.specs.Flat.{tables_of, numbered_from, staff_in, client_in, loan_in, line_in, approval_text}
 use Rattle.mf_store.specs.Writes.{loan_of}
 use Rattle.mf_store.specs.declared.records.LoanRecord.{LoanRecord}
 use Rattle.mf_store.specs.declared.writes.StoreWrite.TheVariants.{PutLoan}
@@ -31,7 +31,7 @@ use Rattle.mf_store.specs.Stands.{Becomes, Shows}
 use Rattle.mf_store.proofs.CatalogueLemmas.{amount_is}
 use Rattle.mf_store.proofs.CommitLemmas.{same_lists, offices-with_rows}
 use Rattle.mf_store.proofs.FlatLemmas.{put_row_of, put_over_of, same_rows_of}
-use Rattle.mf_store.proofs.OfficeRowsLemmas.{rows_in_office, map_numbered}
+use Rattle.mf_store.proofs.OfficeRowsLemmas.{rows_in_office, take_whole}
 use Rattle.mf_store.proofs.ReadLemmas.{loans_above_shows}
 use Rattle.mf_store.proofs.Texts.{loans_above}
 
@@ -147,7 +147,7 @@ shown_loans after ls = take 100 (drop after (counted 1 ls))
 pub above_shown : (x after : ℕ) (i : Institution) (rows : List Row) → IsSound i → Shows i loans_above (Int (pos x) ∷ Int (pos after) ∷ []) rows → rows ≡ map (λ (l : ℕ × Loan). loan_row (loan_in x l.0 l.1)) (shown_loans after (rows_at x i).loans)
 above_shown x after i rows sound s =
     loans_above_shows x after s.db rows (tables_of i).loans s.serves.schema_is s.serves.holds.loans s.answers
-    ∙ ap (λ l. take 100 (map loan_row l)) (sym (filter-filter (is_loan_above x after) (is_loan_of x) (λ r h. (and_parts h).0) (tables_of i).loans)
+    ∙ ap (λ l. take 100 (map loan_row l)) (sym (filter-filter (is_loan_above x after) (is_loan_of x) (λ r h. (and_parts _ _ h).0) (tables_of i).loans)
     ∙ ap (filter (is_loan_above x after)) (rows_in_office loan_in (λ rows. rows.loans) refl is_loan_of (λ x y m a. refl) x i.offices sound.tree.ascending) ∙ above_dropped x after 1 after loans (omega arith) ∙ ap (drop after) (rows_counted x 1 loans) ∙ drop_map row after (counted 1 loans))
     ∙ ap (take 100) (map_map loan_row row (drop after (counted 1 loans))) ∙ take_map (λ (l : ℕ × Loan). loan_row (loan_in x l.0 l.1)) 100 (drop after (counted 1 loans))
   where
@@ -173,3 +173,9 @@ line_more row line rows n item x xs ys ls are low is more before reads =
     let low' : n < length ls = subst (λ m. n < m) (ap length are ∙ length-map ls row) low in
     let here = reads (get_or ls n no_loan) (is ∙ ap (λ l. get_or l n item) are ∙ get_or-map row ls n no_loan item low') in
     more ∙ ap₂ ◌++◌ before (ap (λ y. y ∷ []) here) ∙ sym (ap (map line) (take_more ls n no_loan low') ∙ map-append line (take n ls) (get_or ls n no_loan ∷ []))
+
+-- all rows are read
+pub line_all : (row : ℕ × Loan → Row) (line : ℕ × Loan → LoanLine) (rows : List Row) (n : ℕ) (xs : List LoanLine) (ls : List (ℕ × Loan)) → rows ≡ map row ls → length rows ≤ n → xs ≡ map line (take n ls) → xs ≡ map line ls
+line_all row line rows n xs ls are past is =
+    let same : length rows ≡ length ls = ap length are ∙ length-map ls row in
+    is ∙ ap (map line) (take_whole n ls (omega (arith, same, past)))

@@ -11,7 +11,7 @@ use Rattle.mf_model.specs.Institution.{Institution, Office, Rows, Staff, office_
 use Rattle.mf_model.specs.Sound.{IsSound}
 use Rattle.mf_model.specs.Store.{rows_of, rows_at}
 use Rattle.mf_model.specs.Tree.{Above, Ascending}
-use Rattle.mf_store.specs.Rows.{StaffRow, ClientRow, staff_row, client_row, loan_row}
+use Rattle.mf_store.specs.Rows.{StaffRow, staff_row, client_row, loan_row}
 use Rattle.mf_store.specs.Looks.{is_staff_of, is_client_of, is_loan_of}
 use Rattle.mf_store.specs.Flat.{numbered_from, all_rows, staff_in, client_in, loan_in, role_number, tables_of}
 use Rattle.mf_store.specs.Stands.{Shows}
@@ -91,7 +91,7 @@ read_more row rows k item y xs ys all are low is more before reads =
     let here = reads (1 + k) (get_or all k y) (is ∙ ap (λ l. get_or l k item) are ∙ numbered_at row 1 all k item y low') in
     more ∙ ap₂ ◌++◌ before (ap (λ a. a ∷ []) here) ∙ sym (take_more all k y low')
 
-take_whole : {A : Type 0} (k : ℕ) (xs : List A) → length xs ≤ k → take k xs ≡ xs
+pub take_whole : {A : Type 0} (k : ℕ) (xs : List A) → length xs ≤ k → take k xs ≡ xs
 take_whole zero [] h = refl
 take_whole (suc k) [] h = refl
 take_whole zero (x ∷ xs) h = absurd (omega arith)

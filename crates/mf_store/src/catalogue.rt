@@ -152,10 +152,11 @@ impl<S: Alter> Store<S> {
         ensures gives_up { IfErr result (λ fault. fault ≡ F20) }
         ensures value { IsClean S.Store self.new → (i : Institution) → StandsFor S.Store self.old i → IfOk result (λ charge. charge ≡ charge_in i.catalogue number) }
     {
-        match self.find_charge(number)? {
-            None => Ok(None),
-            Some(row) => Ok(Some(charge_from(row)?)),
-        }
+        let Some(row) = self.find_charge(number)? else {
+            return Ok(None);
+        };
+        let charge = charge_from(row)?;
+        Ok(Some(charge))
     }
 
     /// A product, or None where there is none with this number.

@@ -22,4 +22,6 @@ pub use office_rows::{OfficeRows, StaffMember};
 pub use store::Store;
 
 #[cfg(test)]
+mod loan_tests;
+#[cfg(test)]
 mod tests;

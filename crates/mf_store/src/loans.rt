@@ -102,15 +102,23 @@ fn loan_row(alloc: Global, office: u32, number: u32, loan: Loan) -> Result<LoanR
 }
 
 /// The row of the same loan, at another stage.
-fn staged(alloc: Global, row: LoanRecord, stage: Stage) -> Result<LoanRecord, Fault>
-    ensures row { IfOk result (λ new. loan_of new ≡ record (loan_of row) { stage = status_of stage; approved = approval_text stage }) }
+fn staged(alloc: Global, row: &LoanRecord, stage: &Stage) -> Result<LoanRecord, Fault>
+    ensures row { IfOk result (λ new. (office number : ℕ) (l : ModelLoan) → loan_of row.now ≡ loan_in office number l → loan_of new ≡ loan_in office number (record l { stage = stage.now })) }
     ensures gives_up { IfErr result (λ fault. fault ≡ F20) }
 {
-    let approved = approval(alloc, stage)?;
-    let mut row = row;
-    row.approved = approved;
-    row.stage = stage.status() as u32;
-    Ok(row)
+    let status = stage.status() as u32;
+    let approved = approval(alloc, *stage)?;
+    Ok(LoanRecord {
+        office: row.office,
+        number: row.number,
+        client: row.client,
+        product: row.product,
+        principal: row.principal,
+        periods: row.periods,
+        stage: status,
+        approved,
+        disbursed: None,
+    })
 }
 
 /// The status that a row's stage is.
@@ -206,7 +214,7 @@ impl<S: Alter> Store<S> {
         let Some(found) = self.find_loan(loan.office.get(), loan.number.get())? else {
             return Err(Fault::F20);
         };
-        let row = staged(alloc, found, stage)?;
+        let row = staged(alloc, &found, &stage)?;
         self.make(&[StoreWrite::PutLoan(row)])
     }
 }

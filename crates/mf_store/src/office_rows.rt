@@ -135,7 +135,21 @@ fn loans_from(alloc: Global, rows: &[Row]) -> Result<Vec<Loan>, Fault>
 {
     let mut loans = Vec::new(alloc);
     for row in rows {
-        loans.push(loan_in_row(row)?)?;
+        let loan = loan_in_row(row)?;
+        let Loan {
+            client,
+            product,
+            principal,
+            periods,
+            stage,
+        } = loan;
+        loans.push(Loan {
+            client,
+            product,
+            principal,
+            periods,
+            stage,
+        })?;
     }
     Ok(loans)
 }

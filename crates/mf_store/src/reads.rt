@@ -122,7 +122,11 @@ impl<S: Alter> Store<S> {
         given_up(first(&rows))
     }
 
-    pub(crate) fn find_loan(&mut self, office: u32, number: u32) -> Result<Option<LoanRecord>, Fault>
+    pub(crate) fn find_loan(
+        &mut self,
+        office: u32,
+        number: u32,
+    ) -> Result<Option<LoanRecord>, Fault>
         ensures kept { Stays S.Store self.old self.new }
         ensures gives_up { IfErr result (λ fault. fault ≡ F20) }
         ensures value { IsClean S.Store self.new → (i : Institution) → StandsFor S.Store self.old i → IfOk result (λ x. option_map loan_of x ≡ loan_row_at office number i) }

@@ -137,7 +137,13 @@ fn put_charge<S: Alter>(tx: &mut Transaction<'_, S>, charge: &ChargeRecord) -> R
     run(
         tx,
         "INSERT INTO charges VALUES (?1, ?2, ?3, ?4, ?5) ON CONFLICT (number) DO UPDATE SET name = excluded.name, kind = excluded.kind, calc = excluded.calc, value = excluded.value",
-        params![charge.number, &charge.name, charge.kind, charge.calc, &charge.value],
+        params![
+            charge.number,
+            &charge.name,
+            charge.kind,
+            charge.calc,
+            &charge.value
+        ],
     )
 }
 
@@ -151,7 +157,25 @@ fn put_product<S: Alter>(tx: &mut Transaction<'_, S>, product: &ProductRecord) -
     run(
         tx,
         "INSERT INTO products VALUES (?1, ?2, ?3, ?4, ?5, ?6, ?7, ?8, ?9, ?10, ?11, ?12, ?13, ?14, ?15, ?16, ?17) ON CONFLICT (number) DO UPDATE SET name = excluded.name, method = excluded.method, rate = excluded.rate, frequency = excluded.frequency, every = excluded.every, principal_grace = excluded.principal_grace, interest_grace = excluded.interest_grace, min_principal = excluded.min_principal, max_principal = excluded.max_principal, min_periods = excluded.min_periods, max_periods = excluded.max_periods, strategy = excluded.strategy, disbursement_charge = excluded.disbursement_charge, instalment_charge = excluded.instalment_charge, overdue_charge = excluded.overdue_charge, retired = excluded.retired",
-        params![product.number, &product.name, product.method, product.rate, product.frequency, product.every, product.principal_grace, product.interest_grace, &product.min_principal, &product.max_principal, product.min_periods, product.max_periods, product.strategy, product.disbursement_charge, product.instalment_charge, product.overdue_charge, product.retired],
+        params![
+            product.number,
+            &product.name,
+            product.method,
+            product.rate,
+            product.frequency,
+            product.every,
+            product.principal_grace,
+            product.interest_grace,
+            &product.min_principal,
+            &product.max_principal,
+            product.min_periods,
+            product.max_periods,
+            product.strategy,
+            product.disbursement_charge,
+            product.instalment_charge,
+            product.overdue_charge,
+            product.retired
+        ],
     )
 }
 
@@ -165,7 +189,17 @@ fn put_loan<S: Alter>(tx: &mut Transaction<'_, S>, loan: &LoanRecord) -> Result<
     run(
         tx,
         "INSERT INTO loans VALUES (?1, ?2, ?3, ?4, ?5, ?6, ?7, ?8, ?9) ON CONFLICT (office, number) DO UPDATE SET client = excluded.client, product = excluded.product, principal = excluded.principal, periods = excluded.periods, stage = excluded.stage, approved = excluded.approved, disbursed = excluded.disbursed",
-        params![loan.office, loan.number, loan.client, loan.product, &loan.principal, loan.periods, loan.stage, &loan.approved, &loan.disbursed],
+        params![
+            loan.office,
+            loan.number,
+            loan.client,
+            loan.product,
+            &loan.principal,
+            loan.periods,
+            loan.stage,
+            &loan.approved,
+            &loan.disbursed
+        ],
     )
 }
 

@@ -1,5 +1,4 @@
 use Rattle.std.proofs.Common.{◌≡◌, IfOk, subst}
-use Rattle.mf_model.specs.declared.loan.Loan.{Loan}
 use Rattle.mf_store.specs.Rows.{LoanRow, loan_row}
 use Rattle.mf_store.specs.Flat.{loan_in}
 use Rattle.mf_store.specs.Writes.{loan_of}

@@ -1,8 +1,5 @@
-use Rattle.std.proofs.Common.{◌≡◌, ℕ, List, ◌∙◌}
-use Rattle.mf_model.specs.Institution.{Staff}
+use Rattle.std.proofs.Common.{◌≡◌, ◌∙◌}
 use Rattle.mf_model.specs.Store.{rows_at}
-use Rattle.mf_store.specs.Rows.{loan_row}
-use Rattle.mf_store.specs.Flat.{loan_in, numbered_from}
 use Rattle.mf_store.proofs.StandLemmas.{weaker_if_ok}
 use Rattle.mf_store.proofs.Texts.{loans_of_office_plain}
 use Rattle.mf_store.proofs.OfficeRowsLemmas.{loans_shown}
