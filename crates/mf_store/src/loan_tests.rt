@@ -98,7 +98,10 @@ fn set_stage(
 }
 
 fn new_store(alloc: Global) -> Result<Store<MemStore>, Fault> {
-    Store::in_memory(alloc, day(b"2024-01-01")?)
+    match Day::parse(b"2024-01-01") {
+        Some(day) => Store::in_memory(alloc, day),
+        None => Err(Fault::F1),
+    }
 }
 
 /// A client, a charge, a product and two loans.
@@ -186,5 +189,78 @@ fn loans_are_listed(rt: HostRuntime) -> Result<(), Fail> {
     assert_eq!(rt; list.as_slice()[0].status, 500);
     let counts = store.next_numbers(office(1)?)?;
     assert_eq!(rt; (counts.clients, counts.loans), (1, 2));
+    Ok(())
+}
+
+/// A client, a charge, a product, a loan, and its rejection.
+fn write(alloc: Global, store: &mut Store<MemStore>, place: u32) -> Result<(), Fault> {
+    match place {
+        0 => store.add_client(office(1)?, name(alloc, "Amina")?),
+        1 => add_charge(alloc, store),
+        2 => add_product(alloc, store),
+        3 => add_loan(alloc, store, 150_000),
+        _ => set_stage(alloc, store, 1, Stage::Rejected),
+    }
+}
+
+/// How many charges, products and loans there are, and the status of the first loan, 0 where there is none.
+fn shown(alloc: Global, store: &mut Store<MemStore>) -> Result<(u32, u32, u32, u16), Fault> {
+    let catalogue = store.count_catalogue()?;
+    let counts = store.next_numbers(office(1)?)?;
+    let list = store.loans_above(alloc, office(1)?, 0)?;
+    let status = match list.as_slice().first() {
+        None => 0,
+        Some(line) => line.status,
+    };
+    Ok((catalogue.charges, catalogue.products, counts.loans, status))
+}
+
+/// What is to be shown after so many of the writes.
+fn after_writes(count: u32) -> (u32, u32, u32, u16) {
+    match count {
+        0 | 1 => (0, 0, 0, 0),
+        2 => (1, 0, 0, 0),
+        3 => (1, 1, 0, 0),
+        4 => (1, 1, 1, 100),
+        _ => (1, 1, 1, 500),
+    }
+}
+
+/// Whether the calls show what they are to after so many writes. They are made again where one gives up.
+fn shows(alloc: Global, store: &mut Store<MemStore>, count: u32) -> Result<bool, Fault> {
+    let found = match shown(alloc, store) {
+        Err(Fault::F20) => shown(alloc, store)?,
+        Err(fault) => return Err(fault),
+        Ok(found) => found,
+    };
+    Ok(found == after_writes(count))
+}
+
+/// Makes a write, a second time where the first gave up. Whether the calls show it then, and after the first nothing of it.
+fn makes(alloc: Global, store: &mut Store<MemStore>, place: u32) -> Result<bool, Fault> {
+    let as_before = match write(alloc, store, place) {
+        Err(Fault::F20) => {
+            let as_before = shows(alloc, store, place)?;
+            write(alloc, store, place)?;
+            as_before
+        }
+        Err(fault) => return Err(fault),
+        Ok(()) => true,
+    };
+    Ok(as_before && shows(alloc, store, place + 1)?)
+}
+
+/// Passes also where any one request for memory is refused.
+#[test]
+fn one_request_for_memory_refused_to_loans(rt: HostRuntime) -> Result<(), Fail> {
+    let alloc = rt.alloc();
+    let mut store = match new_store(alloc) {
+        Err(Fault::F20) => new_store(alloc)?,
+        Err(fault) => return Err(Fail::from(fault)),
+        Ok(store) => store,
+    };
+    for place in 0..5u32 {
+        assert!(rt; makes(alloc, &mut store, place)?, "write {place}");
+    }
     Ok(())
 }
