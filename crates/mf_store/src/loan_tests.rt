@@ -1,3 +1,5 @@
+ghost use Rattle.std.specs.Prelude.{◌<◌};
+
 use crate::Store;
 use mf_base::{Day, Fault, Freq, Name};
 use mf_catalog::{Calc, ChargeKind, Method, ProductMembers, StrategyName};
@@ -237,7 +239,9 @@ fn shows(alloc: Global, store: &mut Store<MemStore>, count: u32) -> Result<bool,
 }
 
 /// Makes a write, a second time where the first gave up. Whether the calls show it then, and after the first nothing of it.
-fn makes(alloc: Global, store: &mut Store<MemStore>, place: u32) -> Result<bool, Fault> {
+fn makes(alloc: Global, store: &mut Store<MemStore>, place: u32) -> Result<bool, Fault>
+    requires { place < 5 }
+{
     let as_before = match write(alloc, store, place) {
         Err(Fault::F20) => {
             let as_before = shows(alloc, store, place)?;
