@@ -1,12 +1,2 @@
 pub mod Calling
-pub mod Asking
-pub mod Feeding
-pub mod Pieces
 pub mod Ran
-pub mod RunLemmas
-pub mod Serving
-pub mod Status
-pub mod Whole
-pub mod Writes
-pub mod PathNumbers
-pub mod DayTexts

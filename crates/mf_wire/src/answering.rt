@@ -3,21 +3,19 @@ ghost use Rattle.std.specs.Prelude.{◌≡◌, ◌≢◌, Ok, IfOk, IfErr, strin
 ghost use Rattle.std.specs.Fn.{FnOnceReturnsAt};
 ghost use Rattle.mf_model.specs.Desk.{reply};
 ghost use Rattle.mf_desk.specs.Answers.{Tells, Changes};
-ghost use Rattle.mf_wire.specs.RequestLine.{parts_now};
-ghost use Rattle.mf_wire.specs.Replies.{reply_line, line_of, replyable as replyable_of};
-ghost use Rattle.mf_wire.specs.Shown.{reply_status, reply_body, shown_line, IsText};
-ghost use Rattle.mf_wire.specs.Requests.{call_of_parts, call_of};
+ghost use Rattle.mf_requests.specs.RequestLine.{parts_now};
+ghost use Rattle.mf_lines.specs.Replies.{reply_line, line_of, replyable as replyable_of};
+ghost use Rattle.mf_replies.specs.Shown.{reply_status, reply_body, shown_line, IsText};
+ghost use Rattle.mf_requests.specs.Requests.{call_of_parts, call_of};
 ghost use Rattle.mf_wire.specs.Runs.{Calls};
 
-use crate::lines::LineDesk;
-use crate::request::read_request;
-use crate::request_line::{LineParts, is_token, line_parts};
-use crate::routes::Routes;
-use crate::showing::{body_text, line_text, status};
 use mf_base::Fault;
 use mf_desk::answer;
+use mf_lines::LineDesk;
 use mf_model::{InstitutionStore, Reply};
 use mf_office::Caller;
+use mf_replies::{body_text, line_text, status};
+use mf_requests::{LineParts, Routes, is_token, line_parts, read_request};
 use std::alloc::Global;
 
 /// F19 tells of a file that is opened. No request is refused with it, so a store that told it gave up.
@@ -120,13 +118,19 @@ pub fn answer_text<S: InstitutionStore>(
     ))
 }
 
-impl<S: InstitutionStore> LineDesk<S> for Routes {
+/// The desk as a stream of lines meets it, with its routes made once for a run.
+#[derive(Drop)]
+pub struct Desk {
+    pub routes: Routes,
+}
+
+impl<S: InstitutionStore> LineDesk<S> for Desk {
     ghost may_answer = { λ _ old line text new. Calls S.stands S.clean S.leaves (λ r. text ≡ shown_line r) (call_of line) old new };
 
     fn answer(&self, alloc: Global, state: &mut S, line: &[u8]) -> Result<String, Fault> {
         let Some(parts) = line_parts(line) else {
             return Err(Fault::F1);
         };
-        answer_line_parts(alloc, self, state, parts)
+        answer_line_parts(alloc, &self.routes, state, parts)
     }
 }

@@ -1,15 +1,14 @@
 // A run of request lines over a store.
 ghost use Rattle.std.specs.Prelude.{◌≡◌, ◌≢◌, ℕ, List, true, IfOk, IfErr, OnOk};
 ghost use Rattle.mf_base.specs.declared.fault.Cause.TheVariants as cause;
-ghost use Rattle.mf_wire.specs.Told.{Whole, Stopped, Severed};
+ghost use Rattle.mf_lines.specs.Told.{Whole, Stopped, Severed};
 ghost use Rattle.mf_wire.specs.Runs.{RunsLines};
 
-use crate::lines::run_lines;
-use crate::routes::Routes;
-use crate::sinks::Sink;
-use crate::sources::Source;
+use crate::answering::Desk;
 use mf_base::{Cause, StreamFault};
+use mf_lines::{Sink, Source, run_lines};
 use mf_model::{InstitutionStore, isolation};
+use mf_requests::Routes;
 use std::alloc::Global;
 
 /// Answers each request line of a stream over a store, and writes the reply of each before the next is answered. It
@@ -54,5 +53,5 @@ pub fn run<S: InstitutionStore, R: Source, W: Sink>(
             cause: Cause::Memory,
         });
     };
-    run_lines(alloc, &routes, store, source, sink)
+    run_lines(alloc, &Desk { routes }, store, source, sink)
 }

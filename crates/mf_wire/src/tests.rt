@@ -3,9 +3,7 @@
 mod books;
 mod limits;
 mod refused;
-mod requests;
 mod streams;
-mod texts;
 
 use crate::{WatchedReader, WatchedWriter, answer_text, fault_text, run};
 use books::Books;

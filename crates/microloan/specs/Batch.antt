@@ -5,7 +5,7 @@ use Rattle.sqlite.specs.Steps.{over_memory}
 use Rattle.sqlite_trees.specs.declared.memory.MemStore.{MemStore}
 use Rattle.mf_model.specs.Institution.{newly_made}
 use Rattle.mf_store.specs.Stands.{StandsFor, IsClean, Leaves}
-use Rattle.mf_wire.specs.Told.{Whole}
+use Rattle.mf_lines.specs.Told.{Whole}
 use Rattle.mf_wire.specs.Runs.{RunsLines}
 
 -- The lines of the whole stream were answered over a store that stood for a new institution on this day, and the bytes written are the replies.

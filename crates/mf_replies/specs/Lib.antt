@@ -1,0 +1,4 @@
+pub mod Catalogue
+pub mod Json
+pub mod LoanTexts
+pub mod Shown

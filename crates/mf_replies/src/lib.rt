@@ -1,0 +1,9 @@
+//! What a success is told by: its HTTP status, its body in JSON, and its line.
+#![tactic(auto)]
+
+mod showing;
+
+pub use showing::{body_text, line_text, status};
+
+#[cfg(test)]
+mod tests;

@@ -1,0 +1,138 @@
+//! The texts of replies of the catalogue and of loans.
+
+use crate::{body_text, status};
+use mf_base::{Day, Fault, Freq};
+use mf_catalog::{Calc, ChargeDef, ChargeKind, Method, Product, ProductMembers, StrategyName};
+use mf_model::{Loan, LoanLine, LoanList, Reply, Stage};
+use mf_office::{Account, AccountNo, Name, OfficeNo};
+use std::alloc::Global;
+use std::test::Fail;
+
+const CHARGE: &str =
+    "{\"calc\":\"flat\",\"charge\":1,\"kind\":\"due-date\",\"name\":\"Visit\",\"value\":500}";
+
+const PRODUCT: &str =
+    "{\"disbursement_charge\":null,\"every\":1,\"frequency\":\"months\",\"instalment_charge\":4,\
+\"interest_grace\":0,\"max_periods\":12,\"max_principal\":1000000,\"method\":\"declining-equal-principal\",\
+\"min_periods\":1,\"min_principal\":1,\"name\":\"P\",\"overdue_charge\":null,\"principal_grace\":0,\"product\":1,\
+\"rate\":1200,\"retired\":false,\"strategy\":\"mifos-standard-strategy\"}";
+
+const LOAN: &str =
+    "{\"client\":\"0001-000002\",\"day\":null,\"disbursement_fee\":0,\"loan\":\"0001-000001\",\
+\"outstanding\":{\"fees\":0,\"interest\":0,\"penalties\":0,\"principal\":0},\"overpaid\":0,\
+\"paid\":{\"fees\":0,\"interest\":0,\"penalties\":0,\"principal\":0},\"periods\":3,\"principal\":100000,\"product\":1,\
+\"refunded\":0,\"status\":100,\"waived\":{\"fees\":0,\"interest\":0,\"penalties\":0,\"principal\":0},\
+\"written_off\":{\"fees\":0,\"interest\":0,\"penalties\":0,\"principal\":0}}";
+
+const LOANS: &str = "{\"loans\":[{\"loan\":\"0001-000001\",\"status\":100}]}";
+
+fn first_loan() -> Result<Account, Fault> {
+    let office = OfficeNo::new(1).ok_or(Fault::F1)?;
+    let number = AccountNo::new(1).ok_or(Fault::F1)?;
+    Ok(Account { office, number })
+}
+
+fn name(alloc: Global, text: &str) -> Result<Name, Fault> {
+    Ok(Name::new(String::from_str(alloc, text)?))
+}
+
+/// Equal principal by the month at 12 percent, with one charge an instalment.
+fn product(alloc: Global) -> Result<Product, Fault> {
+    Ok(Product {
+        number: 1,
+        members: ProductMembers {
+            name: name(alloc, "P")?,
+            method: Method::EqualPrincipal,
+            rate: 1200,
+            freq: Freq::Months,
+            every: 1,
+            principal_grace: 0,
+            interest_grace: 0,
+            min_principal: 1,
+            max_principal: 1000000,
+            min_periods: 1,
+            max_periods: 12,
+            strategy: StrategyName::MifosStandard,
+            disbursement_charge: None,
+            instalment_charge: Some(4),
+            overdue_charge: None,
+        },
+        retired: false,
+    })
+}
+
+#[test]
+fn a_day_is_shown(rt: HostRuntime) -> Result<(), Fail> {
+    let day = Day::parse(b"2024-01-31").ok_or(Fault::F1)?;
+    let body = body_text(rt.alloc(), &Reply::DayShown(day))?;
+    assert_eq!(rt; body.as_str(), "{\"day\":\"2024-01-31\"}");
+    Ok(())
+}
+
+#[test]
+fn a_charge_is_shown(rt: HostRuntime) -> Result<(), Fail> {
+    let charge = ChargeDef {
+        number: 1,
+        name: name(rt.alloc(), "Visit")?,
+        kind: ChargeKind::DueDate,
+        calc: Calc::Flat,
+        value: 500,
+    };
+    let body = body_text(rt.alloc(), &Reply::ChargeShown(charge))?;
+    assert_eq!(rt; body.as_str(), CHARGE);
+    Ok(())
+}
+
+#[test]
+fn a_product_is_shown(rt: HostRuntime) -> Result<(), Fail> {
+    let product = product(rt.alloc())?;
+    let body = body_text(rt.alloc(), &Reply::ProductShown(product))?;
+    assert_eq!(rt; body.as_str(), PRODUCT);
+    Ok(())
+}
+
+#[test]
+fn a_product_is_made(rt: HostRuntime) -> Result<(), Fail> {
+    let reply = Reply::ProductMade(1);
+    assert_eq!(rt; status(&reply), 201);
+    let body = body_text(rt.alloc(), &reply)?;
+    assert_eq!(rt; body.as_str(), "{\"product\":1}");
+    Ok(())
+}
+
+#[test]
+fn a_loan_is_shown_before_disbursement(rt: HostRuntime) -> Result<(), Fail> {
+    let loan = Loan {
+        client: AccountNo::new(2).ok_or(Fault::F1)?,
+        product: 1,
+        principal: 100000,
+        periods: 3,
+        stage: Stage::Submitted,
+    };
+    let account = first_loan()?;
+    let body = body_text(rt.alloc(), &Reply::LoanShown { account, loan })?;
+    assert_eq!(rt; body.as_str(), LOAN);
+    Ok(())
+}
+
+#[test]
+fn a_loan_is_rejected(rt: HostRuntime) -> Result<(), Fail> {
+    let reply = Reply::LoanRejected(first_loan()?);
+    assert_eq!(rt; status(&reply), 200);
+    let body = body_text(rt.alloc(), &reply)?;
+    assert_eq!(rt; body.as_str(), "{\"loan\":\"0001-000001\",\"status\":500}");
+    Ok(())
+}
+
+#[test]
+fn loans_are_listed(rt: HostRuntime) -> Result<(), Fail> {
+    let mut loans = Vec::new(rt.alloc());
+    loans.push(LoanLine {
+        loan: first_loan()?,
+        status: 100,
+    })?;
+    let reply = Reply::LoansShown(LoanList::new(loans));
+    let body = body_text(rt.alloc(), &reply)?;
+    assert_eq!(rt; body.as_str(), LOANS);
+    Ok(())
+}

@@ -1,0 +1,10 @@
+pub mod Bodies
+pub mod CatalogueRequests
+pub mod LoanRequests
+pub mod Named
+pub mod OfficeRequests
+pub mod PathParts
+pub mod ProductRequests
+pub mod RequestLine
+pub mod Requests
+pub mod Routes

@@ -1,0 +1,31 @@
+-- Which route a path has: `matchit`'s word, over the table of paths.
+use Rattle.std.specs.Prelude.{ℕ, List, [], map, cond, Result, Ok, Err, Option, None, option_map, fold}
+use Rattle.std.specs.Str.{is_utf8}
+use Rattle.matchit.specs.Rows.{RowsOf}
+use Rattle.matchit.specs.Route.{Scan, parse_route}
+use Rattle.matchit.specs.Order.{placed}
+use Rattle.matchit.specs.Router.{RouteOf, route_from}
+use Rattle.matchit.specs.Seek.{first}
+use Rattle.matchit.specs.declared.error.InsertError.{InsertError}
+use Rattle.mf_requests.specs.declared.routes.Route.{Route}
+use Rattle.mf_requests.specs.declared.routes.TheConstants.{ROUTES}
+
+abbrev pub with_parsed : Result Scan InsertError → Route → RowsOf (RouteOf Route) → RowsOf (RouteOf Route)
+with_parsed (Ok s) value rows = placed (s.pattern, route_from s value) rows
+with_parsed (Err e) value rows = rows
+
+-- the routes with one more
+unfoldable pub with_route : RowsOf (RouteOf Route) → List ℕ × Route → RowsOf (RouteOf Route)
+with_route rows route = with_parsed (parse_route route.0) route.1 rows
+
+-- the routes of a table
+abbrev pub routes_of : List (List ℕ × Route) → RowsOf (RouteOf Route)
+routes_of table = fold with_route [] table
+
+-- the routes of the desk
+unfoldable pub desk_routes : RowsOf (RouteOf Route)
+desk_routes = routes_of (map (λ r. (r.0.now, r.1)) ROUTES)
+
+-- the route of a path, if it has one
+unfoldable pub route_of : List ℕ → Option Route
+route_of path = cond (is_utf8 path) (option_map (λ r. r.value) (first desk_routes path)) None

@@ -1,0 +1,16 @@
+//! What is asked: a request line in its parts, the route of its path, and the request that its body makes.
+#![tactic(auto)]
+
+mod body;
+mod named;
+mod paths;
+mod request;
+mod request_line;
+mod routes;
+
+pub use request::read_request;
+pub use request_line::{LineParts, is_token, line_parts};
+pub use routes::Routes;
+
+#[cfg(test)]
+mod tests;

@@ -1,0 +1,132 @@
+//! Requests as they are read, at the limits of their members.
+
+use crate::{Routes, read_request};
+use mf_base::Fault;
+use mf_model::Request;
+use std::alloc::Global;
+use std::test::Fail;
+
+/// A product with one charge that is null and one that is named, and a member that is ignored. The third is absent.
+const PRODUCT: &str =
+    "{\"name\":\"Micro\",\"method\":\"declining-equal-instalments\",\"rate\":2400,\
+\"frequency\":\"months\",\"every\":12,\"principal_grace\":0,\"interest_grace\":119,\"min_principal\":1,\
+\"max_principal\":1000000000000,\"min_periods\":1,\"max_periods\":120,\"strategy\":\"mifos-standard-strategy\",\
+\"disbursement_charge\":null,\"overdue_charge\":0,\"more\":[]}";
+
+/// The same for 13 months.
+const THIRTEEN_MONTHS: &str =
+    "{\"name\":\"Micro\",\"method\":\"declining-equal-instalments\",\"rate\":2400,\
+\"frequency\":\"months\",\"every\":13,\"principal_grace\":0,\"interest_grace\":119,\"min_principal\":1,\
+\"max_principal\":1000000000000,\"min_periods\":1,\"max_periods\":120,\"strategy\":\"mifos-standard-strategy\"}";
+
+/// What a method, a path and a body are refused with, or None where they are read.
+fn refusal(alloc: Global, method: &str, path: &str, body: &str) -> Result<Option<Fault>, Fail> {
+    let Ok(routes) = Routes::new(alloc) else {
+        return Err(Fail::from("no routes"));
+    };
+    let read = read_request(
+        alloc,
+        &routes,
+        method.as_bytes(),
+        path.as_bytes(),
+        body.as_bytes(),
+    );
+    Ok(read.err())
+}
+
+/// The charges that a product names: at disbursement, with each instalment, and for an overdue one.
+fn charges_named(
+    alloc: Global,
+    body: &str,
+) -> Result<(Option<u32>, Option<u32>, Option<u32>), Fail> {
+    let Ok(routes) = Routes::new(alloc) else {
+        return Err(Fail::from("no routes"));
+    };
+    match read_request(alloc, &routes, b"POST", b"/products", body.as_bytes()) {
+        Ok(Request::PostProducts { members }) => Ok((
+            members.disbursement_charge,
+            members.instalment_charge,
+            members.overdue_charge,
+        )),
+        _ => Err(Fail::from("no product")),
+    }
+}
+
+#[test]
+fn a_charge_of_a_product_may_be_null_or_absent(rt: HostRuntime) -> Result<(), Fail> {
+    let named = charges_named(rt.alloc(), PRODUCT)?;
+    assert_eq!(rt; named, (None, None, Some(0)));
+    Ok(())
+}
+
+#[test]
+fn thirteen_months_are_no_step(rt: HostRuntime) -> Result<(), Fail> {
+    let told = refusal(rt.alloc(), "POST", "/products", THIRTEEN_MONTHS)?;
+    assert_eq!(rt; told, Some(Fault::F1));
+    Ok(())
+}
+
+/// Members and path numbers one past their limits.
+#[test]
+fn past_the_limits(rt: HostRuntime) -> Result<(), Fail> {
+    for (method, path, body) in [
+        ("PUT", "/business-day", "{\"day\":\"2100-01-01\"}"),
+        ("PUT", "/business-day", "{\"day\":\"2023-02-29\"}"),
+        (
+            "POST",
+            "/charges",
+            "{\"name\":\"Visit\",\"kind\":\"overdue\",\"calc\":\"percent-of-amount\",\"value\":10001}",
+        ),
+        (
+            "POST",
+            "/loans",
+            "{\"client\":\"0001-000001\",\"product\":1,\"principal\":0,\"periods\":3}",
+        ),
+        ("GET", "/charges/0000000001", ""),
+        ("GET", "/offices/1/loans/1000000", ""),
+    ] {
+        assert_eq!(rt; refusal(rt.alloc(), method, path, body)?, Some(Fault::F1));
+    }
+    Ok(())
+}
+
+/// The same at their limits. Requests that have no members read no body.
+#[test]
+fn at_the_limits(rt: HostRuntime) -> Result<(), Fail> {
+    for (method, path, body) in [
+        ("PUT", "/business-day", "{\"day\":\"2099-12-31\"}"),
+        (
+            "POST",
+            "/charges",
+            "{\"name\":\"Visit\",\"kind\":\"due-date\",\"calc\":\"flat\",\"value\":1000000000000}",
+        ),
+        (
+            "POST",
+            "/loans",
+            "{\"client\":\"0001-000001\",\"product\":0,\"principal\":1,\"periods\":120}",
+        ),
+        ("POST", "/products/000000001/retire", "no body"),
+        ("POST", "/loans/0001-000001/undo-approval", ""),
+        ("GET", "/offices/1/loans/999999", ""),
+    ] {
+        assert_eq!(rt; refusal(rt.alloc(), method, path, body)?, None);
+    }
+    Ok(())
+}
+
+/// The route is looked for before the method, and the method before what the path names.
+#[test]
+fn routes_and_their_methods(rt: HostRuntime) -> Result<(), Fail> {
+    let alloc = rt.alloc();
+    assert_eq!(rt; refusal(alloc, "PUT", "/charges/x", "")?, Some(Fault::F6));
+    assert_eq!(rt; refusal(alloc, "GET", "/loans/", "")?, Some(Fault::F5));
+    assert_eq!(rt;
+        refusal(alloc, "POST", "/loans/1/approve", "")?,
+        Some(Fault::F1)
+    );
+    assert_eq!(rt;
+        refusal(alloc, "GET", "/offices/1/loans", "")?,
+        Some(Fault::F5)
+    );
+    Ok(())
+}
