@@ -19,6 +19,3 @@ pub use entry::{Entry, Kind};
 pub use laws::standing_entries_are_one_list;
 pub use receipt::Receipt;
 pub use settled::{Book, How, Settled};
-
-#[cfg(test)]
-mod tests;

@@ -13,8 +13,3 @@ mod sight;
 
 pub use answering::answer;
 pub use mf_model::{Call, OfficeList, Reply, Request};
-
-#[cfg(test)]
-mod books;
-#[cfg(test)]
-mod tests;

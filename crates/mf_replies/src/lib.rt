@@ -4,6 +4,3 @@
 mod showing;
 
 pub use showing::{body_text, line_text, status};
-
-#[cfg(test)]
-mod tests;

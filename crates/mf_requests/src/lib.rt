@@ -11,6 +11,3 @@ mod routes;
 pub use request::read_request;
 pub use request_line::{LineParts, is_token, line_parts};
 pub use routes::Routes;
-
-#[cfg(test)]
-mod tests;

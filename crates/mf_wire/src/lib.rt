@@ -9,6 +9,3 @@ pub use answering::answer_text;
 pub use laws::alike_texts;
 pub use mf_lines::{ReadFault, Sink, Source, WatchedReader, WatchedWriter, WriteFault, fault_text};
 pub use running::run;
-
-#[cfg(test)]
-mod tests;

@@ -2,7 +2,7 @@
 
 use super::opened::{OpenLoan, Step, TWO_REPAYMENTS, repayment};
 use super::{fresh_balances, share};
-use crate::{Balances, Receipt};
+use mf_account::{Balances, Receipt};
 use mf_alloc::Portion;
 use mf_base::Fault;
 use std::test::Fail;

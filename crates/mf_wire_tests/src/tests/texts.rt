@@ -1,10 +1,10 @@
 //! The texts of replies of the catalogue and of loans.
 
-use crate::{body_text, status};
 use mf_base::{Day, Fault, Freq};
 use mf_catalog::{Calc, ChargeDef, ChargeKind, Method, Product, ProductMembers, StrategyName};
 use mf_model::{Loan, LoanLine, LoanList, Reply, Stage};
 use mf_office::{Account, AccountNo, Name, OfficeNo};
+use mf_replies::{body_text, status};
 use std::alloc::Global;
 use std::test::Fail;
 

@@ -3,11 +3,14 @@
 mod books;
 mod limits;
 mod refused;
+mod requests;
 mod streams;
+mod texts;
 
-use crate::{WatchedReader, WatchedWriter, answer_text, fault_text, run};
 use books::Books;
 use mf_base::{Cause, Fault, StreamFault};
+use mf_lines::{WatchedReader, WatchedWriter, fault_text};
+use mf_wire::{answer_text, run};
 use std::alloc::Global;
 use std::test::Fail;
 use streams::{Narrow, Torn};

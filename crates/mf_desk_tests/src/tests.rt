@@ -4,10 +4,10 @@ ghost use Rattle.std.specs.Prelude.{◌≡◌, ◌≤◌, IfOk};
 ghost use Rattle.mf_base.specs.DayText.{last_entered_day};
 ghost use Rattle.mf_model.specs.Sound.{AreMembers, IsAccount, IsInRange};
 
-use super::answer;
 use crate::books::{Books, name, office_no};
 use mf_base::{Day, Fault, Freq};
 use mf_catalog::{Calc, ChargeKind, Method, ProductMembers, StrategyName};
+use mf_desk::answer;
 use mf_model::{LoanList, Reply, Request, is_name};
 use mf_office::{Account, AccountNo, Caller, Office, Role};
 use std::alloc::Global;

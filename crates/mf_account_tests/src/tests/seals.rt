@@ -2,7 +2,7 @@
 
 use super::fresh_balances;
 use super::opened::{OpenLoan, Step, TWO_REPAYMENTS, repayment};
-use crate::Balances;
+use mf_account::Balances;
 use mf_base::Fault;
 use std::test::Fail;
 

@@ -2,7 +2,7 @@
 
 use super::opened::{OpenLoan, Step, repayment};
 use super::{fresh_balances, share};
-use crate::Balances;
+use mf_account::Balances;
 use mf_alloc::Portion;
 use mf_base::Fault;
 use mf_catalog::StrategyName;

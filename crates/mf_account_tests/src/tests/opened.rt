@@ -8,7 +8,7 @@ ghost use Rattle.mf_schedule.specs.Fresh.{IsLoanWithinLimits};
 ghost use Rattle.mf_account.specs.Standing.{entry_at};
 ghost use Rattle.mf_account.specs.Refusals.{HasForm};
 
-use crate::{Entry, Kind, LoanAccount};
+use mf_account::{Entry, Kind, LoanAccount};
 use mf_alloc::Portion;
 use mf_base::{Day, Fault, Freq, Name};
 use mf_catalog::{Calc, ChargeDef, ChargeKind, Method, StrategyName, Terms};

@@ -1,8 +1,8 @@
 //! Requests as they are read, at the limits of their members.
 
-use crate::{Routes, read_request};
 use mf_base::Fault;
 use mf_model::Request;
+use mf_requests::{Routes, read_request};
 use std::alloc::Global;
 use std::test::Fail;
 

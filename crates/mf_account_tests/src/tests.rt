@@ -7,7 +7,7 @@ mod payments;
 mod reversals;
 mod seals;
 
-use crate::Balances;
+use mf_account::Balances;
 use mf_alloc::{Cell, Portion, Share};
 
 fn share(instalment: u32, portion: Portion, amount: u64) -> Share {
