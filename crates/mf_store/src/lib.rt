@@ -20,8 +20,3 @@ mod writes;
 
 pub use office_rows::{OfficeRows, StaffMember};
 pub use store::Store;
-
-#[cfg(test)]
-mod loan_tests;
-#[cfg(test)]
-mod tests;

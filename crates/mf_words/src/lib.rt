@@ -10,6 +10,3 @@ mod values;
 
 pub use asked::{BatchWords, Command, ScheduleWords, Words};
 pub use asking::command;
-
-#[cfg(test)]
-mod tests;

@@ -1,9 +1,9 @@
 ghost use Rattle.std.specs.Prelude.{◌<◌};
 
-use crate::{OfficeRows, Store};
 use mf_base::{Day, Fault};
 use mf_model::{Commit, InstitutionStore, OfficeList};
 use mf_office::{Account, AccountNo, Caller, Name, OfficeNo, Role, StaffNo};
+use mf_store::{OfficeRows, Store};
 use sqlite::MemStore;
 use std::alloc::Global;
 use std::rt::HostRuntime;

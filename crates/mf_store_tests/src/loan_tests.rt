@@ -1,10 +1,10 @@
 ghost use Rattle.std.specs.Prelude.{◌<◌};
 
-use crate::Store;
 use mf_base::{Day, Fault, Freq, Name};
 use mf_catalog::{Calc, ChargeKind, Method, ProductMembers, StrategyName};
 use mf_model::{Commit, InstitutionStore, Loan, Stage};
 use mf_office::{Account, AccountNo, OfficeNo};
+use mf_store::Store;
 use sqlite::MemStore;
 use std::alloc::Global;
 use std::rt::HostRuntime;
