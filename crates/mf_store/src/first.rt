@@ -4,7 +4,7 @@ ghost use Rattle.std.specs.Prelude.{◌≡◌, ◌≤◌, false, IfOk, IfErr, Is
 ghost use Rattle.mf_base.specs.declared.fault.Fault.TheVariants.{F20};
 ghost use Rattle.mf_base.specs.DayText.{last_entered_day};
 ghost use Rattle.sqlite.specs.Held.{state};
-ghost use Rattle.sqlite.specs.Steps.{over_memory};
+ghost use Rattle.sqlite.specs.Files.{over_files};
 ghost use Rattle.mf_tables.specs.Writes.{Serves};
 ghost use Rattle.mf_model.specs.Institution.{newly_made};
 ghost use Rattle.mf_store.specs.Writes.{schema_of, Holds};
@@ -14,7 +14,7 @@ use crate::records::{MetaRecord, OfficeRecord, StaffRecord};
 use crate::store::Store;
 use crate::writes::StoreWrite;
 use mf_base::{Day, Fault};
-use sqlite::{Connection, MemStore};
+use mf_pages::PageStore;
 use std::alloc::Global;
 
 /// The tables, the business day, the head office and its manager.
@@ -47,16 +47,18 @@ pub(crate) fn first_writes(alloc: Global, day: Day) -> Result<Vec<StoreWrite>, F
     Ok(writes)
 }
 
-impl Store<MemStore> {
+impl Store<PageStore> {
     /// A new institution in memory, on this business day: office 1 `Head Office`, its manager 1/1 `Head Manager`, and
     /// nothing else. The day is at most 2099-12-31.
-    pub fn in_memory(alloc: Global, day: Day) -> Result<Store<MemStore>, Fault>
+    pub fn in_memory(alloc: Global, day: Day) -> Result<Store<PageStore>, Fault>
         requires { day ≤ last_entered_day }
-        ensures stands { IfOk result (λ store. StandsFor over_memory store (newly_made day)) }
-        ensures leaves { IfOk result (λ store. Leaves over_memory store (newly_made day ∷ [])) }
+        ensures stands { IfOk result (λ store. StandsFor over_files store (newly_made day)) }
+        ensures leaves { IfOk result (λ store. Leaves over_files store (newly_made day ∷ [])) }
         ensures gives_up { IfErr result (λ fault. fault ≡ F20) }
     {
-        let connection = Connection::open_in_memory(alloc)?;
+        let Ok(connection) = mf_pages::open(alloc) else {
+            return Err(Fault::F20);
+        };
         Store::found(alloc, connection, day)
     }
 }

@@ -4,8 +4,8 @@ use mf_base::{Day, Fault, Freq, Name};
 use mf_catalog::{Calc, ChargeKind, Method, ProductMembers, StrategyName};
 use mf_model::{Commit, InstitutionStore, Loan, Stage};
 use mf_office::{Account, AccountNo, OfficeNo};
+use mf_pages::PageStore;
 use mf_store::Store;
-use sqlite::MemStore;
 use std::alloc::Global;
 use std::rt::HostRuntime;
 use std::test::Fail;
@@ -33,7 +33,7 @@ fn name(alloc: Global, text: &str) -> Result<Name, Fault> {
     Ok(Name::new(String::from_str(alloc, text)?))
 }
 
-fn add_charge(alloc: Global, store: &mut Store<MemStore>) -> Result<(), Fault> {
+fn add_charge(alloc: Global, store: &mut Store<PageStore>) -> Result<(), Fault> {
     let name = name(alloc, "Processing")?;
     store.commit(
         alloc,
@@ -46,7 +46,7 @@ fn add_charge(alloc: Global, store: &mut Store<MemStore>) -> Result<(), Fault> {
     )
 }
 
-fn add_product(alloc: Global, store: &mut Store<MemStore>) -> Result<(), Fault> {
+fn add_product(alloc: Global, store: &mut Store<PageStore>) -> Result<(), Fault> {
     let members = ProductMembers {
         name: name(alloc, "Harvest")?,
         method: Method::EqualPrincipal,
@@ -67,7 +67,7 @@ fn add_product(alloc: Global, store: &mut Store<MemStore>) -> Result<(), Fault> 
     store.commit(alloc, Commit::AddProduct { members })
 }
 
-fn add_loan(alloc: Global, store: &mut Store<MemStore>, principal: u64) -> Result<(), Fault> {
+fn add_loan(alloc: Global, store: &mut Store<PageStore>, principal: u64) -> Result<(), Fault> {
     let loan = Loan {
         client: account_no(1)?,
         product: 1,
@@ -86,7 +86,7 @@ fn add_loan(alloc: Global, store: &mut Store<MemStore>, principal: u64) -> Resul
 
 fn set_stage(
     alloc: Global,
-    store: &mut Store<MemStore>,
+    store: &mut Store<PageStore>,
     loan: u32,
     stage: Stage,
 ) -> Result<(), Fault> {
@@ -99,7 +99,7 @@ fn set_stage(
     )
 }
 
-fn new_store(alloc: Global) -> Result<Store<MemStore>, Fault> {
+fn new_store(alloc: Global) -> Result<Store<PageStore>, Fault> {
     match Day::parse(b"2024-01-01") {
         Some(day) => Store::in_memory(alloc, day),
         None => Err(Fault::F1),
@@ -107,7 +107,7 @@ fn new_store(alloc: Global) -> Result<Store<MemStore>, Fault> {
 }
 
 /// A client, a charge, a product and two loans.
-fn with_loans(alloc: Global) -> Result<Store<MemStore>, Fault> {
+fn with_loans(alloc: Global) -> Result<Store<PageStore>, Fault> {
     let mut store = new_store(alloc)?;
     store.add_client(office(1)?, name(alloc, "Amina")?)?;
     add_charge(alloc, &mut store)?;
@@ -195,7 +195,7 @@ fn loans_are_listed(rt: HostRuntime) -> Result<(), Fail> {
 }
 
 /// A client, a charge, a product, a loan, and its rejection.
-fn write(alloc: Global, store: &mut Store<MemStore>, place: u32) -> Result<(), Fault> {
+fn write(alloc: Global, store: &mut Store<PageStore>, place: u32) -> Result<(), Fault> {
     match place {
         0 => store.add_client(office(1)?, name(alloc, "Amina")?),
         1 => add_charge(alloc, store),
@@ -206,7 +206,7 @@ fn write(alloc: Global, store: &mut Store<MemStore>, place: u32) -> Result<(), F
 }
 
 /// How many charges, products and loans there are, and the status of the first loan, 0 where there is none.
-fn shown(alloc: Global, store: &mut Store<MemStore>) -> Result<(u32, u32, u32, u16), Fault> {
+fn shown(alloc: Global, store: &mut Store<PageStore>) -> Result<(u32, u32, u32, u16), Fault> {
     let catalogue = store.count_catalogue()?;
     let counts = store.next_numbers(office(1)?)?;
     let list = store.loans_above(alloc, office(1)?, 0)?;
@@ -229,7 +229,7 @@ fn after_writes(count: u32) -> (u32, u32, u32, u16) {
 }
 
 /// Whether the calls show what they are to after so many writes. They are made again where one gives up.
-fn shows(alloc: Global, store: &mut Store<MemStore>, count: u32) -> Result<bool, Fault> {
+fn shows(alloc: Global, store: &mut Store<PageStore>, count: u32) -> Result<bool, Fault> {
     let found = match shown(alloc, store) {
         Err(Fault::F20) => shown(alloc, store)?,
         Err(fault) => return Err(fault),
@@ -239,7 +239,7 @@ fn shows(alloc: Global, store: &mut Store<MemStore>, count: u32) -> Result<bool,
 }
 
 /// Makes a write, a second time where the first gave up. Whether the calls show it then, and after the first nothing of it.
-fn makes(alloc: Global, store: &mut Store<MemStore>, place: u32) -> Result<bool, Fault>
+fn makes(alloc: Global, store: &mut Store<PageStore>, place: u32) -> Result<bool, Fault>
     requires { place < 5 }
 {
     let as_before = match write(alloc, store, place) {

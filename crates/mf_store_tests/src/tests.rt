@@ -3,8 +3,8 @@ ghost use Rattle.std.specs.Prelude.{◌<◌};
 use mf_base::{Day, Fault};
 use mf_model::{Commit, InstitutionStore, OfficeList};
 use mf_office::{Account, AccountNo, Caller, Name, OfficeNo, Role, StaffNo};
+use mf_pages::PageStore;
 use mf_store::{OfficeRows, Store};
-use sqlite::MemStore;
 use std::alloc::Global;
 use std::rt::HostRuntime;
 use std::test::Fail;
@@ -33,7 +33,7 @@ fn name(alloc: Global, text: &str) -> Result<Name, Fault> {
     Ok(Name::new(String::from_str(alloc, text)?))
 }
 
-fn new_store(alloc: Global) -> Result<Store<MemStore>, Fault> {
+fn new_store(alloc: Global) -> Result<Store<PageStore>, Fault> {
     match Day::parse(b"2024-01-01") {
         Some(day) => Store::in_memory(alloc, day),
         None => Err(Fault::F1),
@@ -42,7 +42,7 @@ fn new_store(alloc: Global) -> Result<Store<MemStore>, Fault> {
 
 fn add_office(
     alloc: Global,
-    store: &mut Store<MemStore>,
+    store: &mut Store<PageStore>,
     number: u32,
     parent: u32,
     text: &str,
@@ -58,7 +58,7 @@ fn add_office(
 }
 
 /// Offices 2 under 1, 20 under 1 and 5 under 2.
-fn branches(alloc: Global) -> Result<Store<MemStore>, Fault> {
+fn branches(alloc: Global) -> Result<Store<PageStore>, Fault> {
     let mut store = new_store(alloc)?;
     add_office(alloc, &mut store, 2, 1, "North")?;
     add_office(alloc, &mut store, 20, 1, "South")?;
@@ -198,7 +198,7 @@ fn rows_of_one_office(rt: HostRuntime) -> Result<(), Fail> {
 
 fn show_offices(
     alloc: Global,
-    store: &mut Store<MemStore>,
+    store: &mut Store<PageStore>,
     to: u32,
     text: &mut String,
 ) -> Result<(), Fault> {
@@ -208,14 +208,14 @@ fn show_offices(
     Ok(())
 }
 
-fn show_counts(store: &mut Store<MemStore>, number: u32, text: &mut String) -> Result<(), Fault> {
+fn show_counts(store: &mut Store<PageStore>, number: u32, text: &mut String) -> Result<(), Fault> {
     let counts = store.next_numbers(office(number)?)?;
     let (staff, clients) = (counts.staff, counts.clients);
     write!(text, "{staff},{clients} ")?;
     Ok(())
 }
 
-fn show_role(store: &mut Store<MemStore>, number: u32, text: &mut String) -> Result<(), Fault> {
+fn show_role(store: &mut Store<PageStore>, number: u32, text: &mut String) -> Result<(), Fault> {
     let word = match store.caller(caller(number, 1)?)? {
         None => "nobody",
         Some(Role::Teller) => "teller",
@@ -226,7 +226,7 @@ fn show_role(store: &mut Store<MemStore>, number: u32, text: &mut String) -> Res
     Ok(())
 }
 
-fn show_client(store: &mut Store<MemStore>, number: u32, text: &mut String) -> Result<(), Fault> {
+fn show_client(store: &mut Store<PageStore>, number: u32, text: &mut String) -> Result<(), Fault> {
     let found = store.find_name(client(2, number)?)?;
     match &found {
         None => text.push_str("nobody ")?,
@@ -239,7 +239,7 @@ fn show_client(store: &mut Store<MemStore>, number: u32, text: &mut String) -> R
 }
 
 /// What the reading calls answer.
-fn shown(alloc: Global, store: &mut Store<MemStore>) -> Result<String, Fault> {
+fn shown(alloc: Global, store: &mut Store<PageStore>) -> Result<String, Fault> {
     let mut text = String::new(alloc);
     show_offices(alloc, store, 1, &mut text)?;
     show_offices(alloc, store, 2, &mut text)?;
@@ -253,7 +253,7 @@ fn shown(alloc: Global, store: &mut Store<MemStore>) -> Result<String, Fault> {
     Ok(text)
 }
 
-fn write(alloc: Global, store: &mut Store<MemStore>, place: u32) -> Result<(), Fault> {
+fn write(alloc: Global, store: &mut Store<PageStore>, place: u32) -> Result<(), Fault> {
     match place {
         0 => add_office(alloc, store, 2, 1, "North"),
         1 => store.add_staff(office(2)?, name(alloc, "Ben")?, Role::Officer),
@@ -280,7 +280,7 @@ fn after_writes(count: u32) -> &'static str {
 }
 
 /// Whether the calls show what they are to after so many writes. They are made again where one gives up.
-fn shows(alloc: Global, store: &mut Store<MemStore>, count: u32) -> Result<bool, Fault> {
+fn shows(alloc: Global, store: &mut Store<PageStore>, count: u32) -> Result<bool, Fault> {
     let text = match shown(alloc, store) {
         Err(Fault::F20) => shown(alloc, store)?,
         Err(fault) => return Err(fault),
@@ -290,7 +290,7 @@ fn shows(alloc: Global, store: &mut Store<MemStore>, count: u32) -> Result<bool,
 }
 
 /// Makes a write, a second time where the first gave up. Whether the calls show it then, and after the first nothing of it.
-fn makes(alloc: Global, store: &mut Store<MemStore>, place: u32) -> Result<bool, Fault>
+fn makes(alloc: Global, store: &mut Store<PageStore>, place: u32) -> Result<bool, Fault>
     requires { place < 5 }
 {
     let as_before = match write(alloc, store, place) {
