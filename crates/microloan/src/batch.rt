@@ -3,8 +3,10 @@ ghost use Rattle.mf_base.specs.DayText.{last_entered_day};
 ghost use Rattle.microloan.specs.Batch.{AnswersFromNew};
 
 use mf_base::{Cause, Day, StreamFault};
+use mf_pages::PageStore;
 use mf_store::Store;
 use mf_wire::{Sink, Source, run};
+use sqlite_trees::store::Store as TreeStore;
 use std::alloc::Global;
 
 /// Answers the request lines of a source over a new institution in memory, which begins on a day, and gives how many
@@ -16,7 +18,7 @@ pub fn answer_lines<R: Source, W: Sink>(
     sink: &mut W,
 ) -> Result<u64, StreamFault>
     requires { day ≤ last_entered_day }
-    ensures { IfOk result (AnswersFromNew day (R.unread source.old) (R.unread source.new) (W.written sink.old) (W.written sink.new)) }
+    ensures { IfOk result (AnswersFromNew ⟦<PageStore as TreeStore>⟧ day (R.unread source.old) (R.unread source.new) (W.written sink.old) (W.written sink.new)) }
 {
     let Ok(mut store) = Store::in_memory(alloc, day) else {
         return Err(StreamFault {
