@@ -1,9 +1,7 @@
-use crate::open;
+use crate::{PageStore, open};
 use sqlite::{Connection, Error, params};
 use std::rt::HostRuntime;
 use std::test::Fail;
-
-use crate::PageStore;
 
 fn number(connection: &mut Connection<PageStore>, sql: &str) -> Result<i64, Error> {
     connection.query_row(sql, &[])?.get(0)
