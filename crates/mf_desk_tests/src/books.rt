@@ -155,10 +155,15 @@ impl Books {
         Ok(())
     }
 
-    fn add_product(&mut self, product: Product) -> Result<(), Fault>
+    fn add_product(&mut self, members: ProductMembers) -> Result<(), Fault>
         ensures { IfErr result (λ fault. fault ≡ Fault.F20) }
     {
-        self.products.push(product)?;
+        let number = number_after(self.products.len())?;
+        self.products.push(Product {
+            number,
+            members,
+            retired: false,
+        })?;
         Ok(())
     }
 
@@ -471,14 +476,7 @@ impl InstitutionStore for Books {
                     value,
                 })
             }
-            Commit::AddProduct { members } => {
-                let number = number_after(self.products.len())?;
-                self.add_product(Product {
-                    number,
-                    members,
-                    retired: false,
-                })
-            }
+            Commit::AddProduct { members } => self.add_product(members),
             Commit::RetireProduct { product } => {
                 self.retire(product);
                 Ok(())
