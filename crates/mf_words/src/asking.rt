@@ -33,7 +33,7 @@ pub fn command(alloc: Global, words: &[String]) -> Result<Command, Words>
 {
     let matches = match matches_of(alloc, words) {
         Ok(matches) => matches,
-        Err(error) => return Err(refused_by_clap(alloc, &error)),
+        Err(error) => return Err(refused_by_clap(alloc, words, &error)),
     };
     if let Some(options) = matches.subcommand_matches("batch") {
         return match day_at(options, "day") {

@@ -103,13 +103,19 @@ fn schedule_command<'a>(alloc: Global) -> Result<Command<'a>, AllocError>
     ensures app { IfOk result (λ c. app_of c ≡ schedule_app) }
     ensures local { IfOk result (λ c. (fields_of c).has_globals ≡ false) }
 {
-    let frequency = default_option(alloc, "frequency", "UNIT", "months", "weeks or months");
+    let frequency = default_option(
+        alloc,
+        "frequency",
+        "UNIT",
+        "months",
+        "Period in weeks or months",
+    );
     let every = default_option(
         alloc,
         "every",
         "COUNT",
         "1",
-        "52 weeks or 12 months at most",
+        "Length: 1-52 weeks or 1-12 months",
     );
     let principal_grace = default_option(
         alloc,
@@ -146,7 +152,7 @@ fn batch_command<'a>(alloc: Global) -> Result<Command<'a>, AllocError>
     let command = Command::new(alloc, "batch")
         .about("Answer request lines, over an institution in memory")
         .after_help(
-            "Each line of standard input is `caller method path`, then a space and a JSON\nbody where the request has one. Each reply is a status, a space and a body.\n\nDays are 2000-01-01 to 2099-12-31.\n\nExample:\n  echo '1/1 POST /clients {\"office\":1,\"name\":\"Amina\"}' | microloan batch",
+            "Each line of standard input is `caller method path`, then a space and a JSON\nbody where the request has one. Each reply is a status, a space and a body.\ndocs/routes.md has every request with its members and replies.\n\nDays are 2000-01-01 to 2099-12-31.\n\nExample:\n  echo '1/1 POST /clients {\"office\":1,\"name\":\"Amina\"}' | microloan batch",
         );
     with_option(command, day)
 }
@@ -160,6 +166,9 @@ pub(crate) fn microloan_command<'a>(alloc: Global) -> Result<Command<'a>, AllocE
     let schedule = schedule_command(alloc)?;
     let program = Command::new(alloc, "microloan")
         .about("The loan desk of a microfinance institution")
+        .after_help(
+            "A command's options: microloan batch --help, microloan schedule --help\n\nExit status: 0 done (refused requests included), 1 a fault, 2 wrong words.",
+        )
         .subcommand_required(true)
         .disable_help_subcommand(true)
         .subcommand(batch)?;

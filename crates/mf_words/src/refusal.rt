@@ -44,7 +44,7 @@ pub(crate) fn no_command(alloc: Global) -> Words {
 }
 
 /// What `clap` says of the words: help where they ask for it, else what is wrong, in one line.
-pub(crate) fn refused_by_clap(alloc: Global, error: &Error) -> Words
+pub(crate) fn refused_by_clap(alloc: Global, words: &[String], error: &Error) -> Words
     ensures { kind_of error.now ≡ ErrorKind.OutOfMemory → result ≡ Words.Memory }
 {
     match error.kind() {
@@ -53,18 +53,35 @@ pub(crate) fn refused_by_clap(alloc: Global, error: &Error) -> Words
             Ok(text) => Words::Help(text),
             Err(_) => Words::Memory,
         },
-        _ => bad(one_line(alloc, error)),
+        ErrorKind::MissingSubcommand => {
+            bad(format!(in alloc;
+                "microloan: name a command, batch or schedule; see 'microloan --help'"
+            ))
+        }
+        _ => bad(one_line(alloc, words, error)),
+    }
+}
+
+/// The words that ask for help on what was asked, which the first word after the program's name says.
+fn help_on(words: &[String]) -> &'static str {
+    let command = words.get(1).map_or("", |word| word.as_str());
+    match command {
+        "batch" => "microloan batch --help",
+        "schedule" => "microloan schedule --help",
+        _ => "microloan --help",
     }
 }
 
 /// The first paragraph of an error's text, as one line.
-fn one_line(alloc: Global, error: &Error) -> Result<String, AllocError> {
+fn one_line(alloc: Global, words: &[String], error: &Error) -> Result<String, AllocError> {
     let text = format!(in alloc; "{error}")?;
     let mut line = String::from_str(alloc, "microloan:")?;
     for part in text.as_str().lines().take_while(|part| !part.is_empty()) {
         line.push_str(" ")?;
         line.push_str(part.trim().trim_start_matches("error: "))?;
     }
-    line.push_str("; see 'microloan --help'")?;
+    line.push_str("; see '")?;
+    line.push_str(help_on(words))?;
+    line.push_str("'")?;
     Ok(line)
 }

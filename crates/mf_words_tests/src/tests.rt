@@ -137,16 +137,20 @@ fn says_what_an_option_wants(rt: HostRuntime) -> Result<(), Fail> {
 fn says_what_is_wrong_in_one_line(rt: HostRuntime) -> Result<(), Fail> {
     let alloc = rt.alloc();
     let said = line_of(&rt, alloc, "microloan")?;
-    assert!(rt;
-        said.as_str().starts_with("microloan: ")
-            && said.as_str().ends_with("see 'microloan --help'")
+    assert_eq!(rt;
+        said.as_str(),
+        "microloan: name a command, batch or schedule; see 'microloan --help'"
     );
-    assert!(rt; said.as_str().lines().count() == 1);
     let said = line_of(&rt, alloc, "microloan schedule --method flat")?;
     assert!(rt; said.as_str().find("--principal").is_some());
+    assert!(rt; said.as_str().ends_with("; see 'microloan schedule --help'"));
     assert!(rt; said.as_str().lines().count() == 1);
+    let said = line_of(&rt, alloc, "microloan batch now")?;
+    assert!(rt; said.as_str().find("'now'").is_some());
+    assert!(rt; said.as_str().ends_with("; see 'microloan batch --help'"));
     let said = line_of(&rt, alloc, "microloan schedules")?;
     assert!(rt; said.as_str().find("schedules").is_some());
+    assert!(rt; said.as_str().ends_with("; see 'microloan --help'"));
     assert!(rt; said.as_str().lines().count() == 1);
     Ok(())
 }
@@ -174,6 +178,7 @@ fn shows_help(rt: HostRuntime) -> Result<(), Fail> {
     assert!(rt; text.lines().all(|line| line.len() <= 80));
     let help = help_of(&rt, alloc, "microloan --help")?;
     assert!(rt; help.as_str().find("schedule").is_some());
+    assert!(rt; help.as_str().lines().all(|line| line.len() <= 80));
     let help = help_of(&rt, alloc, "microloan batch --help")?;
     assert!(rt; help.as_str().lines().all(|line| line.len() <= 80));
     Ok(())
