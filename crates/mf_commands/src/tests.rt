@@ -5,7 +5,7 @@ mod refused;
 mod rows;
 mod sent;
 
-use crate::batch::answer_lines;
+use crate::answer_lines;
 use mf_base::Day;
 use mf_wire::{WatchedReader, WatchedWriter};
 use std::alloc::Global;

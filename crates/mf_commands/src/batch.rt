@@ -1,6 +1,6 @@
 ghost use Rattle.std.specs.Prelude.{◌≤◌, IfOk};
 ghost use Rattle.mf_base.specs.DayText.{last_entered_day};
-ghost use Rattle.microloan.specs.Batch.{AnswersFromNew};
+ghost use Rattle.mf_commands.specs.Batch.{AnswersFromNew};
 
 use mf_base::{Cause, Day, StreamFault};
 use mf_pages::PageStore;

@@ -2,7 +2,7 @@ ghost use Rattle.std.specs.Prelude.{◌≡◌, ◌≤◌, ◌⊎◌, IfOk, IfErr
 ghost use Rattle.mf_base.specs.DayText.{last_entered_day};
 ghost use Rattle.mf_base.specs.declared.fault.Fault.TheVariants.{F8, F20};
 ghost use Rattle.mf_words.specs.Asked.{IsWithinLimits};
-ghost use Rattle.microloan.specs.Printed.{terms_asked, printed, HasLongGrace};
+ghost use Rattle.mf_commands.specs.Printed.{terms_asked, printed, HasLongGrace};
 
 use mf_base::Fault;
 use mf_catalog::{StrategyName, Terms};

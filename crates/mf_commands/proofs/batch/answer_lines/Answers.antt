@@ -1,5 +1,5 @@
 use Rattle.std.proofs.lemmas.Result.{IfOk-weaker}
-use Rattle.microloan.proofs.batch.answer_lines.Goals as goal
+use Rattle.mf_commands.proofs.batch.answer_lines.Goals as goal
 
 pub returns : goal.returns
 returns g c =
