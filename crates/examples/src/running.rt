@@ -3,7 +3,7 @@ ghost use Rattle.mf_base.specs.DayText.{last_entered_day};
 
 use mf_base::Day;
 use mf_commands::{answer_lines, schedule};
-use mf_wire::{WatchedReader, WatchedWriter};
+use mf_lines::{WatchedReader, WatchedWriter};
 use mf_words::{Command, command};
 use std::alloc::{AllocError, Global};
 

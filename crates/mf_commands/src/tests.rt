@@ -7,7 +7,7 @@ mod sent;
 
 use crate::answer_lines;
 use mf_base::Day;
-use mf_wire::{WatchedReader, WatchedWriter};
+use mf_lines::{WatchedReader, WatchedWriter};
 use std::alloc::Global;
 use std::test::Fail;
 

@@ -7,7 +7,7 @@ ghost use Rattle.mf_words.specs.Asked.{IsWithinLimits};
 
 use mf_base::Cause;
 use mf_commands::{answer_lines, schedule};
-use mf_wire::{WatchedReader, WatchedWriter};
+use mf_lines::{WatchedReader, WatchedWriter};
 use mf_words::{BatchWords, Command, ScheduleWords, Words, command};
 use std::process::ExitCode;
 use std::{env, fmt, io};
