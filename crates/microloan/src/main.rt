@@ -100,7 +100,7 @@ fn name_of(cause: Cause) -> &'static str {
 }
 
 /// Says which fault it was, and gives the program's status.
-fn tell_fault<R: Eprint>(rt: &R, fault: impl fmt::Display) -> io::Result<u8> {
+fn tell_fault<R: Eprint>(rt: &R, fault: impl fmt::Display + Drop) -> io::Result<u8> {
     rt.eprintln(format_args!("microloan: {fault}"))?;
     Ok(FAULT)
 }
