@@ -7,29 +7,29 @@ mod payments;
 mod reversals;
 mod seals;
 
-use mf_account::Balances;
-use mf_alloc::{Cell, Portion, Share};
+use mf_base::Fault;
+use mf_catalog::StrategyName;
+use opened::{OpenLoan, Step};
+use std::alloc::Global;
 
-fn share(instalment: u32, portion: Portion, amount: u64) -> Share {
-    Share {
-        cell: Cell {
-            instalment,
-            portion,
-        },
-        amount,
-    }
+/// What a new loan tells at steps.
+fn told(alloc: Global, steps: &[Step]) -> Result<String, Fault> {
+    let mut loan = OpenLoan::new(alloc, StrategyName::MifosStandard)?;
+    loan.told(alloc, steps)
 }
 
-/// The sums of the loan with nothing entered.
-fn fresh_balances() -> Balances {
-    Balances {
-        disbursement_fee: 0,
-        owed: [0, 0, 2000, 100000],
-        paid: [0; 4],
-        waived: [0; 4],
-        written_off: [0; 4],
-        outstanding: [0, 0, 2000, 100000],
-        overpaid: 0,
-        refunded: 0,
-    }
+/// The same of a loan by another strategy.
+fn told_by(alloc: Global, strategy: StrategyName, steps: &[Step]) -> Result<String, Fault> {
+    let mut loan = OpenLoan::new(alloc, strategy)?;
+    loan.told(alloc, steps)
+}
+
+/// The same of a loan with a charge on overdue instalments.
+fn told_with_penalties(
+    alloc: Global,
+    strategy: StrategyName,
+    steps: &[Step],
+) -> Result<String, Fault> {
+    let mut loan = OpenLoan::with_penalties(alloc, strategy)?;
+    loan.told(alloc, steps)
 }

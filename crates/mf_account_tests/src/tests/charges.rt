@@ -1,61 +1,64 @@
 //! Fees, penalties and waivers.
 
-use super::opened::{OpenLoan, Step, repayment};
-use super::{fresh_balances, share};
-use mf_account::Balances;
-use mf_alloc::Portion;
-use mf_base::Fault;
-use mf_catalog::StrategyName;
+use super::opened::{Step, repayment};
+use super::told;
 use std::test::Fail;
 
-/// A fee, and then a repayment of an earlier day that pays all.
-const PAID_WITH_A_FEE: [Step; 2] = [
-    Step::Fee {
-        instalment: 2,
-        amount: 500,
-    },
-    Step::Repay {
-        day: "2024-02-29",
-        amount: 102500,
-    },
-];
+const FEE: Step = Step::Fee {
+    instalment: 2,
+    amount: 500,
+};
 
 /// What the repayment leaves overpaid settles the fee, which is dated later.
 #[test]
 fn overpaid_money_pays_a_fee(rt: HostRuntime) -> Result<(), Fail> {
-    let loan = OpenLoan::after(rt.alloc(), &PAID_WITH_A_FEE)?;
-    assert_eq!(rt; loan.account.status(), 600);
-    let balances = loan.account.balances();
-    assert_eq!(rt; balances.overpaid, 0);
-    assert_eq!(rt; balances.paid, [0, 500, 2000, 100000]);
-    let shares = loan.account.shares(rt.alloc(), 1)?;
-    assert_eq!(rt; shares.as_slice(), [share(2, Portion::Fee, 500)].as_slice());
+    let steps = [
+        FEE,
+        repayment("2024-02-29", 102500),
+        Step::Status,
+        Step::Balances,
+        Step::Shares { seq: 1 },
+    ];
+    let told = told(rt.alloc(), &steps)?;
+    assert_eq!(rt;
+        told.as_str(),
+        "600;fee 0 owed [0, 500, 2000, 100000] paid [0, 500, 2000, 100000] waived [0, 0, 0, 0] written off [0, 0, 0, 0] \
+outstanding [0, 0, 0, 0] overpaid 0 refunded 0;2 Fee 500,;"
+    );
     Ok(())
 }
 
 #[test]
 fn reverses_a_fee(rt: HostRuntime) -> Result<(), Fail> {
-    let mut loan = OpenLoan::after(rt.alloc(), &PAID_WITH_A_FEE)?;
-    loan.take(rt.alloc(), Step::Reverse { seq: 1 })?;
-    assert_eq!(rt; loan.account.status(), 700);
-    assert_eq!(rt; loan.account.balances().overpaid, 500);
+    let steps = [
+        FEE,
+        repayment("2024-02-29", 102500),
+        Step::Reverse { seq: 1 },
+        Step::Status,
+        Step::Balances,
+    ];
+    let told = told(rt.alloc(), &steps)?;
+    assert_eq!(rt;
+        told.as_str(),
+        "700;fee 0 owed [0, 0, 2000, 100000] paid [0, 0, 2000, 100000] waived [0, 0, 0, 0] written off [0, 0, 0, 0] \
+outstanding [0, 0, 0, 0] overpaid 500 refunded 0;"
+    );
     Ok(())
 }
 
 #[test]
 fn waives_interest(rt: HostRuntime) -> Result<(), Fail> {
-    let loan = OpenLoan::after(rt.alloc(), &[Step::WaiveInterest { instalment: 2 }])?;
-    let shares = loan.account.shares(rt.alloc(), 1)?;
+    let steps = [
+        Step::WaiveInterest { instalment: 2 },
+        Step::Shares { seq: 1 },
+        Step::Balances,
+    ];
+    let told = told(rt.alloc(), &steps)?;
     assert_eq!(rt;
-        shares.as_slice(),
-        [share(2, Portion::Interest, 667)].as_slice()
+        told.as_str(),
+        "2 Interest 667,;fee 0 owed [0, 0, 2000, 100000] paid [0, 0, 0, 0] waived [0, 0, 667, 0] written off [0, 0, 0, 0] \
+outstanding [0, 0, 1333, 100000] overpaid 0 refunded 0;"
     );
-    let expected = Balances {
-        waived: [0, 0, 667, 0],
-        outstanding: [0, 0, 1333, 100000],
-        ..fresh_balances()
-    };
-    assert_eq!(rt; loan.account.balances(), expected);
     Ok(())
 }
 
@@ -65,25 +68,25 @@ fn pays_what_was_waived(rt: HostRuntime) -> Result<(), Fail> {
     let steps = [
         Step::WaiveInterest { instalment: 2 },
         repayment("2024-02-29", 40000),
+        Step::Balances,
+        Step::Shares { seq: 1 },
     ];
-    let loan = OpenLoan::after(rt.alloc(), &steps)?;
-    let expected = Balances {
-        paid: [0, 0, 1667, 38333],
-        outstanding: [0, 0, 333, 61667],
-        ..fresh_balances()
-    };
-    assert_eq!(rt; loan.account.balances(), expected);
-    assert_eq!(rt; loan.account.shares(rt.alloc(), 1)?.len(), 0);
+    let told = told(rt.alloc(), &steps)?;
+    assert_eq!(rt;
+        told.as_str(),
+        "fee 0 owed [0, 0, 2000, 100000] paid [0, 0, 1667, 38333] waived [0, 0, 0, 0] written off [0, 0, 0, 0] \
+outstanding [0, 0, 333, 61667] overpaid 0 refunded 0;;"
+    );
     Ok(())
 }
 
 #[test]
 fn wants_an_overdue_charge(rt: HostRuntime) -> Result<(), Fail> {
-    let mut loan = OpenLoan::after(rt.alloc(), &[])?;
     let penalty = Step::Penalty {
         instalment: 1,
         amount: 3433,
     };
-    assert_eq!(rt; loan.take(rt.alloc(), penalty), Err(Fault::F14));
+    let told = told(rt.alloc(), &[penalty])?;
+    assert_eq!(rt; told.as_str(), "F14;");
     Ok(())
 }

@@ -15,7 +15,7 @@ use mf_catalog::{Calc, ChargeDef, ChargeKind, Method, StrategyName, Terms};
 use mf_office::{Caller, OfficeNo, StaffNo};
 use std::alloc::Global;
 
-/// What is done to a loan.
+/// What is done to a loan, or asked of it.
 #[derive(Clone, Copy, Debug)]
 pub(crate) enum Step {
     Repay { day: &'static str, amount: u64 },
@@ -25,29 +25,33 @@ pub(crate) enum Step {
     WriteOff,
     Refund,
     Reverse { seq: u32 },
+    /// What the calls that read tell.
+    Status,
+    Balances,
+    Rows,
+    Entries,
+    Shares { seq: u32 },
 }
 
 pub(crate) fn repayment(day: &'static str, amount: u64) -> Step {
     Step::Repay { day, amount }
 }
 
-/// 20000 cents on the first due day and 50000 on the second.
-pub(crate) const TWO_REPAYMENTS: [Step; 2] = [
-    Step::Repay {
-        day: "2024-02-29",
-        amount: 20000,
-    },
-    Step::Repay {
-        day: "2024-03-31",
-        amount: 50000,
-    },
-];
+pub(crate) const FIRST_REPAYMENT: Step = Step::Repay {
+    day: "2024-02-29",
+    amount: 20000,
+};
+
+pub(crate) const SECOND_REPAYMENT: Step = Step::Repay {
+    day: "2024-03-31",
+    amount: 50000,
+};
 
 /// A loan of 100000 cents at 12 percent for 3 months of equal principal, disbursed on 2024-01-31. The business day is
 /// 2024-03-31.
 #[derive(Debug, Drop)]
 pub(crate) struct OpenLoan {
-    pub account: LoanAccount,
+    account: LoanAccount,
     business_day: Day,
     ghost disbursed: { account.day ≤ business_day },
 }
@@ -167,23 +171,77 @@ impl OpenLoan {
         disbursed(alloc, terms(strategy, Some(overdue_charge(alloc))))
     }
 
-    /// The loan after steps, none of them refused.
-    pub fn after(alloc: Global, steps: &[Step]) -> Result<OpenLoan, Fault> {
-        let mut loan = OpenLoan::new(alloc, StrategyName::MifosStandard)?;
-        loan.take_all(alloc, steps)?;
-        Ok(loan)
+    /// Takes steps, and gives what is told: by a refused one the number of its refusal, by one that reads what it reads.
+    pub fn told(&mut self, alloc: Global, steps: &[Step]) -> Result<String, Fault> {
+        let mut text = String::new(alloc);
+        for step in steps {
+            match self.tell(alloc, *step, &mut text) {
+                Err(Fault::F20) => return Err(Fault::F20),
+                Err(fault) => write!(text, "{fault:?};")?,
+                Ok(()) => {}
+            }
+        }
+        Ok(text)
     }
 
-    /// Takes steps up to the first that is refused.
-    pub fn take_all(&mut self, alloc: Global, steps: &[Step]) -> Result<(), Fault> {
-        for step in steps {
-            self.take(alloc, *step)?;
+    fn tell(&mut self, alloc: Global, step: Step, text: &mut String) -> Result<(), Fault> {
+        match step {
+            Step::Status => self.tell_status(text),
+            Step::Balances => self.tell_balances(text),
+            Step::Rows => self.tell_rows(text),
+            Step::Entries => self.tell_entries(text),
+            Step::Shares { seq } => self.tell_shares(alloc, seq, text),
+            _ => self.take(alloc, step),
         }
+    }
+
+    fn tell_status(&self, text: &mut String) -> Result<(), Fault> {
+        let status = self.account.status();
+        write!(text, "{status};")?;
+        Ok(())
+    }
+
+    /// The disbursement fee, and the sums, each by penalty, fee, interest and principal.
+    fn tell_balances(&self, text: &mut String) -> Result<(), Fault> {
+        let sums = self.account.balances();
+        let (fee, owed, paid) = (sums.disbursement_fee, sums.owed, sums.paid);
+        write!(text, "fee {fee} owed {owed:?} paid {paid:?} ")?;
+        let (waived, written_off) = (sums.waived, sums.written_off);
+        write!(text, "waived {waived:?} written off {written_off:?} ")?;
+        let (outstanding, overpaid, refunded) = (sums.outstanding, sums.overpaid, sums.refunded);
+        write!(
+            text,
+            "outstanding {outstanding:?} overpaid {overpaid} refunded {refunded};"
+        )?;
+        Ok(())
+    }
+
+    fn tell_rows(&self, text: &mut String) -> Result<(), Fault> {
+        let rows = self.account.rows();
+        write!(text, "{rows:?};")?;
+        Ok(())
+    }
+
+    fn tell_entries(&self, text: &mut String) -> Result<(), Fault> {
+        let count = self.account.entries().len();
+        write!(text, "{count} entries;")?;
+        Ok(())
+    }
+
+    /// What an entry settled: instalment, portion and cents of each share.
+    fn tell_shares(&self, alloc: Global, seq: u32, text: &mut String) -> Result<(), Fault> {
+        let shares = self.account.shares(alloc, seq)?;
+        for share in shares.as_slice() {
+            let (instalment, portion) = (share.cell.instalment, share.cell.portion);
+            let amount = share.amount;
+            write!(text, "{instalment} {portion:?} {amount},")?;
+        }
+        text.push_str(";")?;
         Ok(())
     }
 
     /// Takes a step.
-    pub fn take(&mut self, alloc: Global, step: Step) -> Result<(), Fault> {
+    fn take(&mut self, alloc: Global, step: Step) -> Result<(), Fault> {
         let today = self.business_day;
         match step {
             Step::Repay { day: text, amount } => {
@@ -215,6 +273,7 @@ impl OpenLoan {
             Step::WriteOff => self.enter(alloc, Kind::WriteOff, today, 0, 0, Portion::Principal),
             Step::Refund => self.enter(alloc, Kind::Refund, today, 0, 0, Portion::Principal),
             Step::Reverse { seq } => self.account.reverse(alloc, seq),
+            _ => Ok(()),
         }
     }
 

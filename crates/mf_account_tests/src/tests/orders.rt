@@ -1,8 +1,7 @@
 //! What a repayment fills first, by each strategy.
 
-use super::opened::{OpenLoan, Step, TWO_REPAYMENTS, repayment};
-use super::share;
-use mf_alloc::Portion;
+use super::opened::{FIRST_REPAYMENT, SECOND_REPAYMENT, Step, repayment};
+use super::{told_by, told_with_penalties};
 use mf_base::Fault;
 use mf_catalog::StrategyName;
 use std::alloc::Global;
@@ -13,89 +12,82 @@ const PENALTY: Step = Step::Penalty {
     amount: 3433,
 };
 
-/// The loan after a penalty on its first instalment and a repayment that covers a part of that.
-fn penalized(alloc: Global, strategy: StrategyName) -> Result<OpenLoan, Fault> {
-    let mut loan = OpenLoan::with_penalties(alloc, strategy)?;
-    loan.take_all(alloc, &[PENALTY, repayment("2024-03-31", 5000)])?;
-    Ok(loan)
+/// What is settled, by one strategy, by a repayment that covers a part of a penalty and its instalment.
+fn settled(alloc: Global, strategy: StrategyName) -> Result<String, Fault> {
+    let steps = [
+        PENALTY,
+        repayment("2024-03-31", 5000),
+        Step::Shares { seq: 2 },
+    ];
+    told_with_penalties(alloc, strategy, &steps)
 }
 
 #[test]
 fn penalties_first(rt: HostRuntime) -> Result<(), Fail> {
-    let loan = penalized(rt.alloc(), StrategyName::MifosStandard)?;
-    let shares = loan.account.shares(rt.alloc(), 2)?;
-    let expected = [
-        share(1, Portion::Penalty, 3433),
-        share(1, Portion::Interest, 1000),
-        share(1, Portion::Principal, 567),
-    ];
-    assert_eq!(rt; shares.as_slice(), expected.as_slice());
+    let told = settled(rt.alloc(), StrategyName::MifosStandard)?;
+    assert_eq!(rt;
+        told.as_str(),
+        "1 Penalty 3433,1 Interest 1000,1 Principal 567,;"
+    );
     Ok(())
 }
 
 #[test]
 fn principal_first(rt: HostRuntime) -> Result<(), Fail> {
-    let loan = penalized(rt.alloc(), StrategyName::PrincipalFirst)?;
-    let shares = loan.account.shares(rt.alloc(), 2)?;
-    let expected = [share(1, Portion::Principal, 5000)];
-    assert_eq!(rt; shares.as_slice(), expected.as_slice());
+    let told = settled(rt.alloc(), StrategyName::PrincipalFirst)?;
+    assert_eq!(rt; told.as_str(), "1 Principal 5000,;");
     Ok(())
 }
 
 #[test]
 fn interest_first(rt: HostRuntime) -> Result<(), Fail> {
-    let loan = penalized(rt.alloc(), StrategyName::InterestFirst)?;
-    let shares = loan.account.shares(rt.alloc(), 2)?;
-    let expected = [
-        share(1, Portion::Interest, 1000),
-        share(1, Portion::Principal, 4000),
-    ];
-    assert_eq!(rt; shares.as_slice(), expected.as_slice());
+    let told = settled(rt.alloc(), StrategyName::InterestFirst)?;
+    assert_eq!(rt; told.as_str(), "1 Interest 1000,1 Principal 4000,;");
     Ok(())
 }
 
 #[test]
 fn reverses_a_penalty(rt: HostRuntime) -> Result<(), Fail> {
-    let mut loan = penalized(rt.alloc(), StrategyName::MifosStandard)?;
-    loan.take(rt.alloc(), Step::Reverse { seq: 1 })?;
-    let shares = loan.account.shares(rt.alloc(), 2)?;
-    let expected = [
-        share(1, Portion::Interest, 1000),
-        share(1, Portion::Principal, 4000),
+    let steps = [
+        PENALTY,
+        repayment("2024-03-31", 5000),
+        Step::Reverse { seq: 1 },
+        Step::Shares { seq: 2 },
     ];
-    assert_eq!(rt; shares.as_slice(), expected.as_slice());
+    let told = told_with_penalties(rt.alloc(), StrategyName::MifosStandard, &steps)?;
+    assert_eq!(rt; told.as_str(), "1 Interest 1000,1 Principal 4000,;");
     Ok(())
 }
 
 /// One penalty an instalment, and none before its due day has passed.
 #[test]
 fn refuses_penalties(rt: HostRuntime) -> Result<(), Fail> {
-    let mut loan = penalized(rt.alloc(), StrategyName::MifosStandard)?;
-    assert_eq!(rt; loan.take(rt.alloc(), PENALTY), Err(Fault::F14));
     let early = Step::Penalty {
         instalment: 2,
         amount: 3400,
     };
-    assert_eq!(rt; loan.take(rt.alloc(), early), Err(Fault::F14));
+    let steps = [PENALTY, repayment("2024-03-31", 5000), PENALTY, early];
+    let told = told_with_penalties(rt.alloc(), StrategyName::MifosStandard, &steps)?;
+    assert_eq!(rt; told.as_str(), "F14;F14;");
     Ok(())
 }
 
 #[test]
 fn two_repayments_principal_first(rt: HostRuntime) -> Result<(), Fail> {
-    let mut loan = OpenLoan::new(rt.alloc(), StrategyName::PrincipalFirst)?;
-    loan.take_all(rt.alloc(), &TWO_REPAYMENTS)?;
-    assert_eq!(rt; loan.account.balances().outstanding, [0, 0, 333, 31667]);
-    let shares = loan.account.shares(rt.alloc(), 1)?;
-    let expected = [share(1, Portion::Principal, 20000)];
-    assert_eq!(rt; shares.as_slice(), expected.as_slice());
-    let shares = loan.account.shares(rt.alloc(), 2)?;
-    let expected = [
-        share(1, Portion::Principal, 13333),
-        share(1, Portion::Interest, 1000),
-        share(2, Portion::Principal, 33333),
-        share(2, Portion::Interest, 667),
-        share(3, Portion::Principal, 1667),
+    let steps = [
+        FIRST_REPAYMENT,
+        SECOND_REPAYMENT,
+        Step::Shares { seq: 1 },
+        Step::Shares { seq: 2 },
+        Step::Balances,
     ];
-    assert_eq!(rt; shares.as_slice(), expected.as_slice());
+    let told = told_by(rt.alloc(), StrategyName::PrincipalFirst, &steps)?;
+    assert_eq!(rt;
+        told.as_str(),
+        "1 Principal 20000,;\
+1 Principal 13333,1 Interest 1000,2 Principal 33333,2 Interest 667,3 Principal 1667,;\
+fee 0 owed [0, 0, 2000, 100000] paid [0, 0, 1667, 68333] waived [0, 0, 0, 0] written off [0, 0, 0, 0] \
+outstanding [0, 0, 333, 31667] overpaid 0 refunded 0;"
+    );
     Ok(())
 }
