@@ -3,6 +3,4 @@
 #![tactic(auto)]
 
 #[cfg(test)]
-mod loan_tests;
-#[cfg(test)]
 mod tests;
