@@ -1,36 +1,44 @@
 -- What a database in memory is as it is made; and it is clean ever after.
-use Rattle.std.proofs.Common.{◌≡◌, ◌<◌, ◌&&◌, Bool, List, [], ◌∷◌, length, true, false, refl, ap, subst, ◌∙◌, arith, inl, inr}
+use Rattle.std.proofs.Common.{◌≡◌, ◌&&◌, Bool, List, [], ◌∷◌, true, false, refl, ap, subst, ◌∙◌, IsTrue}
 use Rattle.std.specs.List.{AllZip}
 use Rattle.sqlite_disk.specs.declared.Disk.{Ghosts}
-use Rattle.sqlite_disk.specs.declared.Files.{Files}
-use Rattle.sqlite_wal.specs.Recovery.{Image}
 use Rattle.sqlite_pool.specs.Pool as pool
 use Rattle.sqlite_store.specs.declared.store.FileStore.{FileStore}
-use Rattle.sqlite_store.specs.FileStore.{view}
+use Rattle.sqlite_store.specs.FileStore.{view, schema_of, IsReady}
+use Rattle.sqlite_store.specs.Listing.{listed_from}
+use Rattle.sqlite_store.specs.Listed.{catalog_rows}
 use Rattle.sqlite_trees.specs.Tree.{Trees}
 use Rattle.sqlite_trees.specs.Objects.{catalog_tree}
 use Rattle.sqlite_trees.proofs.Doubt.{no_doubt}
 use Rattle.sqlite_schema.specs.declared.schema.Schema.{Schema}
 use Rattle.sqlite_catalog.specs.Listing.{IsSound, AreListed, IsTableRow, IsIndexRow, IsViewRow}
-use Rattle.sqlite.specs.Effect.{Database}
 use Rattle.sqlite.specs.State.{HasCleanDisk}
 use Rattle.sqlite.specs.Held.{Held}
 use Rattle.sqlite.specs.Steps as steps
-use Rattle.sqlite.specs.Files.{file_state, image_of, IsOpened, Finds, IsEmpty, AreFoundIn}
+use Rattle.sqlite.specs.Files.{file_state, IsOpened}
 
 both_true : (a b : Bool) → a ≡ true → b ≡ true → (a && b) ≡ true
 both_true true true p q = refl
 both_true true false p q = q
 both_true false b p q = p
 
--- where each file of a type is clean, so is each connection over two of them
-pub always_clean : {D : Type 0} {g : Ghosts D} → ((file : D) → g.is_clean file ≡ true) → (c : Held (FileStore D g)) → HasCleanDisk (file_state c)
+-- where each file of a type is clean, so is each store over two of them
+clean_store : {D : Type 0} {g : Ghosts D} → ((file : D) → g.is_clean file ≡ true) → (store : FileStore D g) → IsTrue (view store).is_clean
 unfolding pool.state
-always_clean clean c = no_doubt (view c.store).is_clean (both_true _ _ (clean _) (clean _))
+clean_store clean store = both_true _ _ (clean _) (clean _)
 
-found_empty : (image : Image) (db : Trees) → image.db ≡ [] → AreFoundIn image db → IsEmpty db
-found_empty image db none (inl found) = absurd (let some : 0 < length image.db = found.3.found.present in let e = rw none at some in omega (arith, e))
-found_empty image db none (inr nothing) = nothing.1
+-- and each connection
+pub always_clean : {D : Type 0} {g : Ghosts D} → ((file : D) → g.is_clean file ≡ true) → (c : Held (FileStore D g)) → HasCleanDisk (file_state c)
+always_clean clean c = no_doubt (view c.store).is_clean (clean_store clean c.store)
+
+pub made_fresh : {D : Type 0} {g : Ghosts D} → ((file : D) → g.is_clean file ≡ true) → (store : FileStore D g) → IsReady store → IsTrue (view store).is_numbered
+    → steps.IsFresh (view store)
+made_fresh clean store ready numbered =
+    record { sound = ready.sound (no_doubt _ (clean_store clean store)); numbered = numbered; clean = ready.clean; unmarked = ready.unmarked }
+
+-- a store that was made for no object lists none
+pub made_empty : {D : Type 0} {g : Ghosts D} → ((file : D) → g.is_clean file ≡ true) → (store : FileStore D g) → schema_of store ≡ [] → (view store).trees catalog_tree ≡ []
+made_empty clean store none = rw (clean_store clean store) (catalog_rows _ _ _ ∙ ap (listed_from 0) none)
 
 none_zipped : {A B : Type 0} (P : A → B → Type 0) (ys : List B) → AllZip P [] ys → ys ≡ []
 none_zipped P [] h = refl
@@ -45,12 +53,11 @@ no_tables schema db none sound =
     let views = none_zipped IsViewRow schema.views listed.views in
     λ k. record { tables = tables k; indexes = indexes k; views = views k }
 
--- what is opened over an empty file has no table
-pub opened_empty : {D : Type 0} {g : Ghosts D} (files : Files D) (c : Held (FileStore D g)) → ((file : D) → g.is_clean file ≡ true) → (image_of g files).db ≡ []
-    → (HasCleanDisk (file_state c) → IsOpened c) → (HasCleanDisk (file_state c) → Finds files c) → steps.IsEmpty (file_state c)
-opened_empty {D} {g} files c clean none opens finds =
+-- a connection over a store that lists no object has no table
+pub opened_empty : {D : Type 0} {g : Ghosts D} → ((file : D) → g.is_clean file ≡ true) → (store : FileStore D g) (c : Held (FileStore D g)) → (view store).trees catalog_tree ≡ []
+    → (HasCleanDisk (file_state c) → IsOpened c) → (HasCleanDisk (file_state c) → (file_state c).now.trees ≡ (view store).trees) → steps.IsEmpty (file_state c)
+opened_empty clean store c unlisted opens kept =
     let now = always_clean clean c in
     let live = opens now in
-    let empty = found_empty (image_of g files) _ none (finds now).reads in
-    let listed : (file_state c).now.trees catalog_tree ≡ [] = ap (λ (d : Database). d.trees catalog_tree) live.0.clean ∙ empty.1 in
+    let listed : (file_state c).now.trees catalog_tree ≡ [] = ap (λ (db : Trees). db catalog_tree) (kept now) ∙ unlisted in
     (live.0, live.1, no_tables _ _ listed (live.1 live.0.is_open).0)

@@ -3,4 +3,4 @@ use Rattle.mf_pages.proofs.OpenLemmas.{opened_empty}
 use Rattle.mf_pages.proofs.connection.open.Goals as goal
 
 pub returns-in-Ok-clause-empty : goal.returns-in-Ok-clause-empty
-returns-in-Ok-clause-empty c = opened_empty _ c.in-Ok.connection (λ _. refl) c.new-2.ensures c.in-Ok.ensures.opened c.in-Ok.ensures.found
+returns-in-Ok-clause-empty c = opened_empty (λ _. refl) c.in_ok-store.store c.in-Ok.connection c.in_ok-store.ensures.empty c.in-Ok.ensures.opens c.in-Ok.ensures.trees
