@@ -19,7 +19,7 @@ pub type PageStore = FileStore<MemoryFile>;
 /// A commit copies, digests and logs whole pages, so a small commit is the cheaper the shorter they are.
 const PAGE_BYTES: usize = 1024;
 
-/// How many pages that were read are kept.
+/// How many pages that were read are kept: 8 MB, as the default options keep of pages of 4,096 bytes.
 const CACHED_PAGES: usize = 8000;
 
 /// The log's salts tell an old commit from a new one after a crash. Memory has no after.
