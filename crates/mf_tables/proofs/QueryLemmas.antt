@@ -36,28 +36,28 @@ unfolding IsNotRun
 not_run_same old new sql params e settled live (inl h) = (h.1.0.was_open, h.1.0.now_is)
 not_run_same old new sql params e settled live (inr h) = (h.3.was_open live, fails_same old new ⊥ e settled live h)
 
--- ---- a statement that was prepared before it asks
+-- ---- an empty statement was prepared before the text asks
 
-module _ (sql text : List ℕ) (params : Row) (old mid new : State) where
-  pub answers_prepared : (rows : List Row) → (text ≡ sql) × IsUnchanged old mid → Shown text params mid new rows → Answers sql params old.now rows
+module _ (sql : List ℕ) (params : Row) (old mid new : State) where
+  pub answers_prepared : (rows : List Row) → IsUnchanged old mid → Shown sql params mid new rows → Answers sql params old.now rows
   answers_prepared rows prepared h =
-      let whole : Answers text params mid.now rows = λ plain unlisted. reads_as text params mid new mid.now.schema refl (command_of (understood mid.now.schema text)) refl plain unlisted rows h in
-      subst₂ (λ t d. Answers t params d rows) prepared.0 prepared.1.0.now_is whole
+      let whole : Answers sql params mid.now rows = λ plain unlisted. reads_as sql params mid new mid.now.schema refl (command_of (understood mid.now.schema sql)) refl plain unlisted rows h in
+      subst (λ d. Answers sql params d rows) prepared.0.now_is whole
 
-  still_plain : (text ≡ sql) × IsUnchanged old mid → IsPlain (understood old.now.schema sql) → IsPlain (understood mid.now.schema text)
-  still_plain prepared plain = subst₂ (λ t (d : Database). IsPlain (understood d.schema t)) (sym prepared.0) (sym prepared.1.0.now_is) plain
+  still_plain : IsUnchanged old mid → IsPlain (understood old.now.schema sql) → IsPlain (understood mid.now.schema sql)
+  still_plain prepared plain = subst (λ (d : Database). IsPlain (understood d.schema sql)) (sym prepared.0.now_is) plain
 
-  pub same_prepared : {V : Type 0} (items : V → List Row) (r : Result V Error) → (text ≡ sql) × IsUnchanged old mid → IsPlain (understood old.now.schema sql) → (IsTrue old.is_open → old.now ≡ old.committed) → IsTrue new.is_open
-      → IfOk r (λ v. Shown text params mid new (items v)) → IfErr r (FailsToQuery text params mid new) → new.now ≡ old.now
+  pub same_prepared : {V : Type 0} (items : V → List Row) (r : Result V Error) → IsUnchanged old mid → IsPlain (understood old.now.schema sql) → (IsTrue old.is_open → old.now ≡ old.committed) → IsTrue new.is_open
+      → IfOk r (λ v. Shown sql params mid new (items v)) → IfErr r (FailsToQuery sql params mid new) → new.now ≡ old.now
   same_prepared items r prepared plain settled live ok err =
-      let settled_mid = λ (was : IsTrue mid.is_open). prepared.1.0.now_is ∙ settled prepared.1.0.was_open ∙ sym prepared.1.0.committed_is in
-      either_way r (λ v. Shown text params mid new (items v)) (FailsToQuery text params mid new) (new.now ≡ old.now) (λ v h. shown_same text params mid new (items v) (still_plain prepared plain) h ∙ prepared.1.0.now_is)
-      (λ e h. refused_same text params mid new e (still_plain prepared plain) settled_mid live h ∙ prepared.1.0.now_is) ok err
+      let settled_mid = λ (was : IsTrue mid.is_open). prepared.0.now_is ∙ settled prepared.0.was_open ∙ sym prepared.0.committed_is in
+      either_way r (λ v. Shown sql params mid new (items v)) (FailsToQuery sql params mid new) (new.now ≡ old.now) (λ v h. shown_same sql params mid new (items v) (still_plain prepared plain) h ∙ prepared.0.now_is)
+      (λ e h. refused_same sql params mid new e (still_plain prepared plain) settled_mid live h ∙ prepared.0.now_is) ok err
 
-  pub crash_prepared : (HasCleanDisk mid → (text ≡ sql) × IsUnchanged old mid) → Survives old mid (λ _. ⊥) → Survives mid new (CommitsShowing text params mid) → Survives old new (λ _. IsTrue old.is_open × ¬ IsPlain (understood old.now.schema sql))
+  pub crash_prepared : (HasCleanDisk mid → IsUnchanged old mid) → Survives old mid (λ _. ⊥) → Survives mid new (CommitsShowing sql params mid) → Survives old new (λ _. IsTrue old.is_open × ¬ IsPlain (understood old.now.schema sql))
   crash_prepared prepared first second =
-      survives_then old mid new (λ _. ⊥) (CommitsShowing text params mid) (λ _. IsTrue old.is_open × ¬ IsPlain (understood old.now.schema sql)) (λ _ db none. absurd none)
-      (λ clean db wrote. let early : HasCleanDisk mid = omega (arith, clean, second.clean) in let it = prepared early in (it.1.0.was_open, λ plain. never_commits text params mid db (still_plain it plain) wrote)) first second
+      survives_then old mid new (λ _. ⊥) (CommitsShowing sql params mid) (λ _. IsTrue old.is_open × ¬ IsPlain (understood old.now.schema sql)) (λ _ db none. absurd none)
+      (λ clean db wrote. let early : HasCleanDisk mid = omega (arith, clean, second.clean) in let it = prepared early in (it.0.was_open, λ plain. never_commits sql params mid db (still_plain it plain) wrote)) first second
 
 -- ---- rows that are read into items
 

@@ -98,8 +98,10 @@ pub fn query<S: Alter>(
     ensures crash { Survives (state S.Store connection.old) (state S.Store connection.new) (λ _. IsTrue (state S.Store connection.old).is_open × ¬ IsPlain (understood (state S.Store connection.old).now.schema sql.now)) }
 {
     let _settled = connection.is_autocommit();
-    let statement = connection.prepare(sql)?;
-    statement.query_all(connection, params)
+    // An empty statement is refused where the connection is shut, so from here on it is open, which the clauses rest on; a
+    // statement of the text itself would copy it at each query.
+    connection.prepare("")?;
+    connection.query_all(sql, params)
 }
 
 #[cfg(test)]
