@@ -23,7 +23,8 @@ pub struct CatalogueCounts {
 
 /// A store of one institution. Each call answers what the institution says, or gives up with F20 and has changed
 /// nothing. What is said of values holds as long as the disk has returned what was written (`clean`). A store whose
-/// disk has failed may be shut: then it gives up at every call, and stands for whatever it stood for before.
+/// disk has failed may be shut: then it stands for whatever it stood for before, and gives up at every call but a reading
+/// of what it knows beside its tables.
 pub trait InstitutionStore {
     ghost use Rattle.std.specs.Prelude.{◌≡◌, ℕ, List, ◌∷◌, map, is_some, true};
     ghost use Rattle.mf_office.specs.Tree.{is_within};

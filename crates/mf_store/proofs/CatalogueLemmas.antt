@@ -27,6 +27,7 @@ use Rattle.mf_store.specs.declared.records.MetaRecord.{MetaRecord}
 use Rattle.mf_store.specs.declared.records.ChargeRecord.{ChargeRecord}
 use Rattle.mf_store.specs.declared.records.ProductRecord.{ProductRecord}
 use Rattle.mf_store.specs.declared.writes.StoreWrite.TheVariants.{PutMeta, PutCharge, PutProduct}
+use Rattle.mf_store.specs.declared.writes.StoreWrite.TheVariants as write
 use Rattle.mf_store.specs.Stands.{Becomes}
 use Rattle.mf_store.proofs.FlatLemmas.{put_listed, put_listed_last}
 
@@ -183,7 +184,7 @@ charge_becomes c i x sound is = record { sound = sound; fits = (refl, tt); is = 
     charges = ap (λ r. put_item by_charge r (tables_of i).charges) is ∙ put_listed_last charge_as by_charge (λ n m a b. refl) c (length i.catalogue.charges + 1) 1 i.catalogue.charges (omega arith)
 
 pub product_becomes : (members : ProductMembers) (i : Institution) (x : ProductRecord) → IsSound (committed (AddProduct members) i) → product_of x ≡ product_as (length i.catalogue.products + 1) (record { members = members; retired = false })
-    → Becomes (PutProduct x ∷ []) i (committed (AddProduct members) i)
+    → Becomes (write.AddProduct x ∷ []) i (committed (AddProduct members) i)
 product_becomes members i x sound is = record { sound = sound; fits = (refl, tt); is = λ k. Some (record (tables_of i) { products = products k }) }
   where
     new : Offer

@@ -3,7 +3,6 @@ use Rattle.std.proofs.Common.{◌≡◌, ◌<◌, ◌+◌, ℕ, zero, suc, inr, 
 use Rattle.std.specs.Option.{is_some, option_map}
 use Rattle.std.specs.List.{AllByRecursion}
 use Rattle.std.proofs.lemmas.Bool.Decides.{nat_tests}
-use Rattle.sqlite.specs.Held.{Held}
 use Rattle.sqlite_trees.specs.declared.store.Store.{Ghosts}
 use Rattle.mf_base.specs.declared.fault.Fault.{Fault}
 use Rattle.mf_base.specs.declared.fault.Fault.TheVariants.{F20}
@@ -27,20 +26,23 @@ use Rattle.mf_store.specs.declared.records.StaffRecord.{StaffRecord}
 use Rattle.mf_store.specs.declared.records.ClientRecord.{ClientRecord}
 use Rattle.mf_store.specs.declared.writes.StoreWrite.{StoreWrite}
 use Rattle.mf_store.specs.declared.writes.StoreWrite.TheVariants.{PutOffice, PutStaff, PutClient}
+use Rattle.mf_store.specs.Facts.{Kept}
+use Rattle.mf_store.specs.Learning.{Tells}
+use Rattle.mf_store.specs.declared.known.News.{News}
 use Rattle.mf_store.specs.Stands.{StandsFor, IsClean, Leaves, Stays, Becomes}
 use Rattle.mf_store.proofs.FlatLemmas.{put_row_of, same_rows_of, no_rows_of, put_first, put_past}
 
 -- ---- from the calls to the commit
 
 module _ {S : Type 0} (g : Ghosts S) (commit : Commit) where
-  abbrev Made : Held S → Held S → Result (Unit {0}) Fault → Type 0
+  abbrev Made : Kept S → Kept S → Result (Unit {0}) Fault → Type 0
   Made = Commits (StandsFor g) (IsClean g) (Leaves g) commit
 
-  more : (h : Held S) (i : Institution) (is : List Institution) → Leaves g h is → Leaves g h (i ∷ is)
+  more : (h : Kept S) (i : Institution) (is : List Institution) → Leaves g h is → Leaves g h (i ∷ is)
   more h i is l = record { ours = l.ours; whole = λ clean trees may. inr (l.whole clean trees may) }
 
   -- the call gave up before it wrote anything
-  pub gave_up : (old new : Held S) (fault : Fault) → Stays g old new → fault ≡ F20 → Made old new (Err fault)
+  pub gave_up : (old new : Kept S) (fault : Fault) → Stays g old new → fault ≡ F20 → Made old new (Err fault)
   gave_up old new fault kept is = record {
     premise = kept.premise;
     made = λ clean i s sound. tt;
@@ -59,21 +61,21 @@ module _ {S : Type 0} (g : Ghosts S) (commit : Commit) where
   if_not (Err e) P Q h f = f h
 
   -- the call made its writes after look-ups
-  pub made_by : (old mid new : Held S) (writes : List StoreWrite) (r : Result (Unit {0}) Fault) → Stays g old mid
-      → (IsClean g mid → (i : Institution) → StandsFor g old i → IsSound (committed commit i) → Becomes writes i (committed commit i))
+  pub made_by : (old mid new : Kept S) (writes : List StoreWrite) (news : News) (r : Result (Unit {0}) Fault) → Stays g old mid
+      → (IsClean g mid → (i : Institution) → StandsFor g old i → IsSound (committed commit i) → Becomes writes i (committed commit i) × Tells news i (committed commit i))
       → (IsClean g new → IsClean g mid) → IfErr r (λ fault. fault ≡ F20)
-      → (IsClean g new → OnOk r ((i j : Institution) → StandsFor g mid i → Becomes writes i j → StandsFor g new j))
+      → (IsClean g new → OnOk r ((i j : Institution) → StandsFor g mid i → Becomes writes i j → Tells news i j → StandsFor g new j))
       → (IsClean g new → OnOk r ((i j : Institution) → StandsFor g mid i → Becomes writes i j → Leaves g new (j ∷ [])))
       → (IsClean g new → OnErr r ((i : Institution) → StandsFor g mid i → StandsFor g new i))
       → (IsClean g new → (i j : Institution) (is : List Institution) → StandsFor g mid i → Becomes writes i j → Leaves g mid is → Leaves g new (j ∷ is))
       → Made old new r
-  made_by old mid new writes r kept becomes premise gives_up made left same stop = record {
+  made_by old mid new writes news r kept becomes premise gives_up made left same stop = record {
     premise = λ clean. kept.premise (premise clean);
-    made = λ clean i s sound. let now = premise clean in if_made r _ (StandsFor g new (committed commit i)) (made clean) (λ m. m i (committed commit i) (kept.same now i s) (becomes now i s sound));
-    kept = λ clean i s sound. let now = premise clean in if_made r _ (Leaves g new (committed commit i ∷ [])) (left clean) (λ m. m i (committed commit i) (kept.same now i s) (becomes now i s sound));
+    made = λ clean i s sound. let now = premise clean in if_made r _ (StandsFor g new (committed commit i)) (made clean) (λ m. let b = becomes now i s sound in m i (committed commit i) (kept.same now i s) b.0 b.1);
+    kept = λ clean i s sound. let now = premise clean in if_made r _ (Leaves g new (committed commit i ∷ [])) (left clean) (λ m. m i (committed commit i) (kept.same now i s) (becomes now i s sound).0);
     same = λ clean i s. if_not r _ (StandsFor g new i) (same clean) (λ m. m i (kept.same (premise clean) i s));
     gives_up = gives_up;
-    stop = λ clean i is s sound l. let now = premise clean in stop clean i (committed commit i) is (kept.same now i s) (becomes now i s sound) (kept.stop now is l);
+    stop = λ clean i is s sound l. let now = premise clean in stop clean i (committed commit i) is (kept.same now i s) (becomes now i s sound).0 (kept.stop now is l);
   }
 
 -- the rows of the offices, where the catalogue's are as they were
@@ -209,6 +211,15 @@ all_there fs (f ∷ gs) P up each = (each f (let same : (f.number == f.number) �
         go : (b : Bool) → is_some (cond b (Some f) (office_at h.number gs)) ≡ true
         go true = refl
         go false = there
+
+-- an office that was there keeps its key when another is added
+pub office_key_kept : (x parent : ℕ) (name : List ℕ) (i : Institution) → IsSound i → office_at x i.offices ≡ None → (y : ℕ) → is_there i.offices y ≡ true
+    → key_of (parent_of (with_office (new_office x parent name) i.offices)) y ≡ key_of (parent_of i.offices) y
+unfolding key_of
+office_key_kept x parent name i before free y here =
+    let fs = i.offices in
+    let new = new_office x parent name in
+    key_kept 5 (parent_of fs) (parent_of (with_office new fs)) (is_there fs) (λ z p h e. before.tree.parents_there z p e) (λ z h. parent_of-with_office new fs z (apart x z fs free h)) y here
 
 pub office_becomes : (x parent : ℕ) (name key : List ℕ) (i : Institution) (o : OfficeRecord) → IsSound i → IsSound (committed (AddOffice x parent name) i) → ((j : Institution) → IsSound j → IsTreeOf (is_there j.offices) (parent_of j.offices))
     → office_at x i.offices ≡ None → is_there i.offices parent ≡ true → key ≡ key_of (parent_of i.offices) parent → office_of o ≡ record { number = x; parent = Some parent; hkey = child_key key x; name = name }

@@ -16,7 +16,7 @@ use Rattle.mf_store.specs.declared.records.OfficeRecord.{OfficeRecord}
 use Rattle.mf_store.specs.declared.records.StaffRecord.{StaffRecord}
 use Rattle.mf_store.specs.declared.writes.StoreWrite.{StoreWrite}
 use Rattle.mf_store.specs.declared.writes.StoreWrite.TheVariants.{MakeTables, PutMeta, PutOffice, PutStaff}
-use Rattle.mf_store.specs.Stands.{StandsFor, Begins}
+use Rattle.mf_store.specs.Stands.{IsTabled, Begins}
 
 first_list : MetaRecord → OfficeRecord → StaffRecord → List StoreWrite
 first_list m o s = MakeTables ∷ PutMeta m ∷ PutOffice o ∷ PutStaff s ∷ []
@@ -40,7 +40,7 @@ begins writes day m o s is one schema text number parent key head office staff m
 })
 
 module _ {S : Type 0} (g : Ghosts S) (old new : Held S) (writes : List StoreWrite) (day : ℕ) where
-  pub founded_stands : Begins writes day → IsSound (newly_made day) → Turns (Serves schema_of Holds) (AllFit after Fits writes) (after_all after writes) (state g old).now (state g new).now → Serves schema_of Holds (state g old).now None → StandsFor g new (newly_made day)
+  pub founded_stands : Begins writes day → IsSound (newly_made day) → Turns (Serves schema_of Holds) (AllFit after Fits writes) (after_all after writes) (state g old).now (state g new).now → Serves schema_of Holds (state g old).now None → IsTabled g new (newly_made day)
   founded_stands b sound turns none = record { sound = sound; serves = λ live. subst (λ lists. Serves schema_of Holds (state g new).now lists) b.is (turns None none b.fits) }
 
 -- a new connection in memory has no tables

@@ -1,11 +1,14 @@
 pub mod Texts
 pub mod TableLemmas
+pub mod AddLemmas
 pub mod ReadLemmas
 pub mod PutLemmas
 pub mod FlatLemmas
 pub mod StandLemmas
+pub mod KeptLemmas
 pub mod LookLemmas
 pub mod CommitLemmas
+pub mod NewsLemmas
 pub mod FirstLemmas
 pub mod VisibleLemmas
 pub mod OfficeRowsLemmas

@@ -26,7 +26,7 @@ use Rattle.mf_store.specs.Looks.{is_loan_of, is_loan_above}
 use Rattle.mf_store.specs.Flat.{tables_of, numbered_from, staff_in, client_in, loan_in, line_in, approval_text}
 use Rattle.mf_store.specs.Writes.{loan_of}
 use Rattle.mf_store.specs.declared.records.LoanRecord.{LoanRecord}
-use Rattle.mf_store.specs.declared.writes.StoreWrite.TheVariants.{PutLoan}
+use Rattle.mf_store.specs.declared.writes.StoreWrite.TheVariants as write
 use Rattle.mf_store.specs.Stands.{Becomes, Shows}
 use Rattle.mf_store.proofs.CatalogueLemmas.{amount_is}
 use Rattle.mf_store.proofs.CommitLemmas.{same_lists, offices-with_rows}
@@ -75,7 +75,7 @@ line_is row office number status x n l e a b c = λ k. record {
 
 -- ---- the commits
 
-pub loan_becomes : (x : ℕ) (l : Loan) (i : Institution) (r : LoanRecord) → IsSound i → IsSound (committed (AddLoan x l) i) → is_there i.offices x ≡ true → loan_of r ≡ loan_in x (length (rows_at x i).loans + 1) l → Becomes (PutLoan r ∷ []) i (committed (AddLoan x l) i)
+pub loan_becomes : (x : ℕ) (l : Loan) (i : Institution) (r : LoanRecord) → IsSound i → IsSound (committed (AddLoan x l) i) → is_there i.offices x ≡ true → loan_of r ≡ loan_in x (length (rows_at x i).loans + 1) l → Becomes (write.AddLoan r ∷ []) i (committed (AddLoan x l) i)
 loan_becomes x l i r before sound there is = record {
   sound = sound;
   fits = (refl, tt);
@@ -88,7 +88,7 @@ loan_becomes x l i r before sound there is = record {
     new = loan_added l (rows_at x i)
 
 pub staged_becomes : (account : Account) (stage : Stage) (l : Loan) (i : Institution) (r : LoanRecord) → IsSound i → IsSound (committed (SetStage account stage) i) → numbered (rows_at account.office i).loans account.number ≡ Some l
-    → loan_of r ≡ loan_in account.office account.number (record l { stage = stage }) → Becomes (PutLoan r ∷ []) i (committed (SetStage account stage) i)
+    → loan_of r ≡ loan_in account.office account.number (record l { stage = stage }) → Becomes (write.PutLoan r ∷ []) i (committed (SetStage account stage) i)
 staged_becomes account stage l i r before sound there is = record {
   sound = sound;
   fits = (refl, tt);

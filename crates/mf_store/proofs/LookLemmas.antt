@@ -30,7 +30,7 @@ pub meta_found : {V : Type 0} (of : V → MetaRow) (i : Institution) (rows : Lis
 meta_found of i rows found s reads =
     shown_first meta_row (is_meta 1) of (tables_of i).meta rows found (find_meta_shows 1 s.db rows (tables_of i).meta s.serves.schema_is s.serves.holds.meta s.answers) reads
 
-office_by_number : (x : ℕ) (parents : ℕ → Option ℕ) (fs : List Office) → find (is_office x) (map (office_under parents) fs) ≡ option_map (office_under parents) (office_at x fs)
+pub office_by_number : (x : ℕ) (parents : ℕ → Option ℕ) (fs : List Office) → find (is_office x) (map (office_under parents) fs) ≡ option_map (office_under parents) (office_at x fs)
 office_by_number x parents [] = refl
 office_by_number x parents (f ∷ fs) = go (f.number == x) refl (office_by_number x parents fs)
   where

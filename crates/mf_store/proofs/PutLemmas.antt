@@ -1,18 +1,21 @@
 -- What one statement makes of all tables together.
-use Rattle.std.proofs.Common.{◌≡◌, None, Some, Option, IsSome, [], sym, subst, arith, true≢false}
+use Rattle.std.proofs.Common.{◌≡◌, ℕ, List, None, Some, Ok, Option, IsSome, [], sym, subst, arith, true≢false}
 use Rattle.sqlite.specs.Effect.{Database}
-use Rattle.sqlite.specs.State.{State}
-use Rattle.mf_tables.specs.Keep.{Keeps}
+use Rattle.sqlite.specs.State.{State, Executes}
+use Rattle.sqlite_catalog.specs.Listing.{IsSound}
+use Rattle.mf_tables.specs.Keep.{Keeps, put_item}
 use Rattle.mf_tables.specs.Making.{IsEmpty}
 use Rattle.mf_tables.specs.Tables.{no_schema}
 use Rattle.mf_tables.specs.Writes.{Ran, Serves}
 use Rattle.mf_tables.proofs.KeepLemmas.{keeps_none}
+use Rattle.mf_tables.proofs.KeptLemmas.{Spares}
 use Rattle.mf_tables.proofs.MakeLemmas.{makes_one}
 use Rattle.mf_store.specs.Tables.{schema}
 use Rattle.mf_store.specs.Rows.{MetaRow, OfficeRow, StaffRow, ClientRow, ChargeRow, ProductRow, LoanRow, Lists, no_rows, meta_row, office_row, staff_row, client_row, charge_row, product_row, loan_row, by_meta, by_office, by_staff, by_client, by_charge, by_product, by_loan, put_meta, put_office, put_staff, put_client, put_charge, put_product, put_loan}
 use Rattle.mf_store.specs.Writes.{changed, schema_of, Holds, Making, Putting}
-use Rattle.mf_store.proofs.Texts.{create_meta, create_offices, create_staff, create_clients, create_charges, create_products, create_loans, defines_meta, defines_offices, defines_staff, defines_clients, defines_charges, defines_products, defines_loans, made_is, upsert_meta, upsert_office, upsert_staff, upsert_client, upsert_charge, upsert_product, upsert_loan}
-use Rattle.mf_store.proofs.TableLemmas.{by_meta_total, by_office_total, by_staff_total, by_client_total, by_charge_total, by_product_total, by_loan_total, puts_meta, puts_office, puts_staff, puts_client, puts_charge, puts_product, puts_loan}
+use Rattle.mf_store.proofs.Texts.{create_meta, create_offices, create_staff, create_clients, create_charges, create_products, create_loans, defines_meta, defines_offices, defines_staff, defines_clients, defines_charges, defines_products, defines_loans, made_is, upsert_meta, upsert_product, upsert_loan}
+use Rattle.mf_store.proofs.AddLemmas.{insert_office, insert_staff, insert_client, insert_charge, insert_product, insert_loan, adds_office, adds_staff, adds_client, adds_charge, adds_product, adds_loan}
+use Rattle.mf_store.proofs.TableLemmas.{by_meta_total, by_office_total, by_staff_total, by_client_total, by_charge_total, by_product_total, by_loan_total, puts_meta, puts_product, puts_loan}
 
 abbrev pub StandsAs : Database → Option Lists → Type 0
 StandsAs = Serves schema_of Holds
@@ -41,13 +44,13 @@ putting_meta x old new ran = record { mode = ran.mode; was_open = ran.was_open; 
           };
         }
 
-pub putting_office : (x : OfficeRow) (old new : State) → Ran upsert_office (office_row x) old new → Putting (put_office x) old new
+pub putting_office : (x : OfficeRow) (old new : State) → Ran insert_office (office_row x) old new → Putting (put_office x) old new
 putting_office x old new ran = record { mode = ran.mode; was_open = ran.was_open; turns = turns }
   where
     turns : (lists : Option Lists) → StandsAs old.now lists → IsSome lists → StandsAs new.now (changed (put_office x) lists)
     turns None s there = nothing_there there
     turns (Some m) s there =
-        let did = puts_office x old new ran.count m.offices s.schema_is s.holds.offices ran.ran in
+        let did = adds_office x old new ran.count m.offices s.schema_is s.holds.offices ran.ran in
         let spared = did.2 in record {
           schema_is = did.0;
           holds = record {
@@ -62,13 +65,13 @@ putting_office x old new ran = record { mode = ran.mode; was_open = ran.was_open
           };
         }
 
-pub putting_staff : (x : StaffRow) (old new : State) → Ran upsert_staff (staff_row x) old new → Putting (put_staff x) old new
+pub putting_staff : (x : StaffRow) (old new : State) → Ran insert_staff (staff_row x) old new → Putting (put_staff x) old new
 putting_staff x old new ran = record { mode = ran.mode; was_open = ran.was_open; turns = turns }
   where
     turns : (lists : Option Lists) → StandsAs old.now lists → IsSome lists → StandsAs new.now (changed (put_staff x) lists)
     turns None s there = nothing_there there
     turns (Some m) s there =
-        let did = puts_staff x old new ran.count m.staff s.schema_is s.holds.staff ran.ran in
+        let did = adds_staff x old new ran.count m.staff s.schema_is s.holds.staff ran.ran in
         let spared = did.2 in record {
           schema_is = did.0;
           holds = record {
@@ -83,13 +86,13 @@ putting_staff x old new ran = record { mode = ran.mode; was_open = ran.was_open;
           };
         }
 
-pub putting_client : (x : ClientRow) (old new : State) → Ran upsert_client (client_row x) old new → Putting (put_client x) old new
+pub putting_client : (x : ClientRow) (old new : State) → Ran insert_client (client_row x) old new → Putting (put_client x) old new
 putting_client x old new ran = record { mode = ran.mode; was_open = ran.was_open; turns = turns }
   where
     turns : (lists : Option Lists) → StandsAs old.now lists → IsSome lists → StandsAs new.now (changed (put_client x) lists)
     turns None s there = nothing_there there
     turns (Some m) s there =
-        let did = puts_client x old new ran.count m.clients s.schema_is s.holds.clients ran.ran in
+        let did = adds_client x old new ran.count m.clients s.schema_is s.holds.clients ran.ran in
         let spared = did.2 in record {
           schema_is = did.0;
           holds = record {
@@ -104,13 +107,13 @@ putting_client x old new ran = record { mode = ran.mode; was_open = ran.was_open
           };
         }
 
-pub putting_charge : (x : ChargeRow) (old new : State) → Ran upsert_charge (charge_row x) old new → Putting (put_charge x) old new
+pub putting_charge : (x : ChargeRow) (old new : State) → Ran insert_charge (charge_row x) old new → Putting (put_charge x) old new
 putting_charge x old new ran = record { mode = ran.mode; was_open = ran.was_open; turns = turns }
   where
     turns : (lists : Option Lists) → StandsAs old.now lists → IsSome lists → StandsAs new.now (changed (put_charge x) lists)
     turns None s there = nothing_there there
     turns (Some m) s there =
-        let did = puts_charge x old new ran.count m.charges s.schema_is s.holds.charges ran.ran in
+        let did = adds_charge x old new ran.count m.charges s.schema_is s.holds.charges ran.ran in
         let spared = did.2 in record {
           schema_is = did.0;
           holds = record {
@@ -125,13 +128,18 @@ putting_charge x old new ran = record { mode = ran.mode; was_open = ran.was_open
           };
         }
 
-pub putting_product : (x : ProductRow) (old new : State) → Ran upsert_product (product_row x) old new → Putting (put_product x) old new
-putting_product x old new ran = record { mode = ran.mode; was_open = ran.was_open; turns = turns }
+-- what a text makes of its own table and of the others
+abbrev Puts_product : List ℕ → Type 1
+Puts_product sql = (x : ProductRow) (old new : State) (count : ℕ) (items : List ProductRow) → old.now.schema ≡ schema → Keeps product_row by_product (old.now.trees 11) items → Executes sql (product_row x) old new (Ok count)
+    → (new.now.schema ≡ schema) × Keeps product_row by_product (new.now.trees 11) (put_item by_product x items) × Spares schema 11 old.now.trees new.now.trees × IsSound schema new.now.trees
+
+product_written : (sql : List ℕ) → Puts_product sql → (x : ProductRow) (old new : State) → Ran sql (product_row x) old new → Putting (put_product x) old new
+product_written sql puts x old new ran = record { mode = ran.mode; was_open = ran.was_open; turns = turns }
   where
     turns : (lists : Option Lists) → StandsAs old.now lists → IsSome lists → StandsAs new.now (changed (put_product x) lists)
     turns None s there = nothing_there there
     turns (Some m) s there =
-        let did = puts_product x old new ran.count m.products s.schema_is s.holds.products ran.ran in
+        let did = puts x old new ran.count m.products s.schema_is s.holds.products ran.ran in
         let spared = did.2 in record {
           schema_is = did.0;
           holds = record {
@@ -146,13 +154,24 @@ putting_product x old new ran = record { mode = ran.mode; was_open = ran.was_ope
           };
         }
 
-pub putting_loan : (x : LoanRow) (old new : State) → Ran upsert_loan (loan_row x) old new → Putting (put_loan x) old new
-putting_loan x old new ran = record { mode = ran.mode; was_open = ran.was_open; turns = turns }
+pub putting_product : (x : ProductRow) (old new : State) → Ran upsert_product (product_row x) old new → Putting (put_product x) old new
+putting_product = product_written upsert_product puts_product
+
+pub adding_product : (x : ProductRow) (old new : State) → Ran insert_product (product_row x) old new → Putting (put_product x) old new
+adding_product = product_written insert_product adds_product
+
+-- what a text makes of its own table and of the others
+abbrev Puts_loan : List ℕ → Type 1
+Puts_loan sql = (x : LoanRow) (old new : State) (count : ℕ) (items : List LoanRow) → old.now.schema ≡ schema → Keeps loan_row by_loan (old.now.trees 13) items → Executes sql (loan_row x) old new (Ok count)
+    → (new.now.schema ≡ schema) × Keeps loan_row by_loan (new.now.trees 13) (put_item by_loan x items) × Spares schema 13 old.now.trees new.now.trees × IsSound schema new.now.trees
+
+loan_written : (sql : List ℕ) → Puts_loan sql → (x : LoanRow) (old new : State) → Ran sql (loan_row x) old new → Putting (put_loan x) old new
+loan_written sql puts x old new ran = record { mode = ran.mode; was_open = ran.was_open; turns = turns }
   where
     turns : (lists : Option Lists) → StandsAs old.now lists → IsSome lists → StandsAs new.now (changed (put_loan x) lists)
     turns None s there = nothing_there there
     turns (Some m) s there =
-        let did = puts_loan x old new ran.count m.loans s.schema_is s.holds.loans ran.ran in
+        let did = puts x old new ran.count m.loans s.schema_is s.holds.loans ran.ran in
         let spared = did.2 in record {
           schema_is = did.0;
           holds = record {
@@ -166,6 +185,12 @@ putting_loan x old new ran = record { mode = ran.mode; was_open = ran.was_open; 
             loans = did.1;
           };
         }
+
+pub putting_loan : (x : LoanRow) (old new : State) → Ran upsert_loan (loan_row x) old new → Putting (put_loan x) old new
+putting_loan = loan_written upsert_loan puts_loan
+
+pub adding_loan : (x : LoanRow) (old new : State) → Ran insert_loan (loan_row x) old new → Putting (put_loan x) old new
+adding_loan = loan_written insert_loan adds_loan
 
 -- ---- the tables made
 

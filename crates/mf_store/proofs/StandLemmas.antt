@@ -16,7 +16,7 @@ use Rattle.mf_store.specs.Tables.{schema}
 use Rattle.mf_store.specs.Flat.{tables_of}
 use Rattle.mf_store.specs.Writes.{schema_of, Holds, after, Fits}
 use Rattle.mf_store.specs.declared.writes.StoreWrite.{StoreWrite}
-use Rattle.mf_store.specs.Stands.{StandsFor, IsClean, Leaves, Stays, Becomes}
+use Rattle.mf_store.specs.Stands.{IsTabled, HasGoodDisk, LeavesTables, StayTabled, Becomes}
 
 -- ---- F20 in place of the store's own error
 
@@ -62,16 +62,6 @@ weaker_on_err (Ok x) P Q h f = tt
 weaker_on_err (Err e) P Q h f = f h
 
 module _ {S : Type 0} (g : Ghosts S) where
-  pub stays_same : (h : Held S) → Stays g h h
-  stays_same h = record { premise = λ c. c; same = λ c i s. s; stop = λ c is l. l }
-
-  pub stays_then : (a b c : Held S) → Stays g a b → Stays g b c → Stays g a c
-  stays_then a b c p q = record {
-    premise = λ clean. p.premise (q.premise clean);
-    same = λ clean i s. q.same clean i (p.same (q.premise clean) i s);
-    stop = λ clean is l. q.stop clean is (p.stop (q.premise clean) is l);
-  }
-
   module _ (old new : Held S) where
     abbrev was : State
     was = state g old
@@ -79,14 +69,14 @@ module _ {S : Type 0} (g : Ghosts S) where
     abbrev is : State
     is = state g new
 
-    earlier : {P : Trees → Type 0} → Survives was is P → IsClean g new → IsClean g old
+    earlier : {P : Trees → Type 0} → Survives was is P → HasGoodDisk g new → HasGoodDisk g old
     earlier survives clean = omega (arith, survives.clean, clean)
 
     plain_then : (sql : List ℕ) → IsPlain (understood schema sql) → was.now.schema ≡ schema → IsPlain (understood was.now.schema sql)
     plain_then sql plain ours = subst (λ k. IsPlain (understood k sql)) (sym ours) plain
 
     pub query_stays : (sql : List ℕ) → IsPlain (understood schema sql) → (HasCleanDisk is → IsTrue is.is_open → IsPlain (understood was.now.schema sql) → is.now ≡ was.now) → (HasCleanDisk is → IsTrue is.is_open → IsTrue was.is_open)
-        → Survives was is (λ _. IsTrue was.is_open × ¬ IsPlain (understood was.now.schema sql)) → Stays g old new
+        → Survives was is (λ _. IsTrue was.is_open × ¬ IsPlain (understood was.now.schema sql)) → StayTabled g old new
     query_stays sql plain same was_open survives = record {
       premise = earlier survives;
       same = λ clean i s. record {
@@ -109,27 +99,27 @@ module _ {S : Type 0} (g : Ghosts S) where
       abbrev MayLeave : Trees → Type 0
       MayLeave = MayHold (Serves schema_of Holds) Holds (AllFit after Fits writes) (after_all after writes) was
 
-      pub made_stands : (IsTrue is.is_open → IsTrue was.is_open) → Change was.now is.now → (i j : Institution) → StandsFor g old i → Becomes writes i j → StandsFor g new j
+      pub made_stands : (IsTrue is.is_open → IsTrue was.is_open) → Change was.now is.now → (i j : Institution) → IsTabled g old i → Becomes writes i j → IsTabled g new j
       made_stands was_open turns i j s b = record {
         sound = b.sound;
         serves = λ live. subst (λ lists. Serves schema_of Holds is.now lists) b.is (turns (Some (tables_of i)) (s.serves (was_open live)) b.fits);
       }
 
-      pub made_leaves : ((trees : Trees) → IsTrue is.is_open → is.may_leave trees → trees ≡ is.committed.trees) → IsSettled is → (j : Institution) → StandsFor g new j → Leaves g new (j ∷ [])
+      pub made_leaves : ((trees : Trees) → IsTrue is.is_open → is.may_leave trees → trees ≡ is.committed.trees) → IsSettled is → (j : Institution) → IsTabled g new j → LeavesTables g new (j ∷ [])
       made_leaves settled rests j s = record {
         ours = λ clean live. (s.serves live).schema_is;
         whole = λ clean trees may. inl (subst (λ t. Holds t (Some (tables_of j))) (sym (settled trees rests.is_open may ∙ ap (λ (d : Database). d.trees) rests.committed)) (s.serves rests.is_open).holds);
       }
 
-      pub unmade_stands : (IsTrue is.is_open → IsTrue was.is_open) → (IsTrue is.is_open → is.now ≡ was.now) → (i : Institution) → StandsFor g old i → StandsFor g new i
+      pub unmade_stands : (IsTrue is.is_open → IsTrue was.is_open) → (IsTrue is.is_open → is.now ≡ was.now) → (i : Institution) → IsTabled g old i → IsTabled g new i
       unmade_stands was_open same i s = record { sound = s.sound; serves = λ live. subst (λ d. Serves schema_of Holds d (Some (tables_of i))) (sym (same live)) (s.serves (was_open live)) }
 
       -- whatever came of the call, the tables are this program's
-      pub still_ours : {V : Type 0} (r : Result V Error) → (IsTrue is.is_open → IsTrue was.is_open) → OnOk r (Change was.now is.now) → (IsTrue is.is_open → OnErr r (is.now ≡ was.now)) → (i j : Institution) → StandsFor g old i → Becomes writes i j → IsTrue is.is_open → is.now.schema ≡ schema
+      pub still_ours : {V : Type 0} (r : Result V Error) → (IsTrue is.is_open → IsTrue was.is_open) → OnOk r (Change was.now is.now) → (IsTrue is.is_open → OnErr r (is.now ≡ was.now)) → (i j : Institution) → IsTabled g old i → Becomes writes i j → IsTrue is.is_open → is.now.schema ≡ schema
       still_ours (Ok v) was_open turns same i j s b live = ((made_stands was_open turns i j s b).serves live).schema_is
       still_ours (Err e) was_open turns same i j s b live = ((unmade_stands was_open same i s).serves live).schema_is
 
-      pub made_stop : (HasCleanDisk is → IsTrue is.is_open → is.now.schema ≡ schema) → Survives was is MayLeave → (i j : Institution) (left : List Institution) → StandsFor g old i → Becomes writes i j → Leaves g old left → Leaves g new (j ∷ left)
+      pub made_stop : (HasCleanDisk is → IsTrue is.is_open → is.now.schema ≡ schema) → Survives was is MayLeave → (i j : Institution) (left : List Institution) → IsTabled g old i → Becomes writes i j → LeavesTables g old left → LeavesTables g new (j ∷ left)
       made_stop ours survives i j left s b l = record {
         ours = ours;
         whole = λ clean trees may. elim (survives.crash clean trees may) [

@@ -4,4 +4,6 @@ pub mod Looks
 pub mod Flat
 pub mod Counts
 pub mod Writes
+pub mod Facts
+pub mod Learning
 pub mod Stands

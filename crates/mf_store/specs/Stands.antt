@@ -11,6 +11,7 @@ use Rattle.mf_tables.specs.Writes.{Serves, AllFit, after_all}
 use Rattle.mf_model.specs.Institution.{Institution, newly_made}
 use Rattle.mf_model.specs.Sound.{IsSound}
 use Rattle.mf_store.specs.Tables.{schema}
+use Rattle.mf_store.specs.Facts.{Kept, AreTrueOf}
 use Rattle.mf_store.specs.Flat.{tables_of}
 use Rattle.mf_store.specs.Writes.{schema_of, Holds, after, Fits}
 use Rattle.mf_store.specs.declared.writes.StoreWrite.{StoreWrite}
@@ -22,21 +23,41 @@ HoldsOneOf (i ∷ is) trees = Holds trees (Some (tables_of i)) ⊎ HoldsOneOf is
 
 module _ {S : Type 0} (g : Ghosts S) where
   -- The tables hold the institution's rows and nothing else, and it is sound. Of a connection that a fault has shut nothing more is known.
-  pub record StandsFor (h : Held S) (i : Institution) : Type 0 where
+  pub record IsTabled (h : Held S) (i : Institution) : Type 0 where
     pub sound : IsSound i
     pub serves : IsTrue (state g h).is_open → Serves schema_of Holds (state g h).now (Some (tables_of i))
 
   -- so far the disk has returned what was written
-  abbrev pub IsClean : Held S → Type 0
-  IsClean h = HasCleanDisk (state g h)
+  abbrev pub HasGoodDisk : Held S → Type 0
+  HasGoodDisk h = HasCleanDisk (state g h)
 
   -- the tables are this program's, and a stop at this moment leaves one of these institutions, whole
-  pub record Leaves (h : Held S) (is : List Institution) : Type 0 where
-    pub ours : IsClean h → IsTrue (state g h).is_open → (state g h).now.schema ≡ schema
-    pub whole : IsClean h → (trees : Trees) → (state g h).may_leave trees → HoldsOneOf is trees
+  pub record LeavesTables (h : Held S) (is : List Institution) : Type 0 where
+    pub ours : HasGoodDisk h → IsTrue (state g h).is_open → (state g h).now.schema ≡ schema
+    pub whole : HasGoodDisk h → (trees : Trees) → (state g h).may_leave trees → HoldsOneOf is trees
+
+  -- the tables hold what they held, and a stop leaves nothing more than before
+  pub record StayTabled (old new : Held S) : Type 0 where
+    pub premise : HasGoodDisk new → HasGoodDisk old
+    pub same : HasGoodDisk new → (i : Institution) → IsTabled old i → IsTabled new i
+    pub stop : HasGoodDisk new → (is : List Institution) → LeavesTables old is → LeavesTables new is
+
+  -- The tables hold the institution's rows and nothing else, and it is sound; and what is known beside them is so in it.
+  pub record StandsFor (k : Kept S) (i : Institution) : Type 0 where
+    pub sound : IsSound i
+    pub serves : IsTrue (state g k.connection).is_open → Serves schema_of Holds (state g k.connection).now (Some (tables_of i))
+    pub knows : AreTrueOf k.known i
+
+  -- so far the disk has returned what was written
+  abbrev pub IsClean : Kept S → Type 0
+  IsClean k = HasGoodDisk k.connection
+
+  -- the tables are this program's, and a stop at this moment leaves one of these institutions, whole
+  abbrev pub Leaves : Kept S → List Institution → Type 0
+  Leaves k is = LeavesTables k.connection is
 
   -- it stands for what it stood for, and a stop leaves nothing more than before
-  pub record Stays (old new : Held S) : Type 0 where
+  pub record Stays (old new : Kept S) : Type 0 where
     pub premise : IsClean new → IsClean old
     pub same : IsClean new → (i : Institution) → StandsFor old i → StandsFor new i
     pub stop : IsClean new → (is : List Institution) → Leaves old is → Leaves new is

@@ -17,7 +17,7 @@ use Rattle.mf_store.specs.declared.records.ChargeRecord.{ChargeRecord}
 use Rattle.mf_store.specs.declared.records.ProductRecord.{ProductRecord}
 use Rattle.mf_store.specs.declared.records.LoanRecord.{LoanRecord}
 use Rattle.mf_store.specs.declared.writes.StoreWrite.{StoreWrite}
-use Rattle.mf_store.specs.declared.writes.StoreWrite.TheVariants.{MakeTables, PutMeta, PutOffice, PutStaff, PutClient, PutCharge, PutProduct, PutLoan}
+use Rattle.mf_store.specs.declared.writes.StoreWrite.TheVariants.{MakeTables, PutMeta, PutOffice, PutStaff, PutClient, PutCharge, AddProduct, PutProduct, AddLoan, PutLoan}
 
 abbrev pub meta_of : MetaRecord → MetaRow
 meta_of x = record { one = x.one; schema = x.schema; day = string_bytes x.day }
@@ -70,7 +70,9 @@ after (PutOffice x) lists = changed (put_office (office_of x)) lists
 after (PutStaff x) lists = changed (put_staff (staff_of x)) lists
 after (PutClient x) lists = changed (put_client (client_of x)) lists
 after (PutCharge x) lists = changed (put_charge (charge_of x)) lists
+after (AddProduct x) lists = changed (put_product (product_of x)) lists
 after (PutProduct x) lists = changed (put_product (product_of x)) lists
+after (AddLoan x) lists = changed (put_loan (loan_of x)) lists
 after (PutLoan x) lists = changed (put_loan (loan_of x)) lists
 
 -- tables are made where there is none, and rows are put where there are

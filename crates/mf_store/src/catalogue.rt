@@ -8,7 +8,8 @@ ghost use Rattle.mf_model.specs.declared.commit.Commit.TheVariants.{SetDay, AddC
 ghost use Rattle.mf_store.specs.Flat.{charge_as, product_as};
 ghost use Rattle.mf_store.specs.Writes.{charge_of, product_of};
 
-use crate::counts::Kind;
+use crate::counts::{Kind, MOST};
+use crate::known::News;
 use crate::numbers::{
     calc_from, flag_from, frequency_from, kind_from, method_from, number_of_calc,
     number_of_frequency, number_of_kind, number_of_method, number_of_strategy, signed,
@@ -141,9 +142,14 @@ impl<S: Alter> Store<S> {
         ensures gives_up { IfErr result (λ fault. fault ≡ F20) }
         ensures value { IsClean S.Store self.new → (i : Institution) → StandsFor S.Store self.old i → IfOk result (λ counts. counts ≡ catalogue_counts i) }
     {
+        if let Some(counts) = self.known_catalogue() {
+            return Ok(counts);
+        }
         let charges = self.last_number(Kind::Charges)?;
         let products = self.last_number(Kind::Products)?;
-        Ok(CatalogueCounts { charges, products })
+        let counts = CatalogueCounts { charges, products };
+        self.learn(News::Catalogue(counts));
+        Ok(counts)
     }
 
     /// A charge, or None where there is none with this number.
@@ -159,8 +165,8 @@ impl<S: Alter> Store<S> {
         Ok(Some(charge))
     }
 
-    /// A product, or None where there is none with this number.
-    pub fn product_at(&mut self, number: u32) -> Result<Option<Product>, Fault>
+    /// The same, as the tables tell.
+    fn read_product(&mut self, number: u32) -> Result<Option<Product>, Fault>
         ensures kept { Stays S.Store self.old self.new }
         ensures gives_up { IfErr result (λ fault. fault ≡ F20) }
         ensures value { IsClean S.Store self.new → (i : Institution) → StandsFor S.Store self.old i → IfOk result (λ product. product ≡ product_in i.catalogue number) }
@@ -170,6 +176,24 @@ impl<S: Alter> Store<S> {
         };
         let product = product_from(row)?;
         Ok(Some(product))
+    }
+
+    /// A product, or None where there is none with this number.
+    pub fn product_at(&mut self, number: u32) -> Result<Option<Product>, Fault>
+        ensures kept { Stays S.Store self.old self.new }
+        ensures gives_up { IfErr result (λ fault. fault ≡ F20) }
+        ensures value { IsClean S.Store self.new → (i : Institution) → StandsFor S.Store self.old i → IfOk result (λ product. product ≡ product_in i.catalogue number) }
+    {
+        if let Some(product) = self.known_product(number) {
+            return Ok(Some(product));
+        }
+        match self.read_product(number)? {
+            None => Ok(None),
+            Some(product) => {
+                self.learn_product(number, &product);
+                Ok(Some(product))
+            }
+        }
     }
 
     /// Makes this the business day.
@@ -182,7 +206,7 @@ impl<S: Alter> Store<S> {
             schema: 1,
             day: text,
         };
-        self.make(&[StoreWrite::PutMeta(meta)])
+        self.make(&[StoreWrite::PutMeta(meta)], News::BusinessDay(day))
     }
 
     /// Adds a charge, under the next number.
@@ -195,18 +219,34 @@ impl<S: Alter> Store<S> {
     ) -> Result<(), Fault>
         ensures { Commits (StandsFor S.Store) (IsClean S.Store) (Leaves S.Store) (AddCharge name kind calc value) self.old self.new result }
     {
-        let last = self.last_number(Kind::Charges)?;
-        let row = charge_row(last + 1, name, kind, calc, value)?;
-        self.make(&[StoreWrite::PutCharge(row)])
+        let counts = self.count_catalogue()?;
+        if counts.charges > MOST {
+            return Err(Fault::F20);
+        }
+        let number = counts.charges + 1;
+        let row = charge_row(number, name, kind, calc, value)?;
+        let now = CatalogueCounts {
+            charges: number,
+            products: counts.products,
+        };
+        self.make(&[StoreWrite::PutCharge(row)], News::Catalogue(now))
     }
 
     /// Adds a product, under the next number.
     pub fn add_product(&mut self, members: ProductMembers) -> Result<(), Fault>
         ensures { Commits (StandsFor S.Store) (IsClean S.Store) (Leaves S.Store) (AddProduct members) self.old self.new result }
     {
-        let last = self.last_number(Kind::Products)?;
-        let row = product_row(last + 1, members)?;
-        self.make(&[StoreWrite::PutProduct(row)])
+        let counts = self.count_catalogue()?;
+        if counts.products > MOST {
+            return Err(Fault::F20);
+        }
+        let number = counts.products + 1;
+        let row = product_row(number, members)?;
+        let now = CatalogueCounts {
+            charges: counts.charges,
+            products: number,
+        };
+        self.make(&[StoreWrite::AddProduct(row)], News::Catalogue(now))
     }
 
     /// Retires a product that is there.
@@ -217,6 +257,6 @@ impl<S: Alter> Store<S> {
             return Err(Fault::F20);
         };
         let row = retired(found);
-        self.make(&[StoreWrite::PutProduct(row)])
+        self.make(&[StoreWrite::PutProduct(row)], News::Retirement)
     }
 }

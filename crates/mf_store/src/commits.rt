@@ -8,13 +8,14 @@ ghost use Rattle.mf_model.specs.Store.{Commits};
 ghost use Rattle.mf_model.specs.Tree.{is_there};
 ghost use Rattle.mf_model.specs.declared.commit.Commit.TheVariants.{AddOffice, AddStaff, AddClient};
 
-use crate::counts::Kind;
+use crate::counts::MOST;
+use crate::known::News;
 use crate::numbers::number_of_role;
 use crate::records::{ClientRecord, OfficeRecord, StaffRecord};
 use crate::store::Store;
 use crate::writes::StoreWrite;
 use mf_base::Fault;
-use mf_model::tree_of_offices;
+use mf_model::{Counts, tree_of_offices};
 use mf_office::{Name, OfficeNo, Role};
 use sqlite::Alter;
 use std::alloc::Global;
@@ -28,6 +29,9 @@ impl<S: Alter> Store<S> {
         ensures gives_up { IfErr result (λ fault. fault ≡ F20) }
         ensures value { IsClean S.Store self.new → (i : Institution) → StandsFor S.Store self.old i → IfOk result (λ there. there ≡ is_there i.offices number) }
     {
+        if self.knows_office(number) {
+            return Ok(true);
+        }
         let found = self.find_office(number)?;
         Ok(found.is_some())
     }
@@ -60,7 +64,7 @@ impl<S: Alter> Store<S> {
             hkey,
             name: name.into_text(),
         };
-        self.make(&[StoreWrite::PutOffice(office)])
+        self.make(&[StoreWrite::PutOffice(office)], News::Nothing)
     }
 
     /// Adds a member of staff of an office that is there, under the next number.
@@ -72,14 +76,26 @@ impl<S: Alter> Store<S> {
         if !there {
             return Err(Fault::F20);
         }
-        let last = self.last_number(Kind::Staff(office))?;
+        let counts = self.counts_of(office)?;
+        if counts.staff > MOST {
+            return Err(Fault::F20);
+        }
+        let number = counts.staff + 1;
         let staff = StaffRecord {
             office,
-            number: last + 1,
+            number,
             name: name.into_text(),
             role: number_of_role(role),
         };
-        self.make(&[StoreWrite::PutStaff(staff)])
+        let now = Counts {
+            staff: number,
+            clients: counts.clients,
+            loans: counts.loans,
+        };
+        self.make(
+            &[StoreWrite::PutStaff(staff)],
+            News::OfficeCounts(office, now),
+        )
     }
 
     /// Adds a client of an office that is there, under the next number.
@@ -91,12 +107,24 @@ impl<S: Alter> Store<S> {
         if !there {
             return Err(Fault::F20);
         }
-        let last = self.last_number(Kind::Clients(office))?;
+        let counts = self.counts_of(office)?;
+        if counts.clients > MOST {
+            return Err(Fault::F20);
+        }
+        let number = counts.clients + 1;
         let client = ClientRecord {
             office,
-            number: last + 1,
+            number,
             name: name.into_text(),
         };
-        self.make(&[StoreWrite::PutClient(client)])
+        let now = Counts {
+            staff: counts.staff,
+            clients: number,
+            loans: counts.loans,
+        };
+        self.make(
+            &[StoreWrite::PutClient(client)],
+            News::OfficeCounts(office, now),
+        )
     }
 }

@@ -4,10 +4,13 @@
 ghost use Rattle.std.specs.Prelude.{◌≡◌, ◌<◌, ◌≤◌, ◌↔◌, IsTrue, IfOk, IfErr};
 ghost use Rattle.mf_base.specs.declared.fault.Fault.TheVariants.{F20};
 ghost use Rattle.mf_model.specs.Institution.{Institution};
+ghost use Rattle.mf_model.specs.Store.{counts_at};
 ghost use Rattle.mf_store.specs.Counts.{count_of};
 
+use crate::known::News;
 use crate::store::Store;
 use mf_base::Fault;
+use mf_model::Counts;
 use sqlite::Alter;
 
 /// What is numbered from 1: rows of one office, or of the catalogue.
@@ -21,7 +24,7 @@ pub enum Kind {
 }
 
 /// There are no more of a kind.
-const MOST: u32 = 999_999;
+pub(crate) const MOST: u32 = 999_999;
 
 impl<S: Alter> Store<S> {
     ghost use Rattle.mf_store.specs.Stands.{StandsFor, IsClean, Stays};
@@ -89,5 +92,35 @@ impl<S: Alter> Store<S> {
     {
         let bound = self.above_last(kind)?;
         self.last_below(kind, bound)
+    }
+    /// How many rows an office has, as the tables tell.
+    fn search_counts(&mut self, office: u32) -> Result<Counts, Fault>
+        ensures kept { Stays S.Store self.old self.new }
+        ensures gives_up { IfErr result (λ fault. fault ≡ F20) }
+        ensures value { IsClean S.Store self.new → (i : Institution) → StandsFor S.Store self.old i → IfOk result (λ counts. counts ≡ counts_at office i) }
+    {
+        let staff = self.last_number(Kind::Staff(office))?;
+        let clients = self.last_number(Kind::Clients(office))?;
+        let loans = self.last_number(Kind::Loans(office))?;
+        Ok(Counts {
+            staff,
+            clients,
+            loans,
+        })
+    }
+
+    /// How many rows an office has: the tables are asked at most once.
+    pub(crate) fn counts_of(&mut self, office: u32) -> Result<Counts, Fault>
+        ensures kept { Stays S.Store self.old self.new }
+        ensures gives_up { IfErr result (λ fault. fault ≡ F20) }
+        ensures value { IsClean S.Store self.new → (i : Institution) → StandsFor S.Store self.old i → IfOk result (λ counts. counts ≡ counts_at office i) }
+    {
+        if let Some(counts) = self.known_counts(office) {
+            self.learn(News::OfficeCounts(office, counts));
+            return Ok(counts);
+        }
+        let counts = self.search_counts(office)?;
+        self.learn(News::OfficeCounts(office, counts));
+        Ok(counts)
     }
 }

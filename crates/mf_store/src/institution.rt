@@ -4,7 +4,6 @@ ghost use Rattle.std.specs.Prelude.{◌≡◌, IfOk, IfErr};
 ghost use Rattle.mf_base.specs.declared.fault.Fault.TheVariants.{F20};
 ghost use Rattle.mf_model.specs.Institution.{Institution};
 
-use crate::counts::Kind;
 use crate::numbers::role_from;
 use crate::store::Store;
 use mf_base::{Day, Fault};
@@ -18,8 +17,8 @@ impl<S: Alter> Store<S> {
     ghost use Rattle.mf_model.specs.Store.{role_of, counts_at, client_at};
     ghost use Rattle.mf_store.specs.Stands.{StandsFor, IsClean, Stays};
 
-    /// The role of a caller, or None where there is no such member of staff.
-    pub fn caller(&mut self, caller: Caller) -> Result<Option<Role>, Fault>
+    /// The same, as the tables tell.
+    fn find_role(&mut self, caller: Caller) -> Result<Option<Role>, Fault>
         ensures kept { Stays S.Store self.old self.new }
         ensures gives_up { IfErr result (λ fault. fault ≡ F20) }
         ensures value { IsClean S.Store self.new → (i : Institution) → StandsFor S.Store self.old i → IfOk result (λ role. role ≡ role_of caller i) }
@@ -30,21 +29,33 @@ impl<S: Alter> Store<S> {
         }
     }
 
+    /// The role of a caller, or None where there is no such member of staff.
+    pub fn caller(&mut self, caller: Caller) -> Result<Option<Role>, Fault>
+        ensures kept { Stays S.Store self.old self.new }
+        ensures gives_up { IfErr result (λ fault. fault ≡ F20) }
+        ensures value { IsClean S.Store self.new → (i : Institution) → StandsFor S.Store self.old i → IfOk result (λ role. role ≡ role_of caller i) }
+    {
+        let Caller { office, staff } = caller;
+        if let Some(role) = self.known_role(Caller { office, staff }) {
+            self.learn_role(Caller { office, staff }, role);
+            return Ok(Some(role));
+        }
+        match self.find_role(Caller { office, staff })? {
+            None => Ok(None),
+            Some(role) => {
+                self.learn_role(Caller { office, staff }, role);
+                Ok(Some(role))
+            }
+        }
+    }
+
     /// How many staff, clients and loans an office has: one less than their next numbers.
     pub fn next_numbers(&mut self, office: OfficeNo) -> Result<Counts, Fault>
         ensures kept { Stays S.Store self.old self.new }
         ensures gives_up { IfErr result (λ fault. fault ≡ F20) }
         ensures value { IsClean S.Store self.new → (i : Institution) → StandsFor S.Store self.old i → IfOk result (λ counts. counts ≡ counts_at office i) }
     {
-        let office = office.get();
-        let staff = self.last_number(Kind::Staff(office))?;
-        let clients = self.last_number(Kind::Clients(office))?;
-        let loans = self.last_number(Kind::Loans(office))?;
-        Ok(Counts {
-            staff,
-            clients,
-            loans,
-        })
+        self.counts_of(office.get())
     }
 
     /// The name of a client, or None where there is no such client.

@@ -9,6 +9,7 @@ mod commits;
 mod counts;
 mod first;
 mod institution;
+mod known;
 mod loans;
 mod numbers;
 mod office_rows;

@@ -12,14 +12,15 @@ ghost use Rattle.mf_store.specs.Flat.{loan_in, approval_text, line_in};
 ghost use Rattle.mf_store.specs.Rows.{loan_row as loan_stored};
 ghost use Rattle.mf_store.specs.Writes.{loan_of};
 
-use crate::counts::Kind;
+use crate::counts::MOST;
+use crate::known::News;
 use crate::numbers::{signed, unsigned};
 use crate::records::{LoanRecord, Record};
 use crate::store::{Store, given_up};
 use crate::visible::office_number;
 use crate::writes::StoreWrite;
 use mf_base::{Day, Fault, texts_of_days};
-use mf_model::{Loan, LoanLine, LoanList, Stage};
+use mf_model::{Counts, Loan, LoanLine, LoanList, Stage};
 use mf_office::{Account, AccountNo, OfficeNo};
 use sqlite::{Alter, Row, params};
 use std::alloc::Global;
@@ -202,9 +203,18 @@ impl<S: Alter> Store<S> {
         if !there {
             return Err(Fault::F20);
         }
-        let last = self.last_number(Kind::Loans(office))?;
-        let row = loan_row(alloc, office, last + 1, loan)?;
-        self.make(&[StoreWrite::PutLoan(row)])
+        let counts = self.counts_of(office)?;
+        if counts.loans > MOST {
+            return Err(Fault::F20);
+        }
+        let number = counts.loans + 1;
+        let row = loan_row(alloc, office, number, loan)?;
+        let now = Counts {
+            staff: counts.staff,
+            clients: counts.clients,
+            loans: number,
+        };
+        self.make(&[StoreWrite::AddLoan(row)], News::OfficeCounts(office, now))
     }
 
     /// Brings a loan that is there to a stage.
@@ -215,6 +225,6 @@ impl<S: Alter> Store<S> {
             return Err(Fault::F20);
         };
         let row = staged(alloc, &found, &stage)?;
-        self.make(&[StoreWrite::PutLoan(row)])
+        self.make(&[StoreWrite::PutLoan(row)], News::Nothing)
     }
 }

@@ -7,6 +7,7 @@ ghost use Rattle.mf_model.specs.Institution.{Institution};
 ghost use Rattle.mf_store.specs.Flat.{meta_on, office_row_at, staff_row_at, client_row_at, charge_row_at, product_row_at, loan_row_at};
 ghost use Rattle.mf_store.specs.Writes.{meta_of, office_of, staff_of, client_of, charge_of, product_of, loan_of};
 
+use crate::known::News;
 use crate::records::{
     ChargeRecord, ClientRecord, LoanRecord, MetaRecord, OfficeRecord, ProductRecord, StaffRecord,
     first,
@@ -50,8 +51,13 @@ impl<S: Alter> Store<S> {
         ensures gives_up { IfErr result (λ fault. fault ≡ F20) }
         ensures value { IsClean S.Store self.new → (i : Institution) → StandsFor S.Store self.old i → IfOk result (λ day. day ≡ i.catalogue.day) }
     {
+        if let Some(day) = self.known_day() {
+            return Ok(day);
+        }
         let found = self.find_meta()?;
-        day_in(found)
+        let day = day_in(found)?;
+        self.learn(News::BusinessDay(day));
+        Ok(day)
     }
 
     pub(crate) fn find_office(&mut self, number: u32) -> Result<Option<OfficeRecord>, Fault>

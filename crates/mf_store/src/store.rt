@@ -1,4 +1,4 @@
-ghost use Rattle.std.specs.Prelude.{◌≡◌, ◌<◌, ◌≤◌, List, [], ◌∷◌, length, false, None, OnOk, OnErr, IfOk, IfErr};
+ghost use Rattle.std.specs.Prelude.{◌≡◌, ◌<◌, ◌≤◌, List, [], ◌∷◌, length, true, false, Some, None, IsTrue, OnOk, OnErr, IfOk, IfErr, IfSome};
 ghost use Rattle.mf_base.specs.declared.fault.Fault.TheVariants.{F20};
 ghost use Rattle.sqlite.specs.Given.{IsPlain};
 ghost use Rattle.sqlite.specs.Listing.{understood};
@@ -6,36 +6,44 @@ ghost use Rattle.sqlite.specs.Values.{bound};
 ghost use Rattle.mf_base.specs.DayText.{last_entered_day};
 ghost use Rattle.sqlite.specs.Held.{state};
 ghost use Rattle.mf_tables.specs.Writes.{Serves};
-ghost use Rattle.mf_model.specs.Institution.{Institution, newly_made};
+ghost use Rattle.mf_model.specs.Institution.{Institution, newly_made, product_in};
+ghost use Rattle.mf_model.specs.Store.{counts_at, catalogue_counts, role_of};
+ghost use Rattle.mf_model.specs.Tree.{is_there};
+ghost use Rattle.mf_store.specs.Flat.{key_at};
 ghost use Rattle.mf_store.specs.Writes.{schema_of, Holds};
 ghost use Rattle.mf_store.specs.Tables.{schema};
-ghost use Rattle.mf_store.specs.Stands.{StandsFor, IsClean, Leaves, Stays, Shows, Becomes};
+ghost use Rattle.mf_store.specs.Learning.{Tells};
+ghost use Rattle.mf_store.specs.Stands.{IsTabled, HasGoodDisk, LeavesTables, StayTabled, StandsFor, IsClean, Leaves, Stays, Shows, Becomes};
 
 use crate::first::first_writes;
+use crate::known::{Known, News};
 use crate::writes::StoreWrite;
 use mf_base::{Day, Fault};
-use mf_model::soundness;
+use mf_catalog::Product;
+use mf_model::{CatalogueCounts, Counts, soundness};
+use mf_office::{Caller, Key, Role};
 use mf_tables::{apply, query};
 use sqlite::{Alter, Connection, Error, Row};
 use sqlite_value::value::ValueRef;
 use std::alloc::Global;
 use std::marker::Model;
 
-/// An institution in tables. No transaction is open between calls.
+/// An institution in tables, and what is known of it beside them. No transaction is open between calls.
 #[derive(Drop)]
 pub struct Store<S: Alter> {
     connection: Connection<S>,
+    known: Known,
 }
 
 impl<S: Alter> Model for Store<S> {
     ghost use Rattle.std.specs.Prelude.{◌≡◌, false};
-    ghost use Rattle.sqlite.specs.Held.{Held, held_code};
+    ghost use Rattle.mf_store.specs.Facts.{Kept, kept_code};
 
-    ghost Value = { Held S };
+    ghost Value = { Kept S };
 
-    ghost coded = { held_code S.code };
+    ghost coded = { kept_code S.code };
 
-    ghost view = { λ s. s.connection };
+    ghost view = { λ s. record { connection = s.connection; known = s.known } };
 
     ghost invariant = { λ s. s.connection.in_transaction ≡ false };
 }
@@ -59,9 +67,9 @@ fn ask<S: Alter>(
 ) -> Result<Vec<Row>, Fault>
     requires alone { connection.old.in_transaction ≡ false }
     requires plain { IsPlain (understood schema sql.now) }
-    ensures kept { Stays S.Store connection.old connection.new }
+    ensures kept { StayTabled S.Store connection.old connection.new }
     ensures gives_up { IfErr result (λ fault. fault ≡ F20) }
-    ensures shows { IsClean S.Store connection.new → (i : Institution) → StandsFor S.Store connection.old i → IfOk result (λ rows. Shows i sql.now (bound params.now) rows.items) }
+    ensures shows { HasGoodDisk S.Store connection.new → (i : Institution) → IsTabled S.Store connection.old i → IfOk result (λ rows. Shows i sql.now (bound params.now) rows.items) }
     ensures mode { connection.new.in_transaction ≡ false }
 {
     given_up(query(connection, sql, params))
@@ -71,12 +79,12 @@ fn ask<S: Alter>(
 fn write<S: Alter>(connection: &mut Connection<S>, writes: &[StoreWrite]) -> Result<(), Fault>
     requires alone { connection.old.in_transaction ≡ false }
     requires some { 0 < length writes.now }
-    ensures premise { IsClean S.Store connection.new → IsClean S.Store connection.old }
+    ensures premise { HasGoodDisk S.Store connection.new → HasGoodDisk S.Store connection.old }
     ensures gives_up { IfErr result (λ fault. fault ≡ F20) }
-    ensures made { IsClean S.Store connection.new → OnOk result ((i j : Institution) → StandsFor S.Store connection.old i → Becomes writes.now i j → StandsFor S.Store connection.new j) }
-    ensures left { IsClean S.Store connection.new → OnOk result ((i j : Institution) → StandsFor S.Store connection.old i → Becomes writes.now i j → Leaves S.Store connection.new (j ∷ [])) }
-    ensures same { IsClean S.Store connection.new → OnErr result ((i : Institution) → StandsFor S.Store connection.old i → StandsFor S.Store connection.new i) }
-    ensures stop { IsClean S.Store connection.new → (i j : Institution) (is : List Institution) → StandsFor S.Store connection.old i → Becomes writes.now i j → Leaves S.Store connection.old is → Leaves S.Store connection.new (j ∷ is) }
+    ensures made { HasGoodDisk S.Store connection.new → OnOk result ((i j : Institution) → IsTabled S.Store connection.old i → Becomes writes.now i j → IsTabled S.Store connection.new j) }
+    ensures left { HasGoodDisk S.Store connection.new → OnOk result ((i j : Institution) → IsTabled S.Store connection.old i → Becomes writes.now i j → LeavesTables S.Store connection.new (j ∷ [])) }
+    ensures same { HasGoodDisk S.Store connection.new → OnErr result ((i : Institution) → IsTabled S.Store connection.old i → IsTabled S.Store connection.new i) }
+    ensures stop { HasGoodDisk S.Store connection.new → (i j : Institution) (is : List Institution) → IsTabled S.Store connection.old i → Becomes writes.now i j → LeavesTables S.Store connection.old is → LeavesTables S.Store connection.new (j ∷ is) }
     ensures mode { connection.new.in_transaction ≡ false }
 {
     given_up(apply(connection, writes))
@@ -109,20 +117,106 @@ impl<S: Alter> Store<S> {
     {
         soundness();
         let writes = first_writes(alloc, day)?;
-        given_up(apply(&mut connection, &writes))?;
-        Ok(Store { connection })
+        let known = Known::nothing(alloc)?;
+        match apply(&mut connection, &writes) {
+            Ok(()) => Ok(Store { connection, known }),
+            Err(_) => Err(Fault::F20),
+        }
     }
 
-    /// Makes the writes in one commit, or none.
-    pub(crate) fn make(&mut self, writes: &[StoreWrite]) -> Result<(), Fault>
+    /// How many rows an office has, where that is known.
+    pub(crate) fn known_counts(&self, office: u32) -> Option<Counts>
+        ensures { (i : Institution) → StandsFor S.Store self.now i → IfSome result (λ counts. counts ≡ counts_at office i) }
+    {
+        self.known.counts(office)
+    }
+
+    /// How many charges and products there are, where that is known.
+    pub(crate) fn known_catalogue(&self) -> Option<CatalogueCounts>
+        ensures { (i : Institution) → StandsFor S.Store self.now i → IfSome result (λ counts. counts ≡ catalogue_counts i) }
+    {
+        self.known.catalogue()
+    }
+
+    /// The business day, where that is known.
+    pub(crate) fn known_day(&self) -> Option<Day>
+        ensures { (i : Institution) → StandsFor S.Store self.now i → IfSome result (λ day. day ≡ i.catalogue.day) }
+    {
+        self.known.day()
+    }
+
+    /// The role of a caller, where that is known.
+    pub(crate) fn known_role(&self, caller: Caller) -> Option<Role>
+        ensures { (i : Institution) → StandsFor S.Store self.now i → IfSome result (λ role. role_of caller i ≡ Some role) }
+    {
+        self.known.role(caller)
+    }
+
+    /// Whether an office is known to be there.
+    pub(crate) fn knows_office(&self, office: u32) -> bool
+        ensures { (i : Institution) → StandsFor S.Store self.now i → IsTrue result → is_there i.offices office ≡ true }
+    {
+        self.known.has_key(office)
+    }
+
+    /// The key of an office, where that is known and there is memory for it.
+    pub(crate) fn known_key(&self, alloc: Global, office: u32) -> Option<Key>
+        ensures { (i : Institution) → StandsFor S.Store self.now i → IfSome result (λ key. key_at office i ≡ Some key) }
+    {
+        self.known.key(alloc, office)
+    }
+
+    /// A product, where that is known and there is memory for it.
+    pub(crate) fn known_product(&self, number: u32) -> Option<Product>
+        ensures { (i : Institution) → StandsFor S.Store self.now i → IfSome result (λ product. product_in i.catalogue number ≡ Some product) }
+    {
+        self.known.product(number)
+    }
+
+    /// Takes in a caller's role.
+    pub(crate) fn learn_role(&mut self, caller: Caller, role: Role)
+        ensures same { (i : Institution) → StandsFor S.Store self.old i → role_of caller i ≡ Some role → StandsFor S.Store self.new i }
+        ensures tables { self.new.connection ≡ self.old.connection }
+    {
+        self.known.learn_role(caller, role);
+    }
+
+    /// Takes in an office's key.
+    pub(crate) fn learn_key(&mut self, alloc: Global, office: u32, key: &Key)
+        ensures same { (i : Institution) → StandsFor S.Store self.old i → key_at office i ≡ Some key.now → StandsFor S.Store self.new i }
+        ensures tables { self.new.connection ≡ self.old.connection }
+    {
+        self.known.learn_key(alloc, office, key);
+    }
+
+    /// Takes in a product.
+    pub(crate) fn learn_product(&mut self, number: u32, product: &Product)
+        ensures same { (i : Institution) → StandsFor S.Store self.old i → product_in i.catalogue number ≡ Some product.now → StandsFor S.Store self.new i }
+        ensures tables { self.new.connection ≡ self.old.connection }
+    {
+        self.known.learn_product(number, product);
+    }
+
+    /// Takes in what was read.
+    pub(crate) fn learn(&mut self, news: News)
+        ensures same { (i : Institution) → StandsFor S.Store self.old i → Tells news i i → StandsFor S.Store self.new i }
+        ensures tables { self.new.connection ≡ self.old.connection }
+    {
+        self.known.learn(news);
+    }
+
+    /// Makes the writes in one commit, and takes in what is new; or neither.
+    pub(crate) fn make(&mut self, writes: &[StoreWrite], news: News) -> Result<(), Fault>
         requires { 0 < length writes.now }
         ensures premise { IsClean S.Store self.new → IsClean S.Store self.old }
         ensures gives_up { IfErr result (λ fault. fault ≡ F20) }
-        ensures made { IsClean S.Store self.new → OnOk result ((i j : Institution) → StandsFor S.Store self.old i → Becomes writes.now i j → StandsFor S.Store self.new j) }
+        ensures made { IsClean S.Store self.new → OnOk result ((i j : Institution) → StandsFor S.Store self.old i → Becomes writes.now i j → Tells news i j → StandsFor S.Store self.new j) }
         ensures left { IsClean S.Store self.new → OnOk result ((i j : Institution) → StandsFor S.Store self.old i → Becomes writes.now i j → Leaves S.Store self.new (j ∷ [])) }
         ensures same { IsClean S.Store self.new → OnErr result ((i : Institution) → StandsFor S.Store self.old i → StandsFor S.Store self.new i) }
         ensures stop { IsClean S.Store self.new → (i j : Institution) (is : List Institution) → StandsFor S.Store self.old i → Becomes writes.now i j → Leaves S.Store self.old is → Leaves S.Store self.new (j ∷ is) }
     {
-        write(&mut self.connection, writes)
+        write(&mut self.connection, writes)?;
+        self.known.learn(news);
+        Ok(())
     }
 }

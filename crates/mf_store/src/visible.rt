@@ -109,6 +109,25 @@ impl<S: Alter> Store<S> {
         }
     }
 
+    /// The same, where the tables are asked at most once.
+    fn kept_key(&mut self, alloc: Global, number: u32) -> Result<Option<Key>, Fault>
+        ensures kept { Stays S.Store self.old self.new }
+        ensures gives_up { IfErr result (λ fault. fault ≡ F20) }
+        ensures value { IsClean S.Store self.new → (i : Institution) → StandsFor S.Store self.old i → IfOk result (λ key. key ≡ key_at number i) }
+    {
+        if let Some(key) = self.known_key(alloc, number) {
+            self.learn_key(alloc, number, &key);
+            return Ok(Some(key));
+        }
+        match self.key(number)? {
+            None => Ok(None),
+            Some(key) => {
+                self.learn_key(alloc, number, &key);
+                Ok(Some(key))
+            }
+        }
+    }
+
     /// Whether an office is there and at or below another, by the range of the other's key.
     pub fn visible(&mut self, alloc: Global, to: OfficeNo, office: OfficeNo) -> Result<bool, Fault>
         ensures kept { Stays S.Store self.old self.new }
@@ -116,8 +135,8 @@ impl<S: Alter> Store<S> {
         ensures value { IsClean S.Store self.new → (i : Institution) → StandsFor S.Store self.old i → IfOk result (λ seen. seen ≡ is_some (seen_office to office i)) }
     {
         tree_of_offices();
-        let above = self.key(to.get())?;
-        let below = self.key(office.get())?;
+        let above = self.kept_key(alloc, to.get())?;
+        let below = self.kept_key(alloc, office.get())?;
         is_below(alloc, above, below)
     }
 
@@ -140,7 +159,7 @@ impl<S: Alter> Store<S> {
         ensures value { IsClean S.Store self.new → (i : Institution) → StandsFor S.Store self.old i → IfOk result (λ list. list ≡ map line_of (seen_by to i.offices)) }
     {
         tree_of_offices();
-        let found = self.key(to.get())?;
+        let found = self.kept_key(alloc, to.get())?;
         let Some(above) = found else {
             return Ok(OfficeList::new(Vec::new(alloc)));
         };

@@ -14,7 +14,8 @@ use crate::records::{
 use mf_tables::{Write, run};
 use sqlite::{Alter, Error, Transaction, params};
 
-/// What a commit is made of: the tables made, or one row put by its key.
+/// What a commit is made of: the tables made, or one row put by its key. An office, a member of staff, a client and a
+/// charge are written once, when they are new; a product and a loan are added when they are new, and put when they change.
 #[derive(Debug, Drop)]
 pub enum StoreWrite {
     MakeTables,
@@ -23,7 +24,9 @@ pub enum StoreWrite {
     PutStaff(StaffRecord),
     PutClient(ClientRecord),
     PutCharge(ChargeRecord),
+    AddProduct(ProductRecord),
     PutProduct(ProductRecord),
+    AddLoan(LoanRecord),
     PutLoan(LoanRecord),
 }
 
@@ -94,7 +97,7 @@ fn put_office<S: Alter>(tx: &mut Transaction<'_, S>, office: &OfficeRecord) -> R
 {
     run(
         tx,
-        "INSERT INTO offices VALUES (?1, ?2, ?3, ?4) ON CONFLICT (number) DO UPDATE SET parent = excluded.parent, hkey = excluded.hkey, name = excluded.name",
+        "INSERT INTO offices VALUES (?1, ?2, ?3, ?4)",
         params![office.number, office.parent, &office.hkey, &office.name],
     )
 }
@@ -108,7 +111,7 @@ fn put_staff<S: Alter>(tx: &mut Transaction<'_, S>, staff: &StaffRecord) -> Resu
 {
     run(
         tx,
-        "INSERT INTO staff VALUES (?1, ?2, ?3, ?4) ON CONFLICT (office, number) DO UPDATE SET name = excluded.name, role = excluded.role",
+        "INSERT INTO staff VALUES (?1, ?2, ?3, ?4)",
         params![staff.office, staff.number, &staff.name, staff.role],
     )
 }
@@ -122,7 +125,7 @@ fn put_client<S: Alter>(tx: &mut Transaction<'_, S>, client: &ClientRecord) -> R
 {
     run(
         tx,
-        "INSERT INTO clients VALUES (?1, ?2, ?3) ON CONFLICT (office, number) DO UPDATE SET name = excluded.name",
+        "INSERT INTO clients VALUES (?1, ?2, ?3)",
         params![client.office, client.number, &client.name],
     )
 }
@@ -136,13 +139,45 @@ fn put_charge<S: Alter>(tx: &mut Transaction<'_, S>, charge: &ChargeRecord) -> R
 {
     run(
         tx,
-        "INSERT INTO charges VALUES (?1, ?2, ?3, ?4, ?5) ON CONFLICT (number) DO UPDATE SET name = excluded.name, kind = excluded.kind, calc = excluded.calc, value = excluded.value",
+        "INSERT INTO charges VALUES (?1, ?2, ?3, ?4, ?5)",
         params![
             charge.number,
             &charge.name,
             charge.kind,
             charge.calc,
             &charge.value
+        ],
+    )
+}
+
+fn add_product<S: Alter>(tx: &mut Transaction<'_, S>, product: &ProductRecord) -> Result<(), Error>
+    ensures same_reference { tx.new.conn.ghost_name ≡ tx.old.conn.ghost_name }
+    ensures ok { HasCleanDisk (state S.Store tx.new.conn.now) → IsTrue (state S.Store tx.old.conn.now).in_transaction
+        → OnOk result (Putting (put_product (product_of product.now)) (state S.Store tx.old.conn.now) (state S.Store tx.new.conn.now)) }
+    ensures kept { HasCleanDisk (state S.Store tx.new.conn.now) → KeepsCommit (state S.Store tx.old.conn.now) (state S.Store tx.new.conn.now) }
+    ensures survives { Survives (state S.Store tx.old.conn.now) (state S.Store tx.new.conn.now) (λ _. ⊥) }
+{
+    run(
+        tx,
+        "INSERT INTO products VALUES (?1, ?2, ?3, ?4, ?5, ?6, ?7, ?8, ?9, ?10, ?11, ?12, ?13, ?14, ?15, ?16, ?17)",
+        params![
+            product.number,
+            &product.name,
+            product.method,
+            product.rate,
+            product.frequency,
+            product.every,
+            product.principal_grace,
+            product.interest_grace,
+            &product.min_principal,
+            &product.max_principal,
+            product.min_periods,
+            product.max_periods,
+            product.strategy,
+            product.disbursement_charge,
+            product.instalment_charge,
+            product.overdue_charge,
+            product.retired
         ],
     )
 }
@@ -175,6 +210,30 @@ fn put_product<S: Alter>(tx: &mut Transaction<'_, S>, product: &ProductRecord) -
             product.instalment_charge,
             product.overdue_charge,
             product.retired
+        ],
+    )
+}
+
+fn add_loan<S: Alter>(tx: &mut Transaction<'_, S>, loan: &LoanRecord) -> Result<(), Error>
+    ensures same_reference { tx.new.conn.ghost_name ≡ tx.old.conn.ghost_name }
+    ensures ok { HasCleanDisk (state S.Store tx.new.conn.now) → IsTrue (state S.Store tx.old.conn.now).in_transaction
+        → OnOk result (Putting (put_loan (loan_of loan.now)) (state S.Store tx.old.conn.now) (state S.Store tx.new.conn.now)) }
+    ensures kept { HasCleanDisk (state S.Store tx.new.conn.now) → KeepsCommit (state S.Store tx.old.conn.now) (state S.Store tx.new.conn.now) }
+    ensures survives { Survives (state S.Store tx.old.conn.now) (state S.Store tx.new.conn.now) (λ _. ⊥) }
+{
+    run(
+        tx,
+        "INSERT INTO loans VALUES (?1, ?2, ?3, ?4, ?5, ?6, ?7, ?8, ?9)",
+        params![
+            loan.office,
+            loan.number,
+            loan.client,
+            loan.product,
+            &loan.principal,
+            loan.periods,
+            loan.stage,
+            &loan.approved,
+            &loan.disbursed
         ],
     )
 }
@@ -226,7 +285,9 @@ impl Write for StoreWrite {
             StoreWrite::PutStaff(staff) => put_staff(tx, staff),
             StoreWrite::PutClient(client) => put_client(tx, client),
             StoreWrite::PutCharge(charge) => put_charge(tx, charge),
+            StoreWrite::AddProduct(product) => add_product(tx, product),
             StoreWrite::PutProduct(product) => put_product(tx, product),
+            StoreWrite::AddLoan(loan) => add_loan(tx, loan),
             StoreWrite::PutLoan(loan) => put_loan(tx, loan),
         }
     }

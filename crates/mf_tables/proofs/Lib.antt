@@ -6,6 +6,7 @@ pub mod WriteLemmas
 pub mod KeptLemmas
 pub mod ShownLemmas
 pub mod UpsertLemmas
+pub mod InsertLemmas
 pub mod MakeLemmas
 pub mod QueryLemmas
 pub mod ApplyLemmas

@@ -13,9 +13,9 @@ use Rattle.mf_store.proofs.first.Store+PageStore.in_memory.Goals as goal
 pub returns-clause-stands : goal.returns-clause-stands
 returns-clause-stands c =
     weaker_if_ok c.found.result (λ store. IsClean over_files store → Serves schema_of Holds (state over_files c.in-Ok.connection).now None → StandsFor over_files store (newly_made c.args.day)) (λ store. StandsFor over_files store (newly_made c.args.day))
-    (λ store h. h (always_clean (λ _. refl) store) (empty_serves (state over_files c.in-Ok.connection) c.in-Ok.ensures.empty)) c.found.ensures.stands
+    (λ store h. h (always_clean (λ _. refl) store.connection) (empty_serves (state over_files c.in-Ok.connection) c.in-Ok.ensures.empty)) c.found.ensures.stands
 
 pub returns-clause-leaves : goal.returns-clause-leaves
 returns-clause-leaves c =
     weaker_if_ok c.found.result (λ store. IsClean over_files store → Serves schema_of Holds (state over_files c.in-Ok.connection).now None → Leaves over_files store (newly_made c.args.day ∷ [])) (λ store. Leaves over_files store (newly_made c.args.day ∷ []))
-    (λ store h. h (always_clean (λ _. refl) store) (empty_serves (state over_files c.in-Ok.connection) c.in-Ok.ensures.empty)) c.found.ensures.leaves
+    (λ store h. h (always_clean (λ _. refl) store.connection) (empty_serves (state over_files c.in-Ok.connection) c.in-Ok.ensures.empty)) c.found.ensures.leaves

@@ -1,15 +1,19 @@
 use Rattle.std.proofs.Common.{◌+◌, false, [], ◌∷◌, ap, ◌∙◌}
+use Rattle.mf_model.specs.declared.store.CatalogueCounts.{CatalogueCounts}
 use Rattle.mf_model.specs.Institution.{Offer}
 use Rattle.mf_model.specs.declared.commit.Commit.TheVariants.{AddProduct}
 use Rattle.mf_store.specs.Flat.{product_as}
-use Rattle.mf_store.specs.declared.writes.StoreWrite.TheVariants.{PutProduct}
+use Rattle.mf_store.specs.declared.writes.StoreWrite.TheVariants as write
 use Rattle.mf_store.proofs.CatalogueLemmas.{product_becomes}
 use Rattle.mf_store.proofs.CommitLemmas.{made_by}
+use Rattle.mf_store.specs.declared.known.News.TheVariants.{Catalogue}
+use Rattle.mf_store.proofs.NewsLemmas.{product_tells}
 use Rattle.mf_store.proofs.store.Store.add_product.Goals as goal
 
 pub returns : goal.returns
 returns g c =
     let offer : Offer = record { members = c.args.members; retired = false } in
-    made_by g.S.Store (AddProduct c.args.members) c.args.self.now c.last_number.new.self c.make.new.self (PutProduct c.in_ok-row.row ∷ []) c.make.result c.in_ok-last.ensures.kept
-    (λ clean i s sound. product_becomes c.args.members i c.in_ok-row.row sound (c.in_ok-row.ensures.row ∙ ap (λ n. product_as (n + 1) offer) (c.in_ok-last.ensures.value clean i s)))
+    let known = c.in_ok-counts.counts in
+    made_by g.S.Store (AddProduct c.args.members) c.args.self.now c.count_catalogue.new.self c.make.new.self (write.AddProduct c.in_ok-row.row ∷ []) (Catalogue (record { charges = known.charges; products = known.products + 1 })) c.make.result c.in_ok-counts.ensures.kept
+    (λ clean i s sound. let counts = c.in_ok-counts.ensures.value clean i s in (product_becomes c.args.members i c.in_ok-row.row sound (c.in_ok-row.ensures.row ∙ ap (λ (k : CatalogueCounts). product_as (k.products + 1) offer) counts), product_tells c.args.members i known counts))
     c.make.ensures.premise c.make.ensures.gives_up c.make.ensures.made c.make.ensures.left c.make.ensures.same c.make.ensures.stop

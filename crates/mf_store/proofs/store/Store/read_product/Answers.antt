@@ -4,7 +4,7 @@ use Rattle.mf_model.specs.Institution.{numbered, product_of as product_numbered}
 use Rattle.mf_store.specs.Flat.{product_as}
 use Rattle.mf_store.specs.Writes.{product_of}
 use Rattle.mf_store.proofs.CatalogueLemmas.{known}
-use Rattle.mf_store.proofs.store.Store.product_at.Goals as goal
+use Rattle.mf_store.proofs.store.Store.read_product.Goals as goal
 
 pub returns-clause-value : goal.returns-clause-value
 returns-clause-value g c clean i s =

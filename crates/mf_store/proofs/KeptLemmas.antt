@@ -1,0 +1,211 @@
+-- What a store stands for, with what it knows, after a query and after a commit.
+use Rattle.std.proofs.Common.{◌≡◌, ◌≢◌, ◌≤◌, ◌+◌, ◌*◌, ◌⊎◌, inl, inr, ◌-◌, ◌∷◌, ℕ, zero, suc, Bool, true, false, true≢false, cond, List, [], take, Option, None, Some, Result, Ok, Err, OnOk, OnErr, IsSome, IsOk, refl, sym, ap, ◌∙◌, subst, arith, nat_eq, ◌==◌}
+use Rattle.std.specs.Option.{option_map_or}
+use Rattle.std.specs.Map.{lookup, lookup_entry, remove_entry}
+use Rattle.std.proofs.lemmas.Bool.Decides.{nat_tests}
+use Rattle.std.specs.Cmp.{nat_eq_equiv}
+use Rattle.lru.specs.LruCache.{LruCache, lru_cache, put_entries}
+use Rattle.lru.proofs.CallerLemmas.{Contains-lookup_entry, lookup-put_entries}
+use Rattle.sqlite.specs.Held.{Held}
+use Rattle.sqlite_trees.specs.declared.store.Store.{Ghosts}
+use Rattle.mf_model.specs.Institution.{Institution, product_in}
+use Rattle.mf_model.specs.declared.store.Counts.{Counts}
+use Rattle.mf_model.specs.declared.store.CatalogueCounts.{CatalogueCounts}
+use Rattle.mf_office.specs.declared.staff.Role.{Role}
+use Rattle.mf_office.specs.declared.caller.Caller.{Caller}
+use Rattle.mf_catalog.specs.declared.product.Product.{Product}
+use Rattle.mf_model.specs.Store.{counts_at, catalogue_counts, role_of}
+use Rattle.mf_store.specs.Facts.{Facts, Kept, AreTrueOf, caller_number}
+use Rattle.mf_store.specs.Flat.{key_at}
+use Rattle.mf_store.specs.Learning.{Tells}
+use Rattle.mf_store.specs.declared.known.News.TheVariants.{OfficeCounts, Catalogue, BusinessDay}
+use Rattle.mf_store.specs.Stands.{IsTabled, HasGoodDisk, LeavesTables, StayTabled, StandsFor, IsClean, Stays}
+
+module _ {S : Type 0} (g : Ghosts S) where
+  pub tabled : (k : Kept S) (i : Institution) → StandsFor g k i → IsTabled g k.connection i
+  tabled k i s = record { sound = s.sound; serves = s.serves }
+
+  pub stays_same : (h : Kept S) → Stays g h h
+  stays_same h = record { premise = λ c. c; same = λ c i s. s; stop = λ c is l. l }
+
+  pub stays_then : (a b c : Kept S) → Stays g a b → Stays g b c → Stays g a c
+  stays_then a b c p q = record {
+    premise = λ clean. p.premise (q.premise clean);
+    same = λ clean i s. q.same clean i (p.same (q.premise clean) i s);
+    stop = λ clean is l. q.stop clean is (p.stop (q.premise clean) is l);
+  }
+
+-- ---- a cache after `put`
+
+module _ {V : Type 0} where
+  other_kept : (x y : ℕ) (es : List (ℕ × V)) → x ≢ y → lookup (nat_eq y) (remove_entry (nat_eq x) es) ≡ lookup (nat_eq y) es
+  other_kept x y [] ne = refl
+  other_kept x y (e ∷ es) ne = grind (arith, nat_tests, other_kept x y es ne)
+
+  taken_there : (n y : ℕ) (es : List (ℕ × V)) (v : V) → lookup (nat_eq y) (take n es) ≡ Some v → lookup (nat_eq y) es ≡ Some v
+  taken_there zero y es v h = absurd (let k : None ≡ Some v = h in cc)
+  taken_there (suc n) y [] v h = h
+  taken_there (suc n) y (e ∷ es) v h = go (nat_eq y e.0) h (λ k. taken_there n y es v k)
+    where
+      go : (b : Bool) → cond b (Some e.1) (lookup (nat_eq y) (take n es)) ≡ Some v → (lookup (nat_eq y) (take n es) ≡ Some v → lookup (nat_eq y) es ≡ Some v) → cond b (Some e.1) (lookup (nat_eq y) es) ≡ Some v
+      go true h more = h
+      go false h more = more h
+
+  -- what is found of another key was found before
+  put_other : (c : LruCache ℕ V) (x : ℕ) (v : V) (y : ℕ) (w : V) → x ≢ y → lookup (nat_eq y) (put_entries nat_eq c x v) ≡ Some w → lookup (nat_eq y) c.entries ≡ Some w
+  put_other c x v y w ne = go (lookup_entry (nat_eq x) c.entries) refl
+    where
+      go : (o : Option (ℕ × V)) → lookup_entry (nat_eq x) c.entries ≡ o → lookup (nat_eq y) (option_map_or (λ e. (e.0, v) ∷ remove_entry (nat_eq x) c.entries) o ((x, v) ∷ take (c.cap - 1) c.entries)) ≡ Some w → lookup (nat_eq y) c.entries ≡ Some w
+      go None e h = let apart : nat_eq y x ≡ false = grind (arith, nat_tests) in taken_there (c.cap - 1) y c.entries w (rw apart at h)
+      go (Some f) e h =
+          let key : nat_eq x f.0 ≡ true = (Contains-lookup_entry (nat_eq x) c.entries f e).1 in
+          let apart : nat_eq y f.0 ≡ false = grind (arith, nat_tests) in
+          sym (other_kept x y c.entries ne) ∙ (rw apart at h)
+
+-- what is known of the offices' rows, once one office's were kept, or could not be
+pub counts_learnt : {E : Type 0} (old new : LruCache ℕ Counts) (x : ℕ) (v : Counts) (r : Result (Option Counts) E) (i j : Institution)
+    → OnOk r (new ≡ lru_cache (put_entries nat_eq old x v) old.cap) → OnErr r (new ≡ old) → (IsSome (lookup (nat_eq x) old.entries) → IsOk r)
+    → ((y : ℕ) (c : Counts) → lookup (nat_eq y) old.entries ≡ Some c → c ≡ counts_at y i) → ((y : ℕ) → counts_at y j ≡ cond (x == y) v (counts_at y i))
+    → (y : ℕ) (c : Counts) → lookup (nat_eq y) new.entries ≡ Some c → c ≡ counts_at y j
+counts_learnt old new x v (Ok o) i j ok err there known told y c h = go (x == y) refl (told y)
+  where
+    found : lookup (nat_eq y) (put_entries nat_eq old x v) ≡ Some c
+    found = sym (ap (λ (n : LruCache ℕ Counts). lookup (nat_eq y) n.entries) ok) ∙ h
+
+    go : (b : Bool) → (x == y) ≡ b → counts_at y j ≡ cond b v (counts_at y i) → c ≡ counts_at y j
+    go true e t =
+        let same : x ≡ y = grind (arith, nat_tests) in
+        let is : Some v ≡ Some c = sym (lookup-put_entries nat_eq old x v nat_eq_equiv) ∙ (λ k. lookup (nat_eq (same k)) (put_entries nat_eq old x v)) ∙ found in
+        let value : v ≡ c = cc in
+        sym value ∙ sym t
+    go false e t = let ne : x ≢ y = grind (arith, nat_tests) in known y c (put_other old x v y c ne found) ∙ sym t
+counts_learnt old new x v (Err e) i j ok err there known told y c h = go (x == y) refl (told y)
+  where
+    found : lookup (nat_eq y) old.entries ≡ Some c
+    found = sym (ap (λ (n : LruCache ℕ Counts). lookup (nat_eq y) n.entries) err) ∙ h
+
+    go : (b : Bool) → (x == y) ≡ b → counts_at y j ≡ cond b v (counts_at y i) → c ≡ counts_at y j
+    go true e t =
+        let same : x ≡ y = grind (arith, nat_tests) in
+        absurd (true≢false (sym (there (subst (λ o. IsSome o) (sym ((λ k. lookup (nat_eq (same k)) old.entries) ∙ found)) refl))))
+    go false e t = known y c found ∙ sym t
+
+-- what was kept is what is found
+pub some_is : {A : Type 0} {a b : A} → Some a ≡ Some b → b ≡ a
+some_is h = cc
+
+-- what is found once something was kept, or could not be
+pub put_found : {V E : Type 0} (old new : LruCache ℕ V) (x : ℕ) (v : V) (r : Result (Option V) E) → OnOk r (new ≡ lru_cache (put_entries nat_eq old x v) old.cap) → OnErr r (new ≡ old)
+    → (y : ℕ) (w : V) → lookup (nat_eq y) new.entries ≡ Some w → ((x ≡ y) × (w ≡ v)) ⊎ (lookup (nat_eq y) old.entries ≡ Some w)
+put_found {V} old new x v (Ok o) ok err y w h = go (x == y) refl
+  where
+    found : lookup (nat_eq y) (put_entries nat_eq old x v) ≡ Some w
+    found = sym (ap (λ (n : LruCache ℕ V). lookup (nat_eq y) n.entries) ok) ∙ h
+
+    go : (b : Bool) → (x == y) ≡ b → ((x ≡ y) × (w ≡ v)) ⊎ (lookup (nat_eq y) old.entries ≡ Some w)
+    go true e =
+        let same : x ≡ y = grind (arith, nat_tests) in
+        inl (same, some_is (sym (lookup-put_entries nat_eq old x v nat_eq_equiv) ∙ (λ k. lookup (nat_eq (same k)) (put_entries nat_eq old x v)) ∙ found))
+    go false e = let ne : x ≢ y = grind (arith, nat_tests) in inr (put_other old x v y w ne found)
+put_found {V} old new x v (Err e) ok err y w h = inr (sym (ap (λ (n : LruCache ℕ V). lookup (nat_eq y) n.entries) err) ∙ h)
+
+pub roles_learnt : {E : Type 0} (old new : LruCache ℕ Role) (caller : Caller) (role : Role) (r : Result (Option Role) E) (i : Institution) (n : ℕ) → n ≡ caller_number caller → caller.staff ≤ 9999
+    → OnOk r (new ≡ lru_cache (put_entries nat_eq old n role) old.cap) → OnErr r (new ≡ old) → role_of caller i ≡ Some role
+    → ((c : Caller) (w : Role) → c.staff ≤ 9999 → lookup (nat_eq (caller_number c)) old.entries ≡ Some w → role_of c i ≡ Some w)
+    → (c : Caller) (w : Role) → c.staff ≤ 9999 → lookup (nat_eq (caller_number c)) new.entries ≡ Some w → role_of c i ≡ Some w
+roles_learnt old new caller role r i n is low ok err so known c w bound h = elim (put_found old new n role r ok err (caller_number c) w h) [
+  | inl same ↦
+      let number : caller.office * 10000 + caller.staff ≡ c.office * 10000 + c.staff = sym is ∙ same.0 in
+      let office : caller.office ≡ c.office = omega arith in
+      let staff : caller.staff ≡ c.staff = omega arith in
+      sym (λ k. role_of (record { office = office k; staff = staff k }) i) ∙ so ∙ ap Some (sym same.1)
+  | inr before ↦ known c w bound before
+]
+
+pub keys_learnt : {E : Type 0} (old new : LruCache ℕ (List ℕ)) (x : ℕ) (key : List ℕ) (r : Result (Option (List ℕ)) E) (i : Institution)
+    → OnOk r (new ≡ lru_cache (put_entries nat_eq old x key) old.cap) → OnErr r (new ≡ old) → key_at x i ≡ Some key
+    → ((y : ℕ) (w : List ℕ) → lookup (nat_eq y) old.entries ≡ Some w → key_at y i ≡ Some w)
+    → (y : ℕ) (w : List ℕ) → lookup (nat_eq y) new.entries ≡ Some w → key_at y i ≡ Some w
+keys_learnt old new x key r i ok err so known y w h = elim (put_found old new x key r ok err y w h) [
+  | inl same ↦ sym (ap (λ z. key_at z i) same.0) ∙ so ∙ ap Some (sym same.1)
+  | inr before ↦ known y w before
+]
+
+pub products_learnt : {E : Type 0} (old new : LruCache ℕ Product) (x : ℕ) (product : Product) (r : Result (Option Product) E) (i : Institution)
+    → OnOk r (new ≡ lru_cache (put_entries nat_eq old x product) old.cap) → OnErr r (new ≡ old) → product_in i.catalogue x ≡ Some product
+    → ((n : ℕ) (p : Product) → lookup (nat_eq n) old.entries ≡ Some p → product_in i.catalogue n ≡ Some p)
+    → (n : ℕ) (p : Product) → lookup (nat_eq n) new.entries ≡ Some p → product_in i.catalogue n ≡ Some p
+products_learnt old new x product r i ok err so known n p h = elim (put_found old new x product r ok err n p h) [
+  | inl same ↦ sym (ap (λ z. product_in i.catalogue z) same.0) ∙ so ∙ ap Some (sym same.1)
+  | inr before ↦ known n p before
+]
+
+-- nothing is found once all is forgotten
+pub forgotten : {V : Type 0} (new : LruCache ℕ V) (cap n : ℕ) (v : V) (P : Type 0) → new ≡ lru_cache [] cap → lookup (nat_eq n) new.entries ≡ Some v → P
+forgotten {V} new cap n v P e h = absurd (let never : None ≡ Some v = sym (ap (λ (c : LruCache ℕ V). lookup (nat_eq n) c.entries) e) ∙ h in cc)
+
+-- ---- the store's calls
+
+pub any_err : {A E : Type 0} (r : Result A E) (P : Type 0) → P → OnErr r P
+any_err (Ok x) P p = tt
+any_err (Err e) P p = p
+
+module _ {S : Type 0} (g : Ghosts S) where
+  -- the tables stay, and what is known
+  pub known_stays : (old new : Held S) (f : Facts) → StayTabled g old new → Stays g (record { connection = old; known = f }) (record { connection = new; known = f })
+  known_stays old new f t = record {
+    premise = t.premise;
+    same = λ clean i s. let k = t.same clean i (tabled g (record { connection = old; known = f }) i s) in record { sound = k.sound; serves = k.serves; knows = s.knows };
+    stop = t.stop;
+  }
+
+  pub known_made : (old new : Held S) (f e : Facts) (i j : Institution) → StandsFor g (record { connection = old; known = f }) i → IsTabled g new j → AreTrueOf e j → StandsFor g (record { connection = new; known = e }) j
+  known_made old new f e i j s t k = record { sound = t.sound; serves = t.serves; knows = k }
+
+  pub known_unmade : (old new : Held S) (f : Facts) → ((i : Institution) → IsTabled g old i → IsTabled g new i) → (i : Institution) → StandsFor g (record { connection = old; known = f }) i → StandsFor g (record { connection = new; known = f }) i
+  known_unmade old new f same i s = let t = same i (tabled g (record { connection = old; known = f }) i s) in record { sound = t.sound; serves = t.serves; knows = s.knows }
+
+  -- nothing is known at first
+  pub first_known : (h : Held S) (f : Facts) (i : Institution) → f ≡ record { counts = []; catalogue = None; day = None; roles = []; keys = []; products = [] } → IsTabled g h i → StandsFor g (record { connection = h; known = f }) i
+  first_known h f i is t = record {
+    sound = t.sound;
+    serves = t.serves;
+    knows = subst (λ k. AreTrueOf k i) (sym is) (record {
+      counts = λ x c e. absurd (let k : None ≡ Some c = e in cc);
+      catalogue = λ c e. absurd (let k : None ≡ Some c = e in cc);
+      day = λ d e. absurd (let k : None ≡ Some d = e in cc);
+      roles = λ c r b e. absurd (let k : None ≡ Some r = e in cc);
+      keys = λ x l e. absurd (let k : None ≡ Some l = e in cc);
+      products = λ n p e. absurd (let k : None ≡ Some p = e in cc);
+    });
+  }
+
+  -- it stays, and takes in what was read
+  pub learnt_stays : (old mid new : Kept S) (IsSo : Institution → Type 0) → Stays g old mid → ((i : Institution) → StandsFor g mid i → IsSo i → StandsFor g new i) → new.connection ≡ mid.connection
+      → (IsClean g mid → (i : Institution) → StandsFor g old i → IsSo i) → Stays g old new
+  learnt_stays old mid new IsSo kept learns tables told = record {
+    premise = λ clean. kept.premise (now clean);
+    same = λ clean i s. learns i (kept.same (now clean) i s) (told (now clean) i s);
+    stop = λ clean is l. subst (λ h. LeavesTables g h is) (sym tables) (kept.stop (now clean) is l);
+  }
+    where
+      now : IsClean g new → IsClean g mid
+      now clean = subst (λ h. HasGoodDisk g h) tables clean
+
+  pub clean_before : (mid new : Kept S) → new.connection ≡ mid.connection → IsClean g new → IsClean g mid
+  clean_before mid new tables clean = subst (λ h. HasGoodDisk g h) tables clean
+
+-- ---- what is read is so
+
+pub tells_counts : (x : ℕ) (c : Counts) (i : Institution) → c ≡ counts_at x i → Tells (OfficeCounts x c) i i
+tells_counts x c i is = record { counts = λ y. go y (x == y) refl; catalogue = refl; day = refl; roles = λ c r h. h; keys = λ x k h. h; products = λ t n p h. h }
+  where
+    go : (y : ℕ) (b : Bool) → (x == y) ≡ b → counts_at y i ≡ cond b c (counts_at y i)
+    go y true e = let same : x ≡ y = grind (arith, nat_tests) in sym (is ∙ ap (λ z. counts_at z i) same)
+    go y false e = refl
+
+pub tells_catalogue : (c : CatalogueCounts) (i : Institution) → c ≡ catalogue_counts i → Tells (Catalogue c) i i
+tells_catalogue c i is = record { counts = λ y. refl; catalogue = sym is; day = refl; roles = λ c r h. h; keys = λ x k h. h; products = λ t n p h. h }
+
+pub tells_day : (d : ℕ) (i : Institution) → d ≡ i.catalogue.day → Tells (BusinessDay d) i i
+tells_day d i is = record { counts = λ y. refl; catalogue = refl; day = sym is; roles = λ c r h. h; keys = λ x k h. h; products = λ t n p h. h }

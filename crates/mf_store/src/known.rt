@@ -1,0 +1,241 @@
+//! What a store knows beside its tables, so that it need not ask them again. Where memory is wanting to keep a fact, it
+//! isn't kept.
+
+ghost use Rattle.std.specs.Prelude.{◌≡◌, ◌≤◌, nat_eq, is_some, Some, None, [], IfOk, IfErr, IfSome};
+ghost use Rattle.std.specs.Map.{lookup};
+ghost use Rattle.mf_base.specs.declared.fault.Fault.TheVariants.{F20};
+ghost use Rattle.mf_model.specs.Institution.{Institution, product_in};
+ghost use Rattle.mf_model.specs.Store.{role_of};
+ghost use Rattle.mf_store.specs.Facts.{AreTrueOf, caller_number};
+ghost use Rattle.mf_store.specs.Flat.{key_at};
+ghost use Rattle.mf_store.specs.Learning.{Tells};
+
+use lru::LruCache;
+use mf_base::{Day, Fault};
+use mf_catalog::{Product, ProductMembers};
+use mf_model::{CatalogueCounts, Counts};
+use mf_office::{Caller, Key, Role};
+use std::alloc::{AllocError, Global};
+use std::marker::Model;
+use std::num::NonZeroUsize;
+
+/// What a store learns as a read or a commit goes well.
+#[derive(Clone, Copy, Debug)]
+pub(crate) enum News {
+    Nothing,
+    OfficeCounts(u32, Counts),
+    Catalogue(CatalogueCounts),
+    BusinessDay(Day),
+    /// A product lends no more.
+    Retirement,
+}
+
+/// What is known.
+#[derive(Drop)]
+pub(crate) struct Known {
+    counts: LruCache<u32, Counts>,
+    catalogue: Option<CatalogueCounts>,
+    day: Option<Day>,
+    roles: LruCache<u32, Role>,
+    keys: LruCache<u32, Key>,
+    products: LruCache<u32, Product>,
+}
+
+impl Model for Known {
+    ghost use Rattle.mf_store.specs.Facts.{Facts, facts_code};
+
+    ghost Value = { Facts };
+
+    ghost coded = { facts_code };
+
+    ghost view = { λ k. record { counts = k.counts.entries; catalogue = k.catalogue; day = k.day; roles = k.roles.entries; keys = k.keys.entries; products = k.products.entries } };
+}
+
+/// So many offices' counts and keys are kept at most.
+const MOST_OFFICES: usize = 1024;
+
+/// So many callers' roles are kept at most.
+const MOST_CALLERS: usize = 4096;
+
+/// As many products as a catalogue has at most.
+const MOST_PRODUCTS: usize = 999;
+
+/// Nothing is kept yet, and at most so much ever.
+fn nothing_of<V>(alloc: Global, most: usize) -> Result<LruCache<u32, V>, Fault>
+    ensures nothing { IfOk result (λ kept. kept.entries ≡ []) }
+    ensures gives_up { IfErr result (λ fault. fault ≡ F20) }
+{
+    let Some(most) = NonZeroUsize::new(most) else {
+        return Err(Fault::F20);
+    };
+    match LruCache::sparse(alloc, most) {
+        Ok(kept) => Ok(kept),
+        Err(_) => Err(Fault::F20),
+    }
+}
+
+/// A caller as one number.
+fn number_of(caller: Caller) -> u32
+    ensures number { result ≡ caller_number caller }
+    ensures staff { caller.staff ≤ 9999 }
+{
+    caller.office.get() * 10_000 + caller.staff.get()
+}
+
+/// The same key, where there is memory for it.
+fn copied(alloc: Global, key: &Key) -> Option<Key>
+    ensures { IfSome result (λ copy. copy ≡ key.now) }
+{
+    match String::from_str(alloc, key.as_str()) {
+        Ok(text) => Key::from_text(text),
+        Err(_) => None,
+    }
+}
+
+/// The same product, where there is memory for it.
+fn same_product(product: &Product) -> Result<Product, AllocError>
+    ensures { IfOk result (λ copy. copy ≡ product.now) }
+{
+    let members = &product.members;
+    let name = members.name.clone()?;
+    Ok(Product {
+        number: product.number,
+        members: ProductMembers {
+            name,
+            method: members.method,
+            rate: members.rate,
+            freq: members.freq,
+            every: members.every,
+            principal_grace: members.principal_grace,
+            interest_grace: members.interest_grace,
+            min_principal: members.min_principal,
+            max_principal: members.max_principal,
+            min_periods: members.min_periods,
+            max_periods: members.max_periods,
+            strategy: members.strategy,
+            disbursement_charge: members.disbursement_charge,
+            instalment_charge: members.instalment_charge,
+            overdue_charge: members.overdue_charge,
+        },
+        retired: product.retired,
+    })
+}
+
+impl Known {
+    /// Nothing is known.
+    pub(crate) fn nothing(alloc: Global) -> Result<Known, Fault>
+        ensures nothing { IfOk result (λ known. known ≡ record { counts = []; catalogue = None; day = None; roles = []; keys = []; products = [] }) }
+        ensures gives_up { IfErr result (λ fault. fault ≡ F20) }
+    {
+        let counts = nothing_of(alloc, MOST_OFFICES)?;
+        let roles = nothing_of(alloc, MOST_CALLERS)?;
+        let keys = nothing_of(alloc, MOST_OFFICES)?;
+        let products = nothing_of(alloc, MOST_PRODUCTS)?;
+        Ok(Known {
+            counts,
+            catalogue: None,
+            day: None,
+            roles,
+            keys,
+            products,
+        })
+    }
+
+    /// How many rows an office has.
+    pub(crate) fn counts(&self, office: u32) -> Option<Counts>
+        ensures { result ≡ lookup (nat_eq office) self.now.counts }
+    {
+        self.counts.peek(&office).copied()
+    }
+
+    /// How many charges and products there are.
+    pub(crate) fn catalogue(&self) -> Option<CatalogueCounts>
+        ensures { result ≡ self.now.catalogue }
+    {
+        self.catalogue
+    }
+
+    /// The business day.
+    pub(crate) fn day(&self) -> Option<Day>
+        ensures { result ≡ self.now.day }
+    {
+        self.day
+    }
+
+    /// The role of a caller.
+    pub(crate) fn role(&self, caller: Caller) -> Option<Role>
+        ensures { result ≡ lookup (nat_eq (caller_number caller)) self.now.roles }
+    {
+        self.roles.peek(&number_of(caller)).copied()
+    }
+
+    /// Whether an office's key is known, and so the office is there.
+    pub(crate) fn has_key(&self, office: u32) -> bool
+        ensures { result ≡ is_some (lookup (nat_eq office) self.now.keys) }
+    {
+        self.keys.contains(&office)
+    }
+
+    /// The key of an office, where there is memory for it.
+    pub(crate) fn key(&self, alloc: Global, office: u32) -> Option<Key>
+        ensures { IfSome result (λ key. lookup (nat_eq office) self.now.keys ≡ Some key) }
+    {
+        match self.keys.peek(&office) {
+            None => None,
+            Some(key) => copied(alloc, key),
+        }
+    }
+
+    /// A product, where there is memory for it.
+    pub(crate) fn product(&self, number: u32) -> Option<Product>
+        ensures { IfSome result (λ product. lookup (nat_eq number) self.now.products ≡ Some product) }
+    {
+        match self.products.peek(&number) {
+            None => None,
+            Some(product) => same_product(product).ok(),
+        }
+    }
+
+    /// Takes in a caller's role.
+    pub(crate) fn learn_role(&mut self, caller: Caller, role: Role)
+        ensures { (i : Institution) → AreTrueOf self.old i → role_of caller i ≡ Some role → AreTrueOf self.new i }
+    {
+        let number = number_of(caller);
+        let _kept = self.roles.put(number, role);
+    }
+
+    /// Takes in an office's key.
+    pub(crate) fn learn_key(&mut self, alloc: Global, office: u32, key: &Key)
+        ensures { (i : Institution) → AreTrueOf self.old i → key_at office i ≡ Some key.now → AreTrueOf self.new i }
+    {
+        let Some(copy) = copied(alloc, key) else {
+            return;
+        };
+        let _kept = self.keys.put(office, copy);
+    }
+
+    /// Takes in a product.
+    pub(crate) fn learn_product(&mut self, number: u32, product: &Product)
+        ensures { (i : Institution) → AreTrueOf self.old i → product_in i.catalogue number ≡ Some product.now → AreTrueOf self.new i }
+    {
+        let Ok(copy) = same_product(product) else {
+            return;
+        };
+        let _kept = self.products.put(number, copy);
+    }
+
+    /// Takes in what is new.
+    pub(crate) fn learn(&mut self, news: News)
+        ensures { (i j : Institution) → AreTrueOf self.old i → Tells news i j → AreTrueOf self.new j }
+    {
+        match news {
+            News::Nothing => {}
+            News::OfficeCounts(office, counts) => {
+                let _kept = self.counts.put(office, counts);
+            }
+            News::Catalogue(counts) => self.catalogue = Some(counts),
+            News::BusinessDay(day) => self.day = Some(day),
+            News::Retirement => self.products.clear(),
+        }
+    }
+}
