@@ -14,7 +14,7 @@ use Rattle.mf_desk.specs.declared.decision.Decision.{Decision}
 use Rattle.mf_model.specs.Institution.{Institution, Catalogue, Rows, product_in, after_maybe}
 use Rattle.mf_model.specs.Desk.{Plan, plan, Outcome, carried_out, outcome, change_in, next_of, of_catalogue, of_office, with_value, where_found, unless_refused, loan_added, submitted}
 use Rattle.mf_model.specs.Tree.{seen_office}
-use Rattle.mf_model.specs.Store.{rows_at, loan_at, change_of, left_by}
+use Rattle.mf_model.specs.Store.{rows_at, client_at, loan_at, change_of, left_by}
 
 -- what becomes of a plan, or of what reads as no request
 abbrev pub becomes : Result Plan Fault → Caller → Institution → Outcome
@@ -49,6 +49,10 @@ sight o x i = cond (is_some (seen_office o x i)) (Ok tt) (Err F4)
 abbrev pub there : {A : Type 0} → Option A → Result A Fault
 there None = Err F4
 there (Some x) = Ok x
+
+-- that a client is there; F4 where it isn't
+abbrev pub client_there : Account → Institution → Result (Unit {0}) Fault
+client_there client i = cond (is_some (client_at client i)) (Ok tt) (Err F4)
 
 -- a loan of an office that o sees
 abbrev pub seen_loan : ℕ → Account → Institution → Result Loan Fault

@@ -4,7 +4,7 @@ ghost use Rattle.std.specs.Prelude.{◌≡◌};
 ghost use Rattle.mf_model.specs.declared.request.Request.TheVariants.{PostLoans, GetLoan, ApproveLoan, RejectLoan, WithdrawLoan, UndoApproval, GetLoans};
 ghost use Rattle.mf_model.specs.Desk.{next_of};
 ghost use Rattle.mf_model.specs.Loans.{approved, rejected, withdrawn, unapproved};
-ghost use Rattle.mf_desk.specs.Answers.{Asks, Decides, acted, seen_loan, made_in, lent_in};
+ghost use Rattle.mf_desk.specs.Answers.{Asks, Decides, acted, client_there, seen_loan, made_in, lent_in};
 
 use crate::decision::Decision;
 use crate::sight::check_sight;
@@ -214,6 +214,25 @@ pub fn undo_approval<S: InstitutionStore>(
     }
 }
 
+/// That a client is there; F4 where it isn't. An office's clients are numbered from 1 without gaps, so their count tells.
+fn check_client<S: InstitutionStore>(
+    alloc: Global,
+    store: &mut S,
+    client: Account,
+) -> Result<(), Fault>
+    ensures { Asks S.stands S.clean S.leaves (client_there client) store.old store.new result }
+{
+    let counts = match store.counts(alloc, client.office) {
+        Ok(counts) => counts,
+        Err(fault) => return Err(fault),
+    };
+    if client.number.get() <= counts.clients {
+        Ok(())
+    } else {
+        Err(Fault::F4)
+    }
+}
+
 /// A new loan of a client that is there, once its product lends so.
 fn number_loan<S: InstitutionStore>(
     alloc: Global,
@@ -285,9 +304,8 @@ pub fn post_loans<S: InstitutionStore>(
         Ok(()) => {}
         Err(fault) => return Err(fault),
     }
-    match store.client(alloc, Account { office, number }) {
-        Ok(Some(_)) => {}
-        Ok(None) => return Err(Fault::F4),
+    match check_client(alloc, store, Account { office, number }) {
+        Ok(()) => {}
         Err(fault) => return Err(fault),
     }
     let client = Account { office, number };
