@@ -11,6 +11,3 @@ pub use named::{InterestFirst, MifosStandard, PrincipalFirst};
 pub use payment::{outstanding, pay, undo};
 pub use row::{Cell, Portion, Row, Share};
 pub use strategy::Strategy;
-
-#[cfg(test)]
-mod tests;

@@ -8,6 +8,3 @@ mod report;
 pub use ageing::{arrears, class};
 pub use line::{Class, OfficeLine};
 pub use report::report_text;
-
-#[cfg(test)]
-mod tests;

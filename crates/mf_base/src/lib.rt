@@ -9,8 +9,6 @@ mod fault;
 mod money;
 mod name;
 mod rounding;
-#[cfg(test)]
-mod tests;
 
 pub use calendar::{dates_and_numbers, due_days_ascend, texts_of_days};
 pub use day::{Day, Freq};

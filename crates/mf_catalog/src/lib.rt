@@ -20,6 +20,3 @@ pub use limits::{
 pub use mf_base::Name;
 pub use product::{Product, ProductMembers};
 pub use terms::{Method, StrategyName, Terms};
-
-#[cfg(test)]
-mod tests;

@@ -22,6 +22,3 @@ pub use mf_base::Name;
 pub use number::next_number;
 pub use office::{Office, OfficeNo};
 pub use staff::{Role, Staff, StaffNo};
-
-#[cfg(test)]
-mod tests;

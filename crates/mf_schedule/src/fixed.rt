@@ -54,17 +54,3 @@ pub fn fixed_amount(principal: u64, rate: u32, days: u32, n: u32) -> u64
     }
     high
 }
-
-#[cfg(test)]
-mod tests {
-    use super::*;
-    use std::test::Fail;
-
-    #[test]
-    fn finds_the_least_amounts(rt: HostRuntime) -> Result<(), Fail> {
-        assert_eq!(rt; fixed_amount(100000, 1200, 30, 3), 34003);
-        assert_eq!(rt; fixed_amount(100000, 1200, 30, 2), 50751);
-        assert_eq!(rt; fixed_amount(1, 0, 30, 3), 1);
-        Ok(())
-    }
-}

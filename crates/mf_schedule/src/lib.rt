@@ -5,8 +5,6 @@ mod fixed;
 mod instalment;
 mod plan;
 mod schedule;
-#[cfg(test)]
-mod tests;
 mod text;
 
 pub use fixed::fixed_amount;

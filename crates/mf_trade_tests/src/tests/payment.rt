@@ -1,6 +1,8 @@
+//! Paying into instalments, by each strategy.
+
 ghost use Rattle.std.specs.Prelude.{◌≡◌};
 
-use crate::{
+use mf_alloc::{
     Cell, InterestFirst, MifosStandard, Portion, PrincipalFirst, Row, Share, Strategy, outstanding,
     pay, undo,
 };

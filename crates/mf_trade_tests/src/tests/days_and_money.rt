@@ -1,4 +1,6 @@
-use super::*;
+//! Days and their texts, rounding, splitting, and money.
+
+use mf_base::{Day, Fault, Freq, half_even, money_text, parse_money, split};
 use std::test::Fail;
 
 fn day(text: &[u8]) -> Result<Day, Fail> {

@@ -1,5 +1,7 @@
-use crate::{Class, OfficeLine, arrears, class, report_text};
+//! Days overdue, and the report's text.
+
 use mf_alloc::Row;
+use mf_arrears::{Class, OfficeLine, arrears, class, report_text};
 use mf_base::Day;
 use mf_office::OfficeNo;
 use std::test::Fail;

@@ -1,11 +1,13 @@
+//! Fresh schedules by each method, with graces and charges.
+
 ghost use Rattle.std.specs.Prelude.{◌≡◌, ◌≤◌, IfOk};
 ghost use Rattle.mf_base.specs.DayText.{last_entered_day};
 ghost use Rattle.mf_schedule.specs.Fresh.{IsLoanWithinLimits};
 ghost use Rattle.mf_catalog.specs.Limits.{AreTermsWithinLimits, longest_step};
 
-use super::*;
 use mf_base::{Day, Freq};
 use mf_catalog::{Calc, ChargeDef, ChargeKind, Method, Name, StrategyName, Terms};
+use mf_schedule::{disbursement_fee, fixed_amount, fresh, schedule_text};
 use std::alloc::Global;
 use std::process::Abort;
 use std::test::Fail;
@@ -74,6 +76,13 @@ fn assert_shown(
     let text = schedule_text(alloc, &rows)?;
     assert_eq!(rt; text.as_str(), expected);
     Ok(())
+}
+
+#[test]
+fn finds_the_least_amounts(rt: HostRuntime) {
+    assert_eq!(rt; fixed_amount(100000, 1200, 30, 3), 34003);
+    assert_eq!(rt; fixed_amount(100000, 1200, 30, 2), 50751);
+    assert_eq!(rt; fixed_amount(1, 0, 30, 3), 1);
 }
 
 #[test]

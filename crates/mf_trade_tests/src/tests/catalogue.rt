@@ -1,10 +1,12 @@
+//! What products lend, the terms that they give, and what charges come to.
+
 ghost use Rattle.std.specs.Prelude.{◌≡◌, None, IfOk};
 
-use crate::{
-    Calc, ChargeDef, ChargeKind, Method, Product, ProductMembers, StrategyName, check_loan,
-    check_product, terms_for, terms_of,
-};
 use mf_base::{Fault, Freq, Name};
+use mf_catalog::{
+    Calc, ChargeDef, ChargeKind, Method, Product, ProductMembers, StrategyName, charge_amount,
+    check_loan, check_product, terms_for, terms_of,
+};
 use std::alloc::{AllocError, Global};
 use std::test::Fail;
 
@@ -86,5 +88,36 @@ fn a_loan_has_the_terms_of_its_product(rt: HostRuntime) -> Result<(), Fail> {
     assert!(rt; terms.instalment.is_none());
     let standing = terms_of(&product, &[])?;
     assert_eq!(rt; standing.rate, 1200);
+    Ok(())
+}
+
+fn charge(name: Name, calc: Calc, value: u64) -> ChargeDef
+    ensures calc { result.calc ≡ calc }
+    ensures value { result.value ≡ value }
+{
+    ChargeDef {
+        number: 1,
+        name,
+        kind: ChargeKind::Disbursement,
+        calc,
+        value,
+    }
+}
+
+#[test]
+fn takes_the_value_or_a_percentage(rt: HostRuntime) -> Result<(), Fail> {
+    let name = Name::new(String::from_str(rt.alloc(), "Visit")?);
+    assert_eq!(rt; name.as_str(), "Visit");
+    let flat = charge(name.clone()?, Calc::Flat, 500);
+    assert_eq!(rt; charge_amount(&flat, 100000, 2000), 500);
+    let of_amount = charge(name.clone()?, Calc::OfAmount, 150);
+    assert_eq!(rt; charge_amount(&of_amount, 100000, 2000), 1500);
+    let of_interest = charge(name.clone()?, Calc::OfInterest, 10000);
+    assert_eq!(rt; charge_amount(&of_interest, 100000, 2000), 2000);
+    let of_both = charge(name, Calc::OfBoth, 150);
+    assert_eq!(rt; charge_amount(&of_both, 100000, 2000), 1530);
+    let copy = of_both.clone()?;
+    assert_eq!(rt; charge_amount(&copy, 33333, 1000), 515);
+    assert_eq!(rt; copy.name.into_text().as_str(), "Visit");
     Ok(())
 }

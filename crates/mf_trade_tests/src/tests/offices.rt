@@ -1,5 +1,9 @@
-use super::*;
-use mf_base::Fault;
+//! Offices and their staff, callers, accounts and keys.
+
+use mf_base::{Fault, Name};
+use mf_office::{
+    Account, AccountNo, Caller, Key, Office, OfficeNo, Role, Staff, StaffNo, in_range, next_number,
+};
 use std::test::Fail;
 
 #[test]
