@@ -6,6 +6,3 @@ mod printing;
 
 pub use batch::answer_lines;
 pub use printing::schedule;
-
-#[cfg(test)]
-mod tests;

@@ -8,6 +8,3 @@ mod disk;
 
 pub use connection::{PageStore, open};
 pub use disk::MemoryFile;
-
-#[cfg(test)]
-mod tests;

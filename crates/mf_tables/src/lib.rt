@@ -103,6 +103,3 @@ pub fn query<S: Alter>(
     connection.prepare("")?;
     connection.query_all(sql, params)
 }
-
-#[cfg(test)]
-mod tests;

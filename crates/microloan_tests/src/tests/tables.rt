@@ -1,5 +1,8 @@
-use crate::{Write, apply, query, run};
-use sqlite::{Alter, Connection, Error, ErrorCode, MemStore, Transaction, params};
+//! Writes in one commit, all or none.
+
+use mf_pages::{PageStore, open};
+use mf_tables::{Write, apply, query, run};
+use sqlite::{Alter, Connection, Error, ErrorCode, Transaction, params};
 use sqlite_schema::schema::Constraint;
 use std::alloc::Global;
 use std::rt::HostRuntime;
@@ -36,7 +39,7 @@ const PUT: &str = "INSERT INTO note VALUES (2, 7, 'b'), (1, 9, 'z'), (1, 3, 'y')
 const PUT_AGAIN: &str =
     "INSERT INTO note VALUES (1, 9, 'a') ON CONFLICT (shelf, number) DO UPDATE SET title = excluded.title";
 
-fn shelf(alloc: Global, conn: &mut Connection<MemStore>, shelf: u32) -> Result<String, Error> {
+fn shelf(alloc: Global, conn: &mut Connection<PageStore>, shelf: u32) -> Result<String, Error> {
     let mut text = String::new(alloc);
     if !conn.is_autocommit() {
         return Ok(text);
@@ -52,7 +55,7 @@ fn shelf(alloc: Global, conn: &mut Connection<MemStore>, shelf: u32) -> Result<S
 #[test]
 fn keeps_what_is_written(rt: HostRuntime) -> Result<(), Fail> {
     let alloc = rt.alloc();
-    let mut conn = Connection::open_in_memory(alloc)?;
+    let mut conn = open(alloc)?;
     apply(&mut conn, &[Text(MAKE), Text(PUT), Text(PUT_AGAIN)])?;
     assert_eq!(rt; shelf(alloc, &mut conn, 1)?.as_str(), "3y 9a ");
     assert_eq!(rt; shelf(alloc, &mut conn, 2)?.as_str(), "7b ");
@@ -63,7 +66,7 @@ fn keeps_what_is_written(rt: HostRuntime) -> Result<(), Fail> {
 #[test]
 fn all_or_none(rt: HostRuntime) -> Result<(), Fail> {
     let alloc = rt.alloc();
-    let mut conn = Connection::open_in_memory(alloc)?;
+    let mut conn = open(alloc)?;
     apply(&mut conn, &[Text(MAKE), Text(PUT)])?;
     let taken = apply(
         &mut conn,

@@ -1,4 +1,6 @@
-use crate::{PageStore, open};
+//! Tables in pages of memory.
+
+use mf_pages::{PageStore, open};
 use sqlite::{Connection, Error, params};
 use std::rt::HostRuntime;
 use std::test::Fail;

@@ -5,8 +5,8 @@ mod refused;
 mod rows;
 mod sent;
 
-use crate::answer_lines;
 use mf_base::Day;
+use mf_commands::answer_lines;
 use mf_lines::{WatchedReader, WatchedWriter};
 use std::alloc::Global;
 use std::test::Fail;

@@ -1,0 +1,8 @@
+//! From request lines and words down to the tables.
+
+mod batch;
+mod pages;
+mod printed;
+mod store;
+mod tables;
+mod words;
