@@ -1,5 +1,5 @@
 ghost use Rattle.std.specs.Prelude.{◌≡◌, ℕ, ◌<◌, ◌≤◌, ◌∷◌, [], ◌++◌, IfOk, OnOk, OnErr, IsOkUnless, length, map, All, insert, true, false};
-ghost use Rattle.mf_account.specs.Account.{row_of as first_row, first_state, state_of, settled_of};
+ghost use Rattle.mf_account.specs.Account.{row_of as first_row, first_state, state_of, settled_of, after_all, settled_by};
 ghost use Rattle.mf_account.specs.Standing.{is_before as comes_before, placed, standing, entries_at, entry_at, with_mark, IsInOrder};
 ghost use Rattle.mf_account.specs.Applicable.{AreApplicable};
 
@@ -37,7 +37,7 @@ fn position(entries: &[Entry], order: &[usize], entry: &Entry) -> usize
 }
 
 /// The places of the standing entries, in their order.
-fn standing_order(alloc: Global, entries: &[Entry]) -> Result<Vec<usize>, Fault>
+pub(crate) fn standing_order(alloc: Global, entries: &[Entry]) -> Result<Vec<usize>, Fault>
     ensures within { IfOk result (λ order. All (λ i. i < length entries.now) order.items) }
     ensures order { IfOk result (λ order. entries_at entries.now order.items ≡ standing entries.now) }
     ensures only { IsOkUnless result Fault.F20 }
@@ -90,6 +90,29 @@ fn first_book(alloc: Global, schedule: &[Instalment]) -> Result<Book, Fault>
         overpaid: 0,
         refunded: 0,
     })
+}
+
+/// Applies entries in an order to a book, and answers what they settle. After an error the book is given up.
+pub(crate) fn apply_all<T: Strategy>(
+    alloc: Global,
+    strategy: &T,
+    book: &mut Book,
+    entries: &[Entry],
+    order: &[usize],
+) -> Result<Vec<Settled>, Fault>
+    requires few { length book.old.rows ≤ 360 }
+    requires within { All (λ i. i < length entries.now) order.now }
+    requires fits { AreApplicable (λ _. T.cell_at strategy.now (length book.old.rows)) (entries_at entries.now order.now) book.old }
+    ensures state { OnOk result (book.new ≡ after_all (λ _. T.cell_at strategy.now (length book.old.rows)) (entries_at entries.now order.now) book.old) }
+    ensures parts { IfOk result (λ parts. parts.items ≡ settled_by (λ _. T.cell_at strategy.now (length book.old.rows)) (entries_at entries.now order.now) book.old) }
+    ensures only { IsOkUnless result Fault.F20 }
+{
+    let mut settled = Vec::new(alloc);
+    for k in 0..order.len() {
+        let parts = apply_entry(alloc, strategy, book, &entries[order[k]])?;
+        settled.extend_from_slice(&parts)?;
+    }
+    Ok(settled)
 }
 
 /// The state and the settled parts of a fresh schedule and entries: the effects of the standing entries, in order.
@@ -151,7 +174,7 @@ fn mark(entries: &mut [Entry], at: usize, reversed: bool)
 }
 
 /// The same in a vector.
-fn mark_in(entries: &mut Vec<Entry>, at: usize, reversed: bool)
+pub(crate) fn mark_in(entries: &mut Vec<Entry>, at: usize, reversed: bool)
     requires { at < length entries.old.items }
     ensures { entries.new.items ≡ with_mark entries.old.items at reversed }
 {
