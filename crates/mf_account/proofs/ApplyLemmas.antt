@@ -1,9 +1,10 @@
 -- Entries applied so far, from any state.
 use Rattle.std.proofs.Common.{◌≡◌, ℕ, suc, ◌+◌, ◌<◌, List, [], ◌∷◌, ◌++◌, length, refl, ◌∙◌, ap, sym, subst, append_assoc}
+use Rattle.mf_alloc.specs.declared.row.Cell.{Cell}
 use Rattle.mf_account.specs.declared.entry.Entry.{Entry}
 use Rattle.mf_account.specs.declared.settled.Settled.{Settled}
 use Rattle.mf_account.specs.Effect.{State, after, parts_of}
-use Rattle.mf_account.specs.Account.{Orders, after_all, settled_by, numbered}
+use Rattle.mf_account.specs.Account.{Orders, orders_by, after_all, settled_by, numbered}
 use Rattle.mf_account.specs.Applicable.{AreApplicable}
 use Rattle.mf_account.proofs.ReplayLemmas.{length-after}
 
@@ -40,3 +41,9 @@ applied-more orders base all rest left entry now next settled parts more so_far 
     subst (λ (x : State). IsApplied orders base all left x more) (sym applied)
     (subst (λ (x : List Settled). IsApplied orders base all left then x) (sym (joined ∙ ap (λ x. settled ++ x) own)) exact)
 
+-- the orders over the rows after an entry are those over the rows before it
+pub orders-after : (cells : ℕ → ℕ → Cell) (entry : Entry) (before next : State) → next ≡ after (orders_by cells before.rows entry) entry before → orders_by cells next.rows ≡ orders_by cells before.rows
+orders-after cells entry before next is =
+    let size : length next.rows ≡ length before.rows = ap (λ (s : State). length s.rows) is ∙ length-after (orders_by cells before.rows) entry before in
+    let at : ℕ → Orders = λ n e. cells n in
+    ap at size

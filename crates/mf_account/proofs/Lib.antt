@@ -15,3 +15,4 @@ pub mod TailLemmas
 pub mod ResumeLemmas
 pub mod RemovedLemmas
 pub mod ApplyLemmas
+pub mod RedoneLemmas

@@ -2,7 +2,7 @@
 use Rattle.std.proofs.Common.{◌≡◌, ◌≢◌, ℕ, zero, suc, ◌+◌, ◌-◌, ◌*◌, ◌^◌, ◌<◌, ◌≤◌, Bool, true, false, not, ◌&&◌, ◌||◌, cond, eqb, leb, ltb, true≢false, ◌==◌, List, [], ◌∷◌, ◌++◌, length, map, get_or, Option, Some, None, inl, inr, arith, refl, ◌∙◌, ap, subst, sym, length-append}
 use Rattle.std.specs.Prelude.{sum_by, All, fold, is_some}
 use Rattle.std.proofs.Math.ListN.{get_or-append}
-use Rattle.std.proofs.lemmas.Bool.{cases_lt, cases_eq, cond_both, leb-true, leb-false, ltb-false, eqb-false, eq-eqb, lt-ltb, and_parts}
+use Rattle.std.proofs.lemmas.Bool.{cases_lt, cases_eq, cond_both, cond-true, cond-false, leb-true, leb-false, ltb-false, eqb-false, eq-eqb, lt-ltb, and_parts}
 use Rattle.std.proofs.lemmas.List.{length-map, get_or-append_right, get_or-set_same, get_or-set_other, length-set}
 use Rattle.std.proofs.lemmas.List.FromFn.{length-map-range_with_len}
 use Rattle.std.proofs.lemmas.List.Folds.{list_any_at}
@@ -177,6 +177,13 @@ good-sound loan sound =
 none-of : (b : Bool) (fault : Fault) (rest : Option Fault) → cond b (Some fault) rest ≡ None → (b ≡ false) × (rest ≡ None)
 none-of true fault rest none = let bad : ⊥ = cc in absurd bad
 none-of false fault rest none = (refl, none)
+
+-- the refusal that is chosen
+pub chosen-here : (b : Bool) (first rest : Option Fault) → b ≡ true → first ≡ cond b first rest
+chosen-here b first rest is = sym (cond-true b first rest is)
+
+pub chosen-later : (b : Bool) (first rest found : Option Fault) → b ≡ false → found ≡ rest → found ≡ cond b first rest
+chosen-later b first rest found not_it is = is ∙ sym (cond-false b first rest not_it)
 
 or_none : (a b : Bool) → (a || b) ≡ false → (a ≡ false) × (b ≡ false)
 or_none true b none = absurd (true≢false none)

@@ -97,7 +97,7 @@ settled_by-append orders (x ∷ xs) ys from =
     ap (λ z. own ++ z) (settled_by-append orders xs ys (after (orders x) x from))
     ∙ sym (append_assoc own (settled_by orders xs (after (orders x) x from)) (settled_by orders ys (after_all orders xs (after (orders x) x from))))
 
-good-before : (loan : Loan) (k : ℕ) → IsSound loan → IsGood loan.periods (2 ^ 54 + amounts (take k (standing loan.entries))) (state_before loan k)
+pub good-before : (loan : Loan) (k : ℕ) → IsSound loan → IsGood loan.periods (2 ^ 54 + amounts (take k (standing loan.entries))) (state_before loan k)
 good-before loan k sound =
     good-all loan.periods (2 ^ 54) (cell_by loan.terms.strategy) (place_by loan.terms.strategy) (take k (standing loan.entries)) (first_state (schedule_of loan))
     (lawful loan.terms.strategy loan.periods) (All-take (IsReplayable loan.periods) k (standing loan.entries) (each-standing loan sound)) (first-good loan sound)

@@ -1,5 +1,5 @@
 -- An account: the effects of the standing entries in order, from the fresh schedule with nothing paid.
-use Rattle.std.specs.Prelude.{ℕ, ◌+◌, ◌==◌, nat_lt, ◌&&◌, not, if◌then◌else◌, List, [], ◌∷◌, ◌++◌, map, filter, sum_by, slice_index}
+use Rattle.std.specs.Prelude.{ℕ, ◌+◌, ◌==◌, nat_lt, ◌&&◌, not, if◌then◌else◌, List, [], ◌∷◌, ◌++◌, length, map, filter, sum_by, slice_index}
 use Rattle.std.specs.List.{list_any}
 use Rattle.mf_schedule.specs.declared.instalment.Instalment.{Instalment}
 use Rattle.mf_alloc.specs.declared.row.Cell.{Cell}
@@ -14,6 +14,10 @@ use Rattle.mf_account.specs.Standing.{standing}
 -- the order of cells at an entry
 abbrev pub Orders : Type 0
 Orders = Entry → ℕ → Cell
+
+-- an order of cells by the number of instalments, over rows
+abbrev pub orders_by : (ℕ → ℕ → Cell) → List Sums → Orders
+orders_by cells rows entry = cells (length rows)
 
 -- the state after entries in order
 abbrev pub after_all : Orders → List Entry → State → State

@@ -6,7 +6,7 @@ ghost use Rattle.mf_account.specs.Standing.{entry_at, entries_at, standing, with
 ghost use Rattle.mf_account.specs.Account.{shares_in};
 ghost use Rattle.mf_account.specs.Change.{Account, IsChange, no_change, settled_in};
 ghost use Rattle.mf_account.specs.Loan.{Loan, IsKept, IsSound, AreEntries, state_of_loan, settled_of_loan, status_of_loan};
-ghost use Rattle.mf_account.specs.Rewind.{state_before, settled_upto};
+ghost use Rattle.mf_account.specs.Rewind.{IsRedone, state_before, settled_upto};
 ghost use Rattle.mf_account.specs.Balance.{balances_of, repaid};
 ghost use Rattle.mf_account.specs.Refusals.{refusal_of, reversal_refused, IsOffered};
 
@@ -16,10 +16,12 @@ use crate::entry::Entry;
 use crate::refusal::{
     admits, is_forbidden, is_out_of_limits, is_out_of_order, is_sealed, reversal, status,
 };
-use crate::replay::{mark_in, replayed, replayed_with, replayed_without};
+use crate::replay::{
+    apply_all, apply_with, mark_in, place_in, position, replayed, standing_order,
+};
 use crate::resume::resumed_book;
 use crate::rewind::rewind_to;
-use crate::settled::{Book, Settled};
+use crate::settled::{Book, Settled, put_behind};
 use mf_alloc::{Row, Share};
 use mf_base::{Day, Fault};
 use mf_catalog::Terms;
@@ -145,31 +147,59 @@ impl LoanAccount {
 
     /// Adds an entry with which the loan is sound.
     fn add(&mut self, alloc: Global, entry: Entry) -> Result<(), Fault>
-        requires { IsSound (record self.old.loan { entries = self.old.loan.entries ++ entry ∷ [] }) }
+        requires sound { IsSound (record self.old.loan { entries = self.old.loan.entries ++ entry ∷ [] }) }
+        requires stands { entry.reversed ≡ false }
         ensures ok { OnOk result (self.new.loan ≡ record self.old.loan { entries = self.old.loan.entries ++ entry ∷ [] }) }
         ensures only { IsOkUnless result Fault.F20 }
         ensures change { OnOk result (IsChange self.old.loan self.new.loan self.new.change) }
         ensures err { OnErr result (self.new ≡ self.old) }
     {
-        let (book, settled) = replayed_with(
-            alloc,
-            &self.terms.strategy,
-            &self.schedule,
-            &mut self.entries,
-            entry,
-        )?;
-        match change_between(alloc, &self.book, &self.settled, &book, &settled, self.entries.len()) {
-            Ok(change) => {
-                self.book = book;
-                self.settled = settled;
-                self.change = change;
-                Ok(())
-            }
-            Err(fault) => {
-                let _refused = self.entries.pop();
-                Err(fault)
-            }
-        }
+        let (book, kept, parts) = self.redone_with(alloc, &entry)?;
+        let change = self.change_to(alloc, &book, kept, &parts, self.entries.len() + 1)?;
+        self.settled.reserve(parts.len())?;
+        self.entries.push(entry)?;
+        put_behind(&mut self.settled, kept, &parts);
+        self.book = book;
+        self.change = change;
+        Ok(())
+    }
+
+    /// What the account comes to with one entry more: the book, how many of the parts stay, and those that follow.
+    fn redone_with(
+        &self,
+        alloc: Global,
+        entry: &Entry,
+    ) -> Result<(Book, usize, Vec<Settled>), Fault>
+        requires sound { IsSound (record self.now.loan { entries = self.now.loan.entries ++ entry.now ∷ [] }) }
+        requires stands { entry.now.reversed ≡ false }
+        ensures redone { IfOk result (λ r. IsRedone self.now.loan (record self.now.loan { entries = self.now.loan.entries ++ entry.now ∷ [] }) r.0 r.1 r.2.items) }
+        ensures only { IsOkUnless result Fault.F20 }
+    {
+        let order = standing_order(alloc, &self.entries)?;
+        let place = position(&self.entries, &order, entry);
+        let (mut book, kept) = self.rewound(alloc, &order, place)?;
+        let later = &order[place..];
+        let strategy = &self.terms.strategy;
+        let parts = apply_with(alloc, strategy, &mut book, entry, &self.entries, later)?;
+        Ok((book, kept, parts))
+    }
+
+    /// What a change that leads to a book and parts changes, of so many entries.
+    fn change_to(
+        &self,
+        alloc: Global,
+        book: &Book,
+        kept: usize,
+        parts: &[Settled],
+        count: usize,
+    ) -> Result<Change, Fault>
+        requires { (new : Loan) × IsSound new × (new.periods ≡ self.now.loan.periods) × (length new.entries ≡ count) × IsRedone self.now.loan new book.now kept parts.now }
+        ensures change { (new : Loan) → IsSound new → new.periods ≡ self.now.loan.periods → length new.entries ≡ count → IsRedone self.now.loan new book.now kept parts.now → IfOk result (IsChange self.now.loan new) }
+        ensures only { IsOkUnless result Fault.F20 }
+    {
+        let before = &self.settled[kept..];
+        let change = change_between(alloc, &self.book, before, book, parts, count)?;
+        Ok(change)
     }
 
     /// The book before the standing entries from a place on, and how many parts are settled by then.
@@ -177,6 +207,7 @@ impl LoanAccount {
         requires within { All (λ at. at < length self.now.loan.entries) order.now }
         requires order { entries_at self.now.loan.entries order.now ≡ standing self.now.loan.entries }
         requires place { place ≤ length order.now }
+        ensures within { IfOk result (λ both. both.1 ≤ length (settled_of_loan self.now.loan)) }
         ensures back { IfOk result (λ both. (both.0 ≡ state_before self.now.loan place) × (take both.1 (settled_of_loan self.now.loan) ≡ settled_upto self.now.loan place)) }
         ensures only { IsOkUnless result Fault.F20 }
     {
@@ -190,6 +221,7 @@ impl LoanAccount {
         ensures value { result ≡ refusal_of self.now.loan entry.now business_day }
         ensures sound { IsSound self.now.loan }
     {
+        let book = &self.book;
         if is_sealed(&self.entries) {
             Some(Fault::F11)
         } else if !admits(entry.kind, self.status()) {
@@ -198,7 +230,7 @@ impl LoanAccount {
             Some(Fault::F10)
         } else if is_forbidden(
             self.terms.overdue.is_some(),
-            &self.book.rows,
+            &book.rows,
             &self.entries,
             entry,
             business_day,
@@ -237,25 +269,29 @@ impl LoanAccount {
         ensures change { OnOk result (IsChange self.old.loan self.new.loan self.new.change) }
         ensures err { OnErr result (self.new ≡ self.old) }
     {
-        let (book, settled) = replayed_without(
-            alloc,
-            &self.terms.strategy,
-            &self.schedule,
-            &mut self.entries,
-            at,
-        )?;
-        match change_between(alloc, &self.book, &self.settled, &book, &settled, self.entries.len()) {
-            Ok(change) => {
-                self.book = book;
-                self.settled = settled;
-                self.change = change;
-                Ok(())
-            }
-            Err(fault) => {
-                mark_in(&mut self.entries, at, false);
-                Err(fault)
-            }
-        }
+        let (book, kept, parts) = self.redone_without(alloc, at)?;
+        let change = self.change_to(alloc, &book, kept, &parts, self.entries.len())?;
+        self.settled.reserve(parts.len())?;
+        mark_in(&mut self.entries, at, true);
+        put_behind(&mut self.settled, kept, &parts);
+        self.book = book;
+        self.change = change;
+        Ok(())
+    }
+
+    /// What the account comes to where the entry at a place is reversed: as `redone_with`.
+    fn redone_without(&self, alloc: Global, at: usize) -> Result<(Book, usize, Vec<Settled>), Fault>
+        requires there { at < length self.now.loan.entries }
+        requires stands { (entry_at self.now.loan.entries at).reversed ≡ false }
+        ensures redone { IfOk result (λ r. IsRedone self.now.loan (record self.now.loan { entries = with_mark self.now.loan.entries at true }) r.0 r.1 r.2.items) }
+        ensures only { IsOkUnless result Fault.F20 }
+    {
+        let order = standing_order(alloc, &self.entries)?;
+        let place = place_in(&order, at);
+        let (mut book, kept) = self.rewound(alloc, &order, place)?;
+        let later = &order[place + 1..];
+        let parts = apply_all(alloc, &self.terms.strategy, &mut book, &self.entries, later)?;
+        Ok((book, kept, parts))
     }
 
     /// The loan's status: 601 where a write-off stands, else 300 where anything is outstanding, else 700 where
@@ -263,7 +299,8 @@ impl LoanAccount {
     pub fn status(&self) -> u16
         ensures { result ≡ status_of_loan self.now.loan }
     {
-        status(&self.entries, &self.book.rows, self.book.overpaid)
+        let book = &self.book;
+        status(&self.entries, &book.rows, book.overpaid)
     }
 
     /// The loan's sums over all instalments. The standing repayments add up to all that is paid, overpaid and refunded;

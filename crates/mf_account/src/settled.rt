@@ -1,3 +1,5 @@
+ghost use Rattle.std.specs.Prelude.{◌≡◌, ◌+◌, ◌≤◌, ◌++◌, length, take, vec_len, vec_capacity};
+
 use mf_alloc::{Cell, Row, Share};
 use mf_base::Fault;
 use std::alloc::Global;
@@ -68,4 +70,13 @@ impl Book {
             refunded: self.refunded,
         })
     }
+}
+
+/// Puts parts behind the first ones, of which so many stay. There is room for them.
+pub(crate) fn put_behind(settled: &mut Vec<Settled>, kept: usize, parts: &[Settled])
+    requires { vec_len settled.old + length parts.now ≤ vec_capacity settled.old }
+    ensures { settled.new.items ≡ take kept settled.old.items ++ parts.now }
+{
+    settled.truncate(kept);
+    let _put = settled.extend_from_slice(parts);
 }

@@ -2,7 +2,7 @@ use Rattle.std.proofs.Common.{ℕ, ◌<◌, ◌+◌, ◌∙◌, ap, arith, lengt
 use Rattle.std.proofs.lemmas.List.{get_or_default}
 use Rattle.mf_account.specs.declared.entry.Entry.{Entry}
 use Rattle.mf_account.specs.Effect.{State, after, parts_of}
-use Rattle.mf_account.specs.Account.{Orders, numbered}
+use Rattle.mf_account.specs.Account.{Orders, orders_by, numbered}
 use Rattle.mf_account.specs.Standing.{entries_at}
 use Rattle.mf_account.proofs.ReplayLemmas.{rest-cons}
 use Rattle.mf_account.proofs.ApplyLemmas.{applied-none, applied-more}
@@ -10,7 +10,7 @@ use Rattle.mf_account.proofs.replay.apply_all.Goals as goal
 
 pub loop-k-init : goal.loop-k-init
 loop-k-init g c =
-    let orders : Orders = λ _. g.T.Strategy.cell_at c.args.strategy.now (length c.args.book.now.rows) in
+    let orders : Orders = orders_by (g.T.Strategy.cell_at c.args.strategy.now) c.args.book.now.rows in
     applied-none orders c.args.book.now (entries_at c.args.entries.now c.args.order.now) (entries_at c.args.entries.now (drop 0 c.args.order.now)) c.args.book.now c.new-settled.result.items
     refl refl c.new-settled.ensures.items c.requires.fits
 
@@ -18,7 +18,7 @@ pub loop-k-preserved : goal.loop-k-preserved
 loop-k-preserved g c =
     let cells = g.T.Strategy.cell_at c.args.strategy.now in
     let base : State = c.args.book.now in
-    let orders : Orders = λ _. cells (length base.rows) in
+    let orders : Orders = orders_by cells base.rows in
     let entries : List Entry = c.args.entries.now in
     let order : List ℕ = c.args.order.now in
     let entry : Entry = c.index-entries-order.result in
