@@ -1,16 +1,19 @@
 -- Entries applied so far, from any state.
-use Rattle.std.proofs.Common.{◌≡◌, ℕ, suc, ◌+◌, ◌<◌, List, [], ◌∷◌, ◌++◌, length, refl, ◌∙◌, ap, sym, subst, append_assoc}
+use Rattle.std.proofs.Common.{◌≡◌, ℕ, List, [], ◌∷◌, ◌++◌, length, refl, ◌∙◌, ap, sym, subst, append_assoc}
 use Rattle.mf_alloc.specs.declared.row.Cell.{Cell}
+use Rattle.mf_alloc.specs.Order.{dues_of}
 use Rattle.mf_account.specs.declared.entry.Entry.{Entry}
 use Rattle.mf_account.specs.declared.settled.Settled.{Settled}
 use Rattle.mf_account.specs.Effect.{State, after, parts_of}
 use Rattle.mf_account.specs.Account.{Orders, orders_by, after_all, settled_by, numbered}
 use Rattle.mf_account.specs.Applicable.{AreApplicable}
 use Rattle.mf_account.proofs.ReplayLemmas.{length-after}
+use Rattle.mf_account.proofs.DueLemmas.{dues-after, orders-same}
 
 -- what is left leads from the state and the list so far to those of all
 pub record IsApplied (orders : Orders) (base : State) (all rest : List Entry) (now : State) (settled : List Settled) : Type 0 where
   pub size : length now.rows ≡ length base.rows
+  pub dues : dues_of now.rows ≡ dues_of base.rows
   pub fits : AreApplicable orders rest now
   pub state : after_all orders rest now ≡ after_all orders all base
   pub settled_all : settled ++ settled_by orders rest now ≡ settled_by orders all base
@@ -19,6 +22,7 @@ pub applied-none : (orders : Orders) (base : State) (all rest : List Entry) (now
 applied-none orders base all rest now settled first whole empty fits =
     let begin : IsApplied orders base all all base [] = record {
       size = refl;
+      dues = refl;
       fits = fits;
       state = refl;
       settled_all = refl;
@@ -34,6 +38,7 @@ applied-more orders base all rest left entry now next settled parts more so_far 
     let own_parts : List Settled = numbered entry.seq 1 (parts_of (orders entry) entry now) in
     let exact : IsApplied orders base all left then (settled ++ own_parts) = record {
       size = length-after orders entry now ∙ here.size;
+      dues = dues-after (orders entry) entry now ∙ here.dues;
       fits = here.fits.1;
       state = here.state;
       settled_all = append_assoc settled own_parts (settled_by orders left then) ∙ here.settled_all;
@@ -42,8 +47,6 @@ applied-more orders base all rest left entry now next settled parts more so_far 
     (subst (λ (x : List Settled). IsApplied orders base all left then x) (sym (joined ∙ ap (λ x. settled ++ x) own)) exact)
 
 -- the orders over the rows after an entry are those over the rows before it
-pub orders-after : (cells : ℕ → ℕ → Cell) (entry : Entry) (before next : State) → next ≡ after (orders_by cells before.rows entry) entry before → orders_by cells next.rows ≡ orders_by cells before.rows
+pub orders-after : (cells : ℕ → ℕ → ℕ → Cell) (entry : Entry) (before next : State) → next ≡ after (orders_by cells before.rows entry) entry before → orders_by cells next.rows ≡ orders_by cells before.rows
 orders-after cells entry before next is =
-    let size : length next.rows ≡ length before.rows = ap (λ (s : State). length s.rows) is ∙ length-after (orders_by cells before.rows) entry before in
-    let at : ℕ → Orders = λ n e. cells n in
-    ap at size
+    orders-same cells next.rows before.rows (ap (λ (s : State). dues_of s.rows) is ∙ dues-after (orders_by cells before.rows entry) entry before)

@@ -16,3 +16,4 @@ pub mod ResumeLemmas
 pub mod RemovedLemmas
 pub mod ApplyLemmas
 pub mod RedoneLemmas
+pub mod DueLemmas

@@ -17,6 +17,7 @@ use Rattle.mf_account.specs.Loan.{Loan, AreEntries, IsSound, cells_of, orders_of
 use Rattle.mf_account.specs.Change.{Changed, AreThose, HasOtherRow, HasOtherParts, IsChange}
 use Rattle.mf_account.specs.Rewind.{IsRedone, state_before, settled_upto}
 use Rattle.mf_account.proofs.SoundLemmas.{applicable-sound}
+use Rattle.mf_account.proofs.DueLemmas.{dues-after_all, orders-same}
 use Rattle.mf_account.proofs.TailLemmas.{after_all-append, settled_by-append, applicable-append, among-index, at-among}
 use Rattle.mf_account.proofs.ChangeLemmas.{change-is, those-tails}
 use Rattle.mf_account.proofs.RemovedLemmas.{standing-removed}
@@ -88,7 +89,9 @@ standing-without-it n day entries order at k are are_marked there is within here
 
 -- the orders of a loan are those over its rows at any place
 orders-before : (old : Loan) (k : ℕ) → orders_by (cells_of old) (state_before old k).rows ≡ orders_of old
-orders-before old k = refl
+orders-before old k =
+    orders-same (cells_of old) (state_before old k).rows (first_state (schedule_of old)).rows
+    (dues-after_all (orders_of old) (take k (standing old.entries)) (first_state (schedule_of old)))
 
 pub fits-redone : (old : Loan) (es back applied : List Entry) (k : ℕ) (book : State) → IsSound (record old { entries = es }) → standing es ≡ take k (standing old.entries) ++ back → book ≡ state_before old k → applied ≡ back → AreApplicable (orders_by (cells_of old) book.rows) applied book
 fits-redone old es back applied k book sound stands book_is applied_is =

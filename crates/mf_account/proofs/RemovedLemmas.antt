@@ -1,7 +1,6 @@
 -- The standing entries once one of them is reversed: the others.
-use Rattle.std.proofs.Common.{◌≡◌, ◌≢◌, ℕ, zero, suc, ◌+◌, ◌<◌, ◌⊎◌, true, false, true≢false, List, [], ◌∷◌, length, inl, inr, arith, refl, ◌∙◌, ap, sym, subst, set}
+use Rattle.std.proofs.Common.{◌≡◌, ◌≢◌, ℕ, zero, suc, ◌<◌, true, true≢false, List, [], ◌∷◌, length, inl, inr, arith, ◌∙◌, ap, sym, subst, set}
 use Rattle.std.specs.Prelude.{remove}
-use Rattle.std.proofs.lemmas.Bool.{cases_eq}
 use Rattle.std.proofs.lemmas.List.{length-set, get_or-set_same, get_or-set_other}
 use Rattle.mf_account.specs.declared.entry.Entry.{Entry}
 use Rattle.mf_account.specs.Standing.{is_before, standing, no_entry, entry_at, with_mark}

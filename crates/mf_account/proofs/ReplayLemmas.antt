@@ -1,15 +1,12 @@
 -- A replay so far.
-use Rattle.std.proofs.Common.{◌≡◌, ℕ, suc, ◌+◌, ◌<◌, List, [], ◌∷◌, ◌++◌, length, get_or, drop, refl, ◌∙◌, ap, sym, subst, append_assoc, add-one, drop-cons}
-use Rattle.std.proofs.lemmas.List.{length-map, get_or_default}
-use Rattle.mf_schedule.specs.declared.instalment.Instalment.{Instalment}
+use Rattle.std.proofs.Common.{◌≡◌, ℕ, suc, ◌+◌, ◌<◌, List, ◌∷◌, length, get_or, drop, ◌∙◌, ap, sym, add-one, drop-cons}
+use Rattle.std.proofs.lemmas.List.{get_or_default}
 use Rattle.mf_account.specs.declared.entry.Entry.{Entry}
-use Rattle.mf_account.specs.declared.settled.Settled.{Settled}
 use Rattle.mf_account.specs.Effect.{State, after, parts_of}
 use Rattle.mf_account.specs.AtOnce.{rows_charged}
 use Rattle.mf_account.proofs.OnceLemmas.{rows-after}
-use Rattle.mf_account.specs.Account.{Orders, after_all, settled_by, first_state, numbered, row_of}
+use Rattle.mf_account.specs.Account.{Orders}
 use Rattle.mf_account.specs.Standing.{entries_at, no_entry}
-use Rattle.mf_account.specs.Applicable.{AreApplicable}
 use Rattle.mf_account.proofs.EffectLemmas.{length-with_settled, length-with_charge}
 
 pub length-after : (orders : Orders) (entry : Entry) (now : State) → length (after (orders entry) entry now).rows ≡ length now.rows

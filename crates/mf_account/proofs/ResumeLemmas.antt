@@ -1,6 +1,5 @@
 -- What is overpaid and refunded, from the rows and the entries alone.
-use Rattle.std.proofs.Common.{◌≡◌, ◌≢◌, ℕ, ◌+◌, ◌-◌, ◌*◌, ◌^◌, ◌<◌, ◌≤◌, List, [], ◌∷◌, ◌++◌, length, get_or, map, take, drop, inl, inr, arith, refl, ◌∙◌, ap, sym, subst}
-use Rattle.std.specs.Prelude.{sum_by}
+use Rattle.std.proofs.Common.{◌≡◌, ℕ, ◌+◌, ◌-◌, ◌^◌, ◌<◌, ◌≤◌, List, [], ◌∷◌, ◌++◌, length, get_or, take, drop, inl, inr, arith, refl, ◌∙◌, ap, sym, subst}
 use Rattle.std.proofs.lemmas.Bool.{cases_lt}
 use Rattle.std.proofs.lemmas.List.{length-map, take-map, take_more, drop_more, drop_all}
 use Rattle.std.proofs.lemmas.List.Sums.{sum_by-append, sum_by-take-le}
@@ -12,7 +11,7 @@ use Rattle.mf_account.specs.Effect.{State, after}
 use Rattle.mf_account.specs.Account.{after_all, first_state, sum_at}
 use Rattle.mf_account.specs.Standing.{standing, no_entry, entry_at, entries_at}
 use Rattle.mf_account.specs.Loan.{Loan, IsSound, schedule_of, orders_of, state_of_loan}
-use Rattle.mf_account.specs.Rewind.{state_before, tail_of}
+use Rattle.mf_account.specs.Rewind.{state_before}
 use Rattle.mf_account.proofs.GoodLemmas.{amounts}
 use Rattle.mf_account.proofs.SoundLemmas.{good-sound, standing-amounts}
 use Rattle.mf_account.proofs.OnceLemmas.{money-after}

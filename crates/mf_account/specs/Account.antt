@@ -1,10 +1,11 @@
 -- An account: the effects of the standing entries in order, from the fresh schedule with nothing paid.
-use Rattle.std.specs.Prelude.{ℕ, ◌+◌, ◌==◌, nat_lt, ◌&&◌, not, if◌then◌else◌, List, [], ◌∷◌, ◌++◌, length, map, filter, sum_by, slice_index}
+use Rattle.std.specs.Prelude.{ℕ, ◌+◌, ◌==◌, nat_lt, ◌&&◌, not, if◌then◌else◌, List, [], ◌∷◌, ◌++◌, map, filter, sum_by, slice_index}
 use Rattle.std.specs.List.{list_any}
 use Rattle.mf_schedule.specs.declared.instalment.Instalment.{Instalment}
 use Rattle.mf_alloc.specs.declared.row.Cell.{Cell}
 use Rattle.mf_alloc.specs.declared.row.Share.{Share}
 use Rattle.mf_alloc.specs.Sums.{Sums, is_open, fresh_row}
+use Rattle.mf_alloc.specs.Order.{order_at}
 use Rattle.mf_account.specs.declared.entry.Entry.{Entry}
 use Rattle.mf_account.specs.declared.settled.Settled.{Settled}
 use Rattle.mf_account.specs.Kinds.{is_write_off}
@@ -15,9 +16,9 @@ use Rattle.mf_account.specs.Standing.{standing}
 abbrev pub Orders : Type 0
 Orders = Entry → ℕ → Cell
 
--- an order of cells by the number of instalments, over rows
-abbrev pub orders_by : (ℕ → ℕ → Cell) → List Sums → Orders
-orders_by cells rows entry = cells (length rows)
+-- the order of cells of rows at an entry: that at its day
+abbrev pub orders_by : (ℕ → ℕ → ℕ → Cell) → List Sums → Orders
+orders_by cells rows entry = order_at cells rows entry.day
 
 -- the state after entries in order
 abbrev pub after_all : Orders → List Entry → State → State

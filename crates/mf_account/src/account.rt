@@ -16,9 +16,7 @@ use crate::entry::Entry;
 use crate::refusal::{
     admits, is_forbidden, is_out_of_limits, is_out_of_order, is_sealed, reversal, status,
 };
-use crate::replay::{
-    apply_all, apply_with, mark_in, place_in, position, replayed, standing_order,
-};
+use crate::replay::{apply_all, apply_with, mark_in, place_in, position, replayed, standing_order};
 use crate::resume::resumed_book;
 use crate::rewind::rewind_to;
 use crate::settled::{Book, Settled, put_behind};

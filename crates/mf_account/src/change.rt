@@ -53,11 +53,7 @@ fn has_other_row(before: &[Row], after: &[Row], instalment: u32) -> bool
 }
 
 /// The instalments whose rows differ.
-pub(crate) fn changed_rows(
-    alloc: Global,
-    before: &[Row],
-    after: &[Row],
-) -> Result<Vec<u32>, Fault>
+pub(crate) fn changed_rows(alloc: Global, before: &[Row], after: &[Row]) -> Result<Vec<u32>, Fault>
     requires few { length before.now ≤ 360 }
     requires size { length after.now ≡ length before.now }
     ensures rows { IfOk result (λ rows. AreThose (length before.now) (HasOtherRow before.now after.now) rows.items) }

@@ -55,11 +55,7 @@ fn ends_in_refund(entries: &[Entry], order: &[usize]) -> bool
 
 /// The book of a loan whose rows are known: what its repayments bring beyond what is paid is overpaid, or refunded
 /// where a refund stands, which is then the last.
-pub(crate) fn resumed_book(
-    alloc: Global,
-    entries: &[Entry],
-    rows: Vec<Row>,
-) -> Result<Book, Fault>
+pub(crate) fn resumed_book(alloc: Global, entries: &[Entry], rows: Vec<Row>) -> Result<Book, Fault>
     requires { (loan : Loan) × IsSound loan × (entries.now ≡ loan.entries) × (rows.items ≡ (state_of_loan loan).rows) }
     ensures book { (loan : Loan) → IsSound loan → entries.now ≡ loan.entries → rows.items ≡ (state_of_loan loan).rows → IfOk result (λ book. book ≡ state_of_loan loan) }
     ensures only { IsOkUnless result Fault.F20 }

@@ -1,4 +1,4 @@
-use Rattle.std.proofs.Common.{◌≡◌, ◌+◌, ◌++◌, ◌∷◌, [], ◌∙◌, ap, sym, subst, true≢false, ℕ, List, Vec, Global}
+use Rattle.std.proofs.Common.{◌≡◌, ◌+◌, ◌++◌, ◌∷◌, [], ◌∙◌, ap, sym, subst, true≢false, ℕ, Vec, Global}
 use Rattle.mf_account.specs.Change.{AreThose, HasOtherParts}
 use Rattle.mf_account.proofs.ChangeLemmas.{those-more, those-same}
 use Rattle.mf_account.proofs.change.changed_seqs.Goals as goal

@@ -1,4 +1,4 @@
-use Rattle.std.proofs.Common.{length, drop}
+use Rattle.std.proofs.Common.{drop}
 use Rattle.mf_account.specs.Account.{Orders, orders_by}
 use Rattle.mf_account.specs.Standing.{entries_at}
 use Rattle.mf_account.proofs.ApplyLemmas.{IsApplied}

@@ -1,7 +1,7 @@
-use Rattle.std.proofs.Common.{◌≡◌, ℕ, ◌≤◌, ◌∷◌, ◌++◌, List, length, arith, ◌∙◌, ap, sym, subst}
+use Rattle.std.proofs.Common.{◌≡◌, ◌++◌, List, length, arith, ◌∙◌, ap, sym, subst}
 use Rattle.mf_account.specs.declared.entry.Entry.{Entry}
 use Rattle.mf_account.specs.declared.settled.Settled.{Settled}
-use Rattle.mf_account.specs.Effect.{State, after, parts_of}
+use Rattle.mf_account.specs.Effect.{State, parts_of}
 use Rattle.mf_account.specs.Account.{Orders, orders_by, after_all, settled_by, numbered}
 use Rattle.mf_account.specs.Standing.{entries_at}
 use Rattle.mf_account.specs.Applicable.{AreApplicable}

@@ -1,4 +1,4 @@
-use Rattle.std.proofs.Common.{arith, get_or}
+use Rattle.std.proofs.Common.{arith}
 use Rattle.mf_account.proofs.ResumeLemmas.{brought-step}
 use Rattle.mf_account.proofs.resume.money_brought.Goals as goal
 

@@ -1,12 +1,10 @@
-use Rattle.std.proofs.Common.{◌≡◌, ◌∙◌, ap, sym, subst, arith, ℕ, List, true≢false, length}
-use Rattle.mf_alloc.specs.Sums.{Sums}
-use Rattle.mf_account.specs.declared.entry.Entry.{Entry}
+use Rattle.std.proofs.Common.{◌≡◌, ◌∙◌, ap, sym, subst, arith, ℕ, true≢false}
 use Rattle.mf_account.specs.Effect.{State}
 use Rattle.mf_account.specs.Balance.{HasRoom}
 use Rattle.mf_account.specs.Standing.{standing, entries_at}
 use Rattle.mf_account.specs.Loan.{Loan, state_of_loan}
 use Rattle.mf_account.proofs.ConserveLemmas.{brought, balances-room}
-use Rattle.mf_account.proofs.ResumeLemmas.{brought-room, held, paid_in_all, EndsInRefund, ends-in, resumed-refund, resumed-other}
+use Rattle.mf_account.proofs.ResumeLemmas.{brought-room, held, paid_in_all, ends-in, resumed-refund, resumed-other}
 use Rattle.mf_account.proofs.resume.resumed_book.Goals as goal
 use Rattle.mf_account.proofs.resume.resumed_book.Goals.{then-ends_in_refund, else-ends_in_refund}
 

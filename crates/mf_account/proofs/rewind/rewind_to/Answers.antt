@@ -1,4 +1,4 @@
-use Rattle.std.proofs.Common.{◌≡◌, ◌-◌, ◌<◌, ◌∙◌, ℕ, List, arith, length, take, drop, get_or, map, ap, sym, subst}
+use Rattle.std.proofs.Common.{◌≡◌, ◌-◌, ◌<◌, ℕ, List, arith, length, take, drop, get_or, map, ap, sym, subst}
 use Rattle.std.proofs.lemmas.List.{length-map}
 use Rattle.mf_account.specs.declared.entry.Entry.{Entry}
 use Rattle.mf_account.specs.Account.{part_of}
@@ -62,8 +62,8 @@ loop-i-preserved c =
       parts = omega (arith, c.loop-i.invariant.parts, c.own_start-start.ensures.within);
       back = λ orders places from is.
           let step = back_step_to orders places from c.args.book.now c.loop-i.book tail c.args.settled.now c.loop-i.i c.loop-i.k c.own_start-start.result c.entry_in-entry.result.now.seq
-    is (c.loop-i.invariant.back orders places from is) some (omega (arith, size, c.loop-i.invariant.entries)) c.loop-i.invariant.parts c.own_start-start.ensures.within
-    (ap (λ (x : Entry). x.seq) c.entry_in-entry.ensures) c.own_start-start.ensures.own c.own_start-start.ensures.first in
+          is (c.loop-i.invariant.back orders places from is) some (omega (arith, size, c.loop-i.invariant.entries)) c.loop-i.invariant.parts c.own_start-start.ensures.within
+          (ap (λ (x : Entry). x.seq) c.entry_in-entry.ensures) c.own_start-start.ensures.own c.own_start-start.ensures.first in
           back-after orders from c.loop-i.book c.take_back.new.book tail c.args.settled.now
           (take (c.loop-i.k - c.own_start-start.result) (drop c.own_start-start.result c.args.settled.now)) (c.loop-i.i - 1) c.loop-i.k c.own_start-start.result c.entry_in-entry.result.now
           step (sym c.entry_in-entry.ensures) c.take_back.ensures;

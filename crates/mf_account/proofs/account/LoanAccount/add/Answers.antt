@@ -1,12 +1,9 @@
-use Rattle.std.proofs.Common.{◌≡◌, ◌+◌, ◌<◌, ◌∙◌, ◌++◌, ◌∷◌, [], true, ap, sym, subst, arith, length, take, List, length-append}
-use Rattle.std.proofs.lemmas.List.{length-set}
+use Rattle.std.proofs.Common.{◌≡◌, ◌∙◌, ◌++◌, ◌∷◌, [], ap, sym, subst, arith, take, List, length-append}
 use Rattle.mf_account.specs.declared.entry.Entry.{Entry}
 use Rattle.mf_account.specs.declared.settled.Settled.{Settled}
-use Rattle.mf_account.specs.Standing.{with_mark, entry_at}
 use Rattle.mf_account.specs.Change.{Account, IsChange}
 use Rattle.mf_account.specs.Loan.{Loan, IsSound, IsKept, settled_of_loan}
 use Rattle.mf_account.specs.Rewind.{IsRedone}
-use Rattle.mf_account.proofs.SoundLemmas.{sound-reversed}
 use Rattle.mf_account.proofs.account.LoanAccount.add.Goals as goal
 
 pub invariant_of-self-2 : goal.invariant_of-self-2

@@ -1,8 +1,7 @@
-use Rattle.std.proofs.Common.{◌≡◌, ◌≤◌, ◌∙◌, ap, sym, subst, arith, length, drop, List}
-use Rattle.mf_account.specs.declared.settled.Settled.{Settled}
+use Rattle.std.proofs.Common.{◌≡◌, ◌≤◌, ◌∙◌, ap, sym, subst, arith, length}
 use Rattle.mf_account.specs.Change.{Account, IsChange}
 use Rattle.mf_account.specs.Effect.{State}
-use Rattle.mf_account.specs.Loan.{Loan, IsSound, state_of_loan, settled_of_loan}
+use Rattle.mf_account.specs.Loan.{Loan, settled_of_loan}
 use Rattle.mf_account.specs.Rewind.{IsRedone}
 use Rattle.mf_account.proofs.SoundLemmas.{good-sound}
 use Rattle.mf_account.proofs.RedoneLemmas.{change-tails, tail-from}

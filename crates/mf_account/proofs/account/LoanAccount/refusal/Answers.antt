@@ -1,11 +1,11 @@
-use Rattle.std.proofs.Common.{◌≡◌, ℕ, ◌<◌, ◌≤◌, Bool, true, false, not, leb, List, length, Option, arith, ◌∙◌, ap, sym, refl}
+use Rattle.std.proofs.Common.{◌≡◌, ℕ, true, false, not, leb, List, length, arith, ◌∙◌, ap, sym, refl}
 use Rattle.std.specs.Prelude.{is_some}
 use Rattle.std.proofs.lemmas.Bool.{le-leb, lt-leb}
 use Rattle.mf_account.specs.declared.entry.Entry.{Entry}
 use Rattle.mf_account.specs.Change.{Account}
 use Rattle.mf_account.specs.Effect.{State}
 use Rattle.mf_account.specs.Loan.{Loan, state_of_loan, status_of_loan}
-use Rattle.mf_account.specs.Refusals.{is_sealed, admits, is_out_of_order, is_forbidden, is_out_of_limits}
+use Rattle.mf_account.specs.Refusals.{is_sealed, admits, is_out_of_order, is_forbidden}
 use Rattle.mf_account.proofs.SoundLemmas.{chosen-here, chosen-later}
 use Rattle.mf_account.proofs.account.LoanAccount.refusal.Goals as goal
 

@@ -1,6 +1,6 @@
-use Rattle.std.proofs.Common.{◌≡◌, ◌∙◌, ap}
+use Rattle.std.proofs.Common.{◌∙◌, ap}
 use Rattle.mf_schedule.specs.Fresh.{fee_at_disbursement}
-use Rattle.mf_account.specs.Loan.{Loan, IsSound, schedule_of, state_of_loan}
+use Rattle.mf_account.specs.Loan.{Loan, IsSound}
 use Rattle.mf_account.proofs.account.LoanAccount.resume.Goals as goal
 
 pub resumed_book-requires : goal.resumed_book-requires
