@@ -1,5 +1,5 @@
 -- What is conserved: money that was repaid, the principal, and that overpaid and outstanding are never both above 0.
-use Rattle.std.proofs.Common.{◌≡◌, ◌≢◌, ℕ, zero, suc, ◌+◌, ◌-◌, ◌*◌, ◌^◌, ◌<◌, List, [], ◌∷◌, length, map, get_or, set, sum, inl, inr, arith, refl, ◌∙◌, ap, subst, sym}
+use Rattle.std.proofs.Common.{◌≡◌, ◌≤◌, ◌≢◌, ℕ, zero, suc, ◌+◌, ◌-◌, ◌*◌, ◌^◌, ◌<◌, List, [], ◌∷◌, length, map, get_or, set, sum, inl, inr, arith, refl, ◌∙◌, ap, subst, sym}
 use Rattle.std.specs.Prelude.{sum_by, All}
 use Rattle.std.specs.List.{range_with_len}
 use Rattle.std.proofs.lemmas.Bool.{cases_lt, cond_both}
@@ -28,11 +28,11 @@ use Rattle.mf_account.specs.declared.settled.How.TheVariants.{Paid, Waived, Writ
 use Rattle.mf_account.specs.Kinds.{money_in}
 use Rattle.mf_account.specs.Effect.{State, Part, after, settle, settle_row, owe_row, with_settled, with_charge, whole_part, is_some_part, some_parts, parts_by, parts_cleared, parts_paid, parts_of, own_effect, state_acted, own_share, later_share, paid_at}
 use Rattle.mf_account.specs.AtOnce.{paid_part, rows_charged}
-use Rattle.mf_account.specs.Account.{after_all, first_state, row_of, sum_at}
+use Rattle.mf_account.specs.Account.{Orders, after_all, first_state, row_of, sum_at}
 use Rattle.mf_account.specs.Standing.{standing}
 use Rattle.mf_account.specs.Applicable.{IsSettleable}
 use Rattle.mf_account.specs.Undo.{paid_by, paid_in}
-use Rattle.mf_account.specs.Loan.{Loan, HasColumns, IsEntry, IsSound, schedule_of, state_of_loan}
+use Rattle.mf_account.specs.Loan.{Loan, HasColumns, IsEntry, IsSound, schedule_of, orders_of, places_of, state_of_loan}
 use Rattle.mf_account.specs.Balance.{balances_of, repaid, HasRoom}
 use Rattle.mf_account.proofs.EffectLemmas.{with_settled-paid}
 use Rattle.mf_account.proofs.OnceLemmas.{rows-after, money-after, refunded-after, length-acted}
@@ -40,7 +40,7 @@ use Rattle.mf_account.proofs.UndoLemmas.{money_out-le}
 use Rattle.mf_alloc.specs.Sums.{IsRowWithin, AreWithin}
 use Rattle.mf_account.specs.Applicable.{HasInstalment}
 use Rattle.mf_account.proofs.GoodLemmas.{IsGood, IsReplayable, settleable-after, good-after, whole-with_settled, whole-with_charge}
-use Rattle.mf_account.proofs.SoundLemmas.{lawful, first-good, each-standing, All-standing, good-sound, standing-amounts}
+use Rattle.mf_account.proofs.SoundLemmas.{lawful, lawful-of, due_at, due_at-le, first-good, each-standing, All-standing, good-sound, standing-amounts}
 
 -- in each portion of rows, what is settled and what is outstanding make up what is owed
 abbrev pub column : (Sums → List ℕ) → ℕ → Sums → ℕ
@@ -128,12 +128,12 @@ held-after n used order place entry before is has good =
     let out = money_out-le entry.kind before.overpaid in
     omega (arith, rows, settled, charge, money, given, out)
 
-held-all : (n used : ℕ) (order : ℕ → Cell) (place : Cell → ℕ) (entries : List Entry) (before : State) → IsOrder n order place → All (IsReplayable n) entries → IsGood n used before → money_held (after_all (λ _. order) entries before) ≡ money_held before + brought entries
-held-all n used order place [] before is each good = omega arith
-held-all n used order place (entry ∷ entries) before is each good =
+held-all : (n used : ℕ) (orders : Orders) (places : Entry → Cell → ℕ) (entries : List Entry) (before : State) → ((e : Entry) → IsOrder n (orders e) (places e)) → All (IsReplayable n) entries → IsGood n used before → money_held (after_all orders entries before) ≡ money_held before + brought entries
+held-all n used orders places [] before is each good = omega arith
+held-all n used orders places (entry ∷ entries) before is each good =
     let one : IsReplayable n entry = All-head (IsReplayable n) entry entries each in
-    let own = held-after n used order place entry before is one.there good in
-    let rest = held-all n (used + entry.amount) order place entries (after order entry before) is (All-tail (IsReplayable n) entry entries each) (good-after n used order place entry before is one.there good) in
+    let own = held-after n used (orders entry) (places entry) entry before (is entry) one.there good in
+    let rest = held-all n (used + entry.amount) orders places entries (after (orders entry) entry before) is (All-tail (IsReplayable n) entry entries each) (good-after n used (orders entry) (places entry) entry before (is entry) one.there good) in
     let all = sum_by-append (λ (e : Entry). money_in e.kind e.amount) (entry ∷ []) entries in
     omega (arith, own, rest, all)
 
@@ -144,8 +144,8 @@ paid-first (i ∷ schedule) = let rest = paid-first schedule in let all = sum_by
 -- what is repaid is paid, overpaid or refunded
 pub held-sound : (loan : Loan) → IsSound loan → money_held (state_of_loan loan) ≡ brought (standing loan.entries)
 held-sound loan sound =
-    let all = held-all loan.periods (2 ^ 54) (cell_by loan.terms.strategy) (place_by loan.terms.strategy) (standing loan.entries) (first_state (schedule_of loan))
-    (lawful loan.terms.strategy loan.periods) (each-standing loan sound) (first-good loan sound) in
+    let all = held-all loan.periods (2 ^ 54) (orders_of loan) (places_of loan) (standing loan.entries) (first_state (schedule_of loan))
+    (lawful-of loan) (each-standing loan sound) (first-good loan sound) in
     let none = paid-first (schedule_of loan) in
     omega (arith, all, none)
 
@@ -266,11 +266,11 @@ principal-after principal n order entry before has is =
 abbrev HasOwnColumns : ℕ → Entry → Type 0
 HasOwnColumns n e = HasColumns e.kind n e
 
-principal-all : (principal n : ℕ) (order : ℕ → Cell) (entries : List Entry) (before : State) → All (IsEntry n 0) entries → HasPrincipal principal before → HasPrincipal principal (after_all (λ _. order) entries before)
-principal-all principal n order [] before each is = is
-principal-all principal n order (entry ∷ entries) before each is =
-    principal-all principal n order entries (after order entry before) (All-tail (IsEntry n 0) entry entries each)
-    (principal-after principal n order entry before (All-head (IsEntry n 0) entry entries each).columns is)
+principal-all : (principal n : ℕ) (orders : Orders) (entries : List Entry) (before : State) → All (IsEntry n 0) entries → HasPrincipal principal before → HasPrincipal principal (after_all orders entries before)
+principal-all principal n orders [] before each is = is
+principal-all principal n orders (entry ∷ entries) before each is =
+    principal-all principal n orders entries (after (orders entry) entry before) (All-tail (IsEntry n 0) entry entries each)
+    (principal-after principal n (orders entry) entry before (All-head (IsEntry n 0) entry entries each).columns is)
 
 principal-first : (schedule : List Instalment) → HasPrincipal (total_principal schedule) (first_state schedule)
 principal-first schedule = record { owed = owed schedule; waived = waived schedule } where
@@ -291,7 +291,7 @@ pub principal-sound : (loan : Loan) → IsSound loan → HasPrincipal loan.princ
 principal-sound loan sound =
     let first : HasPrincipal loan.principal (first_state (schedule_of loan)) =
     subst (λ (x : ℕ). HasPrincipal x (first_state (schedule_of loan))) (scheduled-principal-sum loan.terms loan.principal loan.periods loan.day sound.limits) (principal-first (schedule_of loan)) in
-    principal-all loan.principal loan.periods (cell_by loan.terms.strategy) (standing loan.entries) (first_state (schedule_of loan))
+    principal-all loan.principal loan.periods (orders_of loan) (standing loan.entries) (first_state (schedule_of loan))
     (All-standing (IsEntry loan.periods 0) loan.entries (λ k d within. let own : IsEntry loan.periods loan.day (get_or loan.entries k d) = sound.entries.each k d within in record { from = omega arith; columns = own.columns }))
     first
 
@@ -316,32 +316,34 @@ portion-at (suc (suc zero)) small = refl
 portion-at (suc (suc (suc zero))) small = refl
 portion-at (suc (suc (suc (suc p)))) small = absurd (omega arith)
 
-closed-after : (n used : ℕ) (name : StrategyName) (entry : Entry) (before : State) → IsGood n used before → IsClosed (after (cell_by name) entry before)
-closed-after n used name entry before good some i p within small =
-    let order : ℕ → Cell = cell_by name in
+closed-after : (n used : ℕ) (name : StrategyName) (due : ℕ) (entry : Entry) (before : State) → due ≤ n → IsGood n used before → IsClosed (after (cell_by name due) entry before)
+closed-after n used name due entry before few good some i p within small =
+    let order : ℕ → Cell = cell_by name due in
+    let place : Cell → ℕ = place_by name due in
     let acted : State = state_acted order entry before in
     let size : length acted.rows ≡ n = length-acted entry.kind order entry before ∙ good.size in
-    let line : IsLine n order (place_by name) acted.rows = record { size = size; is = lawful name n; whole = whole-acted entry.kind order entry before good.whole } in
+    let line : IsLine n order place acted.rows = record { size = size; is = lawful name n due few; whole = whole-acted entry.kind order entry before good.whole } in
     let cell : Cell = record { instalment = i + 1; portion = standard p } in
     let length_after : length (rows_paid order acted.rows acted.overpaid) ≡ length acted.rows = length-rows_paid order acted.rows acted.overpaid in
     let there : IsCell n cell = record { first = omega arith; last = omega (arith, within, length_after, size) } in
-    let none = outstanding-none n order (place_by name) acted.rows acted.overpaid (place_by name cell) line (in_range-place_by name n cell there) some in
-    let at : outstanding (after order entry before).rows cell ≡ 0 = ap (outstanding (after order entry before).rows) (sym (forth-place_by name n cell there)) ∙ none in
+    let none = outstanding-none n order place acted.rows acted.overpaid (place cell) line (in_range-place_by name n due cell few there) some in
+    let at : outstanding (after order entry before).rows cell ≡ 0 = ap (outstanding (after order entry before).rows) (sym (forth-place_by name n due cell there)) ∙ none in
     let row : i + 1 - 1 ≡ i = omega arith in
     ap (λ x. open_at (get_or (after order entry before).rows x no_row) p) (sym row)
     ∙ ap (λ x. open_at (get_or (after order entry before).rows (i + 1 - 1) no_row) x) (sym (portion-at p small))
     ∙ at
 
-closed-all : (n used : ℕ) (name : StrategyName) (entries : List Entry) (before : State) → All (IsReplayable n) entries → IsGood n used before → IsClosed before → IsClosed (after_all (λ _. cell_by name) entries before)
-closed-all n used name [] before each good closed = closed
-closed-all n used name (entry ∷ entries) before each good closed =
+closed-all : (n used : ℕ) (name : StrategyName) (dues : Entry → ℕ) (entries : List Entry) (before : State) → ((e : Entry) → dues e ≤ n) → All (IsReplayable n) entries → IsGood n used before → IsClosed before → IsClosed (after_all (λ e. cell_by name (dues e)) entries before)
+closed-all n used name dues [] before few each good closed = closed
+closed-all n used name dues (entry ∷ entries) before few each good closed =
     let one : IsReplayable n entry = All-head (IsReplayable n) entry entries each in
-    closed-all n (used + entry.amount) name entries (after (cell_by name) entry before) (All-tail (IsReplayable n) entry entries each)
-    (good-after n used (cell_by name) (place_by name) entry before (lawful name n) one.there good) (closed-after n used name entry before good)
+    let due : ℕ = dues entry in
+    closed-all n (used + entry.amount) name dues entries (after (cell_by name due) entry before) few (All-tail (IsReplayable n) entry entries each)
+    (good-after n used (cell_by name due) (place_by name due) entry before (lawful name n due (few entry)) one.there good) (closed-after n used name due entry before (few entry) good)
 
 pub closed-sound : (loan : Loan) → IsSound loan → IsClosed (state_of_loan loan)
 closed-sound loan sound =
-    closed-all loan.periods (2 ^ 54) loan.terms.strategy (standing loan.entries) (first_state (schedule_of loan)) (each-standing loan sound) (first-good loan sound)
+    closed-all loan.periods (2 ^ 54) loan.terms.strategy (due_at loan) (standing loan.entries) (first_state (schedule_of loan)) (due_at-le loan) (each-standing loan sound) (first-good loan sound)
     (λ some. absurd (omega (arith, some)))
 
 -- so what is outstanding adds up to nothing

@@ -20,7 +20,7 @@ use Rattle.mf_account.specs.declared.settled.How.TheVariants.{Paid, Waived, Writ
 use Rattle.mf_account.specs.Kinds.{money_in}
 use Rattle.mf_account.specs.Effect.{State, Part, after, settle, settle_row, owe_row, with_settled, with_charge, parts_cleared, parts_of}
 use Rattle.mf_account.specs.AtOnce.{paid_part, rows_charged, rows_cleared, money_to_pay, shares_at_once}
-use Rattle.mf_account.specs.Account.{after_all}
+use Rattle.mf_account.specs.Account.{Orders, after_all}
 use Rattle.mf_account.specs.Applicable.{HasInstalment, HasRow, HasCell, AreApplicable, IsSettleable}
 use Rattle.mf_account.proofs.EffectLemmas.{cleared_settleable, length-with_charge, length-with_settled}
 use Rattle.mf_account.proofs.OnceLemmas.{rows-after, parts-once, money-after, refunded-after}
@@ -267,31 +267,31 @@ amounts-cons : (entry : Entry) (entries : List Entry) → amounts (entry ∷ ent
 amounts-cons entry entries = let all = sum_by-append (λ (e : Entry). e.amount) (entry ∷ []) entries in omega (arith, all)
 
 -- so every entry can be applied in its turn
-pub applicable-all : (n used : ℕ) (order : ℕ → Cell) (place : Cell → ℕ) (entries : List Entry) (before : State) → IsOrder n order place → All (IsReplayable n) entries → IsGood n used before → used + amounts entries < 2 ^ 63 → AreApplicable (λ _. order) entries before
-applicable-all n used order place [] before is each good room = tt
-applicable-all n used order place (entry ∷ entries) before is each good room =
+pub applicable-all : (n used : ℕ) (orders : Orders) (places : Entry → Cell → ℕ) (entries : List Entry) (before : State) → ((e : Entry) → IsOrder n (orders e) (places e)) → All (IsReplayable n) entries → IsGood n used before → used + amounts entries < 2 ^ 63 → AreApplicable orders entries before
+applicable-all n used orders places [] before is each good room = tt
+applicable-all n used orders places (entry ∷ entries) before is each good room =
     let sum = amounts-cons entry entries in
     let one : IsReplayable n entry = All-head (IsReplayable n) entry entries each in
     let here : used + entry.amount < 2 ^ 63 = omega (arith, sum, room) in
-    let next : IsGood n (used + entry.amount) (after order entry before) = good-after n used order place entry before is one.there good in (
+    let next : IsGood n (used + entry.amount) (after (orders entry) entry before) = good-after n used (orders entry) (places entry) entry before (is entry) one.there good in (
       record {
         row = has_row entry.kind n used entry before one.there good here;
         money = omega (arith, good.money, here);
         refund = omega (arith, good.money, here);
         whole = good.whole;
       },
-      applicable-all n (used + entry.amount) order place entries (after order entry before) is (All-tail (IsReplayable n) entry entries each) next (omega (arith, sum, room)),
+      applicable-all n (used + entry.amount) orders places entries (after (orders entry) entry before) is (All-tail (IsReplayable n) entry entries each) next (omega (arith, sum, room)),
     )
 
-pub good-all : (n used : ℕ) (order : ℕ → Cell) (place : Cell → ℕ) (entries : List Entry) (before : State) → IsOrder n order place → All (IsReplayable n) entries → IsGood n used before → IsGood n (used + amounts entries) (after_all (λ _. order) entries before)
-good-all n used order place [] before is each good = subst (λ (x : ℕ). IsGood n x before) (omega arith) good
-good-all n used order place (entry ∷ entries) before is each good =
+pub good-all : (n used : ℕ) (orders : Orders) (places : Entry → Cell → ℕ) (entries : List Entry) (before : State) → ((e : Entry) → IsOrder n (orders e) (places e)) → All (IsReplayable n) entries → IsGood n used before → IsGood n (used + amounts entries) (after_all orders entries before)
+good-all n used orders places [] before is each good = subst (λ (x : ℕ). IsGood n x before) (omega arith) good
+good-all n used orders places (entry ∷ entries) before is each good =
     let sum = amounts-cons entry entries in
     let one : IsReplayable n entry = All-head (IsReplayable n) entry entries each in
-    let next : IsGood n (used + entry.amount) (after order entry before) = good-after n used order place entry before is one.there good in
+    let next : IsGood n (used + entry.amount) (after (orders entry) entry before) = good-after n used (orders entry) (places entry) entry before (is entry) one.there good in
     let room : used + entry.amount + amounts entries ≡ used + amounts (entry ∷ entries) = omega (arith, sum) in
-    subst (λ (x : ℕ). IsGood n x (after_all (λ _. order) (entry ∷ entries) before)) room
-    (good-all n (used + entry.amount) order place entries (after order entry before) is (All-tail (IsReplayable n) entry entries each) next)
+    subst (λ (x : ℕ). IsGood n x (after_all orders (entry ∷ entries) before)) room
+    (good-all n (used + entry.amount) orders places entries (after (orders entry) entry before) is (All-tail (IsReplayable n) entry entries each) next)
 
 -- the rows of a state are such as a book can hold
 pub record IsStill (n : ℕ) (state : State) : Type 0 where

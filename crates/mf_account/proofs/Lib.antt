@@ -10,3 +10,10 @@ pub mod InOrder
 pub mod WorkedRows
 pub mod ReplayLemmas
 pub mod RewindLemmas
+pub mod ChangeLemmas
+pub mod TailLemmas
+pub mod ResumeLemmas
+pub mod RemovedLemmas
+pub mod ApplyLemmas
+pub mod RedoneLemmas
+pub mod DueLemmas

@@ -21,13 +21,18 @@ use Rattle.mf_account.specs.Account.{Orders, after_all, settled_by, numbered, pa
 use Rattle.mf_account.specs.Undo.{unowe_row, before_entry, paid_in, without_charge, without_settled}
 use Rattle.mf_account.specs.Standing.{no_entry, entry_at}
 use Rattle.mf_account.specs.Applicable.{no_settled, HasCharge, AreInRows}
-use Rattle.mf_account.specs.Rewind.{IsRewindable}
+use Rattle.mf_account.specs.Rewind.{IsRewindable, IsBack}
 use Rattle.mf_alloc.specs.Sums.{Sums, IsRowWithin, AreWithin}
 use Rattle.mf_alloc.specs.Rows.{changed, no_row}
 use Rattle.std.proofs.lemmas.List.{length-set, get_or-set_same}
 use Rattle.mf_account.specs.Applicable.{HasInstalment}
 use Rattle.mf_account.proofs.EffectLemmas.{part_of-numbered}
-use Rattle.mf_account.proofs.GoodLemmas.{IsStill, still-after}
+use Rattle.mf_account.specs.AtOnce.{rows_charged}
+use Rattle.mf_account.specs.Effect.{settle}
+use Rattle.mf_account.specs.Applicable.{IsSettleable}
+use Rattle.mf_alloc.proofs.LeftOpen.{IsLine}
+use Rattle.mf_account.proofs.EffectLemmas.{length-with_settled, length-with_charge}
+use Rattle.mf_account.proofs.GoodLemmas.{IsStill, still-after, settleable-after}
 use Rattle.mf_account.proofs.UndoLemmas.{before_entry-after, no_refund, money_out-le}
 use Rattle.mf_account.proofs.OnceLemmas.{money-after, refunded-after}
 use Rattle.mf_account.proofs.ReplayLemmas.{length-after}
@@ -60,7 +65,7 @@ numbers-apart orders q (entry ∷ entries) from apart =
     (numbers-apart orders q entries (after (orders entry) entry from) (λ j below. apart (suc j) (omega arith)))
 
 -- nothing is refunded before the last
-none-refunded : (orders : Orders) (entries : List Entry) (from : State) → from.refunded ≡ 0 → ((j : ℕ) → j < length entries → (entry_at entries j).kind ≢ Refund) → (after_all orders entries from).refunded ≡ 0
+pub none-refunded : (orders : Orders) (entries : List Entry) (from : State) → from.refunded ≡ 0 → ((j : ℕ) → j < length entries → (entry_at entries j).kind ≢ Refund) → (after_all orders entries from).refunded ≡ 0
 none-refunded orders [] from none other = none
 none-refunded orders (entry ∷ entries) from none other =
     let out = no_refund entry.kind from.overpaid (other 0 (omega arith)) in
@@ -93,7 +98,7 @@ overpaid-after : (order : ℕ → Cell) (entry : Entry) (before : State) → (af
 overpaid-after order entry before =
     let money = money-after order entry before in omega (arith, money)
 
-money_in-le : (kind : Kind) (amount : ℕ) → money_in kind amount ≤ amount
+pub money_in-le : (kind : Kind) (amount : ℕ) → money_in kind amount ≤ amount
 money_in-le Repay amount = omega arith
 money_in-le Fee amount = omega arith
 money_in-le Penalty amount = omega arith
@@ -124,10 +129,36 @@ still-all n orders places (entry ∷ entries) from lawful there still =
     still-all n orders places entries (after (orders entry) entry from) lawful (λ j less. there (suc j) (omega arith))
     (still-after n (orders entry) (places entry) entry from (lawful entry) (there 0 (omega arith)) still)
 
--- how far a rewinding has come: i entries and k parts are left
-pub record IsBack (orders : Orders) (from : State) (tail : List Entry) (settled : List Settled) (i k : ℕ) (now : State) : Type 0 where
-  pub state : now ≡ after_all orders (take i tail) from
-  pub settled_so_far : take k settled ≡ settled_by orders (take i tail) from
+-- each part of entries in order is in a cell
+cells-numbered : (n : ℕ) (rows : List Sums) (seq place : ℕ) (parts : List Part) → IsSettleable rows parts → length rows ≡ n → AreInRows n (numbered seq place parts)
+cells-numbered n rows seq place [] fits size = All-nil (λ (s : Settled). IsCell n s.cell)
+cells-numbered n rows seq place (part ∷ parts) fits size =
+    All-cons (λ (s : Settled). IsCell n s.cell) (record { seq = seq; place = place; cell = part.cell; how = part.how; amount = part.amount }) (numbered seq (place + 1) parts)
+    (subst (λ (x : ℕ). IsCell x part.cell) size fits.0)
+    (cells-numbered n (settle rows part) seq (place + 1) parts fits.2 (length-with_settled rows (part ∷ []) ∙ size))
+
+cells-settled_by : (n : ℕ) (orders : Orders) (places : Entry → Cell → ℕ) (entries : List Entry) (from : State) → ((e : Entry) → IsOrder n (orders e) (places e)) → ((j : ℕ) → j < length entries → HasInstalment (entry_at entries j).kind (entry_at entries j) n) → IsStill n from → AreInRows n (settled_by orders entries from)
+cells-settled_by n orders places [] from lawful there still = All-nil (λ (s : Settled). IsCell n s.cell)
+cells-settled_by n orders places (entry ∷ entries) from lawful there still =
+    let line : IsLine n (orders entry) (places entry) from.rows = record { size = still.size; is = lawful entry; whole = still.whole } in
+    All-append (λ (s : Settled). IsCell n s.cell) (numbered entry.seq 1 (parts_of (orders entry) entry from)) (settled_by orders entries (after (orders entry) entry from))
+    (cells-numbered n (rows_charged entry from) entry.seq 1 (parts_of (orders entry) entry from)
+    (settleable-after n (orders entry) (places entry) entry from line (there 0 (omega arith))) (length-with_charge entry.kind entry from.rows ∙ still.size))
+    (cells-settled_by n orders places entries (after (orders entry) entry from) lawful (λ j less. there (suc j) (omega arith))
+    (still-after n (orders entry) (places entry) entry from (lawful entry) (there 0 (omega arith)) still))
+
+pub rewindable-cells : (orders : Orders) (places : Entry → Cell → ℕ) (from : State) (tail : List Entry) (settled : List Settled) (now : State) → IsRewindable orders places from tail settled now → AreInRows (length from.rows) settled
+rewindable-cells orders places from tail settled now is =
+    subst (AreInRows (length from.rows)) (sym is.settled_is)
+    (cells-settled_by (length from.rows) orders places tail from is.lawful is.instalments (record { size = refl; whole = is.whole; within = is.within }))
+
+pub has_charge : (kind : Kind) (entry : Entry) (n : ℕ) → HasInstalment kind entry n → HasCharge kind entry n
+has_charge Fee entry n has = has
+has_charge Penalty entry n has = has
+has_charge Repay entry n has = tt
+has_charge Waive entry n has = tt
+has_charge WriteOff entry n has = tt
+has_charge Refund entry n has = tt
 
 below-money : (n m : ℕ) → n ≤ m → m < 2 ^ 62 → n < 2 ^ 63
 below-money n m le lt = omega arith
@@ -199,6 +230,17 @@ back_step orders places from first now tail settled left k start e is back some 
     let at : left ≡ i + 1 = omega arith in
     let entry : entry_at tail i ≡ e = read_entry tail i e (omega arith) read in
     let seq : (get_or tail i e).seq ≡ (entry_at tail i).seq = ap (λ (x : Entry). x.seq) (sym read ∙ sym entry) in
+    let here : IsBack orders from tail settled (i + 1) k now = subst (λ (n : ℕ). IsBack orders from tail settled n k now) at back in
+    step_back orders places from first now tail settled (take (k - start) (drop start settled)) i k start is here (omega arith) fits below
+    (λ j from_start less. run j from_start less ∙ seq)
+    (λ more e2. before_run more (e2 ∙ sym seq))
+    (let whole : start + (k - start) ≡ k = omega arith in sym (drop-take start (k - start) settled) ∙ ap (λ n. drop start (take n settled)) whole)
+
+-- the same with the number that the loop reads
+pub back_step_to : (orders : Orders) (places : Entry → Cell → ℕ) (from first now : State) (tail : List Entry) (settled : List Settled) (left k start q : ℕ) → IsRewindable orders places from tail settled first → IsBack orders from tail settled left k now → 0 < left → left ≤ length tail → k ≤ length settled → start ≤ k → q ≡ (entry_at tail (left - 1)).seq → ((j : ℕ) → start ≤ j → j < k → (get_or settled j no_settled).seq ≡ q) → (0 < start → (get_or settled (start - 1) no_settled).seq ≢ q) → IsStep orders from tail settled (take (k - start) (drop start settled)) (left - 1) k start now
+back_step_to orders places from first now tail settled left k start q is back some within fits below seq run before_run =
+    let i : ℕ = left - 1 in
+    let at : left ≡ i + 1 = omega arith in
     let here : IsBack orders from tail settled (i + 1) k now = subst (λ (n : ℕ). IsBack orders from tail settled n k now) at back in
     step_back orders places from first now tail settled (take (k - start) (drop start settled)) i k start is here (omega arith) fits below
     (λ j from_start less. run j from_start less ∙ seq)

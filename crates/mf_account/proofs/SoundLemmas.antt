@@ -2,7 +2,7 @@
 use Rattle.std.proofs.Common.{◌≡◌, ◌≢◌, ℕ, zero, suc, ◌+◌, ◌-◌, ◌*◌, ◌^◌, ◌<◌, ◌≤◌, Bool, true, false, not, ◌&&◌, ◌||◌, cond, eqb, leb, ltb, true≢false, ◌==◌, List, [], ◌∷◌, ◌++◌, length, map, get_or, Option, Some, None, inl, inr, arith, refl, ◌∙◌, ap, subst, sym, length-append}
 use Rattle.std.specs.Prelude.{sum_by, All, fold, is_some}
 use Rattle.std.proofs.Math.ListN.{get_or-append}
-use Rattle.std.proofs.lemmas.Bool.{cases_lt, cases_eq, cond_both, leb-true, leb-false, ltb-false, eqb-false, eq-eqb, lt-ltb, and_parts}
+use Rattle.std.proofs.lemmas.Bool.{cases_lt, cases_eq, cond_both, cond-true, cond-false, leb-true, leb-false, ltb-false, eqb-false, eq-eqb, lt-ltb, and_parts}
 use Rattle.std.proofs.lemmas.List.{length-map, get_or-append_right, get_or-set_same, get_or-set_other, length-set}
 use Rattle.std.proofs.lemmas.List.FromFn.{length-map-range_with_len}
 use Rattle.std.proofs.lemmas.List.Folds.{list_any_at}
@@ -15,7 +15,7 @@ use Rattle.mf_schedule.specs.declared.instalment.Instalment.{Instalment}
 use Rattle.mf_schedule.specs.Fresh.{total_owed, instalment_of}
 use Rattle.mf_schedule.proofs.BoundLemmas.{scheduled_owed-le}
 use Rattle.mf_alloc.specs.Sums.{Sums, IsWhole, AreWhole, nothing}
-use Rattle.mf_alloc.specs.Order.{cell_by, place_by}
+use Rattle.mf_alloc.specs.Order.{cell_by, place_by, due_by}
 use Rattle.mf_alloc.specs.OrderLaws.{is_cell-cell_by, back-cell_by}
 use Rattle.mf_alloc.specs.OrderLaws.{IsOrder}
 use Rattle.mf_account.specs.declared.entry.Entry.{Entry}
@@ -25,14 +25,15 @@ use Rattle.mf_account.specs.Kinds.{is_seal}
 use Rattle.mf_account.specs.Account.{first_state, row_of}
 use Rattle.mf_account.specs.Standing.{is_before, placed, with_entry, standing, no_entry, entry_at, with_mark}
 use Rattle.mf_account.specs.Applicable.{AreApplicable}
-use Rattle.mf_account.specs.Loan.{Loan, HasColumns, IsEntry, SealIsLast, AreEntries, IsSound, schedule_of, orders_of, state_of_loan, status_of_loan}
+use Rattle.mf_account.specs.Loan.{Loan, HasColumns, IsEntry, SealIsLast, AreEntries, IsSound, schedule_of, orders_of, places_of, state_of_loan, status_of_loan}
 use Rattle.mf_account.specs.Refusals.{is_standing_seal, is_sealed, admits, is_out_of_order, is_there, is_forbidden, is_out_of_limits, refusal_of, HasForm, IsOffered}
 use Rattle.mf_alloc.specs.Sums.{IsRowWithin, AreWithin}
 use Rattle.mf_account.specs.Applicable.{HasInstalment}
+use Rattle.mf_account.proofs.DueLemmas.{due_by-le}
 use Rattle.mf_account.proofs.GoodLemmas.{IsGood, IsReplayable, amounts, applicable-all, good-all}
 
-pub lawful : (name : StrategyName) (n : ℕ) → IsOrder n (cell_by name) (place_by name)
-lawful name n = record { is_cell = is_cell-cell_by name n; back = λ k within. back-cell_by name k }
+pub lawful : (name : StrategyName) (n due : ℕ) → due ≤ n → IsOrder n (cell_by name due) (place_by name due)
+lawful name n due few = record { is_cell = λ k within. is_cell-cell_by name n due k few within; back = λ k within. back-cell_by name due k }
 
 -- the fresh rows
 nothing-at : (p : ℕ) → get_or nothing p 0 ≡ 0
@@ -80,6 +81,20 @@ good-first schedule used room = record {
 
 pub length-schedule : (loan : Loan) → length (schedule_of loan) ≡ loan.periods
 length-schedule loan = length-map-range_with_len (instalment_of loan.terms loan.principal loan.periods loan.day) 1 loan.periods
+
+-- how many instalments are due by an entry's day
+abbrev pub due_at : Loan → Entry → ℕ
+due_at loan e = due_by e.day (first_state (schedule_of loan)).rows
+
+pub due_at-le : (loan : Loan) (e : Entry) → due_at loan e ≤ loan.periods
+due_at-le loan e =
+    let most = due_by-le e.day (first_state (schedule_of loan)).rows in
+    let size = length-map (schedule_of loan) row_of in
+    let periods = length-schedule loan in
+    omega (arith, most, size, periods)
+
+pub lawful-of : (loan : Loan) (e : Entry) → IsOrder loan.periods (orders_of loan e) (places_of loan e)
+lawful-of loan e = lawful loan.terms.strategy loan.periods (due_at loan e) (due_at-le loan e)
 
 -- an entry of a loan can be replayed
 most-by : (kind : Kind) (n : ℕ) (e : Entry) → HasColumns kind n e → e.amount ≤ 10 ^ 12
@@ -165,18 +180,25 @@ first-good loan sound =
 pub applicable-sound : (loan : Loan) → IsSound loan → AreApplicable (orders_of loan) (standing loan.entries) (first_state (schedule_of loan))
 applicable-sound loan sound =
     let sum = standing-amounts loan sound in
-    applicable-all loan.periods (2 ^ 54) (cell_by loan.terms.strategy) (place_by loan.terms.strategy) (standing loan.entries) (first_state (schedule_of loan))
-    (lawful loan.terms.strategy loan.periods) (each-standing loan sound) (first-good loan sound) (omega (arith, sum))
+    applicable-all loan.periods (2 ^ 54) (orders_of loan) (places_of loan) (standing loan.entries) (first_state (schedule_of loan))
+    (lawful-of loan) (each-standing loan sound) (first-good loan sound) (omega (arith, sum))
 
 pub good-sound : (loan : Loan) → IsSound loan → IsGood loan.periods (2 ^ 54 + amounts (standing loan.entries)) (state_of_loan loan)
 good-sound loan sound =
-    good-all loan.periods (2 ^ 54) (cell_by loan.terms.strategy) (place_by loan.terms.strategy) (standing loan.entries) (first_state (schedule_of loan))
-    (lawful loan.terms.strategy loan.periods) (each-standing loan sound) (first-good loan sound)
+    good-all loan.periods (2 ^ 54) (orders_of loan) (places_of loan) (standing loan.entries) (first_state (schedule_of loan))
+    (lawful-of loan) (each-standing loan sound) (first-good loan sound)
 
 -- what no refusal says
 none-of : (b : Bool) (fault : Fault) (rest : Option Fault) → cond b (Some fault) rest ≡ None → (b ≡ false) × (rest ≡ None)
 none-of true fault rest none = let bad : ⊥ = cc in absurd bad
 none-of false fault rest none = (refl, none)
+
+-- the refusal that is chosen
+pub chosen-here : (b : Bool) (first rest : Option Fault) → b ≡ true → first ≡ cond b first rest
+chosen-here b first rest is = sym (cond-true b first rest is)
+
+pub chosen-later : (b : Bool) (first rest found : Option Fault) → b ≡ false → found ≡ rest → found ≡ cond b first rest
+chosen-later b first rest found not_it is = is ∙ sym (cond-false b first rest not_it)
 
 or_none : (a b : Bool) → (a || b) ≡ false → (a ≡ false) × (b ≡ false)
 or_none true b none = absurd (true≢false none)

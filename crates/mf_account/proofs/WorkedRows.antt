@@ -1,6 +1,6 @@
 -- Worked accounts, computed from the definitions: 100000 cents at 12 percent for 3 months from 2024-01-31, equal principal.
 use Rattle.std.proofs.Common.{◌≡◌, ℕ, Bool, true, false, List, [], ◌∷◌, refl, None}
-use Rattle.mf_base.specs.Calendar.{day_of}
+use Rattle.mf_base.specs.Calendar.{day_of, date_of}
 use Rattle.mf_base.specs.declared.day.Freq.TheVariants.{Months}
 use Rattle.mf_catalog.specs.declared.terms.Terms.{Terms}
 use Rattle.mf_catalog.specs.declared.terms.Method.TheVariants.{EqualPrincipal}
@@ -10,7 +10,7 @@ use Rattle.mf_schedule.specs.Fresh.{fresh_schedule}
 use Rattle.mf_alloc.specs.declared.row.Portion.{Portion}
 use Rattle.mf_alloc.specs.declared.row.Portion.TheVariants.{Penalty as PenaltyPart, Fee as FeePart, Interest, Principal}
 use Rattle.mf_alloc.specs.Sums.{Sums, open_at}
-use Rattle.mf_alloc.specs.Order.{by_instalment, standard, principal_first, interest_first}
+use Rattle.mf_alloc.specs.Order.{by_instalment, standard, principal_first, interest_first, due_first}
 use Rattle.mf_account.specs.declared.entry.Entry.{Entry}
 use Rattle.mf_account.specs.declared.entry.Kind.{Kind}
 use Rattle.mf_account.specs.declared.entry.Kind.TheVariants.{Repay, Fee, Penalty, Waive, WriteOff, Refund}
@@ -18,7 +18,7 @@ use Rattle.mf_account.specs.declared.settled.Settled.{Settled}
 use Rattle.mf_account.specs.declared.settled.How.{How}
 use Rattle.mf_account.specs.declared.settled.How.TheVariants.{Paid, Waived}
 use Rattle.mf_account.specs.Effect.{State}
-use Rattle.mf_account.specs.Account.{Orders, state_of, settled_of, status_of, sum_at}
+use Rattle.mf_account.specs.Account.{Orders, orders_by, first_state, state_of, settled_of, status_of, sum_at}
 use Rattle.std.specs.Prelude.{sum_by}
 
 abbrev terms : Terms
@@ -233,3 +233,33 @@ write_off_reversed_left = refl
 
 write_off_reversed_status : status_of write_off_reversed (state_of usual schedule write_off_reversed) ≡ 300
 write_off_reversed_status = refl
+
+-- what is due first
+abbrev due_orders : Orders
+due_orders = orders_by (λ n due. due_first due) (first_state schedule).rows
+
+abbrev late_repayment : List Entry
+late_repayment = repay 1 march 20000 ∷ []
+
+late_repayment_settled : settled_of due_orders schedule late_repayment ≡
+    part 1 1 1 Interest Paid 1000 ∷ part 1 2 2 Interest Paid 667 ∷ part 1 3 1 Principal Paid 18333 ∷ []
+unfolding day_of date_of
+late_repayment_settled = refl
+
+-- one more, dated before it
+abbrev earlier_repayment : List Entry
+earlier_repayment = repay 1 march 20000 ∷ repay 2 february 20000 ∷ []
+
+earlier_repayment_settled : settled_of due_orders schedule earlier_repayment ≡
+    part 2 1 1 Interest Paid 1000 ∷ part 2 2 1 Principal Paid 19000
+    ∷ part 1 1 2 Interest Paid 667 ∷ part 1 2 1 Principal Paid 14333 ∷ part 1 3 2 Principal Paid 5000 ∷ []
+unfolding day_of date_of
+earlier_repayment_settled = refl
+
+-- on 2024-02-01, before any instalment is due
+abbrev early_repayment : List Entry
+early_repayment = repay 1 8797 20000 ∷ []
+
+early_repayment_settled : settled_of due_orders schedule early_repayment ≡ part 1 1 1 Interest Paid 1000 ∷ part 1 2 1 Principal Paid 19000 ∷ []
+unfolding day_of date_of
+early_repayment_settled = refl

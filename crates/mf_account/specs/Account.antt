@@ -5,6 +5,7 @@ use Rattle.mf_schedule.specs.declared.instalment.Instalment.{Instalment}
 use Rattle.mf_alloc.specs.declared.row.Cell.{Cell}
 use Rattle.mf_alloc.specs.declared.row.Share.{Share}
 use Rattle.mf_alloc.specs.Sums.{Sums, is_open, fresh_row}
+use Rattle.mf_alloc.specs.Order.{order_at}
 use Rattle.mf_account.specs.declared.entry.Entry.{Entry}
 use Rattle.mf_account.specs.declared.settled.Settled.{Settled}
 use Rattle.mf_account.specs.Kinds.{is_write_off}
@@ -14,6 +15,10 @@ use Rattle.mf_account.specs.Standing.{standing}
 -- the order of cells at an entry
 abbrev pub Orders : Type 0
 Orders = Entry → ℕ → Cell
+
+-- the order of cells of rows at an entry: that at its day
+abbrev pub orders_by : (ℕ → ℕ → ℕ → Cell) → List Sums → Orders
+orders_by cells rows entry = order_at cells rows entry.day
 
 -- the state after entries in order
 abbrev pub after_all : Orders → List Entry → State → State

@@ -5,6 +5,7 @@ pub mod AtOnce
 pub mod Account
 pub mod Applicable
 pub mod Loan
+pub mod Change
 pub mod Refusals
 pub mod StandingLaw
 pub mod Balance

@@ -5,14 +5,15 @@ use Rattle.mf_catalog.specs.declared.terms.Terms.{Terms}
 use Rattle.mf_schedule.specs.declared.instalment.Instalment.{Instalment}
 use Rattle.mf_schedule.specs.Fresh.{fresh_schedule, fee_at_disbursement, IsLoanWithinLimits}
 use Rattle.mf_alloc.specs.declared.row.Portion.TheVariants.{Penalty as PenaltyPart, Fee as FeePart, Principal}
-use Rattle.mf_alloc.specs.Order.{cell_by}
+use Rattle.mf_alloc.specs.declared.row.Cell.{Cell}
+use Rattle.mf_alloc.specs.Order.{cell_by, place_by, due_by}
 use Rattle.mf_account.specs.declared.entry.Entry.{Entry}
 use Rattle.mf_account.specs.declared.entry.Kind.{Kind}
 use Rattle.mf_account.specs.declared.entry.Kind.TheVariants.{Repay, Fee, Penalty, Waive, WriteOff, Refund}
 use Rattle.mf_account.specs.declared.settled.Settled.{Settled}
 use Rattle.mf_account.specs.Kinds.{is_seal}
 use Rattle.mf_account.specs.Effect.{State}
-use Rattle.mf_account.specs.Account.{Orders, state_of, settled_of, status_of}
+use Rattle.mf_account.specs.Account.{Orders, orders_by, first_state, state_of, settled_of, status_of}
 use Rattle.mf_account.specs.Standing.{is_before, entry_at}
 
 pub record Loan : Type 0 where
@@ -53,12 +54,20 @@ pub record IsSound (loan : Loan) : Type 0 where
   pub day : loan.day ≤ last_entered_day
   pub entries : AreEntries loan.periods loan.day loan.entries
 
--- what a loan's account is: its fresh schedule, the order of its strategy, and the fold of its standing entries
+-- what a loan's account is: its fresh schedule, the order of its strategy at each entry's day, and the fold of its
+-- standing entries
 abbrev pub schedule_of : Loan → List Instalment
 schedule_of loan = fresh_schedule loan.terms loan.principal loan.periods loan.day
 
+abbrev pub cells_of : Loan → ℕ → ℕ → ℕ → Cell
+cells_of loan n due = cell_by loan.terms.strategy due
+
 abbrev pub orders_of : Loan → Orders
-orders_of loan entry = cell_by loan.terms.strategy
+orders_of loan = orders_by (cells_of loan) (first_state (schedule_of loan)).rows
+
+-- the places of the cells at an entry
+abbrev pub places_of : Loan → Entry → Cell → ℕ
+places_of loan entry = place_by loan.terms.strategy (due_by entry.day (first_state (schedule_of loan)).rows)
 
 abbrev pub state_of_loan : Loan → State
 state_of_loan loan = state_of (orders_of loan) (schedule_of loan) loan.entries

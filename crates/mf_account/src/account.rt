@@ -1,20 +1,25 @@
-ghost use Rattle.std.specs.Prelude.{◌≡◌, ℕ, ◌+◌, ◌-◌, ◌<◌, ◌≤◌, ◌∷◌, [], ◌++◌, IfOk, OnOk, OnErr, IsOkUnless, None, Some, true, false, length, sum, slice_index};
+ghost use Rattle.std.specs.Prelude.{◌≡◌, ℕ, ◌+◌, ◌-◌, ◌<◌, ◌≤◌, ◌∷◌, [], ◌++◌, IfOk, OnOk, OnErr, IsOkUnless, None, Some, true, false, length, take, All, sum, slice_index};
 ghost use Rattle.mf_base.specs.declared.fault.Fault.{Fault as FaultNumber};
 ghost use Rattle.mf_base.specs.DayText.{last_entered_day};
 ghost use Rattle.mf_schedule.specs.Fresh.{IsLoanWithinLimits};
-ghost use Rattle.mf_account.specs.Standing.{entry_at, with_mark};
+ghost use Rattle.mf_account.specs.Standing.{entry_at, entries_at, standing, with_mark};
 ghost use Rattle.mf_account.specs.Account.{shares_in};
+ghost use Rattle.mf_account.specs.Change.{Account, IsChange, no_change, settled_in};
 ghost use Rattle.mf_account.specs.Loan.{Loan, IsKept, IsSound, AreEntries, state_of_loan, settled_of_loan, status_of_loan};
+ghost use Rattle.mf_account.specs.Rewind.{IsRedone, state_before, settled_upto};
 ghost use Rattle.mf_account.specs.Balance.{balances_of, repaid};
 ghost use Rattle.mf_account.specs.Refusals.{refusal_of, reversal_refused, IsOffered};
 
 use crate::balances::{Balances, book_sums};
+use crate::change::{Change, change_between, unchanged};
 use crate::entry::Entry;
 use crate::refusal::{
     admits, is_forbidden, is_out_of_limits, is_out_of_order, is_sealed, reversal, status,
 };
-use crate::replay::{replayed, replayed_with, replayed_without};
-use crate::settled::{Book, Settled};
+use crate::replay::{apply_all, apply_with, mark_in, place_in, position, replayed, standing_order};
+use crate::resume::resumed_book;
+use crate::rewind::rewind_to;
+use crate::settled::{Book, Settled, put_behind};
 use mf_alloc::{Row, Share};
 use mf_base::{Day, Fault};
 use mf_catalog::Terms;
@@ -38,12 +43,13 @@ pub struct LoanAccount {
     disbursement_fee: u64,
     book: Book,
     settled: Vec<Settled>,
+    change: Change,
 }
 
 impl Model for LoanAccount {
-    ghost Value = { Loan };
+    ghost Value = { Account };
 
-    ghost view = { λ a. record { terms = a.terms; principal = a.principal; periods = a.periods; day = a.day; entries = a.entries.items } };
+    ghost view = { λ a. record { loan = record { terms = a.terms; principal = a.principal; periods = a.periods; day = a.day; entries = a.entries.items }; change = a.change } };
 
     ghost invariant = { λ a. IsKept (record { terms = a.terms; principal = a.principal; periods = a.periods; day = a.day; entries = a.entries.items }) a.schedule.items a.disbursement_fee a.book a.settled.items };
 }
@@ -62,7 +68,7 @@ impl LoanAccount {
         requires limits { IsLoanWithinLimits terms principal periods }
         requires day { day ≤ last_entered_day }
         requires entries { AreEntries periods day entries.items }
-        ensures account { IfOk result (λ account. account ≡ record { terms = terms; principal = principal; periods = periods; day = day; entries = entries.items }) }
+        ensures account { IfOk result (λ account. account ≡ record { loan = record { terms = terms; principal = principal; periods = periods; day = day; entries = entries.items }; change = no_change }) }
         ensures only { IsOkUnless result Fault.F20 }
     {
         let schedule = fresh(alloc, &terms, principal, periods, day)?;
@@ -78,6 +84,43 @@ impl LoanAccount {
             disbursement_fee: fee,
             book,
             settled,
+            change: unchanged(alloc),
+        })
+    }
+
+    /// The account of `replay`, where its rows and settled parts are known. Only a want of memory is refused.
+    pub fn resume(
+        alloc: Global,
+        terms: Terms,
+        principal: u64,
+        periods: u32,
+        day: Day,
+        entries: Vec<Entry>,
+        rows: Vec<Row>,
+        settled: Vec<Settled>,
+    ) -> Result<LoanAccount, Fault>
+        requires limits { IsLoanWithinLimits terms principal periods }
+        requires day { day ≤ last_entered_day }
+        requires entries { AreEntries periods day entries.items }
+        requires rows { rows.items ≡ (state_of_loan (record { terms = terms; principal = principal; periods = periods; day = day; entries = entries.items })).rows }
+        requires settled { settled.items ≡ settled_of_loan (record { terms = terms; principal = principal; periods = periods; day = day; entries = entries.items }) }
+        ensures account { IfOk result (λ account. account ≡ record { loan = record { terms = terms; principal = principal; periods = periods; day = day; entries = entries.items }; change = no_change }) }
+        ensures only { IsOkUnless result Fault.F20 }
+    {
+        let schedule = fresh(alloc, &terms, principal, periods, day)?;
+        let first_fee = disbursement_fee(&terms, principal, &schedule);
+        let book = resumed_book(alloc, &entries, rows)?;
+        Ok(LoanAccount {
+            terms,
+            principal,
+            periods,
+            day,
+            entries,
+            schedule,
+            disbursement_fee: first_fee,
+            book,
+            settled,
+            change: unchanged(alloc),
         })
     }
 
@@ -87,10 +130,11 @@ impl LoanAccount {
     /// where the loan has 9,999 entries; and F20 for want of memory. A refused entry is given up, and the account is
     /// as before.
     pub fn enter(&mut self, alloc: Global, entry: Entry, business_day: Day) -> Result<(), Fault>
-        requires { IsOffered self.old entry business_day }
-        ensures ok { OnOk result (self.new ≡ record self.old { entries = self.old.entries ++ entry ∷ [] }) }
-        ensures refused { (fault : FaultNumber) → refusal_of self.old entry business_day ≡ Some fault → result ≡ Err fault }
-        ensures accepted { refusal_of self.old entry business_day ≡ None → IsOkUnless result Fault.F20 }
+        requires { IsOffered self.old.loan entry business_day }
+        ensures ok { OnOk result (self.new.loan ≡ record self.old.loan { entries = self.old.loan.entries ++ entry ∷ [] }) }
+        ensures refused { (fault : FaultNumber) → refusal_of self.old.loan entry business_day ≡ Some fault → result ≡ Err fault }
+        ensures accepted { refusal_of self.old.loan entry business_day ≡ None → IsOkUnless result Fault.F20 }
+        ensures change { OnOk result (IsChange self.old.loan self.new.loan self.new.change) }
         ensures err { OnErr result (self.new ≡ self.old) }
     {
         match self.refusal(&entry, business_day) {
@@ -101,28 +145,81 @@ impl LoanAccount {
 
     /// Adds an entry with which the loan is sound.
     fn add(&mut self, alloc: Global, entry: Entry) -> Result<(), Fault>
-        requires { IsSound (record self.old { entries = self.old.entries ++ entry ∷ [] }) }
-        ensures ok { OnOk result (self.new ≡ record self.old { entries = self.old.entries ++ entry ∷ [] }) }
+        requires sound { IsSound (record self.old.loan { entries = self.old.loan.entries ++ entry ∷ [] }) }
+        requires stands { entry.reversed ≡ false }
+        ensures ok { OnOk result (self.new.loan ≡ record self.old.loan { entries = self.old.loan.entries ++ entry ∷ [] }) }
         ensures only { IsOkUnless result Fault.F20 }
+        ensures change { OnOk result (IsChange self.old.loan self.new.loan self.new.change) }
         ensures err { OnErr result (self.new ≡ self.old) }
     {
-        let (book, settled) = replayed_with(
-            alloc,
-            &self.terms.strategy,
-            &self.schedule,
-            &mut self.entries,
-            entry,
-        )?;
+        let (book, kept, parts) = self.redone_with(alloc, &entry)?;
+        let change = self.change_to(alloc, &book, kept, &parts, self.entries.len() + 1)?;
+        self.settled.reserve(parts.len())?;
+        self.entries.push(entry)?;
+        put_behind(&mut self.settled, kept, &parts);
         self.book = book;
-        self.settled = settled;
+        self.change = change;
         Ok(())
+    }
+
+    /// What the account comes to with one entry more: the book, how many of the parts stay, and those that follow.
+    fn redone_with(
+        &self,
+        alloc: Global,
+        entry: &Entry,
+    ) -> Result<(Book, usize, Vec<Settled>), Fault>
+        requires sound { IsSound (record self.now.loan { entries = self.now.loan.entries ++ entry.now ∷ [] }) }
+        requires stands { entry.now.reversed ≡ false }
+        ensures redone { IfOk result (λ r. IsRedone self.now.loan (record self.now.loan { entries = self.now.loan.entries ++ entry.now ∷ [] }) r.0 r.1 r.2.items) }
+        ensures only { IsOkUnless result Fault.F20 }
+    {
+        let order = standing_order(alloc, &self.entries)?;
+        let place = position(&self.entries, &order, entry);
+        let (mut book, kept) = self.rewound(alloc, &order, place)?;
+        let later = &order[place..];
+        let strategy = &self.terms.strategy;
+        let parts = apply_with(alloc, strategy, &mut book, entry, &self.entries, later)?;
+        Ok((book, kept, parts))
+    }
+
+    /// What a change that leads to a book and parts changes, of so many entries.
+    fn change_to(
+        &self,
+        alloc: Global,
+        book: &Book,
+        kept: usize,
+        parts: &[Settled],
+        count: usize,
+    ) -> Result<Change, Fault>
+        requires { (new : Loan) × IsSound new × (new.periods ≡ self.now.loan.periods) × (length new.entries ≡ count) × IsRedone self.now.loan new book.now kept parts.now }
+        ensures change { (new : Loan) → IsSound new → new.periods ≡ self.now.loan.periods → length new.entries ≡ count → IsRedone self.now.loan new book.now kept parts.now → IfOk result (IsChange self.now.loan new) }
+        ensures only { IsOkUnless result Fault.F20 }
+    {
+        let before = &self.settled[kept..];
+        let change = change_between(alloc, &self.book, before, book, parts, count)?;
+        Ok(change)
+    }
+
+    /// The book before the standing entries from a place on, and how many parts are settled by then.
+    fn rewound(&self, alloc: Global, order: &[usize], place: usize) -> Result<(Book, usize), Fault>
+        requires within { All (λ at. at < length self.now.loan.entries) order.now }
+        requires order { entries_at self.now.loan.entries order.now ≡ standing self.now.loan.entries }
+        requires place { place ≤ length order.now }
+        ensures within { IfOk result (λ both. both.1 ≤ length (settled_of_loan self.now.loan)) }
+        ensures back { IfOk result (λ both. (both.0 ≡ state_before self.now.loan place) × (take both.1 (settled_of_loan self.now.loan) ≡ settled_upto self.now.loan place)) }
+        ensures only { IsOkUnless result Fault.F20 }
+    {
+        let mut book = self.book.copied(alloc)?;
+        let kept = rewind_to(&mut book, &self.entries, order, place, &self.settled);
+        Ok((book, kept))
     }
 
     /// Why an entry is refused, if it is. It takes no memory.
     fn refusal(&self, entry: &Entry, business_day: Day) -> Option<Fault>
-        ensures value { result ≡ refusal_of self.now entry.now business_day }
-        ensures sound { IsSound self.now }
+        ensures value { result ≡ refusal_of self.now.loan entry.now business_day }
+        ensures sound { IsSound self.now.loan }
     {
+        let book = &self.book;
         if is_sealed(&self.entries) {
             Some(Fault::F11)
         } else if !admits(entry.kind, self.status()) {
@@ -131,7 +228,7 @@ impl LoanAccount {
             Some(Fault::F10)
         } else if is_forbidden(
             self.terms.overdue.is_some(),
-            &self.book.rows,
+            &book.rows,
             &self.entries,
             entry,
             business_day,
@@ -149,9 +246,10 @@ impl LoanAccount {
     /// Reverses entry `seq`. The refusals are, the first that holds: F12 where there is no such entry; F13 where it is
     /// reversed; F11 where another entry seals the loan; and F20 for want of memory. The account is then as before.
     pub fn reverse(&mut self, alloc: Global, seq: u32) -> Result<(), Fault>
-        ensures ok { OnOk result (self.new ≡ record self.old { entries = with_mark self.old.entries (seq - 1) true }) }
-        ensures refused { (fault : FaultNumber) → reversal_refused self.old.entries seq ≡ Some fault → result ≡ Err fault }
-        ensures accepted { reversal_refused self.old.entries seq ≡ None → IsOkUnless result Fault.F20 }
+        ensures ok { OnOk result (self.new.loan ≡ record self.old.loan { entries = with_mark self.old.loan.entries (seq - 1) true }) }
+        ensures refused { (fault : FaultNumber) → reversal_refused self.old.loan.entries seq ≡ Some fault → result ≡ Err fault }
+        ensures accepted { reversal_refused self.old.loan.entries seq ≡ None → IsOkUnless result Fault.F20 }
+        ensures change { OnOk result (IsChange self.old.loan self.new.loan self.new.change) }
         ensures err { OnErr result (self.new ≡ self.old) }
     {
         match reversal(&self.entries, seq) {
@@ -162,39 +260,54 @@ impl LoanAccount {
 
     /// Reverses the entry at a place.
     fn take_out(&mut self, alloc: Global, at: usize) -> Result<(), Fault>
-        requires there { at < length self.old.entries }
-        requires stands { (entry_at self.old.entries at).reversed ≡ false }
-        ensures ok { OnOk result (self.new ≡ record self.old { entries = with_mark self.old.entries at true }) }
+        requires there { at < length self.old.loan.entries }
+        requires stands { (entry_at self.old.loan.entries at).reversed ≡ false }
+        ensures ok { OnOk result (self.new.loan ≡ record self.old.loan { entries = with_mark self.old.loan.entries at true }) }
         ensures only { IsOkUnless result Fault.F20 }
+        ensures change { OnOk result (IsChange self.old.loan self.new.loan self.new.change) }
         ensures err { OnErr result (self.new ≡ self.old) }
     {
-        let (book, settled) = replayed_without(
-            alloc,
-            &self.terms.strategy,
-            &self.schedule,
-            &mut self.entries,
-            at,
-        )?;
+        let (book, kept, parts) = self.redone_without(alloc, at)?;
+        let change = self.change_to(alloc, &book, kept, &parts, self.entries.len())?;
+        self.settled.reserve(parts.len())?;
+        mark_in(&mut self.entries, at, true);
+        put_behind(&mut self.settled, kept, &parts);
         self.book = book;
-        self.settled = settled;
+        self.change = change;
         Ok(())
+    }
+
+    /// What the account comes to where the entry at a place is reversed: as `redone_with`.
+    fn redone_without(&self, alloc: Global, at: usize) -> Result<(Book, usize, Vec<Settled>), Fault>
+        requires there { at < length self.now.loan.entries }
+        requires stands { (entry_at self.now.loan.entries at).reversed ≡ false }
+        ensures redone { IfOk result (λ r. IsRedone self.now.loan (record self.now.loan { entries = with_mark self.now.loan.entries at true }) r.0 r.1 r.2.items) }
+        ensures only { IsOkUnless result Fault.F20 }
+    {
+        let order = standing_order(alloc, &self.entries)?;
+        let place = place_in(&order, at);
+        let (mut book, kept) = self.rewound(alloc, &order, place)?;
+        let later = &order[place + 1..];
+        let parts = apply_all(alloc, &self.terms.strategy, &mut book, &self.entries, later)?;
+        Ok((book, kept, parts))
     }
 
     /// The loan's status: 601 where a write-off stands, else 300 where anything is outstanding, else 700 where
     /// something is overpaid, else 600.
     pub fn status(&self) -> u16
-        ensures { result ≡ status_of_loan self.now }
+        ensures { result ≡ status_of_loan self.now.loan }
     {
-        status(&self.entries, &self.book.rows, self.book.overpaid)
+        let book = &self.book;
+        status(&self.entries, &book.rows, book.overpaid)
     }
 
     /// The loan's sums over all instalments. The standing repayments add up to all that is paid, overpaid and refunded;
     /// the principal disbursed is paid, written off or outstanding; where something is overpaid nothing is outstanding;
     /// and in each portion what is paid, waived, written off and outstanding is what is owed.
     pub fn balances(&self) -> Balances
-        ensures value { result ≡ balances_of self.now }
-        ensures repaid { sum result.paid + result.overpaid + result.refunded ≡ repaid self.now.entries }
-        ensures principal { slice_index result.paid 3 + slice_index result.written_off 3 + slice_index result.outstanding 3 ≡ self.now.principal }
+        ensures value { result ≡ balances_of self.now.loan }
+        ensures repaid { sum result.paid + result.overpaid + result.refunded ≡ repaid self.now.loan.entries }
+        ensures principal { slice_index result.paid 3 + slice_index result.written_off 3 + slice_index result.outstanding 3 ≡ self.now.loan.principal }
         ensures apart { 0 < result.overpaid → sum result.outstanding ≡ 0 }
         ensures whole { (p : ℕ) → p < 4 → slice_index result.paid p + slice_index result.waived p + slice_index result.written_off p + slice_index result.outstanding p ≡ slice_index result.owed p }
     {
@@ -203,8 +316,8 @@ impl LoanAccount {
 
     /// The sums, as they are kept.
     fn sums(&self) -> Balances
-        ensures value { result ≡ balances_of self.now }
-        ensures sound { IsSound self.now }
+        ensures value { result ≡ balances_of self.now.loan }
+        ensures sound { IsSound self.now.loan }
     {
         let book = &self.book;
         book_sums(
@@ -217,22 +330,44 @@ impl LoanAccount {
 
     /// The instalments as they stand.
     pub fn rows(&self) -> &[Row]
-        ensures { result.now ≡ (state_of_loan self.now).rows }
+        ensures { result.now ≡ (state_of_loan self.now.loan).rows }
     {
         self.book.rows.as_slice()
     }
 
+    /// What the last entry or reversal that succeeded changed: exactly the instalments whose rows, and the entries whose
+    /// settled parts, differ from before it. Nothing after a replay.
+    pub fn change(&self) -> &Change
+        ensures { result.now ≡ self.now.change }
+    {
+        &self.change
+    }
+
     /// The entries, in the order of their numbers.
     pub fn entries(&self) -> &[Entry]
-        ensures { result.now ≡ self.now.entries }
+        ensures { result.now ≡ self.now.loan.entries }
     {
         self.entries.as_slice()
+    }
+
+    /// What an entry settles, with places from 1 in the strategy's order of cells.
+    pub fn settled(&self, alloc: Global, seq: u32) -> Result<Vec<Settled>, Fault>
+        ensures settled { IfOk result (λ settled. settled.items ≡ settled_in seq (settled_of_loan self.now.loan)) }
+        ensures only { IsOkUnless result Fault.F20 }
+    {
+        let settled = self
+            .settled
+            .iter()
+            .filter(|own| own.seq == seq)
+            .map(|own| *own)
+            .collect(alloc)?;
+        Ok(settled)
     }
 
     /// What an entry settles, cell by cell in the strategy's order, zero ones left out. A reversed entry and a refund
     /// settle nothing.
     pub fn shares(&self, alloc: Global, seq: u32) -> Result<Vec<Share>, Fault>
-        ensures shares { IfOk result (λ shares. shares.items ≡ shares_in seq (settled_of_loan self.now)) }
+        ensures shares { IfOk result (λ shares. shares.items ≡ shares_in seq (settled_of_loan self.now.loan)) }
         ensures only { IsOkUnless result Fault.F20 }
     {
         let shares = self

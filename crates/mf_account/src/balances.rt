@@ -78,7 +78,7 @@ fn all_owed(rows: &[Row]) -> [u64; 4]
 }
 
 /// What is paid, by portion.
-fn all_paid(rows: &[Row]) -> [u64; 4]
+pub(crate) fn all_paid(rows: &[Row]) -> [u64; 4]
     requires { HasRoom rows.now }
     ensures { result ≡ columns_of (λ (row : Sums). row.paid) rows.now }
 {

@@ -1,5 +1,6 @@
 ghost use Rattle.std.specs.Prelude.{◌≡◌, ℕ, ◌+◌, ◌-◌, ◌*◌, ◌<◌, ◌≤◌, ◌^◌, ◌++◌, IfOk, OnOk, IsOkUnless, length, vec_len, map, filter, [], ◌∷◌};
 ghost use Rattle.std.specs.List.{range_with_len};
+ghost use Rattle.mf_alloc.specs.Order.{order_at};
 ghost use Rattle.mf_alloc.specs.Rows.{IsCell, outstanding as open_in};
 ghost use Rattle.mf_account.specs.Kinds.{money_in as money_of, money_out as money_back};
 ghost use Rattle.mf_account.specs.Effect.{with_charge, settle as settled_rows, with_settled, parts_by, parts_cleared, whole_part, is_some_part};
@@ -9,7 +10,7 @@ ghost use Rattle.mf_account.specs.Applicable.{HasRow, HasCell, IsSettleable};
 
 use crate::entry::{Entry, Kind};
 use crate::settled::{How, Settled};
-use mf_alloc::{Cell, Row, Share, Strategy, outstanding};
+use mf_alloc::{Cell, Row, Share, Strategy, due_by, outstanding};
 use mf_base::Fault;
 use std::alloc::Global;
 
@@ -116,12 +117,13 @@ fn write_off<T: Strategy>(
     ensures few { IfOk result (λ parts. vec_len parts ≤ 4 * length rows.now) }
     ensures only { IsOkUnless result Fault.F20 }
     ensures settleable { IfOk result (λ parts. IsSettleable rows.now (map part_of parts.items)) }
-    ensures parts { IfOk result (λ parts. parts.items ≡ numbered entry.now.seq 1 (parts_by Kind.WriteOff (T.cell_at strategy.now (length rows.now)) entry.now rows.now)) }
+    ensures parts { IfOk result (λ parts. parts.items ≡ numbered entry.now.seq 1 (parts_by Kind.WriteOff (order_at (T.cell_at strategy.now) rows.now entry.now.day) entry.now rows.now)) }
 {
     let n = rows.len() as u32;
+    let due = due_by(rows, entry.day);
     let mut parts = Vec::new(alloc);
     for k in 0..4 * n {
-        let cell = strategy.cell(n, k);
+        let cell = strategy.cell(n, due, k);
         push_whole(&mut parts, entry.seq, How::WrittenOff, rows, cell)?;
     }
     Ok(parts)
@@ -136,7 +138,7 @@ pub(crate) fn clear<T: Strategy>(
 ) -> Result<Vec<Settled>, Fault>
     requires few { length rows.now ≤ 360 }
     requires row { HasCell entry.now.kind entry.now (length rows.now) }
-    ensures parts { IfOk result (λ parts. parts.items ≡ numbered entry.now.seq 1 (parts_cleared (T.cell_at strategy.now (length rows.now)) entry.now rows.now)) }
+    ensures parts { IfOk result (λ parts. parts.items ≡ numbered entry.now.seq 1 (parts_cleared (order_at (T.cell_at strategy.now) rows.now entry.now.day) entry.now rows.now)) }
     ensures settleable { IfOk result (λ parts. IsSettleable rows.now (map part_of parts.items)) }
     ensures few { IfOk result (λ parts. vec_len parts ≤ 1440) }
     ensures only { IsOkUnless result Fault.F20 }
@@ -184,8 +186,8 @@ pub(crate) fn charge_and_clear<T: Strategy>(
 ) -> Result<Vec<Settled>, Fault>
     requires few { length rows.old ≤ 360 }
     requires row { HasRow entry.now.kind entry.now rows.old }
-    ensures rows { OnOk result (rows.new ≡ with_cleared (T.cell_at strategy.now (length rows.old)) entry.now (with_charge entry.now.kind entry.now rows.old)) }
-    ensures parts { IfOk result (λ parts. parts.items ≡ numbered entry.now.seq 1 (parts_cleared (T.cell_at strategy.now (length rows.old)) entry.now (with_charge entry.now.kind entry.now rows.old))) }
+    ensures rows { OnOk result (rows.new ≡ with_cleared (order_at (T.cell_at strategy.now) rows.old entry.now.day) entry.now (with_charge entry.now.kind entry.now rows.old)) }
+    ensures parts { IfOk result (λ parts. parts.items ≡ numbered entry.now.seq 1 (parts_cleared (order_at (T.cell_at strategy.now) rows.old entry.now.day) entry.now (with_charge entry.now.kind entry.now rows.old))) }
     ensures few { IfOk result (λ parts. vec_len parts ≤ 1440) }
     ensures only { IsOkUnless result Fault.F20 }
 {

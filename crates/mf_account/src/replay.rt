@@ -1,6 +1,7 @@
-ghost use Rattle.std.specs.Prelude.{◌≡◌, ℕ, ◌<◌, ◌≤◌, ◌∷◌, [], ◌++◌, IfOk, OnOk, OnErr, IsOkUnless, length, map, All, insert, true, false};
-ghost use Rattle.mf_account.specs.Account.{row_of as first_row, first_state, state_of, settled_of};
-ghost use Rattle.mf_account.specs.Standing.{is_before as comes_before, placed, standing, entries_at, entry_at, with_mark, IsInOrder};
+ghost use Rattle.std.specs.Prelude.{◌≡◌, ℕ, ◌<◌, ◌≤◌, ◌∷◌, [], ◌++◌, IfOk, OnOk, IsOkUnless, length, map, All, insert, slice_index};
+ghost use Rattle.std.specs.List.{Contains};
+ghost use Rattle.mf_account.specs.Account.{row_of as first_row, first_state, state_of, settled_of, after_all, settled_by, orders_by};
+ghost use Rattle.mf_account.specs.Standing.{is_before as comes_before, placed, standing, entries_at, with_mark, IsInOrder};
 ghost use Rattle.mf_account.specs.Applicable.{AreApplicable};
 
 use crate::apply::apply_entry;
@@ -19,7 +20,7 @@ fn is_before(a: &Entry, b: &Entry) -> bool
 }
 
 /// Where an entry belongs among others in order. It looks from the last one on, since most entries come last.
-fn position(entries: &[Entry], order: &[usize], entry: &Entry) -> usize
+pub(crate) fn position(entries: &[Entry], order: &[usize], entry: &Entry) -> usize
     requires within { All (λ i. i < length entries.now) order.now }
     requires ordered { IsInOrder (entries_at entries.now order.now) }
     ensures within { result ≤ length order.now }
@@ -36,8 +37,24 @@ fn position(entries: &[Entry], order: &[usize], entry: &Entry) -> usize
     0
 }
 
+/// Where an order has the entry at a place among the entries. It looks from the last one on.
+pub(crate) fn place_in(order: &[usize], at: usize) -> usize
+    requires { Contains order.now at }
+    ensures within { result < length order.now }
+    ensures there { slice_index order.now result ≡ at }
+{
+    let mut k = order.len();
+    while k > 0 {
+        k -= 1;
+        if order[k] == at {
+            return k;
+        }
+    }
+    0
+}
+
 /// The places of the standing entries, in their order.
-fn standing_order(alloc: Global, entries: &[Entry]) -> Result<Vec<usize>, Fault>
+pub(crate) fn standing_order(alloc: Global, entries: &[Entry]) -> Result<Vec<usize>, Fault>
     ensures within { IfOk result (λ order. All (λ i. i < length entries.now) order.items) }
     ensures order { IfOk result (λ order. entries_at entries.now order.items ≡ standing entries.now) }
     ensures only { IsOkUnless result Fault.F20 }
@@ -92,6 +109,51 @@ fn first_book(alloc: Global, schedule: &[Instalment]) -> Result<Book, Fault>
     })
 }
 
+/// Applies entries in an order to a book, and answers what they settle. After an error the book is given up.
+pub(crate) fn apply_all<T: Strategy>(
+    alloc: Global,
+    strategy: &T,
+    book: &mut Book,
+    entries: &[Entry],
+    order: &[usize],
+) -> Result<Vec<Settled>, Fault>
+    requires few { length book.old.rows ≤ 360 }
+    requires within { All (λ i. i < length entries.now) order.now }
+    requires fits { AreApplicable (orders_by (T.cell_at strategy.now) book.old.rows) (entries_at entries.now order.now) book.old }
+    ensures state { OnOk result (book.new ≡ after_all (orders_by (T.cell_at strategy.now) book.old.rows) (entries_at entries.now order.now) book.old) }
+    ensures parts { IfOk result (λ parts. parts.items ≡ settled_by (orders_by (T.cell_at strategy.now) book.old.rows) (entries_at entries.now order.now) book.old) }
+    ensures only { IsOkUnless result Fault.F20 }
+{
+    let mut settled = Vec::new(alloc);
+    for k in 0..order.len() {
+        let parts = apply_entry(alloc, strategy, book, &entries[order[k]])?;
+        settled.extend_from_slice(&parts)?;
+    }
+    Ok(settled)
+}
+
+/// Applies an entry to a book, and then later ones in an order. After an error the book is given up.
+pub(crate) fn apply_with<T: Strategy>(
+    alloc: Global,
+    strategy: &T,
+    book: &mut Book,
+    entry: &Entry,
+    entries: &[Entry],
+    later: &[usize],
+) -> Result<Vec<Settled>, Fault>
+    requires few { length book.old.rows ≤ 360 }
+    requires within { All (λ i. i < length entries.now) later.now }
+    requires fits { AreApplicable (orders_by (T.cell_at strategy.now) book.old.rows) (entry.now ∷ entries_at entries.now later.now) book.old }
+    ensures state { OnOk result (book.new ≡ after_all (orders_by (T.cell_at strategy.now) book.old.rows) (entry.now ∷ entries_at entries.now later.now) book.old) }
+    ensures parts { IfOk result (λ parts. parts.items ≡ settled_by (orders_by (T.cell_at strategy.now) book.old.rows) (entry.now ∷ entries_at entries.now later.now) book.old) }
+    ensures only { IsOkUnless result Fault.F20 }
+{
+    let mut parts = apply_entry(alloc, strategy, book, entry)?;
+    let rest = apply_all(alloc, strategy, book, entries, later)?;
+    parts.extend_from_slice(&rest)?;
+    Ok(parts)
+}
+
 /// The state and the settled parts of a fresh schedule and entries: the effects of the standing entries, in order.
 pub(crate) fn replayed<T: Strategy>(
     alloc: Global,
@@ -100,45 +162,15 @@ pub(crate) fn replayed<T: Strategy>(
     entries: &[Entry],
 ) -> Result<(Book, Vec<Settled>), Fault>
     requires few { length schedule.now ≤ 360 }
-    requires fits { AreApplicable (λ _. T.cell_at strategy.now (length schedule.now)) (standing entries.now) (first_state schedule.now) }
-    ensures state { IfOk result (λ both. both.0 ≡ state_of (λ _. T.cell_at strategy.now (length schedule.now)) schedule.now entries.now) }
-    ensures settled { IfOk result (λ both. both.1.items ≡ settled_of (λ _. T.cell_at strategy.now (length schedule.now)) schedule.now entries.now) }
+    requires fits { AreApplicable (orders_by (T.cell_at strategy.now) (first_state schedule.now).rows) (standing entries.now) (first_state schedule.now) }
+    ensures state { IfOk result (λ both. both.0 ≡ state_of (orders_by (T.cell_at strategy.now) (first_state schedule.now).rows) schedule.now entries.now) }
+    ensures settled { IfOk result (λ both. both.1.items ≡ settled_of (orders_by (T.cell_at strategy.now) (first_state schedule.now).rows) schedule.now entries.now) }
     ensures only { IsOkUnless result Fault.F20 }
 {
     let order = standing_order(alloc, entries)?;
     let mut book = first_book(alloc, schedule)?;
-    let mut settled = Vec::new(alloc);
-    for k in 0..order.len() {
-        let parts = apply_entry(alloc, strategy, &mut book, &entries[order[k]])?;
-        settled.extend_from_slice(&parts)?;
-    }
+    let settled = apply_all(alloc, strategy, &mut book, entries, &order)?;
     Ok((book, settled))
-}
-
-/// The same with one entry more, which is then among the entries. Where it is refused they are as before.
-pub(crate) fn replayed_with<T: Strategy>(
-    alloc: Global,
-    strategy: &T,
-    schedule: &[Instalment],
-    entries: &mut Vec<Entry>,
-    entry: Entry,
-) -> Result<(Book, Vec<Settled>), Fault>
-    requires few { length schedule.now ≤ 360 }
-    requires fits { AreApplicable (λ _. T.cell_at strategy.now (length schedule.now)) (standing (entries.old.items ++ entry ∷ [])) (first_state schedule.now) }
-    ensures ok { OnOk result (entries.new.items ≡ entries.old.items ++ entry ∷ []) }
-    ensures err { OnErr result (entries.new.items ≡ entries.old.items) }
-    ensures state { IfOk result (λ both. both.0 ≡ state_of (λ _. T.cell_at strategy.now (length schedule.now)) schedule.now (entries.old.items ++ entry ∷ [])) }
-    ensures settled { IfOk result (λ both. both.1.items ≡ settled_of (λ _. T.cell_at strategy.now (length schedule.now)) schedule.now (entries.old.items ++ entry ∷ [])) }
-    ensures only { IsOkUnless result Fault.F20 }
-{
-    entries.push(entry)?;
-    match replayed(alloc, strategy, schedule, entries) {
-        Ok(both) => Ok(both),
-        Err(fault) => {
-            let _refused = entries.pop();
-            Err(fault)
-        }
-    }
 }
 
 /// Marks an entry as reversed, or as not.
@@ -151,37 +183,9 @@ fn mark(entries: &mut [Entry], at: usize, reversed: bool)
 }
 
 /// The same in a vector.
-fn mark_in(entries: &mut Vec<Entry>, at: usize, reversed: bool)
+pub(crate) fn mark_in(entries: &mut Vec<Entry>, at: usize, reversed: bool)
     requires { at < length entries.old.items }
     ensures { entries.new.items ≡ with_mark entries.old.items at reversed }
 {
     mark(entries, at, reversed);
-}
-
-/// The same with one entry reversed, which is then marked. Where it is refused the entries are as before.
-pub(crate) fn replayed_without<T: Strategy>(
-    alloc: Global,
-    strategy: &T,
-    schedule: &[Instalment],
-    entries: &mut Vec<Entry>,
-    at: usize,
-) -> Result<(Book, Vec<Settled>), Fault>
-    requires few { length schedule.now ≤ 360 }
-    requires there { at < length entries.old.items }
-    requires stands { (entry_at entries.old.items at).reversed ≡ false }
-    requires fits { AreApplicable (λ _. T.cell_at strategy.now (length schedule.now)) (standing (with_mark entries.old.items at true)) (first_state schedule.now) }
-    ensures ok { OnOk result (entries.new.items ≡ with_mark entries.old.items at true) }
-    ensures err { OnErr result (entries.new.items ≡ entries.old.items) }
-    ensures state { IfOk result (λ both. both.0 ≡ state_of (λ _. T.cell_at strategy.now (length schedule.now)) schedule.now (with_mark entries.old.items at true)) }
-    ensures settled { IfOk result (λ both. both.1.items ≡ settled_of (λ _. T.cell_at strategy.now (length schedule.now)) schedule.now (with_mark entries.old.items at true)) }
-    ensures only { IsOkUnless result Fault.F20 }
-{
-    mark_in(entries, at, true);
-    match replayed(alloc, strategy, schedule, entries) {
-        Ok(both) => Ok(both),
-        Err(fault) => {
-            mark_in(entries, at, false);
-            Err(fault)
-        }
-    }
 }

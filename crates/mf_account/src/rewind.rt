@@ -1,4 +1,4 @@
-ghost use Rattle.std.specs.Prelude.{◌≡◌, ◌≢◌, ℕ, ◌+◌, ◌-◌, ◌<◌, ◌≤◌, ◌^◌, length, map, slice_index_or};
+ghost use Rattle.std.specs.Prelude.{◌≡◌, ◌≢◌, ℕ, ◌+◌, ◌-◌, ◌<◌, ◌≤◌, ◌^◌, length, map, slice_index_or, All};
 ghost use Rattle.mf_alloc.specs.declared.row.Cell.{Cell as CellRecord};
 ghost use Rattle.mf_alloc.specs.Sums.{IsRowWithin, AreWithin};
 ghost use Rattle.mf_alloc.specs.Rows.{IsCell, place_in_row};
@@ -6,7 +6,8 @@ ghost use Rattle.mf_account.specs.declared.entry.Entry.{Entry as EntryRecord};
 ghost use Rattle.mf_account.specs.Undo.{unowe_row, without_charge, unsettle as unsettled_rows, without_settled, before_entry, paid_by as paid_how, paid_in};
 ghost use Rattle.mf_account.specs.Account.{part_of, Orders};
 ghost use Rattle.mf_account.specs.Effect.{State};
-ghost use Rattle.mf_account.specs.Rewind.{IsRewindable};
+ghost use Rattle.mf_account.specs.Rewind.{IsRewindable, IsBack};
+ghost use Rattle.mf_account.specs.Standing.{entries_at, entry_at};
 ghost use Rattle.mf_account.specs.Applicable.{HasCharge, no_settled, AreInRows};
 
 use crate::effect::money_in;
@@ -139,6 +140,42 @@ pub(crate) fn rewind_book(book: &mut Book, tail: &[Entry], settled: &[Settled])
         take_back(book, &tail[i], &settled[start..k]);
         k = start;
     }
+}
+
+/// An entry of an order.
+fn entry_in<'a>(entries: &'a [Entry], order: &[usize], i: usize) -> &'a Entry
+    requires within { All (λ at. at < length entries.now) order.now }
+    requires there { i < length order.now }
+    ensures { result.now ≡ entry_at (entries_at entries.now order.now) i }
+{
+    &entries[order[i]]
+}
+
+/// Takes back the entries from a place of an order on, the last first, and answers where their parts begin. Neither
+/// the entries before that place nor their parts are looked at.
+pub(crate) fn rewind_to(
+    book: &mut Book,
+    entries: &[Entry],
+    order: &[usize],
+    place: usize,
+    settled: &[Settled],
+) -> usize
+    requires within { All (λ at. at < length entries.now) order.now }
+    requires there { place ≤ length order.now }
+    requires rewindable { (orders : Orders) × (places : EntryRecord → CellRecord → ℕ) × (from : State) × IsRewindable orders places from (entries_at entries.now order.now) settled.now book.old }
+    ensures within { result ≤ length settled.now }
+    ensures back { (orders : Orders) (places : EntryRecord → CellRecord → ℕ) (from : State) → IsRewindable orders places from (entries_at entries.now order.now) settled.now book.old → IsBack orders from (entries_at entries.now order.now) settled.now place result book.new }
+{
+    let mut k = settled.len();
+    let mut i = order.len();
+    while i > place {
+        i -= 1;
+        let entry = entry_in(entries, order, i);
+        let start = own_start(settled, k, entry.seq);
+        take_back(book, entry, &settled[start..k]);
+        k = start;
+    }
+    k
 }
 
 impl Book {

@@ -1,4 +1,8 @@
+ghost use Rattle.std.specs.Prelude.{◌≡◌, ◌+◌, ◌≤◌, ◌++◌, length, take, vec_len, vec_capacity};
+
 use mf_alloc::{Cell, Row, Share};
+use mf_base::Fault;
+use std::alloc::Global;
 use std::marker::Model;
 
 /// How a part of a cell was settled.
@@ -49,4 +53,30 @@ impl Model for Book {
     ghost Value = { State };
 
     ghost view = { λ book. record { rows = book.rows.items; overpaid = book.overpaid; refunded = book.refunded } };
+}
+
+impl Book {
+    ghost use Rattle.std.specs.Prelude.{◌≡◌, IfOk, IsOkUnless};
+
+    /// Another one of the same.
+    pub(crate) fn copied(&self, alloc: Global) -> Result<Book, Fault>
+        ensures same { IfOk result (λ book. book ≡ self.now) }
+        ensures only { IsOkUnless result Fault.F20 }
+    {
+        let rows = Vec::from_slice(alloc, self.rows.as_slice())?;
+        Ok(Book {
+            rows,
+            overpaid: self.overpaid,
+            refunded: self.refunded,
+        })
+    }
+}
+
+/// Puts parts behind the first ones, of which so many stay. There is room for them.
+pub(crate) fn put_behind(settled: &mut Vec<Settled>, kept: usize, parts: &[Settled])
+    requires { vec_len settled.old + length parts.now ≤ vec_capacity settled.old }
+    ensures { settled.new.items ≡ take kept settled.old.items ++ parts.now }
+{
+    settled.truncate(kept);
+    let _put = settled.extend_from_slice(parts);
 }

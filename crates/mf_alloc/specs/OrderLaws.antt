@@ -1,13 +1,15 @@
 -- An order by instalment is lawful where its four portions have places of their own.
-use Rattle.std.proofs.Common.{◌≡◌, ℕ, ◌+◌, ◌-◌, ◌*◌, ◌/◌, ◌%◌, ◌<◌, arith, ap, ◌∙◌, sym, refl, subst, inl, inr}
-use Rattle.std.proofs.lemmas.Bool.{cases_eq}
+use Rattle.std.proofs.Common.{◌≡◌, ℕ, ◌+◌, ◌-◌, ◌*◌, ◌/◌, ◌%◌, ◌<◌, ◌≤◌, leb, ltb, arith, ap, ◌∙◌, sym, refl, subst, inl, inr}
+use Rattle.std.proofs.Math.Nat.{div-lt_iff_lt-mul}
+use Rattle.std.proofs.lemmas.Bool.{cases_eq, cases_lt, cond-true, cond-false, lt-ltb, le-ltb, le-leb, lt-leb}
+use Rattle.std.proofs.lemmas.Nat.{div-add-mod', div-mul-add, mod-mul-add}
 use Rattle.mf_alloc.specs.declared.row.Cell.{Cell}
 use Rattle.mf_alloc.specs.declared.row.Portion.{Portion}
 use Rattle.mf_alloc.specs.declared.row.Portion.TheVariants.{Penalty, Fee, Interest, Principal}
 use Rattle.mf_alloc.specs.Rows.{IsCell}
 use Rattle.mf_catalog.specs.declared.terms.StrategyName.{StrategyName}
-use Rattle.mf_catalog.specs.declared.terms.StrategyName.TheVariants.{MifosStandard, PrincipalFirst, InterestFirst}
-use Rattle.mf_alloc.specs.Order.{cell_by, place_by, by_instalment, place_by_instalment, standard, standard_place, principal_first, principal_first_place, interest_first, interest_first_place}
+use Rattle.mf_catalog.specs.declared.terms.StrategyName.TheVariants.{MifosStandard, PrincipalFirst, InterestFirst, DueFirst}
+use Rattle.mf_alloc.specs.Order.{cell_by, place_by, due_first, due_first_place, by_instalment, place_by_instalment, standard, standard_place, principal_first, principal_first_place, interest_first, interest_first_place}
 
 -- the portions and their places
 pub record ArePlaces (portions : ℕ → Portion) (place : Portion → ℕ) : Type 0 where
@@ -76,26 +78,114 @@ interest_first_places = record {
   small = elim [ Penalty ↦ omega arith | Fee ↦ omega arith | Interest ↦ omega arith | Principal ↦ omega arith ];
 }
 
+-- due first, at a place of what is due and at a later one
+due-here : (due k : ℕ) → k < 4 * due → due_first due k ≡ record { instalment = k % due + 1; portion = standard (k / due) }
+due-here due k here = cond-true (ltb k (4 * due)) _ _ (lt-ltb k (4 * due) here)
+
+due-later : (due k : ℕ) → 4 * due ≤ k → due_first due k ≡ by_instalment standard k
+due-later due k later = cond-false (ltb k (4 * due)) _ _ (le-ltb k (4 * due) later)
+
+place-here : (due : ℕ) (c : Cell) → c.instalment ≤ due → due_first_place due c ≡ standard_place c.portion * due + (c.instalment - 1)
+place-here due c here = cond-true (leb c.instalment due) _ _ (le-leb c.instalment due here)
+
+place-later : (due : ℕ) (c : Cell) → due < c.instalment → due_first_place due c ≡ place_by_instalment standard_place c
+place-later due c later = cond-false (leb c.instalment due) _ _ (lt-leb c.instalment due later)
+
+-- the portion of a place among what is due
+due-portion : (due k : ℕ) → k < 4 * due → k / due < 4
+due-portion due k here = let some : 0 < due = omega (arith, here) in (div-lt_iff_lt-mul {k = due} {x = k} {y = 4} some).1 here
+
+pub is_cell-due_first : (n due k : ℕ) → due ≤ n → k < 4 * n → IsCell n (due_first due k)
+is_cell-due_first n due k few within =
+    elim (cases_lt k (4 * due)) [
+      | inl here ↦
+          let small : k % due < due = omega arith in
+          subst (IsCell n) (sym (due-here due k here)) (record { first = omega arith; last = omega (arith, small) })
+      | inr later ↦ subst (IsCell n) (sym (due-later due k later)) (is_cell-by_instalment standard n k within)
+    ]
+
+pub back-due_first : (due k : ℕ) → due_first_place due (due_first due k) ≡ k
+back-due_first due k =
+    elim (cases_lt k (4 * due)) [
+      | inl here ↦
+          let small : k % due < due = omega arith in
+          let portion : standard_place (standard (k / due)) ≡ k / due = standard_places.there (k / due) (due-portion due k here) in
+          let parts = div-add-mod' k due in
+          ap (due_first_place due) (due-here due k here)
+          ∙ place-here due (record { instalment = k % due + 1; portion = standard (k / due) }) (omega (arith, small))
+          ∙ ap (λ x. x * due + (k % due + 1 - 1)) portion
+          ∙ omega (arith, parts)
+      | inr later ↦
+          ap (due_first_place due) (due-later due k later)
+          ∙ place-later due (by_instalment standard k) (omega (arith, later))
+          ∙ back-by_instalment standard standard_place k standard_places
+    ]
+
+place-small : (p : Portion) (due i : ℕ) → i < due → standard_place p * due + i < 4 * due
+place-small Penalty due i less = omega (arith, less)
+place-small Fee due i less = omega (arith, less)
+place-small Interest due i less = omega (arith, less)
+place-small Principal due i less = omega (arith, less)
+
+pub in_range-due_first : (n due : ℕ) (c : Cell) → due ≤ n → IsCell n c → due_first_place due c < 4 * n
+in_range-due_first n due c few is =
+    elim (cases_lt due c.instalment) [
+      | inl later ↦
+          let same = place-later due c later in
+          let range = in_range-by_instalment standard standard_place n c standard_places is in
+          omega (arith, same, range)
+      | inr here ↦
+          let same = place-here due c here in
+          let small = place-small c.portion due (c.instalment - 1) (omega (arith, is.first, here)) in
+          omega (arith, same, small, few)
+    ]
+
+pub forth-due_first : (n due : ℕ) (c : Cell) → IsCell n c → due_first due (due_first_place due c) ≡ c
+forth-due_first n due c is =
+    let i : ℕ = c.instalment - 1 in
+    let p : ℕ = standard_place c.portion in
+    let at : ℕ → Portion → Cell = λ x y. record { instalment = x; portion = y } in
+    elim (cases_lt due c.instalment) [
+      | inl later ↦
+          let far : 4 * due ≤ place_by_instalment standard_place c = omega (arith, later) in
+          ap (due_first due) (place-later due c later)
+          ∙ due-later due (place_by_instalment standard_place c) far
+          ∙ forth-by_instalment standard standard_place n c standard_places is
+      | inr here ↦
+          let less : i < due = omega (arith, is.first, here) in
+          let rest : (p * due + i) % due + 1 ≡ c.instalment = let low = mod-mul-add p due i less in omega (arith, low, is.first) in
+          let quotient : (p * due + i) / due ≡ p = div-mul-add p due i less in
+          ap (due_first due) (place-here due c here)
+          ∙ due-here due (p * due + i) (place-small c.portion due i less)
+          ∙ ap (λ x. at x (standard ((p * due + i) / due))) rest
+          ∙ ap (λ x. at c.instalment (standard x)) quotient
+          ∙ ap (λ y. at c.instalment y) (standard_places.back c.portion)
+    ]
+
 -- each name's order is lawful
-pub is_cell-cell_by : (name : StrategyName) (n k : ℕ) → k < 4 * n → IsCell n (cell_by name k)
-is_cell-cell_by MifosStandard n k within = is_cell-by_instalment standard n k within
-is_cell-cell_by PrincipalFirst n k within = is_cell-by_instalment principal_first n k within
-is_cell-cell_by InterestFirst n k within = is_cell-by_instalment interest_first n k within
+pub is_cell-cell_by : (name : StrategyName) (n due k : ℕ) → due ≤ n → k < 4 * n → IsCell n (cell_by name due k)
+is_cell-cell_by MifosStandard n due k few within = is_cell-by_instalment standard n k within
+is_cell-cell_by PrincipalFirst n due k few within = is_cell-by_instalment principal_first n k within
+is_cell-cell_by InterestFirst n due k few within = is_cell-by_instalment interest_first n k within
+is_cell-cell_by DueFirst n due k few within = is_cell-due_first n due k few within
 
-pub back-cell_by : (name : StrategyName) (k : ℕ) → place_by name (cell_by name k) ≡ k
-back-cell_by MifosStandard k = back-by_instalment standard standard_place k standard_places
-back-cell_by PrincipalFirst k = back-by_instalment principal_first principal_first_place k principal_first_places
-back-cell_by InterestFirst k = back-by_instalment interest_first interest_first_place k interest_first_places
+pub back-cell_by : (name : StrategyName) (due k : ℕ) → place_by name due (cell_by name due k) ≡ k
+back-cell_by MifosStandard due k = back-by_instalment standard standard_place k standard_places
+back-cell_by PrincipalFirst due k = back-by_instalment principal_first principal_first_place k principal_first_places
+back-cell_by InterestFirst due k = back-by_instalment interest_first interest_first_place k interest_first_places
+back-cell_by DueFirst due k = back-due_first due k
 
-pub in_range-place_by : (name : StrategyName) (n : ℕ) (c : Cell) → IsCell n c → place_by name c < 4 * n
-in_range-place_by MifosStandard n c is = in_range-by_instalment standard standard_place n c standard_places is
-in_range-place_by PrincipalFirst n c is = in_range-by_instalment principal_first principal_first_place n c principal_first_places is
-in_range-place_by InterestFirst n c is = in_range-by_instalment interest_first interest_first_place n c interest_first_places is
+pub in_range-place_by : (name : StrategyName) (n due : ℕ) (c : Cell) → due ≤ n → IsCell n c → place_by name due c < 4 * n
+in_range-place_by MifosStandard n due c few is = in_range-by_instalment standard standard_place n c standard_places is
+in_range-place_by PrincipalFirst n due c few is = in_range-by_instalment principal_first principal_first_place n c principal_first_places is
+in_range-place_by InterestFirst n due c few is = in_range-by_instalment interest_first interest_first_place n c interest_first_places is
+in_range-place_by DueFirst n due c few is = in_range-due_first n due c few is
 
-pub forth-place_by : (name : StrategyName) (n : ℕ) (c : Cell) → IsCell n c → cell_by name (place_by name c) ≡ c
-forth-place_by MifosStandard n c is = forth-by_instalment standard standard_place n c standard_places is
-forth-place_by PrincipalFirst n c is = forth-by_instalment principal_first principal_first_place n c principal_first_places is
-forth-place_by InterestFirst n c is = forth-by_instalment interest_first interest_first_place n c interest_first_places is
+pub forth-place_by : (name : StrategyName) (n due : ℕ) (c : Cell) → IsCell n c → cell_by name due (place_by name due c) ≡ c
+forth-place_by MifosStandard n due c is = forth-by_instalment standard standard_place n c standard_places is
+forth-place_by PrincipalFirst n due c is = forth-by_instalment principal_first principal_first_place n c principal_first_places is
+forth-place_by InterestFirst n due c is = forth-by_instalment interest_first interest_first_place n c interest_first_places is
+forth-place_by DueFirst n due c is = forth-due_first n due c is
 
 -- an order of n instalments' cells in which each place has a cell of its own
 pub record IsOrder (n : ℕ) (order : ℕ → Cell) (place : Cell → ℕ) : Type 0 where

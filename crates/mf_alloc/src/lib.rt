@@ -7,7 +7,7 @@ mod product;
 mod row;
 mod strategy;
 
-pub use named::{InterestFirst, MifosStandard, PrincipalFirst};
-pub use payment::{outstanding, pay, undo};
+pub use named::{DueFirst, InterestFirst, MifosStandard, PrincipalFirst};
+pub use payment::{due_by, outstanding, pay, undo};
 pub use row::{Cell, Portion, Row, Share};
 pub use strategy::Strategy;

@@ -1,5 +1,6 @@
 ghost use Rattle.std.specs.Prelude.{◌≡◌, ℕ, ◌+◌, ◌*◌, ◌≤◌, IfOk, OnErr, IsOkUnless, length, vec_len, All};
 ghost use Rattle.mf_alloc.specs.Rows.{IsCell, outstanding as open_in, pay_into, with_paid, without_paid, take_out, IsPayable};
+ghost use Rattle.mf_alloc.specs.Order.{due_by as due_among, order_at};
 ghost use Rattle.mf_alloc.specs.Payment.{shares_of as line_shares, rest_of as line_rest, total_of};
 
 use crate::row::{Cell, Row, Share};
@@ -14,6 +15,18 @@ pub fn outstanding(rows: &[Row], cell: Cell) -> u64
 {
     let row = &rows[(cell.instalment - 1) as usize];
     row.outstanding(cell.portion)
+}
+
+/// How many instalments are due by a day: those whose due day is on or before it.
+pub fn due_by(rows: &[Row], day: Day) -> u32
+    requires { length rows.now ≤ 360 }
+    ensures value { result ≡ due_among day rows.now }
+    ensures most { result ≤ length rows.now }
+{
+    rows.iter()
+        .map(|row| row.due)
+        .filter(|due| *due <= day)
+        .count() as u32
 }
 
 /// Pays a share into its cell.
@@ -48,16 +61,18 @@ fn credit_all(rows: &mut [Row], shares: &[Share])
     }
 }
 
-/// The shares of an amount, and the rest.
+/// The shares of an amount where so many instalments are due, and the rest.
 fn shares_of<T: Strategy>(
     alloc: Global,
     strategy: &T,
     rows: &[Row],
+    due: u32,
     amount: u64,
 ) -> Result<(Vec<Share>, u64), Fault>
-    requires { length rows.now ≤ 360 }
-    ensures shares { IfOk result (λ answer. answer.0.items ≡ line_shares (T.cell_at strategy.now (length rows.now)) rows.now amount) }
-    ensures rest { IfOk result (λ answer. answer.1 ≡ line_rest (T.cell_at strategy.now (length rows.now)) rows.now amount) }
+    requires few { length rows.now ≤ 360 }
+    requires due { due ≤ length rows.now }
+    ensures shares { IfOk result (λ answer. answer.0.items ≡ line_shares (T.cell_at strategy.now (length rows.now) due) rows.now amount) }
+    ensures rest { IfOk result (λ answer. answer.1 ≡ line_rest (T.cell_at strategy.now (length rows.now) due) rows.now amount) }
     ensures whole { IfOk result (λ answer. total_of answer.0.items + answer.1 ≡ amount) }
     ensures payable { IfOk result (λ answer. IsPayable rows.now answer.0.items) }
     ensures cells { IfOk result (λ answer. All (λ share. IsCell (length rows.now) share.cell) answer.0.items) }
@@ -68,7 +83,7 @@ fn shares_of<T: Strategy>(
     let mut shares = Vec::new(alloc);
     let mut rest = amount;
     for k in 0..4 * n {
-        let cell = strategy.cell(n, k);
+        let cell = strategy.cell(n, due, k);
         let share = outstanding(rows, cell).min(rest);
         if share > 0 {
             shares.push(Share {
@@ -81,18 +96,18 @@ fn shares_of<T: Strategy>(
     Ok((shares, rest))
 }
 
-/// Pays an amount into the rows, and answers the shares in the strategy's order, zero ones left out,
-/// and the rest.
+/// Pays an amount into the rows on a day, and answers the shares in the strategy's order at that day, zero ones left
+/// out, and the rest.
 pub fn pay<T: Strategy>(
     alloc: Global,
     strategy: &T,
     rows: &mut Vec<Row>,
     amount: u64,
-    _day: Day,
+    day: Day,
 ) -> Result<(Vec<Share>, u64), Fault>
     requires { vec_len rows.old ≤ 360 }
-    ensures shares { IfOk result (λ answer. answer.0.items ≡ line_shares (T.cell_at strategy.now (length rows.old.items)) rows.old.items amount) }
-    ensures rest { IfOk result (λ answer. answer.1 ≡ line_rest (T.cell_at strategy.now (length rows.old.items)) rows.old.items amount) }
+    ensures shares { IfOk result (λ answer. answer.0.items ≡ line_shares (order_at (T.cell_at strategy.now) rows.old.items day) rows.old.items amount) }
+    ensures rest { IfOk result (λ answer. answer.1 ≡ line_rest (order_at (T.cell_at strategy.now) rows.old.items day) rows.old.items amount) }
     ensures whole { IfOk result (λ answer. total_of answer.0.items + answer.1 ≡ amount) }
     ensures few { IfOk result (λ answer. vec_len answer.0 ≤ 4 * vec_len rows.old) }
     ensures cells { IfOk result (λ answer. All (λ share. IsCell (vec_len rows.old) share.cell) answer.0.items) }
@@ -103,7 +118,8 @@ pub fn pay<T: Strategy>(
     ensures only { IsOkUnless result Fault.F20 }
     ensures err { OnErr result (rows.new.items ≡ rows.old.items) }
 {
-    let (shares, rest) = shares_of(alloc, strategy, rows, amount)?;
+    let due = due_by(rows, day);
+    let (shares, rest) = shares_of(alloc, strategy, rows, due, amount)?;
     credit_all(rows, &shares);
     Ok((shares, rest))
 }

@@ -4,7 +4,7 @@ use Rattle.std.specs.Prelude.{◌&&◌, ◌==◌, nat_le, nat_lt, IfSome}
 use Rattle.std.specs.List.{AllByRecursion}
 use Rattle.std.proofs.lemmas.Bool.Decides.{nat_tests}
 use Rattle.mf_catalog.specs.declared.charge.ChargeDef.{ChargeDef}
-use Rattle.mf_catalog.specs.declared.limits.TheConstants.{GREATEST_AMOUNT, MOST_PERIODS}
+use Rattle.mf_catalog.specs.Limits.{greatest_amount, most_periods}
 use Rattle.mf_catalog.specs.declared.product.ProductMembers.{ProductMembers}
 use Rattle.mf_catalog.specs.Limits.{IsChargeWithinLimits, AreTermsWithinLimits}
 use Rattle.mf_catalog.specs.Product.{AreMembersWithinLimits, charge_at, charge_of, limits_agree, allows, terms_of}
@@ -48,7 +48,7 @@ graces_within p principal n agree allow =
     let least : nat_le p.min_periods n ≡ true = and_left (nat_le p.min_periods n) _ periods in
     (grind (arith, nat_tests), grind (arith, nat_tests))
 
-pub loan_within : (p : ProductMembers) (principal n : ℕ) → AreMembersWithinLimits p → allows p principal n ≡ true → (1 ≤ principal) × (principal ≤ GREATEST_AMOUNT) × (1 ≤ n) × (n ≤ MOST_PERIODS)
+pub loan_within : (p : ProductMembers) (principal n : ℕ) → AreMembersWithinLimits p → allows p principal n ≡ true → (1 ≤ principal) × (principal ≤ greatest_amount) × (1 ≤ n) × (n ≤ most_periods)
 loan_within p principal n m allow =
     let amounts = and_left (nat_le p.min_principal principal && nat_le principal p.max_principal) _ allow in
     let least : nat_le p.min_principal principal ≡ true = and_left (nat_le p.min_principal principal) _ amounts in

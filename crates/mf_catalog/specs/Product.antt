@@ -9,8 +9,7 @@ use Rattle.mf_catalog.specs.declared.charge.ChargeKind.TheVariants.{Disbursement
 use Rattle.mf_catalog.specs.declared.product.Product.{Product}
 use Rattle.mf_catalog.specs.declared.product.ProductMembers.{ProductMembers}
 use Rattle.mf_catalog.specs.declared.terms.Terms.{Terms}
-use Rattle.mf_catalog.specs.declared.limits.TheConstants.{GREATEST_AMOUNT, GREATEST_RATE, MOST_GRACE, MOST_PERIODS}
-use Rattle.mf_catalog.specs.Limits.{longest_step}
+use Rattle.mf_catalog.specs.Limits.{greatest_amount, greatest_rate, most_grace, most_periods, longest_step}
 
 -- the charge of this number in a list
 abbrev pub charge_at : List ChargeDef → ℕ → Option ChargeDef
@@ -83,16 +82,16 @@ terms_of charges p = record {
 
 -- the ranges in which the members of a product are read
 pub record AreMembersWithinLimits (p : ProductMembers) : Type 0 where
-  pub rate : p.rate ≤ GREATEST_RATE
+  pub rate : p.rate ≤ greatest_rate
   pub some_step : 1 ≤ p.every
   pub longest_step : p.every ≤ longest_step p.freq
-  pub principal_grace : p.principal_grace ≤ MOST_GRACE
-  pub interest_grace : p.interest_grace ≤ MOST_GRACE
+  pub principal_grace : p.principal_grace ≤ most_grace
+  pub interest_grace : p.interest_grace ≤ most_grace
   pub some_min_principal : 1 ≤ p.min_principal
-  pub most_min_principal : p.min_principal ≤ GREATEST_AMOUNT
+  pub most_min_principal : p.min_principal ≤ greatest_amount
   pub some_max_principal : 1 ≤ p.max_principal
-  pub most_max_principal : p.max_principal ≤ GREATEST_AMOUNT
+  pub most_max_principal : p.max_principal ≤ greatest_amount
   pub some_min_periods : 1 ≤ p.min_periods
-  pub most_min_periods : p.min_periods ≤ MOST_PERIODS
+  pub most_min_periods : p.min_periods ≤ most_periods
   pub some_max_periods : 1 ≤ p.max_periods
-  pub most_max_periods : p.max_periods ≤ MOST_PERIODS
+  pub most_max_periods : p.max_periods ≤ most_periods

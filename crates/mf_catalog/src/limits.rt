@@ -16,12 +16,8 @@ pub const MOST_MONTHS: u32 = 12;
 /// The most days of a period, of a year of 360: 52 weeks.
 pub const MOST_DAYS: u32 = 364;
 
-/// The most periods that a product may name.
-pub const MOST_PERIODS: u32 = 120;
+/// The most periods of a loan, and so the most instalments of a schedule.
+pub const MOST_PERIODS: u32 = 360;
 
 /// The longest grace, of principal or of interest, that a product may name.
-pub const MOST_GRACE: u32 = 119;
-
-/// The most instalments that a schedule is worked out for. `MOST_PERIODS` may be raised up to it, and
-/// `MOST_GRACE` to one less.
-pub const MOST_INSTALMENTS: u32 = 360;
+pub const MOST_GRACE: u32 = 359;

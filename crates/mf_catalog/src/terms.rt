@@ -13,7 +13,7 @@ pub enum Method {
     Fixed,
 }
 
-/// In which order a payment fills the portions of an instalment.
+/// In which order a payment fills the portions of the instalments.
 #[derive(Clone, Copy, PartialEq, Eq, Debug)]
 pub enum StrategyName {
     /// Penalties, fees, interest, principal.
@@ -22,6 +22,9 @@ pub enum StrategyName {
     PrincipalFirst,
     /// Interest, principal, penalties, fees.
     InterestFirst,
+    /// Over all instalments that are due, penalties, fees, interest, principal; then each later instalment in that
+    /// order.
+    DueFirst,
 }
 
 /// The terms of a loan, copied from its product.

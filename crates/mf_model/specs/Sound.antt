@@ -8,10 +8,9 @@ use Rattle.mf_office.specs.declared.account.Account.{Account}
 use Rattle.mf_model.specs.declared.request.Request.{Request}
 use Rattle.mf_catalog.specs.declared.charge.Calc.{Calc}
 use Rattle.mf_catalog.specs.declared.charge.ChargeDef.{ChargeDef}
-use Rattle.mf_catalog.specs.declared.limits.TheConstants.{GREATEST_AMOUNT, MOST_PERIODS}
 use Rattle.mf_catalog.specs.declared.product.Product.{Product}
 use Rattle.mf_catalog.specs.declared.product.ProductMembers.{ProductMembers}
-use Rattle.mf_catalog.specs.Limits.{greatest_value}
+use Rattle.mf_catalog.specs.Limits.{greatest_amount, most_periods, greatest_value}
 use Rattle.mf_catalog.specs.Product.{AreMembersWithinLimits, is_consistent, allows}
 use Rattle.mf_model.specs.declared.loan.Loan.{Loan}
 use Rattle.mf_model.specs.declared.loan.Stage.{Stage}
@@ -115,7 +114,7 @@ IsInRange (GetCharge charge) = charge ≤ 999999999
 IsInRange (PostProducts members) = AreMembers members
 IsInRange (GetProduct product) = product ≤ 999999999
 IsInRange (RetireProduct product) = product ≤ 999999999
-IsInRange (PostLoans client product principal periods) = IsAccount client × (product ≤ 999999999) × ((1 ≤ principal) × (principal ≤ GREATEST_AMOUNT)) × ((1 ≤ periods) × (periods ≤ MOST_PERIODS))
+IsInRange (PostLoans client product principal periods) = IsAccount client × (product ≤ 999999999) × ((1 ≤ principal) × (principal ≤ greatest_amount)) × ((1 ≤ periods) × (periods ≤ most_periods))
 IsInRange (GetLoan loan) = IsAccount loan
 IsInRange (ApproveLoan loan) = IsAccount loan
 IsInRange (RejectLoan loan) = IsAccount loan

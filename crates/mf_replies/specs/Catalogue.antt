@@ -11,7 +11,7 @@ use Rattle.mf_catalog.specs.declared.charge.ChargeDef.{ChargeDef}
 use Rattle.mf_catalog.specs.declared.terms.Method.{Method}
 use Rattle.mf_catalog.specs.declared.terms.Method.TheVariants.{Flat, EqualPrincipal, Fixed}
 use Rattle.mf_catalog.specs.declared.terms.StrategyName.{StrategyName}
-use Rattle.mf_catalog.specs.declared.terms.StrategyName.TheVariants.{MifosStandard, PrincipalFirst, InterestFirst}
+use Rattle.mf_catalog.specs.declared.terms.StrategyName.TheVariants.{MifosStandard, PrincipalFirst, InterestFirst, DueFirst}
 use Rattle.mf_catalog.specs.declared.product.Product.{Product}
 use Rattle.mf_replies.specs.Json.{whole, whole_or_null}
 
@@ -45,6 +45,7 @@ abbrev pub strategy_name : StrategyName → List ℕ
 strategy_name MifosStandard = codes "mifos-standard-strategy"
 strategy_name PrincipalFirst = codes "principal-interest-penalties-fees-order-strategy"
 strategy_name InterestFirst = codes "interest-principal-penalties-fees-order-strategy"
+strategy_name DueFirst = codes "due-first-by-portion"
 
 -- a charge as GET /charges/{charge} shows it
 abbrev pub charge_data : ChargeDef → Data

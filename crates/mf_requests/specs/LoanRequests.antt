@@ -1,7 +1,7 @@
 -- What requests on loans ask.
 use Rattle.std.specs.Prelude.{ℕ, List, codes, Option, option_map, option_and_then}
 use Rattle.serde_json.specs.Data.{Data}
-use Rattle.mf_catalog.specs.declared.limits.TheConstants.{GREATEST_AMOUNT, MOST_PERIODS}
+use Rattle.mf_catalog.specs.Limits.{greatest_amount, most_periods}
 use Rattle.mf_model.specs.declared.request.Request.{Request}
 use Rattle.mf_model.specs.declared.request.Request.TheVariants.{PostLoans, GetLoans}
 use Rattle.mf_requests.specs.Bodies.{within, number_at, account_at}
@@ -13,8 +13,8 @@ new_loan d =
     option_and_then (λ client.
     option_and_then (λ product.
     option_and_then (λ principal.
-    option_map (λ periods. PostLoans client product principal periods) (number_at 1 MOST_PERIODS (codes "periods") d))
-    (number_at 1 GREATEST_AMOUNT (codes "principal") d))
+    option_map (λ periods. PostLoans client product principal periods) (number_at 1 most_periods (codes "periods") d))
+    (number_at 1 greatest_amount (codes "principal") d))
     (number_at 0 999999999 (codes "product") d))
     (account_at (codes "client") d)
 

@@ -11,7 +11,7 @@ use Rattle.mf_catalog.specs.declared.charge.Calc.TheVariants as calc
 use Rattle.mf_catalog.specs.declared.terms.Method.{Method}
 use Rattle.mf_catalog.specs.declared.terms.Method.TheVariants as method
 use Rattle.mf_catalog.specs.declared.terms.StrategyName.{StrategyName}
-use Rattle.mf_catalog.specs.declared.terms.StrategyName.TheVariants.{MifosStandard, PrincipalFirst, InterestFirst}
+use Rattle.mf_catalog.specs.declared.terms.StrategyName.TheVariants.{MifosStandard, PrincipalFirst, InterestFirst, DueFirst}
 use Rattle.mf_requests.specs.Bodies.{text_at}
 
 abbrev pub kind_named : List ℕ → Option ChargeKind
@@ -59,7 +59,8 @@ abbrev pub strategy_named : List ℕ → Option StrategyName
 strategy_named text =
     cond (bytes_eq text (codes "mifos-standard-strategy")) (Some MifosStandard)
     (cond (bytes_eq text (codes "principal-interest-penalties-fees-order-strategy")) (Some PrincipalFirst)
-    (cond (bytes_eq text (codes "interest-principal-penalties-fees-order-strategy")) (Some InterestFirst) None))
+    (cond (bytes_eq text (codes "interest-principal-penalties-fees-order-strategy")) (Some InterestFirst)
+    (cond (bytes_eq text (codes "due-first-by-portion")) (Some DueFirst) None)))
 
 -- a member that names the order in which payments fill the portions
 abbrev pub strategy_at : List ℕ → Data → Option StrategyName

@@ -1,9 +1,8 @@
 -- What the body of a request for a new product asks, part by part.
 use Rattle.std.specs.Prelude.{ℕ, ◌≤◌, List, codes, Option, option_map, option_and_then}
 use Rattle.serde_json.specs.Data.{Data}
-use Rattle.mf_catalog.specs.declared.limits.TheConstants.{GREATEST_AMOUNT, GREATEST_RATE, MOST_GRACE, MOST_PERIODS}
 use Rattle.mf_catalog.specs.declared.product.ProductMembers.{ProductMembers}
-use Rattle.mf_catalog.specs.Limits.{longest_step}
+use Rattle.mf_catalog.specs.Limits.{greatest_amount, greatest_rate, most_grace, most_periods, longest_step}
 use Rattle.mf_model.specs.declared.request.Request.{Request}
 use Rattle.mf_model.specs.declared.request.Request.TheVariants.{PostProducts}
 use Rattle.mf_requests.specs.declared.request.products.Step.{Step}
@@ -30,10 +29,10 @@ planning_at d =
     option_and_then (λ interest_grace.
     option_map (λ strategy. record { method = method; rate = rate; step = step; principal_grace = principal_grace; interest_grace = interest_grace; strategy = strategy })
     (strategy_at (codes "strategy") d))
-    (number_at 0 MOST_GRACE (codes "interest_grace") d))
-    (number_at 0 MOST_GRACE (codes "principal_grace") d))
+    (number_at 0 most_grace (codes "interest_grace") d))
+    (number_at 0 most_grace (codes "principal_grace") d))
     (step_at d))
-    (number_at 0 GREATEST_RATE (codes "rate") d))
+    (number_at 0 greatest_rate (codes "rate") d))
     (method_at (codes "method") d)
 
 -- the least and the greatest loan, by the members min_principal, max_principal, min_periods and max_periods
@@ -43,10 +42,10 @@ bounds_at d =
     option_and_then (λ max_principal.
     option_and_then (λ min_periods.
     option_map (λ max_periods. record { min_principal = min_principal; max_principal = max_principal; min_periods = min_periods; max_periods = max_periods })
-    (number_at 1 MOST_PERIODS (codes "max_periods") d))
-    (number_at 1 MOST_PERIODS (codes "min_periods") d))
-    (number_at 1 GREATEST_AMOUNT (codes "max_principal") d))
-    (number_at 1 GREATEST_AMOUNT (codes "min_principal") d)
+    (number_at 1 most_periods (codes "max_periods") d))
+    (number_at 1 most_periods (codes "min_periods") d))
+    (number_at 1 greatest_amount (codes "max_principal") d))
+    (number_at 1 greatest_amount (codes "min_principal") d)
 
 -- a member that may be absent or null, and else is a charge's number, which may be that of no charge
 abbrev pub charge_at : List ℕ → Data → Option (Option ℕ)
@@ -100,18 +99,18 @@ pub record IsStepInRange (step : Step) : Type 0 where
 
 -- the ranges of what plans schedules
 pub record IsPlanningInRange (planning : Planning) : Type 0 where
-  pub rate : planning.rate ≤ GREATEST_RATE
+  pub rate : planning.rate ≤ greatest_rate
   pub step : IsStepInRange planning.step
-  pub principal_grace : planning.principal_grace ≤ MOST_GRACE
-  pub interest_grace : planning.interest_grace ≤ MOST_GRACE
+  pub principal_grace : planning.principal_grace ≤ most_grace
+  pub interest_grace : planning.interest_grace ≤ most_grace
 
 -- the ranges of the least and the greatest loan
 pub record AreBoundsInRange (bounds : Bounds) : Type 0 where
   pub some_min_principal : 1 ≤ bounds.min_principal
-  pub most_min_principal : bounds.min_principal ≤ GREATEST_AMOUNT
+  pub most_min_principal : bounds.min_principal ≤ greatest_amount
   pub some_max_principal : 1 ≤ bounds.max_principal
-  pub most_max_principal : bounds.max_principal ≤ GREATEST_AMOUNT
+  pub most_max_principal : bounds.max_principal ≤ greatest_amount
   pub some_min_periods : 1 ≤ bounds.min_periods
-  pub most_min_periods : bounds.min_periods ≤ MOST_PERIODS
+  pub most_min_periods : bounds.min_periods ≤ most_periods
   pub some_max_periods : 1 ≤ bounds.max_periods
-  pub most_max_periods : bounds.max_periods ≤ MOST_PERIODS
+  pub most_max_periods : bounds.max_periods ≤ most_periods

@@ -103,6 +103,8 @@ fn strategy_of_text(text: &str) -> Option<StrategyName>
         Some(StrategyName::PrincipalFirst)
     } else if text == "interest-principal-penalties-fees-order-strategy" {
         Some(StrategyName::InterestFirst)
+    } else if text == "due-first-by-portion" {
+        Some(StrategyName::DueFirst)
     } else {
         None
     }

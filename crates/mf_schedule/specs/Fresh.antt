@@ -2,10 +2,9 @@
 use Rattle.std.specs.Prelude.{ℕ, ◌+◌, ◌*◌, ◌<◌, ◌≤◌, List, map, sum_by}
 use Rattle.std.specs.List.{range_with_len}
 use Rattle.mf_base.specs.Calendar.{day_after}
-use Rattle.mf_catalog.specs.declared.limits.TheConstants.{GREATEST_AMOUNT, MOST_INSTALMENTS}
 use Rattle.mf_catalog.specs.declared.terms.Terms.{Terms}
 use Rattle.mf_catalog.specs.Charge.{amount_of_any}
-use Rattle.mf_catalog.specs.Limits.{AreTermsWithinLimits}
+use Rattle.mf_catalog.specs.Limits.{greatest_amount, most_periods, AreTermsWithinLimits}
 use Rattle.mf_schedule.specs.Plan.{principal_of, interest_of, after_grace}
 use Rattle.mf_schedule.specs.declared.instalment.Instalment.{Instalment}
 
@@ -51,7 +50,7 @@ fee_at_disbursement terms principal rows = amount_of_any terms.disbursement prin
 pub record IsLoanWithinLimits (terms : Terms) (principal n : ℕ) : Type 0 where
   pub terms_limits : AreTermsWithinLimits terms
   pub some_principal : 1 ≤ principal
-  pub most_principal : principal ≤ GREATEST_AMOUNT
-  pub most_periods : n ≤ MOST_INSTALMENTS
+  pub most_principal : principal ≤ greatest_amount
+  pub most_periods : n ≤ most_periods
   pub principal_grace : terms.principal_grace < n
   pub interest_grace : terms.interest_grace < n

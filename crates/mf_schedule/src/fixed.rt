@@ -1,14 +1,14 @@
 ghost use Rattle.std.specs.Prelude.{◌≡◌, ℕ, ◌*◌, ◌<◌, ◌≤◌, ◌^◌, ◌↔◌, IsTrue};
+ghost use Rattle.mf_catalog.specs.Limits.{greatest_amount, greatest_rate, most_days};
 ghost use Rattle.mf_schedule.specs.Fixed.{interest_on, balance_after, least_amount};
 
 use mf_base::half_even;
-use mf_catalog::{GREATEST_AMOUNT, GREATEST_RATE, MOST_DAYS};
 
 /// The interest of a period on a balance.
 pub(crate) fn interest(balance: u64, rate: u32, days: u32) -> u64
-    requires balance { balance ≤ GREATEST_AMOUNT }
-    requires rate { rate ≤ GREATEST_RATE }
-    requires days { days ≤ MOST_DAYS }
+    requires balance { balance ≤ greatest_amount }
+    requires rate { rate ≤ greatest_rate }
+    requires days { days ≤ most_days }
     ensures value { result ≡ interest_on rate days balance }
     ensures small { result ≤ 2 * 10 ^ 13 }
 {
@@ -17,9 +17,9 @@ pub(crate) fn interest(balance: u64, rate: u32, days: u32) -> u64
 
 /// Whether so many instalments of an amount leave nothing of the principal.
 fn is_enough(amount: u64, principal: u64, rate: u32, days: u32, n: u32) -> bool
-    requires principal { principal ≤ GREATEST_AMOUNT }
-    requires rate { rate ≤ GREATEST_RATE }
-    requires days { days ≤ MOST_DAYS }
+    requires principal { principal ≤ greatest_amount }
+    requires rate { rate ≤ greatest_rate }
+    requires days { days ≤ most_days }
     requires amount { interest_on rate days principal < amount }
     ensures { IsTrue result ↔ (balance_after rate days amount principal n ≡ 0) }
 {
@@ -34,9 +34,9 @@ fn is_enough(amount: u64, principal: u64, rate: u32, days: u32, n: u32) -> bool
 /// principal. It is found by halving, and takes no memory.
 pub fn fixed_amount(principal: u64, rate: u32, days: u32, n: u32) -> u64
     requires some_principal { 1 ≤ principal }
-    requires most_principal { principal ≤ GREATEST_AMOUNT }
-    requires rate { rate ≤ GREATEST_RATE }
-    requires days { days ≤ MOST_DAYS }
+    requires most_principal { principal ≤ greatest_amount }
+    requires rate { rate ≤ greatest_rate }
+    requires days { days ≤ most_days }
     requires periods { 1 ≤ n }
     ensures enough { balance_after rate days result principal n ≡ 0 }
     ensures least { (amount : ℕ) → balance_after rate days amount principal n ≡ 0 → result ≤ amount }

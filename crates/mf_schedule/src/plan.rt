@@ -1,10 +1,11 @@
 ghost use Rattle.std.specs.Prelude.{◌≡◌, ◌+◌, ◌*◌, ◌<◌, ◌≤◌, ◌^◌};
+ghost use Rattle.mf_catalog.specs.Limits.{most_weeks};
 ghost use Rattle.mf_schedule.specs.Fresh.{IsLoanWithinLimits};
 ghost use Rattle.mf_schedule.specs.Plan.{balance_of, days_of, interest_of, principal_of};
 
 use crate::fixed::{fixed_amount, interest};
 use mf_base::{Freq, half_even, split};
-use mf_catalog::{MOST_WEEKS, Method, Terms};
+use mf_catalog::{Method, Terms};
 
 /// What the method of a loan settles once for all instalments.
 #[derive(Clone, Copy)]
@@ -19,7 +20,7 @@ pub(crate) enum Plan {
 
 /// The days of a period, of a year of 360.
 pub(crate) fn days(terms: &Terms) -> u32
-    requires { terms.now.every ≤ MOST_WEEKS }
+    requires { terms.now.every ≤ most_weeks }
     ensures { result ≡ days_of terms.now }
 {
     match terms.freq {

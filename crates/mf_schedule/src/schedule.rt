@@ -3,21 +3,21 @@ ghost use Rattle.std.specs.List.{range_with_len};
 ghost use Rattle.mf_base.specs.DayText.{last_entered_day};
 ghost use Rattle.mf_schedule.specs.Fresh.{IsLoanWithinLimits, due_day_of, fee_at_disbursement, fresh_schedule, total_interest, total_owed, total_principal};
 ghost use Rattle.mf_schedule.specs.Plan.{interest_of};
-ghost use Rattle.mf_catalog.specs.Limits.{AreTermsWithinLimits, IsChargeWithinLimits};
+ghost use Rattle.mf_catalog.specs.Limits.{greatest_amount, most_periods, most_weeks, AreTermsWithinLimits, IsChargeWithinLimits};
 ghost use Rattle.mf_catalog.specs.Charge.{amount_of_any};
 
 use crate::instalment::Instalment;
 use crate::plan::Plan;
 use mf_base::{Day, Fault};
-use mf_catalog::{ChargeDef, GREATEST_AMOUNT, MOST_INSTALMENTS, MOST_WEEKS, Terms, charge_amount};
+use mf_catalog::{ChargeDef, Terms, charge_amount};
 use std::alloc::Global;
 use std::mem;
 
 /// Due day i, always counted from the day of disbursement.
 fn due_day(terms: &Terms, day: Day, i: u32) -> Day
     requires day { day ≤ last_entered_day }
-    requires every { terms.now.every ≤ MOST_WEEKS }
-    requires i { i ≤ MOST_INSTALMENTS }
+    requires every { terms.now.every ≤ most_weeks }
+    requires i { i ≤ most_periods }
     ensures { result ≡ due_day_of terms.now day i }
 {
     day.after(terms.freq, terms.every * i)
@@ -26,7 +26,7 @@ fn due_day(terms: &Terms, day: Day, i: u32) -> Day
 /// What a charge comes to, 0 where there is none.
 fn amount_of_charge(charge: &Option<ChargeDef>, amount: u64, interest: u64) -> u64
     requires limits { IfSome charge.now IsChargeWithinLimits }
-    requires amount { amount ≤ GREATEST_AMOUNT }
+    requires amount { amount ≤ greatest_amount }
     requires interest { interest < 2 ^ 62 }
     ensures { result ≡ amount_of_any charge.now amount interest }
 {
@@ -86,7 +86,7 @@ pub fn fresh(
 /// The charge that is taken at disbursement: on the principal, and on the interest of all instalments.
 pub fn disbursement_fee(terms: &Terms, principal: u64, rows: &[Instalment]) -> u64
     requires limits { AreTermsWithinLimits terms.now }
-    requires principal { principal ≤ GREATEST_AMOUNT }
+    requires principal { principal ≤ greatest_amount }
     requires interest { total_interest rows.now < 2 ^ 62 }
     ensures { result ≡ fee_at_disbursement terms.now principal rows.now }
 {

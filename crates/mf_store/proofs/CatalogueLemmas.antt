@@ -14,7 +14,7 @@ use Rattle.mf_catalog.specs.declared.product.ProductMembers.{ProductMembers}
 use Rattle.mf_catalog.specs.declared.terms.Method.{Method}
 use Rattle.mf_catalog.specs.declared.terms.Method.TheVariants as method
 use Rattle.mf_catalog.specs.declared.terms.StrategyName.{StrategyName}
-use Rattle.mf_catalog.specs.declared.terms.StrategyName.TheVariants.{MifosStandard, PrincipalFirst, InterestFirst}
+use Rattle.mf_catalog.specs.declared.terms.StrategyName.TheVariants.{MifosStandard, PrincipalFirst, InterestFirst, DueFirst}
 use Rattle.mf_tables.specs.Keep.{put_item}
 use Rattle.mf_model.specs.Institution.{Institution, Charge, Offer, numbered, with_numbered, charge_def, product_of as product_numbered}
 use Rattle.mf_model.specs.Sound.{IsSound}
@@ -79,12 +79,13 @@ pub frequency_is : (a b : Freq) → frequency_number a ≡ frequency_number b �
 frequency_is a b e = sym (frequency_back a) ∙ ap frequency_at e ∙ frequency_back b
 
 abbrev strategy_at : ℕ → StrategyName
-strategy_at n = cond (n == 1) MifosStandard (cond (n == 2) PrincipalFirst InterestFirst)
+strategy_at n = cond (n == 1) MifosStandard (cond (n == 2) PrincipalFirst (cond (n == 3) InterestFirst DueFirst))
 
 strategy_back : (k : StrategyName) → strategy_at (strategy_number k) ≡ k
 strategy_back MifosStandard = refl
 strategy_back PrincipalFirst = refl
 strategy_back InterestFirst = refl
+strategy_back DueFirst = refl
 
 pub strategy_is : (a b : StrategyName) → strategy_number a ≡ strategy_number b → a ≡ b
 strategy_is a b e = sym (strategy_back a) ∙ ap strategy_at e ∙ strategy_back b

@@ -10,7 +10,7 @@ use Rattle.mf_catalog.specs.declared.charge.Calc.TheVariants as calc
 use Rattle.mf_catalog.specs.declared.terms.Method.{Method}
 use Rattle.mf_catalog.specs.declared.terms.Method.TheVariants as method
 use Rattle.mf_catalog.specs.declared.terms.StrategyName.{StrategyName}
-use Rattle.mf_catalog.specs.declared.terms.StrategyName.TheVariants.{MifosStandard, PrincipalFirst, InterestFirst}
+use Rattle.mf_catalog.specs.declared.terms.StrategyName.TheVariants.{MifosStandard, PrincipalFirst, InterestFirst, DueFirst}
 use Rattle.mf_office.specs.Keys.{key_of, key_depth, raised, is_in_range}
 use Rattle.mf_office.specs.declared.staff.Role.{Role}
 use Rattle.mf_office.specs.declared.staff.Role.TheVariants.{Teller, Officer, Manager}
@@ -60,6 +60,7 @@ abbrev pub strategy_number : StrategyName → ℕ
 strategy_number MifosStandard = 1
 strategy_number PrincipalFirst = 2
 strategy_number InterestFirst = 3
+strategy_number DueFirst = 4
 
 -- 1 for yes
 abbrev pub flag_number : Bool → ℕ

@@ -139,6 +139,7 @@ pub(crate) fn strategy_from(number: u32) -> Result<StrategyName, Fault>
         1 => Ok(StrategyName::MifosStandard),
         2 => Ok(StrategyName::PrincipalFirst),
         3 => Ok(StrategyName::InterestFirst),
+        4 => Ok(StrategyName::DueFirst),
         _ => Err(Fault::F20),
     }
 }
@@ -151,6 +152,7 @@ pub(crate) fn number_of_strategy(strategy: StrategyName) -> u32
         StrategyName::MifosStandard => 1,
         StrategyName::PrincipalFirst => 2,
         StrategyName::InterestFirst => 3,
+        StrategyName::DueFirst => 4,
     }
 }
 

@@ -5,8 +5,7 @@ use Rattle.clap.specs.Words.{Row, Text, first_of, subcommand_of}
 use Rattle.mf_base.specs.declared.day.Freq.{Freq}
 use Rattle.mf_base.specs.declared.day.Freq.TheVariants.{Weeks, Months}
 use Rattle.mf_base.specs.DayText.{day_text, last_entered_day}
-use Rattle.mf_catalog.specs.Limits.{longest_step}
-use Rattle.mf_catalog.specs.declared.limits.TheConstants.{GREATEST_AMOUNT, GREATEST_RATE, MOST_GRACE, MOST_PERIODS}
+use Rattle.mf_catalog.specs.Limits.{greatest_amount, greatest_rate, most_grace, most_periods, longest_step}
 use Rattle.mf_catalog.specs.declared.terms.Method.{Method}
 use Rattle.mf_catalog.specs.declared.terms.Method.TheVariants.{Flat, EqualPrincipal, Fixed}
 use Rattle.mf_words.specs.Options.{microloan_app}
@@ -40,21 +39,21 @@ pub record IsDayAt (rows : List Row) (id : Text) (day : ℕ) : Type 0 where
 -- the options of `schedule`
 pub record AreScheduleWords (rows : List Row) (asked : ScheduleWords) : Type 0 where
   pub method : first_of (codes "method") rows ≡ Some (method_text asked.method)
-  pub principal : IsNumberAt rows (codes "principal") 1 GREATEST_AMOUNT asked.principal
-  pub rate : IsNumberAt rows (codes "rate") 0 GREATEST_RATE asked.rate
-  pub periods : IsNumberAt rows (codes "periods") 1 MOST_PERIODS asked.periods
+  pub principal : IsNumberAt rows (codes "principal") 1 greatest_amount asked.principal
+  pub rate : IsNumberAt rows (codes "rate") 0 greatest_rate asked.rate
+  pub periods : IsNumberAt rows (codes "periods") 1 most_periods asked.periods
   pub day : IsDayAt rows (codes "day") asked.day
   pub frequency : first_of (codes "frequency") rows ≡ Some (frequency_text asked.frequency)
   pub every : IsNumberAt rows (codes "every") 1 (longest_step asked.frequency) asked.every
-  pub principal_grace : IsNumberAt rows (codes "principal-grace") 0 MOST_GRACE asked.principal_grace
-  pub interest_grace : IsNumberAt rows (codes "interest-grace") 0 MOST_GRACE asked.interest_grace
+  pub principal_grace : IsNumberAt rows (codes "principal-grace") 0 most_grace asked.principal_grace
+  pub interest_grace : IsNumberAt rows (codes "interest-grace") 0 most_grace asked.interest_grace
 
 -- each number within its limits
 pub record IsWithinLimits (asked : ScheduleWords) : Type 0 where
   pub some_principal : 1 ≤ asked.principal
-  pub most_principal : asked.principal ≤ GREATEST_AMOUNT
-  pub most_rate : asked.rate ≤ GREATEST_RATE
-  pub most_periods : asked.periods ≤ MOST_PERIODS
+  pub most_principal : asked.principal ≤ greatest_amount
+  pub most_rate : asked.rate ≤ greatest_rate
+  pub most_periods : asked.periods ≤ most_periods
   pub day_entered : asked.day ≤ last_entered_day
   pub some_step : 1 ≤ asked.every
   pub longest_step : asked.every ≤ longest_step asked.frequency

@@ -27,7 +27,7 @@ pub struct ScheduleWords {
     pub principal: u64,
     /// The annual rate in hundredths of a percent, from 0 to 100,000.
     pub rate: u32,
-    /// How many instalments, from 1 to 120.
+    /// How many instalments, from 1 to 360.
     pub periods: u32,
     /// The day of disbursement.
     pub day: Day,
@@ -35,9 +35,9 @@ pub struct ScheduleWords {
     pub frequency: Freq,
     /// How many of these a period has: 1 to 52 weeks, or 1 to 12 months.
     pub every: u32,
-    /// How many first instalments carry no principal, from 0 to 119.
+    /// How many first instalments carry no principal, from 0 to 359.
     pub principal_grace: u32,
-    /// How many first instalments carry no interest, from 0 to 119.
+    /// How many first instalments carry no interest, from 0 to 359.
     pub interest_grace: u32,
 }
 

@@ -69,7 +69,7 @@ fn loan_options<'a>(alloc: Global) -> Result<Command<'a>, AllocError>
         "RATE",
         "Hundredths of a percent a year: 0 to 100000",
     );
-    let periods = required_option(alloc, "periods", "COUNT", "Number of instalments: 1 to 120");
+    let periods = required_option(alloc, "periods", "COUNT", "Number of instalments: 1 to 360");
     let day = required_option(
         alloc,
         "day",
@@ -94,7 +94,7 @@ fn schedule_named<'a>(alloc: Global) -> Command<'a>
             "microloan schedule --method <METHOD> --principal <CENTS> --rate <RATE>\n           --periods <COUNT> --day <DAY> [OPTIONS]",
         )
         .after_help(
-            "Methods:\n  flat                         equal principal, interest on the whole principal\n  declining-equal-principal    equal principal, interest on what is left\n  declining-equal-instalments  equal instalments, interest on what is left\n\nEach grace is 0 to 119 first instalments, and less than their number.\n\nExample: 1000.00 at 12 percent a year over three months\n  microloan schedule --method declining-equal-principal \\\n    --principal 100000 --rate 1200 --periods 3 --day 2024-01-31",
+            "Methods:\n  flat                         equal principal, interest on the whole principal\n  declining-equal-principal    equal principal, interest on what is left\n  declining-equal-instalments  equal instalments, interest on what is left\n\nEach grace is 0 to 359 first instalments, and less than their number.\n\nExample: 1000.00 at 12 percent a year over three months\n  microloan schedule --method declining-equal-principal \\\n    --principal 100000 --rate 1200 --periods 3 --day 2024-01-31",
         )
 }
 

@@ -15,12 +15,12 @@ fn wants(wrong: Wrong) -> &'static str {
         }
         Wrong::Principal => "--principal wants whole cents from 1 to 1000000000000",
         Wrong::Rate => "--rate wants hundredths of a percent from 0 to 100000",
-        Wrong::Periods => "--periods wants a number from 1 to 120",
+        Wrong::Periods => "--periods wants a number from 1 to 360",
         Wrong::Day => "--day wants a day from 2000-01-01 to 2099-12-31, as 2024-01-31",
         Wrong::Frequency => "--frequency wants weeks or months",
         Wrong::Every => "--every wants 1 to 52 weeks or 1 to 12 months",
-        Wrong::PrincipalGrace => "--principal-grace wants a number from 0 to 119",
-        Wrong::InterestGrace => "--interest-grace wants a number from 0 to 119",
+        Wrong::PrincipalGrace => "--principal-grace wants a number from 0 to 359",
+        Wrong::InterestGrace => "--interest-grace wants a number from 0 to 359",
     }
 }
 

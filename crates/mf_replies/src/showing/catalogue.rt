@@ -60,6 +60,7 @@ fn strategy_text(strategy: StrategyName) -> &'static str
         StrategyName::MifosStandard => "mifos-standard-strategy",
         StrategyName::PrincipalFirst => "principal-interest-penalties-fees-order-strategy",
         StrategyName::InterestFirst => "interest-principal-penalties-fees-order-strategy",
+        StrategyName::DueFirst => "due-first-by-portion",
     }
 }
 

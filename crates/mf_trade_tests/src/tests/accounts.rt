@@ -1,11 +1,13 @@
 //! Worked accounts of one loan. No clause says that a call succeeds, or which cents come out.
 
 mod charges;
+mod due_first;
 mod opened;
 mod orders;
 mod payments;
 mod reversals;
 mod seals;
+mod undoing;
 
 use mf_base::Fault;
 use mf_catalog::StrategyName;

@@ -1,10 +1,10 @@
 //! Paying into instalments, by each strategy.
 
-ghost use Rattle.std.specs.Prelude.{◌≡◌};
+ghost use Rattle.std.specs.Prelude.{◌≡◌, IfOk, vec_len};
 
 use mf_alloc::{
-    Cell, InterestFirst, MifosStandard, Portion, PrincipalFirst, Row, Share, Strategy, outstanding,
-    pay, undo,
+    Cell, DueFirst, InterestFirst, MifosStandard, Portion, PrincipalFirst, Row, Share, Strategy,
+    due_by, outstanding, pay, undo,
 };
 use mf_base::{Day, Fault};
 use mf_catalog::StrategyName;
@@ -61,6 +61,49 @@ fn pays_in_each_order(rt: HostRuntime) -> Result<(), Fail> {
     Ok(())
 }
 
+/// 100000 cents over three months from 2024-01-31, with their interest.
+fn three_rows(alloc: Global) -> Result<Vec<Row>, Fail>
+    ensures { IfOk result (λ rows. vec_len rows ≡ 3) }
+{
+    let first = Day::parse(b"2024-02-29").ok_or("a day")?;
+    let second = Day::parse(b"2024-03-31").ok_or("a day")?;
+    let third = Day::parse(b"2024-04-30").ok_or("a day")?;
+    let mut rows = Vec::new(alloc);
+    rows.push(Row::fresh(first, [0, 0, 1000, 33333]))?;
+    rows.push(Row::fresh(second, [0, 0, 667, 33333]))?;
+    rows.push(Row::fresh(third, [0, 0, 333, 33334]))?;
+    Ok(rows)
+}
+
+#[test]
+fn pays_what_is_due_first(rt: HostRuntime) -> Result<(), Fail> {
+    let mut rows = three_rows(rt.alloc())?;
+    let day = Day::parse(b"2024-03-31").ok_or("a day")?;
+    assert_eq!(rt; due_by(&rows, day), 2);
+    let (shares, _rest) = pay(rt.alloc(), &DueFirst, &mut rows, 20000, day)?;
+    let expected = [
+        share(1, Portion::Interest, 1000),
+        share(2, Portion::Interest, 667),
+        share(1, Portion::Principal, 18333),
+    ];
+    assert_eq!(rt; shares.as_slice(), expected.as_slice());
+    Ok(())
+}
+
+#[test]
+fn pays_by_instalment_before_any_is_due(rt: HostRuntime) -> Result<(), Fail> {
+    let mut rows = three_rows(rt.alloc())?;
+    let day = Day::parse(b"2024-02-01").ok_or("a day")?;
+    assert_eq!(rt; due_by(&rows, day), 0);
+    let (shares, _rest) = pay(rt.alloc(), &DueFirst, &mut rows, 20000, day)?;
+    let expected = [
+        share(1, Portion::Interest, 1000),
+        share(1, Portion::Principal, 19000),
+    ];
+    assert_eq!(rt; shares.as_slice(), expected.as_slice());
+    Ok(())
+}
+
 #[test]
 fn gives_the_rows_back(rt: HostRuntime) -> Result<(), Fail> {
     let day = Day::parse(b"2024-03-31").ok_or("a day")?;
@@ -78,10 +121,13 @@ fn gives_the_rows_back(rt: HostRuntime) -> Result<(), Fail> {
 #[test]
 fn finds_cells_and_places(rt: HostRuntime) {
     let cell = share(2, Portion::Interest, 0).cell;
-    assert_eq!(rt; MifosStandard.place(3, cell), 6);
-    assert_eq!(rt; PrincipalFirst.place(3, cell), 5);
-    assert_eq!(rt; InterestFirst.place(3, cell), 4);
-    assert_eq!(rt; StrategyName::InterestFirst.cell(3, 4), cell);
+    assert_eq!(rt; MifosStandard.place(3, 2, cell), 6);
+    assert_eq!(rt; PrincipalFirst.place(3, 2, cell), 5);
+    assert_eq!(rt; InterestFirst.place(3, 2, cell), 4);
+    assert_eq!(rt; StrategyName::InterestFirst.cell(3, 2, 4), cell);
+    assert_eq!(rt; DueFirst.place(3, 2, cell), 5);
+    assert_eq!(rt; DueFirst.place(3, 1, cell), 6);
+    assert_eq!(rt; StrategyName::DueFirst.cell(3, 3, 7), cell);
 }
 
 #[test]

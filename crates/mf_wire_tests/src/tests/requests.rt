@@ -9,15 +9,27 @@ use std::test::Fail;
 /// A product with one charge that is null and one that is named, and a member that is ignored. The third is absent.
 const PRODUCT: &str =
     "{\"name\":\"Micro\",\"method\":\"declining-equal-instalments\",\"rate\":2400,\
-\"frequency\":\"months\",\"every\":12,\"principal_grace\":0,\"interest_grace\":119,\"min_principal\":1,\
-\"max_principal\":1000000000000,\"min_periods\":1,\"max_periods\":120,\"strategy\":\"mifos-standard-strategy\",\
+\"frequency\":\"months\",\"every\":12,\"principal_grace\":0,\"interest_grace\":359,\"min_principal\":1,\
+\"max_principal\":1000000000000,\"min_periods\":1,\"max_periods\":360,\"strategy\":\"mifos-standard-strategy\",\
 \"disbursement_charge\":null,\"overdue_charge\":0,\"more\":[]}";
 
 /// The same for 13 months.
 const THIRTEEN_MONTHS: &str =
     "{\"name\":\"Micro\",\"method\":\"declining-equal-instalments\",\"rate\":2400,\
-\"frequency\":\"months\",\"every\":13,\"principal_grace\":0,\"interest_grace\":119,\"min_principal\":1,\
-\"max_principal\":1000000000000,\"min_periods\":1,\"max_periods\":120,\"strategy\":\"mifos-standard-strategy\"}";
+\"frequency\":\"months\",\"every\":13,\"principal_grace\":0,\"interest_grace\":359,\"min_principal\":1,\
+\"max_principal\":1000000000000,\"min_periods\":1,\"max_periods\":360,\"strategy\":\"mifos-standard-strategy\"}";
+
+/// A product that goes by what is due first, with longer loans than there may be.
+const LONGER_LOANS: &str =
+    "{\"name\":\"Home\",\"method\":\"flat\",\"rate\":100000,\
+\"frequency\":\"months\",\"every\":12,\"principal_grace\":359,\"interest_grace\":0,\"min_principal\":1,\
+\"max_principal\":1000000000000,\"min_periods\":360,\"max_periods\":361,\"strategy\":\"due-first-by-portion\"}";
+
+/// The same with the longest.
+const LONGEST_LOANS: &str =
+    "{\"name\":\"Home\",\"method\":\"flat\",\"rate\":100000,\
+\"frequency\":\"months\",\"every\":12,\"principal_grace\":359,\"interest_grace\":0,\"min_principal\":1,\
+\"max_principal\":1000000000000,\"min_periods\":360,\"max_periods\":360,\"strategy\":\"due-first-by-portion\"}";
 
 /// What a method, a path and a body are refused with, or None where they are read.
 fn refusal(alloc: Global, method: &str, path: &str, body: &str) -> Result<Option<Fault>, Fail> {
@@ -84,6 +96,7 @@ fn past_the_limits(rt: HostRuntime) -> Result<(), Fail> {
         ),
         ("GET", "/charges/0000000001", ""),
         ("GET", "/offices/1/loans/1000000", ""),
+        ("POST", "/products", LONGER_LOANS),
     ] {
         assert_eq!(rt; refusal(rt.alloc(), method, path, body)?, Some(Fault::F1));
     }
@@ -103,11 +116,12 @@ fn at_the_limits(rt: HostRuntime) -> Result<(), Fail> {
         (
             "POST",
             "/loans",
-            "{\"client\":\"0001-000001\",\"product\":0,\"principal\":1,\"periods\":120}",
+            "{\"client\":\"0001-000001\",\"product\":0,\"principal\":1,\"periods\":360}",
         ),
         ("POST", "/products/000000001/retire", "no body"),
         ("POST", "/loans/0001-000001/undo-approval", ""),
         ("GET", "/offices/1/loans/999999", ""),
+        ("POST", "/products", LONGEST_LOANS),
     ] {
         assert_eq!(rt; refusal(rt.alloc(), method, path, body)?, None);
     }

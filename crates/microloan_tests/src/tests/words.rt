@@ -54,14 +54,14 @@ fn reads_every_option(rt: HostRuntime) -> Result<(), Fail> {
     let alloc = rt.alloc();
     let words = words_of(
         alloc,
-        "microloan schedule --interest-grace=1 --principal-grace 2 --every 52 --frequency weeks --day 2099-12-31 --periods 120 --rate 100000 --principal 1000000000000 --method flat",
+        "microloan schedule --interest-grace=1 --principal-grace 2 --every 52 --frequency weeks --day 2099-12-31 --periods 360 --rate 100000 --principal 1000000000000 --method flat",
     )?;
     let asked = command(alloc, &words).ok().ok_or("read")?;
     let wanted = Command::Schedule(ScheduleWords {
         method: Method::Flat,
         principal: 1_000_000_000_000,
         rate: 100_000,
-        periods: 120,
+        periods: 360,
         day: Day::parse(b"2099-12-31").ok_or("a day")?,
         frequency: Freq::Weeks,
         every: 52,
@@ -106,11 +106,11 @@ fn says_what_an_option_wants(rt: HostRuntime) -> Result<(), Fail> {
     let said = line_of(
         &rt,
         alloc,
-        "microloan schedule --method flat --principal 1 --rate 1200 --periods 121 --day 2024-01-31",
+        "microloan schedule --method flat --principal 1 --rate 1200 --periods 361 --day 2024-01-31",
     )?;
     assert_eq!(rt;
         said.as_str(),
-        "microloan: --periods wants a number from 1 to 120; see 'microloan schedule --help'"
+        "microloan: --periods wants a number from 1 to 360; see 'microloan schedule --help'"
     );
     let said = line_of(
         &rt,

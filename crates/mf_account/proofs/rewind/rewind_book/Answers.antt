@@ -1,6 +1,7 @@
 use Rattle.std.proofs.Common.{◌≡◌, ◌-◌, ◌∙◌, arith, length, take, drop, map, ap}
 use Rattle.mf_account.specs.Account.{part_of, after_all}
-use Rattle.mf_account.proofs.RewindLemmas.{back_step, read_entry, cells-part, charge-at, within-at, back-after}
+use Rattle.mf_account.specs.Standing.{entry_at}
+use Rattle.mf_account.proofs.RewindLemmas.{rewindable-cells, has_charge, back_step, read_entry, cells-part, charge-at, within-at, back-after}
 use Rattle.mf_account.proofs.rewind.rewind_book.Goals as goal
 
 pub take_back-requires-clause-charge : goal.take_back-requires-clause-charge
@@ -9,7 +10,7 @@ take_back-requires-clause-charge c =
     c.requires.3 (c.loop-i.invariant.back c.requires.0 c.requires.1 c.requires.2 c.requires.3) c.loop-i-test.true c.loop-i.invariant.entries c.loop-i.invariant.parts c.own_start-start.ensures.within
     c.index-tail-i.is c.own_start-start.ensures.own c.own_start-start.ensures.first in
     charge-at c.args.tail.now (c.loop-i.i - 1) (length c.requires.2.rows) (length c.loop-i.book.rows) c.index-tail-i-in-loop-i.result
-    (c.requires.3.charges (c.loop-i.i - 1) (omega (arith, c.loop-i-test.true, c.loop-i.invariant.entries)))
+    (has_charge (entry_at c.args.tail.now (c.loop-i.i - 1)).kind (entry_at c.args.tail.now (c.loop-i.i - 1)) (length c.requires.2.rows) (c.requires.3.instalments (c.loop-i.i - 1) (omega (arith, c.loop-i-test.true, c.loop-i.invariant.entries))))
     (read_entry c.args.tail.now (c.loop-i.i - 1) c.index-tail-i-in-loop-i.result (omega (arith, c.loop-i-test.true, c.loop-i.invariant.entries)) c.index-tail-i-in-loop-i.is)
     step.size
 
@@ -18,7 +19,7 @@ take_back-requires-clause-cells c =
     let step = back_step c.requires.0 c.requires.1 c.requires.2 c.args.book.now c.loop-i.book c.args.tail.now c.args.settled.now c.loop-i.i c.loop-i.k c.own_start-start.result c.index-tail-i.result
     c.requires.3 (c.loop-i.invariant.back c.requires.0 c.requires.1 c.requires.2 c.requires.3) c.loop-i-test.true c.loop-i.invariant.entries c.loop-i.invariant.parts c.own_start-start.ensures.within
     c.index-tail-i.is c.own_start-start.ensures.own c.own_start-start.ensures.first in
-    cells-part (length c.requires.2.rows) (length c.loop-i.book.rows) c.args.settled.now c.loop-i.k c.own_start-start.result c.requires.3.cells step.size
+    cells-part (length c.requires.2.rows) (length c.loop-i.book.rows) c.args.settled.now c.loop-i.k c.own_start-start.result (rewindable-cells c.requires.0 c.requires.1 c.requires.2 c.args.tail.now c.args.settled.now c.args.book.now c.requires.3) step.size
 
 pub take_back-requires-clause-within : goal.take_back-requires-clause-within
 take_back-requires-clause-within c =

@@ -3,8 +3,7 @@ use Rattle.mf_alloc.specs.declared.row.Cell.{Cell}
 use Rattle.mf_account.specs.declared.entry.Entry.{Entry}
 use Rattle.mf_account.specs.Account.{Orders}
 use Rattle.mf_account.specs.Effect.{State}
-use Rattle.mf_account.specs.Rewind.{IsRewindable}
-use Rattle.mf_account.proofs.RewindLemmas.{IsBack}
+use Rattle.mf_account.specs.Rewind.{IsRewindable, IsBack}
 use Rattle.mf_account.proofs.rewind.rewind_book.Given as goal
 
 abbrev pub invariant-loop-i : goal.invariant-loop-i

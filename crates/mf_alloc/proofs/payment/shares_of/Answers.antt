@@ -10,7 +10,7 @@ use Rattle.mf_alloc.proofs.payment.shares_of.Goals.{then-share-gt0+in_ok-push, e
 
 pub loop-k-preserved : goal.loop-k-preserved
 loop-k-preserved g c =
-    let order = g.T.Strategy.cell_at c.args.strategy.now (length c.args.rows.now) in
+    let order = g.T.Strategy.cell_at c.args.strategy.now (length c.args.rows.now) c.args.due in
     let more = start-more order c.args.rows.now c.loop-k.k in
     let cell : c.cell-cell.result ≡ order c.loop-k.k = c.cell-cell.ensures in
     let same : outstanding c.args.rows.now c.cell-cell.result ≡ outstanding c.args.rows.now (order c.loop-k.k) = ap (outstanding c.args.rows.now) cell in
@@ -37,7 +37,7 @@ loop-k-preserved g c =
 -- the list and the rest at the end
 pub returns-clause-whole : goal.returns-clause-whole
 returns-clause-whole g c =
-    let order = g.T.Strategy.cell_at c.args.strategy.now (length c.args.rows.now) in
+    let order = g.T.Strategy.cell_at c.args.strategy.now (length c.args.rows.now) c.args.due in
     let end : c.loop-k.k ≡ 4 * length c.args.rows.now = omega (arith, c.loop-k.invariant.end) in
     total-from order c.args.rows.now c.args.amount c.loop-k.rest c.loop-k.shares.items
     (at_end (shares_below order c.args.rows.now c.args.amount) c.loop-k.k (4 * length c.args.rows.now) c.loop-k.shares.items c.loop-k.invariant.shares end)
@@ -46,13 +46,13 @@ returns-clause-whole g c =
 pub returns-clause-payable : goal.returns-clause-payable
 returns-clause-payable g c =
     let n : ℕ = length c.args.rows.now in
-    let order = g.T.Strategy.cell_at c.args.strategy.now n in
+    let order = g.T.Strategy.cell_at c.args.strategy.now n c.args.due in
     let end : c.loop-k.k ≡ 4 * n = omega (arith, c.loop-k.invariant.end) in
-    let is : IsOrder n order (g.T.Strategy.place_of c.args.strategy.now n) = record {
-      is_cell = g.met.T.Strategy.is_cell c.args.strategy.now n;
-      back = g.met.T.Strategy.back c.args.strategy.now n;
+    let is : IsOrder n order (g.T.Strategy.place_of c.args.strategy.now n c.args.due) = record {
+      is_cell = λ k within. g.met.T.Strategy.is_cell c.args.strategy.now n c.args.due k c.requires.due within;
+      back = λ k within. g.met.T.Strategy.back c.args.strategy.now n c.args.due k c.requires.due within;
     } in
-    payable-from order (g.T.Strategy.place_of c.args.strategy.now n) c.args.rows.now c.args.amount c.loop-k.shares.items is
+    payable-from order (g.T.Strategy.place_of c.args.strategy.now n c.args.due) c.args.rows.now c.args.amount c.loop-k.shares.items is
     (at_end (shares_below order c.args.rows.now c.args.amount) c.loop-k.k (4 * n) c.loop-k.shares.items c.loop-k.invariant.shares end)
 
 pub returns-clause-cells : goal.returns-clause-cells

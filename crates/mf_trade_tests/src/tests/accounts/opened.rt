@@ -31,6 +31,7 @@ pub(crate) enum Step {
     Rows,
     Entries,
     Shares { seq: u32 },
+    Change,
 }
 
 pub(crate) fn repayment(day: &'static str, amount: u64) -> Step {
@@ -53,7 +54,7 @@ pub(crate) const SECOND_REPAYMENT: Step = Step::Repay {
 pub(crate) struct OpenLoan {
     account: LoanAccount,
     business_day: Day,
-    ghost disbursed: { account.day ≤ business_day },
+    ghost disbursed: { account.loan.day ≤ business_day },
 }
 
 fn terms(strategy: StrategyName, overdue: Option<ChargeDef>) -> Terms
@@ -191,6 +192,7 @@ impl OpenLoan {
             Step::Rows => self.tell_rows(text),
             Step::Entries => self.tell_entries(text),
             Step::Shares { seq } => self.tell_shares(alloc, seq, text),
+            Step::Change => self.tell_change(text),
             _ => self.take(alloc, step),
         }
     }
@@ -237,6 +239,14 @@ impl OpenLoan {
             write!(text, "{instalment} {portion:?} {amount},")?;
         }
         text.push_str(";")?;
+        Ok(())
+    }
+
+    /// The instalments and entries that the last entry or reversal changed.
+    fn tell_change(&self, text: &mut String) -> Result<(), Fault> {
+        let change = self.account.change();
+        let (rows, seqs) = (change.rows.as_slice(), change.seqs.as_slice());
+        write!(text, "{rows:?} {seqs:?};")?;
         Ok(())
     }
 
@@ -312,7 +322,7 @@ impl OpenLoan {
 
     /// Enters an entry, where it may be offered.
     fn offer(&mut self, alloc: Global, entry: Entry) -> Result<(), Fault>
-        requires next { entry.seq ≡ length self.old.account.entries + 1 }
+        requires next { entry.seq ≡ length self.old.account.loan.entries + 1 }
         requires stands { entry.reversed ≡ false }
     {
         let entries = self.account.entries();

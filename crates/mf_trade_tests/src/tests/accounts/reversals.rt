@@ -42,3 +42,24 @@ outstanding [0, 0, 333, 51667] overpaid 0 refunded 0;"
     );
     Ok(())
 }
+
+#[test]
+fn tells_what_changed(rt: HostRuntime) -> Result<(), Fail> {
+    let steps = [
+        Step::Change,
+        FIRST_REPAYMENT,
+        Step::Change,
+        SECOND_REPAYMENT,
+        Step::Change,
+        Step::Reverse { seq: 1 },
+        Step::Change,
+        Step::Reverse { seq: 1 },
+        Step::Change,
+    ];
+    let told = told(rt.alloc(), &steps)?;
+    assert_eq!(rt;
+        told.as_str(),
+        "[] [];[1] [1];[1, 2, 3] [2];[2, 3] [1, 2];F13;[2, 3] [1, 2];"
+    );
+    Ok(())
+}

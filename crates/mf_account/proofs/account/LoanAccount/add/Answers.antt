@@ -1,37 +1,40 @@
-use Rattle.std.proofs.Common.{◌≡◌, ◌∙◌, ◌++◌, ◌∷◌, [], ap, sym, subst, arith, length, List}
-use Rattle.mf_schedule.specs.declared.instalment.Instalment.{Instalment}
+use Rattle.std.proofs.Common.{◌≡◌, ◌∙◌, ◌++◌, ◌∷◌, [], ap, sym, subst, arith, take, List, length-append}
 use Rattle.mf_account.specs.declared.entry.Entry.{Entry}
-use Rattle.mf_account.specs.Account.{first_state, state_of, settled_of}
-use Rattle.mf_account.specs.Standing.{standing}
-use Rattle.mf_account.specs.Applicable.{AreApplicable}
-use Rattle.mf_account.specs.Loan.{Loan, IsSound, IsKept, schedule_of, orders_of}
-use Rattle.mf_account.proofs.SoundLemmas.{length-schedule, applicable-sound}
+use Rattle.mf_account.specs.declared.settled.Settled.{Settled}
+use Rattle.mf_account.specs.Change.{Account, IsChange}
+use Rattle.mf_account.specs.Loan.{Loan, IsSound, IsKept, settled_of_loan}
+use Rattle.mf_account.specs.Rewind.{IsRedone}
 use Rattle.mf_account.proofs.account.LoanAccount.add.Goals as goal
-
-pub replayed_with-requires-clause-few : goal.replayed_with-requires-clause-few
-replayed_with-requires-clause-few c =
-    let old : Loan = record { terms = c.self.inside.terms; principal = c.self.inside.principal; periods = c.self.inside.periods; day = c.self.inside.day; entries = c.self.inside.entries.items } in
-    let size : length c.deref.result.now ≡ c.self.inside.periods = ap length (c.deref.ensures.value ∙ c.self.invariant.schedule_is) ∙ length-schedule old in
-    omega (arith, size, c.self.invariant.sound.limits.most_periods)
-
-pub replayed_with-requires-clause-fits : goal.replayed_with-requires-clause-fits
-replayed_with-requires-clause-fits c =
-    let old : Loan = record { terms = c.self.inside.terms; principal = c.self.inside.principal; periods = c.self.inside.periods; day = c.self.inside.day; entries = c.self.inside.entries.items } in
-    let new : Loan = record old { entries = c.self.inside.entries.items ++ c.args.entry ∷ [] } in
-    let sound : IsSound new = subst (λ (l : Loan). IsSound (record l { entries = l.entries ++ c.args.entry ∷ [] })) (sym c.self.view_is) c.requires in
-    subst (λ (s : List Instalment). AreApplicable (orders_of new) (standing new.entries) (first_state s)) (sym (c.deref.ensures.value ∙ c.self.invariant.schedule_is)) (applicable-sound new sound)
 
 pub invariant_of-self-2 : goal.invariant_of-self-2
 invariant_of-self-2 c =
     let old : Loan = record { terms = c.self.inside.terms; principal = c.self.inside.principal; periods = c.self.inside.periods; day = c.self.inside.day; entries = c.self.inside.entries.items } in
-    let new : Loan = record old { entries = c.self.inside.entries.items ++ c.args.entry ∷ [] } in
-    let sound : IsSound new = subst (λ (l : Loan). IsSound (record l { entries = l.entries ++ c.args.entry ∷ [] })) (sym c.self.view_is) c.requires in
-    let schedule : c.deref.result.now ≡ schedule_of old = c.deref.ensures.value ∙ c.self.invariant.schedule_is in
-    let kept : IsKept new c.self.inside.schedule.items c.self.inside.disbursement_fee c.in_ok-book.book c.in_ok-book.settled.items = record {
+    let new : Loan = record old { entries = old.entries ++ c.args.entry ∷ [] } in
+    let sound : IsSound new = subst (λ (a : Account). IsSound (record a.loan { entries = a.loan.entries ++ c.args.entry ∷ [] })) (sym c.self.view_is) c.requires.sound in
+    let redone : IsRedone old new c.in_ok-book.book c.in_ok-book.kept c.in_ok-book.parts.items = subst (λ (a : Account). IsRedone a.loan (record a.loan { entries = a.loan.entries ++ c.args.entry ∷ [] }) c.in_ok-book.book c.in_ok-book.kept c.in_ok-book.parts.items) (sym c.self.view_is) c.in_ok-book.ensures.redone in
+    let kept : IsKept new c.self.inside.schedule.items c.self.inside.disbursement_fee c.in_ok-book.book c.put_behind.new.settled.items = record {
       sound = sound;
       schedule_is = c.self.invariant.schedule_is;
       fee_is = c.self.invariant.fee_is;
-      book_is = c.in_ok-book.ensures.state ∙ ap (λ s. state_of (orders_of new) s new.entries) schedule;
-      settled_is = c.in_ok-book.ensures.settled ∙ ap (λ s. settled_of (orders_of new) s new.entries) schedule;
+      book_is = redone.book_is;
+      settled_is = c.put_behind.ensures
+          ∙ ap (λ (x : List Settled). take c.in_ok-book.kept x ++ c.deref-2.result.now) (c.in_ok-reserve.ensures.items ∙ c.self.invariant.settled_is)
+          ∙ ap (λ (x : List Settled). take c.in_ok-book.kept (settled_of_loan old) ++ x) c.deref-2.ensures.value
+          ∙ redone.parts_are;
     } in
-    subst (λ (e : List Entry). IsKept (record old { entries = e }) c.self.inside.schedule.items c.self.inside.disbursement_fee c.in_ok-book.book c.in_ok-book.settled.items) (sym c.in_ok-book.ensures.ok) kept
+    subst (λ (e : List Entry). IsKept (record old { entries = e }) c.self.inside.schedule.items c.self.inside.disbursement_fee c.in_ok-book.book c.put_behind.new.settled.items) (sym c.in_ok-push.ensures.items) kept
+
+pub returns-clause-change : goal.returns-clause-change
+returns-clause-change c =
+    let old : Loan = record { terms = c.self.inside.terms; principal = c.self.inside.principal; periods = c.self.inside.periods; day = c.self.inside.day; entries = c.self.inside.entries.items } in
+    let new : Loan = record old { entries = old.entries ++ c.args.entry ∷ [] } in
+    let sound : IsSound new = subst (λ (a : Account). IsSound (record a.loan { entries = a.loan.entries ++ c.args.entry ∷ [] })) (sym c.self.view_is) c.requires.sound in
+    let redone : IsRedone old new c.in_ok-book.book c.in_ok-book.kept c.in_ok-book.parts.items = subst (λ (a : Account). IsRedone a.loan (record a.loan { entries = a.loan.entries ++ c.args.entry ∷ [] }) c.in_ok-book.book c.in_ok-book.kept c.in_ok-book.parts.items) (sym c.self.view_is) c.in_ok-book.ensures.redone in
+    let longer = length-append old.entries (c.args.entry ∷ []) in
+    let count = c.self.inside.entries.ok in
+    let own : IsRedone c.args.self.now.loan new c.in_ok-book.book c.in_ok-book.kept c.deref.result.now =
+    subst (λ (x : List Settled). IsRedone c.args.self.now.loan new c.in_ok-book.book c.in_ok-book.kept x) (sym c.deref.ensures.value)
+    (subst (λ (a : Account). IsRedone a.loan new c.in_ok-book.book c.in_ok-book.kept c.in_ok-book.parts.items) c.self.view_is redone) in
+    let same : new.periods ≡ c.args.self.now.loan.periods = ap (λ (a : Account). a.loan.periods) c.self.view_is in
+    subst (λ (e : List Entry). IsChange c.args.self.now.loan (record old { entries = e }) c.in_ok-change.change) (sym c.in_ok-push.ensures.items)
+    (c.in_ok-change.ensures.change new sound same (omega (arith, longer, c.len.ensures, count.0)) own)

@@ -1,5 +1,6 @@
 use Rattle.std.proofs.Common.{◌≡◌, ◌∙◌, ap, sym, subst, List, ℕ}
 use Rattle.mf_alloc.specs.Sums.{Sums}
+use Rattle.mf_account.specs.Change.{Account}
 use Rattle.mf_account.specs.Effect.{State}
 use Rattle.mf_account.specs.Balance.{HasRoom, balances_by, balances_of}
 use Rattle.mf_account.specs.Loan.{Loan, state_of_loan}
@@ -21,4 +22,4 @@ returns-clause-value c =
     ∙ ap (λ r. balances_by fee (at r)) c.deref.ensures.value
     ∙ ap (balances_by fee) (c.book.view_is ∙ c.self.invariant.book_is)
     ∙ ap (λ f. balances_by f (state_of_loan loan)) c.self.invariant.fee_is
-    ∙ ap balances_of c.self.view_is
+    ∙ ap (λ (a : Account). balances_of a.loan) c.self.view_is

@@ -1,0 +1,128 @@
+-- Numbers gathered one by one, and the parts of one entry.
+use Rattle.std.proofs.Common.{◌≡◌, ◌≢◌, ℕ, suc, ◌+◌, ◌-◌, ◌<◌, ◌≤◌, ◌↔◌, eqb, List, [], ◌∷◌, ◌++◌, length, get_or, take, drop, arith, refl, ◌∙◌, ap, sym, subst, inl, inr, length-append, drop-cons}
+use Rattle.std.specs.List.{Contains}
+use Rattle.std.proofs.Math.ListN.{get_or-append}
+use Rattle.std.proofs.Math.Seq.{take-append_seam, drop-append_seam}
+use Rattle.std.proofs.lemmas.Bool.{cases_lt, cases_eq, cond-true, cond-false, eq-eqb, ne_eqb}
+use Rattle.std.proofs.lemmas.List.{get_or-append_right}
+use Rattle.std.proofs.lemmas.List.Elements.{filter-append, All-nil, All-cons, All-append, All-weaker, Contains-append_left, Contains-push}
+use Rattle.mf_account.specs.declared.settled.Settled.{Settled}
+use Rattle.mf_account.specs.Effect.{State}
+use Rattle.mf_account.specs.Loan.{Loan, state_of_loan, settled_of_loan}
+use Rattle.mf_account.specs.Change.{Changed, AreThose, HasOtherRow, HasOtherParts, IsChange, settled_in}
+use Rattle.mf_account.specs.Applicable.{no_settled}
+
+pub those-none : (P : ℕ → Type 0) → AreThose 0 P []
+those-none P = record {
+  ascend = λ k less. absurd (omega arith);
+  each = All-nil (λ i. (1 ≤ i) × (i ≤ 0) × P i);
+  all = λ i from to is. absurd (omega arith);
+}
+
+pub those-more : (n : ℕ) (P : ℕ → Type 0) (xs : List ℕ) → AreThose n P xs → P (n + 1) → AreThose (n + 1) P (xs ++ (n + 1) ∷ [])
+those-more n P xs those is =
+    let size = length-append xs ((n + 1) ∷ []) in
+    record {
+      ascend = λ k less.
+          elim (cases_lt (k + 1) (length xs)) [
+            | inl within ↦
+                let low = get_or-append xs ((n + 1) ∷ []) 0 k (omega arith) in
+                let high = get_or-append xs ((n + 1) ∷ []) 0 (k + 1) within in
+                let up = those.ascend k within in
+                omega (arith, low, high, up)
+            | inr past ↦
+                let last : k + 1 ≡ length xs = omega (arith, size, less, past) in
+                let low = get_or-append xs ((n + 1) ∷ []) 0 k (omega arith) in
+                let most = (those.each k 0 (omega arith)).1 in
+                let high : get_or (xs ++ (n + 1) ∷ []) (k + 1) 0 ≡ n + 1 =
+                get_or-append_right xs ((n + 1) ∷ []) (length xs) (k + 1) 0 refl (omega arith)
+                ∙ (let none : k + 1 - length xs ≡ 0 = omega arith in ap (λ x. get_or ((n + 1) ∷ []) x 0) none) in
+                omega (arith, low, high, most)
+          ];
+      each =
+          All-append (λ i. (1 ≤ i) × (i ≤ n + 1) × P i) xs ((n + 1) ∷ [])
+          (All-weaker (λ i. (1 ≤ i) × (i ≤ n) × P i) (λ i. (1 ≤ i) × (i ≤ n + 1) × P i) (λ i h. (h.0, omega (arith, h.1), h.2)) xs those.each)
+          (All-cons (λ i. (1 ≤ i) × (i ≤ n + 1) × P i) (n + 1) [] (omega arith, omega arith, is) (All-nil (λ i. (1 ≤ i) × (i ≤ n + 1) × P i)));
+      all = λ i from to holds.
+          elim (cases_eq i (n + 1)) [
+            | inl last ↦ subst (λ x. Contains (xs ++ (n + 1) ∷ []) x) (sym last) (Contains-push xs (n + 1))
+            | inr other ↦ Contains-append_left xs ((n + 1) ∷ []) i (those.all i from (omega (arith, to, other)) holds)
+          ];
+    }
+
+pub those-same : (n : ℕ) (P : ℕ → Type 0) (xs : List ℕ) → AreThose n P xs → (P (n + 1) → ⊥) → AreThose (n + 1) P xs
+those-same n P xs those not = record {
+  ascend = those.ascend;
+  each = All-weaker (λ i. (1 ≤ i) × (i ≤ n) × P i) (λ i. (1 ≤ i) × (i ≤ n + 1) × P i) (λ i h. (h.0, omega (arith, h.1), h.2)) xs those.each;
+  all = λ i from to holds.
+      elim (cases_eq i (n + 1)) [
+        | inl last ↦ absurd (not (subst P last holds))
+        | inr other ↦ those.all i from (omega (arith, to, other)) holds
+      ];
+}
+
+-- the parts of one entry from a place on: another's is passed over, and its own is first
+pub in-other : (seq : ℕ) (parts : List Settled) (k : ℕ) → k < length parts → (get_or parts k no_settled).seq ≢ seq → settled_in seq (drop k parts) ≡ settled_in seq (drop (k + 1) parts)
+in-other seq parts k within other =
+    ap (settled_in seq) (drop-cons parts k no_settled within)
+    ∙ cond-false (eqb (get_or parts k no_settled).seq seq) _ _ (ne_eqb (get_or parts k no_settled).seq seq other)
+    ∙ (let next : suc k ≡ k + 1 = omega arith in ap (λ n. settled_in seq (drop n parts)) next)
+
+pub in-own : (seq : ℕ) (parts : List Settled) (k : ℕ) → k < length parts → (get_or parts k no_settled).seq ≡ seq → settled_in seq (drop k parts) ≡ get_or parts k no_settled ∷ settled_in seq (drop (k + 1) parts)
+in-own seq parts k within own =
+    ap (settled_in seq) (drop-cons parts k no_settled within)
+    ∙ cond-true (eqb (get_or parts k no_settled).seq seq) _ _ (eq-eqb (get_or parts k no_settled).seq seq own)
+    ∙ (let next : suc k ≡ k + 1 = omega arith in ap (λ n. get_or parts k no_settled ∷ settled_in seq (drop n parts)) next)
+
+-- two lists whose first own parts are the same are the same on where the rest is
+pub same-step : (seq : ℕ) (before after : List Settled) (i k next_i next_k : ℕ) → i < length before → k < length after → (get_or before i no_settled).seq ≡ seq → (get_or after k no_settled).seq ≡ seq → get_or before i no_settled ≡ get_or after k no_settled → settled_in seq (drop (i + 1) before) ≡ settled_in seq (drop next_i before) → settled_in seq (drop (k + 1) after) ≡ settled_in seq (drop next_k after) → ((settled_in seq before ≡ settled_in seq after) ↔ (settled_in seq (drop i before) ≡ settled_in seq (drop k after))) → (settled_in seq before ≡ settled_in seq after) ↔ (settled_in seq (drop next_i before) ≡ settled_in seq (drop next_k after))
+same-step seq before after i k next_i next_k within_i within_k own_i own_k same skip_i skip_k so_far =
+    let one : settled_in seq (drop i before) ≡ get_or before i no_settled ∷ settled_in seq (drop next_i before) = in-own seq before i within_i own_i ∙ ap (λ x. get_or before i no_settled ∷ x) skip_i in
+    let two : settled_in seq (drop k after) ≡ get_or after k no_settled ∷ settled_in seq (drop next_k after) = in-own seq after k within_k own_k ∙ ap (λ x. get_or after k no_settled ∷ x) skip_k in (
+      λ e. ap (drop 1) (sym one ∙ so_far.0 e ∙ two),
+      λ e. so_far.1 (one ∙ ap (λ x. x ∷ settled_in seq (drop next_i before)) same ∙ ap (λ x. get_or after k no_settled ∷ x) e ∙ sym two),
+    )
+
+-- two lists whose first own parts differ differ
+pub other-step : (seq : ℕ) (before after : List Settled) (i k : ℕ) → i < length before → k < length after → (get_or before i no_settled).seq ≡ seq → (get_or after k no_settled).seq ≡ seq → (get_or before i no_settled ≢ get_or after k no_settled) → settled_in seq (drop i before) ≢ settled_in seq (drop k after)
+other-step seq before after i k within_i within_k own_i own_k other e =
+    other (ap (λ x. get_or x 0 no_settled) (sym (in-own seq before i within_i own_i) ∙ e ∙ in-own seq after k within_k own_k))
+
+-- what differs between the books and parts of two loans
+pub change-is : (before after : Loan) (old new : State) (old_parts new_parts : List Settled) (count : ℕ) (change : Changed) → old ≡ state_of_loan before → old_parts ≡ settled_of_loan before → new ≡ state_of_loan after → new_parts ≡ settled_of_loan after → length old.rows ≡ after.periods → count ≡ length after.entries → AreThose (length old.rows) (HasOtherRow old.rows new.rows) change.rows → AreThose count (HasOtherParts old_parts new_parts) change.seqs → IsChange before after change
+change-is before after old new old_parts new_parts count change old_is old_parts_is new_is new_parts_is periods entries rows seqs = record {
+  rows =
+      subst (λ (n : ℕ). AreThose n (HasOtherRow (state_of_loan before).rows (state_of_loan after).rows) change.rows) periods
+      (subst (λ (x : State). AreThose (length old.rows) (HasOtherRow (state_of_loan before).rows x.rows) change.rows) new_is
+      (subst (λ (x : State). AreThose (length old.rows) (HasOtherRow x.rows new.rows) change.rows) old_is rows));
+  seqs =
+      subst (λ (n : ℕ). AreThose n (HasOtherParts (settled_of_loan before) (settled_of_loan after)) change.seqs) entries
+      (subst (λ (x : List Settled). AreThose count (HasOtherParts (settled_of_loan before) x) change.seqs) new_parts_is
+      (subst (λ (x : List Settled). AreThose count (HasOtherParts x new_parts) change.seqs) old_parts_is seqs));
+}
+
+-- the last given up again
+pub popped : {X : Type 0} → (all others rest : List X) (last : X) (n : ℕ) → rest ≡ take (n - 1) all → all ≡ others ++ last ∷ [] → n ≡ length all → rest ≡ others
+popped all others rest last n is whole size =
+    let count : n - 1 ≡ length others = let both = ap length whole in let sum = length-append others (last ∷ []) in omega (arith, both, sum, size) in
+    is ∙ ap (λ k. take k all) count ∙ ap (take (length others)) whole ∙ take-append_seam others (last ∷ [])
+
+-- what begins alike differs where the rest does
+settled_in-append : (seq : ℕ) (xs ys : List Settled) → settled_in seq (xs ++ ys) ≡ settled_in seq xs ++ settled_in seq ys
+settled_in-append seq xs ys = filter-append (λ (s : Settled). eqb s.seq seq) xs ys
+
+those-iff : (n : ℕ) (P Q : ℕ → Type 0) (xs : List ℕ) → ((i : ℕ) → P i → Q i) → ((i : ℕ) → Q i → P i) → AreThose n P xs → AreThose n Q xs
+those-iff n P Q xs to from those = record {
+  ascend = those.ascend;
+  each = All-weaker (λ i. (1 ≤ i) × (i ≤ n) × P i) (λ i. (1 ≤ i) × (i ≤ n) × Q i) (λ i h. (h.0, h.1, to i h.2)) xs those.each;
+  all = λ i first last holds. those.all i first last (from i holds);
+}
+
+pub those-tails : (n : ℕ) (front before after : List Settled) (xs : List ℕ) → AreThose n (HasOtherParts before after) xs → AreThose n (HasOtherParts (front ++ before) (front ++ after)) xs
+those-tails n front before after xs those =
+    those-iff n (HasOtherParts before after) (HasOtherParts (front ++ before) (front ++ after)) xs
+    (λ seq other same.
+    let own : List Settled = settled_in seq front in
+    other (sym (drop-append_seam own (settled_in seq before)) ∙ ap (drop (length own)) (sym (settled_in-append seq front before) ∙ same ∙ settled_in-append seq front after) ∙ drop-append_seam own (settled_in seq after)))
+    (λ seq other same. other (settled_in-append seq front before ∙ ap (λ z. settled_in seq front ++ z) same ∙ sym (settled_in-append seq front after)))
+    those

@@ -1,0 +1,140 @@
+-- An account with an entry more, or with one reversed: what stood before the place is as it was, and what then stands
+-- is applied from there.
+use Rattle.std.proofs.Common.{◌≡◌, ℕ, zero, suc, ◌+◌, ◌-◌, ◌<◌, ◌≤◌, true, false, List, [], ◌∷◌, ◌++◌, length, get_or, take, drop, arith, refl, ◌∙◌, ap, sym, subst, add-one}
+use Rattle.std.specs.Prelude.{fold, insert, remove, All}
+use Rattle.std.specs.List.{Contains}
+use Rattle.std.proofs.lemmas.Bool.{cond-false}
+use Rattle.std.proofs.lemmas.List.{take_rest, drop-map, length-map, get_or-map, get_or_default, take-append-drop}
+use Rattle.std.proofs.lemmas.List.Elements.{All-take, All-drop}
+use Rattle.mf_account.specs.declared.entry.Entry.{Entry}
+use Rattle.mf_account.specs.declared.settled.Settled.{Settled}
+use Rattle.mf_account.specs.Effect.{State}
+use Rattle.mf_account.specs.Account.{Orders, orders_by, after_all, settled_by, first_state}
+use Rattle.mf_account.specs.Applicable.{AreApplicable}
+use Rattle.mf_account.specs.Standing.{placed, with_entry, standing, no_entry, entry_at, entries_at, with_mark}
+use Rattle.mf_account.specs.StandingLaw.{IsStandingOf}
+use Rattle.mf_account.specs.Loan.{Loan, AreEntries, IsSound, cells_of, orders_of, schedule_of, state_of_loan, settled_of_loan}
+use Rattle.mf_account.specs.Change.{Changed, AreThose, HasOtherRow, HasOtherParts, IsChange}
+use Rattle.mf_account.specs.Rewind.{IsRedone, state_before, settled_upto}
+use Rattle.mf_account.proofs.SoundLemmas.{applicable-sound}
+use Rattle.mf_account.proofs.DueLemmas.{dues-after_all, orders-same}
+use Rattle.mf_account.proofs.TailLemmas.{after_all-append, settled_by-append, applicable-append, among-index, at-among}
+use Rattle.mf_account.proofs.ChangeLemmas.{change-is, those-tails}
+use Rattle.mf_account.proofs.RemovedLemmas.{standing-removed}
+use Rattle.mf_account.proofs.StandingIsOne.{standing-is-one}
+
+-- the standing entries with one more
+fold-push : (order xs : List Entry) (e : Entry) → fold with_entry order (xs ++ e ∷ []) ≡ with_entry (fold with_entry order xs) e
+fold-push order [] e = refl
+fold-push order (x ∷ xs) e = fold-push (with_entry order x) xs e
+
+pub standing-entered : (entries others : List Entry) (place : ℕ) (e : Entry) → e.reversed ≡ false → others ≡ standing entries → placed e others ≡ insert others place e → standing (entries ++ e ∷ []) ≡ take place (standing entries) ++ e ∷ drop place (standing entries)
+standing-entered entries others place e stands is place_is =
+    fold-push [] entries e
+    ∙ cond-false e.reversed (standing entries) (placed e (standing entries)) stands
+    ∙ ap (placed e) (sym is)
+    ∙ place_is
+    ∙ ap (λ xs. insert xs place e) is
+
+remove-parts : (xs : List Entry) (k : ℕ) → remove xs k ≡ take k xs ++ drop (suc k) xs
+remove-parts [] zero = refl
+remove-parts [] (suc k) = refl
+remove-parts (x ∷ xs) zero = refl
+remove-parts (x ∷ xs) (suc k) = ap (λ y. x ∷ y) (remove-parts xs k)
+
+-- the entries that a part of an order has, which the code cuts from a place on
+pub later-is : (entries all seen : List Entry) (order slice : List ℕ) (k : ℕ) → seen ≡ entries → slice ≡ order → entries_at entries order ≡ all → entries_at seen (take (length slice - k) (drop k slice)) ≡ drop k all
+later-is entries all seen order slice k seen_is slice_is is =
+    ap (λ (e : List Entry). entries_at e (take (length slice - k) (drop k slice))) seen_is
+    ∙ ap (entries_at entries) (take_rest slice k ∙ ap (drop k) slice_is)
+    ∙ sym (drop-map (λ i. get_or entries i no_entry) k order)
+    ∙ ap (drop k) is
+
+pub within-later : (entries seen : List Entry) (order slice : List ℕ) (k : ℕ) → length seen ≡ length entries → slice ≡ order → All (λ i. i < length entries) order → All (λ i. i < length seen) (take (length slice - k) (drop k slice))
+within-later entries seen order slice k size same within =
+    let all : All (λ i. i < length seen) slice =
+    subst (λ (n : ℕ). All (λ i. i < n) slice) (sym size) (subst (λ (o : List ℕ). All (λ i. i < length entries) o) (sym same) within) in
+    All-take (λ i. i < length seen) (length slice - k) (drop k slice) (All-drop (λ i. i < length seen) k slice all)
+
+-- where an order has an entry that stands
+pub order-has : (n day : ℕ) (entries : List Entry) (order : List ℕ) (at : ℕ) → AreEntries n day entries → All (λ i. i < length entries) order → entries_at entries order ≡ standing entries → at < length entries → (entry_at entries at).reversed ≡ false → Contains order at
+order-has n day entries order at are within is there stands =
+    let own : IsStandingOf entries (standing entries) = (standing-is-one n day entries are).0 in
+    let among = own.to (entry_at entries at) (at-among entries at there) stands in
+    let index = among-index (entry_at entries at) (standing entries) among in
+    let k : ℕ = index.0 in
+    let size : length (entries_at entries order) ≡ length order = length-map order (λ i. get_or entries i no_entry) in
+    let same = ap length is in
+    let below : k < length order = omega (arith, size, same, index.1) in
+    let i : ℕ = get_or order k 0 in
+    let read : entry_at entries i ≡ entry_at entries at =
+    sym (get_or-map (λ i. get_or entries i no_entry) order k 0 no_entry below) ∙ ap (λ x. entry_at x k) is ∙ index.2 in
+    let first = are.numbers i (within k 0 below) in
+    let second = are.numbers at there in
+    let seqs = ap (λ (x : Entry). x.seq) read in
+    (k, below, get_or_default order k at 0 below ∙ omega (arith, first, second, seqs))
+
+pub at-order : (entries all : List Entry) (order : List ℕ) (k at : ℕ) → entries_at entries order ≡ all → k < length order → get_or order k 0 ≡ at → entry_at all k ≡ entry_at entries at
+at-order entries all order k at is within here =
+    ap (λ x. entry_at x k) (sym is) ∙ get_or-map (λ i. get_or entries i no_entry) order k 0 no_entry within ∙ ap (entry_at entries) here
+
+-- the standing entries with one less
+pub standing-without-it : (n day : ℕ) (entries : List Entry) (order : List ℕ) (at k : ℕ) → AreEntries n day entries → AreEntries n day (with_mark entries at true) → at < length entries → entries_at entries order ≡ standing entries → k < length order → get_or order k 0 ≡ at → standing (with_mark entries at true) ≡ take k (standing entries) ++ drop (k + 1) (standing entries)
+standing-without-it n day entries order at k are are_marked there is within here =
+    let size : length (entries_at entries order) ≡ length order = length-map order (λ i. get_or entries i no_entry) in
+    let same = ap length is in
+    standing-removed n day entries at k are are_marked there (omega (arith, size, same, within)) (at-order entries (standing entries) order k at is within here)
+    ∙ remove-parts (standing entries) k
+    ∙ ap (λ n. take k (standing entries) ++ drop n (standing entries)) (sym (add-one k))
+
+-- the orders of a loan are those over its rows at any place
+orders-before : (old : Loan) (k : ℕ) → orders_by (cells_of old) (state_before old k).rows ≡ orders_of old
+orders-before old k =
+    orders-same (cells_of old) (state_before old k).rows (first_state (schedule_of old)).rows
+    (dues-after_all (orders_of old) (take k (standing old.entries)) (first_state (schedule_of old)))
+
+pub fits-redone : (old : Loan) (es back applied : List Entry) (k : ℕ) (book : State) → IsSound (record old { entries = es }) → standing es ≡ take k (standing old.entries) ++ back → book ≡ state_before old k → applied ≡ back → AreApplicable (orders_by (cells_of old) book.rows) applied book
+fits-redone old es back applied k book sound stands book_is applied_is =
+    let all : AreApplicable (orders_of old) (take k (standing old.entries) ++ back) (first_state (schedule_of old)) =
+    subst (λ (x : List Entry). AreApplicable (orders_of old) x (first_state (schedule_of old))) stands (applicable-sound (record old { entries = es }) sound) in
+    subst (λ (x : List Entry). AreApplicable (orders_by (cells_of old) book.rows) x book) (sym applied_is)
+    (subst (λ (x : State). AreApplicable (orders_by (cells_of old) x.rows) back x) (sym book_is)
+    (subst (λ (o : Orders). AreApplicable o back (state_before old k)) (sym (orders-before old k))
+    (applicable-append (orders_of old) (take k (standing old.entries)) back (first_state (schedule_of old)) all)))
+
+pub redone-from : (old : Loan) (es back applied : List Entry) (k kept : ℕ) (book next : State) (parts : List Settled) → standing es ≡ take k (standing old.entries) ++ back → kept ≤ length (settled_of_loan old) → take kept (settled_of_loan old) ≡ settled_upto old k → book ≡ state_before old k → applied ≡ back → next ≡ after_all (orders_by (cells_of old) book.rows) applied book → parts ≡ settled_by (orders_by (cells_of old) book.rows) applied book → IsRedone old (record old { entries = es }) next kept parts
+redone-from old es back applied k kept book next parts stands within front book_is applied_is next_is parts_is =
+    let orders : Orders = orders_of old in
+    let first : State = first_state (schedule_of old) in
+    let before : List Entry = take k (standing old.entries) in
+    record {
+      book_is = next_is
+          ∙ ap (λ x. after_all (orders_by (cells_of old) book.rows) x book) applied_is
+          ∙ ap (λ (x : State). after_all (orders_by (cells_of old) x.rows) back x) book_is
+          ∙ ap (λ (o : Orders). after_all o back (state_before old k)) (orders-before old k)
+          ∙ sym (after_all-append orders before back first)
+          ∙ ap (λ x. after_all orders x first) (sym stands);
+      within = within;
+      parts_are = ap (λ x. x ++ parts) front
+          ∙ ap (λ x. settled_upto old k ++ x)
+          (parts_is
+          ∙ ap (λ x. settled_by (orders_by (cells_of old) book.rows) x book) applied_is
+          ∙ ap (λ (x : State). settled_by (orders_by (cells_of old) x.rows) back x) book_is
+          ∙ ap (λ (o : Orders). settled_by o back (state_before old k)) (orders-before old k))
+          ∙ sym (settled_by-append orders before back first)
+          ∙ ap (λ x. settled_by orders x first) (sym stands);
+    }
+
+-- what a change changes, seen from the parts that stay on
+pub change-tails : (before after : Loan) (old new : State) (kept : ℕ) (tail parts : List Settled) (count : ℕ) (change : Changed) → old ≡ state_of_loan before → tail ≡ drop kept (settled_of_loan before) → IsRedone before after new kept parts → length old.rows ≡ after.periods → count ≡ length after.entries → AreThose (length old.rows) (HasOtherRow old.rows new.rows) change.rows → AreThose count (HasOtherParts tail parts) change.seqs → IsChange before after change
+change-tails before after old new kept tail parts count change old_is tail_is redone periods entries rows seqs =
+    let all : List Settled = settled_of_loan before in
+    let front : List Settled = take kept all in
+    let later : AreThose count (HasOtherParts (drop kept all) parts) change.seqs = subst (λ (x : List Settled). AreThose count (HasOtherParts x parts) change.seqs) tail_is seqs in
+    let whole : AreThose count (HasOtherParts all (front ++ parts)) change.seqs =
+    subst (λ (x : List Settled). AreThose count (HasOtherParts x (front ++ parts)) change.seqs) (take-append-drop kept all) (those-tails count front (drop kept all) parts change.seqs later) in
+    change-is before after old new all (front ++ parts) count change old_is refl redone.book_is redone.parts_are periods entries rows whole
+
+-- the slice of the parts from a place on
+pub tail-from : (slice all : List Settled) (k : ℕ) → slice ≡ all → take (length slice - k) (drop k slice) ≡ drop k all
+tail-from slice all k is = take_rest slice k ∙ ap (drop k) is

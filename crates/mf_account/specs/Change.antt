@@ -1,0 +1,42 @@
+-- What an entry or a reversal changed.
+use Rattle.std.specs.Prelude.{◌≢◌, ℕ, ◌≤◌, ◌==◌, List, [], length, filter, All}
+use Rattle.std.specs.List.{Contains}
+use Rattle.std.specs.List.Sorted.{IsStrictlyIncreasing}
+use Rattle.mf_alloc.specs.Sums.{Sums}
+use Rattle.mf_alloc.specs.Rows.{row_at}
+use Rattle.mf_account.specs.declared.settled.Settled.{Settled}
+use Rattle.mf_account.specs.Loan.{Loan, state_of_loan, settled_of_loan}
+
+-- instalments and entries, by their numbers
+pub record Changed : Type 0 where
+  pub rows : List ℕ
+  pub seqs : List ℕ
+
+-- an account: its loan, and what the last entry or reversal changed
+pub record Account : Type 0 where
+  pub loan : Loan
+  pub change : Changed
+
+abbrev pub no_change : Changed
+no_change = record { rows = []; seqs = [] }
+
+-- the numbers from 1 to n of which something holds, all of them and no other, ascending
+pub record AreThose (n : ℕ) (P : ℕ → Type 0) (xs : List ℕ) : Type 0 where
+  pub ascend : IsStrictlyIncreasing xs
+  pub each : All (λ i. (1 ≤ i) × (i ≤ n) × P i) xs
+  pub all : (i : ℕ) → 1 ≤ i → i ≤ n → P i → Contains xs i
+
+-- the parts of one entry
+abbrev pub settled_in : ℕ → List Settled → List Settled
+settled_in seq settled = filter (λ (s : Settled). s.seq == seq) settled
+
+abbrev pub HasOtherRow : List Sums → List Sums → ℕ → Type 0
+HasOtherRow before after i = row_at before i ≢ row_at after i
+
+abbrev pub HasOtherParts : List Settled → List Settled → ℕ → Type 0
+HasOtherParts before after seq = settled_in seq before ≢ settled_in seq after
+
+-- exactly the instalments whose rows differ between two loans, and the entries whose settled parts do
+pub record IsChange (before after : Loan) (change : Changed) : Type 0 where
+  pub rows : AreThose after.periods (HasOtherRow (state_of_loan before).rows (state_of_loan after).rows) change.rows
+  pub seqs : AreThose (length after.entries) (HasOtherParts (settled_of_loan before) (settled_of_loan after)) change.seqs

@@ -1,0 +1,159 @@
+ghost use Rattle.std.specs.Prelude.{◌≡◌, ◌≢◌, ℕ, ◌<◌, ◌≤◌, ◌^◌, ◌↔◌, true, IfOk, IsOkUnless, length, drop, slice_index_or};
+ghost use Rattle.mf_account.specs.Change.{AreThose, HasOtherRow, HasOtherParts, settled_in, no_change};
+ghost use Rattle.mf_account.specs.Applicable.{no_settled};
+
+use crate::settled::{Book, Settled};
+use mf_alloc::Row;
+use mf_base::Fault;
+use std::alloc::Global;
+use std::marker::Model;
+
+/// What the last entry or reversal changed: the numbers of the instalments whose rows differ, and of the entries that
+/// settle otherwise, each ascending.
+#[derive(Debug, Drop)]
+pub struct Change {
+    pub rows: Vec<u32>,
+    pub seqs: Vec<u32>,
+}
+
+impl Model for Change {
+    ghost use Rattle.mf_account.specs.Change.{Changed};
+
+    ghost Value = { Changed };
+
+    ghost view = { λ change. record { rows = change.rows.items; seqs = change.seqs.items } };
+}
+
+/// No change.
+pub(crate) fn unchanged(alloc: Global) -> Change
+    ensures { result ≡ no_change }
+{
+    Change {
+        rows: Vec::new(alloc),
+        seqs: Vec::new(alloc),
+    }
+}
+
+/// Whether two rows are the same.
+fn is_same_row(before: &Row, after: &Row) -> bool
+    ensures { (result ≡ true) ↔ (before.now ≡ after.now) }
+{
+    before == after
+}
+
+/// Whether an instalment's rows differ.
+fn has_other_row(before: &[Row], after: &[Row], instalment: u32) -> bool
+    requires first { 1 ≤ instalment }
+    requires before { instalment ≤ length before.now }
+    requires after { instalment ≤ length after.now }
+    ensures { (result ≡ true) ↔ HasOtherRow before.now after.now instalment }
+{
+    let k = (instalment - 1) as usize;
+    !is_same_row(&before[k], &after[k])
+}
+
+/// The instalments whose rows differ.
+pub(crate) fn changed_rows(alloc: Global, before: &[Row], after: &[Row]) -> Result<Vec<u32>, Fault>
+    requires few { length before.now ≤ 360 }
+    requires size { length after.now ≡ length before.now }
+    ensures rows { IfOk result (λ rows. AreThose (length before.now) (HasOtherRow before.now after.now) rows.items) }
+    ensures only { IsOkUnless result Fault.F20 }
+{
+    let mut changed = Vec::new(alloc);
+    for k in 0..before.len() {
+        let instalment = k as u32 + 1;
+        if has_other_row(before, after, instalment) {
+            changed.push(instalment)?;
+        }
+    }
+    Ok(changed)
+}
+
+/// The place of an entry's next part, from a place on.
+fn next_own(parts: &[Settled], from: usize, seq: u32) -> usize
+    requires { from ≤ length parts.now }
+    ensures from { from ≤ result }
+    ensures within { result ≤ length parts.now }
+    ensures none { settled_in seq (drop from parts.now) ≡ settled_in seq (drop result parts.now) }
+    ensures own { result < length parts.now → (slice_index_or parts.now result no_settled).seq ≡ seq }
+{
+    let mut k = from;
+    while k < parts.len() && parts[k].seq != seq {
+        k += 1;
+    }
+    k
+}
+
+/// Whether two parts are the same.
+fn is_same_part(before: &Settled, after: &Settled) -> bool
+    ensures { (result ≡ true) ↔ (before.now ≡ after.now) }
+{
+    before == after
+}
+
+/// Whether the parts at two places are the same.
+fn is_same_at(before: &[Settled], i: usize, after: &[Settled], k: usize) -> bool
+    requires before { i < length before.now }
+    requires after { k < length after.now }
+    ensures { (result ≡ true) ↔ (slice_index_or before.now i no_settled ≡ slice_index_or after.now k no_settled) }
+{
+    is_same_part(&before[i], &after[k])
+}
+
+/// Whether an entry has the same parts in two lists.
+fn has_same_parts(before: &[Settled], after: &[Settled], seq: u32) -> bool
+    ensures { (result ≡ true) ↔ (settled_in seq before.now ≡ settled_in seq after.now) }
+{
+    let mut i = next_own(before, 0, seq);
+    let mut k = next_own(after, 0, seq);
+    while i < before.len() && k < after.len() {
+        if !is_same_at(before, i, after, k) {
+            return false;
+        }
+        i = next_own(before, i + 1, seq);
+        k = next_own(after, k + 1, seq);
+    }
+    i == before.len() && k == after.len()
+}
+
+/// The entries whose parts differ, of so many entries.
+pub(crate) fn changed_seqs(
+    alloc: Global,
+    before: &[Settled],
+    after: &[Settled],
+    count: usize,
+) -> Result<Vec<u32>, Fault>
+    requires few { count ≤ 9999 }
+    ensures seqs { IfOk result (λ seqs. AreThose count (HasOtherParts before.now after.now) seqs.items) }
+    ensures only { IsOkUnless result Fault.F20 }
+{
+    let mut changed = Vec::new(alloc);
+    for k in 0..count {
+        let seq = k as u32 + 1;
+        if !has_same_parts(before, after, seq) {
+            changed.push(seq)?;
+        }
+    }
+    Ok(changed)
+}
+
+/// What differs between two books and their parts, of so many entries.
+pub(crate) fn change_between(
+    alloc: Global,
+    before: &Book,
+    settled_before: &[Settled],
+    after: &Book,
+    settled_after: &[Settled],
+    count: usize,
+) -> Result<Change, Fault>
+    requires few { length before.now.rows ≤ 360 }
+    requires size { length after.now.rows ≡ length before.now.rows }
+    requires entries { count ≤ 9999 }
+    ensures rows { IfOk result (λ change. AreThose (length before.now.rows) (HasOtherRow before.now.rows after.now.rows) change.rows) }
+    ensures seqs { IfOk result (λ change. AreThose count (HasOtherParts settled_before.now settled_after.now) change.seqs) }
+    ensures only { IsOkUnless result Fault.F20 }
+{
+    let rows = changed_rows(alloc, &before.rows, &after.rows)?;
+    let seqs = changed_seqs(alloc, settled_before, settled_after, count)?;
+    Ok(Change { rows, seqs })
+}

@@ -1,0 +1,75 @@
+ghost use Rattle.std.specs.Prelude.{◌≡◌, ℕ, ◌+◌, ◌-◌, ◌<◌, ◌^◌, ◌↔◌, true, IfOk, IsOkUnless, length, sum_by, All};
+ghost use Rattle.mf_alloc.specs.Sums.{Sums};
+ghost use Rattle.mf_account.specs.declared.entry.Entry.{Entry as EntryRecord};
+ghost use Rattle.mf_account.specs.declared.entry.Kind.TheVariants.{Refund};
+ghost use Rattle.mf_account.specs.Kinds.{money_in as money_of};
+ghost use Rattle.mf_account.specs.Account.{sum_at};
+ghost use Rattle.mf_account.specs.Balance.{HasRoom};
+ghost use Rattle.mf_account.specs.Standing.{entries_at, entry_at};
+ghost use Rattle.mf_account.specs.Loan.{Loan, IsSound, state_of_loan};
+
+use crate::balances::all_paid;
+use crate::effect::money_in;
+use crate::entry::{Entry, Kind};
+use crate::replay::standing_order;
+use crate::settled::Book;
+use mf_alloc::Row;
+use mf_base::Fault;
+use std::alloc::Global;
+
+/// What entries bring.
+fn money_brought(entries: &[Entry], order: &[usize]) -> u64
+    requires within { All (λ i. i < length entries.now) order.now }
+    requires room { sum_by (λ (e : EntryRecord). money_of e.kind e.amount) (entries_at entries.now order.now) < 2 ^ 64 }
+    ensures { result ≡ sum_by (λ (e : EntryRecord). money_of e.kind e.amount) (entries_at entries.now order.now) }
+{
+    let mut money = 0;
+    for k in 0..order.len() {
+        let entry = &entries[order[k]];
+        money += money_in(entry.kind, entry.amount);
+    }
+    money
+}
+
+/// What is paid in all.
+fn money_paid(rows: &[Row]) -> u64
+    requires each { HasRoom rows.now }
+    requires room { sum_at (λ (row : Sums). row.paid) 0 rows.now + sum_at (λ (row : Sums). row.paid) 1 rows.now + sum_at (λ (row : Sums). row.paid) 2 rows.now + sum_at (λ (row : Sums). row.paid) 3 rows.now < 2 ^ 64 }
+    ensures { result ≡ sum_at (λ (row : Sums). row.paid) 0 rows.now + sum_at (λ (row : Sums). row.paid) 1 rows.now + sum_at (λ (row : Sums). row.paid) 2 rows.now + sum_at (λ (row : Sums). row.paid) 3 rows.now }
+{
+    let paid = all_paid(rows);
+    paid[0] + paid[1] + paid[2] + paid[3]
+}
+
+/// Whether the last of entries in order is a refund.
+fn ends_in_refund(entries: &[Entry], order: &[usize]) -> bool
+    requires within { All (λ i. i < length entries.now) order.now }
+    ensures { (result ≡ true) ↔ (0 < length order.now) × ((entry_at (entries_at entries.now order.now) (length order.now - 1)).kind ≡ Refund) }
+{
+    if order.len() == 0 {
+        return false;
+    }
+    let last = &entries[order[order.len() - 1]];
+    matches!(last.kind, Kind::Refund)
+}
+
+/// The book of a loan whose rows are known: what its repayments bring beyond what is paid is overpaid, or refunded
+/// where a refund stands, which is then the last.
+pub(crate) fn resumed_book(alloc: Global, entries: &[Entry], rows: Vec<Row>) -> Result<Book, Fault>
+    requires { (loan : Loan) × IsSound loan × (entries.now ≡ loan.entries) × (rows.items ≡ (state_of_loan loan).rows) }
+    ensures book { (loan : Loan) → IsSound loan → entries.now ≡ loan.entries → rows.items ≡ (state_of_loan loan).rows → IfOk result (λ book. book ≡ state_of_loan loan) }
+    ensures only { IsOkUnless result Fault.F20 }
+{
+    let order = standing_order(alloc, entries)?;
+    let rest = money_brought(entries, &order) - money_paid(&rows);
+    let (overpaid, refunded) = if ends_in_refund(entries, &order) {
+        (0, rest)
+    } else {
+        (rest, 0)
+    };
+    Ok(Book {
+        rows,
+        overpaid,
+        refunded,
+    })
+}
