@@ -22,13 +22,11 @@ fn decide<S: InstitutionStore>(
     ensures { Decides S.stands S.clean S.leaves (outcome (call_of caller request)) store.old store.new result }
 {
     let Caller { office, staff } = caller;
-    if let Request::Malformed(fault) = &request {
-        return Err(*fault);
+    if let Request::Unreadable(flaw) = &request {
+        return Err(flaw.fault());
     }
-    let role = match store.role(alloc, Caller { office, staff }) {
-        Ok(Some(role)) => role,
-        Ok(None) => return Err(Fault::F2),
-        Err(fault) => return Err(fault),
+    let Some(role) = store.role(alloc, Caller { office, staff })? else {
+        return Err(Fault::F2);
     };
     if !may_send(&request, role, office) {
         return Err(Fault::F3);
@@ -50,20 +48,14 @@ fn finish<S: InstitutionStore, T: Drop, F: FnOnce(&Reply) -> Result<T, Fault> + 
     ensures changes { Changes S.stands S.clean S.leaves (call_of caller request) store.old store.new result }
 {
     soundness();
-    let Decision { reply, commit } = match decide(alloc, store, caller, request) {
-        Ok(decision) => decision,
-        Err(fault) => return Err(fault),
-    };
-    let shown = match show(&reply) {
-        Ok(shown) => shown,
-        Err(fault) => return Err(fault),
-    };
+    let Decision { reply, commit } = decide(alloc, store, caller, request)?;
+    let shown = show(&reply)?;
     match commit {
         None => Ok(shown),
-        Some(commit) => match store.commit(alloc, commit) {
-            Ok(()) => Ok(shown),
-            Err(fault) => Err(fault),
-        },
+        Some(commit) => {
+            store.commit(alloc, commit)?;
+            Ok(shown)
+        }
     }
 }
 
