@@ -1,6 +1,6 @@
 //! The catalogue, which all offices share: the business day and charges.
 
-ghost use Rattle.std.specs.Prelude.{◌≡◌};
+ghost use Rattle.std.specs.Prelude.{◌≡◌, ◌≢◌, IfErr};
 ghost use Rattle.mf_model.specs.Outcomes.{next_of};
 ghost use Rattle.mf_model.specs.Catalogue.{show_day, set_day, add_charge, show_charge, on_catalogue};
 ghost use Rattle.mf_desk.specs.Answers.{Decides, in_catalogue};
@@ -18,7 +18,8 @@ const MOST_IN_CATALOGUE: u32 = 999;
 
 /// The number of the next charge or product; F18 where the catalogue has 999.
 pub fn next_in_catalogue(used: u32) -> Result<u32, Fault>
-    ensures { result ≡ next_of used 999 }
+    ensures value { result ≡ next_of used 999 }
+    ensures refusal { IfErr result (λ f. f ≡ Fault.F18) }
 {
     next_number(used, MOST_IN_CATALOGUE)
 }
@@ -29,7 +30,8 @@ pub fn on_catalogue<S: InstitutionStore>(
     store: &mut S,
     asked: CatalogueRequest,
 ) -> Result<Decision, Fault>
-    ensures { Decides S.stands S.clean S.leaves (in_catalogue (on_catalogue asked)) store.old store.new result }
+    ensures decides { Decides S.stands S.clean S.leaves (in_catalogue (on_catalogue asked)) store.old store.new result }
+    ensures refusal { IfErr result (λ f. f ≢ Fault.F19) }
 {
     match asked {
         CatalogueRequest::ShowDay => show_day(alloc, store),
@@ -48,7 +50,8 @@ pub fn on_catalogue<S: InstitutionStore>(
 }
 
 fn show_day<S: InstitutionStore>(alloc: Global, store: &mut S) -> Result<Decision, Fault>
-    ensures { Decides S.stands S.clean S.leaves (in_catalogue show_day) store.old store.new result }
+    ensures decides { Decides S.stands S.clean S.leaves (in_catalogue show_day) store.old store.new result }
+    ensures refusal { IfErr result (λ f. f ≢ Fault.F19) }
 {
     let day = store.business_day(alloc)?;
     Ok(Decision {
@@ -58,7 +61,8 @@ fn show_day<S: InstitutionStore>(alloc: Global, store: &mut S) -> Result<Decisio
 }
 
 fn set_day<S: InstitutionStore>(alloc: Global, store: &mut S, day: Day) -> Result<Decision, Fault>
-    ensures { Decides S.stands S.clean S.leaves (in_catalogue (set_day day)) store.old store.new result }
+    ensures decides { Decides S.stands S.clean S.leaves (in_catalogue (set_day day)) store.old store.new result }
+    ensures refusal { IfErr result (λ f. f ≢ Fault.F19) }
 {
     if store.business_day(alloc)? >= day {
         return Err(Fault::F17);
@@ -77,7 +81,8 @@ fn add_charge<S: InstitutionStore>(
     calc: Calc,
     value: u64,
 ) -> Result<Decision, Fault>
-    ensures { Decides S.stands S.clean S.leaves (in_catalogue (add_charge (record { name = name; kind = kind; calc = calc; value = value }))) store.old store.new result }
+    ensures decides { Decides S.stands S.clean S.leaves (in_catalogue (add_charge (record { name = name; kind = kind; calc = calc; value = value }))) store.old store.new result }
+    ensures refusal { IfErr result (λ f. f ≢ Fault.F19) }
 {
     let counts = store.catalogue_counts(alloc)?;
     let number = next_in_catalogue(counts.charges)?;
@@ -97,7 +102,8 @@ fn show_charge<S: InstitutionStore>(
     store: &mut S,
     charge: u32,
 ) -> Result<Decision, Fault>
-    ensures { Decides S.stands S.clean S.leaves (in_catalogue (show_charge charge)) store.old store.new result }
+    ensures decides { Decides S.stands S.clean S.leaves (in_catalogue (show_charge charge)) store.old store.new result }
+    ensures refusal { IfErr result (λ f. f ≢ Fault.F19) }
 {
     let Some(charge) = store.charge(alloc, charge)? else {
         return Err(Fault::F4);

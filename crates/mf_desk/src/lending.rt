@@ -1,6 +1,6 @@
 //! How loans are submitted in an office, and how they are listed.
 
-ghost use Rattle.std.specs.Prelude.{◌≡◌};
+ghost use Rattle.std.specs.Prelude.{◌≡◌, ◌≢◌, IfErr};
 ghost use Rattle.mf_model.specs.Outcomes.{next_of};
 ghost use Rattle.mf_model.specs.Institution.{product_in};
 ghost use Rattle.mf_model.specs.Loans.{make_loan, lend, submit, list_loans};
@@ -15,7 +15,8 @@ use std::alloc::Global;
 
 /// The number of the next loan; F18 where the office has 999,999.
 fn next_loan(used: u32) -> Result<AccountNo, Fault>
-    ensures { result ≡ next_of used 999999 }
+    ensures value { result ≡ next_of used 999999 }
+    ensures refusal { IfErr result (λ f. f ≡ Fault.F18) }
 {
     let number = next_number(used, AccountNo::MAX)?;
     match AccountNo::new(number) {
@@ -31,7 +32,8 @@ fn make_loan<S: InstitutionStore>(
     office: OfficeNo,
     asked: &Application,
 ) -> Result<Decision, Fault>
-    ensures { Decides S.stands S.clean S.leaves (in_rows office (λ k rows. make_loan office asked.now rows)) store.old store.new result }
+    ensures decides { Decides S.stands S.clean S.leaves (in_rows office (λ k rows. make_loan office asked.now rows)) store.old store.new result }
+    ensures refusal { IfErr result (λ f. f ≢ Fault.F19) }
 {
     let counts = store.counts(alloc, office)?;
     let number = next_loan(counts.loans)?;
@@ -55,7 +57,8 @@ fn lend<S: InstitutionStore>(
     office: OfficeNo,
     asked: &Application,
 ) -> Result<Decision, Fault>
-    ensures { Decides S.stands S.clean S.leaves (in_rows office (λ k rows. lend office asked.now (product_in k asked.now.product) rows)) store.old store.new result }
+    ensures decides { Decides S.stands S.clean S.leaves (in_rows office (λ k rows. lend office asked.now (product_in k asked.now.product) rows)) store.old store.new result }
+    ensures refusal { IfErr result (λ f. f ≢ Fault.F19) }
 {
     let Some(product) = store.product(alloc, asked.product)? else {
         return Err(Fault::F4);
@@ -71,7 +74,8 @@ pub fn submit_loan<S: InstitutionStore>(
     office: OfficeNo,
     asked: &Application,
 ) -> Result<Decision, Fault>
-    ensures { Decides S.stands S.clean S.leaves (in_rows office (λ k rows. submit office asked.now k rows)) store.old store.new result }
+    ensures decides { Decides S.stands S.clean S.leaves (in_rows office (λ k rows. submit office asked.now k rows)) store.old store.new result }
+    ensures refusal { IfErr result (λ f. f ≢ Fault.F19) }
 {
     let number = asked.client;
     if store.client(alloc, Account { office, number })?.is_none() {
@@ -87,7 +91,8 @@ pub fn list_loans<S: InstitutionStore>(
     office: OfficeNo,
     after: u32,
 ) -> Result<Decision, Fault>
-    ensures { Decides S.stands S.clean S.leaves (in_rows office (λ k rows. list_loans office after rows)) store.old store.new result }
+    ensures decides { Decides S.stands S.clean S.leaves (in_rows office (λ k rows. list_loans office after rows)) store.old store.new result }
+    ensures refusal { IfErr result (λ f. f ≢ Fault.F19) }
 {
     let loans = store.loans(alloc, office, after)?;
     Ok(Decision {

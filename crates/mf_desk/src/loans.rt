@@ -1,6 +1,6 @@
 //! What is asked of one loan, up to its approval.
 
-ghost use Rattle.std.specs.Prelude.{◌≡◌};
+ghost use Rattle.std.specs.Prelude.{◌≡◌, ◌≢◌, IfErr};
 ghost use Rattle.mf_model.specs.declared.request.LoanRequest.TheVariants.{Take};
 ghost use Rattle.mf_model.specs.declared.request.Request.TheVariants as request;
 ghost use Rattle.mf_model.specs.Loans.{next_stage, status_of};
@@ -15,7 +15,8 @@ use std::alloc::Global;
 
 /// The stage after a step on a day; F9 where the stage doesn't allow the step.
 fn next_stage(step: LoanStep, day: Day, stage: Stage) -> Result<Stage, Fault>
-    ensures { result ≡ next_stage step day stage }
+    ensures value { result ≡ next_stage step day stage }
+    ensures refusal { IfErr result (λ f. f ≡ Fault.F9) }
 {
     match (step, stage) {
         (LoanStep::Approve, Stage::Submitted) => Ok(Stage::Approved(day)),
@@ -33,7 +34,8 @@ fn find_loan<S: InstitutionStore>(
     to: OfficeNo,
     loan: Account,
 ) -> Result<Loan, Fault>
-    ensures { Asks S.stands S.clean S.leaves (seen_loan to loan) store.old store.new result }
+    ensures asks { Asks S.stands S.clean S.leaves (seen_loan to loan) store.old store.new result }
+    ensures refusal { IfErr result (λ f. f ≢ Fault.F19) }
 {
     let Account { office, number } = loan;
     check_sight(alloc, store, to, office)?;
@@ -57,7 +59,8 @@ fn take_step<S: InstitutionStore>(
     loan: Loan,
     step: LoanStep,
 ) -> Result<(LoanReply, Option<Stage>), Fault>
-    ensures { Asks S.stands S.clean S.leaves (loan_outcome (Take step) loan) store.old store.new result }
+    ensures asks { Asks S.stands S.clean S.leaves (loan_outcome (Take step) loan) store.old store.new result }
+    ensures refusal { IfErr result (λ f. f ≢ Fault.F19) }
 {
     let day = store.business_day(alloc)?;
     let stage = next_stage(step, day, loan.stage)?;
@@ -72,7 +75,8 @@ fn act_on_loan<S: InstitutionStore>(
     loan: Loan,
     asked: LoanRequest,
 ) -> Result<(LoanReply, Option<Stage>), Fault>
-    ensures { Asks S.stands S.clean S.leaves (loan_outcome asked loan) store.old store.new result }
+    ensures asks { Asks S.stands S.clean S.leaves (loan_outcome asked loan) store.old store.new result }
+    ensures refusal { IfErr result (λ f. f ≢ Fault.F19) }
 {
     match asked {
         LoanRequest::Show => Ok((LoanReply::Shown(loan), None)),
@@ -88,7 +92,8 @@ pub fn on_loan<S: InstitutionStore>(
     loan: Account,
     asked: LoanRequest,
 ) -> Result<Decision, Fault>
-    ensures { Decides S.stands S.clean S.leaves (request_outcome caller (request.Loan loan asked)) store.old store.new result }
+    ensures decides { Decides S.stands S.clean S.leaves (request_outcome caller (request.Loan loan asked)) store.old store.new result }
+    ensures refusal { IfErr result (λ f. f ≢ Fault.F19) }
 {
     let Account { office, number } = loan;
     let found = find_loan(alloc, store, caller.office, Account { office, number })?;

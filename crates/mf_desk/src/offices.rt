@@ -1,6 +1,6 @@
 //! Offices, and what is asked of one: its staff, its clients and its loans.
 
-ghost use Rattle.std.specs.Prelude.{◌≡◌};
+ghost use Rattle.std.specs.Prelude.{◌≡◌, ◌≢◌, IfErr};
 ghost use Rattle.mf_model.specs.declared.request.Request.TheVariants.{Office, SeenOffices, NewOffice};
 ghost use Rattle.mf_model.specs.Outcomes.{next_of};
 ghost use Rattle.mf_model.specs.Offices.{add_staff, add_client, show_client};
@@ -16,7 +16,8 @@ use std::alloc::Global;
 
 /// The number of the next member of staff; F18 where the office has 9,999.
 fn next_staff(used: u32) -> Result<StaffNo, Fault>
-    ensures { result ≡ next_of used 9999 }
+    ensures value { result ≡ next_of used 9999 }
+    ensures refusal { IfErr result (λ f. f ≡ Fault.F18) }
 {
     let number = next_number(used, StaffNo::MAX)?;
     match StaffNo::new(number) {
@@ -27,7 +28,8 @@ fn next_staff(used: u32) -> Result<StaffNo, Fault>
 
 /// The number of the next client; F18 where the office has 999,999.
 fn next_client(used: u32) -> Result<AccountNo, Fault>
-    ensures { result ≡ next_of used 999999 }
+    ensures value { result ≡ next_of used 999999 }
+    ensures refusal { IfErr result (λ f. f ≡ Fault.F18) }
 {
     let number = next_number(used, AccountNo::MAX)?;
     match AccountNo::new(number) {
@@ -44,7 +46,8 @@ pub fn add_office<S: InstitutionStore>(
     parent: OfficeNo,
     name: Name,
 ) -> Result<Decision, Fault>
-    ensures { Decides S.stands S.clean S.leaves (request_outcome caller (NewOffice number parent name)) store.old store.new result }
+    ensures decides { Decides S.stands S.clean S.leaves (request_outcome caller (NewOffice number parent name)) store.old store.new result }
+    ensures refusal { IfErr result (λ f. f ≢ Fault.F19) }
 {
     check_sight(alloc, store, caller.office, parent)?;
     if store.is_there(alloc, number)? {
@@ -69,7 +72,8 @@ pub fn list_offices<S: InstitutionStore>(
     store: &mut S,
     caller: Caller,
 ) -> Result<Decision, Fault>
-    ensures { Decides S.stands S.clean S.leaves (request_outcome caller SeenOffices) store.old store.new result }
+    ensures decides { Decides S.stands S.clean S.leaves (request_outcome caller SeenOffices) store.old store.new result }
+    ensures refusal { IfErr result (λ f. f ≢ Fault.F19) }
 {
     let offices = store.visible_offices(alloc, caller.office)?;
     Ok(Decision {
@@ -86,7 +90,8 @@ pub fn in_office<S: InstitutionStore>(
     office: u32,
     asked: OfficeRequest,
 ) -> Result<Decision, Fault>
-    ensures { Decides S.stands S.clean S.leaves (request_outcome caller (Office office asked)) store.old store.new result }
+    ensures decides { Decides S.stands S.clean S.leaves (request_outcome caller (Office office asked)) store.old store.new result }
+    ensures refusal { IfErr result (λ f. f ≢ Fault.F19) }
 {
     let office = find_office(alloc, store, caller.office, office)?;
     match asked {
@@ -105,7 +110,8 @@ fn add_staff<S: InstitutionStore>(
     name: Name,
     role: Role,
 ) -> Result<Decision, Fault>
-    ensures { Decides S.stands S.clean S.leaves (in_rows office (λ k rows. add_staff office name role rows)) store.old store.new result }
+    ensures decides { Decides S.stands S.clean S.leaves (in_rows office (λ k rows. add_staff office name role rows)) store.old store.new result }
+    ensures refusal { IfErr result (λ f. f ≢ Fault.F19) }
 {
     let counts = store.counts(alloc, office)?;
     let staff = next_staff(counts.staff)?;
@@ -121,7 +127,8 @@ fn add_client<S: InstitutionStore>(
     office: OfficeNo,
     name: Name,
 ) -> Result<Decision, Fault>
-    ensures { Decides S.stands S.clean S.leaves (in_rows office (λ k rows. add_client office name rows)) store.old store.new result }
+    ensures decides { Decides S.stands S.clean S.leaves (in_rows office (λ k rows. add_client office name rows)) store.old store.new result }
+    ensures refusal { IfErr result (λ f. f ≢ Fault.F19) }
 {
     let counts = store.counts(alloc, office)?;
     let number = next_client(counts.clients)?;
@@ -137,7 +144,8 @@ fn show_client<S: InstitutionStore>(
     office: OfficeNo,
     number: AccountNo,
 ) -> Result<Decision, Fault>
-    ensures { Decides S.stands S.clean S.leaves (in_rows office (λ k rows. show_client office number rows)) store.old store.new result }
+    ensures decides { Decides S.stands S.clean S.leaves (in_rows office (λ k rows. show_client office number rows)) store.old store.new result }
+    ensures refusal { IfErr result (λ f. f ≢ Fault.F19) }
 {
     let Some(name) = store.client(alloc, Account { office, number })? else {
         return Err(Fault::F4);

@@ -1,6 +1,6 @@
 //! Products, which all offices share.
 
-ghost use Rattle.std.specs.Prelude.{◌≡◌, ◌⊎◌, true, false, [], ◌++◌, IfOk, IfErr};
+ghost use Rattle.std.specs.Prelude.{◌≡◌, ◌⊎◌, true, false, [], ◌++◌, IfOk, IfErr, ◌≢◌};
 ghost use Rattle.mf_base.specs.declared.fault.Fault.TheVariants.{F8, F20};
 ghost use Rattle.mf_catalog.specs.Product.{charge_at, is_consistent};
 ghost use Rattle.mf_model.specs.Catalogue.{make_product, add_product, show_product, retire_product};
@@ -22,6 +22,7 @@ fn find_charge<S: InstitutionStore>(
 ) -> Result<Option<ChargeDef>, Fault>
     ensures found { Asks S.stands S.clean S.leaves (charge_named named) store.old store.new result }
     ensures numbered { IfOk result (λ charge. number_of charge ≡ named) }
+    ensures refusal { IfErr result (λ f. f ≢ Fault.F19) }
 {
     let Some(number) = named else {
         return Ok(None);
@@ -100,7 +101,8 @@ fn make_product<S: InstitutionStore>(
     store: &mut S,
     members: ProductMembers,
 ) -> Result<Decision, Fault>
-    ensures { Decides S.stands S.clean S.leaves (in_catalogue (make_product members)) store.old store.new result }
+    ensures decides { Decides S.stands S.clean S.leaves (in_catalogue (make_product members)) store.old store.new result }
+    ensures refusal { IfErr result (λ f. f ≢ Fault.F19) }
 {
     let counts = store.catalogue_counts(alloc)?;
     let number = next_in_catalogue(counts.products)?;
@@ -116,7 +118,8 @@ pub fn add_product<S: InstitutionStore>(
     store: &mut S,
     members: ProductMembers,
 ) -> Result<Decision, Fault>
-    ensures { Decides S.stands S.clean S.leaves (in_catalogue (add_product members)) store.old store.new result }
+    ensures decides { Decides S.stands S.clean S.leaves (in_catalogue (add_product members)) store.old store.new result }
+    ensures refusal { IfErr result (λ f. f ≢ Fault.F19) }
 {
     let disbursement = find_charge(alloc, store, members.disbursement_charge)?;
     let instalment = find_charge(alloc, store, members.instalment_charge)?;
@@ -130,7 +133,8 @@ pub fn show_product<S: InstitutionStore>(
     store: &mut S,
     product: u32,
 ) -> Result<Decision, Fault>
-    ensures { Decides S.stands S.clean S.leaves (in_catalogue (show_product product)) store.old store.new result }
+    ensures decides { Decides S.stands S.clean S.leaves (in_catalogue (show_product product)) store.old store.new result }
+    ensures refusal { IfErr result (λ f. f ≢ Fault.F19) }
 {
     let Some(product) = store.product(alloc, product)? else {
         return Err(Fault::F4);
@@ -146,7 +150,8 @@ pub fn retire_product<S: InstitutionStore>(
     store: &mut S,
     product: u32,
 ) -> Result<Decision, Fault>
-    ensures { Decides S.stands S.clean S.leaves (in_catalogue (retire_product product)) store.old store.new result }
+    ensures decides { Decides S.stands S.clean S.leaves (in_catalogue (retire_product product)) store.old store.new result }
+    ensures refusal { IfErr result (λ f. f ≢ Fault.F19) }
 {
     let Some(found) = store.product(alloc, product)? else {
         return Err(Fault::F4);

@@ -1,5 +1,6 @@
 //! What becomes of each request that its caller may send.
 
+ghost use Rattle.std.specs.Prelude.{◌≢◌, IfErr};
 ghost use Rattle.mf_desk.specs.Answers.{Decides, request_outcome};
 
 use crate::catalogue::on_catalogue;
@@ -18,7 +19,8 @@ pub fn act<S: InstitutionStore>(
     caller: Caller,
     request: Request,
 ) -> Result<Decision, Fault>
-    ensures { Decides S.stands S.clean S.leaves (request_outcome caller request) store.old store.new result }
+    ensures decides { Decides S.stands S.clean S.leaves (request_outcome caller request) store.old store.new result }
+    ensures refusal { IfErr result (λ f. f ≢ Fault.F19) }
 {
     match request {
         Request::Unreadable(flaw) => Err(flaw.fault()),

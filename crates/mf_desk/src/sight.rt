@@ -1,3 +1,4 @@
+ghost use Rattle.std.specs.Prelude.{◌≢◌, IfErr};
 ghost use Rattle.mf_desk.specs.Answers.{Asks, sight, seen_number};
 
 use mf_base::Fault;
@@ -12,7 +13,8 @@ pub fn check_sight<S: InstitutionStore>(
     to: OfficeNo,
     office: OfficeNo,
 ) -> Result<(), Fault>
-    ensures { Asks S.stands S.clean S.leaves (sight to office) store.old store.new result }
+    ensures asks { Asks S.stands S.clean S.leaves (sight to office) store.old store.new result }
+    ensures refusal { IfErr result (λ f. f ≢ Fault.F19) }
 {
     if store.is_visible(alloc, to, office)? {
         Ok(())
@@ -29,7 +31,8 @@ pub fn find_office<S: InstitutionStore>(
     to: OfficeNo,
     office: u32,
 ) -> Result<OfficeNo, Fault>
-    ensures { Asks S.stands S.clean S.leaves (seen_number to office) store.old store.new result }
+    ensures asks { Asks S.stands S.clean S.leaves (seen_number to office) store.old store.new result }
+    ensures refusal { IfErr result (λ f. f ≢ Fault.F19) }
 {
     let Some(office) = OfficeNo::new(office) else {
         return Err(Fault::F4);

@@ -7,17 +7,17 @@ pub returns-in_err-reply-clause-changes : goal.returns-in_err-reply-clause-chang
 returns-in_err-reply-clause-changes g c =
     let s = g.S.InstitutionStore in
     let e : c.from_residual.result ≡ Err c.in_err-reply.field-0.0 = search rules in
-    rw e (refusal_changes_nothing s.stands s.clean s.leaves (call_of c.args.caller c.args.request) c.decide.result c.args.store.now c.decide.new.store c.in_err-reply.field-0.0 g.met.S.InstitutionStore.more c.decide.ensures)
+    rw e (refusal_changes_nothing s.stands s.clean s.leaves (call_of c.args.caller c.args.request) c.decide.result c.args.store.now c.decide.new.store c.in_err-reply.field-0.0 g.met.S.InstitutionStore.more c.decide.ensures.decides)
 
 pub returns-in_err-commit-in-Some-clause-changes : goal.returns-in_err-commit-in-Some-clause-changes
 returns-in_err-commit-in-Some-clause-changes g c =
     let s = g.S.InstitutionStore in
     let e : c.from_residual-in_err-commit-in-Some.result ≡ Err c.in_err-commit-in-Some.field-0.0 = search rules in
     rw e (changes_given_up s.stands s.clean s.leaves (call_of c.args.caller c.args.request) c.in_ok-reply.field-0 c.in-Some.commit c.args.store.now c.decide.new.store c.commit.new.self c.in_err-commit-in-Some.field-0.0
-    c.soundness.ensures.accepted g.met.S.InstitutionStore.sound c.requires.in_range c.in-Some.is c.in_ok-reply.ensures c.in_err-commit-in-Some.ensures)
+    c.soundness.ensures.accepted g.met.S.InstitutionStore.sound c.requires.in_range c.in-Some.is c.in_ok-reply.ensures.decides c.in_err-commit-in-Some.ensures)
 
 pub returns-clause-changes : goal.returns-clause-changes
 returns-clause-changes g c =
     let s = g.S.InstitutionStore in
     changes_made s.stands s.clean s.leaves (call_of c.args.caller c.args.request) c.in_ok-reply.field-0 c.in-Some.commit c.args.store.now c.decide.new.store c.commit.new.self c.in_ok-shown.shown
-    c.soundness.ensures.accepted g.met.S.InstitutionStore.sound c.requires.in_range c.in-Some.is c.in_ok-reply.ensures c.in_ok-commit-in-Some.ensures
+    c.soundness.ensures.accepted g.met.S.InstitutionStore.sound c.requires.in_range c.in-Some.is c.in_ok-reply.ensures.decides c.in_ok-commit-in-Some.ensures

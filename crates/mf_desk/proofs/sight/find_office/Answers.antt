@@ -25,8 +25,8 @@ unseen : (b : Bool) (f : Option Office) → f ≡ None → cond b f None ≡ Non
 unseen true f e = e
 unseen false f e = refl
 
-pub returns-in_default : goal.returns-in_default
-returns-in_default g c =
+pub returns-in_default-clause-asks : goal.returns-in_default-clause-asks
+returns-in_default-clause-asks g c =
     let o = c.args.to in
     let x = c.args.office in
     record {
