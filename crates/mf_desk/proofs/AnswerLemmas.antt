@@ -11,16 +11,16 @@ use Rattle.mf_model.specs.Institution.{Institution, Change, after, after_maybe}
 use Rattle.mf_model.specs.Desk.{outcome, reply_in, change_in, reply}
 use Rattle.mf_model.specs.Sound.{IsSound, IsInRange}
 use Rattle.mf_model.specs.Store.{Commits, change_of, left_by}
-use Rattle.mf_desk.specs.Answers.{Decides, Tells, Changes, decided}
+use Rattle.mf_desk.specs.Answers.{Decides, Tells, Changes, decision_outcome}
 
 -- an accepted request leaves a sound institution
 abbrev pub KeepsSound : Type 0
 KeepsSound = (call : Call) (i : Institution) (change : Change) → IsSound i → IsInRange call.request → change_in (outcome call i) ≡ Some change → IsSound (after change i)
 
-no_change : (call : Call) (d : Decision) (i : Institution) → d.commit ≡ None → outcome call i ≡ decided d i → change_in (outcome call i) ≡ None
+no_change : (call : Call) (d : Decision) (i : Institution) → d.commit ≡ None → outcome call i ≡ decision_outcome d i → change_in (outcome call i) ≡ None
 no_change call d i e h = ap change_in h ∙ ap (option_map (λ (c : Commit). change_of c i)) e
 
-its_change : (call : Call) (d : Decision) (commit : Commit) (i : Institution) → d.commit ≡ Some commit → outcome call i ≡ decided d i → change_in (outcome call i) ≡ Some (change_of commit i)
+its_change : (call : Call) (d : Decision) (commit : Commit) (i : Institution) → d.commit ≡ Some commit → outcome call i ≡ decision_outcome d i → change_in (outcome call i) ≡ Some (change_of commit i)
 its_change call d commit i e h = ap change_in h ∙ ap (option_map (λ (c : Commit). change_of c i)) e
 
 module _ {S : Type 0} (stands : S → Institution → Type 0) (clean : S → Type 0) (leaves : S → List Institution → Type 0) where

@@ -6,12 +6,13 @@ use Rattle.mf_base.specs.declared.fault.Fault.TheVariants.{F2, F3, F20}
 use Rattle.mf_office.specs.declared.staff.Role.{Role}
 use Rattle.mf_office.specs.declared.caller.Caller.{Caller}
 use Rattle.mf_model.specs.declared.request.Request.{Request}
-use Rattle.mf_model.specs.declared.request.Request.TheVariants.{Malformed}
+use Rattle.mf_model.specs.declared.request.Request.TheVariants.{Unreadable}
+use Rattle.mf_model.specs.declared.request.Flaw.{Flaw}
 use Rattle.mf_desk.specs.declared.decision.Decision.{Decision}
 use Rattle.mf_model.specs.Institution.{Institution, Staff}
-use Rattle.mf_model.specs.Desk.{Plan, plan, need, meets, Outcome, outcome, staff_at, permitted, sent_by}
+use Rattle.mf_model.specs.Desk.{Plan, plan, need, meets, Outcome, outcome, staff_at, where_permitted, sent_by}
 use Rattle.mf_model.specs.Store.{Reads, role_of}
-use Rattle.mf_desk.specs.Answers.{becomes, acted, call_of, decided, Decides, Asks}
+use Rattle.mf_desk.specs.Answers.{plan_outcome, request_outcome, call_of, decision_outcome, Decides, Asks}
 
 module _ {S : Type 0} (stands : S → Institution → Type 0) (clean : S → Type 0) (leaves : S → List Institution → Type 0) where
   -- what is decided after a reading, where the value that was read leads from the one outcome to the other
@@ -19,7 +20,7 @@ module _ {S : Type 0} (stands : S → Institution → Type 0) (clean : S → Typ
   then_decides value told then_told old mid new r result read leads d = record {
     premise = λ k. read.premise (d.premise k);
     same = λ k i s. d.same k i (read.same (d.premise k) i s);
-    decides = λ k i s. subst (λ (o : Outcome). IfOk result (λ x. o ≡ decided x i)) (sym (leads i (read.value_is (d.premise k) i s))) (d.decides k i (read.same (d.premise k) i s));
+    decides = λ k i s. subst (λ (o : Outcome). IfOk result (λ x. o ≡ decision_outcome x i)) (sym (leads i (read.value_is (d.premise k) i s))) (d.decides k i (read.same (d.premise k) i s));
     refuses = λ k i s. subst (λ (o : Outcome). IfErr result (λ fault. (fault ≡ F20) ⊎ (o ≡ Err fault))) (sym (leads i (read.value_is (d.premise k) i s))) (d.refuses k i (read.same (d.premise k) i s));
     stop = λ k is l. d.stop k is (read.stop (d.premise k) is l);
   }
@@ -67,7 +68,7 @@ module _ {S : Type 0} (stands : S → Institution → Type 0) (clean : S → Typ
   learned_decides Holds told then_told old mid new result l leads d = record {
     premise = λ k. l.premise (d.premise k);
     same = λ k i s. d.same k i (l.same (d.premise k) i s);
-    decides = λ k i s. subst (λ (o : Outcome). IfOk result (λ x. o ≡ decided x i)) (sym (leads i (l.holds (d.premise k) i s))) (d.decides k i (l.same (d.premise k) i s));
+    decides = λ k i s. subst (λ (o : Outcome). IfOk result (λ x. o ≡ decision_outcome x i)) (sym (leads i (l.holds (d.premise k) i s))) (d.decides k i (l.same (d.premise k) i s));
     refuses = λ k i s. subst (λ (o : Outcome). IfErr result (λ fault. (fault ≡ F20) ⊎ (o ≡ Err fault))) (sym (leads i (l.holds (d.premise k) i s))) (d.refuses k i (l.same (d.premise k) i s));
     stop = λ k is x. d.stop k is (l.stop (d.premise k) is x);
   }
@@ -83,19 +84,19 @@ module _ {S : Type 0} (stands : S → Institution → Type 0) (clean : S → Typ
   }
 
 abbrev pub IsRequest : Request → Type 0
-IsRequest request = (fault : Fault) → request ≡ Malformed fault → ⊥
+IsRequest request = (flaw : Flaw) → request ≡ Unreadable flaw → ⊥
 
 planned : (request : Request) → IsRequest request → (p : Plan) × (plan request ≡ Ok p)
-planned (Malformed fault) h = absurd (h fault refl)
+planned (Unreadable flaw) h = absurd (h flaw refl)
 planned _ h = (_, refl)
 
-permitted_none : (c : Caller) (request : Request) (p : Plan) (s : Option Staff) (i : Institution) → None ≡ option_map (λ (t : Staff). t.role) s → permitted c request p s i ≡ Err F2
+permitted_none : (c : Caller) (request : Request) (p : Plan) (s : Option Staff) (i : Institution) → None ≡ option_map (λ (t : Staff). t.role) s → where_permitted c request p s i ≡ Err F2
 permitted_none c request p None i h = refl
 permitted_none c request p (Some s) i h = absurd (cc)
 
-permitted_some : (c : Caller) (request : Request) (p : Plan) (s : Option Staff) (role : Role) (i : Institution) → Some role ≡ option_map (λ (t : Staff). t.role) s → permitted c request p s i ≡ cond (meets (need request) role c.office) (becomes (Ok p) c i) (Err F3)
+permitted_some : (c : Caller) (request : Request) (p : Plan) (s : Option Staff) (role : Role) (i : Institution) → Some role ≡ option_map (λ (t : Staff). t.role) s → where_permitted c request p s i ≡ cond (meets (need request) role c.office) (plan_outcome (Ok p) c i) (Err F3)
 permitted_some c request p None role i h = absurd (cc)
-permitted_some c request p (Some s) role i h = let e : s.role ≡ role = cc in ap (λ r. cond (meets (need request) r c.office) (becomes (Ok p) c i) (Err F3)) e
+permitted_some c request p (Some s) role i h = let e : s.role ≡ role = cc in ap (λ r. cond (meets (need request) r c.office) (plan_outcome (Ok p) c i) (Err F3)) e
 
 -- an unknown caller
 pub sent_unknown : (c : Caller) (request : Request) (i : Institution) → IsRequest request → None ≡ role_of c i → outcome (call_of c request) i ≡ Err F2
@@ -104,8 +105,8 @@ sent_unknown c request i h s =
     ap (λ p. sent_by (Some c) request p i) w.1 ∙ permitted_none c request w.0 (staff_at i c) i s
 
 -- a known one
-pub sent_known : (c : Caller) (request : Request) (role : Role) (i : Institution) → IsRequest request → Some role ≡ role_of c i → outcome (call_of c request) i ≡ cond (meets (need request) role c.office) (acted c request i) (Err F3)
+pub sent_known : (c : Caller) (request : Request) (role : Role) (i : Institution) → IsRequest request → Some role ≡ role_of c i → outcome (call_of c request) i ≡ cond (meets (need request) role c.office) (request_outcome c request i) (Err F3)
 sent_known c request role i h s =
     let w = planned request h in
     ap (λ p. sent_by (Some c) request p i) w.1 ∙ permitted_some c request w.0 (staff_at i c) role i s
-    ∙ ap (λ p. cond (meets (need request) role c.office) (becomes p c i) (Err F3)) (sym w.1)
+    ∙ ap (λ p. cond (meets (need request) role c.office) (plan_outcome p c i) (Err F3)) (sym w.1)

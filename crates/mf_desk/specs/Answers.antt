@@ -1,49 +1,55 @@
 -- What the desk does with a request, in the words of the institution that its store stands for.
-use Rattle.std.specs.Prelude.{◌≡◌, ℕ, ◌⊎◌, true, false, cond, is_some, List, length, option_map, Option, Some, None, Result, Ok, Err, IfOk, IfErr, OnOk, OnErr}
+use Rattle.std.specs.Prelude.{◌≡◌, ℕ, ◌⊎◌, true, false, cond, is_some, List, option_map, Option, Some, None, Result, Ok, Err, IfOk, IfErr, OnOk, OnErr}
 use Rattle.mf_base.specs.declared.fault.Fault.{Fault}
 use Rattle.mf_base.specs.declared.fault.Fault.TheVariants.{F4, F20}
-use Rattle.mf_catalog.specs.Product.{lending}
 use Rattle.mf_office.specs.declared.account.Account.{Account}
 use Rattle.mf_office.specs.declared.caller.Caller.{Caller}
 use Rattle.mf_model.specs.declared.request.Call.{Call}
+use Rattle.mf_model.specs.declared.request.LoanRequest.{LoanRequest}
 use Rattle.mf_model.specs.declared.request.Request.{Request}
 use Rattle.mf_model.specs.declared.loan.Loan.{Loan}
+use Rattle.mf_model.specs.declared.loan.Stage.{Stage}
+use Rattle.mf_model.specs.declared.reply.LoanReply.{LoanReply}
 use Rattle.mf_model.specs.declared.reply.Reply.{Reply}
-use Rattle.mf_model.specs.declared.reply.Reply.TheVariants.{DayShown, LoanMade}
 use Rattle.mf_desk.specs.declared.decision.Decision.{Decision}
-use Rattle.mf_model.specs.Institution.{Institution, Catalogue, Rows, product_in, after_maybe}
-use Rattle.mf_model.specs.Desk.{Plan, plan, Outcome, carried_out, outcome, change_in, next_of, of_catalogue, of_office, with_value, where_found, unless_refused, loan_added, submitted}
+use Rattle.mf_model.specs.Institution.{Institution, Catalogue, Rows, after_maybe}
+use Rattle.mf_model.specs.Loans.{on_loan}
+use Rattle.mf_model.specs.Desk.{Plan, plan, Outcome, carried_out, outcome, change_in, of_catalogue, of_office}
 use Rattle.mf_model.specs.Tree.{seen_office}
 use Rattle.mf_model.specs.Store.{rows_at, client_at, loan_at, change_of, left_by}
 
 -- what becomes of a plan, or of what reads as no request
-abbrev pub becomes : Result Plan Fault → Caller → Institution → Outcome
-becomes (Err fault) c i = Err fault
-becomes (Ok p) c i = carried_out c p i
+abbrev pub plan_outcome : Result Plan Fault → Caller → Institution → Outcome
+plan_outcome (Err fault) c i = Err fault
+plan_outcome (Ok p) c i = carried_out c p i
 
 -- what becomes of a request that the caller may send
-abbrev pub acted : Caller → Request → Institution → Outcome
-acted c request i = becomes (plan request) c i
+abbrev pub request_outcome : Caller → Request → Institution → Outcome
+request_outcome c request i = plan_outcome (plan request) c i
 
 -- a request of a known sender
 abbrev pub call_of : Caller → Request → Call
 call_of c request = record { caller = Some c; request = request }
 
--- the reply and the change that were decided
-abbrev pub decided : Decision → Institution → Outcome
-decided d i = Ok (d.reply, option_map (λ c. change_of c i) d.commit)
+-- the reply and the change of a decision
+abbrev pub decision_outcome : Decision → Institution → Outcome
+decision_outcome d i = Ok (d.reply, option_map (λ c. change_of c i) d.commit)
 
 -- what becomes of the catalogue
 abbrev pub in_catalogue : (Catalogue → Result (Reply × Option Catalogue) Fault) → Institution → Outcome
 in_catalogue act i = of_catalogue (act i.catalogue)
 
--- the business day
-abbrev pub show_day : Catalogue → Result (Reply × Option Catalogue) Fault
-show_day k = Ok (DayShown k.day, None)
+-- what becomes of the rows of office x
+abbrev pub in_rows : ℕ → (Catalogue → Rows → Result (Reply × Option Rows) Fault) → Institution → Outcome
+in_rows x act i = of_office x (act i.catalogue (rows_at x i))
 
 -- that o sees office x; F4 where it doesn't
 abbrev pub sight : ℕ → ℕ → Institution → Result (Unit {0}) Fault
 sight o x i = cond (is_some (seen_office o x i)) (Ok tt) (Err F4)
+
+-- the number of office x, where o sees it; F4 where it doesn't
+abbrev pub seen_number : ℕ → ℕ → Institution → Result ℕ Fault
+seen_number o x i = cond (is_some (seen_office o x i)) (Ok x) (Err F4)
 
 -- a thing that is there; F4 where it isn't
 abbrev pub there : {A : Type 0} → Option A → Result A Fault
@@ -58,24 +64,16 @@ client_there client i = cond (is_some (client_at client i)) (Ok tt) (Err F4)
 abbrev pub seen_loan : ℕ → Account → Institution → Result Loan Fault
 seen_loan o loan i = cond (is_some (seen_office o loan.office i)) (there (loan_at loan i)) (Err F4)
 
--- a new loan of a client, where there is room
-abbrev pub loan_made : Account → ℕ → ℕ → ℕ → Rows → Result (Reply × Option Rows) Fault
-loan_made client product principal periods rows = with_value (next_of (length rows.loans) 999999) (λ n. (LoanMade (record { office = client.office; number = n }), Some (loan_added (submitted client.number product principal periods) rows)))
-
--- the same in the office
-abbrev pub made_in : Account → ℕ → ℕ → ℕ → Institution → Outcome
-made_in client product principal periods i = of_office client.office (loan_made client product principal periods (rows_at client.office i))
-
--- the same where the product is there and lends so
-abbrev pub lent_in : Account → ℕ → ℕ → ℕ → Institution → Outcome
-lent_in client product principal periods i = of_office client.office (where_found (product_in i.catalogue product) (λ p. unless_refused (lending p principal periods) (loan_made client product principal periods (rows_at client.office i))))
+-- what a loan that was found is told and comes to
+abbrev pub loan_outcome : LoanRequest → Loan → Institution → Result (LoanReply × Option Stage) Fault
+loan_outcome asked loan i = on_loan asked i.catalogue loan
 
 module _ {S : Type 0} (stands : S → Institution → Type 0) (clean : S → Type 0) (leaves : S → List Institution → Type 0) where
   -- A decision reads the store and changes nothing. It is the outcome, its refusal the outcome's, and it may give up.
   pub record Decides (told : Institution → Outcome) (old new : S) (result : Result Decision Fault) : Type 0 where
     pub premise : clean new → clean old
     pub same : clean new → (i : Institution) → stands old i → stands new i
-    pub decides : clean new → (i : Institution) → stands old i → IfOk result (λ d. told i ≡ decided d i)
+    pub decides : clean new → (i : Institution) → stands old i → IfOk result (λ d. told i ≡ decision_outcome d i)
     pub refuses : clean new → (i : Institution) → stands old i → IfErr result (λ fault. (fault ≡ F20) ⊎ (told i ≡ Err fault))
     pub stop : clean new → (is : List Institution) → leaves old is → leaves new is
 

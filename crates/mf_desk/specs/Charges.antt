@@ -1,11 +1,9 @@
 -- The charges that a new product names, each looked up by its number.
-use Rattle.std.specs.Prelude.{ℕ, List, [], ◌∷◌, length, option_map, Option, Some, None, Result, Ok}
+use Rattle.std.specs.Prelude.{ℕ, List, [], ◌∷◌, option_map, Option, Some, None, Result, Ok}
 use Rattle.mf_base.specs.declared.fault.Fault.{Fault}
 use Rattle.mf_catalog.specs.declared.charge.ChargeDef.{ChargeDef}
-use Rattle.mf_catalog.specs.declared.product.ProductMembers.{ProductMembers}
-use Rattle.mf_model.specs.declared.reply.Reply.TheVariants.{ProductMade}
 use Rattle.mf_model.specs.Institution.{Institution, charge_in}
-use Rattle.mf_model.specs.Desk.{Outcome, of_catalogue, next_of, with_value, with_found, product_added}
+use Rattle.mf_model.specs.Outcomes.{with_found}
 
 -- the number of a charge, if there is one
 abbrev pub number_of : Option ChargeDef → Option ℕ
@@ -22,9 +20,5 @@ before None charges = charges
 before (Some charge) charges = charge ∷ charges
 
 -- those of three charges that there are
-abbrev pub listed : Option ChargeDef → Option ChargeDef → Option ChargeDef → List ChargeDef
-listed disbursement instalment overdue = before disbursement (before instalment (before overdue []))
-
--- a new product that is consistent, where there is room
-abbrev pub product_made : ProductMembers → Institution → Outcome
-product_made members i = of_catalogue (with_value (next_of (length i.catalogue.products) 999) (λ n. (ProductMade n, Some (product_added members i.catalogue))))
+abbrev pub list_of : Option ChargeDef → Option ChargeDef → Option ChargeDef → List ChargeDef
+list_of disbursement instalment overdue = before disbursement (before instalment (before overdue []))

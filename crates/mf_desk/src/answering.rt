@@ -1,4 +1,6 @@
+ghost use Rattle.std.specs.Prelude.{◌≢◌, ◌⊎◌, Err, IfErr};
 ghost use Rattle.std.specs.Fn.{FnOnceReturnsAt};
+ghost use Rattle.mf_model.specs.declared.reply.Reply.{Reply};
 ghost use Rattle.mf_model.specs.Sound.{IsInRange};
 ghost use Rattle.mf_model.specs.Tree.{view};
 ghost use Rattle.mf_model.specs.Desk.{outcome, reply};
@@ -19,16 +21,15 @@ fn decide<S: InstitutionStore>(
     caller: Caller,
     request: Request,
 ) -> Result<Decision, Fault>
-    ensures { Decides S.stands S.clean S.leaves (outcome (call_of caller request)) store.old store.new result }
+    ensures decides { Decides S.stands S.clean S.leaves (outcome (call_of caller request)) store.old store.new result }
+    ensures refusal { IfErr result (λ f. f ≢ Fault.F19) }
 {
     let Caller { office, staff } = caller;
-    if let Request::Malformed(fault) = &request {
-        return Err(*fault);
+    if let Request::Unreadable(flaw) = &request {
+        return Err(flaw.fault());
     }
-    let role = match store.role(alloc, Caller { office, staff }) {
-        Ok(Some(role)) => role,
-        Ok(None) => return Err(Fault::F2),
-        Err(fault) => return Err(fault),
+    let Some(role) = store.role(alloc, Caller { office, staff })? else {
+        return Err(Fault::F2);
     };
     if !may_send(&request, role, office) {
         return Err(Fault::F3);
@@ -48,28 +49,24 @@ fn finish<S: InstitutionStore, T: Drop, F: FnOnce(&Reply) -> Result<T, Fault> + 
     requires in_range { IsInRange request }
     ensures told { Tells S.stands S.clean S.leaves (FnOnceReturnsAt F.FnOnce show) (reply (call_of caller request)) store.old store.new result }
     ensures changes { Changes S.stands S.clean S.leaves (call_of caller request) store.old store.new result }
+    ensures refusal { IfErr result (λ f. (f ≢ Fault.F19) ⊎ ((reply : Reply) × FnOnceReturnsAt F.FnOnce show reply (Err f))) }
 {
     soundness();
-    let Decision { reply, commit } = match decide(alloc, store, caller, request) {
-        Ok(decision) => decision,
-        Err(fault) => return Err(fault),
-    };
-    let shown = match show(&reply) {
-        Ok(shown) => shown,
-        Err(fault) => return Err(fault),
-    };
+    let Decision { reply, commit } = decide(alloc, store, caller, request)?;
+    let shown = show(&reply)?;
     match commit {
         None => Ok(shown),
-        Some(commit) => match store.commit(alloc, commit) {
-            Ok(()) => Ok(shown),
-            Err(fault) => Err(fault),
-        },
+        Some(commit) => {
+            store.commit(alloc, commit)?;
+            Ok(shown)
+        }
     }
 }
 
 /// Answers a request. What `show` makes of the reply is the answer, and it is made before the change, so that no
 /// memory is wanted once the change stands. At Err nothing is changed: it is the refusal, or what `show` refused, or
-/// F20 for want of memory or a fault of the store.
+/// F20 for want of memory or a fault of the store. It is F19, which tells of a file that is opened, only where `show`
+/// refused so.
 ///
 /// What is answered is also what the caller would be answered by an institution that has only what the caller's
 /// office sees.
@@ -85,6 +82,7 @@ pub fn answer<S: InstitutionStore, T: Drop, F: FnOnce(&Reply) -> Result<T, Fault
     ensures told { Tells S.stands S.clean S.leaves (FnOnceReturnsAt F.FnOnce show) (reply (call_of caller request)) store.old store.new result }
     ensures changes { Changes S.stands S.clean S.leaves (call_of caller request) store.old store.new result }
     ensures own_view { Tells S.stands S.clean S.leaves (FnOnceReturnsAt F.FnOnce show) (λ i. reply (call_of caller request) (view caller.office i)) store.old store.new result }
+    ensures refusal { IfErr result (λ f. (f ≢ Fault.F19) ⊎ ((reply : Reply) × FnOnceReturnsAt F.FnOnce show reply (Err f))) }
 {
     answered_by_view();
     finish(alloc, store, caller, request, show)

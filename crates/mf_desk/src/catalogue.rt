@@ -1,13 +1,15 @@
-//! The business day and charges, which all offices share.
+//! The catalogue, which all offices share: the business day and charges.
 
-ghost use Rattle.std.specs.Prelude.{◌≡◌};
-ghost use Rattle.mf_model.specs.Desk.{next_of, set_day, add_charge, show_charge};
-ghost use Rattle.mf_desk.specs.Answers.{Decides, in_catalogue, show_day};
+ghost use Rattle.std.specs.Prelude.{◌≡◌, ◌≢◌, IfErr};
+ghost use Rattle.mf_model.specs.Outcomes.{next_of};
+ghost use Rattle.mf_model.specs.Catalogue.{show_day, set_day, add_charge, show_charge, on_catalogue};
+ghost use Rattle.mf_desk.specs.Answers.{Decides, in_catalogue};
 
 use crate::decision::Decision;
+use crate::products::{add_product, retire_product, show_product};
 use mf_base::{Day, Fault};
 use mf_catalog::{Calc, ChargeKind};
-use mf_model::{Commit, InstitutionStore, Reply};
+use mf_model::{CatalogueRequest, Commit, InstitutionStore, Reply};
 use mf_office::{Name, next_number};
 use std::alloc::Global;
 
@@ -16,48 +18,62 @@ const MOST_IN_CATALOGUE: u32 = 999;
 
 /// The number of the next charge or product; F18 where the catalogue has 999.
 pub fn next_in_catalogue(used: u32) -> Result<u32, Fault>
-    ensures { result ≡ next_of used 999 }
+    ensures value { result ≡ next_of used 999 }
+    ensures refusal { IfErr result (λ f. f ≡ Fault.F18) }
 {
     next_number(used, MOST_IN_CATALOGUE)
 }
 
-pub fn get_business_day<S: InstitutionStore>(
+/// Decides a request on the catalogue.
+pub fn on_catalogue<S: InstitutionStore>(
     alloc: Global,
     store: &mut S,
+    asked: CatalogueRequest,
 ) -> Result<Decision, Fault>
-    ensures { Decides S.stands S.clean S.leaves (in_catalogue show_day) store.old store.new result }
+    ensures decides { Decides S.stands S.clean S.leaves (in_catalogue (on_catalogue asked)) store.old store.new result }
+    ensures refusal { IfErr result (λ f. f ≢ Fault.F19) }
 {
-    match store.business_day(alloc) {
-        Ok(day) => Ok(Decision {
-            reply: Reply::DayShown(day),
-            commit: None,
-        }),
-        Err(fault) => Err(fault),
+    match asked {
+        CatalogueRequest::ShowDay => show_day(alloc, store),
+        CatalogueRequest::SetDay { day } => set_day(alloc, store, day),
+        CatalogueRequest::AddCharge {
+            name,
+            kind,
+            calc,
+            value,
+        } => add_charge(alloc, store, name, kind, calc, value),
+        CatalogueRequest::ShowCharge { charge } => show_charge(alloc, store, charge),
+        CatalogueRequest::AddProduct { members } => add_product(alloc, store, members),
+        CatalogueRequest::ShowProduct { product } => show_product(alloc, store, product),
+        CatalogueRequest::RetireProduct { product } => retire_product(alloc, store, product),
     }
 }
 
-pub fn put_business_day<S: InstitutionStore>(
-    alloc: Global,
-    store: &mut S,
-    day: Day,
-) -> Result<Decision, Fault>
-    ensures { Decides S.stands S.clean S.leaves (in_catalogue (set_day day)) store.old store.new result }
+fn show_day<S: InstitutionStore>(alloc: Global, store: &mut S) -> Result<Decision, Fault>
+    ensures decides { Decides S.stands S.clean S.leaves (in_catalogue show_day) store.old store.new result }
+    ensures refusal { IfErr result (λ f. f ≢ Fault.F19) }
 {
-    let today = match store.business_day(alloc) {
-        Ok(today) => today,
-        Err(fault) => return Err(fault),
-    };
-    if today < day {
-        Ok(Decision {
-            reply: Reply::DaySet(day),
-            commit: Some(Commit::SetDay { day }),
-        })
-    } else {
-        Err(Fault::F17)
-    }
+    let day = store.business_day(alloc)?;
+    Ok(Decision {
+        reply: Reply::DayShown(day),
+        commit: None,
+    })
 }
 
-pub fn post_charges<S: InstitutionStore>(
+fn set_day<S: InstitutionStore>(alloc: Global, store: &mut S, day: Day) -> Result<Decision, Fault>
+    ensures decides { Decides S.stands S.clean S.leaves (in_catalogue (set_day day)) store.old store.new result }
+    ensures refusal { IfErr result (λ f. f ≢ Fault.F19) }
+{
+    if store.business_day(alloc)? >= day {
+        return Err(Fault::F17);
+    }
+    Ok(Decision {
+        reply: Reply::DaySet(day),
+        commit: Some(Commit::SetDay { day }),
+    })
+}
+
+fn add_charge<S: InstitutionStore>(
     alloc: Global,
     store: &mut S,
     name: Name,
@@ -65,39 +81,35 @@ pub fn post_charges<S: InstitutionStore>(
     calc: Calc,
     value: u64,
 ) -> Result<Decision, Fault>
-    ensures { Decides S.stands S.clean S.leaves (in_catalogue (add_charge (record { name = name; kind = kind; calc = calc; value = value }))) store.old store.new result }
+    ensures decides { Decides S.stands S.clean S.leaves (in_catalogue (add_charge (record { name = name; kind = kind; calc = calc; value = value }))) store.old store.new result }
+    ensures refusal { IfErr result (λ f. f ≢ Fault.F19) }
 {
-    let counts = match store.catalogue_counts(alloc) {
-        Ok(counts) => counts,
-        Err(fault) => return Err(fault),
-    };
-    match next_in_catalogue(counts.charges) {
-        Ok(number) => Ok(Decision {
-            reply: Reply::ChargeMade(number),
-            commit: Some(Commit::AddCharge {
-                name,
-                kind,
-                calc,
-                value,
-            }),
+    let counts = store.catalogue_counts(alloc)?;
+    let number = next_in_catalogue(counts.charges)?;
+    Ok(Decision {
+        reply: Reply::ChargeMade(number),
+        commit: Some(Commit::AddCharge {
+            name,
+            kind,
+            calc,
+            value,
         }),
-        Err(fault) => Err(fault),
-    }
+    })
 }
 
-pub fn get_charge<S: InstitutionStore>(
+fn show_charge<S: InstitutionStore>(
     alloc: Global,
     store: &mut S,
     charge: u32,
 ) -> Result<Decision, Fault>
-    ensures { Decides S.stands S.clean S.leaves (in_catalogue (show_charge charge)) store.old store.new result }
+    ensures decides { Decides S.stands S.clean S.leaves (in_catalogue (show_charge charge)) store.old store.new result }
+    ensures refusal { IfErr result (λ f. f ≢ Fault.F19) }
 {
-    match store.charge(alloc, charge) {
-        Ok(Some(charge)) => Ok(Decision {
-            reply: Reply::ChargeShown(charge),
-            commit: None,
-        }),
-        Ok(None) => Err(Fault::F4),
-        Err(fault) => Err(fault),
-    }
+    let Some(charge) = store.charge(alloc, charge)? else {
+        return Err(Fault::F4);
+    };
+    Ok(Decision {
+        reply: Reply::ChargeShown(charge),
+        commit: None,
+    })
 }

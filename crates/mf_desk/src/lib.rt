@@ -4,6 +4,7 @@
 mod answering;
 mod catalogue;
 mod decision;
+mod lending;
 mod loans;
 mod offices;
 mod products;

@@ -1,69 +1,28 @@
-//! Loans up to their approval.
+//! What is asked of one loan, up to its approval.
 
-ghost use Rattle.std.specs.Prelude.{◌≡◌};
-ghost use Rattle.mf_model.specs.declared.request.Request.TheVariants.{PostLoans, GetLoan, ApproveLoan, RejectLoan, WithdrawLoan, UndoApproval, GetLoans};
-ghost use Rattle.mf_model.specs.Desk.{next_of};
-ghost use Rattle.mf_model.specs.Loans.{approved, rejected, withdrawn, unapproved};
-ghost use Rattle.mf_desk.specs.Answers.{Asks, Decides, acted, client_there, seen_loan, made_in, lent_in};
+ghost use Rattle.std.specs.Prelude.{◌≡◌, ◌≢◌, IfErr};
+ghost use Rattle.mf_model.specs.declared.request.LoanRequest.TheVariants.{Take};
+ghost use Rattle.mf_model.specs.declared.request.Request.TheVariants as request;
+ghost use Rattle.mf_model.specs.Loans.{next_stage, status_of};
+ghost use Rattle.mf_desk.specs.Answers.{Asks, Decides, request_outcome, seen_loan, loan_outcome};
 
 use crate::decision::Decision;
 use crate::sight::check_sight;
 use mf_base::{Day, Fault};
-use mf_catalog::check_loan;
-use mf_model::{Commit, InstitutionStore, Loan, Reply, Stage};
-use mf_office::{Account, AccountNo, Caller, OfficeNo, next_number};
+use mf_model::{Commit, InstitutionStore, Loan, LoanReply, LoanRequest, LoanStep, Reply, Stage};
+use mf_office::{Account, Caller, OfficeNo};
 use std::alloc::Global;
 
-/// The number of the next loan; F18 where the office has 999,999.
-fn next_loan(used: u32) -> Result<AccountNo, Fault>
-    ensures { result ≡ next_of used 999999 }
+/// The stage after a step on a day; F9 where the stage doesn't allow the step.
+fn next_stage(step: LoanStep, day: Day, stage: Stage) -> Result<Stage, Fault>
+    ensures value { result ≡ next_stage step day stage }
+    ensures refusal { IfErr result (λ f. f ≡ Fault.F9) }
 {
-    let number = match next_number(used, AccountNo::MAX) {
-        Ok(number) => number,
-        Err(fault) => return Err(fault),
-    };
-    match AccountNo::new(number) {
-        Some(number) => Ok(number),
-        None => Err(Fault::F18),
-    }
-}
-
-/// The stage after an approval on a day; F9 where the loan isn't pending.
-fn approve(day: Day, stage: Stage) -> Result<Stage, Fault>
-    ensures { result ≡ approved day stage }
-{
-    match stage {
-        Stage::Submitted => Ok(Stage::Approved(day)),
-        _ => Err(Fault::F9),
-    }
-}
-
-/// The stage after a rejection; F9 where the loan isn't pending.
-fn reject(stage: Stage) -> Result<Stage, Fault>
-    ensures { result ≡ rejected stage }
-{
-    match stage {
-        Stage::Submitted => Ok(Stage::Rejected),
-        _ => Err(Fault::F9),
-    }
-}
-
-/// The stage after the client's withdrawal; F9 where the loan isn't pending.
-fn withdraw(stage: Stage) -> Result<Stage, Fault>
-    ensures { result ≡ withdrawn stage }
-{
-    match stage {
-        Stage::Submitted => Ok(Stage::Withdrawn),
-        _ => Err(Fault::F9),
-    }
-}
-
-/// The stage after an approval is undone; F9 where the loan isn't approved.
-fn undo(stage: Stage) -> Result<Stage, Fault>
-    ensures { result ≡ unapproved stage }
-{
-    match stage {
-        Stage::Approved(_) => Ok(Stage::Submitted),
+    match (step, stage) {
+        (LoanStep::Approve, Stage::Submitted) => Ok(Stage::Approved(day)),
+        (LoanStep::Reject, Stage::Submitted) => Ok(Stage::Rejected),
+        (LoanStep::Withdraw, Stage::Submitted) => Ok(Stage::Withdrawn),
+        (LoanStep::UndoApproval, Stage::Approved(_)) => Ok(Stage::Submitted),
         _ => Err(Fault::F9),
     }
 }
@@ -75,265 +34,81 @@ fn find_loan<S: InstitutionStore>(
     to: OfficeNo,
     loan: Account,
 ) -> Result<Loan, Fault>
-    ensures { Asks S.stands S.clean S.leaves (seen_loan to loan) store.old store.new result }
+    ensures asks { Asks S.stands S.clean S.leaves (seen_loan to loan) store.old store.new result }
+    ensures refusal { IfErr result (λ f. f ≢ Fault.F19) }
 {
     let Account { office, number } = loan;
-    match check_sight(alloc, store, to, office) {
-        Ok(()) => {}
-        Err(fault) => return Err(fault),
-    }
-    match store.loan(alloc, Account { office, number }) {
-        Ok(Some(found)) => Ok(found),
-        Ok(None) => Err(Fault::F4),
-        Err(fault) => Err(fault),
+    check_sight(alloc, store, to, office)?;
+    match store.loan(alloc, Account { office, number })? {
+        Some(found) => Ok(found),
+        None => Err(Fault::F4),
     }
 }
 
-pub fn get_loan<S: InstitutionStore>(
+/// The status number of a stage.
+fn status_number(stage: &Stage) -> u16
+    ensures { result ≡ status_of stage.now }
+{
+    stage.status()
+}
+
+/// A step of a loan on the business day: its status number, and the stage that it comes to.
+fn take_step<S: InstitutionStore>(
+    alloc: Global,
+    store: &mut S,
+    loan: Loan,
+    step: LoanStep,
+) -> Result<(LoanReply, Option<Stage>), Fault>
+    ensures asks { Asks S.stands S.clean S.leaves (loan_outcome (Take step) loan) store.old store.new result }
+    ensures refusal { IfErr result (λ f. f ≢ Fault.F19) }
+{
+    let day = store.business_day(alloc)?;
+    let stage = next_stage(step, day, loan.stage)?;
+    let told = LoanReply::Status(status_number(&stage));
+    Ok((told, Some(stage)))
+}
+
+/// What is told of a loan, and the stage that it comes to, if it comes to another.
+fn act_on_loan<S: InstitutionStore>(
+    alloc: Global,
+    store: &mut S,
+    loan: Loan,
+    asked: LoanRequest,
+) -> Result<(LoanReply, Option<Stage>), Fault>
+    ensures asks { Asks S.stands S.clean S.leaves (loan_outcome asked loan) store.old store.new result }
+    ensures refusal { IfErr result (λ f. f ≢ Fault.F19) }
+{
+    match asked {
+        LoanRequest::Show => Ok((LoanReply::Shown(loan), None)),
+        LoanRequest::Take(step) => take_step(alloc, store, loan, step),
+    }
+}
+
+/// Decides a request on one loan, which the caller must see.
+pub fn on_loan<S: InstitutionStore>(
     alloc: Global,
     store: &mut S,
     caller: Caller,
     loan: Account,
+    asked: LoanRequest,
 ) -> Result<Decision, Fault>
-    ensures { Decides S.stands S.clean S.leaves (acted caller (GetLoan loan)) store.old store.new result }
+    ensures decides { Decides S.stands S.clean S.leaves (request_outcome caller (request.Loan loan asked)) store.old store.new result }
+    ensures refusal { IfErr result (λ f. f ≢ Fault.F19) }
 {
     let Account { office, number } = loan;
-    match find_loan(alloc, store, caller.office, Account { office, number }) {
-        Ok(found) => Ok(Decision {
-            reply: Reply::LoanShown {
-                account: Account { office, number },
-                loan: found,
-            },
-            commit: None,
-        }),
-        Err(fault) => Err(fault),
-    }
-}
-
-pub fn approve_loan<S: InstitutionStore>(
-    alloc: Global,
-    store: &mut S,
-    caller: Caller,
-    loan: Account,
-) -> Result<Decision, Fault>
-    ensures { Decides S.stands S.clean S.leaves (acted caller (ApproveLoan loan)) store.old store.new result }
-{
-    let Account { office, number } = loan;
-    let found = match find_loan(alloc, store, caller.office, Account { office, number }) {
-        Ok(found) => found,
-        Err(fault) => return Err(fault),
-    };
-    let day = match store.business_day(alloc) {
-        Ok(day) => day,
-        Err(fault) => return Err(fault),
-    };
-    match approve(day, found.stage) {
-        Ok(stage) => Ok(Decision {
-            reply: Reply::LoanApproved(Account { office, number }),
-            commit: Some(Commit::SetStage {
+    let found = find_loan(alloc, store, caller.office, Account { office, number })?;
+    let (told, stage) = act_on_loan(alloc, store, found, asked)?;
+    Ok(Decision {
+        reply: Reply::Loan {
+            loan: Account { office, number },
+            told,
+        },
+        commit: match stage {
+            Some(stage) => Some(Commit::SetStage {
                 loan: Account { office, number },
                 stage,
             }),
-        }),
-        Err(fault) => Err(fault),
-    }
-}
-
-pub fn reject_loan<S: InstitutionStore>(
-    alloc: Global,
-    store: &mut S,
-    caller: Caller,
-    loan: Account,
-) -> Result<Decision, Fault>
-    ensures { Decides S.stands S.clean S.leaves (acted caller (RejectLoan loan)) store.old store.new result }
-{
-    let Account { office, number } = loan;
-    let found = match find_loan(alloc, store, caller.office, Account { office, number }) {
-        Ok(found) => found,
-        Err(fault) => return Err(fault),
-    };
-    match reject(found.stage) {
-        Ok(stage) => Ok(Decision {
-            reply: Reply::LoanRejected(Account { office, number }),
-            commit: Some(Commit::SetStage {
-                loan: Account { office, number },
-                stage,
-            }),
-        }),
-        Err(fault) => Err(fault),
-    }
-}
-
-pub fn withdraw_loan<S: InstitutionStore>(
-    alloc: Global,
-    store: &mut S,
-    caller: Caller,
-    loan: Account,
-) -> Result<Decision, Fault>
-    ensures { Decides S.stands S.clean S.leaves (acted caller (WithdrawLoan loan)) store.old store.new result }
-{
-    let Account { office, number } = loan;
-    let found = match find_loan(alloc, store, caller.office, Account { office, number }) {
-        Ok(found) => found,
-        Err(fault) => return Err(fault),
-    };
-    match withdraw(found.stage) {
-        Ok(stage) => Ok(Decision {
-            reply: Reply::LoanWithdrawn(Account { office, number }),
-            commit: Some(Commit::SetStage {
-                loan: Account { office, number },
-                stage,
-            }),
-        }),
-        Err(fault) => Err(fault),
-    }
-}
-
-pub fn undo_approval<S: InstitutionStore>(
-    alloc: Global,
-    store: &mut S,
-    caller: Caller,
-    loan: Account,
-) -> Result<Decision, Fault>
-    ensures { Decides S.stands S.clean S.leaves (acted caller (UndoApproval loan)) store.old store.new result }
-{
-    let Account { office, number } = loan;
-    let found = match find_loan(alloc, store, caller.office, Account { office, number }) {
-        Ok(found) => found,
-        Err(fault) => return Err(fault),
-    };
-    match undo(found.stage) {
-        Ok(stage) => Ok(Decision {
-            reply: Reply::ApprovalUndone(Account { office, number }),
-            commit: Some(Commit::SetStage {
-                loan: Account { office, number },
-                stage,
-            }),
-        }),
-        Err(fault) => Err(fault),
-    }
-}
-
-/// That a client is there; F4 where it isn't. An office's clients are numbered from 1 without gaps, so their count tells.
-fn check_client<S: InstitutionStore>(
-    alloc: Global,
-    store: &mut S,
-    client: Account,
-) -> Result<(), Fault>
-    ensures { Asks S.stands S.clean S.leaves (client_there client) store.old store.new result }
-{
-    let counts = match store.counts(alloc, client.office) {
-        Ok(counts) => counts,
-        Err(fault) => return Err(fault),
-    };
-    if client.number.get() <= counts.clients {
-        Ok(())
-    } else {
-        Err(Fault::F4)
-    }
-}
-
-/// A new loan of a client that is there, once its product lends so.
-fn number_loan<S: InstitutionStore>(
-    alloc: Global,
-    store: &mut S,
-    client: Account,
-    product: u32,
-    principal: u64,
-    periods: u32,
-) -> Result<Decision, Fault>
-    ensures { Decides S.stands S.clean S.leaves (made_in client product principal periods) store.old store.new result }
-{
-    let Account { office, number } = client;
-    let counts = match store.counts(alloc, office) {
-        Ok(counts) => counts,
-        Err(fault) => return Err(fault),
-    };
-    let loan = Loan {
-        client: number,
-        product,
-        principal,
-        periods,
-        stage: Stage::Submitted,
-    };
-    match next_loan(counts.loans) {
-        Ok(number) => Ok(Decision {
-            reply: Reply::LoanMade(Account { office, number }),
-            commit: Some(Commit::AddLoan { office, loan }),
-        }),
-        Err(fault) => Err(fault),
-    }
-}
-
-/// A new loan of a client that is there.
-fn lend<S: InstitutionStore>(
-    alloc: Global,
-    store: &mut S,
-    client: Account,
-    product: u32,
-    principal: u64,
-    periods: u32,
-) -> Result<Decision, Fault>
-    ensures { Decides S.stands S.clean S.leaves (lent_in client product principal periods) store.old store.new result }
-{
-    let found = match store.product(alloc, product) {
-        Ok(Some(found)) => found,
-        Ok(None) => return Err(Fault::F4),
-        Err(fault) => return Err(fault),
-    };
-    match check_loan(&found, principal, periods) {
-        Ok(()) => {}
-        Err(fault) => return Err(fault),
-    }
-    number_loan(alloc, store, client, product, principal, periods)
-}
-
-pub fn post_loans<S: InstitutionStore>(
-    alloc: Global,
-    store: &mut S,
-    caller: Caller,
-    client: Account,
-    product: u32,
-    principal: u64,
-    periods: u32,
-) -> Result<Decision, Fault>
-    ensures { Decides S.stands S.clean S.leaves (acted caller (PostLoans client product principal periods)) store.old store.new result }
-{
-    let Account { office, number } = client;
-    match check_sight(alloc, store, caller.office, office) {
-        Ok(()) => {}
-        Err(fault) => return Err(fault),
-    }
-    match check_client(alloc, store, Account { office, number }) {
-        Ok(()) => {}
-        Err(fault) => return Err(fault),
-    }
-    let client = Account { office, number };
-    lend(alloc, store, client, product, principal, periods)
-}
-
-/// The first 100 loans of an office whose number is above one. A number that no office can have is F4.
-pub fn get_loans<S: InstitutionStore>(
-    alloc: Global,
-    store: &mut S,
-    caller: Caller,
-    office: u32,
-    after: u32,
-) -> Result<Decision, Fault>
-    ensures { Decides S.stands S.clean S.leaves (acted caller (GetLoans office after)) store.old store.new result }
-{
-    let Some(office) = OfficeNo::new(office) else {
-        return Err(Fault::F4);
-    };
-    match check_sight(alloc, store, caller.office, office) {
-        Ok(()) => {}
-        Err(fault) => return Err(fault),
-    }
-    match store.loans(alloc, office, after) {
-        Ok(loans) => Ok(Decision {
-            reply: Reply::LoansShown(loans),
-            commit: None,
-        }),
-        Err(fault) => Err(fault),
-    }
+            None => None,
+        },
+    })
 }

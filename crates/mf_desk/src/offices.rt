@@ -1,25 +1,25 @@
-//! Offices, their staff and their clients.
+//! Offices, and what is asked of one: its staff, its clients and its loans.
 
-ghost use Rattle.std.specs.Prelude.{◌≡◌};
-ghost use Rattle.mf_model.specs.declared.request.Request.TheVariants.{PostOffices, GetOffices, PostStaff, PostClients, GetClient};
-ghost use Rattle.mf_model.specs.Desk.{next_of};
-ghost use Rattle.mf_desk.specs.Answers.{Decides, acted};
+ghost use Rattle.std.specs.Prelude.{◌≡◌, ◌≢◌, IfErr};
+ghost use Rattle.mf_model.specs.declared.request.Request.TheVariants.{Office, SeenOffices, NewOffice};
+ghost use Rattle.mf_model.specs.Outcomes.{next_of};
+ghost use Rattle.mf_model.specs.Offices.{add_staff, add_client, show_client};
+ghost use Rattle.mf_desk.specs.Answers.{Decides, request_outcome, in_rows};
 
 use crate::decision::Decision;
-use crate::sight::check_sight;
+use crate::lending::{list_loans, submit_loan};
+use crate::sight::{check_sight, find_office};
 use mf_base::Fault;
-use mf_model::{Commit, InstitutionStore, Reply};
+use mf_model::{Commit, InstitutionStore, OfficeRequest, Reply};
 use mf_office::{Account, AccountNo, Caller, Name, OfficeNo, Role, StaffNo, next_number};
 use std::alloc::Global;
 
 /// The number of the next member of staff; F18 where the office has 9,999.
 fn next_staff(used: u32) -> Result<StaffNo, Fault>
-    ensures { result ≡ next_of used 9999 }
+    ensures value { result ≡ next_of used 9999 }
+    ensures refusal { IfErr result (λ f. f ≡ Fault.F18) }
 {
-    let number = match next_number(used, StaffNo::MAX) {
-        Ok(number) => number,
-        Err(fault) => return Err(fault),
-    };
+    let number = next_number(used, StaffNo::MAX)?;
     match StaffNo::new(number) {
         Some(number) => Ok(number),
         None => Err(Fault::F18),
@@ -28,19 +28,17 @@ fn next_staff(used: u32) -> Result<StaffNo, Fault>
 
 /// The number of the next client; F18 where the office has 999,999.
 fn next_client(used: u32) -> Result<AccountNo, Fault>
-    ensures { result ≡ next_of used 999999 }
+    ensures value { result ≡ next_of used 999999 }
+    ensures refusal { IfErr result (λ f. f ≡ Fault.F18) }
 {
-    let number = match next_number(used, AccountNo::MAX) {
-        Ok(number) => number,
-        Err(fault) => return Err(fault),
-    };
+    let number = next_number(used, AccountNo::MAX)?;
     match AccountNo::new(number) {
         Some(number) => Ok(number),
         None => Err(Fault::F18),
     }
 }
 
-pub fn post_offices<S: InstitutionStore>(
+pub fn add_office<S: InstitutionStore>(
     alloc: Global,
     store: &mut S,
     caller: Caller,
@@ -48,118 +46,108 @@ pub fn post_offices<S: InstitutionStore>(
     parent: OfficeNo,
     name: Name,
 ) -> Result<Decision, Fault>
-    ensures { Decides S.stands S.clean S.leaves (acted caller (PostOffices number parent name)) store.old store.new result }
+    ensures decides { Decides S.stands S.clean S.leaves (request_outcome caller (NewOffice number parent name)) store.old store.new result }
+    ensures refusal { IfErr result (λ f. f ≢ Fault.F19) }
 {
-    match check_sight(alloc, store, caller.office, parent) {
-        Ok(()) => {}
-        Err(fault) => return Err(fault),
+    check_sight(alloc, store, caller.office, parent)?;
+    if store.is_there(alloc, number)? {
+        return Err(Fault::F16);
     }
-    match store.is_there(alloc, number) {
-        Ok(false) => {}
-        Ok(true) => return Err(Fault::F16),
-        Err(fault) => return Err(fault),
+    if !store.has_room_below(alloc, parent)? {
+        return Err(Fault::F18);
     }
-    match store.has_room_below(alloc, parent) {
-        Ok(true) => Ok(Decision {
-            reply: Reply::OfficeMade(number),
-            commit: Some(Commit::AddOffice {
-                number,
-                parent,
-                name,
-            }),
+    Ok(Decision {
+        reply: Reply::OfficeMade(number),
+        commit: Some(Commit::AddOffice {
+            number,
+            parent,
+            name,
         }),
-        Ok(false) => Err(Fault::F18),
-        Err(fault) => Err(fault),
-    }
+    })
 }
 
-pub fn get_offices<S: InstitutionStore>(
+/// The caller's office and those below it.
+pub fn list_offices<S: InstitutionStore>(
     alloc: Global,
     store: &mut S,
     caller: Caller,
 ) -> Result<Decision, Fault>
-    ensures { Decides S.stands S.clean S.leaves (acted caller GetOffices) store.old store.new result }
+    ensures decides { Decides S.stands S.clean S.leaves (request_outcome caller SeenOffices) store.old store.new result }
+    ensures refusal { IfErr result (λ f. f ≢ Fault.F19) }
 {
-    match store.visible_offices(alloc, caller.office) {
-        Ok(offices) => Ok(Decision {
-            reply: Reply::Offices(offices),
-            commit: None,
-        }),
-        Err(fault) => Err(fault),
-    }
+    let offices = store.visible_offices(alloc, caller.office)?;
+    Ok(Decision {
+        reply: Reply::Offices(offices),
+        commit: None,
+    })
 }
 
-pub fn post_staff<S: InstitutionStore>(
+/// Decides a request on one office, which the caller must see.
+pub fn in_office<S: InstitutionStore>(
     alloc: Global,
     store: &mut S,
     caller: Caller,
+    office: u32,
+    asked: OfficeRequest,
+) -> Result<Decision, Fault>
+    ensures decides { Decides S.stands S.clean S.leaves (request_outcome caller (Office office asked)) store.old store.new result }
+    ensures refusal { IfErr result (λ f. f ≢ Fault.F19) }
+{
+    let office = find_office(alloc, store, caller.office, office)?;
+    match asked {
+        OfficeRequest::AddStaff { name, role } => add_staff(alloc, store, office, name, role),
+        OfficeRequest::AddClient { name } => add_client(alloc, store, office, name),
+        OfficeRequest::ShowClient { client } => show_client(alloc, store, office, client),
+        OfficeRequest::SubmitLoan(asked) => submit_loan(alloc, store, office, &asked),
+        OfficeRequest::ListLoans { after } => list_loans(alloc, store, office, after),
+    }
+}
+
+fn add_staff<S: InstitutionStore>(
+    alloc: Global,
+    store: &mut S,
     office: OfficeNo,
     name: Name,
     role: Role,
 ) -> Result<Decision, Fault>
-    ensures { Decides S.stands S.clean S.leaves (acted caller (PostStaff office name role)) store.old store.new result }
+    ensures decides { Decides S.stands S.clean S.leaves (in_rows office (λ k rows. add_staff office name role rows)) store.old store.new result }
+    ensures refusal { IfErr result (λ f. f ≢ Fault.F19) }
 {
-    match check_sight(alloc, store, caller.office, office) {
-        Ok(()) => {}
-        Err(fault) => return Err(fault),
-    }
-    let counts = match store.counts(alloc, office) {
-        Ok(counts) => counts,
-        Err(fault) => return Err(fault),
-    };
-    match next_staff(counts.staff) {
-        Ok(staff) => Ok(Decision {
-            reply: Reply::StaffMade(Caller { office, staff }),
-            commit: Some(Commit::AddStaff { office, name, role }),
-        }),
-        Err(fault) => Err(fault),
-    }
+    let counts = store.counts(alloc, office)?;
+    let staff = next_staff(counts.staff)?;
+    Ok(Decision {
+        reply: Reply::StaffMade(Caller { office, staff }),
+        commit: Some(Commit::AddStaff { office, name, role }),
+    })
 }
 
-pub fn post_clients<S: InstitutionStore>(
+fn add_client<S: InstitutionStore>(
     alloc: Global,
     store: &mut S,
-    caller: Caller,
     office: OfficeNo,
     name: Name,
 ) -> Result<Decision, Fault>
-    ensures { Decides S.stands S.clean S.leaves (acted caller (PostClients office name)) store.old store.new result }
+    ensures decides { Decides S.stands S.clean S.leaves (in_rows office (λ k rows. add_client office name rows)) store.old store.new result }
+    ensures refusal { IfErr result (λ f. f ≢ Fault.F19) }
 {
-    match check_sight(alloc, store, caller.office, office) {
-        Ok(()) => {}
-        Err(fault) => return Err(fault),
-    }
-    let counts = match store.counts(alloc, office) {
-        Ok(counts) => counts,
-        Err(fault) => return Err(fault),
-    };
-    match next_client(counts.clients) {
-        Ok(number) => Ok(Decision {
-            reply: Reply::ClientMade(Account { office, number }),
-            commit: Some(Commit::AddClient { office, name }),
-        }),
-        Err(fault) => Err(fault),
-    }
+    let counts = store.counts(alloc, office)?;
+    let number = next_client(counts.clients)?;
+    Ok(Decision {
+        reply: Reply::ClientMade(Account { office, number }),
+        commit: Some(Commit::AddClient { office, name }),
+    })
 }
 
-pub fn get_client<S: InstitutionStore>(
+fn show_client<S: InstitutionStore>(
     alloc: Global,
     store: &mut S,
-    caller: Caller,
-    client: Account,
+    office: OfficeNo,
+    number: AccountNo,
 ) -> Result<Decision, Fault>
-    ensures { Decides S.stands S.clean S.leaves (acted caller (GetClient client)) store.old store.new result }
+    ensures decides { Decides S.stands S.clean S.leaves (in_rows office (λ k rows. show_client office number rows)) store.old store.new result }
+    ensures refusal { IfErr result (λ f. f ≢ Fault.F19) }
 {
-    let Account { office, number } = client;
-    match check_sight(alloc, store, caller.office, office) {
-        Ok(()) => {}
-        Err(fault) => return Err(fault),
-    }
-    let found = match store.client(alloc, Account { office, number }) {
-        Ok(found) => found,
-        Err(fault) => return Err(fault),
-    };
-    let Some(name) = found else {
+    let Some(name) = store.client(alloc, Account { office, number })? else {
         return Err(Fault::F4);
     };
     Ok(Decision {

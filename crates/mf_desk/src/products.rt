@@ -1,11 +1,11 @@
 //! Products, which all offices share.
 
-ghost use Rattle.std.specs.Prelude.{◌≡◌, ◌⊎◌, true, false, [], ◌++◌, IfOk, IfErr};
+ghost use Rattle.std.specs.Prelude.{◌≡◌, ◌⊎◌, true, false, [], ◌++◌, IfOk, IfErr, ◌≢◌};
 ghost use Rattle.mf_base.specs.declared.fault.Fault.TheVariants.{F8, F20};
 ghost use Rattle.mf_catalog.specs.Product.{charge_at, is_consistent};
-ghost use Rattle.mf_model.specs.Desk.{add_product, show_product, retire_product};
+ghost use Rattle.mf_model.specs.Catalogue.{make_product, add_product, show_product, retire_product};
 ghost use Rattle.mf_desk.specs.Answers.{Asks, Decides, in_catalogue};
-ghost use Rattle.mf_desk.specs.Charges.{number_of, charge_named, before, listed, product_made};
+ghost use Rattle.mf_desk.specs.Charges.{number_of, charge_named, before, list_of};
 
 use crate::catalogue::next_in_catalogue;
 use crate::decision::Decision;
@@ -22,30 +22,28 @@ fn find_charge<S: InstitutionStore>(
 ) -> Result<Option<ChargeDef>, Fault>
     ensures found { Asks S.stands S.clean S.leaves (charge_named named) store.old store.new result }
     ensures numbered { IfOk result (λ charge. number_of charge ≡ named) }
+    ensures refusal { IfErr result (λ f. f ≢ Fault.F19) }
 {
     let Some(number) = named else {
         return Ok(None);
     };
-    match store.charge(alloc, number) {
-        Ok(Some(charge)) => {
-            let ChargeDef {
-                number: _,
-                name,
-                kind,
-                calc,
-                value,
-            } = charge;
-            Ok(Some(ChargeDef {
-                number,
-                name,
-                kind,
-                calc,
-                value,
-            }))
-        }
-        Ok(None) => Err(Fault::F4),
-        Err(fault) => Err(fault),
-    }
+    let Some(charge) = store.charge(alloc, number)? else {
+        return Err(Fault::F4);
+    };
+    let ChargeDef {
+        number: _,
+        name,
+        kind,
+        calc,
+        value,
+    } = charge;
+    Ok(Some(ChargeDef {
+        number,
+        name,
+        kind,
+        calc,
+        value,
+    }))
 }
 
 /// A charge, if there is one, after others.
@@ -69,7 +67,7 @@ fn list_charges(
     instalment: Option<ChargeDef>,
     overdue: Option<ChargeDef>,
 ) -> Result<Vec<ChargeDef>, Fault>
-    ensures ok { IfOk result (λ charges. charges.items ≡ listed disbursement instalment overdue) }
+    ensures ok { IfOk result (λ charges. charges.items ≡ list_of disbursement instalment overdue) }
     ensures err { IfErr result (λ fault. fault ≡ F20) }
 {
     let mut charges = Vec::new(alloc);
@@ -90,13 +88,10 @@ fn check_named(
     requires disbursement { number_of disbursement ≡ members.now.disbursement_charge }
     requires instalment { number_of instalment ≡ members.now.instalment_charge }
     requires overdue { number_of overdue ≡ members.now.overdue_charge }
-    ensures ok { IfOk result (λ u. is_consistent (charge_at (listed disbursement instalment overdue)) members.now ≡ true) }
-    ensures err { IfErr result (λ fault. (fault ≡ F20) ⊎ ((fault ≡ F8) × (is_consistent (charge_at (listed disbursement instalment overdue)) members.now ≡ false))) }
+    ensures ok { IfOk result (λ u. is_consistent (charge_at (list_of disbursement instalment overdue)) members.now ≡ true) }
+    ensures err { IfErr result (λ fault. (fault ≡ F20) ⊎ ((fault ≡ F8) × (is_consistent (charge_at (list_of disbursement instalment overdue)) members.now ≡ false))) }
 {
-    let charges = match list_charges(alloc, disbursement, instalment, overdue) {
-        Ok(charges) => charges,
-        Err(fault) => return Err(fault),
-    };
+    let charges = list_charges(alloc, disbursement, instalment, overdue)?;
     check_product(members, charges.as_slice())
 }
 
@@ -106,62 +101,48 @@ fn make_product<S: InstitutionStore>(
     store: &mut S,
     members: ProductMembers,
 ) -> Result<Decision, Fault>
-    ensures { Decides S.stands S.clean S.leaves (product_made members) store.old store.new result }
+    ensures decides { Decides S.stands S.clean S.leaves (in_catalogue (make_product members)) store.old store.new result }
+    ensures refusal { IfErr result (λ f. f ≢ Fault.F19) }
 {
-    let counts = match store.catalogue_counts(alloc) {
-        Ok(counts) => counts,
-        Err(fault) => return Err(fault),
-    };
-    match next_in_catalogue(counts.products) {
-        Ok(number) => Ok(Decision {
-            reply: Reply::ProductMade(number),
-            commit: Some(Commit::AddProduct { members }),
-        }),
-        Err(fault) => Err(fault),
-    }
+    let counts = store.catalogue_counts(alloc)?;
+    let number = next_in_catalogue(counts.products)?;
+    Ok(Decision {
+        reply: Reply::ProductMade(number),
+        commit: Some(Commit::AddProduct { members }),
+    })
 }
 
-pub fn post_products<S: InstitutionStore>(
+/// A new product, of charges that are there.
+pub fn add_product<S: InstitutionStore>(
     alloc: Global,
     store: &mut S,
     members: ProductMembers,
 ) -> Result<Decision, Fault>
-    ensures { Decides S.stands S.clean S.leaves (in_catalogue (add_product members)) store.old store.new result }
+    ensures decides { Decides S.stands S.clean S.leaves (in_catalogue (add_product members)) store.old store.new result }
+    ensures refusal { IfErr result (λ f. f ≢ Fault.F19) }
 {
-    let disbursement = match find_charge(alloc, store, members.disbursement_charge) {
-        Ok(charge) => charge,
-        Err(fault) => return Err(fault),
-    };
-    let instalment = match find_charge(alloc, store, members.instalment_charge) {
-        Ok(charge) => charge,
-        Err(fault) => return Err(fault),
-    };
-    let overdue = match find_charge(alloc, store, members.overdue_charge) {
-        Ok(charge) => charge,
-        Err(fault) => return Err(fault),
-    };
-    match check_named(alloc, &members, disbursement, instalment, overdue) {
-        Ok(()) => {}
-        Err(fault) => return Err(fault),
-    }
+    let disbursement = find_charge(alloc, store, members.disbursement_charge)?;
+    let instalment = find_charge(alloc, store, members.instalment_charge)?;
+    let overdue = find_charge(alloc, store, members.overdue_charge)?;
+    check_named(alloc, &members, disbursement, instalment, overdue)?;
     make_product(alloc, store, members)
 }
 
-pub fn get_product<S: InstitutionStore>(
+pub fn show_product<S: InstitutionStore>(
     alloc: Global,
     store: &mut S,
     product: u32,
 ) -> Result<Decision, Fault>
-    ensures { Decides S.stands S.clean S.leaves (in_catalogue (show_product product)) store.old store.new result }
+    ensures decides { Decides S.stands S.clean S.leaves (in_catalogue (show_product product)) store.old store.new result }
+    ensures refusal { IfErr result (λ f. f ≢ Fault.F19) }
 {
-    match store.product(alloc, product) {
-        Ok(Some(product)) => Ok(Decision {
-            reply: Reply::ProductShown(product),
-            commit: None,
-        }),
-        Ok(None) => Err(Fault::F4),
-        Err(fault) => Err(fault),
-    }
+    let Some(product) = store.product(alloc, product)? else {
+        return Err(Fault::F4);
+    };
+    Ok(Decision {
+        reply: Reply::ProductShown(product),
+        commit: None,
+    })
 }
 
 pub fn retire_product<S: InstitutionStore>(
@@ -169,12 +150,11 @@ pub fn retire_product<S: InstitutionStore>(
     store: &mut S,
     product: u32,
 ) -> Result<Decision, Fault>
-    ensures { Decides S.stands S.clean S.leaves (in_catalogue (retire_product product)) store.old store.new result }
+    ensures decides { Decides S.stands S.clean S.leaves (in_catalogue (retire_product product)) store.old store.new result }
+    ensures refusal { IfErr result (λ f. f ≢ Fault.F19) }
 {
-    let found = match store.product(alloc, product) {
-        Ok(Some(found)) => found,
-        Ok(None) => return Err(Fault::F4),
-        Err(fault) => return Err(fault),
+    let Some(found) = store.product(alloc, product)? else {
+        return Err(Fault::F4);
     };
     if found.retired {
         return Err(Fault::F7);

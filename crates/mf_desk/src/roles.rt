@@ -1,33 +1,39 @@
 ghost use Rattle.std.specs.Prelude.{◌≡◌};
 ghost use Rattle.mf_model.specs.Desk.{need, meets};
 
-use mf_model::Request;
+use mf_model::{CatalogueRequest, LoanRequest, LoanStep, OfficeRequest, Request};
 use mf_office::{OfficeNo, Role};
 
 /// Whether a member of staff of an office may send this kind of request, by role and office alone.
 pub fn may_send(request: &Request, role: Role, office: OfficeNo) -> bool
     ensures { result ≡ meets (need request.now) role office }
 {
+    let is_officer = !matches!(role, Role::Teller);
     let is_manager = matches!(role, Role::Manager);
+    let is_head = is_manager && office.get() == 1;
     match request {
-        Request::PostOffices { .. }
-        | Request::PutBusinessDay { .. }
-        | Request::PostCharges { .. }
-        | Request::PostProducts { .. }
-        | Request::RetireProduct { .. } => is_manager && office.get() == 1,
-        Request::PostStaff { .. }
-        | Request::ApproveLoan { .. }
-        | Request::RejectLoan { .. }
-        | Request::UndoApproval { .. } => is_manager,
-        Request::PostClients { .. } | Request::PostLoans { .. } | Request::WithdrawLoan { .. } =>
-            !matches!(role, Role::Teller),
-        Request::Malformed(_)
-        | Request::GetOffices
-        | Request::GetClient { .. }
-        | Request::GetBusinessDay
-        | Request::GetCharge { .. }
-        | Request::GetProduct { .. }
-        | Request::GetLoan { .. }
-        | Request::GetLoans { .. } => true,
+        Request::Unreadable(_) | Request::SeenOffices => true,
+        Request::NewOffice { .. } => is_head,
+        Request::Catalogue(asked) => match asked {
+            CatalogueRequest::ShowDay
+            | CatalogueRequest::ShowCharge { .. }
+            | CatalogueRequest::ShowProduct { .. } => true,
+            CatalogueRequest::SetDay { .. }
+            | CatalogueRequest::AddCharge { .. }
+            | CatalogueRequest::AddProduct { .. }
+            | CatalogueRequest::RetireProduct { .. } => is_head,
+        },
+        Request::Office { asked, .. } => match asked {
+            OfficeRequest::ShowClient { .. } | OfficeRequest::ListLoans { .. } => true,
+            OfficeRequest::AddClient { .. } | OfficeRequest::SubmitLoan(_) => is_officer,
+            OfficeRequest::AddStaff { .. } => is_manager,
+        },
+        Request::Loan { asked, .. } => match asked {
+            LoanRequest::Show => true,
+            LoanRequest::Take(LoanStep::Withdraw) => is_officer,
+            LoanRequest::Take(LoanStep::Approve | LoanStep::Reject | LoanStep::UndoApproval) => {
+                is_manager
+            }
+        },
     }
 }

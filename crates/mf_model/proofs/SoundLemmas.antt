@@ -16,9 +16,20 @@ use Rattle.mf_office.specs.Numbers.{IsNumberUpTo}
 use Rattle.mf_office.specs.Tree.{IsTreeOf}
 use Rattle.mf_model.specs.declared.request.Call.{Call}
 use Rattle.mf_model.specs.declared.request.Request.{Request}
-use Rattle.mf_model.specs.declared.request.Request.TheVariants.{Malformed, PostOffices, GetOffices, PostStaff, PostClients, GetClient, GetBusinessDay, PutBusinessDay, PostCharges, GetCharge, PostProducts, GetProduct, RetireProduct, PostLoans, GetLoan, ApproveLoan, RejectLoan, WithdrawLoan, UndoApproval, GetLoans}
+use Rattle.mf_model.specs.declared.request.Request.TheVariants as request
+use Rattle.mf_model.specs.declared.request.CatalogueRequest.{CatalogueRequest}
+use Rattle.mf_model.specs.declared.request.CatalogueRequest.TheVariants.{ShowDay, SetDay, AddCharge, ShowCharge, AddProduct, ShowProduct, RetireProduct}
+use Rattle.mf_model.specs.declared.request.OfficeRequest.{OfficeRequest}
+use Rattle.mf_model.specs.declared.request.OfficeRequest.TheVariants.{AddStaff, AddClient, ShowClient, SubmitLoan, ListLoans}
+use Rattle.mf_model.specs.declared.request.LoanRequest.{LoanRequest}
+use Rattle.mf_model.specs.declared.request.LoanRequest.TheVariants.{Show, Take}
+use Rattle.mf_model.specs.declared.request.LoanStep.{LoanStep}
+use Rattle.mf_model.specs.declared.request.LoanStep.TheVariants.{Approve, Reject, Withdraw, UndoApproval}
+use Rattle.mf_model.specs.declared.request.Application.{Application}
+use Rattle.mf_model.specs.declared.reply.LoanReply.{LoanReply}
+use Rattle.mf_model.specs.declared.reply.LoanReply.TheVariants.{Shown, Status}
 use Rattle.mf_model.specs.declared.reply.Reply.{Reply}
-use Rattle.mf_model.specs.declared.reply.Reply.TheVariants.{StaffMade, ClientMade, ClientShown, DayShown, DaySet, ChargeMade, ChargeShown, ProductMade, ProductShown, ProductRetired, LoanMade, LoanShown, LoanApproved, LoanRejected, LoanWithdrawn, ApprovalUndone, LoansShown}
+use Rattle.mf_model.specs.declared.reply.Reply.TheVariants.{StaffMade, ClientMade, ClientShown, DayShown, DaySet, ChargeMade, ChargeShown, ProductMade, ProductShown, ProductRetired, LoanMade, Loan as LoanTold, LoansShown}
 use Rattle.mf_model.specs.Institution.{Institution, Catalogue, Charge, Offer, Office, Rows, Staff, no_rows, product_of, charge_in, product_in, office_at, with_rows, with_office, new_office, Change, Catalogue_becomes, Rows_become, Office_added, after, after_maybe, newly_made, numbered}
 use Rattle.mf_model.specs.Tree.{parent_of, is_there, Fits}
 use Rattle.mf_catalog.specs.declared.charge.ChargeDef.{ChargeDef}
@@ -27,11 +38,14 @@ use Rattle.mf_catalog.specs.declared.product.ProductMembers.{ProductMembers}
 use Rattle.mf_catalog.specs.Product.{charges_there, is_consistent, allows, lending}
 use Rattle.mf_model.specs.declared.loan.Loan.{Loan}
 use Rattle.mf_model.specs.declared.loan.Stage.{Stage}
-use Rattle.mf_model.specs.declared.loan.Stage.TheVariants.{Submitted, Approved, Withdrawn, Rejected}
-use Rattle.mf_model.specs.Loans.{approved, rejected, withdrawn, unapproved, lines_above}
-use Rattle.mf_model.specs.Desk.{Plan, plan, in_office, of_office, of_catalogue, change_in, made_by, outcome, next_of, with_value, with_found, where_found, unless_refused, add_staff, add_client, show_client, staff_added, client_added, day_set, set_day, charge_added, add_charge, show_charge, product_added, add_product, show_product, product_retired, retire_product, loan_added, submitted, submit, show_loan, loan_staged, move_loan, list_loans}
+use Rattle.mf_model.specs.declared.loan.Stage.TheVariants.{Submitted, Approved}
+use Rattle.mf_model.specs.Outcomes.{next_of, with_value, with_found, where_found, unless_refused}
+use Rattle.mf_model.specs.Catalogue.{show_day, day_set, set_day, charge_added, add_charge, show_charge, product_added, add_product, show_product, product_retired, retire_product, on_catalogue}
+use Rattle.mf_model.specs.Offices.{staff_added, add_staff, client_added, add_client, show_client}
+use Rattle.mf_model.specs.Loans.{status_of, next_stage, on_loan, loan_staged, of_loan, in_loan, loan_added, new_loan, submit, lines_above, list_loans}
+use Rattle.mf_model.specs.Desk.{Plan, plan, on_office, in_office, of_office, of_catalogue, change_in, sender_effect, outcome}
 use Rattle.mf_model.specs.Run.{Line, next, last}
-use Rattle.mf_model.specs.Sound.{IsName, AreMembers, IsSoundCharge, IsSoundOffer, IsSoundCatalogue, IsSoundLoan, IsStageBy, lends, IsSoundRows, IsSoundOffice, IsSound, IsInRange, AreInRange}
+use Rattle.mf_model.specs.Sound.{IsName, AreMembers, IsSoundCharge, IsSoundOffer, IsSoundCatalogue, IsSoundLoan, IsStageBy, lends, IsSoundRows, IsSoundOffice, IsSound, IsCatalogueInRange, IsOfficeInRange, IsInRange, AreInRange}
 use Rattle.mf_model.proofs.Views.{IsTree_after}
 use Rattle.mf_model.proofs.Steps.{known_line}
 use Rattle.mf_model.proofs.Confined.{IsTree_new}
@@ -145,15 +159,15 @@ ok x = Ok x
 ok_of : {A : Type 0} (x y : A) → ok x ≡ ok y → x ≡ y
 ok_of x y h = cc
 
-abbrev success : {X : Type 0} → Reply → Option X → Reply × Option X
+abbrev success : {R X : Type 0} → R → Option X → R × Option X
 success reply change = (reply, change)
 
 -- the change of a success
-changed : {X : Type 0} (reply other : Reply) (x y : X) → success reply (Some x) ≡ success other (Some y) → x ≡ y
-changed {X = X} reply other x y h = let same : Some x ≡ Some y = ap (λ (r : Reply × Option X). r.1) h in cc
+changed : {R X : Type 0} (reply other : R) (x y : X) → success reply (Some x) ≡ success other (Some y) → x ≡ y
+changed {R = R} {X = X} reply other x y h = let same : Some x ≡ Some y = ap (λ (r : R × Option X). r.1) h in cc
 
-not_changed : {X : Type 0} (reply other : Reply) (y : X) → success reply None ≡ success other (Some y) → ⊥
-not_changed {X = X} reply other y h = let never : None ≡ Some y = ap (λ (r : Reply × Option X). r.1) h in cc
+not_changed : {R X : Type 0} (reply other : R) (y : X) → success reply None ≡ success other (Some y) → ⊥
+not_changed {R = R} {X = X} reply other y h = let never : None ≡ Some y = ap (λ (r : R × Option X). r.1) h in cc
 
 -- the offices' acts
 staff_sound : (office : ℕ) (name : List ℕ) (role : Role) → IsName name → KeepsRows (λ k f. add_staff office name role f.rows)
@@ -185,14 +199,9 @@ client_sound office name n k f reply new s h =
       loans = all_map (IsSoundLoan k rows.clients) (IsSoundLoan k (rows.clients ++ name ∷ [])) rows.loans (client_stays k rows.clients name) s.loans;
     })
 
-shown_keeps : (client : Account) → KeepsRows (λ k f. show_client client f.rows)
-shown_keeps client k f reply new s h =
-    let shown = with_found_ok {B = Reply × Option Rows} (numbered f.rows.clients client.number) (λ name. (ClientShown client name, None)) (reply, Some new) h in
-    absurd (not_changed _ reply new shown.1)
-
-loan_shown_keeps : (account : Account) → KeepsRows (λ k f. show_loan account f.rows)
-loan_shown_keeps account k f reply new s h =
-    let shown = with_found_ok {B = Reply × Option Rows} (numbered f.rows.loans account.number) (λ loan. (LoanShown account loan, None)) (reply, Some new) h in
+shown_keeps : (office n : ℕ) → KeepsRows (λ k f. show_client office n f.rows)
+shown_keeps office n k f reply new s h =
+    let shown = with_found_ok {B = Reply × Option Rows} (numbered f.rows.clients n) (λ name. (ClientShown (record { office = office; number = n }) name, None)) (reply, Some new) h in
     absurd (not_changed _ reply new shown.1)
 
 list_keeps : (x n : ℕ) → KeepsRows (λ k f. list_loans x n f.rows)
@@ -200,82 +209,87 @@ list_keeps x n k f reply new s h =
     absurd (let same : success (LoansShown (lines_above x n f.rows.loans)) None ≡ success reply (Some new) = ok_of (success (LoansShown (lines_above x n f.rows.loans)) None) (success reply (Some new)) h in not_changed _ reply new same)
 
 -- what a loan is lent by stands with it
-submit_sound : (client : Account) (product principal periods : ℕ) → KeepsRows (λ k f. submit client product principal periods k f.rows)
-submit_sound client product principal periods k f reply new s h =
+submit_sound : (office : ℕ) (asked : Application) → KeepsRows (λ k f. submit office asked k f.rows)
+submit_sound office asked k f reply new s h =
     let rows = f.rows in
-    let there = where_found_ok (numbered rows.clients client.number) _ (reply, Some new) h in
-    let of_product = where_found_ok (product_in k product) _ (reply, Some new) there.2 in
+    let there = where_found_ok (numbered rows.clients asked.client) _ (reply, Some new) h in
+    let of_product = where_found_ok (product_in k asked.product) _ (reply, Some new) there.2 in
     let p = of_product.0 in
-    let lent = unless_refused_ok (lending p principal periods) _ (reply, Some new) of_product.2 in
-    let made = with_value_ok (next_of (length rows.loans) 999999) (λ (m : ℕ). (LoanMade (record { office = client.office; number = m }), Some (loan_added (submitted client.number product principal periods) rows))) (reply, Some new) lent.1 in
-    let not_retired = not_cond_ok p.retired (cond (allows p.members principal periods) (Ok tt) (Err F8)) F7 tt lent.0 in
-    let allowed = cond_ok (allows p.members principal periods) (Ok tt) F8 tt not_retired in
-    subst (IsSoundRows k) (changed _ reply (loan_added (submitted client.number product principal periods) rows) new made.2) (record {
+    let lent = unless_refused_ok (lending p asked.principal asked.periods) _ (reply, Some new) of_product.2 in
+    let made = with_value_ok (next_of (length rows.loans) 999999) (λ (m : ℕ). (LoanMade (record { office = office; number = m }), Some (loan_added (new_loan asked) rows))) (reply, Some new) lent.1 in
+    let not_retired = not_cond_ok p.retired (cond (allows p.members asked.principal asked.periods) (Ok tt) (Err F8)) F7 tt lent.0 in
+    let allowed = cond_ok (allows p.members asked.principal asked.periods) (Ok tt) F8 tt not_retired in
+    subst (IsSoundRows k) (changed _ reply (loan_added (new_loan asked) rows) new made.2) (record {
       staff_limit = s.staff_limit;
       staff_names = s.staff_names;
       client_limit = s.client_limit;
       client_names = s.client_names;
-      loan_limit = length_push rows.loans (submitted client.number product principal periods) 999999 (next_below (length rows.loans) 999999 made.0 made.1);
-      loans = all_push (IsSoundLoan k rows.clients) rows.loans (submitted client.number product principal periods) s.loans (record {
+      loan_limit = length_push rows.loans (new_loan asked) 999999 (next_below (length rows.loans) 999999 made.0 made.1);
+      loans = all_push (IsSoundLoan k rows.clients) rows.loans (new_loan asked) s.loans (record {
         client = ap is_some there.1;
-        product = ap (λ (o : Option Product). lends o principal periods) of_product.1 ∙ allowed.0;
+        product = ap (λ (o : Option Product). lends o asked.principal asked.periods) of_product.1 ∙ allowed.0;
         stage = tt;
       });
     })
 
--- a step of a loan keeps its days in order
-abbrev KeepsDays : (ℕ → Stage → Result Stage Fault) → Type 0
-KeepsDays step = (today : ℕ) (s t : Stage) → step today s ≡ Ok t → IsStageBy today t
+office_keeps : (office : ℕ) (asked : OfficeRequest) → IsOfficeInRange office asked → KeepsRows (λ k f. on_office asked office k f.rows)
+office_keeps office (AddStaff name role) r = staff_sound office name role r.1
+office_keeps office (AddClient name) r = client_sound office name r.1
+office_keeps office (ShowClient client) r = shown_keeps office client
+office_keeps office (SubmitLoan asked) r = submit_sound office asked
+office_keeps office (ListLoans after) r = list_keeps office after
 
-approved_keeps : KeepsDays approved
-approved_keeps today Submitted t h = let same : Approved today ≡ t = cc in subst (IsStageBy today) same (omega arith)
-approved_keeps today (Approved day) t h = absurd (cc)
-approved_keeps today Withdrawn t h = absurd (cc)
-approved_keeps today Rejected t h = absurd (cc)
+-- a stage's day is not after the business day
+abbrev IsResultBy : ℕ → Result Stage Fault → Type 0
+IsResultBy today (Err e) = Unit {0}
+IsResultBy today (Ok stage) = IsStageBy today stage
 
-rejected_keeps : KeepsDays (λ today. rejected)
-rejected_keeps today Submitted t h = let same : Rejected ≡ t = cc in subst (IsStageBy today) same tt
-rejected_keeps today (Approved day) t h = absurd (cc)
-rejected_keeps today Withdrawn t h = absurd (cc)
-rejected_keeps today Rejected t h = absurd (cc)
+step_keeps : (step : LoanStep) (today : ℕ) (s : Stage) → IsResultBy today (next_stage step today s)
+step_keeps Approve today Submitted = omega arith
+step_keeps Reject today Submitted = tt
+step_keeps Withdraw today Submitted = tt
+step_keeps UndoApproval today (Approved day) = tt
+step_keeps _ today _ = tt
 
-withdrawn_keeps : KeepsDays (λ today. withdrawn)
-withdrawn_keeps today Submitted t h = let same : Withdrawn ≡ t = cc in subst (IsStageBy today) same tt
-withdrawn_keeps today (Approved day) t h = absurd (cc)
-withdrawn_keeps today Withdrawn t h = absurd (cc)
-withdrawn_keeps today Rejected t h = absurd (cc)
-
-unapproved_keeps : KeepsDays (λ today. unapproved)
-unapproved_keeps today Submitted t h = absurd (cc)
-unapproved_keeps today (Approved day) t h = let same : Submitted ≡ t = cc in subst (IsStageBy today) same tt
-unapproved_keeps today Withdrawn t h = absurd (cc)
-unapproved_keeps today Rejected t h = absurd (cc)
+stage_keeps : (asked : LoanRequest) (k : Catalogue) (l : Loan) (told : LoanReply) (stage : Stage) → on_loan asked k l ≡ Ok (told, Some stage) → IsStageBy k.day stage
+stage_keeps Show k l told stage h = absurd (not_changed (Shown l) told stage (ok_of (success (Shown l) None) (success told (Some stage)) h))
+stage_keeps (Take step) k l told stage h = either (next_stage step k.day l.stage) (step_keeps step k.day l.stage) h
+  where
+    either : (r : Result Stage Fault) → IsResultBy k.day r → with_value {B = LoanReply × Option Stage} r (λ stage. (Status (status_of stage), Some stage)) ≡ Ok (told, Some stage) → IsStageBy k.day stage
+    either (Err e) b h = absurd (cc)
+    either (Ok s) b h = subst (IsStageBy k.day) (changed (Status (status_of s)) told s stage (ok_of (success (Status (status_of s)) (Some s)) (success told (Some stage)) h)) b
 
 staged_sound : (k : Catalogue) (clients : List (List ℕ)) (stage : Stage) (l : Loan) → IsStageBy k.day stage → IsSoundLoan k clients l → IsSoundLoan k clients (record l { stage = stage })
 staged_sound k clients stage l b s = record { client = s.client; product = s.product; stage = b }
 
-move_sound : (account : Account) (step : ℕ → Stage → Result Stage Fault) (told : Reply) → KeepsDays step → KeepsRows (λ k f. move_loan account (step k.day) told f.rows)
-move_sound account step told keeps k f reply new s h =
-    let rows = f.rows in
-    let there = where_found_ok (numbered rows.loans account.number) _ (reply, Some new) h in
-    let l = there.0 in
-    let moved = with_value_ok (step k.day l.stage) (λ (stage : Stage). (told, Some (loan_staged account.number stage rows))) (reply, Some new) there.2 in
-    let stage = moved.0 in
-    let by : IsStageBy k.day stage = keeps k.day l.stage stage moved.1 in
-    subst (IsSoundRows k) (changed told reply (loan_staged account.number stage rows) new moved.2) (record {
-      staff_limit = s.staff_limit;
-      staff_names = s.staff_names;
-      client_limit = s.client_limit;
-      client_names = s.client_names;
-      loan_limit = rw (length_with account.number (λ (x : Loan). record x { stage = stage }) rows.loans) s.loan_limit;
-      loans = all_with (IsSoundLoan k rows.clients) account.number (λ (x : Loan). record x { stage = stage }) rows.loans (λ x. staged_sound k rows.clients stage x by) s.loans;
-    })
+staged_rows : (n : ℕ) (stage : Stage) (k : Catalogue) (rows : Rows) → IsStageBy k.day stage → IsSoundRows k rows → IsSoundRows k (loan_staged n stage rows)
+staged_rows n stage k rows b s = record {
+  staff_limit = s.staff_limit;
+  staff_names = s.staff_names;
+  client_limit = s.client_limit;
+  client_names = s.client_names;
+  loan_limit = rw (length_with n (λ (x : Loan). record x { stage = stage }) rows.loans) s.loan_limit;
+  loans = all_with (IsSoundLoan k rows.clients) n (λ (x : Loan). record x { stage = stage }) rows.loans (λ x. staged_sound k rows.clients stage x b) s.loans;
+}
+
+loan_keeps : (account : Account) (asked : LoanRequest) → KeepsRows (λ k f. in_loan account (on_loan asked k) f.rows)
+loan_keeps account asked k f reply new s h =
+    let there = where_found_ok (numbered f.rows.loans account.number) _ (reply, Some new) h in
+    become (on_loan asked k there.0) (stage_keeps asked k there.0) there.2
+  where
+    become : (r : Result (LoanReply × Option Stage) Fault) → ((told : LoanReply) (stage : Stage) → r ≡ Ok (told, Some stage) → IsStageBy k.day stage) → of_loan account f.rows r ≡ Ok (reply, Some new) → IsSoundRows k new
+    become (Err e) by h = absurd (cc)
+    become (Ok (told, None)) by h = absurd (not_changed (LoanTold account told) reply new (ok_of (success (LoanTold account told) None) (success reply (Some new)) h))
+    become (Ok (told, Some stage)) by h =
+        let staged = loan_staged account.number stage f.rows in
+        let same : staged ≡ new = changed (LoanTold account told) reply staged new (ok_of (success (LoanTold account told) (Some staged)) (success reply (Some new)) h) in
+        subst (IsSoundRows k) same (staged_rows account.number stage k f.rows (by told stage refl) s)
 
 -- the catalogue's acts
 same_lends : (k l : Catalogue) → k.products ≡ l.products → k.day ≤ l.day → Grows k l
 same_lends k l same d = record { day = d; products = λ n principal periods h. ap (λ (ps : List Offer). lends (option_map (product_of n) (numbered ps n)) principal periods) (sym same) ∙ h }
 
-day_shown_keeps : KeepsCatalogue (λ k. Ok (DayShown k.day, None))
+day_shown_keeps : KeepsCatalogue show_day
 day_shown_keeps k reply l s h = absurd (not_changed (DayShown k.day) reply l (ok_of (success (DayShown k.day) None) (success reply (Some l)) h))
 
 day_sound : (day : ℕ) → day ≤ last_entered_day → KeepsCatalogue (set_day day)
@@ -361,37 +375,32 @@ retire_sound n k reply l s h =
       },
     )
 
--- what a request changes is sound, if its members lie in their ranges
-made_sound : (c : Caller) (request : Request) (i : Institution) (change : Change) → IsSound i → IsInRange request → made_by (Some c) (plan request) i ≡ Some change → IsSoundChange i.catalogue change
-made_sound c (Malformed fault) i change s r h = absurd (cc)
-made_sound c (PostOffices number parent name) i change s r h =
-    let is : Office_added number parent name ≡ change = cc in subst (IsSoundChange i.catalogue) is (r.0, r.2)
-made_sound c GetOffices i change s r h = absurd (cc)
-made_sound c (PostStaff office name role) i change s r h = office_sound office (λ k f. add_staff office name role f.rows) i change s (staff_sound office name role r.1) h
-made_sound c (PostClients office name) i change s r h = office_sound office (λ k f. add_client office name f.rows) i change s (client_sound office name r.1) h
-made_sound c (GetClient client) i change s r h = office_sound client.office (λ k f. show_client client f.rows) i change s (shown_keeps client) h
-made_sound c GetBusinessDay i change s r h = catalogue_sound (λ k. Ok (DayShown k.day, None)) i change s day_shown_keeps h
-made_sound c (PutBusinessDay day) i change s r h = catalogue_sound (set_day day) i change s (day_sound day r) h
-made_sound c (PostCharges name kind calc value) i change s r h = catalogue_sound (add_charge (record { name = name; kind = kind; calc = calc; value = value })) i change s (charge_sound (record { name = name; kind = kind; calc = calc; value = value }) (record { name = r.0; value = r.1 })) h
-made_sound c (GetCharge charge) i change s r h = catalogue_sound (show_charge charge) i change s (charge_shown_keeps charge) h
-made_sound c (PostProducts members) i change s r h = catalogue_sound (add_product members) i change s (product_sound members r) h
-made_sound c (GetProduct product) i change s r h = catalogue_sound (show_product product) i change s (product_shown_keeps product) h
-made_sound c (RetireProduct product) i change s r h = catalogue_sound (retire_product product) i change s (retire_sound product) h
-made_sound c (PostLoans client product principal periods) i change s r h = office_sound client.office (λ k f. submit client product principal periods k f.rows) i change s (submit_sound client product principal periods) h
-made_sound c (GetLoan loan) i change s r h = office_sound loan.office (λ k f. show_loan loan f.rows) i change s (loan_shown_keeps loan) h
-made_sound c (ApproveLoan loan) i change s r h = office_sound loan.office (λ k f. move_loan loan (approved k.day) (LoanApproved loan) f.rows) i change s (move_sound loan approved (LoanApproved loan) approved_keeps) h
-made_sound c (RejectLoan loan) i change s r h = office_sound loan.office (λ k f. move_loan loan rejected (LoanRejected loan) f.rows) i change s (move_sound loan (λ today. rejected) (LoanRejected loan) rejected_keeps) h
-made_sound c (WithdrawLoan loan) i change s r h = office_sound loan.office (λ k f. move_loan loan withdrawn (LoanWithdrawn loan) f.rows) i change s (move_sound loan (λ today. withdrawn) (LoanWithdrawn loan) withdrawn_keeps) h
-made_sound c (UndoApproval loan) i change s r h = office_sound loan.office (λ k f. move_loan loan unapproved (ApprovalUndone loan) f.rows) i change s (move_sound loan (λ today. unapproved) (ApprovalUndone loan) unapproved_keeps) h
-made_sound c (GetLoans office after) i change s r h = office_sound office (λ k f. list_loans office after f.rows) i change s (list_keeps office after) h
+catalogue_keeps : (asked : CatalogueRequest) → IsCatalogueInRange asked → KeepsCatalogue (on_catalogue asked)
+catalogue_keeps ShowDay r = day_shown_keeps
+catalogue_keeps (SetDay day) r = day_sound day r
+catalogue_keeps (AddCharge name kind calc value) r = charge_sound (record { name = name; kind = kind; calc = calc; value = value }) (record { name = r.0; value = r.1 })
+catalogue_keeps (ShowCharge charge) r = charge_shown_keeps charge
+catalogue_keeps (AddProduct members) r = product_sound members r
+catalogue_keeps (ShowProduct product) r = product_shown_keeps product
+catalogue_keeps (RetireProduct product) r = retire_sound product
 
-by_sound : (caller : Option Caller) (request : Request) (i : Institution) (change : Change) → IsSound i → IsInRange request → made_by caller (plan request) i ≡ Some change → IsSoundChange i.catalogue change
+-- what a request changes is sound, if its members lie in their ranges
+effect_sound : (c : Caller) (request : Request) (i : Institution) (change : Change) → IsSound i → IsInRange request → sender_effect (Some c) (plan request) i ≡ Some change → IsSoundChange i.catalogue change
+effect_sound c (request.Unreadable flaw) i change s r h = absurd (cc)
+effect_sound c (request.Catalogue asked) i change s r h = catalogue_sound (on_catalogue asked) i change s (catalogue_keeps asked r) h
+effect_sound c (request.Office office asked) i change s r h = office_sound office (λ k f. on_office asked office k f.rows) i change s (office_keeps office asked r) h
+effect_sound c (request.Loan loan asked) i change s r h = office_sound loan.office (λ k f. in_loan loan (on_loan asked k) f.rows) i change s (loan_keeps loan asked) h
+effect_sound c request.SeenOffices i change s r h = absurd (cc)
+effect_sound c (request.NewOffice number parent name) i change s r h =
+    let is : Office_added number parent name ≡ change = cc in subst (IsSoundChange i.catalogue) is (r.0, r.2)
+
+by_sound : (caller : Option Caller) (request : Request) (i : Institution) (change : Change) → IsSound i → IsInRange request → sender_effect caller (plan request) i ≡ Some change → IsSoundChange i.catalogue change
 by_sound None request i change s r h = nobody (plan request) h
   where
-    nobody : (p : Result Plan Fault) → made_by None p i ≡ Some change → IsSoundChange i.catalogue change
+    nobody : (p : Result Plan Fault) → sender_effect None p i ≡ Some change → IsSoundChange i.catalogue change
     nobody (Err e) h = absurd (cc)
     nobody (Ok p) h = absurd (cc)
-by_sound (Some c) request i change s r h = made_sound c request i change s r h
+by_sound (Some c) request i change s r h = effect_sound c request i change s r h
 
 -- an accepted request leaves a sound institution
 pub accepted_sound : (call : Call) (i : Institution) (change : Change) → IsSound i → IsInRange call.request → change_in (outcome call i) ≡ Some change → IsSound (after change i)

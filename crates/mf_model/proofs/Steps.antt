@@ -11,7 +11,7 @@ use Rattle.mf_model.specs.Tree.{parent_of, is_there, seen_by, view, touches, IsT
 use Rattle.mf_office.specs.Tree.{is_within, is_at_or_below}
 use Rattle.mf_model.specs.declared.reply.Reply.{Reply}
 use Rattle.mf_model.specs.declared.reply.Reply.TheVariants.{OfficeMade}
-use Rattle.mf_model.specs.Desk.{Plan, On_catalogue, On_office, On_all_seen, On_new_office, plan, need, meets, Outcome, of_catalogue, of_office, of_reading, in_office, carried_out, staff_at, permitted, sent_by, change_in, made, made_by}
+use Rattle.mf_model.specs.Desk.{Plan, On_catalogue, On_office, On_all_seen, On_new_office, plan, need, meets, Outcome, of_catalogue, of_office, of_reading, in_office, carried_out, staff_at, where_permitted, sent_by, change_in, plan_effect, sender_effect}
 use Rattle.mf_model.specs.Run.{is_of}
 use Rattle.mf_model.proofs.Offices.{office_at_kept}
 use Rattle.mf_model.proofs.Within.{below_with_rows, new_below}
@@ -38,18 +38,18 @@ no_change (Ok s) change h = cc
 
 -- what is known of a change that a caller of office o makes
 pub record Known (o : ℕ) (c : Caller) (p : Plan) (i : Institution) (change : Change) : Type 0 where
-  pub made_is : made c p i ≡ Some change
+  pub made_is : plan_effect c p i ≡ Some change
   pub fits : Fits change i.offices
   pub touching : touches o i change ≡ true
 
-known_catalogue : (o : ℕ) (c : Caller) (p : Plan) (i : Institution) (change : Change) → made c p i ≡ Some change → (k : Catalogue) × (change ≡ Catalogue_becomes k) → Known o c p i change
+known_catalogue : (o : ℕ) (c : Caller) (p : Plan) (i : Institution) (change : Change) → plan_effect c p i ≡ Some change → (k : Catalogue) × (change ≡ Catalogue_becomes k) → Known o c p i change
 known_catalogue o c p i change h is = record {
   made_is = h;
   fits = subst (λ (x : Change). Fits x i.offices) (sym is.1) tt;
   touching = ap (touches o i) is.1;
 }
 
-known_rows : (o x : ℕ) (c : Caller) (p : Plan) (i : Institution) (change : Change) → made c p i ≡ Some change → is_at_or_below (parent_of i.offices) x o ≡ true → (rows : Rows) × (change ≡ Rows_become x rows) → Known o c p i change
+known_rows : (o x : ℕ) (c : Caller) (p : Plan) (i : Institution) (change : Change) → plan_effect c p i ≡ Some change → is_at_or_below (parent_of i.offices) x o ≡ true → (rows : Rows) × (change ≡ Rows_become x rows) → Known o c p i change
 known_rows o x c p i change h b is = record {
   made_is = h;
   fits = subst (λ (y : Change). Fits y i.offices) (sym is.1) tt;
@@ -83,7 +83,7 @@ known c (On_new_office number parent name) i change t head h =
     }
 
 -- a change that touches o is read off o's view
-pub made_view : (o : ℕ) (c : Caller) (p : Plan) (i : Institution) (change : Change) → made c p i ≡ Some change → touches o i change ≡ true → made c p (view o i) ≡ Some change
+pub made_view : (o : ℕ) (c : Caller) (p : Plan) (i : Institution) (change : Change) → plan_effect c p i ≡ Some change → touches o i change ≡ true → plan_effect c p (view o i) ≡ Some change
 made_view o c (On_catalogue act) i change h t = h
 made_view o c (On_office x act) i change h t =
     let is = in_office_change x (act c) i.catalogue (office_at x i.offices) change h in
@@ -94,7 +94,7 @@ made_view o c (On_new_office number parent name) i change h t = h
 
 -- the same of a line
 pub record KnownLine (caller : Option Caller) (p : Result Plan Fault) (i : Institution) (change : Change) : Type 0 where
-  pub made_is : made_by caller p i ≡ Some change
+  pub made_is : sender_effect caller p i ≡ Some change
   pub fits : Fits change i.offices
   pub touching : (o : ℕ) → is_of o caller ≡ true → touches o i change ≡ true
 
@@ -102,7 +102,7 @@ permitted_change : (b : Bool) (r : Outcome) (change : Change) → change_in (con
 permitted_change true r change h = (refl, h)
 permitted_change false r change h = absurd (cc)
 
-known_permitted : (c : Caller) (request : Request) (p : Plan) (s : Option Staff) (i : Institution) (change : Change) → IsTree i.offices → plan request ≡ Ok p → change_in (permitted c request p s i) ≡ Some change → KnownLine (Some c) (Ok p) i change
+known_permitted : (c : Caller) (request : Request) (p : Plan) (s : Option Staff) (i : Institution) (change : Change) → IsTree i.offices → plan request ≡ Ok p → change_in (where_permitted c request p s i) ≡ Some change → KnownLine (Some c) (Ok p) i change
 known_permitted c request p None i change t e h = absurd (cc)
 known_permitted c request p (Some staff) i change t e h =
     let m = permitted_change (meets (need request) staff.role c.office) (carried_out c p i) change h in
@@ -119,7 +119,7 @@ known_line caller request (Err e) i change t is h = absurd (cc)
 known_line None request (Ok p) i change t is h = absurd (cc)
 known_line (Some c) request (Ok p) i change t is h = known_permitted c request p (staff_at i c) i change t is h
 
-pub effect_view : (o : ℕ) (caller : Option Caller) (p : Result Plan Fault) (i : Institution) (change : Change) → made_by caller p i ≡ Some change → touches o i change ≡ true → made_by caller p (view o i) ≡ Some change
+pub effect_view : (o : ℕ) (caller : Option Caller) (p : Result Plan Fault) (i : Institution) (change : Change) → sender_effect caller p i ≡ Some change → touches o i change ≡ true → sender_effect caller p (view o i) ≡ Some change
 effect_view o caller (Err e) i change h t = absurd (cc)
 effect_view o None (Ok p) i change h t = absurd (cc)
 effect_view o (Some c) (Ok p) i change h t = made_view o c p i change h t

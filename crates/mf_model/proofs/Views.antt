@@ -8,11 +8,11 @@ use Rattle.mf_base.specs.declared.fault.Fault.{Fault}
 use Rattle.mf_office.specs.declared.caller.Caller.{Caller}
 use Rattle.mf_model.specs.declared.request.Call.{Call}
 use Rattle.mf_model.specs.declared.request.Request.{Request}
-use Rattle.mf_model.specs.declared.request.Request.TheVariants.{PostOffices}
+use Rattle.mf_model.specs.declared.request.Request.TheVariants.{NewOffice}
 use Rattle.mf_model.specs.Institution.{Institution, Office, Rows, Staff, office_at, with_rows, with_office, new_office, Change, Catalogue_becomes, Rows_become, Office_added, after, numbered}
 use Rattle.mf_model.specs.Tree.{parent_of, kept, is_there, seen_by, seen_office, view, touches, IsTree, Fits}
 use Rattle.mf_office.specs.Tree.{is_within, is_at_or_below}
-use Rattle.mf_model.specs.Desk.{Plan, On_catalogue, On_office, On_all_seen, On_new_office, plan, need, Need, A_teller, An_officer, A_manager, The_head, meets, of_reading, in_office, found, carried_out, staff_at, permitted, sent_by, outcome}
+use Rattle.mf_model.specs.Desk.{Plan, On_catalogue, On_office, On_all_seen, On_new_office, plan, need, Need, A_teller, An_officer, A_manager, The_head, meets, of_reading, in_office, add_office, carried_out, staff_at, where_permitted, sent_by, outcome}
 use Rattle.mf_model.specs.Run.{is_of}
 use Rattle.mf_model.proofs.Offices.{office_at_kept, kept_agree, kept_all, kept_twice, parent_of_with_rows, is_there_with_rows, Ascending_with_rows, kept_with_rows, with_rows_unseen, parent_of_with_office, is_there_with_office, kept_with_office, Ascending_with_office}
 use Rattle.mf_model.proofs.Within.{below_self, below_seen, below_with_rows, below_with_office, new_below}
@@ -43,7 +43,7 @@ pub carried_out_view : (c : Caller) (p : Plan) (i : Institution) → IsTree i.of
 carried_out_view c (On_catalogue act) i t head = refl
 carried_out_view c (On_office x act) i t head = ap (in_office x (act c) i.catalogue) (seen_office_view c.office x i)
 carried_out_view c (On_all_seen read) i t head = ap (λ fs. of_reading (read i.catalogue fs)) (seen_twice c.office i.offices)
-carried_out_view c (On_new_office number parent name) i t head = ap (found c.office number parent name) (seen_by_head c.office i.offices t (head number parent name refl))
+carried_out_view c (On_new_office number parent name) i t head = ap (add_office c.office number parent name) (seen_by_head c.office i.offices t (head number parent name refl))
 
 -- only the head may add an office
 pub head_alone : (n : Need) (role : Role) (o : ℕ) → n ≡ The_head → meets n role o ≡ true → o ≡ 1
@@ -55,14 +55,14 @@ head_alone The_head Officer o e h = cc
 head_alone The_head Manager o e h = grind (arith, nat_tests)
 
 pub offices_need_the_head : (request : Request) (number parent : ℕ) (name : List ℕ) → plan request ≡ Ok (On_new_office number parent name) → need request ≡ The_head
-offices_need_the_head (PostOffices a b c) number parent name h = refl
+offices_need_the_head (NewOffice a b c) number parent name h = refl
 offices_need_the_head _ number parent name h = cc
 
 cond_where : {A : Type 0} (b : Bool) (x y z : A) → (b ≡ true → x ≡ y) → cond b x z ≡ cond b y z
 cond_where true x y z h = h refl
 cond_where false x y z h = refl
 
-permitted_view : (c : Caller) (request : Request) (p : Plan) (s : Option Staff) (i : Institution) → IsTree i.offices → plan request ≡ Ok p → permitted c request p s (view c.office i) ≡ permitted c request p s i
+permitted_view : (c : Caller) (request : Request) (p : Plan) (s : Option Staff) (i : Institution) → IsTree i.offices → plan request ≡ Ok p → where_permitted c request p s (view c.office i) ≡ where_permitted c request p s i
 permitted_view c request p None i t e = refl
 permitted_view c request p (Some staff) i t e =
     cond_where (meets (need request) staff.role c.office) (carried_out c p (view c.office i)) (carried_out c p i) _ (λ m.
@@ -73,8 +73,8 @@ sent_by_view o caller request (Err f) i t own e = refl
 sent_by_view o None request (Ok p) i t own e = refl
 sent_by_view o (Some c) request (Ok p) i t own e =
     let is : c.office ≡ o = grind (arith, nat_tests) in
-    ap (λ s. permitted c request p s (view o i)) (staff_at_view o i c is)
-    ∙ subst (λ (x : ℕ). permitted c request p (staff_at i c) (view x i) ≡ permitted c request p (staff_at i c) i) is (permitted_view c request p (staff_at i c) i t e)
+    ap (λ s. where_permitted c request p s (view o i)) (staff_at_view o i c is)
+    ∙ subst (λ (x : ℕ). where_permitted c request p (staff_at i c) (view x i) ≡ where_permitted c request p (staff_at i c) i) is (permitted_view c request p (staff_at i c) i t e)
 
 -- what a caller of office o is answered, and what the request changes, is read off o's view
 pub outcome_view : (o : ℕ) (call : Call) (i : Institution) → IsTree i.offices → is_of o call.caller ≡ true → outcome call (view o i) ≡ outcome call i

@@ -15,7 +15,12 @@ use Rattle.mf_catalog.specs.Product.{AreMembersWithinLimits, is_consistent, allo
 use Rattle.mf_model.specs.declared.loan.Loan.{Loan}
 use Rattle.mf_model.specs.declared.loan.Stage.{Stage}
 use Rattle.mf_model.specs.declared.loan.Stage.TheVariants.{Submitted, Approved, Withdrawn, Rejected}
-use Rattle.mf_model.specs.declared.request.Request.TheVariants.{Malformed, PostOffices, GetOffices, PostStaff, PostClients, GetClient, GetBusinessDay, PutBusinessDay, PostCharges, GetCharge, PostProducts, GetProduct, RetireProduct, PostLoans, GetLoan, ApproveLoan, RejectLoan, WithdrawLoan, UndoApproval, GetLoans}
+use Rattle.mf_model.specs.declared.request.Request.TheVariants as request
+use Rattle.mf_model.specs.declared.request.CatalogueRequest.{CatalogueRequest}
+use Rattle.mf_model.specs.declared.request.CatalogueRequest.TheVariants.{ShowDay, SetDay, AddCharge, ShowCharge, AddProduct, ShowProduct, RetireProduct}
+use Rattle.mf_model.specs.declared.request.OfficeRequest.{OfficeRequest}
+use Rattle.mf_model.specs.declared.request.OfficeRequest.TheVariants.{AddStaff, AddClient, ShowClient, SubmitLoan, ListLoans}
+use Rattle.mf_model.specs.declared.request.Application.{Application}
 use Rattle.mf_model.specs.Institution.{Institution, Catalogue, Charge, Offer, Staff, Rows, Office, numbered, charge_in, product_in}
 use Rattle.mf_model.specs.Tree.{IsTree}
 use Rattle.mf_model.specs.Run.{Line}
@@ -99,28 +104,33 @@ pub record IsSound (i : Institution) : Type 0 where
 abbrev pub IsAccount : Account → Type 0
 IsAccount account = IsNumberUpTo 9999 account.office × IsNumberUpTo 999999 account.number
 
--- the members of the request lie in their ranges, as they do of each that was read
+-- the members of a request lie in their ranges, as they do of each that was read
+abbrev pub IsCatalogueInRange : CatalogueRequest → Type 0
+IsCatalogueInRange ShowDay = Unit {0}
+IsCatalogueInRange (SetDay day) = day ≤ last_entered_day
+IsCatalogueInRange (AddCharge name kind calc value) = IsName name × IsValue calc value
+IsCatalogueInRange (ShowCharge charge) = charge ≤ 999999999
+IsCatalogueInRange (AddProduct members) = AreMembers members
+IsCatalogueInRange (ShowProduct product) = product ≤ 999999999
+IsCatalogueInRange (RetireProduct product) = product ≤ 999999999
+
+abbrev pub IsApplication : Application → Type 0
+IsApplication asked = IsNumberUpTo 999999 asked.client × (asked.product ≤ 999999999) × ((1 ≤ asked.principal) × (asked.principal ≤ greatest_amount)) × ((1 ≤ asked.periods) × (asked.periods ≤ most_periods))
+
+abbrev pub IsOfficeInRange : ℕ → OfficeRequest → Type 0
+IsOfficeInRange office (AddStaff name role) = IsNumberUpTo 9999 office × IsName name
+IsOfficeInRange office (AddClient name) = IsNumberUpTo 9999 office × IsName name
+IsOfficeInRange office (ShowClient client) = IsNumberUpTo 9999 office × IsNumberUpTo 999999 client
+IsOfficeInRange office (SubmitLoan asked) = IsNumberUpTo 9999 office × IsApplication asked
+IsOfficeInRange office (ListLoans after) = (office ≤ 999999999) × (after ≤ 999999)
+
 abbrev pub IsInRange : Request → Type 0
-IsInRange (Malformed fault) = Unit {0}
-IsInRange (PostOffices number parent name) = IsNumberUpTo 9999 number × IsNumberUpTo 9999 parent × IsName name
-IsInRange GetOffices = Unit {0}
-IsInRange (PostStaff office name role) = IsNumberUpTo 9999 office × IsName name
-IsInRange (PostClients office name) = IsNumberUpTo 9999 office × IsName name
-IsInRange (GetClient client) = IsAccount client
-IsInRange GetBusinessDay = Unit {0}
-IsInRange (PutBusinessDay day) = day ≤ last_entered_day
-IsInRange (PostCharges name kind calc value) = IsName name × IsValue calc value
-IsInRange (GetCharge charge) = charge ≤ 999999999
-IsInRange (PostProducts members) = AreMembers members
-IsInRange (GetProduct product) = product ≤ 999999999
-IsInRange (RetireProduct product) = product ≤ 999999999
-IsInRange (PostLoans client product principal periods) = IsAccount client × (product ≤ 999999999) × ((1 ≤ principal) × (principal ≤ greatest_amount)) × ((1 ≤ periods) × (periods ≤ most_periods))
-IsInRange (GetLoan loan) = IsAccount loan
-IsInRange (ApproveLoan loan) = IsAccount loan
-IsInRange (RejectLoan loan) = IsAccount loan
-IsInRange (WithdrawLoan loan) = IsAccount loan
-IsInRange (UndoApproval loan) = IsAccount loan
-IsInRange (GetLoans office after) = (office ≤ 999999999) × (after ≤ 999999)
+IsInRange (request.Unreadable flaw) = Unit {0}
+IsInRange (request.Catalogue asked) = IsCatalogueInRange asked
+IsInRange (request.Office office asked) = IsOfficeInRange office asked
+IsInRange (request.Loan loan asked) = IsAccount loan
+IsInRange request.SeenOffices = Unit {0}
+IsInRange (request.NewOffice number parent name) = IsNumberUpTo 9999 number × IsNumberUpTo 9999 parent × IsName name
 
 abbrev pub AreInRange : List Line → Type 0
 AreInRange ls = AllByRecursion (λ (l : Line). IsInRange l.call.request) ls

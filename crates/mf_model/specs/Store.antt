@@ -12,8 +12,10 @@ use Rattle.mf_model.specs.declared.loan.LoanLine.{LoanLine}
 use Rattle.mf_model.specs.declared.store.CatalogueCounts.{CatalogueCounts}
 use Rattle.mf_model.specs.declared.store.Counts.{Counts}
 use Rattle.mf_model.specs.Institution.{Institution, Office, Rows, Staff, Change, Catalogue_becomes, Rows_become, Office_added, after, office_at, no_rows, numbered}
-use Rattle.mf_model.specs.Loans.{lines_above}
-use Rattle.mf_model.specs.Desk.{staff_at, staff_added, client_added, day_set, charge_added, product_added, product_retired, loan_added, loan_staged, outcome, change_in}
+use Rattle.mf_model.specs.Catalogue.{day_set, charge_added, product_added, product_retired}
+use Rattle.mf_model.specs.Offices.{staff_added, client_added}
+use Rattle.mf_model.specs.Loans.{loan_added, loan_staged, lines_above}
+use Rattle.mf_model.specs.Desk.{staff_at, outcome, change_in}
 use Rattle.mf_model.specs.Run.{Line, next}
 use Rattle.mf_model.specs.Sound.{IsSound}
 

@@ -17,6 +17,8 @@ pub use laws::{
 };
 pub use loan::{Loan, LoanLine, LoanList, Stage};
 pub use names::is_name;
-pub use reply::{OfficeList, Reply};
-pub use request::{Call, Request};
+pub use reply::{LoanReply, OfficeList, Reply};
+pub use request::{
+    Application, Call, CatalogueRequest, Flaw, LoanRequest, LoanStep, OfficeRequest, Request,
+};
 pub use store::{CatalogueCounts, Counts, InstitutionStore};

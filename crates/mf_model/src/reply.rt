@@ -45,7 +45,16 @@ impl OfficeList {
     }
 }
 
-/// A success, one variant a route.
+/// What is told of one loan.
+#[derive(Clone, Copy, Debug)]
+pub enum LoanReply {
+    /// The loan, before it is disbursed.
+    Shown(Loan),
+    /// The status number that it has come to.
+    Status(u16),
+}
+
+/// What a request is told where it succeeds.
 #[derive(Debug, Drop)]
 pub enum Reply {
     /// A new office, by its number.
@@ -74,16 +83,8 @@ pub enum Reply {
     ProductRetired(u32),
     /// A new loan.
     LoanMade(Account),
-    /// A loan, before it is disbursed.
-    LoanShown { account: Account, loan: Loan },
-    /// An approved loan.
-    LoanApproved(Account),
-    /// A rejected loan.
-    LoanRejected(Account),
-    /// A withdrawn loan.
-    LoanWithdrawn(Account),
-    /// A loan that is pending again.
-    ApprovalUndone(Account),
+    /// A loan, and what is told of it.
+    Loan { loan: Account, told: LoanReply },
     /// Loans of an office, by number.
     LoansShown(LoanList),
 }

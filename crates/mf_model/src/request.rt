@@ -1,95 +1,141 @@
+//! What may be asked, by the part of the institution that it looks at.
+
+ghost use Rattle.std.specs.Prelude.{◌≡◌};
+ghost use Rattle.mf_model.specs.Desk.{flaw_fault};
+
 use mf_base::{Day, Fault};
 use mf_catalog::{Calc, ChargeKind, ProductMembers};
-use mf_office::{Account, Caller, Name, OfficeNo, Role};
+use mf_office::{Account, AccountNo, Caller, Name, OfficeNo, Role};
 
-/// What is asked, one variant a route.
+/// Why a line reads as no request.
+#[derive(Clone, Copy, PartialEq, Eq, Debug)]
+pub enum Flaw {
+    /// The line, its caller, its method, a number in its path, its JSON or a member is not as it should be.
+    Malformed,
+    /// No route has its path.
+    NoRoute,
+    /// Its route has no such method.
+    NoMethod,
+}
+
+impl Flaw {
+    /// The refusal of such a line.
+    pub fn fault(self) -> Fault
+        ensures { result ≡ flaw_fault self }
+    {
+        match self {
+            Flaw::Malformed => Fault::F1,
+            Flaw::NoRoute => Fault::F5,
+            Flaw::NoMethod => Fault::F6,
+        }
+    }
+}
+
+/// What is asked of the catalogue, which all offices share.
 #[derive(Debug, Drop)]
-pub enum Request {
-    /// A line that reads as no request, with its refusal.
-    Malformed(Fault),
-    /// A new office under a parent.
-    PostOffices {
-        number: OfficeNo,
-        parent: OfficeNo,
-        name: Name,
-    },
-    /// The caller's office and those below it.
-    GetOffices,
-    /// A new member of staff of an office.
-    PostStaff {
-        office: OfficeNo,
-        name: Name,
-        role: Role,
-    },
-    /// A new client of an office.
-    PostClients {
-        office: OfficeNo,
-        name: Name,
-    },
-    /// A client's name.
-    GetClient {
-        client: Account,
-    },
+pub enum CatalogueRequest {
     /// The business day.
-    GetBusinessDay,
+    ShowDay,
     /// A later business day.
-    PutBusinessDay {
+    SetDay {
         day: Day,
     },
     /// A new charge.
-    PostCharges {
+    AddCharge {
         name: Name,
         kind: ChargeKind,
         calc: Calc,
         value: u64,
     },
     /// A charge.
-    GetCharge {
+    ShowCharge {
         charge: u32,
     },
     /// A new product.
-    PostProducts {
+    AddProduct {
         members: ProductMembers,
     },
     /// A product.
-    GetProduct {
+    ShowProduct {
         product: u32,
     },
     /// A product lends no more.
     RetireProduct {
         product: u32,
     },
-    /// A new loan of a client, of so many cents for so many periods.
-    PostLoans {
-        client: Account,
-        product: u32,
-        principal: u64,
-        periods: u32,
-    },
-    /// A loan.
-    GetLoan {
-        loan: Account,
-    },
+}
+
+/// What a client asks to be lent: so many cents of a product, for so many periods.
+#[derive(Clone, Copy, Debug)]
+pub struct Application {
+    /// The client's number within its office.
+    pub client: AccountNo,
+    pub product: u32,
+    pub principal: u64,
+    pub periods: u32,
+}
+
+/// What is asked of one office.
+#[derive(Debug, Drop)]
+pub enum OfficeRequest {
+    /// A new member of staff.
+    AddStaff { name: Name, role: Role },
+    /// A new client.
+    AddClient { name: Name },
+    /// A client's name.
+    ShowClient { client: AccountNo },
+    /// A new loan of a client.
+    SubmitLoan(Application),
+    /// The first 100 loans whose number is above one.
+    ListLoans { after: u32 },
+}
+
+/// A step of a loan to another stage.
+#[derive(Clone, Copy, PartialEq, Eq, Debug)]
+pub enum LoanStep {
     /// A submitted loan is approved.
-    ApproveLoan {
-        loan: Account,
-    },
+    Approve,
     /// A submitted loan is rejected.
-    RejectLoan {
-        loan: Account,
-    },
+    Reject,
     /// A submitted loan is withdrawn by its client.
-    WithdrawLoan {
-        loan: Account,
-    },
+    Withdraw,
     /// An approved loan is pending again.
-    UndoApproval {
-        loan: Account,
-    },
-    /// The first 100 loans of an office whose number is above one.
-    GetLoans {
+    UndoApproval,
+}
+
+/// What is asked of one loan.
+#[derive(Clone, Copy, Debug)]
+pub enum LoanRequest {
+    /// The loan.
+    Show,
+    /// A step to another stage.
+    Take(LoanStep),
+}
+
+/// What is asked. Each route is one variant, here or within the part that it looks at.
+#[derive(Debug, Drop)]
+pub enum Request {
+    /// A line that reads as no request.
+    Unreadable(Flaw),
+    /// The catalogue alone.
+    Catalogue(CatalogueRequest),
+    /// One office, by a number that may be no office's.
+    Office {
         office: u32,
-        after: u32,
+        asked: OfficeRequest,
+    },
+    /// One loan.
+    Loan {
+        loan: Account,
+        asked: LoanRequest,
+    },
+    /// The caller's office and those below it.
+    SeenOffices,
+    /// A new office under a parent.
+    NewOffice {
+        number: OfficeNo,
+        parent: OfficeNo,
+        name: Name,
     },
 }
 

@@ -4,9 +4,10 @@ use Rattle.serde_json.specs.View.{items_of}
 use Rattle.serde_json.specs.Written.{has_float, items_have_float}
 use Rattle.mf_office.specs.declared.office.Office.{Office}
 use Rattle.mf_model.specs.declared.reply.Reply.{Reply}
-use Rattle.mf_model.specs.declared.reply.Reply.TheVariants.{OfficeMade, Offices, StaffMade, ClientMade, ClientShown, DayShown, DaySet, ChargeMade, ChargeShown, ProductMade, ProductShown, ProductRetired, LoanMade, LoanShown, LoanApproved, LoanRejected, LoanWithdrawn, ApprovalUndone, LoansShown}
+use Rattle.mf_model.specs.declared.reply.Reply.TheVariants.{OfficeMade, Offices, StaffMade, ClientMade, ClientShown, DayShown, DaySet, ChargeMade, ChargeShown, ProductMade, ProductShown, ProductRetired, LoanMade, Loan, LoansShown}
 use Rattle.mf_catalog.specs.declared.product.Product.{Product}
 use Rattle.mf_model.specs.declared.loan.LoanLine.{LoanLine}
+use Rattle.mf_model.specs.declared.reply.LoanReply.TheVariants.{Shown, Status}
 use Rattle.mf_replies.specs.Catalogue.{product_data}
 use Rattle.mf_replies.specs.Json.{whole_or_null}
 use Rattle.mf_replies.specs.LoanTexts.{line_data}
@@ -44,9 +45,6 @@ whole_reply (ProductMade product) = refl
 whole_reply (ProductShown product) = whole_product product
 whole_reply (ProductRetired product) = refl
 whole_reply (LoanMade loan) = refl
-whole_reply (LoanShown account loan) = refl
-whole_reply (LoanApproved loan) = refl
-whole_reply (LoanRejected loan) = refl
-whole_reply (LoanWithdrawn loan) = refl
-whole_reply (ApprovalUndone loan) = refl
+whole_reply (Loan loan (Shown shown)) = refl
+whole_reply (Loan loan (Status status)) = refl
 whole_reply (LoansShown lines) = ap (λ b. b || false) (whole_loans lines)

@@ -6,6 +6,8 @@ use Rattle.mf_office.specs.Written.{account_text}
 use Rattle.mf_office.specs.declared.account.Account.{Account}
 use Rattle.mf_model.specs.declared.loan.Loan.{Loan}
 use Rattle.mf_model.specs.declared.loan.LoanLine.{LoanLine}
+use Rattle.mf_model.specs.declared.reply.LoanReply.{LoanReply}
+use Rattle.mf_model.specs.declared.reply.LoanReply.TheVariants.{Shown, Status}
 use Rattle.mf_model.specs.Loans.{status_of}
 use Rattle.mf_replies.specs.Json.{whole}
 
@@ -54,6 +56,11 @@ loan_data account loan = loan_by_texts (account_text account.office loan.client)
 -- a loan and its status
 abbrev pub status_data : Account → ℕ → Data
 status_data account status = object (member (codes "loan") (account_data account) (member (codes "status") (whole status) no_members))
+
+-- what is told of a loan
+abbrev pub told_data : Account → LoanReply → Data
+told_data account (Shown loan) = loan_data account loan
+told_data account (Status status) = status_data account status
 
 -- a loan in a list of loans
 abbrev pub line_data : LoanLine → Data

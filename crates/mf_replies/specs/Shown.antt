@@ -8,10 +8,10 @@ use Rattle.mf_base.specs.declared.fault.Fault.{Fault}
 use Rattle.mf_office.specs.Written.{caller_text, account_text}
 use Rattle.mf_office.specs.declared.office.Office.{Office}
 use Rattle.mf_model.specs.declared.reply.Reply.{Reply}
-use Rattle.mf_model.specs.declared.reply.Reply.TheVariants.{OfficeMade, Offices, StaffMade, ClientMade, ClientShown, DayShown, DaySet, ChargeMade, ChargeShown, ProductMade, ProductShown, ProductRetired, LoanMade, LoanShown, LoanApproved, LoanRejected, LoanWithdrawn, ApprovalUndone, LoansShown}
+use Rattle.mf_model.specs.declared.reply.Reply.TheVariants.{OfficeMade, Offices, StaffMade, ClientMade, ClientShown, DayShown, DaySet, ChargeMade, ChargeShown, ProductMade, ProductShown, ProductRetired, LoanMade, Loan, LoansShown}
 use Rattle.mf_replies.specs.Catalogue.{charge_data, product_data}
 use Rattle.mf_replies.specs.Json.{whole, whole_or_null}
-use Rattle.mf_replies.specs.LoanTexts.{account_data, loan_data, status_data, lines_data}
+use Rattle.mf_replies.specs.LoanTexts.{account_data, told_data, lines_data}
 use Rattle.mf_lines.specs.Replies.{reply_line, fault_line}
 
 -- an office as GET /offices lists it
@@ -33,11 +33,7 @@ reply_data (ProductMade product) = object (member (codes "product") (whole produ
 reply_data (ProductShown product) = product_data product
 reply_data (ProductRetired product) = object (member (codes "product") (whole product) no_members)
 reply_data (LoanMade loan) = object (member (codes "loan") (account_data loan) no_members)
-reply_data (LoanShown account loan) = loan_data account loan
-reply_data (LoanApproved loan) = status_data loan 200
-reply_data (LoanRejected loan) = status_data loan 500
-reply_data (LoanWithdrawn loan) = status_data loan 400
-reply_data (ApprovalUndone loan) = status_data loan 100
+reply_data (Loan loan told) = told_data loan told
 reply_data (LoansShown lines) = lines_data lines
 
 -- 201 where something was made, 200 where something is shown
@@ -55,11 +51,7 @@ reply_status (ProductMade product) = 201
 reply_status (ProductShown product) = 200
 reply_status (ProductRetired product) = 200
 reply_status (LoanMade loan) = 201
-reply_status (LoanShown account loan) = 200
-reply_status (LoanApproved loan) = 200
-reply_status (LoanRejected loan) = 200
-reply_status (LoanWithdrawn loan) = 200
-reply_status (ApprovalUndone loan) = 200
+reply_status (Loan loan told) = 200
 reply_status (LoansShown lines) = 200
 
 -- the body of a success: compact JSON

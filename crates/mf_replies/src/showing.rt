@@ -11,7 +11,7 @@ mod loans;
 mod members;
 
 use catalogue::{charge_made, charge_shown, day_value, product_shown, product_value};
-use loans::{loan_made, loan_shown, loans_shown, status_value};
+use loans::{loan_made, loan_told, loans_shown};
 use mf_base::Fault;
 use mf_model::Reply;
 use mf_office::{Account, Caller, Name, Office, OfficeNo};
@@ -99,11 +99,7 @@ fn reply_value(alloc: Global, reply: &Reply) -> Result<Value, Fault>
         }
         Reply::ProductShown(product) => Ok(product_shown(alloc, product)?),
         Reply::LoanMade(loan) => loan_made(alloc, *loan),
-        Reply::LoanShown { account, loan } => loan_shown(alloc, *account, loan),
-        Reply::LoanApproved(loan) => status_value(alloc, *loan, 200),
-        Reply::LoanRejected(loan) => status_value(alloc, *loan, 500),
-        Reply::LoanWithdrawn(loan) => status_value(alloc, *loan, 400),
-        Reply::ApprovalUndone(loan) => status_value(alloc, *loan, 100),
+        Reply::Loan { loan, told } => loan_told(alloc, *loan, told),
         Reply::LoansShown(lines) => loans_shown(alloc, lines.as_slice()),
     }
 }
@@ -144,11 +140,7 @@ pub fn status(reply: &Reply) -> u16
         | Reply::ChargeShown(_)
         | Reply::ProductShown(_)
         | Reply::ProductRetired(_)
-        | Reply::LoanShown { .. }
-        | Reply::LoanApproved(_)
-        | Reply::LoanRejected(_)
-        | Reply::LoanWithdrawn(_)
-        | Reply::ApprovalUndone(_)
+        | Reply::Loan { .. }
         | Reply::LoansShown(_) => 200,
     }
 }

@@ -1,3 +1,4 @@
 pub mod Asking
 pub mod DayTexts
 pub mod PathNumbers
+pub mod Matched

@@ -4,7 +4,8 @@ use Rattle.serde_json.specs.Data.{Data}
 use Rattle.mf_catalog.specs.declared.product.ProductMembers.{ProductMembers}
 use Rattle.mf_catalog.specs.Limits.{greatest_amount, greatest_rate, most_grace, most_periods, longest_step}
 use Rattle.mf_model.specs.declared.request.Request.{Request}
-use Rattle.mf_model.specs.declared.request.Request.TheVariants.{PostProducts}
+use Rattle.mf_model.specs.declared.request.CatalogueRequest.TheVariants.{AddProduct}
+use Rattle.mf_model.specs.declared.request.Request.TheVariants.{Catalogue}
 use Rattle.mf_requests.specs.declared.request.products.Step.{Step}
 use Rattle.mf_requests.specs.declared.request.products.Planning.{Planning}
 use Rattle.mf_requests.specs.declared.request.products.Bounds.{Bounds}
@@ -87,7 +88,7 @@ new_product d =
     option_and_then (λ planning.
     option_and_then (λ bounds.
     option_and_then (λ charged.
-    option_map (λ name. PostProducts (members_of name planning bounds charged)) (name_at (codes "name") d))
+    option_map (λ name. Catalogue (AddProduct (members_of name planning bounds charged))) (name_at (codes "name") d))
     (charged_at d))
     (bounds_at d))
     (planning_at d)

@@ -1,53 +1,35 @@
-// The parts of a path, and the numbers that they write.
-ghost use Rattle.std.specs.Prelude.{◌≡◌, ◌≤◌, ◌==◌, length, IsTrue, IfSome};
+// What the parameters of a path name: accounts, and the numbers that they write.
+ghost use Rattle.std.specs.Prelude.{◌≡◌, ◌≤◌, length, IsTrue, IfSome};
 ghost use Rattle.std.specs.Char.{is_ascii_digit};
-ghost use Rattle.std.specs.List.{before_first, after_first, position_or_len, list_all};
+ghost use Rattle.std.specs.List.{list_all};
 ghost use Rattle.std.specs.Str.Parse.{digits_value};
-ghost use Rattle.mf_requests.specs.PathParts.{part as part_of, path_number};
+ghost use Rattle.matchit.specs.Params.{AllText};
+ghost use Rattle.mf_model.specs.Sound.{IsAccount};
+ghost use Rattle.mf_requests.specs.PathParts.{parts_of_params, path_number, number_in, account_in};
 
-/// The part of a path after so many slashes.
-pub fn part(path: &[u8], k: usize) -> &[u8]
-    ensures { result.now ≡ part_of k path.now }
+use matchit::Params;
+use mf_office::Account;
+
+/// The account that a parameter of a path names.
+pub fn account(params: &Params<'_, '_>, name: &str) -> Option<Account>
+    requires { AllText (parts_of_params params.now) }
+    ensures value { result ≡ account_in name.now (parts_of_params params.now) }
+    ensures in_range { IfSome result IsAccount }
 {
-    let mut rest = path;
-    for _ in 0..k {
-        rest = after_slash(rest);
-    }
-    before_slash(rest)
+    Account::parse(params.get(name)?.as_bytes())
 }
 
-fn after_slash(path: &[u8]) -> &[u8]
-    ensures { result.now ≡ after_first (λ b. b == 47) path.now }
+/// The number that a parameter of a path writes.
+pub fn number(params: &Params<'_, '_>, name: &str) -> Option<u32>
+    requires { AllText (parts_of_params params.now) }
+    ensures value { result ≡ number_in name.now (parts_of_params params.now) }
+    ensures in_range { IfSome result (λ n. n ≤ 999999999) }
 {
-    let at = slash_at(path);
-    if at < path.len() {
-        &path[at + 1..]
-    } else {
-        &[]
-    }
-}
-
-fn before_slash(path: &[u8]) -> &[u8]
-    ensures { result.now ≡ before_first (λ b. b == 47) path.now }
-{
-    &path[..slash_at(path)]
-}
-
-/// Where the first slash is, or the length.
-fn slash_at(path: &[u8]) -> usize
-    ensures at { result ≡ position_or_len (λ b. b == 47) path.now }
-    ensures within { result ≤ length path.now }
-{
-    for (i, b) in path.iter().enumerate() {
-        if *b == b'/' {
-            return i;
-        }
-    }
-    path.len()
+    number_of(params.get(name)?.as_bytes())
 }
 
 /// The number that 1 to 9 decimal digits write. They may begin with zeros.
-pub fn number(text: &[u8]) -> Option<u32>
+fn number_of(text: &[u8]) -> Option<u32>
     ensures value { result ≡ path_number text.now }
     ensures in_range { IfSome result (λ n. n ≤ 999999999) }
 {

@@ -1,17 +1,25 @@
 // What a request asks, by its method, its path and its body.
 ghost use Rattle.std.specs.Prelude.{◌≡◌, ◌≢◌, ◌⊎◌, IfOk, IfErr};
+ghost use Rattle.std.specs.Char.{is_ascii};
+ghost use Rattle.std.specs.List.{list_all};
+ghost use Rattle.matchit.specs.Params.{AllText};
+ghost use Rattle.mf_model.specs.declared.request.Flaw.{Flaw};
+ghost use Rattle.mf_model.specs.declared.request.Request.TheVariants.{Unreadable};
+ghost use Rattle.mf_model.specs.Desk.{flaw_fault};
 ghost use Rattle.mf_model.specs.Sound.{IsInRange};
 ghost use Rattle.mf_requests.specs.Bodies.{Gives};
-ghost use Rattle.mf_requests.specs.Requests.{method_named, got_at, posted_at, put_at, endpoint_of, asked_at, asked};
+ghost use Rattle.mf_requests.specs.PathParts.{parts_of_params};
+ghost use Rattle.mf_requests.specs.Requests.{method_of, endpoint_of, request_at, request_of};
 
 mod catalogue;
 mod loans;
 mod offices;
 mod products;
 
-use crate::routes::{Route, Routes};
+use crate::routes::{Endpoint, Methods, Routes};
+use matchit::Params;
 use mf_base::Fault;
-use mf_model::Request;
+use mf_model::{CatalogueRequest, Flaw, LoanRequest, Request};
 use std::alloc::Global;
 
 /// The methods that some route has. Other tokens are the method of no route.
@@ -23,32 +31,8 @@ pub enum Method {
     Other,
 }
 
-/// A route with one of its methods.
-#[derive(Clone, Copy, PartialEq, Eq, Debug)]
-pub enum Endpoint {
-    PostOffices,
-    GetOffices,
-    PostStaff,
-    PostClients,
-    GetClient,
-    GetBusinessDay,
-    PutBusinessDay,
-    PostCharges,
-    GetCharge,
-    PostProducts,
-    GetProduct,
-    RetireProduct,
-    PostLoans,
-    GetLoan,
-    ApproveLoan,
-    RejectLoan,
-    WithdrawLoan,
-    UndoApproval,
-    GetLoans,
-}
-
 fn method_of(text: &[u8]) -> Method
-    ensures { result ≡ method_named text.now }
+    ensures { result ≡ method_of text.now }
 {
     if text == b"GET".as_slice() {
         Method::Get
@@ -61,89 +45,58 @@ fn method_of(text: &[u8]) -> Method
     }
 }
 
-fn get_endpoint(route: Route) -> Option<Endpoint>
-    ensures { result ≡ got_at route }
+fn endpoint_of(methods: Methods, method: Method) -> Option<Endpoint>
+    ensures { result ≡ endpoint_of methods method }
 {
-    match route {
-        Route::Offices => Some(Endpoint::GetOffices),
-        Route::Client => Some(Endpoint::GetClient),
-        Route::BusinessDay => Some(Endpoint::GetBusinessDay),
-        Route::Charge => Some(Endpoint::GetCharge),
-        Route::Product => Some(Endpoint::GetProduct),
-        Route::Loan => Some(Endpoint::GetLoan),
-        Route::OfficeLoans => Some(Endpoint::GetLoans),
+    match (methods, method) {
+        (Methods::Get(get), Method::Get) => Some(get),
+        (Methods::Post(post), Method::Post) => Some(post),
+        (Methods::GetAndPost(get, _), Method::Get) => Some(get),
+        (Methods::GetAndPost(_, post), Method::Post) => Some(post),
+        (Methods::GetAndPut(get, _), Method::Get) => Some(get),
+        (Methods::GetAndPut(_, put), Method::Put) => Some(put),
         _ => None,
     }
 }
 
-fn post_endpoint(route: Route) -> Option<Endpoint>
-    ensures { result ≡ posted_at route }
+fn is_ascii_path(path: &[u8]) -> bool
+    ensures { result ≡ list_all is_ascii path.now }
 {
-    match route {
-        Route::Offices => Some(Endpoint::PostOffices),
-        Route::Staff => Some(Endpoint::PostStaff),
-        Route::Clients => Some(Endpoint::PostClients),
-        Route::Charges => Some(Endpoint::PostCharges),
-        Route::Products => Some(Endpoint::PostProducts),
-        Route::ProductRetire => Some(Endpoint::RetireProduct),
-        Route::Loans => Some(Endpoint::PostLoans),
-        Route::LoanApprove => Some(Endpoint::ApproveLoan),
-        Route::LoanReject => Some(Endpoint::RejectLoan),
-        Route::LoanWithdraw => Some(Endpoint::WithdrawLoan),
-        Route::LoanUndoApproval => Some(Endpoint::UndoApproval),
-        _ => None,
-    }
+    path.iter().all(|byte| byte.is_ascii())
 }
 
-fn put_endpoint(route: Route) -> Option<Endpoint>
-    ensures { result ≡ put_at route }
-{
-    match route {
-        Route::BusinessDay => Some(Endpoint::PutBusinessDay),
-        _ => None,
-    }
-}
-
-fn endpoint_at(route: Route, method: Method) -> Option<Endpoint>
-    ensures { result ≡ endpoint_of route method }
-{
-    match method {
-        Method::Get => get_endpoint(route),
-        Method::Post => post_endpoint(route),
-        Method::Put => put_endpoint(route),
-        Method::Other => None,
-    }
-}
-
-fn request_at(alloc: Global, endpoint: Endpoint, path: &[u8], body: &[u8]) -> Result<Request, Fault>
-    ensures value { Gives (asked_at endpoint path.now body.now) result }
+fn request_at(
+    alloc: Global,
+    endpoint: Endpoint,
+    params: &Params<'_, '_>,
+    body: &[u8],
+) -> Result<Request, Fault>
+    requires { AllText (parts_of_params params.now) }
+    ensures value { Gives (request_at endpoint (parts_of_params params.now) body.now) result }
     ensures in_range { IfOk result IsInRange }
 {
     match endpoint {
-        Endpoint::PostOffices => offices::new_office(alloc, body),
-        Endpoint::GetOffices => Ok(Request::GetOffices),
-        Endpoint::PostStaff => offices::new_staff(alloc, body),
-        Endpoint::PostClients => offices::new_client(alloc, body),
-        Endpoint::GetClient => offices::client_request(path),
-        Endpoint::GetBusinessDay => Ok(Request::GetBusinessDay),
-        Endpoint::PutBusinessDay => catalogue::later_day(alloc, body),
-        Endpoint::PostCharges => catalogue::new_charge(alloc, body),
-        Endpoint::GetCharge => catalogue::get_charge(path),
-        Endpoint::PostProducts => products::new_product(alloc, body),
-        Endpoint::GetProduct => products::get_product(path),
-        Endpoint::RetireProduct => products::retire_product(path),
-        Endpoint::PostLoans => loans::new_loan(alloc, body),
-        Endpoint::GetLoan => loans::get_loan(path),
-        Endpoint::ApproveLoan => loans::approve_loan(path),
-        Endpoint::RejectLoan => loans::reject_loan(path),
-        Endpoint::WithdrawLoan => loans::withdraw_loan(path),
-        Endpoint::UndoApproval => loans::undo_approval(path),
-        Endpoint::GetLoans => loans::get_loans(path),
+        Endpoint::ShowDay => Ok(Request::Catalogue(CatalogueRequest::ShowDay)),
+        Endpoint::SetDay => catalogue::later_day(alloc, body),
+        Endpoint::AddCharge => catalogue::new_charge(alloc, body),
+        Endpoint::ShowCharge => catalogue::show_charge(params),
+        Endpoint::AddProduct => products::new_product(alloc, body),
+        Endpoint::ShowProduct => catalogue::show_product(params),
+        Endpoint::RetireProduct => catalogue::retire_product(params),
+        Endpoint::ListOffices => Ok(Request::SeenOffices),
+        Endpoint::AddOffice => offices::new_office(alloc, body),
+        Endpoint::AddStaff => offices::new_staff(alloc, body),
+        Endpoint::AddClient => offices::new_client(alloc, body),
+        Endpoint::ShowClient => offices::show_client(params),
+        Endpoint::SubmitLoan => loans::new_loan(alloc, body),
+        Endpoint::ListLoans => loans::list_loans(params),
+        Endpoint::ShowLoan => loans::on_loan(params, LoanRequest::Show),
+        Endpoint::TakeStep(step) => loans::on_loan(params, LoanRequest::Take(step)),
     }
 }
 
 /// What a method, a path and a body ask. `F5` where the path has no route, then `F6` where the route has no such
-/// method, then `F1` for the numbers of the path and for the body.
+/// method, then `F1` for the parameters of the path and for the body.
 pub fn read_request(
     alloc: Global,
     routes: &Routes,
@@ -151,16 +104,19 @@ pub fn read_request(
     path: &[u8],
     body: &[u8],
 ) -> Result<Request, Fault>
-    ensures ok { IfOk result (λ r. asked method.now path.now body.now ≡ r) }
+    ensures ok { IfOk result (λ r. request_of method.now path.now body.now ≡ r) }
     ensures in_range { IfOk result IsInRange }
-    ensures err { IfErr result (λ f. (f ≡ Fault.F20) ⊎ (asked method.now path.now body.now ≡ Request.Malformed f)) }
+    ensures err { IfErr result (λ f. (f ≡ Fault.F20) ⊎ ((flaw : Flaw) × (f ≡ flaw_fault flaw) × (request_of method.now path.now body.now ≡ Unreadable flaw))) }
     ensures refusal { IfErr result (λ f. f ≢ Fault.F19) }
 {
-    let Some(route) = routes.find(path) else {
-        return Err(Fault::F5);
+    let Some(found) = routes.find(path) else {
+        return Err(Flaw::NoRoute.fault());
     };
-    let Some(endpoint) = endpoint_at(route, method_of(method)) else {
-        return Err(Fault::F6);
+    let Some(endpoint) = endpoint_of(*found.value, method_of(method)) else {
+        return Err(Flaw::NoMethod.fault());
     };
-    request_at(alloc, endpoint, path, body)
+    if !is_ascii_path(path) {
+        return request_at(alloc, endpoint, &Params::new(), body);
+    }
+    request_at(alloc, endpoint, &found.params, body)
 }

@@ -3,11 +3,11 @@ ghost use Rattle.std.specs.Prelude.{◌≡◌, IfOk, IfErr, map};
 ghost use Rattle.serde_json.specs.View.{view, members_view};
 ghost use Rattle.mf_model.specs.declared.reply.Reply.TheVariants.{LoanMade};
 ghost use Rattle.mf_replies.specs.Shown.{reply_data};
-ghost use Rattle.mf_replies.specs.LoanTexts.{no_sums as no_sums_of, loan_end as loan_end_of, loan_rest as loan_rest_of, loan_by_texts, loan_data, status_data, line_data, lines_data};
+ghost use Rattle.mf_replies.specs.LoanTexts.{no_sums as no_sums_of, loan_end as loan_end_of, loan_rest as loan_rest_of, loan_by_texts, loan_data, status_data, told_data, line_data, lines_data};
 
 use super::members::{put_text, put_value, put_whole};
 use mf_base::Fault;
-use mf_model::{Loan, LoanLine};
+use mf_model::{Loan, LoanLine, LoanReply};
 use mf_office::Account;
 use serde_json::{Map, Value, json};
 use std::alloc::{AllocError, Global};
@@ -23,7 +23,7 @@ pub fn loan_made(alloc: Global, loan: Account) -> Result<Value, Fault>
 }
 
 /// A loan and its status number.
-pub fn status_value(alloc: Global, loan: Account, status: u16) -> Result<Value, Fault>
+fn status_value(alloc: Global, loan: Account, status: u16) -> Result<Value, Fault>
     ensures ok { IfOk result (λ v. view v ≡ status_data loan status) }
     ensures err { IfErr result (λ f. f ≡ Fault.F20) }
 {
@@ -81,7 +81,7 @@ fn loan_value(alloc: Global, client: &str, account: &str, loan: &Loan) -> Result
 }
 
 /// A loan before it is disbursed: all its sums are 0.
-pub fn loan_shown(alloc: Global, account: Account, loan: &Loan) -> Result<Value, Fault>
+fn loan_shown(alloc: Global, account: Account, loan: &Loan) -> Result<Value, Fault>
     ensures ok { IfOk result (λ v. view v ≡ loan_data account loan.now) }
     ensures err { IfErr result (λ f. f ≡ Fault.F20) }
 {
@@ -94,6 +94,17 @@ pub fn loan_shown(alloc: Global, account: Account, loan: &Loan) -> Result<Value,
     let account = Account { office, number }.text(alloc)?;
     let value = loan_value(alloc, client.as_str(), account.as_str(), loan)?;
     Ok(value)
+}
+
+/// What is told of a loan.
+pub fn loan_told(alloc: Global, loan: Account, told: &LoanReply) -> Result<Value, Fault>
+    ensures ok { IfOk result (λ v. view v ≡ told_data loan told.now) }
+    ensures err { IfErr result (λ f. f ≡ Fault.F20) }
+{
+    match told {
+        LoanReply::Shown(shown) => loan_shown(alloc, loan, shown),
+        LoanReply::Status(status) => status_value(alloc, loan, *status),
+    }
 }
 
 fn line_value(alloc: Global, line: &LoanLine) -> Result<Value, Fault>

@@ -1,15 +1,16 @@
 // What is asked of offices, staff and clients.
-ghost use Rattle.std.specs.Prelude.{◌≡◌, option_map, option_and_then, IfOk};
-ghost use Rattle.mf_model.specs.declared.request.Request.TheVariants.{GetClient};
+ghost use Rattle.std.specs.Prelude.{option_and_then, IfOk};
+ghost use Rattle.matchit.specs.Params.{AllText};
 ghost use Rattle.mf_model.specs.Sound.{IsInRange};
 ghost use Rattle.mf_requests.specs.Bodies.{json_of, Gives};
-ghost use Rattle.mf_requests.specs.OfficeRequests.{new_office as office_asked, new_staff as staff_asked, new_client as client_asked};
-ghost use Rattle.mf_requests.specs.Requests.{account_in};
+ghost use Rattle.mf_requests.specs.OfficeRequests.{new_office as office_asked, new_staff as staff_asked, new_client as client_asked, client_at};
+ghost use Rattle.mf_requests.specs.PathParts.{parts_of_params};
 
 use crate::body::{json, name, office, role};
-use crate::paths::part;
+use crate::paths::account;
+use matchit::Params;
 use mf_base::Fault;
-use mf_model::Request;
+use mf_model::{OfficeRequest, Request};
 use mf_office::Account;
 use std::alloc::Global;
 
@@ -24,14 +25,12 @@ pub fn new_office(alloc: Global, body: &[u8]) -> Result<Request, Fault>
     let Some(parent) = office(&body, "parent") else {
         return Err(Fault::F1);
     };
-    match name(alloc, &body, "name") {
-        Ok(name) => Ok(Request::PostOffices {
-            number,
-            parent,
-            name,
-        }),
-        Err(fault) => Err(fault),
-    }
+    let name = name(alloc, &body, "name")?;
+    Ok(Request::NewOffice {
+        number,
+        parent,
+        name,
+    })
 }
 
 pub fn new_staff(alloc: Global, body: &[u8]) -> Result<Request, Fault>
@@ -45,10 +44,11 @@ pub fn new_staff(alloc: Global, body: &[u8]) -> Result<Request, Fault>
     let Some(role) = role(&body, "role") else {
         return Err(Fault::F1);
     };
-    match name(alloc, &body, "name") {
-        Ok(name) => Ok(Request::PostStaff { office, name, role }),
-        Err(fault) => Err(fault),
-    }
+    let name = name(alloc, &body, "name")?;
+    Ok(Request::Office {
+        office: office.get(),
+        asked: OfficeRequest::AddStaff { name, role },
+    })
 }
 
 pub fn new_client(alloc: Global, body: &[u8]) -> Result<Request, Fault>
@@ -59,19 +59,24 @@ pub fn new_client(alloc: Global, body: &[u8]) -> Result<Request, Fault>
     let Some(office) = office(&body, "office") else {
         return Err(Fault::F1);
     };
-    match name(alloc, &body, "name") {
-        Ok(name) => Ok(Request::PostClients { office, name }),
-        Err(fault) => Err(fault),
-    }
+    let name = name(alloc, &body, "name")?;
+    Ok(Request::Office {
+        office: office.get(),
+        asked: OfficeRequest::AddClient { name },
+    })
 }
 
-/// The client that a path names after its second slash.
-pub fn client_request(path: &[u8]) -> Result<Request, Fault>
-    ensures value { Gives (option_map (λ client. GetClient client) (account_in path.now)) result }
+/// The client that a path names.
+pub fn show_client(params: &Params<'_, '_>) -> Result<Request, Fault>
+    requires { AllText (parts_of_params params.now) }
+    ensures value { Gives (client_at (parts_of_params params.now)) result }
     ensures in_range { IfOk result IsInRange }
 {
-    match Account::parse(part(path, 2)) {
-        Some(client) => Ok(Request::GetClient { client }),
-        None => Err(Fault::F1),
-    }
+    let Some(Account { office, number }) = account(params, "client") else {
+        return Err(Fault::F1);
+    };
+    Ok(Request::Office {
+        office: office.get(),
+        asked: OfficeRequest::ShowClient { client: number },
+    })
 }

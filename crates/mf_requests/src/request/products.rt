@@ -1,22 +1,19 @@
-// What is asked of products.
-ghost use Rattle.std.specs.Prelude.{◌≡◌, ◌≤◌, option_map, option_and_then, IfOk, IfSome};
+// What is asked of a new product.
+ghost use Rattle.std.specs.Prelude.{◌≡◌, option_and_then, IfOk, IfSome};
 ghost use Rattle.serde_json.specs.View.{view};
 ghost use Rattle.mf_catalog.specs.Limits.{longest_step as longest_step_of};
-ghost use Rattle.mf_model.specs.declared.request.Request.TheVariants.{GetProduct, RetireProduct};
 ghost use Rattle.mf_model.specs.Sound.{IsInRange, IsName, AreMembers};
 ghost use Rattle.mf_requests.specs.Bodies.{json_of, Gives};
 ghost use Rattle.mf_requests.specs.ProductRequests.{step_at, planning_at, bounds_at, charge_at, charged_at, members_of as members_by, new_product as product_asked, IsStepInRange, IsPlanningInRange, AreBoundsInRange};
-ghost use Rattle.mf_requests.specs.Requests.{number_in};
 
 use crate::body::{json, long_number, name, number, optional_number};
 use crate::named::{freq, method, strategy};
-use crate::paths::{number as number_in_path, part};
 use mf_base::{Fault, Freq};
 use mf_catalog::{
     GREATEST_AMOUNT, GREATEST_RATE, MOST_GRACE, MOST_MONTHS, MOST_PERIODS, MOST_WEEKS, Method,
     ProductMembers, StrategyName,
 };
-use mf_model::Request;
+use mf_model::{CatalogueRequest, Request};
 use mf_office::Name;
 use serde_json::Value;
 use std::alloc::Global;
@@ -170,38 +167,7 @@ pub fn new_product(alloc: Global, body: &[u8]) -> Result<Request, Fault>
     let Some(charged) = read_charged(&body) else {
         return Err(Fault::F1);
     };
-    match name(alloc, &body, "name") {
-        Ok(name) => Ok(Request::PostProducts {
-            members: members_of(name, planning, bounds, charged),
-        }),
-        Err(fault) => Err(fault),
-    }
-}
-
-/// The product whose number a path has after its second slash.
-fn product_in(path: &[u8]) -> Option<u32>
-    ensures value { result ≡ number_in path.now }
-    ensures in_range { IfSome result (λ n. n ≤ 999999999) }
-{
-    number_in_path(part(path, 2))
-}
-
-pub fn get_product(path: &[u8]) -> Result<Request, Fault>
-    ensures value { Gives (option_map (λ product. GetProduct product) (number_in path.now)) result }
-    ensures in_range { IfOk result IsInRange }
-{
-    match product_in(path) {
-        Some(product) => Ok(Request::GetProduct { product }),
-        None => Err(Fault::F1),
-    }
-}
-
-pub fn retire_product(path: &[u8]) -> Result<Request, Fault>
-    ensures value { Gives (option_map (λ product. RetireProduct product) (number_in path.now)) result }
-    ensures in_range { IfOk result IsInRange }
-{
-    match product_in(path) {
-        Some(product) => Ok(Request::RetireProduct { product }),
-        None => Err(Fault::F1),
-    }
+    let name = name(alloc, &body, "name")?;
+    let members = members_of(name, planning, bounds, charged);
+    Ok(Request::Catalogue(CatalogueRequest::AddProduct { members }))
 }

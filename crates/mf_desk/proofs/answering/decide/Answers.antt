@@ -1,28 +1,33 @@
-use Rattle.std.proofs.Common.{Some, None, Err, cond, ap, sym, ◌∙◌}
+use Rattle.std.proofs.Common.{◌≡◌, Option, Some, None, Err, cond, refl, ap, sym, ◌∙◌}
 use Rattle.mf_base.specs.declared.fault.Fault.TheVariants.{F2, F3}
+use Rattle.mf_office.specs.declared.staff.Role.{Role}
 use Rattle.mf_model.specs.Desk.{outcome}
 use Rattle.mf_model.specs.Store.{role_of}
-use Rattle.mf_desk.specs.Answers.{call_of, acted}
+use Rattle.mf_desk.specs.Answers.{call_of, request_outcome}
 use Rattle.mf_desk.proofs.Decisions.{then_decides, then_refuses, sent_unknown, sent_known}
 use Rattle.mf_desk.proofs.answering.decide.Goals as goal
 
-pub returns-in-Ok-None : goal.returns-in-Ok-None
-returns-in-Ok-None g c =
+is_none : (role : Option Role) → ((r : Role) → role ≡ Some r → ⊥) → role ≡ None
+is_none None h = refl
+is_none (Some r) h = absurd (h r refl)
+
+pub returns-in_default-2-clause-decides : goal.returns-in_default-2-clause-decides
+returns-in_default-2-clause-decides g c =
     let s = g.S.InstitutionStore in
     then_refuses s.stands s.clean s.leaves (role_of c.args.caller) (outcome (call_of c.args.caller c.args.request)) c.args.store.now c.role.new.self None F2
-    (rw c.in-Ok-None.field-0-is at c.in-Ok-None.ensures) (λ i e. sent_unknown c.args.caller c.args.request i c.in_default.not-Malformed e)
+    (rw (is_none c.in_ok-role.field-0 c.in_default-2.not-Some) at c.in_ok-role.ensures) (λ i e. sent_unknown c.args.caller c.args.request i c.in_default.not-Unreadable e)
 
-pub returns-then-not-may_send : goal.returns-then-not-may_send
-returns-then-not-may_send g c =
+pub returns-then-not-may_send-clause-decides : goal.returns-then-not-may_send-clause-decides
+returns-then-not-may_send-clause-decides g c =
     let s = g.S.InstitutionStore in
-    then_refuses s.stands s.clean s.leaves (role_of c.args.caller) (outcome (call_of c.args.caller c.args.request)) c.args.store.now c.role.new.self (Some c.in-Ok-Some.role) F3
-    (rw c.in-Ok-Some.field-0-is at c.in-Ok-Some.ensures)
-    (λ i e. sent_known c.args.caller c.args.request c.in-Ok-Some.role i c.in_default.not-Malformed e ∙ ap (λ b. cond b (acted c.args.caller c.args.request i) (Err F3)) (sym c.may_send.ensures ∙ c.if-not-may_send.true))
+    then_refuses s.stands s.clean s.leaves (role_of c.args.caller) (outcome (call_of c.args.caller c.args.request)) c.args.store.now c.role.new.self (Some c.in-Some.role) F3
+    (rw c.in-Some.is at c.in_ok-role.ensures)
+    (λ i e. sent_known c.args.caller c.args.request c.in-Some.role i c.in_default.not-Unreadable e ∙ ap (λ b. cond b (request_outcome c.args.caller c.args.request i) (Err F3)) (sym c.may_send.ensures ∙ c.if-not-may_send.true))
 
-pub returns : goal.returns
-returns g c =
+pub returns-clause-decides : goal.returns-clause-decides
+returns-clause-decides g c =
     let s = g.S.InstitutionStore in
-    then_decides s.stands s.clean s.leaves (role_of c.args.caller) (outcome (call_of c.args.caller c.args.request)) (acted c.args.caller c.args.request) c.args.store.now c.role.new.self c.act.new.store (Some c.in-Ok-Some.role) c.act.result
-    (rw c.in-Ok-Some.field-0-is at c.in-Ok-Some.ensures)
-    (λ i e. sent_known c.args.caller c.args.request c.in-Ok-Some.role i c.in_default.not-Malformed e ∙ ap (λ b. cond b (acted c.args.caller c.args.request i) (Err F3)) (sym c.may_send.ensures ∙ c.if-not-may_send.false))
-    c.act.ensures
+    then_decides s.stands s.clean s.leaves (role_of c.args.caller) (outcome (call_of c.args.caller c.args.request)) (request_outcome c.args.caller c.args.request) c.args.store.now c.role.new.self c.act.new.store (Some c.in-Some.role) c.act.result
+    (rw c.in-Some.is at c.in_ok-role.ensures)
+    (λ i e. sent_known c.args.caller c.args.request c.in-Some.role i c.in_default.not-Unreadable e ∙ ap (λ b. cond b (request_outcome c.args.caller c.args.request i) (Err F3)) (sym c.may_send.ensures ∙ c.if-not-may_send.false))
+    c.act.ensures.decides

@@ -11,4 +11,4 @@ refused r true e = rw e tt
 refused r false e = rw e (inr (refl, refl))
 
 pub returns-clause-err : goal.returns-clause-err
-returns-clause-err c = refused c.check_product.result _ (c.check_product.ensures ∙ ap (λ (xs : List ChargeDef). cond (is_consistent (charge_at xs) c.args.members.now) (Ok tt) (Err F8)) (c.as_slice.ensures.value ∙ c.in-Ok.ensures.ok))
+returns-clause-err c = refused c.check_product.result _ (c.check_product.ensures ∙ ap (λ (xs : List ChargeDef). cond (is_consistent (charge_at xs) c.args.members.now) (Ok tt) (Err F8)) (c.as_slice.ensures.value ∙ c.in_ok-charges.ensures.ok))

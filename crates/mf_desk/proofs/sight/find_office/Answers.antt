@@ -1,18 +1,14 @@
-use Rattle.std.proofs.Common.{◌≡◌, ℕ, Bool, true, false, cond, List, [], ◌∷◌, Option, Some, None, refl, sym, ap, ◌∙◌, arith}
-use Rattle.std.specs.Prelude.{◌==◌}
+use Rattle.std.proofs.Common.{◌≡◌, ℕ, Bool, true, false, cond, List, [], ◌∷◌, Option, Some, None, Ok, Err, inr, refl, sym, ap, ◌∙◌, arith}
+use Rattle.std.specs.Prelude.{◌==◌, is_some}
 use Rattle.std.specs.List.{AllByRecursion}
 use Rattle.std.proofs.lemmas.Bool.Decides.{nat_tests}
 use Rattle.mf_base.specs.declared.fault.Fault.TheVariants.{F4}
 use Rattle.mf_office.specs.Numbers.{IsNumberUpTo, number_up_to}
 use Rattle.mf_office.specs.Tree.{is_at_or_below}
-use Rattle.mf_model.specs.declared.request.Request.TheVariants.{GetLoans}
 use Rattle.mf_model.specs.Institution.{Catalogue, Office, office_at}
 use Rattle.mf_model.specs.Tree.{parent_of}
-use Rattle.mf_model.specs.Desk.{in_office, list_loans}
 use Rattle.mf_model.specs.Sound.{IsSoundOffice}
-use Rattle.mf_desk.specs.Answers.{acted}
-use Rattle.mf_desk.proofs.Decisions.{refuses_at_once}
-use Rattle.mf_desk.proofs.loans.get_loans.Goals as goal
+use Rattle.mf_desk.proofs.sight.find_office.Goals as goal
 
 none : (r : Option ℕ) → ((x : ℕ) → r ≡ Some x → ⊥) → r ≡ None
 none None h = refl
@@ -29,12 +25,16 @@ unseen : (b : Bool) (f : Option Office) → f ≡ None → cond b f None ≡ Non
 unseen true f e = e
 unseen false f e = refl
 
-pub returns-in_default : goal.returns-in_default
-returns-in_default g c =
-    let s = g.S.InstitutionStore in
-    let o = c.args.caller.office in
+pub returns-in_default-clause-asks : goal.returns-in_default-clause-asks
+returns-in_default-clause-asks g c =
+    let o = c.args.to in
     let x = c.args.office in
-    refuses_at_once s.stands s.clean s.leaves (acted c.args.caller (GetLoans x c.args.after)) c.args.store.now F4
-    (λ i st. ap (in_office x (λ k f. list_loans x c.args.after f.rows) i.catalogue)
-    (unseen (is_at_or_below (parent_of i.offices) x o) (office_at x i.offices)
-    (no_such_office i.catalogue x i.offices (g.met.S.InstitutionStore.sound c.args.store.now i st).each (sym c.new.ensures ∙ none c.new.result c.in_default.not-Some))))
+    record {
+      premise = λ k. k;
+      same = λ k i s. s;
+      gives = λ k i s. tt;
+      refuses = λ k i s. inr (ap (λ f. cond (is_some f) (Ok x) (Err F4))
+          (unseen (is_at_or_below (parent_of i.offices) x o) (office_at x i.offices)
+          (no_such_office i.catalogue x i.offices (g.met.S.InstitutionStore.sound c.args.store.now i s).each (sym c.new.ensures ∙ none c.new.result c.in_default.not-Some))));
+      stop = λ k is l. l;
+    }

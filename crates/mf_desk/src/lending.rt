@@ -1,0 +1,102 @@
+//! How loans are submitted in an office, and how they are listed.
+
+ghost use Rattle.std.specs.Prelude.{◌≡◌, ◌≢◌, IfErr};
+ghost use Rattle.mf_model.specs.Outcomes.{next_of};
+ghost use Rattle.mf_model.specs.Institution.{product_in};
+ghost use Rattle.mf_model.specs.Loans.{make_loan, lend, submit, list_loans};
+ghost use Rattle.mf_desk.specs.Answers.{Decides, in_rows};
+
+use crate::decision::Decision;
+use mf_base::Fault;
+use mf_catalog::check_loan;
+use mf_model::{Application, Commit, InstitutionStore, Loan, Reply, Stage};
+use mf_office::{Account, AccountNo, OfficeNo, next_number};
+use std::alloc::Global;
+
+/// The number of the next loan; F18 where the office has 999,999.
+fn next_loan(used: u32) -> Result<AccountNo, Fault>
+    ensures value { result ≡ next_of used 999999 }
+    ensures refusal { IfErr result (λ f. f ≡ Fault.F18) }
+{
+    let number = next_number(used, AccountNo::MAX)?;
+    match AccountNo::new(number) {
+        Some(number) => Ok(number),
+        None => Err(Fault::F18),
+    }
+}
+
+/// A new loan of a client that is there, of a product that lends so.
+fn make_loan<S: InstitutionStore>(
+    alloc: Global,
+    store: &mut S,
+    office: OfficeNo,
+    asked: &Application,
+) -> Result<Decision, Fault>
+    ensures decides { Decides S.stands S.clean S.leaves (in_rows office (λ k rows. make_loan office asked.now rows)) store.old store.new result }
+    ensures refusal { IfErr result (λ f. f ≢ Fault.F19) }
+{
+    let counts = store.counts(alloc, office)?;
+    let number = next_loan(counts.loans)?;
+    let loan = Loan {
+        client: asked.client,
+        product: asked.product,
+        principal: asked.principal,
+        periods: asked.periods,
+        stage: Stage::Submitted,
+    };
+    Ok(Decision {
+        reply: Reply::LoanMade(Account { office, number }),
+        commit: Some(Commit::AddLoan { office, loan }),
+    })
+}
+
+/// A new loan of a client that is there.
+fn lend<S: InstitutionStore>(
+    alloc: Global,
+    store: &mut S,
+    office: OfficeNo,
+    asked: &Application,
+) -> Result<Decision, Fault>
+    ensures decides { Decides S.stands S.clean S.leaves (in_rows office (λ k rows. lend office asked.now (product_in k asked.now.product) rows)) store.old store.new result }
+    ensures refusal { IfErr result (λ f. f ≢ Fault.F19) }
+{
+    let Some(product) = store.product(alloc, asked.product)? else {
+        return Err(Fault::F4);
+    };
+    check_loan(&product, asked.principal, asked.periods)?;
+    make_loan(alloc, store, office, asked)
+}
+
+/// A new loan.
+pub fn submit_loan<S: InstitutionStore>(
+    alloc: Global,
+    store: &mut S,
+    office: OfficeNo,
+    asked: &Application,
+) -> Result<Decision, Fault>
+    ensures decides { Decides S.stands S.clean S.leaves (in_rows office (λ k rows. submit office asked.now k rows)) store.old store.new result }
+    ensures refusal { IfErr result (λ f. f ≢ Fault.F19) }
+{
+    let number = asked.client;
+    if store.client(alloc, Account { office, number })?.is_none() {
+        return Err(Fault::F4);
+    }
+    lend(alloc, store, office, asked)
+}
+
+/// The first 100 loans whose number is above one.
+pub fn list_loans<S: InstitutionStore>(
+    alloc: Global,
+    store: &mut S,
+    office: OfficeNo,
+    after: u32,
+) -> Result<Decision, Fault>
+    ensures decides { Decides S.stands S.clean S.leaves (in_rows office (λ k rows. list_loans office after rows)) store.old store.new result }
+    ensures refusal { IfErr result (λ f. f ≢ Fault.F19) }
+{
+    let loans = store.loans(alloc, office, after)?;
+    Ok(Decision {
+        reply: Reply::LoansShown(loans),
+        commit: None,
+    })
+}
