@@ -8,7 +8,10 @@ use crate::books::{Books, name, office_no};
 use mf_base::{Day, Fault, Freq};
 use mf_catalog::{Calc, ChargeKind, Method, ProductMembers, StrategyName};
 use mf_desk::answer;
-use mf_model::{LoanList, Reply, Request, is_name};
+use mf_model::{
+    Application, CatalogueRequest, Flaw, LoanList, LoanReply, LoanRequest, LoanStep, OfficeRequest,
+    Reply, Request, is_name,
+};
 use mf_office::{Account, AccountNo, Caller, Office, Role};
 use std::alloc::Global;
 use std::test::Fail;
@@ -66,11 +69,14 @@ fn shown_later(alloc: Global, reply: &Reply) -> Result<String, Fault> {
         }
         Reply::ProductRetired(number) => numbered(alloc, *number, "retired"),
         Reply::LoanMade(loan) => loan.text(alloc),
-        Reply::LoanShown { account, loan } => at_status(alloc, *account, loan.stage.status()),
-        Reply::LoanApproved(loan) => at_status(alloc, *loan, 200),
-        Reply::LoanRejected(loan) => at_status(alloc, *loan, 500),
-        Reply::LoanWithdrawn(loan) => at_status(alloc, *loan, 400),
-        Reply::ApprovalUndone(loan) => at_status(alloc, *loan, 100),
+        Reply::Loan {
+            loan,
+            told: LoanReply::Shown(shown),
+        } => at_status(alloc, *loan, shown.stage.status()),
+        Reply::Loan {
+            loan,
+            told: LoanReply::Status(status),
+        } => at_status(alloc, *loan, *status),
         Reply::LoansShown(loans) => loan_lines(alloc, loans),
         _ => Ok(String::from_str(alloc, "another")?),
     }
@@ -131,7 +137,7 @@ fn add_office(
     let number = office_no(number)?;
     let parent = office_no(parent)?;
     let name = name(alloc, text)?;
-    let request = Request::PostOffices {
+    let request = Request::NewOffice {
         number,
         parent,
         name,
@@ -152,12 +158,11 @@ fn add_staff(
     }
     let office = office_no(office)?;
     let name = name(alloc, text)?;
-    send(
-        alloc,
-        books,
-        caller,
-        Request::PostStaff { office, name, role },
-    )
+    let request = Request::Office {
+        office: office.get(),
+        asked: OfficeRequest::AddStaff { name, role },
+    };
+    send(alloc, books, caller, request)
 }
 
 fn add_client(
@@ -172,7 +177,11 @@ fn add_client(
     }
     let office = office_no(office)?;
     let name = name(alloc, text)?;
-    send(alloc, books, caller, Request::PostClients { office, name })
+    let request = Request::Office {
+        office: office.get(),
+        asked: OfficeRequest::AddClient { name },
+    };
+    send(alloc, books, caller, request)
 }
 
 fn client(
@@ -185,8 +194,11 @@ fn client(
     let office = office_no(office)?;
     let number = AccountNo::new(number).ok_or(Fault::F1)?;
     let _number = number.get();
-    let client = Account { office, number };
-    send(alloc, books, caller, Request::GetClient { client })
+    let request = Request::Office {
+        office: office.get(),
+        asked: OfficeRequest::ShowClient { client: number },
+    };
+    send(alloc, books, caller, request)
 }
 
 fn account(number: u32) -> Result<Account, Fault>
@@ -229,7 +241,8 @@ fn add_product(
     instalment_charge: Option<u32>,
 ) -> Result<String, Fault> {
     let members = members(alloc, instalment_charge)?;
-    send(alloc, books, "1/1", Request::PostProducts { members })
+    let request = Request::Catalogue(CatalogueRequest::AddProduct { members });
+    send(alloc, books, "1/1", request)
 }
 
 fn submit(
@@ -245,22 +258,42 @@ fn submit(
     if !(is_product && is_principal && are_periods) {
         return Err(Fault::F1);
     }
-    let request = Request::PostLoans {
-        client: account(1)?,
-        product,
-        principal,
-        periods,
+    let client = AccountNo::new(1).ok_or(Fault::F1)?;
+    let _number = client.get();
+    let request = Request::Office {
+        office: 1,
+        asked: OfficeRequest::SubmitLoan(Application {
+            client,
+            product,
+            principal,
+            periods,
+        }),
+    };
+    send(alloc, books, "1/1", request)
+}
+
+fn take_step(alloc: Global, books: &mut Books, step: LoanStep) -> Result<String, Fault> {
+    let request = Request::Loan {
+        loan: account(1)?,
+        asked: LoanRequest::Take(step),
     };
     send(alloc, books, "1/1", request)
 }
 
 fn approve(alloc: Global, books: &mut Books) -> Result<String, Fault> {
-    let loan = account(1)?;
-    send(alloc, books, "1/1", Request::ApproveLoan { loan })
+    take_step(alloc, books, LoanStep::Approve)
 }
 
 fn retire(alloc: Global, books: &mut Books) -> Result<String, Fault> {
-    send(alloc, books, "1/1", Request::RetireProduct { product: 1 })
+    let request = Request::Catalogue(CatalogueRequest::RetireProduct { product: 1 });
+    send(alloc, books, "1/1", request)
+}
+
+fn set_day(alloc: Global, books: &mut Books, day: Day) -> Result<String, Fault>
+    requires { day ≤ last_entered_day }
+{
+    let request = Request::Catalogue(CatalogueRequest::SetDay { day });
+    send(alloc, books, "1/1", request)
 }
 
 fn new_books(alloc: Global) -> Result<Books, Fault> {
@@ -302,7 +335,7 @@ fn a_client_is_entered_and_read(rt: HostRuntime) -> Result<(), Fail> {
     assert!(rt; is_fault(&missing, Fault::F4));
     let no_office = add_client(alloc, &mut books, "1/1", 2, "B");
     assert!(rt; is_fault(&no_office, Fault::F4));
-    let malformed = send(alloc, &mut books, "1/1", Request::Malformed(Fault::F6));
+    let malformed = send(alloc, &mut books, "1/1", Request::Unreadable(Flaw::NoMethod));
     assert!(rt; is_fault(&malformed, Fault::F6));
     let unknown = client(alloc, &mut books, "2/1", 1, 1);
     assert!(rt; is_fault(&unknown, Fault::F2));
@@ -321,7 +354,7 @@ fn branches_see_their_own(rt: HostRuntime) -> Result<(), Fail> {
     assert!(rt; is_text(&mill, "office 5"));
     let ben = add_staff(alloc, &mut books, "1/1", 2, "Ben", Role::Officer);
     assert!(rt; is_text(&ben, "2/1"));
-    let seen = send(alloc, &mut books, "2/1", Request::GetOffices);
+    let seen = send(alloc, &mut books, "2/1", Request::SeenOffices);
     assert!(rt; is_text(&seen, "offices 2 North under 1 5 Mill under 2"));
     let below = add_client(alloc, &mut books, "2/1", 5, "C");
     assert!(rt; is_text(&below, "0005-000001"));
@@ -357,8 +390,7 @@ fn a_loan_is_approved_once(rt: HostRuntime) -> Result<(), Fail> {
     assert!(rt; is_text(&once, "0001-000001 200"));
     let twice = approve(alloc, &mut books);
     assert!(rt; is_fault(&twice, Fault::F9));
-    let loan = account(1)?;
-    let withdrawn = send(alloc, &mut books, "1/1", Request::WithdrawLoan { loan });
+    let withdrawn = take_step(alloc, &mut books, LoanStep::Withdraw);
     assert!(rt; is_fault(&withdrawn, Fault::F9));
     Ok(())
 }
@@ -368,12 +400,11 @@ fn an_approval_is_undone(rt: HostRuntime) -> Result<(), Fail> {
     let alloc = rt.alloc();
     let mut books = with_loan(alloc)?;
     let _approved = approve(alloc, &mut books);
-    let loan = account(1)?;
-    let undone = send(alloc, &mut books, "1/1", Request::UndoApproval { loan });
+    let undone = take_step(alloc, &mut books, LoanStep::UndoApproval);
     assert!(rt; is_text(&undone, "0001-000001 100"));
-    let listing = Request::GetLoans {
+    let listing = Request::Office {
         office: 1,
-        after: 0,
+        asked: OfficeRequest::ListLoans { after: 0 },
     };
     let listed = send(alloc, &mut books, "1/1", listing);
     assert!(rt; is_text(&listed, "loans 0001-000001 100"));
@@ -413,12 +444,12 @@ fn a_product_names_instalment_charges(rt: HostRuntime) -> Result<(), Fail> {
     if !is_name("Visit") {
         return Err(Fail::from(Fault::F1));
     }
-    let visit = Request::PostCharges {
+    let visit = Request::Catalogue(CatalogueRequest::AddCharge {
         name: name(alloc, "Visit")?,
         kind: ChargeKind::DueDate,
         calc: Calc::Flat,
         value: 500,
-    };
+    });
     let made = send(alloc, &mut books, "1/1", visit);
     assert!(rt; is_text(&made, "1 charge"));
     let other_kind = add_product(alloc, &mut books, Some(1));
@@ -433,20 +464,10 @@ fn the_day_goes_forward(rt: HostRuntime) -> Result<(), Fail> {
     let alloc = rt.alloc();
     let mut books = new_books(alloc)?;
     let present = day(b"2024-01-31")?;
-    let same = send(
-        alloc,
-        &mut books,
-        "1/1",
-        Request::PutBusinessDay { day: present },
-    );
+    let same = set_day(alloc, &mut books, present);
     assert!(rt; is_fault(&same, Fault::F17));
     let later = day(b"2024-03-31")?;
-    let set = send(
-        alloc,
-        &mut books,
-        "1/1",
-        Request::PutBusinessDay { day: later },
-    );
+    let set = set_day(alloc, &mut books, later);
     assert!(rt; is_text(&set, "2024-03-31"));
     Ok(())
 }

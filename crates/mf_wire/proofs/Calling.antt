@@ -1,35 +1,32 @@
 -- From the desk's answer to the text of a reply.
-use Rattle.std.proofs.Common.{◌≡◌, ◌⊎◌, inl, inr, ℕ, ◌≤◌, nat_le, Bool, true, false, cond, List, Option, Some, None, Result, Ok, Err, refl, sym, ap, ◌∙◌, subst, arith}
+use Rattle.std.proofs.Common.{◌≡◌, inl, inr, ℕ, ◌≤◌, nat_le, Bool, true, false, cond, List, Option, Some, None, Result, Ok, Err, refl, sym, ap, ◌∙◌, subst, arith}
 use Rattle.std.specs.Prelude.{◌&&◌, is_some, option_map, option_and_then, length, ◌∷◌}
 use Rattle.mf_base.specs.declared.fault.Fault.{Fault}
-use Rattle.mf_base.specs.declared.fault.Fault.TheVariants.{F1, F19, F20}
+use Rattle.mf_base.specs.declared.fault.Fault.TheVariants.{F20}
 use Rattle.mf_model.specs.declared.request.Call.{Call}
 use Rattle.mf_model.specs.declared.request.Request.{Request}
-use Rattle.mf_model.specs.declared.request.Request.TheVariants.{Malformed}
+use Rattle.mf_model.specs.declared.request.Request.TheVariants.{Unreadable}
+use Rattle.mf_model.specs.declared.request.Flaw.{Flaw}
+use Rattle.mf_model.specs.declared.request.Flaw.TheVariants.{Malformed}
 use Rattle.mf_model.specs.declared.reply.Reply.{Reply}
 use Rattle.mf_model.specs.Institution.{Institution, Change, after, after_maybe}
-use Rattle.mf_model.specs.Desk.{Outcome, outcome, reply, reply_in, change_in}
+use Rattle.mf_model.specs.Desk.{Outcome, flaw_fault, outcome, reply, reply_in, change_in}
 use Rattle.mf_model.specs.Store.{left_by}
 use Rattle.mf_desk.specs.Answers.{Tells, Changes, call_of as call_by}
 use Rattle.mf_office.specs.Texts.{caller_of}
 use Rattle.mf_office.specs.declared.caller.Caller.{Caller}
 use Rattle.mf_requests.specs.RequestLine.{Parts, after_caller, parts_after, parts_of, split_space, is_token}
-use Rattle.mf_lines.specs.Replies.{replyable}
-use Rattle.mf_requests.specs.Requests.{asked, asked_in, call_of_parts, call_of}
+use Rattle.mf_requests.specs.Requests.{request_of, asked_in, call_of_parts, call_of}
 use Rattle.mf_wire.specs.Runs.{AnswersLine, Calls}
 
 refused_keeps : (o : Outcome) (f : Fault) → reply_in o ≡ Err f → change_in o ≡ None
 refused_keeps (Err e) f h = refl
 refused_keeps (Ok p) f h = absurd (cc)
 
-guarded : {T : Type 0} (f : Fault) → (replyable {T = T} (Err f) ≡ Err f) ⊎ (replyable {T = T} (Err f) ≡ Err F20)
-guarded F19 = inr refl
-guarded _ = inl refl
-
 module _ {S : Type 0} (stands : S → Institution → Type 0) (clean : S → Type 0) (leaves : S → List Institution → Type 0) where
   -- The answer of the desk, told of a line. What shows a reply refuses it for want of memory alone.
   pub told_of_answer : {T : Type 0} (shows : Reply → Result T Fault → Type 0) (told : Result Reply Fault → Type 0) (call : Call) (old new : S) (result : Result T Fault)
-      → ((t : T) (r : Reply) → result ≡ Ok t → shows r (Ok t) → told (Ok r)) → ((f : Fault) → replyable result ≡ Err f → told (Err f)) → ((r : Reply) (f : Fault) → shows r (Err f) → f ≡ F20)
+      → ((t : T) (r : Reply) → result ≡ Ok t → shows r (Ok t) → told (Ok r)) → ((f : Fault) → result ≡ Err f → told (Err f)) → ((r : Reply) (f : Fault) → shows r (Err f) → f ≡ F20)
       → Tells stands clean leaves shows (reply call) old new result → Changes stands clean leaves {T = T} call old new result → Calls stands clean leaves told call old new
   told_of_answer {T = T} shows told call old new (Ok t) ok err f20 s a = record {
     premise = a.premise;
@@ -39,35 +36,32 @@ module _ {S : Type 0} (stands : S → Institution → Type 0) (clean : S → Typ
   told_of_answer {T = T} shows told call old new (Err f) ok err f20 s a = record {
     premise = a.premise;
     answered = λ c i h. elim (s.refused c i h) [
-      | inl e ↦ given c i h (ap (λ (x : Fault). replyable {T = T} (Err x)) e)
+      | inl e ↦ given c i h e
       | inr w ↦ elim w [
         | inl e ↦ refused c i h e
-        | inr v ↦ given c i h (ap (λ (x : Fault). replyable {T = T} (Err x)) (f20 v.0 f v.2))
+        | inr v ↦ given c i h (f20 v.0 f v.2)
       ]
     ];
   }
     where
-      given : (c : clean new) (i : Institution) (h : stands old i) → replyable {T = T} (Err f) ≡ Err F20 → (given_up : Bool) × AnswersLine stands clean leaves told (record { call = call; given_up = given_up }) i old new
-      given c i h e = (true, record { replied = err F20 e; follows = a.same c i h; stop = λ is l. a.stop_refused c i is h l })
+      given : (c : clean new) (i : Institution) (h : stands old i) → f ≡ F20 → (given_up : Bool) × AnswersLine stands clean leaves told (record { call = call; given_up = given_up }) i old new
+      given c i h e = (true, record { replied = subst (λ (x : Fault). told (Err x)) e (err f refl); follows = a.same c i h; stop = λ is l. a.stop_refused c i is h l })
 
       refused : (c : clean new) (i : Institution) (h : stands old i) → reply call i ≡ Err f → (given_up : Bool) × AnswersLine stands clean leaves told (record { call = call; given_up = given_up }) i old new
       refused c i h r =
-          elim (guarded {T = T} f) [
-            | inl e ↦ let none : change_in (outcome call i) ≡ None = refused_keeps (outcome call i) f r in (
-              false,
-              record {
-                replied = subst told (sym r) (err f e);
-                follows = subst (λ (k : Option Change). stands new (after_maybe k i)) (sym none) (a.same c i h);
-                stop = λ is l. subst (λ (k : Option Change). leaves new (left_by k false i is)) (sym none) (subst (λ (k : Option Change). leaves new (left_by k true i is)) none (a.stop_refused c i is h l));
-              },
-            )
-            | inr e ↦ given c i h e
-          ]
+          let none : change_in (outcome call i) ≡ None = refused_keeps (outcome call i) f r in (
+            false,
+            record {
+              replied = subst told (sym r) (err f refl);
+              follows = subst (λ (k : Option Change). stands new (after_maybe k i)) (sym none) (a.same c i h);
+              stop = λ is l. subst (λ (k : Option Change). leaves new (left_by k false i is)) (sym none) (subst (λ (k : Option Change). leaves new (left_by k true i is)) none (a.stop_refused c i is h l));
+            },
+          )
 
   -- what reads as no request is refused, and nothing is changed
-  pub told_malformed : (told : Result Reply Fault → Type 0) (call : Call) (s : S) (f : Fault) → call.request ≡ Malformed f → told (Err f) → Calls stands clean leaves told call s s
-  told_malformed told call s f e t =
-      let o : (i : Institution) → outcome call i ≡ Err f = λ i. ap (λ (r : Request). outcome (record { caller = call.caller; request = r }) i) e in
+  pub told_malformed : (told : Result Reply Fault → Type 0) (call : Call) (s : S) (flaw : Flaw) → call.request ≡ Unreadable flaw → told (Err (flaw_fault flaw)) → Calls stands clean leaves told call s s
+  told_malformed told call s flaw e t =
+      let o : (i : Institution) → outcome call i ≡ Err (flaw_fault flaw) = λ i. ap (λ (r : Request). outcome (record { caller = call.caller; request = r }) i) e in
       record {
         premise = λ c. c;
         answered = λ c i h. (
@@ -108,21 +102,21 @@ short n h = grind arith
 pub call_in_parts : (line : List ℕ) (p : Parts) → length line ≤ 65536 → Some p ≡ parts_of line → call_of_parts p ≡ call_of line
 call_in_parts line p fits e =
     let c = caller_in line p e in
-    let r : cond (nat_le (length line) 65536) (asked_in (parts_of line)) (Malformed F1) ≡ asked_in (Some p) = ap (λ b. cond b (asked_in (parts_of line)) (Malformed F1)) (short (length line) fits) ∙ ap asked_in (sym e) in
+    let r : cond (nat_le (length line) 65536) (asked_in (parts_of line)) (Unreadable Malformed) ≡ asked_in (Some p) = ap (λ b. cond b (asked_in (parts_of line)) (Unreadable Malformed)) (short (length line) fits) ∙ ap asked_in (sym e) in
     sym (ap (λ (x : Option Caller). record { caller = x; request = (call_of line).request }) c ∙ ap (λ (x : Request). record { caller = caller_of p.caller; request = x }) r)
 
-pub no_parts : (line : List ℕ) → length line ≤ 65536 → None ≡ parts_of line → (call_of line).request ≡ Malformed F1
-no_parts line fits e = ap (λ b. cond b (asked_in (parts_of line)) (Malformed F1)) (short (length line) fits) ∙ ap asked_in (sym e)
+pub no_parts : (line : List ℕ) → length line ≤ 65536 → None ≡ parts_of line → (call_of line).request ≡ Unreadable Malformed
+no_parts line fits e = ap (λ b. cond b (asked_in (parts_of line)) (Unreadable Malformed)) (short (length line) fits) ∙ ap asked_in (sym e)
 
-pub too_long : (line : List ℕ) → nat_le (length line) 65536 ≡ false → (call_of line).request ≡ Malformed F1
-too_long line e = ap (λ b. cond b (asked_in (parts_of line)) (Malformed F1)) e
+pub too_long : (line : List ℕ) → nat_le (length line) 65536 ≡ false → (call_of line).request ≡ Unreadable Malformed
+too_long line e = ap (λ b. cond b (asked_in (parts_of line)) (Unreadable Malformed)) e
 
-pub sent_parts : (p : Parts) (caller : Caller) (request : Request) → Some caller ≡ caller_of p.caller → is_token p.method ≡ true → asked p.method p.path p.body ≡ request → call_by caller request ≡ call_of_parts p
+pub sent_parts : (p : Parts) (caller : Caller) (request : Request) → Some caller ≡ caller_of p.caller → is_token p.method ≡ true → request_of p.method p.path p.body ≡ request → call_by caller request ≡ call_of_parts p
 sent_parts p caller request c t r =
     ap (λ (x : Option Caller). record { caller = x; request = request }) c
     ∙ ap (λ (x : Request). record { caller = caller_of p.caller; request = x }) (sym (
-    ap (λ (o : Option Caller). cond (is_some o && is_token p.method) (asked p.method p.path p.body) (Malformed F1)) (sym c)
-    ∙ ap (λ (b : Bool). cond b (asked p.method p.path p.body) (Malformed F1)) t ∙ r
+    ap (λ (o : Option Caller). cond (is_some o && is_token p.method) (request_of p.method p.path p.body) (Unreadable Malformed)) (sym c)
+    ∙ ap (λ (b : Bool). cond b (request_of p.method p.path p.body) (Unreadable Malformed)) t ∙ r
     ))
 
 pub told_as : {S : Type 0} (stands : S → Institution → Type 0) (clean : S → Type 0) (leaves : S → List Institution → Type 0) {T : Type 0} (shows : Reply → Result T Fault → Type 0) (a b : Call) (old new : S) (result : Result T Fault) → a ≡ b → Tells stands clean leaves shows (reply a) old new result → Tells stands clean leaves shows (reply b) old new result

@@ -2,6 +2,7 @@
 use Rattle.std.proofs.Common.{◌≡◌, inl, inr, ℕ, nat_le, Bool, true, false, cond, List, [], ◌∷◌, length, map, Option, refl, sym, ap, ◌∙◌, subst}
 use Rattle.std.specs.Prelude.{MatchBool}
 use Rattle.mf_base.specs.declared.fault.Fault.TheVariants.{F1}
+use Rattle.mf_model.specs.declared.request.Flaw.TheVariants.{Malformed}
 use Rattle.mf_model.specs.declared.request.Call.{Call}
 use Rattle.mf_model.specs.Institution.{Institution}
 use Rattle.mf_model.specs.Tree.{IsTree}
@@ -51,7 +52,7 @@ module _ {S : Type 0} (stands : S → Institution → Type 0) (clean : S → Typ
     where
       at : (b : Bool) → nat_le (length line) 65536 ≡ b → MatchBool b (Calls stands clean leaves (λ r. text ≡ shown_line r) (call_of line) old new) ((text ≡ fault_line F1) × (new ≡ old)) → Calls stands clean leaves (λ r. text ≡ shown_line r) (call_of line) old new
       at true e h = h
-      at false e h = subst (λ n. Calls stands clean leaves (λ r. text ≡ shown_line r) (call_of line) old n) (sym h.1) (told_malformed stands clean leaves (λ r. text ≡ shown_line r) (call_of line) old F1 (too_long line e) h.0)
+      at false e h = subst (λ n. Calls stands clean leaves (λ r. text ≡ shown_line r) (call_of line) old n) (sym h.1) (told_malformed stands clean leaves (λ r. text ≡ shown_line r) (call_of line) old Malformed (too_long line e) h.0)
 
   -- the lines so far, without what is isolated
   pub record RanOn (i : Institution) (lines : List (List ℕ)) (old : S) (texts : List (List ℕ)) (new : S) : Type 0 where

@@ -1,10 +1,11 @@
 // Requests answered over a store, from their texts to the texts of their replies.
-ghost use Rattle.std.specs.Prelude.{◌≡◌, ◌≢◌, Ok, IfOk, IfErr, string_bytes};
+ghost use Rattle.std.specs.Prelude.{◌≡◌, ◌≢◌, ◌⊎◌, Err, IfOk, IfErr, string_bytes};
 ghost use Rattle.std.specs.Fn.{FnOnceReturnsAt};
+ghost use Rattle.mf_model.specs.declared.reply.Reply.{Reply};
 ghost use Rattle.mf_model.specs.Desk.{reply};
 ghost use Rattle.mf_desk.specs.Answers.{Tells, Changes};
 ghost use Rattle.mf_requests.specs.RequestLine.{parts_now};
-ghost use Rattle.mf_lines.specs.Replies.{reply_line, line_of, replyable as replyable_of};
+ghost use Rattle.mf_lines.specs.Replies.{reply_line, line_of};
 ghost use Rattle.mf_replies.specs.Shown.{reply_status, reply_body, shown_line, IsText};
 ghost use Rattle.mf_requests.specs.Requests.{call_of_parts, call_of};
 ghost use Rattle.mf_wire.specs.Runs.{Calls};
@@ -18,17 +19,6 @@ use mf_replies::{body_text, line_text, status};
 use mf_requests::{LineParts, Routes, is_token, line_parts, read_request};
 use std::alloc::Global;
 
-/// F19 tells of a file that is opened. No request is refused with it, so a store that told it gave up.
-fn replyable<T: Drop>(answered: Result<T, Fault>) -> Result<T, Fault>
-    ensures value { result ≡ replyable_of answered }
-    ensures refusal { IfErr result (λ f. f ≢ Fault.F19) }
-{
-    match answered {
-        Err(Fault::F19) => Err(Fault::F20),
-        answered => answered,
-    }
-}
-
 /// Answers a request in its parts. The caller and the method are looked at first, then the route and the rest.
 fn answer_parts<S: InstitutionStore, T: Drop, F: FnOnce(&Reply) -> Result<T, Fault> + Drop>(
     alloc: Global,
@@ -40,6 +30,7 @@ fn answer_parts<S: InstitutionStore, T: Drop, F: FnOnce(&Reply) -> Result<T, Fau
     requires { F.IsAlwaysCallable show }
     ensures told { Tells S.stands S.clean S.leaves (FnOnceReturnsAt F.FnOnce show) (reply (call_of_parts (parts_now parts.entry))) store.old store.new result }
     ensures changes { Changes S.stands S.clean S.leaves (call_of_parts (parts_now parts.entry)) store.old store.new result }
+    ensures refusal { IfErr result (λ f. (f ≢ Fault.F19) ⊎ ((reply : Reply) × FnOnceReturnsAt F.FnOnce show reply (Err f))) }
 {
     let Some(caller) = Caller::parse(parts.caller) else {
         return Err(Fault::F1);
@@ -47,10 +38,8 @@ fn answer_parts<S: InstitutionStore, T: Drop, F: FnOnce(&Reply) -> Result<T, Fau
     if !is_token(parts.method) {
         return Err(Fault::F1);
     }
-    match read_request(alloc, routes, parts.method, parts.path, parts.body) {
-        Ok(request) => answer(alloc, store, caller, request, show),
-        Err(fault) => Err(fault),
-    }
+    let request = read_request(alloc, routes, parts.method, parts.path, parts.body)?;
+    answer(alloc, store, caller, request, show)
 }
 
 /// The line of the reply to a request in its parts.
@@ -63,7 +52,7 @@ fn answer_line_parts<S: InstitutionStore>(
     ensures calls { Calls S.stands S.clean S.leaves (λ r. line_of result ≡ shown_line r) (call_of_parts (parts_now parts.entry)) store.old store.new }
     ensures refusal { IfErr result (λ f. f ≢ Fault.F19) }
 {
-    replyable(answer_parts(
+    answer_parts(
         alloc,
         routes,
         store,
@@ -72,7 +61,7 @@ fn answer_line_parts<S: InstitutionStore>(
             ensures ok { IfOk result (λ s. string_bytes s ≡ reply_line (reply_status reply.now) (reply_body reply.now)) }
             ensures err { IfErr result (λ f. f ≡ Fault.F20) }
         { line_text(alloc, reply) },
-    ))
+    )
 }
 
 fn status_and_body(alloc: Global, reply: &Reply) -> Result<(u16, String), Fault>
@@ -106,7 +95,7 @@ pub fn answer_text<S: InstitutionStore>(
         path,
         body,
     };
-    replyable(answer_parts(
+    answer_parts(
         alloc,
         &routes,
         store,
@@ -115,7 +104,7 @@ pub fn answer_text<S: InstitutionStore>(
             ensures ok { IfOk result (λ t. (t.0 ≡ reply_status reply.now) × (string_bytes t.1 ≡ reply_body reply.now)) }
             ensures err { IfErr result (λ f. f ≡ Fault.F20) }
         { status_and_body(alloc, reply) },
-    ))
+    )
 }
 
 /// The desk as a stream of lines meets it, with its routes made once for a run.

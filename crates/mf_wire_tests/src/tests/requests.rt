@@ -1,7 +1,7 @@
 //! Requests as they are read, at the limits of their members.
 
 use mf_base::Fault;
-use mf_model::Request;
+use mf_model::{CatalogueRequest, Request};
 use mf_requests::{Routes, read_request};
 use std::alloc::Global;
 use std::test::Fail;
@@ -55,7 +55,7 @@ fn charges_named(
         return Err(Fail::from("no routes"));
     };
     match read_request(alloc, &routes, b"POST", b"/products", body.as_bytes()) {
-        Ok(Request::PostProducts { members }) => Ok((
+        Ok(Request::Catalogue(CatalogueRequest::AddProduct { members })) => Ok((
             members.disbursement_charge,
             members.instalment_charge,
             members.overdue_charge,

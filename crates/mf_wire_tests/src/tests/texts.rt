@@ -2,7 +2,7 @@
 
 use mf_base::{Day, Fault, Freq};
 use mf_catalog::{Calc, ChargeDef, ChargeKind, Method, Product, ProductMembers, StrategyName};
-use mf_model::{Loan, LoanLine, LoanList, Reply, Stage};
+use mf_model::{Loan, LoanLine, LoanList, LoanReply, Reply, Stage};
 use mf_office::{Account, AccountNo, Name, OfficeNo};
 use mf_replies::{body_text, status};
 use std::alloc::Global;
@@ -109,15 +109,21 @@ fn a_loan_is_shown_before_disbursement(rt: HostRuntime) -> Result<(), Fail> {
         periods: 3,
         stage: Stage::Submitted,
     };
-    let account = first_loan()?;
-    let body = body_text(rt.alloc(), &Reply::LoanShown { account, loan })?;
+    let reply = Reply::Loan {
+        loan: first_loan()?,
+        told: LoanReply::Shown(loan),
+    };
+    let body = body_text(rt.alloc(), &reply)?;
     assert_eq!(rt; body.as_str(), LOAN);
     Ok(())
 }
 
 #[test]
 fn a_loan_is_rejected(rt: HostRuntime) -> Result<(), Fail> {
-    let reply = Reply::LoanRejected(first_loan()?);
+    let reply = Reply::Loan {
+        loan: first_loan()?,
+        told: LoanReply::Status(500),
+    };
     assert_eq!(rt; status(&reply), 200);
     let body = body_text(rt.alloc(), &reply)?;
     assert_eq!(rt; body.as_str(), "{\"loan\":\"0001-000001\",\"status\":500}");

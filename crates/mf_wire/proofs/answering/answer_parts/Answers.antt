@@ -3,8 +3,8 @@ use Rattle.mf_requests.specs.RequestLine.{parts_now, is_token}
 use Rattle.mf_wire.proofs.Calling.{sent_parts, told_as}
 use Rattle.mf_wire.proofs.answering.answer_parts.Goals as goal
 
-pub returns-in-Ok-clause-told : goal.returns-in-Ok-clause-told
-returns-in-Ok-clause-told g c =
+pub returns-clause-told : goal.returns-clause-told
+returns-clause-told g c =
     let p = parts_now c.args.parts in
     let t : is_token p.method ≡ true = search rules in
-    told_as _ _ _ _ _ _ _ _ _ (sent_parts p c.in-Some.caller c.in-Ok.request c.in-Some.ensures.value t c.in-Ok.ensures.ok) c.answer.ensures.told
+    told_as _ _ _ _ _ _ _ _ _ (sent_parts p c.in-Some.caller c.in_ok-request.request c.in-Some.ensures.value t c.in_ok-request.ensures.ok) c.answer.ensures.told
