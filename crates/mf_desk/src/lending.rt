@@ -4,7 +4,7 @@ ghost use Rattle.std.specs.Prelude.{◌≡◌, ◌≢◌, IfErr};
 ghost use Rattle.mf_model.specs.Outcomes.{next_of};
 ghost use Rattle.mf_model.specs.Institution.{product_in};
 ghost use Rattle.mf_model.specs.Loans.{make_loan, lend, submit, list_loans};
-ghost use Rattle.mf_desk.specs.Answers.{Decides, in_rows};
+ghost use Rattle.mf_desk.specs.Answers.{Asks, Decides, in_rows, client_there};
 
 use crate::decision::Decision;
 use mf_base::Fault;
@@ -67,6 +67,23 @@ fn lend<S: InstitutionStore>(
     make_loan(alloc, store, office, asked)
 }
 
+/// That a client is there; F4 where it isn't. An office's clients are numbered from 1 without gaps, so their count tells.
+fn check_client<S: InstitutionStore>(
+    alloc: Global,
+    store: &mut S,
+    client: Account,
+) -> Result<(), Fault>
+    ensures asks { Asks S.stands S.clean S.leaves (client_there client) store.old store.new result }
+    ensures refusal { IfErr result (λ f. f ≢ Fault.F19) }
+{
+    let counts = store.counts(alloc, client.office)?;
+    if client.number.get() <= counts.clients {
+        Ok(())
+    } else {
+        Err(Fault::F4)
+    }
+}
+
 /// A new loan.
 pub fn submit_loan<S: InstitutionStore>(
     alloc: Global,
@@ -78,9 +95,7 @@ pub fn submit_loan<S: InstitutionStore>(
     ensures refusal { IfErr result (λ f. f ≢ Fault.F19) }
 {
     let number = asked.client;
-    if store.client(alloc, Account { office, number })?.is_none() {
-        return Err(Fault::F4);
-    }
+    check_client(alloc, store, Account { office, number })?;
     lend(alloc, store, office, asked)
 }
 

@@ -23,35 +23,35 @@ no_sums = object
     (member (codes "penalties") (whole 0)
     (member (codes "principal") (whole 0) no_members))))
 
--- a loan's members from product on
-abbrev pub loan_end : Loan → Members
-loan_end loan =
+-- a loan's members from product on, by its status
+abbrev pub loan_end : Loan → ℕ → Members
+loan_end loan status =
     member (codes "product") (whole loan.product)
     (member (codes "refunded") (whole 0)
-    (member (codes "status") (whole (status_of loan.stage))
+    (member (codes "status") (whole status)
     (member (codes "waived") no_sums
     (member (codes "written_off") no_sums no_members))))
 
--- a loan's members from outstanding on
-abbrev pub loan_rest : Loan → Members
-loan_rest loan =
+-- a loan's members from outstanding on, by its status
+abbrev pub loan_rest : Loan → ℕ → Members
+loan_rest loan status =
     member (codes "outstanding") no_sums
     (member (codes "overpaid") (whole 0)
     (member (codes "paid") no_sums
     (member (codes "periods") (whole loan.periods)
-    (member (codes "principal") (whole loan.principal) (loan_end loan)))))
+    (member (codes "principal") (whole loan.principal) (loan_end loan status)))))
 
--- a loan, by the texts of its client's account and its own. Before disbursement there is no day, and all sums are 0.
-abbrev pub loan_by_texts : List ℕ → List ℕ → Loan → Data
-loan_by_texts client account loan = object
+-- a loan, by the texts of its client's account and its own, and by its status. Before disbursement there is no day, and all sums are 0.
+abbrev pub loan_by_texts : List ℕ → List ℕ → Loan → ℕ → Data
+loan_by_texts client account loan status = object
     (member (codes "client") (string client)
     (member (codes "day") null
     (member (codes "disbursement_fee") (whole 0)
-    (member (codes "loan") (string account) (loan_rest loan)))))
+    (member (codes "loan") (string account) (loan_rest loan status)))))
 
 -- A loan as GET /loans/{loan} shows it before it is disbursed. Its client has the loan's office.
 abbrev pub loan_data : Account → Loan → Data
-loan_data account loan = loan_by_texts (account_text account.office loan.client) (account_text account.office account.number) loan
+loan_data account loan = loan_by_texts (account_text account.office loan.client) (account_text account.office account.number) loan (status_of loan.stage)
 
 -- a loan and its status
 abbrev pub status_data : Account → ℕ → Data

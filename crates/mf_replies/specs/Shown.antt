@@ -1,7 +1,7 @@
 -- How replies are shown.
 use Rattle.std.specs.Prelude.{◌≡◌, ℕ, String, string_bytes, List, map, codes, Result, Ok, Err}
 use Rattle.serde_json.specs.Data.{Data, string, object, array, member, no_members}
-use Rattle.serde_json.specs.View.{items_of}
+use Rattle.serde_json.specs.View.{view, items_of}
 use Rattle.serde_json.specs.Written.{compact_text}
 use Rattle.mf_base.specs.DayText.{day_text}
 use Rattle.mf_base.specs.declared.fault.Fault.{Fault}
@@ -9,6 +9,8 @@ use Rattle.mf_office.specs.Written.{caller_text, account_text}
 use Rattle.mf_office.specs.declared.office.Office.{Office}
 use Rattle.mf_model.specs.declared.reply.Reply.{Reply}
 use Rattle.mf_model.specs.declared.reply.Reply.TheVariants.{OfficeMade, Offices, StaffMade, ClientMade, ClientShown, DayShown, DaySet, ChargeMade, ChargeShown, ProductMade, ProductShown, ProductRetired, LoanMade, Loan, LoansShown}
+use Rattle.mf_replies.specs.declared.showing.Body.{Body}
+use Rattle.mf_replies.specs.declared.showing.Body.TheVariants.{Value, Text}
 use Rattle.mf_replies.specs.Catalogue.{charge_data, product_data}
 use Rattle.mf_replies.specs.Json.{whole, whole_or_null}
 use Rattle.mf_replies.specs.LoanTexts.{account_data, told_data, lines_data}
@@ -69,3 +71,8 @@ IsText (Ok text) (Ok reply) = (text.0 ≡ reply_status reply) × (string_bytes t
 IsText (Err fault) (Err refusal) = fault ≡ refusal
 IsText (Ok text) (Err refusal) = ⊥
 IsText (Err fault) (Ok reply) = ⊥
+
+-- what a body is made of before it is written: a value of JSON, or its text
+abbrev pub IsBodyOf : Reply → Body → Type 0
+IsBodyOf reply (Value value) = view value ≡ reply_data reply
+IsBodyOf reply (Text text) = string_bytes text ≡ reply_body reply

@@ -4,14 +4,14 @@ ghost use Rattle.serde_json.specs.View.{view};
 ghost use Rattle.serde_json.specs.Written.{compact_text, has_float};
 ghost use Rattle.mf_model.specs.declared.reply.Reply.TheVariants.{OfficeMade, Offices, StaffMade, ClientMade, ClientShown};
 ghost use Rattle.mf_lines.specs.Replies.{reply_line};
-ghost use Rattle.mf_replies.specs.Shown.{office_data, reply_data, reply_status, reply_body};
+ghost use Rattle.mf_replies.specs.Shown.{IsBodyOf, office_data, reply_data, reply_status, reply_body};
 
 mod catalogue;
 mod loans;
 mod members;
 
 use catalogue::{charge_made, charge_shown, day_value, product_shown, product_value};
-use loans::{loan_made, loan_told, loans_shown};
+use loans::{loan_made, loan_text, loans_shown};
 use mf_base::Fault;
 use mf_model::Reply;
 use mf_office::{Account, Caller, Name, Office, OfficeNo};
@@ -81,26 +81,33 @@ fn client_shown(alloc: Global, client: Account, name: &Name) -> Result<Value, Fa
     Ok(value)
 }
 
-fn reply_value(alloc: Global, reply: &Reply) -> Result<Value, Fault>
-    ensures ok { IfOk result (λ v. view v ≡ reply_data reply.now) }
+/// A body before it is written: a value of JSON, or its text where that is written at once.
+#[derive(Drop)]
+pub(crate) enum Body {
+    Value(Value),
+    Text(String),
+}
+
+fn reply_body(alloc: Global, reply: &Reply) -> Result<Body, Fault>
+    ensures ok { IfOk result (IsBodyOf reply.now) }
     ensures err { IfErr result (λ f. f ≡ Fault.F20) }
 {
     match reply {
-        Reply::OfficeMade(office) => Ok(office_made(alloc, *office)?),
-        Reply::Offices(list) => Ok(offices(alloc, list.as_slice())?),
-        Reply::StaffMade(staff) => staff_made(alloc, *staff),
-        Reply::ClientMade(client) => client_made(alloc, *client),
-        Reply::ClientShown { client, name } => client_shown(alloc, *client, name),
-        Reply::DayShown(day) | Reply::DaySet(day) => day_value(alloc, *day),
-        Reply::ChargeMade(charge) => Ok(charge_made(alloc, *charge)?),
-        Reply::ChargeShown(charge) => Ok(charge_shown(alloc, charge)?),
+        Reply::OfficeMade(office) => Ok(Body::Value(office_made(alloc, *office)?)),
+        Reply::Offices(list) => Ok(Body::Value(offices(alloc, list.as_slice())?)),
+        Reply::StaffMade(staff) => Ok(Body::Value(staff_made(alloc, *staff)?)),
+        Reply::ClientMade(client) => Ok(Body::Value(client_made(alloc, *client)?)),
+        Reply::ClientShown { client, name } => Ok(Body::Value(client_shown(alloc, *client, name)?)),
+        Reply::DayShown(day) | Reply::DaySet(day) => Ok(Body::Value(day_value(alloc, *day)?)),
+        Reply::ChargeMade(charge) => Ok(Body::Value(charge_made(alloc, *charge)?)),
+        Reply::ChargeShown(charge) => Ok(Body::Value(charge_shown(alloc, charge)?)),
         Reply::ProductMade(product) | Reply::ProductRetired(product) => {
-            Ok(product_value(alloc, *product)?)
+            Ok(Body::Value(product_value(alloc, *product)?))
         }
-        Reply::ProductShown(product) => Ok(product_shown(alloc, product)?),
-        Reply::LoanMade(loan) => loan_made(alloc, *loan),
-        Reply::Loan { loan, told } => loan_told(alloc, *loan, told),
-        Reply::LoansShown(lines) => loans_shown(alloc, lines.as_slice()),
+        Reply::ProductShown(product) => Ok(Body::Value(product_shown(alloc, product)?)),
+        Reply::LoanMade(loan) => Ok(Body::Value(loan_made(alloc, *loan)?)),
+        Reply::Loan { loan, told } => Ok(Body::Text(loan_text(alloc, *loan, told)?)),
+        Reply::LoansShown(lines) => Ok(Body::Value(loans_shown(alloc, lines.as_slice())?)),
     }
 }
 
@@ -117,9 +124,14 @@ pub fn body_text(alloc: Global, reply: &Reply) -> Result<String, Fault>
     ensures ok { IfOk result (λ s. string_bytes s ≡ reply_body reply.now) }
     ensures err { IfErr result (λ f. f ≡ Fault.F20) }
 {
-    let value = reply_value(alloc, reply)?;
-    let text = text_of(alloc, &value)?;
-    Ok(text)
+    let body = reply_body(alloc, reply)?;
+    match body {
+        Body::Text(text) => Ok(text),
+        Body::Value(value) => {
+            let text = text_of(alloc, &value)?;
+            Ok(text)
+        }
+    }
 }
 
 /// The HTTP status of a success.

@@ -1,15 +1,16 @@
 // Loans as JSON.
-ghost use Rattle.std.specs.Prelude.{◌≡◌, IfOk, IfErr, map};
-ghost use Rattle.serde_json.specs.View.{view, members_view};
+ghost use Rattle.std.specs.Prelude.{◌≡◌, ℕ, List, true, IfOk, IfErr, map, string_bytes};
+ghost use Rattle.json.specs.Print.{quoted};
+ghost use Rattle.serde_json.specs.View.{view};
+ghost use Rattle.serde_json.specs.Written.{compact_text, members_text};
 ghost use Rattle.mf_model.specs.declared.reply.Reply.TheVariants.{LoanMade};
 ghost use Rattle.mf_replies.specs.Shown.{reply_data};
-ghost use Rattle.mf_replies.specs.LoanTexts.{no_sums as no_sums_of, loan_end as loan_end_of, loan_rest as loan_rest_of, loan_by_texts, loan_data, status_data, told_data, line_data, lines_data};
+ghost use Rattle.mf_replies.specs.LoanTexts.{loan_end as loan_end_of, loan_rest as loan_rest_of, loan_by_texts, loan_data, status_data, told_data, line_data, lines_data};
 
-use super::members::{put_text, put_value, put_whole};
 use mf_base::Fault;
 use mf_model::{Loan, LoanLine, LoanReply};
 use mf_office::Account;
-use serde_json::{Map, Value, json};
+use serde_json::{Value, json};
 use std::alloc::{AllocError, Global};
 
 /// A new loan.
@@ -32,57 +33,68 @@ fn status_value(alloc: Global, loan: Account, status: u16) -> Result<Value, Faul
     Ok(value)
 }
 
-fn no_sums(alloc: Global) -> Result<Value, AllocError>
-    ensures { IfOk result (λ v. view v ≡ no_sums_of) }
+/// The text of a loan and its status number.
+fn status_text(alloc: Global, loan: Account, status: u16) -> Result<String, Fault>
+    ensures ok { IfOk result (λ s. string_bytes s ≡ compact_text (status_data loan status)) }
+    ensures err { IfErr result (λ f. f ≡ Fault.F20) }
 {
-    json!(in alloc; {"fees": 0u64, "interest": 0u64, "penalties": 0u64, "principal": 0u64})
+    let value = status_value(alloc, loan, status)?;
+    let text = value.to_string(alloc)?;
+    Ok(text)
 }
 
-/// A loan's members from `product` on.
-fn loan_end(alloc: Global, loan: &Loan) -> Result<Map<String, Value>, AllocError>
-    ensures { IfOk result (λ map. members_view map.entries ≡ loan_end_of loan.now) }
+/// A text as JSON, in quotes.
+fn quoted_text(alloc: Global, text: &str) -> Result<String, AllocError>
+    ensures { IfOk result (λ s. string_bytes s ≡ quoted text.now) }
 {
-    let waived = no_sums(alloc)?;
-    let written_off = no_sums(alloc)?;
-    let mut map = Map::new(alloc);
-    put_value(alloc, &mut map, "written_off", written_off)?;
-    put_value(alloc, &mut map, "waived", waived)?;
-    put_whole(alloc, &mut map, "status", loan.stage.status() as u64)?;
-    put_whole(alloc, &mut map, "refunded", 0)?;
-    put_whole(alloc, &mut map, "product", loan.product as u64)?;
-    Ok(map)
+    let value = json!(in alloc; text)?;
+    value.to_string(alloc)
 }
 
-/// A loan's members from `outstanding` on.
-fn loan_rest(alloc: Global, loan: &Loan) -> Result<Map<String, Value>, AllocError>
-    ensures { IfOk result (λ map. members_view map.entries ≡ loan_rest_of loan.now) }
+/// Sums by portion, of a loan that has none yet.
+const NO_SUMS: &str = r#"{"fees":0,"interest":0,"penalties":0,"principal":0}"#;
+
+/// A loan's members from `product` on, and the closing bracket.
+fn loan_end(alloc: Global, loan: &Loan, status: u16) -> Result<String, AllocError>
+    ensures { IfOk result (λ s. string_bytes s ≡ members_text true (loan_end_of loan.now status)) }
 {
-    let outstanding = no_sums(alloc)?;
-    let paid = no_sums(alloc)?;
-    let mut map = loan_end(alloc, loan)?;
-    put_whole(alloc, &mut map, "principal", loan.principal)?;
-    put_whole(alloc, &mut map, "periods", loan.periods as u64)?;
-    put_value(alloc, &mut map, "paid", paid)?;
-    put_whole(alloc, &mut map, "overpaid", 0)?;
-    put_value(alloc, &mut map, "outstanding", outstanding)?;
-    Ok(map)
+    let product = loan.product;
+    format!(in alloc;
+        r#","product":{product},"refunded":0,"status":{status},"waived":{NO_SUMS},"written_off":{NO_SUMS}}}"#
+    )
 }
 
-/// A loan whose account and whose client's have these texts.
-fn loan_value(alloc: Global, client: &str, account: &str, loan: &Loan) -> Result<Value, AllocError>
-    ensures { IfOk result (λ v. view v ≡ loan_by_texts client.now account.now loan.now) }
+/// A loan's members from `outstanding` on, and the closing bracket, by the text of the last of them.
+fn loan_rest(alloc: Global, loan: &Loan, status: u16) -> Result<String, AllocError>
+    ensures { IfOk result (λ s. string_bytes s ≡ members_text true (loan_rest_of loan.now status)) }
 {
-    let mut map = loan_rest(alloc, loan)?;
-    put_text(alloc, &mut map, "loan", account)?;
-    put_whole(alloc, &mut map, "disbursement_fee", 0)?;
-    put_value(alloc, &mut map, "day", Value::Null)?;
-    put_text(alloc, &mut map, "client", client)?;
-    Ok(Value::Object(map))
+    let Loan {
+        principal, periods, ..
+    } = loan;
+    let end = loan_end(alloc, loan, status)?;
+    format!(in alloc;
+        r#","outstanding":{NO_SUMS},"overpaid":0,"paid":{NO_SUMS},"periods":{periods},"principal":{principal}{end}"#
+    )
+}
+
+/// The body of a loan whose account and whose client's are written so in JSON. It is written at once: a value of JSON would
+/// take a map for each of its five objects.
+fn loan_body(
+    alloc: Global,
+    client: &str,
+    account: &str,
+    loan: &Loan,
+    status: u16,
+) -> Result<String, AllocError>
+    ensures { IfOk result (λ s. (c a : List ℕ) → client.now ≡ quoted c → account.now ≡ quoted a → string_bytes s ≡ compact_text (loan_by_texts c a loan.now status)) }
+{
+    let rest = loan_rest(alloc, loan, status)?;
+    format!(in alloc; r#"{{"client":{client},"day":null,"disbursement_fee":0,"loan":{account}{rest}"#)
 }
 
 /// A loan before it is disbursed: all its sums are 0.
-fn loan_shown(alloc: Global, account: Account, loan: &Loan) -> Result<Value, Fault>
-    ensures ok { IfOk result (λ v. view v ≡ loan_data account loan.now) }
+fn shown_text(alloc: Global, account: Account, loan: &Loan) -> Result<String, Fault>
+    ensures ok { IfOk result (λ s. string_bytes s ≡ compact_text (loan_data account loan.now)) }
     ensures err { IfErr result (λ f. f ≡ Fault.F20) }
 {
     let Account { office, number } = account;
@@ -91,19 +103,22 @@ fn loan_shown(alloc: Global, account: Account, loan: &Loan) -> Result<Value, Fau
         number: loan.client,
     };
     let client = client.text(alloc)?;
+    let client = quoted_text(alloc, client.as_str())?;
     let account = Account { office, number }.text(alloc)?;
-    let value = loan_value(alloc, client.as_str(), account.as_str(), loan)?;
-    Ok(value)
+    let account = quoted_text(alloc, account.as_str())?;
+    let status = loan.stage.status();
+    let body = loan_body(alloc, client.as_str(), account.as_str(), loan, status)?;
+    Ok(body)
 }
 
-/// What is told of a loan.
-pub fn loan_told(alloc: Global, loan: Account, told: &LoanReply) -> Result<Value, Fault>
-    ensures ok { IfOk result (λ v. view v ≡ told_data loan told.now) }
+/// The text of what is told of a loan.
+pub fn loan_text(alloc: Global, loan: Account, told: &LoanReply) -> Result<String, Fault>
+    ensures ok { IfOk result (λ s. string_bytes s ≡ compact_text (told_data loan told.now)) }
     ensures err { IfErr result (λ f. f ≡ Fault.F20) }
 {
     match told {
-        LoanReply::Shown(shown) => loan_shown(alloc, loan, shown),
-        LoanReply::Status(status) => status_value(alloc, loan, *status),
+        LoanReply::Shown(shown) => shown_text(alloc, loan, shown),
+        LoanReply::Status(status) => status_text(alloc, loan, *status),
     }
 }
 
