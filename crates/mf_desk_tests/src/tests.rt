@@ -335,7 +335,12 @@ fn a_client_is_entered_and_read(rt: HostRuntime) -> Result<(), Fail> {
     assert!(rt; is_fault(&missing, Fault::F4));
     let no_office = add_client(alloc, &mut books, "1/1", 2, "B");
     assert!(rt; is_fault(&no_office, Fault::F4));
-    let malformed = send(alloc, &mut books, "1/1", Request::Unreadable(Flaw::NoMethod));
+    let malformed = send(
+        alloc,
+        &mut books,
+        "1/1",
+        Request::Unreadable(Flaw::NoMethod),
+    );
     assert!(rt; is_fault(&malformed, Fault::F6));
     let unknown = client(alloc, &mut books, "2/1", 1, 1);
     assert!(rt; is_fault(&unknown, Fault::F2));

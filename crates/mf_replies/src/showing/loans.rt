@@ -69,7 +69,9 @@ fn loan_rest(alloc: Global, loan: &Loan, status: u16) -> Result<String, AllocErr
     ensures { IfOk result (λ s. string_bytes s ≡ members_text true (loan_rest_of loan.now status)) }
 {
     let Loan {
-        principal, periods, ..
+        principal,
+        periods,
+        ..
     } = loan;
     let end = loan_end(alloc, loan, status)?;
     format!(in alloc;
@@ -89,7 +91,9 @@ fn loan_body(
     ensures { IfOk result (λ s. (c a : List ℕ) → client.now ≡ quoted c → account.now ≡ quoted a → string_bytes s ≡ compact_text (loan_by_texts c a loan.now status)) }
 {
     let rest = loan_rest(alloc, loan, status)?;
-    format!(in alloc; r#"{{"client":{client},"day":null,"disbursement_fee":0,"loan":{account}{rest}"#)
+    format!(in alloc;
+        r#"{{"client":{client},"day":null,"disbursement_fee":0,"loan":{account}{rest}"#
+    )
 }
 
 /// A loan before it is disbursed: all its sums are 0.

@@ -20,14 +20,12 @@ const THIRTEEN_MONTHS: &str =
 \"max_principal\":1000000000000,\"min_periods\":1,\"max_periods\":360,\"strategy\":\"mifos-standard-strategy\"}";
 
 /// A product that goes by what is due first, with longer loans than there may be.
-const LONGER_LOANS: &str =
-    "{\"name\":\"Home\",\"method\":\"flat\",\"rate\":100000,\
+const LONGER_LOANS: &str = "{\"name\":\"Home\",\"method\":\"flat\",\"rate\":100000,\
 \"frequency\":\"months\",\"every\":12,\"principal_grace\":359,\"interest_grace\":0,\"min_principal\":1,\
 \"max_principal\":1000000000000,\"min_periods\":360,\"max_periods\":361,\"strategy\":\"due-first-by-portion\"}";
 
 /// The same with the longest.
-const LONGEST_LOANS: &str =
-    "{\"name\":\"Home\",\"method\":\"flat\",\"rate\":100000,\
+const LONGEST_LOANS: &str = "{\"name\":\"Home\",\"method\":\"flat\",\"rate\":100000,\
 \"frequency\":\"months\",\"every\":12,\"principal_grace\":359,\"interest_grace\":0,\"min_principal\":1,\
 \"max_principal\":1000000000000,\"min_periods\":360,\"max_periods\":360,\"strategy\":\"due-first-by-portion\"}";
 
