@@ -32,7 +32,7 @@ use Rattle.mf_account.specs.Account.{Orders, after_all, first_state, row_of, sum
 use Rattle.mf_account.specs.Standing.{standing}
 use Rattle.mf_account.specs.Applicable.{IsSettleable}
 use Rattle.mf_account.specs.Undo.{paid_by, paid_in}
-use Rattle.mf_account.specs.Loan.{Loan, HasColumns, IsEntry, IsSound, schedule_of, orders_of, places_of, state_of_loan}
+use Rattle.mf_account.specs.Loan.{Loan, HasColumns, IsEntry, IsSound, schedule_of, orders_of, cell_places_of, state_of_loan}
 use Rattle.mf_account.specs.Balance.{balances_of, repaid, HasRoom}
 use Rattle.mf_account.proofs.EffectLemmas.{with_settled-paid}
 use Rattle.mf_account.proofs.OnceLemmas.{rows-after, money-after, refunded-after, length-acted}
@@ -144,7 +144,7 @@ paid-first (i ∷ schedule) = let rest = paid-first schedule in let all = sum_by
 -- what is repaid is paid, overpaid or refunded
 pub held-sound : (loan : Loan) → IsSound loan → money_held (state_of_loan loan) ≡ brought (standing loan.entries)
 held-sound loan sound =
-    let all = held-all loan.periods (2 ^ 54) (orders_of loan) (places_of loan) (standing loan.entries) (first_state (schedule_of loan))
+    let all = held-all loan.periods (2 ^ 54) (orders_of loan) (cell_places_of loan) (standing loan.entries) (first_state (schedule_of loan))
     (lawful-of loan) (each-standing loan sound) (first-good loan sound) in
     let none = paid-first (schedule_of loan) in
     omega (arith, all, none)

@@ -49,7 +49,7 @@ open_at-settle_row Waived row p q amount apart =
 open_at-settle_row WrittenOff row p q amount apart =
     ap (λ x. get_or row.owed q 0 - get_or row.paid q 0 - get_or row.waived q 0 - x) (get_or-set_other row.written_off p q (get_or row.written_off p 0 + amount) 0 apart)
 
-outstanding-settle : (rows : List Sums) (part : Part) (cell : Cell) → IsCell (length rows) part.cell → IsCell (length rows) cell → cell ≢ part.cell → outstanding (settle rows part) cell ≡ outstanding rows cell
+pub outstanding-settle : (rows : List Sums) (part : Part) (cell : Cell) → IsCell (length rows) part.cell → IsCell (length rows) cell → cell ≢ part.cell → outstanding (settle rows part) cell ≡ outstanding rows cell
 outstanding-settle rows part cell there here apart =
     outstanding-changed rows part.cell cell (settle_row part.how (place_in_row part.cell.portion) part.amount) there here apart
     (λ row q other. open_at-settle_row part.how row (place_in_row part.cell.portion) q part.amount other)

@@ -17,3 +17,4 @@ pub mod RemovedLemmas
 pub mod ApplyLemmas
 pub mod RedoneLemmas
 pub mod DueLemmas
+pub mod ClearingLemmas

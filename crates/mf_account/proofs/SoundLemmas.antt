@@ -25,7 +25,7 @@ use Rattle.mf_account.specs.Kinds.{is_seal}
 use Rattle.mf_account.specs.Account.{first_state, row_of}
 use Rattle.mf_account.specs.Standing.{is_before, placed, with_entry, standing, no_entry, entry_at, with_mark}
 use Rattle.mf_account.specs.Applicable.{AreApplicable}
-use Rattle.mf_account.specs.Loan.{Loan, HasColumns, IsEntry, SealIsLast, AreEntries, IsSound, schedule_of, orders_of, places_of, state_of_loan, status_of_loan}
+use Rattle.mf_account.specs.Loan.{Loan, HasColumns, IsEntry, SealIsLast, AreEntries, IsSound, schedule_of, orders_of, cell_places_of, state_of_loan, status_of_loan}
 use Rattle.mf_account.specs.Refusals.{is_standing_seal, is_sealed, admits, is_out_of_order, is_there, is_forbidden, is_out_of_limits, refusal_of, HasForm, IsOffered}
 use Rattle.mf_alloc.specs.Sums.{IsRowWithin, AreWithin}
 use Rattle.mf_account.specs.Applicable.{HasInstalment}
@@ -93,7 +93,7 @@ due_at-le loan e =
     let periods = length-schedule loan in
     omega (arith, most, size, periods)
 
-pub lawful-of : (loan : Loan) (e : Entry) → IsOrder loan.periods (orders_of loan e) (places_of loan e)
+pub lawful-of : (loan : Loan) (e : Entry) → IsOrder loan.periods (orders_of loan e) (cell_places_of loan e)
 lawful-of loan e = lawful loan.terms.strategy loan.periods (due_at loan e) (due_at-le loan e)
 
 -- an entry of a loan can be replayed
@@ -180,12 +180,12 @@ first-good loan sound =
 pub applicable-sound : (loan : Loan) → IsSound loan → AreApplicable (orders_of loan) (standing loan.entries) (first_state (schedule_of loan))
 applicable-sound loan sound =
     let sum = standing-amounts loan sound in
-    applicable-all loan.periods (2 ^ 54) (orders_of loan) (places_of loan) (standing loan.entries) (first_state (schedule_of loan))
+    applicable-all loan.periods (2 ^ 54) (orders_of loan) (cell_places_of loan) (standing loan.entries) (first_state (schedule_of loan))
     (lawful-of loan) (each-standing loan sound) (first-good loan sound) (omega (arith, sum))
 
 pub good-sound : (loan : Loan) → IsSound loan → IsGood loan.periods (2 ^ 54 + amounts (standing loan.entries)) (state_of_loan loan)
 good-sound loan sound =
-    good-all loan.periods (2 ^ 54) (orders_of loan) (places_of loan) (standing loan.entries) (first_state (schedule_of loan))
+    good-all loan.periods (2 ^ 54) (orders_of loan) (cell_places_of loan) (standing loan.entries) (first_state (schedule_of loan))
     (lawful-of loan) (each-standing loan sound) (first-good loan sound)
 
 -- what no refusal says

@@ -13,7 +13,7 @@ use Rattle.mf_account.specs.Account.{Orders, after_all, settled_by, numbered, fi
 use Rattle.mf_account.specs.Applicable.{HasInstalment, AreApplicable}
 use Rattle.mf_account.specs.Standing.{is_before, standing, no_entry, entry_at}
 use Rattle.mf_account.specs.StandingLaw.{IsAmong, Precedes, Ascends, IsStandingOf}
-use Rattle.mf_account.specs.Loan.{Loan, AreEntries, IsSound, schedule_of, orders_of, places_of, state_of_loan, settled_of_loan}
+use Rattle.mf_account.specs.Loan.{Loan, AreEntries, IsSound, schedule_of, orders_of, cell_places_of, state_of_loan, settled_of_loan}
 use Rattle.mf_account.specs.Rewind.{IsRewindable, state_before, tail_of, settled_from, settled_upto, TailsCanBeRewound, IsBack}
 use Rattle.mf_account.proofs.GoodLemmas.{IsGood, IsReplayable, amounts, good-all}
 use Rattle.mf_account.proofs.SoundLemmas.{lawful-of, each-standing, first-good, standing-amounts}
@@ -97,11 +97,11 @@ settled_by-append orders (x ∷ xs) ys from =
 
 pub good-before : (loan : Loan) (k : ℕ) → IsSound loan → IsGood loan.periods (2 ^ 54 + amounts (take k (standing loan.entries))) (state_before loan k)
 good-before loan k sound =
-    good-all loan.periods (2 ^ 54) (orders_of loan) (places_of loan) (take k (standing loan.entries)) (first_state (schedule_of loan))
+    good-all loan.periods (2 ^ 54) (orders_of loan) (cell_places_of loan) (take k (standing loan.entries)) (first_state (schedule_of loan))
     (lawful-of loan) (All-take (IsReplayable loan.periods) k (standing loan.entries) (each-standing loan sound)) (first-good loan sound)
 
 -- from a place before which nothing is refunded
-pub rewindable-from : (loan : Loan) (k : ℕ) → IsSound loan → (state_before loan k).refunded ≡ 0 → IsRewindable (orders_of loan) (places_of loan) (state_before loan k) (tail_of loan k) (settled_from loan k) (state_of_loan loan)
+pub rewindable-from : (loan : Loan) (k : ℕ) → IsSound loan → (state_before loan k).refunded ≡ 0 → IsRewindable (orders_of loan) (cell_places_of loan) (state_before loan k) (tail_of loan k) (settled_from loan k) (state_of_loan loan)
 rewindable-from loan k sound none =
     let all : List Entry = standing loan.entries in
     let from : State = state_before loan k in
@@ -125,7 +125,7 @@ rewindable-from loan k sound none =
           (each-standing loan sound (k + j) no_entry (omega (arith, size, within))).there);
       whole = good.whole;
       within = good.within;
-      lawful = λ e. subst (λ (n : ℕ). IsOrder n (orders_of loan e) (places_of loan e)) (sym good.size) (lawful-of loan e);
+      lawful = λ e. subst (λ (n : ℕ). IsOrder n (orders_of loan e) (cell_places_of loan e)) (sym good.size) (lawful-of loan e);
       room = omega (arith, good.money, parted, most);
     }
 
@@ -146,12 +146,12 @@ pub tails-rewound : TailsCanBeRewound
 tails-rewound loan k sound within = (rewindable-from loan k sound (none-before loan k sound within), settled-parts loan k)
 
 -- all of them, as the account keeps them
-pub rewindable-whole : (loan : Loan) (tail : List Entry) (settled : List Settled) (now : State) → IsSound loan → tail ≡ standing loan.entries → settled ≡ settled_of_loan loan → now ≡ state_of_loan loan → IsRewindable (orders_of loan) (places_of loan) (first_state (schedule_of loan)) tail settled now
+pub rewindable-whole : (loan : Loan) (tail : List Entry) (settled : List Settled) (now : State) → IsSound loan → tail ≡ standing loan.entries → settled ≡ settled_of_loan loan → now ≡ state_of_loan loan → IsRewindable (orders_of loan) (cell_places_of loan) (first_state (schedule_of loan)) tail settled now
 rewindable-whole loan tail settled now sound tail_is settled_is now_is =
-    let whole : IsRewindable (orders_of loan) (places_of loan) (first_state (schedule_of loan)) (standing loan.entries) (settled_of_loan loan) (state_of_loan loan) = rewindable-from loan 0 sound refl in
-    subst (λ (x : List Entry). IsRewindable (orders_of loan) (places_of loan) (first_state (schedule_of loan)) x settled now) (sym tail_is)
-    (subst (λ (x : List Settled). IsRewindable (orders_of loan) (places_of loan) (first_state (schedule_of loan)) (standing loan.entries) x now) (sym settled_is)
-    (subst (λ (x : State). IsRewindable (orders_of loan) (places_of loan) (first_state (schedule_of loan)) (standing loan.entries) (settled_of_loan loan) x) (sym now_is) whole))
+    let whole : IsRewindable (orders_of loan) (cell_places_of loan) (first_state (schedule_of loan)) (standing loan.entries) (settled_of_loan loan) (state_of_loan loan) = rewindable-from loan 0 sound refl in
+    subst (λ (x : List Entry). IsRewindable (orders_of loan) (cell_places_of loan) (first_state (schedule_of loan)) x settled now) (sym tail_is)
+    (subst (λ (x : List Settled). IsRewindable (orders_of loan) (cell_places_of loan) (first_state (schedule_of loan)) (standing loan.entries) x now) (sym settled_is)
+    (subst (λ (x : State). IsRewindable (orders_of loan) (cell_places_of loan) (first_state (schedule_of loan)) (standing loan.entries) (settled_of_loan loan) x) (sym now_is) whole))
 
 pub back-whole : (loan : Loan) (tail : List Entry) (settled : List Settled) (place k : ℕ) (now : State) → IsBack (orders_of loan) (first_state (schedule_of loan)) tail settled place k now → tail ≡ standing loan.entries → settled ≡ settled_of_loan loan → (now ≡ state_before loan place) × (take k (settled_of_loan loan) ≡ settled_upto loan place)
 back-whole loan tail settled place k now back tail_is settled_is = (

@@ -11,3 +11,4 @@ pub mod StandingLaw
 pub mod Balance
 pub mod Undo
 pub mod Rewind
+pub mod ClearingLaw

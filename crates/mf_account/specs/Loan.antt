@@ -66,8 +66,8 @@ abbrev pub orders_of : Loan → Orders
 orders_of loan = orders_by (cells_of loan) (first_state (schedule_of loan)).rows
 
 -- the places of the cells at an entry
-abbrev pub places_of : Loan → Entry → Cell → ℕ
-places_of loan entry = place_by loan.terms.strategy (due_by entry.day (first_state (schedule_of loan)).rows)
+abbrev pub cell_places_of : Loan → Entry → Cell → ℕ
+cell_places_of loan entry = place_by loan.terms.strategy (due_by entry.day (first_state (schedule_of loan)).rows)
 
 abbrev pub state_of_loan : Loan → State
 state_of_loan loan = state_of (orders_of loan) (schedule_of loan) loan.entries

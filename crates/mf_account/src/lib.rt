@@ -19,6 +19,6 @@ pub use account::LoanAccount;
 pub use balances::Balances;
 pub use change::Change;
 pub use entry::{Entry, Kind};
-pub use laws::{standing_entries_are_one_list, tails_can_be_rewound};
+pub use laws::{clearing_goes_by_cells, standing_entries_are_one_list, tails_can_be_rewound};
 pub use receipt::Receipt;
 pub use settled::{Book, How, Settled};

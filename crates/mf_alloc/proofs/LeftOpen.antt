@@ -1,8 +1,8 @@
 -- What a payment leaves outstanding, cell by cell, and what a second payment then finds.
-use Rattle.std.proofs.Common.{◌≡◌, ◌≢◌, ℕ, zero, suc, ◌+◌, ◌-◌, ◌*◌, ◌<◌, ◌≤◌, Bool, true, false, cond, min, List, [], ◌∷◌, ◌++◌, length, map, get_or, set, inl, inr, arith, refl, ◌∙◌, ap, subst, sym, add-one}
-use Rattle.std.specs.Prelude.{filter, All}
+use Rattle.std.proofs.Common.{◌≡◌, ◌≢◌, ℕ, zero, suc, ◌+◌, ◌-◌, ◌*◌, ◌<◌, ◌≤◌, min, List, [], ◌∷◌, length, map, get_or, set, inl, inr, arith, refl, ◌∙◌, ap, subst, sym, add-one}
+use Rattle.std.specs.Prelude.{All}
 use Rattle.std.specs.List.{range_with_len}
-use Rattle.std.proofs.lemmas.Bool.{cases_lt, cases_eq}
+use Rattle.std.proofs.lemmas.Bool.{cases_eq}
 use Rattle.std.proofs.lemmas.List.{get_or-set_same, length-set}
 use Rattle.std.proofs.lemmas.List.Elements.{All-set, All-nil, All-cons}
 use Rattle.mf_alloc.specs.declared.row.Cell.{Cell}
@@ -11,7 +11,7 @@ use Rattle.mf_alloc.specs.declared.row.Portion.TheVariants.{Penalty, Fee, Intere
 use Rattle.mf_alloc.specs.declared.row.Share.{Share}
 use Rattle.mf_alloc.specs.Sums.{Sums, open_at, IsWhole, AreWhole}
 use Rattle.mf_alloc.specs.Rows.{outstanding, no_row, row_at, pay_row, pay_into, with_paid, place_in_row, IsCell, IsPayable}
-use Rattle.mf_alloc.specs.Payment.{start, share_at, is_some_share, shares_of, rest_of}
+use Rattle.mf_alloc.specs.Payment.{start, share_at, shares_of, rest_of}
 use Rattle.mf_alloc.specs.OrderLaws.{IsOrder}
 use Rattle.mf_alloc.proofs.PaymentLemmas.{outstanding-pay_into, start-more}
 use Rattle.mf_alloc.proofs.TwoPayments.{share_in, shares_by, with_paid-some, with_paid-twice}
@@ -66,10 +66,10 @@ pub record IsLine (n : ℕ) (order : ℕ → Cell) (place : Cell → ℕ) (rows 
   pub is : IsOrder n order place
   pub whole : AreWhole rows
 
-cell-at : (n : ℕ) (order : ℕ → Cell) (place : Cell → ℕ) (rows : List Sums) (k : ℕ) → IsLine n order place rows → k < 4 * n → IsCell (length rows) (order k)
+pub cell-at : (n : ℕ) (order : ℕ → Cell) (place : Cell → ℕ) (rows : List Sums) (k : ℕ) → IsLine n order place rows → k < 4 * n → IsCell (length rows) (order k)
 cell-at n order place rows k line within = subst (λ (x : ℕ). IsCell x (order k)) (sym line.size) (line.is.is_cell k within)
 
-line-pay_into : (n : ℕ) (order : ℕ → Cell) (place : Cell → ℕ) (rows : List Sums) (k amount : ℕ) → IsLine n order place rows → k < 4 * n → IsLine n order place (pay_into rows (share_in (order k) amount))
+pub line-pay_into : (n : ℕ) (order : ℕ → Cell) (place : Cell → ℕ) (rows : List Sums) (k amount : ℕ) → IsLine n order place rows → k < 4 * n → IsLine n order place (pay_into rows (share_in (order k) amount))
 line-pay_into n order place rows k amount line within = record {
   size = length-pay_into rows (share_in (order k) amount) ∙ line.size;
   is = line.is;
@@ -77,7 +77,7 @@ line-pay_into n order place rows k amount line within = record {
 }
 
 -- places apart are cells apart
-cells-apart : (n : ℕ) (order : ℕ → Cell) (place : Cell → ℕ) (j k : ℕ) → IsOrder n order place → j < 4 * n → k < 4 * n → j ≢ k → order k ≢ order j
+pub cells-apart : (n : ℕ) (order : ℕ → Cell) (place : Cell → ℕ) (j k : ℕ) → IsOrder n order place → j < 4 * n → k < 4 * n → j ≢ k → order k ≢ order j
 cells-apart n order place j k is below_j below_k apart e =
     let at_j : place (order j) ≡ j = is.back j below_j in
     let at_k : place (order k) ≡ k = is.back k below_k in

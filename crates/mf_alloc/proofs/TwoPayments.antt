@@ -1,14 +1,13 @@
 -- Two payments after each other pay what their sum pays at once.
-use Rattle.std.proofs.Common.{◌≡◌, ◌≢◌, ℕ, zero, suc, ◌+◌, ◌-◌, ◌*◌, ◌<◌, ◌≤◌, Bool, true, false, cond, min, List, [], ◌∷◌, ◌++◌, length, map, get_or, set, inl, inr, arith, refl, ◌∙◌, ap, subst, sym, ltb, add-one, add-zero}
-use Rattle.std.specs.Prelude.{filter, All}
-use Rattle.std.specs.List.{range_with_len}
+use Rattle.std.proofs.Common.{◌≡◌, ◌≢◌, ℕ, ◌+◌, ◌-◌, List, [], ◌∷◌, length, map, get_or, set, inl, inr, arith, refl, ◌∙◌, ap, subst, sym}
+use Rattle.std.specs.Prelude.{filter}
 use Rattle.std.proofs.lemmas.Bool.{cases_lt, cases_eq, cond_both, ltb-false}
-use Rattle.std.proofs.lemmas.List.{get_or-set_same, get_or-set_other, set-set, set-get_or, set_past, set_comm, length-set}
+use Rattle.std.proofs.lemmas.List.{get_or-set_same, get_or-set_other, set-set, set-get_or, set_past, set_comm}
 use Rattle.mf_alloc.specs.declared.row.Cell.{Cell}
 use Rattle.mf_alloc.specs.declared.row.Share.{Share}
-use Rattle.mf_alloc.specs.Sums.{Sums, open_at}
-use Rattle.mf_alloc.specs.Rows.{outstanding, no_row, row_at, pay_row, pay_into, with_paid, place_in_row, IsCell}
-use Rattle.mf_alloc.specs.Payment.{start, share_at, is_some_share, shares_of, rest_of}
+use Rattle.mf_alloc.specs.Sums.{Sums}
+use Rattle.mf_alloc.specs.Rows.{no_row, pay_row, pay_into, with_paid, place_in_row}
+use Rattle.mf_alloc.specs.Payment.{is_some_share}
 
 -- one element changed
 abbrev pub edit : {X : Type 0} → X → List X → ℕ → (X → X) → List X

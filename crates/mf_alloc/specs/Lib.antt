@@ -3,3 +3,4 @@ pub mod Rows
 pub mod Payment
 pub mod Order
 pub mod OrderLaws
+pub mod PaymentLaw
