@@ -12,11 +12,11 @@ use Rattle.sqlite.specs.State.{State, Executes}
 use Rattle.sqlite.proofs.Callers.{IsPlain, command_of}
 use Rattle.sqlite_catalog.specs.Listing.{IsSound}
 use Rattle.sqlite_value.specs.Keys.{first_key}
-use Rattle.mf_tables.specs.Keep.{Keeps, put_item}
-use Rattle.mf_tables.specs.Tables.{index_on}
-use Rattle.mf_tables.proofs.CompareLemmas.{equals_back, and_true, key_step, each_kept, null_kept, text_kept}
-use Rattle.mf_tables.proofs.KeptLemmas.{Spares}
-use Rattle.mf_tables.proofs.InsertLemmas.{inserts_kept}
+use Rattle.mf_store_tables.specs.Keep.{Keeps, put_item}
+use Rattle.mf_store_tables.specs.Tables.{index_on}
+use Rattle.mf_store_tables.proofs.CompareLemmas.{equals_back, and_true, key_step, each_kept, null_kept, text_kept}
+use Rattle.mf_store_tables.proofs.KeptLemmas.{Spares}
+use Rattle.mf_store_tables.proofs.InsertLemmas.{inserts_kept}
 use Rattle.mf_store.specs.Tables.{schema, offices, staff, clients, charges, products, loans}
 use Rattle.mf_store.specs.Rows.{OfficeRow, by_office, office_row, StaffRow, by_staff, staff_row, ClientRow, by_client, client_row, ChargeRow, by_charge, charge_row, ProductRow, by_product, product_row, LoanRow, by_loan, loan_row}
 use Rattle.mf_store.proofs.TableLemmas.{by_office_total, by_staff_total, by_client_total, by_charge_total, by_product_total, by_loan_total}

@@ -15,7 +15,7 @@ use Rattle.mf_catalog.specs.declared.terms.Method.{Method}
 use Rattle.mf_catalog.specs.declared.terms.Method.TheVariants as method
 use Rattle.mf_catalog.specs.declared.terms.StrategyName.{StrategyName}
 use Rattle.mf_catalog.specs.declared.terms.StrategyName.TheVariants.{MifosStandard, PrincipalFirst, InterestFirst, DueFirst}
-use Rattle.mf_tables.specs.Keep.{put_item}
+use Rattle.mf_store_tables.specs.Keep.{put_item}
 use Rattle.mf_model.specs.Institution.{Institution, Charge, Offer, numbered, with_numbered, charge_def, product_of as product_numbered}
 use Rattle.mf_model.specs.Sound.{IsSound}
 use Rattle.mf_model.specs.Store.{committed}

@@ -10,7 +10,7 @@ use Rattle.mf_office.specs.declared.staff.Role.{Role}
 use Rattle.mf_office.specs.Keys.{key_of, key_within, grown, child_key}
 use Rattle.mf_office.specs.Tree.{IsTreeOf}
 use Rattle.mf_office.proofs.KeyLemmas.{key_of-child}
-use Rattle.mf_tables.specs.Keep.{put_item}
+use Rattle.mf_store_tables.specs.Keep.{put_item}
 use Rattle.mf_model.specs.declared.commit.Commit.{Commit}
 use Rattle.mf_model.specs.declared.commit.Commit.TheVariants.{AddOffice, AddStaff, AddClient}
 use Rattle.mf_model.specs.Institution.{Institution, Office, Rows, office_at, with_rows, with_office, new_office}

@@ -7,7 +7,7 @@ use Rattle.sqlite_trees.specs.declared.store.Store.{Ghosts}
 use Rattle.sqlite_catalog.specs.Listing.{IsSound as IsSoundListing}
 use Rattle.mf_base.specs.DayText.{day_text}
 use Rattle.mf_office.specs.Keys.{key_of, key_within}
-use Rattle.mf_tables.specs.Writes.{Serves, AllFit, after_all, Turns}
+use Rattle.mf_store_tables.specs.Writes.{Serves, AllFit, after_all, Turns}
 use Rattle.mf_model.specs.Institution.{newly_made}
 use Rattle.mf_model.specs.Sound.{IsSound}
 use Rattle.mf_store.specs.Writes.{schema_of, Holds, after, Fits}

@@ -6,7 +6,7 @@ use Rattle.std.specs.Ordering.{ordering_then}
 use Rattle.std.proofs.lemmas.Bool.Decides.{nat_tests}
 use Rattle.std.proofs.lemmas.List.Folds.{find-append}
 use Rattle.sqlite_keyed.specs.Lists.{insert_sorted}
-use Rattle.mf_tables.specs.Keep.{put_item, drop_item}
+use Rattle.mf_store_tables.specs.Keep.{put_item, drop_item}
 use Rattle.mf_model.specs.Institution.{Office, Rows, office_at, with_rows, with_office, no_rows, numbered, with_numbered}
 use Rattle.mf_model.specs.Tree.{Above, Ascending, is_there}
 use Rattle.mf_model.specs.Store.{rows_of}

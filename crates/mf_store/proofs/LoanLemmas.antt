@@ -9,7 +9,7 @@ use Rattle.sqlite.specs.Order.{Row}
 use Rattle.sqlite_keyed.proofs.ListLemmas.{filter-filter}
 use Rattle.mf_base.specs.DayText.{day_text}
 use Rattle.mf_office.specs.declared.account.Account.{Account}
-use Rattle.mf_tables.specs.Keep.{put_item}
+use Rattle.mf_store_tables.specs.Keep.{put_item}
 use Rattle.mf_model.specs.declared.commit.Commit.TheVariants.{AddLoan, SetStage}
 use Rattle.mf_model.specs.declared.loan.Loan.{Loan}
 use Rattle.mf_model.specs.declared.loan.LoanLine.{LoanLine}

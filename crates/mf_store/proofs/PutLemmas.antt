@@ -3,13 +3,13 @@ use Rattle.std.proofs.Common.{◌≡◌, ℕ, List, None, Some, Ok, Option, IsSo
 use Rattle.sqlite.specs.Effect.{Database}
 use Rattle.sqlite.specs.State.{State, Executes}
 use Rattle.sqlite_catalog.specs.Listing.{IsSound}
-use Rattle.mf_tables.specs.Keep.{Keeps, put_item}
-use Rattle.mf_tables.specs.Making.{IsEmpty}
-use Rattle.mf_tables.specs.Tables.{no_schema}
-use Rattle.mf_tables.specs.Writes.{Ran, Serves}
-use Rattle.mf_tables.proofs.KeepLemmas.{keeps_none}
-use Rattle.mf_tables.proofs.KeptLemmas.{Spares}
-use Rattle.mf_tables.proofs.MakeLemmas.{makes_one}
+use Rattle.mf_store_tables.specs.Keep.{Keeps, put_item}
+use Rattle.mf_store_tables.specs.Making.{IsEmpty}
+use Rattle.mf_store_tables.specs.Tables.{no_schema}
+use Rattle.mf_store_tables.specs.Writes.{Ran, Serves}
+use Rattle.mf_store_tables.proofs.KeepLemmas.{keeps_none}
+use Rattle.mf_store_tables.proofs.KeptLemmas.{Spares}
+use Rattle.mf_store_tables.proofs.MakeLemmas.{makes_one}
 use Rattle.mf_store.specs.Tables.{schema}
 use Rattle.mf_store.specs.Rows.{MetaRow, OfficeRow, StaffRow, ClientRow, ChargeRow, ProductRow, LoanRow, Lists, no_rows, meta_row, office_row, staff_row, client_row, charge_row, product_row, loan_row, by_meta, by_office, by_staff, by_client, by_charge, by_product, by_loan, put_meta, put_office, put_staff, put_client, put_charge, put_product, put_loan}
 use Rattle.mf_store.specs.Writes.{changed, schema_of, Holds, Making, Putting}

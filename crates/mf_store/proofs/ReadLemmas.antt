@@ -10,11 +10,11 @@ use Rattle.sqlite.specs.Collation.TheVariants.{Binary}
 use Rattle.sqlite_sql.specs.declared.ops.BinaryOp.TheVariants.{Compare}
 use Rattle.sqlite_sql.specs.declared.ops.CompareOp.TheVariants.{Gt}
 use Rattle.sqlite_value.proofs.OrderLemmas.{then-Equal}
-use Rattle.mf_tables.specs.Keep.{Keeps}
-use Rattle.mf_tables.specs.Queries.{Answers}
-use Rattle.mf_tables.specs.Scan.{eq, by, scan}
-use Rattle.mf_tables.proofs.CompareLemmas.{equals_back, and_true, key_step, int_cmp-pos, at_least_text, below_text, above_number}
-use Rattle.mf_tables.proofs.ShownLemmas.{shown_kept, shown_first_kept}
+use Rattle.mf_store_tables.specs.Keep.{Keeps}
+use Rattle.mf_store_tables.specs.Queries.{Answers}
+use Rattle.mf_store_tables.specs.Scan.{eq, by, scan}
+use Rattle.mf_store_tables.proofs.CompareLemmas.{equals_back, and_true, key_step, int_cmp-pos, at_least_text, below_text, above_number}
+use Rattle.mf_store_tables.proofs.ShownLemmas.{shown_kept, shown_first_kept}
 use Rattle.mf_store.specs.Tables.{schema}
 use Rattle.mf_store.specs.Rows.{MetaRow, by_meta, meta_row, OfficeRow, by_office, office_row, StaffRow, by_staff, staff_row, ClientRow, by_client, client_row, ChargeRow, by_charge, charge_row, ProductRow, by_product, product_row, LoanRow, by_loan, loan_row}
 use Rattle.mf_store.specs.Looks.{is_meta, is_office, is_staff, is_client, is_charge, is_product, is_loan, is_staff_of, is_client_of, is_loan_of, is_loan_above, is_in_range}

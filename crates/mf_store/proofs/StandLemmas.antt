@@ -10,7 +10,7 @@ use Rattle.sqlite.specs.declared.error.Error.{Error}
 use Rattle.sqlite_trees.specs.declared.store.Store.{Ghosts}
 use Rattle.mf_base.specs.declared.fault.Fault.{Fault}
 use Rattle.mf_base.specs.declared.fault.Fault.TheVariants.{F20}
-use Rattle.mf_tables.specs.Writes.{Serves, AllFit, after_all, Turns, IsSettled, MayHold}
+use Rattle.mf_store_tables.specs.Writes.{Serves, AllFit, after_all, Turns, IsSettled, MayHold}
 use Rattle.mf_model.specs.Institution.{Institution}
 use Rattle.mf_store.specs.Tables.{schema}
 use Rattle.mf_store.specs.Flat.{tables_of}

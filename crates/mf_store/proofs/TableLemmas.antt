@@ -7,10 +7,10 @@ use Rattle.sqlite.specs.State.{State, Executes}
 use Rattle.sqlite_catalog.specs.Listing.{IsSound}
 use Rattle.sqlite_rules.specs.Keys.{conflicts}
 use Rattle.sqlite_value.specs.Keys.{first_key}
-use Rattle.mf_tables.specs.Keep.{Keeps, put_item}
-use Rattle.mf_tables.proofs.CompareLemmas.{equals_back, and_true, or_false, both_equal, number_same, key_step, also, each_kept, null_kept, text_kept}
-use Rattle.mf_tables.proofs.KeptLemmas.{Spares}
-use Rattle.mf_tables.proofs.UpsertLemmas.{upserts_kept}
+use Rattle.mf_store_tables.specs.Keep.{Keeps, put_item}
+use Rattle.mf_store_tables.proofs.CompareLemmas.{equals_back, and_true, or_false, both_equal, number_same, key_step, also, each_kept, null_kept, text_kept}
+use Rattle.mf_store_tables.proofs.KeptLemmas.{Spares}
+use Rattle.mf_store_tables.proofs.UpsertLemmas.{upserts_kept}
 use Rattle.mf_store.specs.Tables.{schema, meta, offices, staff, clients, charges, products, loans}
 use Rattle.mf_store.specs.Rows.{MetaRow, by_meta, meta_row, OfficeRow, by_office, office_row, StaffRow, by_staff, staff_row, ClientRow, by_client, client_row, ChargeRow, by_charge, charge_row, ProductRow, by_product, product_row, LoanRow, by_loan, loan_row}
 use Rattle.mf_store.proofs.Texts.{upsert_meta, upsert_meta_is, upsert_meta_plain, upsert_office, upsert_office_is, upsert_office_plain, upsert_staff, upsert_staff_is, upsert_staff_plain, upsert_client, upsert_client_is, upsert_client_plain, upsert_charge, upsert_charge_is, upsert_charge_plain, upsert_product, upsert_product_is, upsert_product_plain, upsert_loan, upsert_loan_is, upsert_loan_plain}

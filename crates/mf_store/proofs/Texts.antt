@@ -12,9 +12,9 @@ use Rattle.sqlite_schema.specs.declared.command.Conflict.TheVariants.{Abort}
 use Rattle.sqlite_tied.specs.Compute.{everything}
 use Rattle.sqlite.specs.Listing.{understood, reads_listing}
 use Rattle.sqlite.proofs.Callers.{IsPlain, command_of}
-use Rattle.mf_tables.specs.Scan.{eq, by, scan, cut_at}
-use Rattle.mf_tables.specs.Tables.{no_schema}
-use Rattle.mf_tables.specs.Making.{Defines}
+use Rattle.mf_store_tables.specs.Scan.{eq, by, scan, cut_at}
+use Rattle.mf_store_tables.specs.Tables.{no_schema}
+use Rattle.mf_store_tables.specs.Making.{Defines}
 use Rattle.mf_store.specs.Tables.{schema, meta, offices, staff, clients, charges, products, loans}
 
 -- ---- meta

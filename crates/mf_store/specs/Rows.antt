@@ -4,8 +4,8 @@ use Rattle.std.specs.declared.cmp.Ordering.{Ordering}
 use Rattle.std.specs.Ordering.{nat_cmp, ordering_then}
 use Rattle.sqlite.specs.declared.types.Value.TheVariants.{Int, Text as Words}
 use Rattle.sqlite.specs.Order.{Row}
-use Rattle.mf_tables.specs.Values.{or_null, or_text}
-use Rattle.mf_tables.specs.Keep.{put_item}
+use Rattle.mf_store_tables.specs.Values.{or_null, or_text}
+use Rattle.mf_store_tables.specs.Keep.{put_item}
 
 -- the one row of what the file is: its schema's number and the business day
 pub record MetaRow : Type 0 where

@@ -6,8 +6,8 @@ use Rattle.sqlite.specs.Held.{Held, state}
 use Rattle.sqlite_trees.specs.declared.store.Store.{Ghosts}
 use Rattle.sqlite.specs.Order.{Row}
 use Rattle.sqlite.specs.Effect.{Database}
-use Rattle.mf_tables.specs.Queries.{Answers}
-use Rattle.mf_tables.specs.Writes.{Serves, AllFit, after_all}
+use Rattle.mf_store_tables.specs.Queries.{Answers}
+use Rattle.mf_store_tables.specs.Writes.{Serves, AllFit, after_all}
 use Rattle.mf_model.specs.Institution.{Institution, newly_made}
 use Rattle.mf_model.specs.Sound.{IsSound}
 use Rattle.mf_store.specs.Tables.{schema}

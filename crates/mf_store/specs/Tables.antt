@@ -2,7 +2,7 @@
 use Rattle.std.specs.Prelude.{[], ◌∷◌, codes}
 use Rattle.sqlite.specs.Table.{Table}
 use Rattle.sqlite.specs.Schema.{Schema}
-use Rattle.mf_tables.specs.Tables.{int, text, maybe_int, maybe_text, table_with, table_of, index_on}
+use Rattle.mf_store_tables.specs.Tables.{int, text, maybe_int, maybe_text, table_with, table_of, index_on}
 
 abbrev pub meta : Table
 meta = table_of 0 (codes "meta") (int (codes "one") ∷ int (codes "schema") ∷ text (codes "day") ∷ []) (1 ∷ [])

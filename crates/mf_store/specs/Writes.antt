@@ -3,10 +3,10 @@ use Rattle.std.specs.Prelude.{◌≡◌, Option, Some, None, IsSome, option_map,
 use Rattle.sqlite.specs.Schema.{Schema}
 use Rattle.sqlite.specs.Tree.{Trees}
 use Rattle.sqlite_catalog.specs.Listing.{IsSound}
-use Rattle.mf_tables.specs.Keep.{Keeps}
+use Rattle.mf_store_tables.specs.Keep.{Keeps}
 use Rattle.sqlite.specs.State.{State}
-use Rattle.mf_tables.specs.Tables.{no_schema}
-use Rattle.mf_tables.specs.Writes.{Serves, Steps}
+use Rattle.mf_store_tables.specs.Tables.{no_schema}
+use Rattle.mf_store_tables.specs.Writes.{Serves, Steps}
 use Rattle.mf_store.specs.Tables.{schema}
 use Rattle.mf_store.specs.Rows.{MetaRow, OfficeRow, StaffRow, ClientRow, ChargeRow, ProductRow, LoanRow, Lists, no_rows, meta_row, office_row, staff_row, client_row, charge_row, product_row, loan_row, by_meta, by_office, by_staff, by_client, by_charge, by_product, by_loan, put_meta, put_office, put_staff, put_client, put_charge, put_product, put_loan}
 use Rattle.mf_store.specs.declared.records.MetaRecord.{MetaRecord}

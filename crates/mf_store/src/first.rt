@@ -5,7 +5,7 @@ ghost use Rattle.mf_base.specs.declared.fault.Fault.TheVariants.{F20};
 ghost use Rattle.mf_base.specs.DayText.{last_entered_day};
 ghost use Rattle.sqlite.specs.Held.{state};
 ghost use Rattle.sqlite.specs.Files.{over_files};
-ghost use Rattle.mf_tables.specs.Writes.{Serves};
+ghost use Rattle.mf_store_tables.specs.Writes.{Serves};
 ghost use Rattle.mf_model.specs.Institution.{newly_made};
 ghost use Rattle.mf_store.specs.Writes.{schema_of, Holds};
 ghost use Rattle.mf_store.specs.Stands.{StandsFor, IsClean, Leaves, Begins};
@@ -14,7 +14,7 @@ use crate::records::{MetaRecord, OfficeRecord, StaffRecord};
 use crate::store::Store;
 use crate::writes::StoreWrite;
 use mf_base::{Day, Fault};
-use mf_pages::PageStore;
+use mf_store_pages::PageStore;
 use std::alloc::Global;
 
 /// The tables, the business day, the head office and its manager.
@@ -56,7 +56,7 @@ impl Store<PageStore> {
         ensures leaves { IfOk result (λ store. Leaves over_files store (newly_made day ∷ [])) }
         ensures gives_up { IfErr result (λ fault. fault ≡ F20) }
     {
-        let Ok(connection) = mf_pages::open(alloc) else {
+        let Ok(connection) = mf_store_pages::open(alloc) else {
             return Err(Fault::F20);
         };
         Store::found(alloc, connection, day)

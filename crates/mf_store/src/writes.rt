@@ -1,9 +1,9 @@
 ghost use Rattle.std.specs.Prelude.{◌≡◌, IsTrue, OnOk, None};
 ghost use Rattle.sqlite.specs.State.{HasCleanDisk, KeepsCommit, Survives};
 ghost use Rattle.sqlite.specs.Held.{state};
-ghost use Rattle.mf_tables.specs.Tables.{no_schema};
-ghost use Rattle.mf_tables.specs.Making.{IsEmpty};
-ghost use Rattle.mf_tables.specs.Writes.{Serves, Steps};
+ghost use Rattle.mf_store_tables.specs.Tables.{no_schema};
+ghost use Rattle.mf_store_tables.specs.Making.{IsEmpty};
+ghost use Rattle.mf_store_tables.specs.Writes.{Serves, Steps};
 ghost use Rattle.mf_store.specs.Tables.{schema};
 ghost use Rattle.mf_store.specs.Rows.{put_meta, put_office, put_staff, put_client, put_charge, put_product, put_loan};
 ghost use Rattle.mf_store.specs.Writes.{schema_of, Holds, Making, Putting, meta_of, office_of, staff_of, client_of, charge_of, product_of, loan_of};
@@ -11,7 +11,7 @@ ghost use Rattle.mf_store.specs.Writes.{schema_of, Holds, Making, Putting, meta_
 use crate::records::{
     ChargeRecord, ClientRecord, LoanRecord, MetaRecord, OfficeRecord, ProductRecord, StaffRecord,
 };
-use mf_tables::{Write, run};
+use mf_store_tables::{Write, run};
 use sqlite::{Alter, Error, Transaction, params};
 
 /// What a commit is made of: the tables made, or one row put by its key. An office, a member of staff, a client and a

@@ -15,8 +15,8 @@ use Rattle.mf_model.specs.Store.{left_by}
 use Rattle.mf_desk.specs.Answers.{Tells, Changes, call_of as call_by}
 use Rattle.mf_office.specs.Texts.{caller_of}
 use Rattle.mf_office.specs.declared.caller.Caller.{Caller}
-use Rattle.mf_requests.specs.RequestLine.{Parts, after_caller, parts_after, parts_of, split_space, is_token}
-use Rattle.mf_requests.specs.Requests.{request_of, asked_in, call_of_parts, call_of}
+use Rattle.mf_wire_requests.specs.RequestLine.{Parts, after_caller, parts_after, parts_of, split_space, is_token}
+use Rattle.mf_wire_requests.specs.Requests.{request_of, asked_in, call_of_parts, call_of}
 use Rattle.mf_wire.specs.Runs.{AnswersLine, Calls}
 
 refused_keeps : (o : Outcome) (f : Fault) → reply_in o ≡ Err f → change_in o ≡ None

@@ -10,11 +10,11 @@ use Rattle.mf_model.specs.Sound.{IsSound}
 use Rattle.mf_model.specs.Desk.{outcome, change_in}
 use Rattle.mf_model.specs.Run.{Line, answer, next, answers, last, told, ViewIsPlay, RepliesArePlay, OwnRepliesArePlay, from_office, from_caller}
 use Rattle.mf_model.specs.Store.{left_by, left_after}
-use Rattle.mf_lines.specs.Replies.{fault_line}
-use Rattle.mf_requests.specs.Requests.{call_of}
-use Rattle.mf_replies.specs.Shown.{shown_line}
-use Rattle.mf_lines.specs.Run.{LineStep, Run, Answered, Broken}
-use Rattle.mf_lines.specs.Told.{Whole, Stopped, Severed}
+use Rattle.mf_wire_lines.specs.Replies.{fault_line}
+use Rattle.mf_wire_requests.specs.Requests.{call_of}
+use Rattle.mf_wire_replies.specs.Shown.{shown_line}
+use Rattle.mf_wire_lines.specs.Run.{LineStep, Run, Answered, Broken}
+use Rattle.mf_wire_lines.specs.Told.{Whole, Stopped, Severed}
 use Rattle.mf_wire.specs.Runs.{texts_of, Isolated, Calls, RunsLines}
 use Rattle.mf_wire.proofs.Calling.{told_malformed, too_long}
 

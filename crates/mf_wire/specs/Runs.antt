@@ -9,8 +9,8 @@ use Rattle.mf_model.specs.Tree.{view}
 use Rattle.mf_model.specs.Desk.{outcome, change_in}
 use Rattle.mf_model.specs.Run.{Line, answer, next, answers, last, from_office, from_caller, told, touching, play, play_replies, given_up, but_given_up}
 use Rattle.mf_model.specs.Store.{left_by, left_after}
-use Rattle.mf_replies.specs.Shown.{shown_line}
-use Rattle.mf_requests.specs.Requests.{call_of}
+use Rattle.mf_wire_replies.specs.Shown.{shown_line}
+use Rattle.mf_wire_requests.specs.Requests.{call_of}
 
 -- the texts of the replies to the lines
 abbrev pub texts_of : List Line → Institution → List (List ℕ)

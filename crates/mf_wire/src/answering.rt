@@ -4,19 +4,19 @@ ghost use Rattle.std.specs.Fn.{FnOnceReturnsAt};
 ghost use Rattle.mf_model.specs.declared.reply.Reply.{Reply};
 ghost use Rattle.mf_model.specs.Desk.{reply};
 ghost use Rattle.mf_desk.specs.Answers.{Tells, Changes};
-ghost use Rattle.mf_requests.specs.RequestLine.{parts_now};
-ghost use Rattle.mf_lines.specs.Replies.{reply_line, line_of};
-ghost use Rattle.mf_replies.specs.Shown.{reply_status, reply_body, shown_line, IsText};
-ghost use Rattle.mf_requests.specs.Requests.{call_of_parts, call_of};
+ghost use Rattle.mf_wire_requests.specs.RequestLine.{parts_now};
+ghost use Rattle.mf_wire_lines.specs.Replies.{reply_line, line_of};
+ghost use Rattle.mf_wire_replies.specs.Shown.{reply_status, reply_body, shown_line, IsText};
+ghost use Rattle.mf_wire_requests.specs.Requests.{call_of_parts, call_of};
 ghost use Rattle.mf_wire.specs.Runs.{Calls};
 
 use mf_base::Fault;
 use mf_desk::answer;
-use mf_lines::LineDesk;
+use mf_wire_lines::LineDesk;
 use mf_model::{InstitutionStore, Reply};
 use mf_office::Caller;
-use mf_replies::{body_text, line_text, status};
-use mf_requests::{LineParts, Routes, is_token, line_parts, read_request};
+use mf_wire_replies::{body_text, line_text, status};
+use mf_wire_requests::{LineParts, Routes, is_token, line_parts, read_request};
 use std::alloc::Global;
 
 /// Answers a request in its parts. The caller and the method are looked at first, then the route and the rest.

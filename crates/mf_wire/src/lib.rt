@@ -7,5 +7,5 @@ mod running;
 
 pub use answering::answer_text;
 pub use laws::alike_texts;
-pub use mf_lines::{ReadFault, Sink, Source, WatchedReader, WatchedWriter, WriteFault, fault_text};
+pub use mf_wire_lines::{ReadFault, Sink, Source, WatchedReader, WatchedWriter, WriteFault, fault_text};
 pub use running::run;

@@ -1,14 +1,14 @@
 // A run of request lines over a store.
 ghost use Rattle.std.specs.Prelude.{◌≡◌, ◌≢◌, ℕ, List, true, IfOk, IfErr, OnOk};
 ghost use Rattle.mf_base.specs.declared.fault.Cause.TheVariants as cause;
-ghost use Rattle.mf_lines.specs.Told.{Whole, Stopped, Severed};
+ghost use Rattle.mf_wire_lines.specs.Told.{Whole, Stopped, Severed};
 ghost use Rattle.mf_wire.specs.Runs.{RunsLines};
 
 use crate::answering::Desk;
 use mf_base::{Cause, StreamFault};
-use mf_lines::{Sink, Source, run_lines};
+use mf_wire_lines::{Sink, Source, run_lines};
 use mf_model::{InstitutionStore, isolation};
-use mf_requests::Routes;
+use mf_wire_requests::Routes;
 use std::alloc::Global;
 
 /// Answers each request line of a stream over a store, and writes the reply of each before the next is answered. It

@@ -9,7 +9,7 @@ mod texts;
 
 use books::Books;
 use mf_base::{Cause, Fault, StreamFault};
-use mf_lines::{WatchedReader, WatchedWriter, fault_text};
+use mf_wire_lines::{WatchedReader, WatchedWriter, fault_text};
 use mf_wire::{answer_text, run};
 use std::alloc::Global;
 use std::test::Fail;

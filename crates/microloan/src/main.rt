@@ -3,12 +3,12 @@
 
 ghost use Rattle.std.specs.Prelude.{◌≤◌};
 ghost use Rattle.mf_base.specs.DayText.{last_entered_day};
-ghost use Rattle.mf_words.specs.Asked.{IsWithinLimits};
+ghost use Rattle.microloan_words.specs.Asked.{IsWithinLimits};
 
 use mf_base::Cause;
-use mf_commands::{answer_lines, schedule};
-use mf_lines::{WatchedReader, WatchedWriter};
-use mf_words::{BatchWords, Command, ScheduleWords, Words, command};
+use microloan_commands::{answer_lines, schedule};
+use mf_wire_lines::{WatchedReader, WatchedWriter};
+use microloan_words::{BatchWords, Command, ScheduleWords, Words, command};
 use std::process::ExitCode;
 use std::{env, fmt, io};
 

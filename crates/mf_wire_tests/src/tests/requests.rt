@@ -2,7 +2,7 @@
 
 use mf_base::Fault;
 use mf_model::{CatalogueRequest, Request};
-use mf_requests::{Routes, read_request};
+use mf_wire_requests::{Routes, read_request};
 use std::alloc::Global;
 use std::test::Fail;
 

@@ -4,7 +4,7 @@ use mf_base::{Day, Fault, Freq};
 use mf_catalog::{Calc, ChargeDef, ChargeKind, Method, Product, ProductMembers, StrategyName};
 use mf_model::{Loan, LoanLine, LoanList, LoanReply, Reply, Stage};
 use mf_office::{Account, AccountNo, Name, OfficeNo};
-use mf_replies::{body_text, status};
+use mf_wire_replies::{body_text, status};
 use std::alloc::Global;
 use std::test::Fail;
 

@@ -6,8 +6,8 @@ mod rows;
 mod sent;
 
 use mf_base::Day;
-use mf_commands::answer_lines;
-use mf_lines::{WatchedReader, WatchedWriter};
+use microloan_commands::answer_lines;
+use mf_wire_lines::{WatchedReader, WatchedWriter};
 use std::alloc::Global;
 use std::test::Fail;
 

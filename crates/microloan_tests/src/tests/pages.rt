@@ -1,6 +1,6 @@
 //! Tables in pages of memory.
 
-use mf_pages::{PageStore, open};
+use mf_store_pages::{PageStore, open};
 use sqlite::{Connection, Error, params};
 use std::rt::HostRuntime;
 use std::test::Fail;

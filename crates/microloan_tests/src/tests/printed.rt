@@ -2,12 +2,12 @@
 
 ghost use Rattle.std.specs.Prelude.{◌≤◌};
 ghost use Rattle.mf_base.specs.DayText.{last_entered_day};
-ghost use Rattle.mf_words.specs.Asked.{IsWithinLimits};
+ghost use Rattle.microloan_words.specs.Asked.{IsWithinLimits};
 
 use mf_base::{Day, Fault, Freq};
 use mf_catalog::Method;
-use mf_commands::schedule;
-use mf_words::{Command, ScheduleWords, command};
+use microloan_commands::schedule;
+use microloan_words::{Command, ScheduleWords, command};
 use std::alloc::{AllocError, Global};
 use std::test::Fail;
 

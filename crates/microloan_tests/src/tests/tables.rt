@@ -1,7 +1,7 @@
 //! Writes in one commit, all or none.
 
-use mf_pages::{PageStore, open};
-use mf_tables::{Write, apply, query, run};
+use mf_store_pages::{PageStore, open};
+use mf_store_tables::{Write, apply, query, run};
 use sqlite::{Alter, Connection, Error, ErrorCode, Transaction, params};
 use sqlite_schema::schema::Constraint;
 use std::alloc::Global;
@@ -17,7 +17,7 @@ const LIST: &str = "SELECT number, title FROM note WHERE shelf = ?1 ORDER BY she
 struct Text(&'static str);
 
 impl Write for Text {
-    ghost use Rattle.mf_tables.specs.Tables.{no_schema};
+    ghost use Rattle.mf_store_tables.specs.Tables.{no_schema};
 
     ghost Lists = { Unit {0} };
 

@@ -1,7 +1,7 @@
 //! The words that are read, and what is said of those that are not.
 use mf_base::{Day, Freq};
 use mf_catalog::Method;
-use mf_words::{BatchWords, Command, ScheduleWords, Words, command};
+use microloan_words::{BatchWords, Command, ScheduleWords, Words, command};
 use std::alloc::{AllocError, Global};
 use std::process::Abort;
 use std::test::Fail;

@@ -3,8 +3,8 @@ use Rattle.std.proofs.lemmas.Result.{on_ok_weaker}
 use Rattle.sqlite.specs.Held.{state}
 use Rattle.sqlite.specs.Order.{Row}
 use Rattle.sqlite.specs.Values.{bound_value}
-use Rattle.mf_tables.specs.Writes.{Ran}
-use Rattle.mf_tables.proofs.CompareLemmas.{also}
+use Rattle.mf_store_tables.specs.Writes.{Ran}
+use Rattle.mf_store_tables.proofs.CompareLemmas.{also}
 use Rattle.mf_store.specs.Rows.{charge_row}
 use Rattle.mf_store.specs.Writes.{charge_of}
 use Rattle.mf_store.proofs.PutLemmas.{putting_charge}

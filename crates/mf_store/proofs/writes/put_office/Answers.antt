@@ -2,7 +2,7 @@ use Rattle.std.proofs.lemmas.Result.{on_ok_weaker}
 use Rattle.sqlite.specs.Held.{state}
 use Rattle.mf_store.specs.Writes.{office_of}
 use Rattle.mf_store.proofs.PutLemmas.{putting_office}
-use Rattle.mf_tables.proofs.CompareLemmas.{bound_number}
+use Rattle.mf_store_tables.proofs.CompareLemmas.{bound_number}
 use Rattle.mf_store.proofs.writes.put_office.Goals as goal
 
 pub returns-clause-ok : goal.returns-clause-ok

@@ -1,8 +1,8 @@
 use Rattle.std.proofs.Common.{◌≡◌, ap, ◌∙◌, rules}
 use Rattle.std.specs.Prelude.{string_bytes}
 use Rattle.mf_base.specs.declared.fault.Fault.TheVariants.{F20}
-use Rattle.mf_lines.specs.Replies.{line_of, reply_line}
-use Rattle.mf_replies.specs.Shown.{reply_status, reply_body, shown_line}
+use Rattle.mf_wire_lines.specs.Replies.{line_of, reply_line}
+use Rattle.mf_wire_replies.specs.Shown.{reply_status, reply_body, shown_line}
 use Rattle.mf_wire.proofs.Calling.{told_of_answer}
 use Rattle.mf_wire.proofs.answering.answer_line_parts.Goals as goal
 

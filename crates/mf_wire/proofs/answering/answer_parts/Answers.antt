@@ -1,5 +1,5 @@
 use Rattle.std.proofs.Common.{◌≡◌, true, rules}
-use Rattle.mf_requests.specs.RequestLine.{parts_now, is_token}
+use Rattle.mf_wire_requests.specs.RequestLine.{parts_now, is_token}
 use Rattle.mf_wire.proofs.Calling.{sent_parts, told_as}
 use Rattle.mf_wire.proofs.answering.answer_parts.Goals as goal
 

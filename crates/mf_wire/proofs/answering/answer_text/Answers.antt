@@ -1,7 +1,7 @@
 use Rattle.std.proofs.Common.{◌≡◌, Ok, Err, refl, sym, ap, ◌∙◌, subst, rules}
 use Rattle.std.specs.Prelude.{string_bytes}
 use Rattle.mf_base.specs.declared.fault.Fault.TheVariants.{F20}
-use Rattle.mf_replies.specs.Shown.{reply_status, reply_body, IsText}
+use Rattle.mf_wire_replies.specs.Shown.{reply_status, reply_body, IsText}
 use Rattle.mf_wire.proofs.Calling.{told_of_answer, told_given_up}
 use Rattle.mf_wire.proofs.answering.answer_text.Goals as goal
 

@@ -1,8 +1,8 @@
 use Rattle.sqlite.specs.Held.{state}
 use Rattle.sqlite.specs.Files.{over_files}
 use Rattle.mf_model.specs.Institution.{newly_made}
-use Rattle.mf_tables.specs.Writes.{Serves}
-use Rattle.mf_pages.proofs.OpenLemmas.{always_clean}
+use Rattle.mf_store_tables.specs.Writes.{Serves}
+use Rattle.mf_store_pages.proofs.OpenLemmas.{always_clean}
 use Rattle.std.proofs.Common.{None, refl, [], ◌∷◌}
 use Rattle.mf_store.specs.Writes.{schema_of, Holds}
 use Rattle.mf_store.specs.Stands.{StandsFor, IsClean, Leaves}

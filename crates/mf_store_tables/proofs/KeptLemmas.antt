@@ -1,0 +1,49 @@
+-- What a statement does to a table that keeps items, and to the others.
+use Rattle.std.proofs.Common.{◌≡◌, ◌≢◌, ℕ, ℤ, Bool, false, List, [], ◌∷◌, slice_get, Some, Ok, refl, sym, ap, ◌∙◌, subst, Ordering}
+use Rattle.std.specs.List.{AllByRecursion, list_all}
+use Rattle.std.specs.Cmp.{IsTotalOrder}
+use Rattle.sqlite.specs.declared.types.Value.TheVariants.{Null, Int}
+use Rattle.sqlite.specs.Order.{Row}
+use Rattle.sqlite.specs.Tree.{Trees}
+use Rattle.sqlite.specs.Term.{Term, col, holds}
+use Rattle.sqlite.specs.Query.{Output}
+use Rattle.sqlite.specs.Program.{overlay}
+use Rattle.sqlite.specs.Table.{Table}
+use Rattle.sqlite.specs.Schema.{Schema}
+use Rattle.sqlite.specs.Command.TheVariants.{Delete}
+use Rattle.sqlite.specs.Edit.{id_in}
+use Rattle.sqlite.specs.Cast.{cast_row}
+use Rattle.sqlite_catalog.specs.Listing.{IsSound}
+use Rattle.sqlite.specs.Listing.{understood}
+use Rattle.sqlite.specs.State.{State, Executes}
+use Rattle.sqlite.proofs.Callers.{IsPlain, command_of}
+use Rattle.sqlite_trees.specs.Tree.{rowid}
+use Rattle.sqlite_rules.specs.Calls.{ids_of}
+use Rattle.sqlite_keyed.specs.Lists.{delete_where}
+use Rattle.sqlite_keyed.proofs.ListLemmas.{map-map}
+use Rattle.mf_store_tables.specs.Keep.{Keeps}
+use Rattle.mf_store_tables.specs.Scan.{scan}
+use Rattle.mf_store_tables.proofs.KeepLemmas.{taken_rows, keeps-deleted}
+use Rattle.mf_store_tables.proofs.ReadLemmas.{finds_ids}
+use Rattle.mf_store_tables.proofs.WriteLemmas.{IsQuiet, deletes}
+
+-- the other tables are as they were
+abbrev pub Spares : Schema → ℕ → Trees → Trees → Type 0
+Spares schema tree old new = AllByRecursion (λ (t : Table). t.tree ≢ tree → new t.tree ≡ old t.tree) schema.tables
+
+module _ {X : Type 0} (stored : X → Row) (cmp : X → X → Ordering) (total : IsTotalOrder cmp) (schema : Schema) (at : ℕ) (table : Table) (there : slice_get schema.tables at ≡ Some table)
+    (quiet : IsQuiet schema table.tree) (uncounted : table.is_counted ≡ false) (sql : List ℕ) (plain : IsPlain (understood schema sql)) where
+  -- DELETE FROM table WHERE tests
+  pub deletes_kept : (tests : List Term) → command_of (understood schema sql) ≡ Delete at (record { lets = []; body = scan table.tree tests (col 1 0 ∷ []) [] })
+      → (params : Row) (test : X → Bool) → ((id : ℤ) (x : X) → list_all (holds (params ∷ (Int id ∷ stored x) ∷ [])) tests ≡ test x) → ((trees : Trees) → overlay trees [] table.tree ≡ trees table.tree)
+      → (old new : State) (count : ℕ) (items : List X) → old.now.schema ≡ schema → Keeps stored cmp (old.now.trees table.tree) items → Executes sql params old new (Ok count)
+      → (new.now.schema ≡ schema) × Keeps stored cmp (new.now.trees table.tree) (delete_where test items) × Spares schema table.tree old.now.trees new.now.trees × IsSound schema new.now.trees
+  deletes_kept tests is params test tested under old new count items has k h =
+      let did = deletes schema at table there sql params old new has plain count _ quiet uncounted is h in
+      let k' : Keeps stored cmp (overlay old.now.trees [] table.tree) items = subst (λ t. Keeps stored cmp t items) (sym (under old.now.trees)) k in
+      let ids = finds_ids stored cmp table.tree tests (col 1 0 ∷ []) [] params test tested (overlay old.now.trees []) items k' Null did.0 (did.1 Null) (λ (o : Output). id_in (rowid o.1)) (λ e. refl) _
+      (λ ordered is. ap ids_of is ∙ map-map _ (λ (o : Output). o.1) ordered) in
+      let p = λ (r : Row). list_all (holds (params ∷ r ∷ [])) tests in
+      let gone = taken_rows cmp total stored p test tested (overlay old.now.trees [] table.tree) items k' _ ids in
+      let kept = keeps-deleted cmp total stored p test tested (overlay old.now.trees [] table.tree) items k' in
+      (did.2, subst (λ t. Keeps stored cmp t (delete_where test items)) (sym (did.3.rows_are ∙ sym (ap (λ t. Rattle.sqlite.specs.Edit.without_all t (ids_of did.0)) (under old.now.trees)) ∙ gone)) kept, did.3.others, did.4)

@@ -1,0 +1,169 @@
+// The text of a success, which is made before anything is changed.
+ghost use Rattle.std.specs.Prelude.{◌≡◌, false, map, IfOk, IfErr, string_bytes};
+ghost use Rattle.serde_json.specs.View.{view};
+ghost use Rattle.serde_json.specs.Written.{compact_text, has_float};
+ghost use Rattle.mf_model.specs.declared.reply.Reply.TheVariants.{OfficeMade, Offices, StaffMade, ClientMade, ClientShown};
+ghost use Rattle.mf_wire_lines.specs.Replies.{reply_line};
+ghost use Rattle.mf_wire_replies.specs.Shown.{IsBodyOf, office_data, reply_data, reply_status, reply_body};
+
+mod catalogue;
+mod loans;
+mod members;
+
+use catalogue::{charge_made, charge_shown, day_value, product_shown, product_value};
+use loans::{loan_made, loan_text, loans_shown};
+use mf_base::Fault;
+use mf_model::Reply;
+use mf_office::{Account, Caller, Name, Office, OfficeNo};
+use serde_json::{Value, json};
+use std::alloc::{AllocError, Global};
+
+fn office_value(alloc: Global, line: &Office) -> Result<Value, AllocError>
+    ensures { IfOk result (λ v. view v ≡ office_data line.now) }
+{
+    let name = line.name.as_str();
+    let number = line.number.get();
+    let parent = match line.parent {
+        Some(parent) => json!(in alloc; parent.get())?,
+        None => Value::Null,
+    };
+    json!(in alloc; {"name": name, "number": number, "parent": parent})
+}
+
+fn office_values(alloc: Global, lines: &[Office]) -> Result<Vec<Value>, AllocError>
+    ensures { IfOk result (λ v. map view v.items ≡ map office_data lines.now) }
+{
+    let mut values = Vec::new(alloc);
+    for line in lines {
+        values.push(office_value(alloc, line)?)?;
+    }
+    Ok(values)
+}
+
+fn office_made(alloc: Global, office: OfficeNo) -> Result<Value, AllocError>
+    ensures { IfOk result (λ v. view v ≡ reply_data (OfficeMade office)) }
+{
+    let office = office.get();
+    json!(in alloc; {"office": office})
+}
+
+fn offices(alloc: Global, lines: &[Office]) -> Result<Value, AllocError>
+    ensures { IfOk result (λ v. view v ≡ reply_data (Offices lines.now)) }
+{
+    let lines = Value::Array(office_values(alloc, lines)?);
+    json!(in alloc; {"offices": lines})
+}
+
+fn staff_made(alloc: Global, staff: Caller) -> Result<Value, Fault>
+    ensures ok { IfOk result (λ v. view v ≡ reply_data (StaffMade staff)) }
+    ensures err { IfErr result (λ f. f ≡ Fault.F20) }
+{
+    let staff = staff.text(alloc)?;
+    let value = json!(in alloc; {"staff": staff.as_str()})?;
+    Ok(value)
+}
+
+fn client_made(alloc: Global, client: Account) -> Result<Value, Fault>
+    ensures ok { IfOk result (λ v. view v ≡ reply_data (ClientMade client)) }
+    ensures err { IfErr result (λ f. f ≡ Fault.F20) }
+{
+    let client = client.text(alloc)?;
+    let value = json!(in alloc; {"client": client.as_str()})?;
+    Ok(value)
+}
+
+fn client_shown(alloc: Global, client: Account, name: &Name) -> Result<Value, Fault>
+    ensures ok { IfOk result (λ v. view v ≡ reply_data (ClientShown client name.now)) }
+    ensures err { IfErr result (λ f. f ≡ Fault.F20) }
+{
+    let client = client.text(alloc)?;
+    let value = json!(in alloc; {"client": client.as_str(), "name": name.as_str()})?;
+    Ok(value)
+}
+
+/// A body before it is written: a value of JSON, or its text where that is written at once.
+#[derive(Drop)]
+pub(crate) enum Body {
+    Value(Value),
+    Text(String),
+}
+
+fn reply_body(alloc: Global, reply: &Reply) -> Result<Body, Fault>
+    ensures ok { IfOk result (IsBodyOf reply.now) }
+    ensures err { IfErr result (λ f. f ≡ Fault.F20) }
+{
+    match reply {
+        Reply::OfficeMade(office) => Ok(Body::Value(office_made(alloc, *office)?)),
+        Reply::Offices(list) => Ok(Body::Value(offices(alloc, list.as_slice())?)),
+        Reply::StaffMade(staff) => Ok(Body::Value(staff_made(alloc, *staff)?)),
+        Reply::ClientMade(client) => Ok(Body::Value(client_made(alloc, *client)?)),
+        Reply::ClientShown { client, name } => Ok(Body::Value(client_shown(alloc, *client, name)?)),
+        Reply::DayShown(day) | Reply::DaySet(day) => Ok(Body::Value(day_value(alloc, *day)?)),
+        Reply::ChargeMade(charge) => Ok(Body::Value(charge_made(alloc, *charge)?)),
+        Reply::ChargeShown(charge) => Ok(Body::Value(charge_shown(alloc, charge)?)),
+        Reply::ProductMade(product) | Reply::ProductRetired(product) => {
+            Ok(Body::Value(product_value(alloc, *product)?))
+        }
+        Reply::ProductShown(product) => Ok(Body::Value(product_shown(alloc, product)?)),
+        Reply::LoanMade(loan) => Ok(Body::Value(loan_made(alloc, *loan)?)),
+        Reply::Loan { loan, told } => Ok(Body::Text(loan_text(alloc, *loan, told)?)),
+        Reply::LoansShown(lines) => Ok(Body::Value(loans_shown(alloc, lines.as_slice())?)),
+    }
+}
+
+/// The text of a value that has no fraction.
+fn text_of(alloc: Global, value: &Value) -> Result<String, AllocError>
+    requires { has_float (view value.now) ≡ false }
+    ensures { IfOk result (λ s. string_bytes s ≡ compact_text (view value.now)) }
+{
+    value.to_string(alloc)
+}
+
+/// The body of a success: compact JSON, the members of each object in the order of their names.
+pub fn body_text(alloc: Global, reply: &Reply) -> Result<String, Fault>
+    ensures ok { IfOk result (λ s. string_bytes s ≡ reply_body reply.now) }
+    ensures err { IfErr result (λ f. f ≡ Fault.F20) }
+{
+    let body = reply_body(alloc, reply)?;
+    match body {
+        Body::Text(text) => Ok(text),
+        Body::Value(value) => {
+            let text = text_of(alloc, &value)?;
+            Ok(text)
+        }
+    }
+}
+
+/// The HTTP status of a success.
+pub fn status(reply: &Reply) -> u16
+    ensures { result ≡ reply_status reply.now }
+{
+    match reply {
+        Reply::OfficeMade(_)
+        | Reply::StaffMade(_)
+        | Reply::ClientMade(_)
+        | Reply::ChargeMade(_)
+        | Reply::ProductMade(_)
+        | Reply::LoanMade(_) => 201,
+        Reply::Offices(_)
+        | Reply::ClientShown { .. }
+        | Reply::DayShown(_)
+        | Reply::DaySet(_)
+        | Reply::ChargeShown(_)
+        | Reply::ProductShown(_)
+        | Reply::ProductRetired(_)
+        | Reply::Loan { .. }
+        | Reply::LoansShown(_) => 200,
+    }
+}
+
+/// The line of a success, whole with its line feed.
+pub fn line_text(alloc: Global, reply: &Reply) -> Result<String, Fault>
+    ensures ok { IfOk result (λ s. string_bytes s ≡ reply_line (reply_status reply.now) (reply_body reply.now)) }
+    ensures err { IfErr result (λ f. f ≡ Fault.F20) }
+{
+    let body = body_text(alloc, reply)?;
+    let status = status(reply);
+    let line = format!(in alloc; "{status} {body}\n")?;
+    Ok(line)
+}

@@ -1,0 +1,21 @@
+use Rattle.std.proofs.Common.{◌+◌, arith}
+use Rattle.mf_wire_requests.proofs.PathNumbers.{value_below, digit_byte, value_more}
+use Rattle.mf_wire_requests.proofs.paths.value_of_digits.Goals as goal
+
+pub overflow_mul-value : goal.overflow_mul-value
+overflow_mul-value c =
+    omega (arith, c.loop-digit.invariant, value_more c.args.digits.now c.loop-digit.digit-index c.requires.digits (omega arith), value_below c.args.digits.now (c.loop-digit.digit-index + 1) c.requires.digits c.requires.short)
+
+pub overflow_sub-digit : goal.overflow_sub-digit
+overflow_sub-digit c = digit_byte c.args.digits.now c.loop-digit.digit-index c.requires.digits (omega arith)
+
+pub overflow_add-value : goal.overflow_add-value
+overflow_add-value c =
+    omega (arith, c.from.ensures, c.loop-digit.invariant, value_more c.args.digits.now c.loop-digit.digit-index c.requires.digits (omega arith), value_below c.args.digits.now (c.loop-digit.digit-index + 1) c.requires.digits c.requires.short)
+
+pub loop-digit-preserved : goal.loop-digit-preserved
+loop-digit-preserved c =
+    omega (arith, c.from.ensures, c.loop-digit.invariant, value_more c.args.digits.now c.loop-digit.digit-index c.requires.digits (omega arith))
+
+pub returns-clause-bound : goal.returns-clause-bound
+returns-clause-bound c = omega (arith, c.loop-digit.invariant, value_below c.args.digits.now c.loop-digit.digit-index c.requires.digits c.requires.short)

@@ -1,0 +1,40 @@
+-- The parts of a request line.
+use Rattle.std.specs.Prelude.{ℕ, ◌+◌, ◌==◌, Bool, ◌&&◌, ◌||◌, List, [], length, take, drop, nat_lt, codes, Option, option_map, option_and_then, unwrap_or}
+use Rattle.std.specs.List.{position, list_any, list_all}
+use Rattle.std.specs.Char.{is_ascii_alphanumeric}
+use Rattle.mf_wire_requests.specs.declared.request_line.LineParts.{LineParts}
+
+pub record Parts : Type 0 where
+  pub caller : List ℕ
+  pub method : List ℕ
+  pub path : List ℕ
+  pub body : List ℕ
+
+-- the bytes of the parts
+abbrev pub parts_now : LineParts → Parts
+parts_now p = record { caller = p.caller.now; method = p.method.now; path = p.path.now; body = p.body.now }
+
+-- what stands before and after the first space, where there is one
+abbrev pub split_space : List ℕ → Option (List ℕ × List ℕ)
+split_space text = option_map (λ at. (take at text, drop (at + 1) text)) (position (λ b. b == 32) text)
+
+-- the path and the body; the path may be all
+abbrev pub path_and_body : List ℕ → List ℕ × List ℕ
+path_and_body text = unwrap_or (split_space text) (text, [])
+
+abbrev pub after_caller : List ℕ × List ℕ → List ℕ × List ℕ → Parts
+after_caller first second = record { caller = first.0; method = second.0; path = (path_and_body second.1).0; body = (path_and_body second.1).1 }
+
+abbrev pub parts_after : Option (List ℕ × List ℕ) → Option Parts
+parts_after first = option_and_then (λ f. option_map (after_caller f) (split_space f.1)) first
+
+-- The caller, the method and the path, with a space after each of the first two. After a further space comes the body.
+abbrev pub parts_of : List ℕ → Option Parts
+parts_of line = parts_after (split_space line)
+
+abbrev pub is_token_byte : ℕ → Bool
+is_token_byte b = is_ascii_alphanumeric b || list_any (λ mark. mark == b) (codes "!#$%&'*+-.^_`|~")
+
+-- the text is a token: some letters, digits and marks, and nothing else
+abbrev pub is_token : List ℕ → Bool
+is_token text = nat_lt 0 (length text) && list_all is_token_byte text

@@ -1,0 +1,98 @@
+-- What a request asks.
+use Rattle.std.specs.Prelude.{ℕ, ◌&&◌, cond, List, codes, is_some, nat_le, length, Option, Some, None, option_map, option_and_then}
+use Rattle.std.specs.Str.{bytes_eq}
+use Rattle.mf_office.specs.Texts.{caller_of}
+use Rattle.mf_model.specs.declared.request.CatalogueRequest.TheVariants as catalogue
+use Rattle.mf_model.specs.declared.request.LoanRequest.{LoanRequest}
+use Rattle.mf_model.specs.declared.request.LoanRequest.TheVariants.{Show, Take}
+use Rattle.mf_model.specs.declared.request.Flaw.TheVariants.{Malformed, NoRoute, NoMethod}
+use Rattle.mf_model.specs.declared.request.Request.{Request}
+use Rattle.mf_model.specs.declared.request.Request.TheVariants.{Unreadable, Catalogue, Loan, SeenOffices}
+use Rattle.mf_model.specs.declared.request.Call.{Call}
+use Rattle.mf_wire_requests.specs.declared.routes.Endpoint.{Endpoint}
+use Rattle.mf_wire_requests.specs.declared.routes.Endpoint.TheVariants.{ShowDay, SetDay, AddCharge, ShowCharge, AddProduct, ShowProduct, RetireProduct, ListOffices, AddOffice, AddStaff, AddClient, ShowClient, SubmitLoan, ListLoans, ShowLoan, TakeStep}
+use Rattle.mf_wire_requests.specs.declared.routes.Methods.{Methods}
+use Rattle.mf_wire_requests.specs.declared.routes.Methods.TheVariants.{Get, Post, GetAndPost, GetAndPut}
+use Rattle.mf_wire_requests.specs.declared.request.Method.{Method}
+use Rattle.mf_wire_requests.specs.declared.request.Method.TheVariants as method
+use Rattle.mf_wire_requests.specs.RequestLine.{Parts, parts_of, split_space, is_token}
+use Rattle.mf_wire_requests.specs.PathParts.{PathParts, number_in, account_in}
+use Rattle.matchit.specs.Router.{RouteOf}
+use Rattle.mf_wire_requests.specs.Routes.{route_at, parts_on}
+use Rattle.mf_wire_requests.specs.Bodies.{json_of}
+use Rattle.mf_wire_requests.specs.OfficeRequests.{new_office, new_staff, new_client, client_at}
+use Rattle.mf_wire_requests.specs.CatalogueRequests.{later_day, new_charge}
+use Rattle.mf_wire_requests.specs.ProductRequests.{new_product}
+use Rattle.mf_wire_requests.specs.LoanRequests.{new_loan, loans_at}
+
+-- a method by its text, which is in capitals
+abbrev pub method_of : List ℕ → Method
+method_of text = cond (bytes_eq text (codes "GET")) method.Get (cond (bytes_eq text (codes "POST")) method.Post (cond (bytes_eq text (codes "PUT")) method.Put method.Other))
+
+-- what a method of a path asks, if the path has it
+abbrev pub endpoint_of : Methods → Method → Option Endpoint
+endpoint_of (Get get) method.Get = Some get
+endpoint_of (Post post) method.Post = Some post
+endpoint_of (GetAndPost get post) method.Get = Some get
+endpoint_of (GetAndPost get post) method.Post = Some post
+endpoint_of (GetAndPut get put) method.Get = Some get
+endpoint_of (GetAndPut get put) method.Put = Some put
+endpoint_of _ _ = None
+
+-- what is asked of the loan that a path names
+abbrev pub loan_at : LoanRequest → PathParts → Option Request
+loan_at asked parts = option_map (λ loan. Loan loan asked) (account_in (codes "loan") parts)
+
+-- what an endpoint asks, by the parameters of the path and the members of the body
+abbrev pub request_at : Endpoint → PathParts → List ℕ → Option Request
+request_at ShowDay parts body = Some (Catalogue catalogue.ShowDay)
+request_at SetDay parts body = option_and_then later_day (json_of body)
+request_at AddCharge parts body = option_and_then new_charge (json_of body)
+request_at ShowCharge parts body = option_map (λ charge. Catalogue (catalogue.ShowCharge charge)) (number_in (codes "charge") parts)
+request_at AddProduct parts body = option_and_then new_product (json_of body)
+request_at ShowProduct parts body = option_map (λ product. Catalogue (catalogue.ShowProduct product)) (number_in (codes "product") parts)
+request_at RetireProduct parts body = option_map (λ product. Catalogue (catalogue.RetireProduct product)) (number_in (codes "product") parts)
+request_at ListOffices parts body = Some SeenOffices
+request_at AddOffice parts body = option_and_then new_office (json_of body)
+request_at AddStaff parts body = option_and_then new_staff (json_of body)
+request_at AddClient parts body = option_and_then new_client (json_of body)
+request_at ShowClient parts body = client_at parts
+request_at SubmitLoan parts body = option_and_then new_loan (json_of body)
+request_at ListLoans parts body = loans_at parts
+request_at ShowLoan parts body = loan_at Show parts
+request_at (TakeStep step) parts body = loan_at (Take step) parts
+
+abbrev pub or_malformed : Option Request → Request
+or_malformed None = Unreadable Malformed
+or_malformed (Some request) = request
+
+abbrev pub asked_of : Option Endpoint → PathParts → List ℕ → Request
+asked_of None parts body = Unreadable NoMethod
+asked_of (Some endpoint) parts body = or_malformed (request_at endpoint parts body)
+
+abbrev pub asked_on : Option (RouteOf Methods) → List ℕ → List ℕ → List ℕ → Request
+asked_on None method path body = Unreadable NoRoute
+asked_on (Some route) method path body = asked_of (endpoint_of route.value (method_of method)) (parts_on route path) body
+
+-- What a method, a path and a body ask: the route is looked for first, then its method, then the path's numbers and the members.
+unfoldable pub request_of : List ℕ → List ℕ → List ℕ → Request
+request_of method path body = asked_on (route_at path) method path body
+
+-- the same of a caller's text, which is looked at first, as the method is
+abbrev pub asked_by : List ℕ → List ℕ → List ℕ → List ℕ → Request
+asked_by caller method path body = cond (is_some (caller_of caller) && is_token method) (request_of method path body) (Unreadable Malformed)
+
+-- a call in its four parts
+abbrev pub call_of_parts : Parts → Call
+call_of_parts p = record { caller = caller_of p.caller; request = asked_by p.caller p.method p.path p.body }
+
+abbrev pub asked_in : Option Parts → Request
+asked_in None = Unreadable Malformed
+asked_in (Some p) = asked_by p.caller p.method p.path p.body
+
+-- Who sends a request line, by the text before its first space, and what it asks. A line of over 65,536 bytes asks nothing.
+abbrev pub call_of : List ℕ → Call
+call_of line = record {
+  caller = option_and_then (λ p. caller_of p.0) (split_space line);
+  request = cond (nat_le (length line) 65536) (asked_in (parts_of line)) (Unreadable Malformed);
+}

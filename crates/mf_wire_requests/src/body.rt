@@ -1,0 +1,162 @@
+// A request's body, as JSON.
+ghost use Rattle.std.specs.Prelude.{◌≡◌, ◌≤◌, Some, None, option_map, option_and_then, IfOk, IfErr, IfSome, ◌⊎◌};
+ghost use Rattle.serde_json.specs.View.{view};
+ghost use Rattle.mf_wire_requests.specs.Bodies.{json_of, whole_at, text_at, name_at, office_at, role_named, role_at, within as within_limits, number_at, optional_number_at, account_at, day_named as day_of, day_at, Gives};
+ghost use Rattle.mf_model.specs.Sound.{IsName, IsAccount};
+ghost use Rattle.mf_base.specs.DayText.{last_entered_day};
+
+use mf_base::{Day, Fault};
+use mf_model::is_name;
+use mf_office::{Account, Name, OfficeNo, Role};
+use serde_json::Value;
+use std::alloc::Global;
+
+/// The value of a body's text. `F1` where it is no JSON.
+pub fn json(alloc: Global, body: &[u8]) -> Result<Value, Fault>
+    ensures ok { IfOk result (λ v. json_of body.now ≡ Some (view v)) }
+    ensures err { IfErr result (λ f. (f ≡ Fault.F20) ⊎ ((f ≡ Fault.F1) × (json_of body.now ≡ None))) }
+{
+    match Value::from_slice(alloc, body) {
+        Ok(value) => Ok(value),
+        Err(e) => {
+            if e.is_memory() {
+                Err(Fault::F20)
+            } else {
+                Err(Fault::F1)
+            }
+        }
+    }
+}
+
+/// A member that is a whole number of at least 0.
+pub fn whole(body: &Value, name: &str) -> Option<u64>
+    ensures { result ≡ whole_at name.now (view body.now) }
+{
+    body.get(name)?.as_u64()
+}
+
+/// A member that is a text.
+pub fn text<'b>(body: &'b Value, name: &str) -> Option<&'b str>
+    ensures { option_map (λ s. s.now) result ≡ text_at name.now (view body.now) }
+{
+    body.get(name)?.as_str()
+}
+
+/// A member that is a name.
+pub fn name(alloc: Global, body: &Value, member: &str) -> Result<Name, Fault>
+    ensures value { Gives (name_at member.now (view body.now)) result }
+    ensures in_range { IfOk result IsName }
+{
+    let Some(name) = text(body, member) else {
+        return Err(Fault::F1);
+    };
+    if !is_name(name) {
+        return Err(Fault::F1);
+    }
+    match String::from_str(alloc, name) {
+        Ok(name) => Ok(Name::new(name)),
+        Err(_) => Err(Fault::F20),
+    }
+}
+
+/// A member that is an office's number.
+pub fn office(body: &Value, member: &str) -> Option<OfficeNo>
+    ensures { result ≡ office_at member.now (view body.now) }
+{
+    let number = whole(body, member)?;
+    if number <= 9999 {
+        OfficeNo::new(number as u32)
+    } else {
+        None
+    }
+}
+
+fn role_of_text(text: &str) -> Option<Role>
+    ensures { result ≡ role_named text.now }
+{
+    if text == "teller" {
+        Some(Role::Teller)
+    } else if text == "officer" {
+        Some(Role::Officer)
+    } else if text == "manager" {
+        Some(Role::Manager)
+    } else {
+        None
+    }
+}
+
+/// A member that names a role.
+pub fn role(body: &Value, member: &str) -> Option<Role>
+    ensures { result ≡ role_at member.now (view body.now) }
+{
+    role_of_text(text(body, member)?)
+}
+
+/// The number, where it lies from the least to the greatest.
+fn within(number: u64, least: u64, greatest: u64) -> Option<u64>
+    ensures value { result ≡ within_limits least greatest number }
+    ensures least { IfSome result (λ n. least ≤ n) }
+    ensures greatest { IfSome result (λ n. n ≤ greatest) }
+{
+    if least <= number && number <= greatest {
+        Some(number)
+    } else {
+        None
+    }
+}
+
+/// A member that is a whole number from a least to a greatest.
+pub fn long_number(body: &Value, member: &str, least: u64, greatest: u64) -> Option<u64>
+    ensures value { result ≡ number_at least greatest member.now (view body.now) }
+    ensures least { IfSome result (λ n. least ≤ n) }
+    ensures greatest { IfSome result (λ n. n ≤ greatest) }
+{
+    within(whole(body, member)?, least, greatest)
+}
+
+/// A member that is a whole number from a least to a greatest.
+pub fn number(body: &Value, member: &str, least: u32, greatest: u32) -> Option<u32>
+    ensures value { result ≡ number_at least greatest member.now (view body.now) }
+    ensures least { IfSome result (λ n. least ≤ n) }
+    ensures greatest { IfSome result (λ n. n ≤ greatest) }
+{
+    let number = long_number(body, member, least as u64, greatest as u64)?;
+    Some(number as u32)
+}
+
+/// A member that may be absent or null, and else is a whole number up to a greatest. None is for any other member.
+pub fn optional_number(body: &Value, member: &str, greatest: u32) -> Option<Option<u32>>
+    ensures { result ≡ optional_number_at greatest member.now (view body.now) }
+{
+    let Some(value) = body.get(member) else {
+        return Some(None);
+    };
+    if value.is_null() {
+        return Some(None);
+    }
+    let number = within(value.as_u64()?, 0, greatest as u64)?;
+    Some(Some(number as u32))
+}
+
+/// A member that is an account's text.
+pub fn account(body: &Value, member: &str) -> Option<Account>
+    ensures value { result ≡ account_at member.now (view body.now) }
+    ensures in_range { IfSome result IsAccount }
+{
+    Account::parse(text(body, member)?.as_bytes())
+}
+
+fn day_of_text(text: &[u8]) -> Option<Day>
+    ensures value { result ≡ day_of text.now }
+    ensures in_range { IfSome result (λ day. day ≤ last_entered_day) }
+{
+    Day::parse(text)
+}
+
+/// A member that is the text of a day that may be entered.
+pub fn day(body: &Value, member: &str) -> Option<Day>
+    ensures value { result ≡ day_at member.now (view body.now) }
+    ensures in_range { IfSome result (λ day. day ≤ last_entered_day) }
+{
+    day_of_text(text(body, member)?.as_bytes())
+}

@@ -1,0 +1,82 @@
+// What is asked of offices, staff and clients.
+ghost use Rattle.std.specs.Prelude.{option_and_then, IfOk};
+ghost use Rattle.matchit.specs.Params.{AllText};
+ghost use Rattle.mf_model.specs.Sound.{IsInRange};
+ghost use Rattle.mf_wire_requests.specs.Bodies.{json_of, Gives};
+ghost use Rattle.mf_wire_requests.specs.OfficeRequests.{new_office as office_asked, new_staff as staff_asked, new_client as client_asked, client_at};
+ghost use Rattle.mf_wire_requests.specs.PathParts.{parts_of_params};
+
+use crate::body::{json, name, office, role};
+use crate::paths::account;
+use matchit::Params;
+use mf_base::Fault;
+use mf_model::{OfficeRequest, Request};
+use mf_office::Account;
+use std::alloc::Global;
+
+pub fn new_office(alloc: Global, body: &[u8]) -> Result<Request, Fault>
+    ensures value { Gives (option_and_then office_asked (json_of body.now)) result }
+    ensures in_range { IfOk result IsInRange }
+{
+    let body = json(alloc, body)?;
+    let Some(number) = office(&body, "number") else {
+        return Err(Fault::F1);
+    };
+    let Some(parent) = office(&body, "parent") else {
+        return Err(Fault::F1);
+    };
+    let name = name(alloc, &body, "name")?;
+    Ok(Request::NewOffice {
+        number,
+        parent,
+        name,
+    })
+}
+
+pub fn new_staff(alloc: Global, body: &[u8]) -> Result<Request, Fault>
+    ensures value { Gives (option_and_then staff_asked (json_of body.now)) result }
+    ensures in_range { IfOk result IsInRange }
+{
+    let body = json(alloc, body)?;
+    let Some(office) = office(&body, "office") else {
+        return Err(Fault::F1);
+    };
+    let Some(role) = role(&body, "role") else {
+        return Err(Fault::F1);
+    };
+    let name = name(alloc, &body, "name")?;
+    Ok(Request::Office {
+        office: office.get(),
+        asked: OfficeRequest::AddStaff { name, role },
+    })
+}
+
+pub fn new_client(alloc: Global, body: &[u8]) -> Result<Request, Fault>
+    ensures value { Gives (option_and_then client_asked (json_of body.now)) result }
+    ensures in_range { IfOk result IsInRange }
+{
+    let body = json(alloc, body)?;
+    let Some(office) = office(&body, "office") else {
+        return Err(Fault::F1);
+    };
+    let name = name(alloc, &body, "name")?;
+    Ok(Request::Office {
+        office: office.get(),
+        asked: OfficeRequest::AddClient { name },
+    })
+}
+
+/// The client that a path names.
+pub fn show_client(params: &Params<'_, '_>) -> Result<Request, Fault>
+    requires { AllText (parts_of_params params.now) }
+    ensures value { Gives (client_at (parts_of_params params.now)) result }
+    ensures in_range { IfOk result IsInRange }
+{
+    let Some(Account { office, number }) = account(params, "client") else {
+        return Err(Fault::F1);
+    };
+    Ok(Request::Office {
+        office: office.get(),
+        asked: OfficeRequest::ShowClient { client: number },
+    })
+}

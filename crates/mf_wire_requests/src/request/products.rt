@@ -1,0 +1,173 @@
+// What is asked of a new product.
+ghost use Rattle.std.specs.Prelude.{◌≡◌, option_and_then, IfOk, IfSome};
+ghost use Rattle.serde_json.specs.View.{view};
+ghost use Rattle.mf_catalog.specs.Limits.{longest_step as longest_step_of};
+ghost use Rattle.mf_model.specs.Sound.{IsInRange, IsName, AreMembers};
+ghost use Rattle.mf_wire_requests.specs.Bodies.{json_of, Gives};
+ghost use Rattle.mf_wire_requests.specs.ProductRequests.{step_at, planning_at, bounds_at, charge_at, charged_at, members_of as members_by, new_product as product_asked, IsStepInRange, IsPlanningInRange, AreBoundsInRange};
+
+use crate::body::{json, long_number, name, number, optional_number};
+use crate::named::{freq, method, strategy};
+use mf_base::{Fault, Freq};
+use mf_catalog::{
+    GREATEST_AMOUNT, GREATEST_RATE, MOST_GRACE, MOST_MONTHS, MOST_PERIODS, MOST_WEEKS, Method,
+    ProductMembers, StrategyName,
+};
+use mf_model::{CatalogueRequest, Request};
+use mf_office::Name;
+use serde_json::Value;
+use std::alloc::Global;
+
+/// The step from one due day to the next.
+#[derive(Clone, Copy, Debug)]
+pub struct Step {
+    pub freq: Freq,
+    pub every: u32,
+}
+
+/// The members of a product by which schedules are planned.
+#[derive(Clone, Copy, Debug)]
+pub struct Planning {
+    pub method: Method,
+    pub rate: u32,
+    pub step: Step,
+    pub principal_grace: u32,
+    pub interest_grace: u32,
+    pub strategy: StrategyName,
+}
+
+/// The least and the greatest loan of a product.
+#[derive(Clone, Copy, Debug)]
+pub struct Bounds {
+    pub min_principal: u64,
+    pub max_principal: u64,
+    pub min_periods: u32,
+    pub max_periods: u32,
+}
+
+/// The charges that a product names, by their numbers.
+#[derive(Clone, Copy, Debug)]
+pub struct Charged {
+    pub disbursement: Option<u32>,
+    pub instalment: Option<u32>,
+    pub overdue: Option<u32>,
+}
+
+fn longest_step(freq: Freq) -> u32
+    ensures { result ≡ longest_step_of freq }
+{
+    match freq {
+        Freq::Weeks => MOST_WEEKS,
+        Freq::Months => MOST_MONTHS,
+    }
+}
+
+fn read_step(body: &Value) -> Option<Step>
+    ensures value { result ≡ step_at (view body.now) }
+    ensures in_range { IfSome result IsStepInRange }
+{
+    let freq = freq(body, "frequency")?;
+    let every = number(body, "every", 1, longest_step(freq))?;
+    Some(Step { freq, every })
+}
+
+fn read_planning(body: &Value) -> Option<Planning>
+    ensures value { result ≡ planning_at (view body.now) }
+    ensures in_range { IfSome result IsPlanningInRange }
+{
+    let method = method(body, "method")?;
+    let rate = number(body, "rate", 0, GREATEST_RATE)?;
+    let step = read_step(body)?;
+    let principal_grace = number(body, "principal_grace", 0, MOST_GRACE)?;
+    let interest_grace = number(body, "interest_grace", 0, MOST_GRACE)?;
+    let strategy = strategy(body, "strategy")?;
+    Some(Planning {
+        method,
+        rate,
+        step,
+        principal_grace,
+        interest_grace,
+        strategy,
+    })
+}
+
+fn read_bounds(body: &Value) -> Option<Bounds>
+    ensures value { result ≡ bounds_at (view body.now) }
+    ensures in_range { IfSome result AreBoundsInRange }
+{
+    let min_principal = long_number(body, "min_principal", 1, GREATEST_AMOUNT)?;
+    let max_principal = long_number(body, "max_principal", 1, GREATEST_AMOUNT)?;
+    let min_periods = number(body, "min_periods", 1, MOST_PERIODS)?;
+    let max_periods = number(body, "max_periods", 1, MOST_PERIODS)?;
+    Some(Bounds {
+        min_principal,
+        max_principal,
+        min_periods,
+        max_periods,
+    })
+}
+
+/// A member that may be absent or null, and else is a charge's number.
+fn charge(body: &Value, member: &str) -> Option<Option<u32>>
+    ensures { result ≡ charge_at member.now (view body.now) }
+{
+    optional_number(body, member, 999_999_999)
+}
+
+fn read_charged(body: &Value) -> Option<Charged>
+    ensures { result ≡ charged_at (view body.now) }
+{
+    let disbursement = charge(body, "disbursement_charge")?;
+    let instalment = charge(body, "instalment_charge")?;
+    let overdue = charge(body, "overdue_charge")?;
+    Some(Charged {
+        disbursement,
+        instalment,
+        overdue,
+    })
+}
+
+fn members_of(name: Name, planning: Planning, bounds: Bounds, charged: Charged) -> ProductMembers
+    requires name { IsName name }
+    requires planning { IsPlanningInRange planning }
+    requires bounds { AreBoundsInRange bounds }
+    ensures value { result ≡ members_by name planning bounds charged }
+    ensures in_range { AreMembers result }
+{
+    ProductMembers {
+        name,
+        method: planning.method,
+        rate: planning.rate,
+        freq: planning.step.freq,
+        every: planning.step.every,
+        principal_grace: planning.principal_grace,
+        interest_grace: planning.interest_grace,
+        min_principal: bounds.min_principal,
+        max_principal: bounds.max_principal,
+        min_periods: bounds.min_periods,
+        max_periods: bounds.max_periods,
+        strategy: planning.strategy,
+        disbursement_charge: charged.disbursement,
+        instalment_charge: charged.instalment,
+        overdue_charge: charged.overdue,
+    }
+}
+
+pub fn new_product(alloc: Global, body: &[u8]) -> Result<Request, Fault>
+    ensures value { Gives (option_and_then product_asked (json_of body.now)) result }
+    ensures in_range { IfOk result IsInRange }
+{
+    let body = json(alloc, body)?;
+    let Some(planning) = read_planning(&body) else {
+        return Err(Fault::F1);
+    };
+    let Some(bounds) = read_bounds(&body) else {
+        return Err(Fault::F1);
+    };
+    let Some(charged) = read_charged(&body) else {
+        return Err(Fault::F1);
+    };
+    let name = name(alloc, &body, "name")?;
+    let members = members_of(name, planning, bounds, charged);
+    Ok(Request::Catalogue(CatalogueRequest::AddProduct { members }))
+}

@@ -1,0 +1,94 @@
+ghost use Rattle.std.specs.Prelude.{◌≡◌, ℕ, codes, IfSome, option_map};
+ghost use Rattle.clap.specs.Words.{first_of, found_of, rows_of};
+ghost use Rattle.microloan_words.specs.Asked.{IsNumberAt, IsDayAt, method_text, frequency_text};
+ghost use Rattle.mf_catalog.specs.declared.terms.Method.{Method};
+ghost use Rattle.mf_base.specs.declared.day.Freq.{Freq};
+
+use clap::ArgMatches;
+use mf_base::{Day, Freq};
+use mf_catalog::Method;
+
+/// The text of an option.
+pub(crate) fn text_at<'a>(options: &ArgMatches<'a>, id: &str) -> Option<&'a str>
+    ensures { option_map (λ s. s.now) result ≡ first_of id.now (rows_of (found_of options.now)) }
+{
+    options.get_str(id)
+}
+
+/// The number of an option, in its limits.
+pub(crate) fn number_at(
+    options: &ArgMatches<'_>,
+    id: &str,
+    least: u64,
+    greatest: u64,
+) -> Option<u64>
+    ensures read { IfSome result (λ n. IsNumberAt (rows_of (found_of options.now)) id.now least greatest n) }
+    ensures every { (n : ℕ) → IsNumberAt (rows_of (found_of options.now)) id.now least greatest n → result ≡ Some n }
+{
+    let number = text_at(options, id)?.parse::<u64>().ok()?;
+    if least <= number && number <= greatest {
+        Some(number)
+    } else {
+        None
+    }
+}
+
+/// The method of this name.
+pub(crate) fn method_of(text: &str) -> Option<Method>
+    ensures read { IfSome result (λ method. text.now ≡ method_text method) }
+    ensures every { (method : Method) → text.now ≡ method_text method → result ≡ Some method }
+{
+    match text {
+        "flat" => Some(Method::Flat),
+        "declining-equal-principal" => Some(Method::EqualPrincipal),
+        "declining-equal-instalments" => Some(Method::Fixed),
+        _ => None,
+    }
+}
+
+/// The unit of this name.
+pub(crate) fn frequency_of(text: &str) -> Option<Freq>
+    ensures read { IfSome result (λ frequency. text.now ≡ frequency_text frequency) }
+    ensures every { (frequency : Freq) → text.now ≡ frequency_text frequency → result ≡ Some frequency }
+{
+    match text {
+        "weeks" => Some(Freq::Weeks),
+        "months" => Some(Freq::Months),
+        _ => None,
+    }
+}
+
+/// A count of an option, in its limits.
+pub(crate) fn count_at(options: &ArgMatches<'_>, id: &str, least: u32, greatest: u32) -> Option<u32>
+    ensures read { IfSome result (λ n. IsNumberAt (rows_of (found_of options.now)) id.now least greatest n) }
+    ensures every { (n : ℕ) → IsNumberAt (rows_of (found_of options.now)) id.now least greatest n → result ≡ Some n }
+{
+    match number_at(options, id, least as u64, greatest as u64) {
+        Some(number) => Some(number as u32),
+        None => None,
+    }
+}
+
+/// The method that is asked for.
+pub(crate) fn method_at(options: &ArgMatches<'_>) -> Option<Method>
+    ensures read { IfSome result (λ method. first_of (codes "method") (rows_of (found_of options.now)) ≡ Some (method_text method)) }
+    ensures every { (method : Method) → first_of (codes "method") (rows_of (found_of options.now)) ≡ Some (method_text method) → result ≡ Some method }
+{
+    method_of(text_at(options, "method")?)
+}
+
+/// The unit of a period.
+pub(crate) fn frequency_at(options: &ArgMatches<'_>) -> Option<Freq>
+    ensures read { IfSome result (λ frequency. first_of (codes "frequency") (rows_of (found_of options.now)) ≡ Some (frequency_text frequency)) }
+    ensures every { (frequency : Freq) → first_of (codes "frequency") (rows_of (found_of options.now)) ≡ Some (frequency_text frequency) → result ≡ Some frequency }
+{
+    frequency_of(text_at(options, "frequency")?)
+}
+
+/// The day of an option, where it is one that may be entered.
+pub(crate) fn day_at(options: &ArgMatches<'_>, id: &str) -> Option<Day>
+    ensures read { IfSome result (λ day. IsDayAt (rows_of (found_of options.now)) id.now day) }
+    ensures every { (day : ℕ) → IsDayAt (rows_of (found_of options.now)) id.now day → result ≡ Some day }
+{
+    Day::parse(text_at(options, id)?.as_bytes())
+}
