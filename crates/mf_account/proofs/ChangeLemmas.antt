@@ -5,11 +5,13 @@ use Rattle.std.proofs.Math.ListN.{get_or-append}
 use Rattle.std.proofs.Math.Seq.{take-append_seam, drop-append_seam}
 use Rattle.std.proofs.lemmas.Bool.{cases_lt, cases_eq, cond-true, cond-false, eq-eqb, ne_eqb}
 use Rattle.std.proofs.lemmas.List.{get_or-append_right}
-use Rattle.std.proofs.lemmas.List.Elements.{filter-append, All-nil, All-cons, All-append, All-weaker, Contains-append_left, Contains-push}
+use Rattle.std.specs.List.Sorted.{IsStrictlyIncreasing}
+use Rattle.std.specs.Prelude.{All}
+use Rattle.std.proofs.lemmas.List.Elements.{filter-append, All-nil, All-cons, All-head, All-tail, All-append, All-weaker, Contains-append_left, Contains-push}
 use Rattle.mf_account.specs.declared.settled.Settled.{Settled}
 use Rattle.mf_account.specs.Effect.{State}
 use Rattle.mf_account.specs.Loan.{Loan, state_of_loan, settled_of_loan}
-use Rattle.mf_account.specs.Change.{Changed, AreThose, HasOtherRow, HasOtherParts, IsChange, settled_in}
+use Rattle.mf_account.specs.Change.{Changed, AreThose, AreAll, HasOtherRow, HasOtherParts, IsChange, settled_in}
 use Rattle.mf_account.specs.Applicable.{no_settled}
 
 pub those-none : (P : ℕ → Type 0) → AreThose 0 P []
@@ -89,16 +91,15 @@ other-step seq before after i k within_i within_k own_i own_k other e =
     other (ap (λ x. get_or x 0 no_settled) (sym (in-own seq before i within_i own_i) ∙ e ∙ in-own seq after k within_k own_k))
 
 -- what differs between the books and parts of two loans
-pub change-is : (before after : Loan) (old new : State) (old_parts new_parts : List Settled) (count : ℕ) (change : Changed) → old ≡ state_of_loan before → old_parts ≡ settled_of_loan before → new ≡ state_of_loan after → new_parts ≡ settled_of_loan after → length old.rows ≡ after.periods → count ≡ length after.entries → AreThose (length old.rows) (HasOtherRow old.rows new.rows) change.rows → AreThose count (HasOtherParts old_parts new_parts) change.seqs → IsChange before after change
-change-is before after old new old_parts new_parts count change old_is old_parts_is new_is new_parts_is periods entries rows seqs = record {
+pub change-is : (before after : Loan) (old new : State) (old_parts new_parts : List Settled) (change : Changed) → old ≡ state_of_loan before → old_parts ≡ settled_of_loan before → new ≡ state_of_loan after → new_parts ≡ settled_of_loan after → length old.rows ≡ after.periods → AreThose (length old.rows) (HasOtherRow old.rows new.rows) change.rows → AreThose (length after.entries) (HasOtherParts old_parts new_parts) change.seqs → IsChange before after change
+change-is before after old new old_parts new_parts change old_is old_parts_is new_is new_parts_is periods rows seqs = record {
   rows =
       subst (λ (n : ℕ). AreThose n (HasOtherRow (state_of_loan before).rows (state_of_loan after).rows) change.rows) periods
       (subst (λ (x : State). AreThose (length old.rows) (HasOtherRow (state_of_loan before).rows x.rows) change.rows) new_is
       (subst (λ (x : State). AreThose (length old.rows) (HasOtherRow x.rows new.rows) change.rows) old_is rows));
   seqs =
-      subst (λ (n : ℕ). AreThose n (HasOtherParts (settled_of_loan before) (settled_of_loan after)) change.seqs) entries
-      (subst (λ (x : List Settled). AreThose count (HasOtherParts (settled_of_loan before) x) change.seqs) new_parts_is
-      (subst (λ (x : List Settled). AreThose count (HasOtherParts x new_parts) change.seqs) old_parts_is seqs));
+      subst (λ (x : List Settled). AreThose (length after.entries) (HasOtherParts (settled_of_loan before) x) change.seqs) new_parts_is
+      (subst (λ (x : List Settled). AreThose (length after.entries) (HasOtherParts x new_parts) change.seqs) old_parts_is seqs);
 }
 
 -- the last given up again
@@ -108,21 +109,106 @@ popped all others rest last n is whole size =
     is ∙ ap (λ k. take k all) count ∙ ap (take (length others)) whole ∙ take-append_seam others (last ∷ [])
 
 -- what begins alike differs where the rest does
-settled_in-append : (seq : ℕ) (xs ys : List Settled) → settled_in seq (xs ++ ys) ≡ settled_in seq xs ++ settled_in seq ys
+pub settled_in-append : (seq : ℕ) (xs ys : List Settled) → settled_in seq (xs ++ ys) ≡ settled_in seq xs ++ settled_in seq ys
 settled_in-append seq xs ys = filter-append (λ (s : Settled). eqb s.seq seq) xs ys
 
-those-iff : (n : ℕ) (P Q : ℕ → Type 0) (xs : List ℕ) → ((i : ℕ) → P i → Q i) → ((i : ℕ) → Q i → P i) → AreThose n P xs → AreThose n Q xs
-those-iff n P Q xs to from those = record {
-  ascend = those.ascend;
-  each = All-weaker (λ i. (1 ≤ i) × (i ≤ n) × P i) (λ i. (1 ≤ i) × (i ≤ n) × Q i) (λ i h. (h.0, h.1, to i h.2)) xs those.each;
-  all = λ i first last holds. those.all i first last (from i holds);
+all-iff : (P Q : ℕ → Type 0) (xs : List ℕ) → ((i : ℕ) → P i → Q i) → ((i : ℕ) → Q i → P i) → AreAll P xs → AreAll Q xs
+all-iff P Q xs to from are = record {
+  ascend = are.ascend;
+  each = All-weaker P Q to xs are.each;
+  all = λ i holds. are.all i (from i holds);
 }
 
-pub those-tails : (n : ℕ) (front before after : List Settled) (xs : List ℕ) → AreThose n (HasOtherParts before after) xs → AreThose n (HasOtherParts (front ++ before) (front ++ after)) xs
-those-tails n front before after xs those =
-    those-iff n (HasOtherParts before after) (HasOtherParts (front ++ before) (front ++ after)) xs
+pub all-tails : (front before after : List Settled) (xs : List ℕ) → AreAll (HasOtherParts before after) xs → AreAll (HasOtherParts (front ++ before) (front ++ after)) xs
+all-tails front before after xs are =
+    all-iff (HasOtherParts before after) (HasOtherParts (front ++ before) (front ++ after)) xs
     (λ seq other same.
     let own : List Settled = settled_in seq front in
     other (sym (drop-append_seam own (settled_in seq before)) ∙ ap (drop (length own)) (sym (settled_in-append seq front before) ∙ same ∙ settled_in-append seq front after) ∙ drop-append_seam own (settled_in seq after)))
     (λ seq other same. other (settled_in-append seq front before ∙ ap (λ z. settled_in seq front ++ z) same ∙ sym (settled_in-append seq front after)))
-    those
+    are
+
+-- all of them are those up to a number, where none lies beyond
+pub those-all : (n : ℕ) (P : ℕ → Type 0) (xs : List ℕ) → AreAll P xs → ((i : ℕ) → P i → (1 ≤ i) × (i ≤ n)) → AreThose n P xs
+those-all n P xs are within = record {
+  ascend = are.ascend;
+  each = All-weaker P (λ i. (1 ≤ i) × (i ≤ n) × P i) (λ i holds. let both = within i holds in (both.0, both.1, holds)) xs are.each;
+  all = λ i from to holds. are.all i holds;
+}
+
+-- all below a number of which something holds, ascending
+pub record AreBelow (m : ℕ) (P : ℕ → Type 0) (xs : List ℕ) : Type 0 where
+  pub ascend : IsStrictlyIncreasing xs
+  pub each : All (λ i. (i < m) × P i) xs
+  pub all : (i : ℕ) → i < m → P i → Contains xs i
+
+pub below-none : (P : ℕ → Type 0) → AreBelow 0 P []
+below-none P = record {
+  ascend = λ k less. absurd (omega arith);
+  each = All-nil (λ i. (i < 0) × P i);
+  all = λ i below is. absurd (omega arith);
+}
+
+pub below-more : (m q : ℕ) (P : ℕ → Type 0) (xs : List ℕ) → AreBelow m P xs → m ≤ q → ((i : ℕ) → m ≤ i → i < q → P i → ⊥) → P q → AreBelow (q + 1) P (xs ++ q ∷ [])
+below-more m q P xs are up none is =
+    let size = length-append xs (q ∷ []) in
+    record {
+      ascend = λ k less.
+          elim (cases_lt (k + 1) (length xs)) [
+            | inl within ↦
+                let low = get_or-append xs (q ∷ []) 0 k (omega arith) in
+                let high = get_or-append xs (q ∷ []) 0 (k + 1) within in
+                let rises = are.ascend k within in
+                omega (arith, low, high, rises)
+            | inr past ↦
+                let last : k + 1 ≡ length xs = omega (arith, size, less, past) in
+                let low = get_or-append xs (q ∷ []) 0 k (omega arith) in
+                let most = (are.each k 0 (omega arith)).0 in
+                let high : get_or (xs ++ q ∷ []) (k + 1) 0 ≡ q =
+                get_or-append_right xs (q ∷ []) (length xs) (k + 1) 0 refl (omega arith)
+                ∙ (let first : k + 1 - length xs ≡ 0 = omega arith in ap (λ x. get_or (q ∷ []) x 0) first) in
+                omega (arith, low, high, most, up)
+          ];
+      each =
+          All-append (λ i. (i < q + 1) × P i) xs (q ∷ [])
+          (All-weaker (λ i. (i < m) × P i) (λ i. (i < q + 1) × P i) (λ i h. (omega (arith, h.0, up), h.1)) xs are.each)
+          (All-cons (λ i. (i < q + 1) × P i) q [] (omega arith, is) (All-nil (λ i. (i < q + 1) × P i)));
+      all = λ i below holds.
+          elim (cases_lt i m) [
+            | inl less ↦ Contains-append_left xs (q ∷ []) i (are.all i less holds)
+            | inr more ↦
+                elim (cases_eq i q) [
+                  | inl last ↦ subst (λ x. Contains (xs ++ q ∷ []) x) (sym last) (Contains-push xs q)
+                  | inr other ↦ absurd (none i more (omega (arith, below, other)) holds)
+                ]
+          ];
+    }
+
+pub below-same : (m q : ℕ) (P : ℕ → Type 0) (xs : List ℕ) → AreBelow m P xs → m ≤ q → ((i : ℕ) → m ≤ i → i < q → P i → ⊥) → (P q → ⊥) → AreBelow (q + 1) P xs
+below-same m q P xs are up none not = record {
+  ascend = are.ascend;
+  each = All-weaker (λ i. (i < m) × P i) (λ i. (i < q + 1) × P i) (λ i h. (omega (arith, h.0, up), h.1)) xs are.each;
+  all = λ i below holds.
+      elim (cases_lt i m) [
+        | inl less ↦ are.all i less holds
+        | inr more ↦
+            elim (cases_eq i q) [
+              | inl last ↦ absurd (not (subst P last holds))
+              | inr other ↦ absurd (none i more (omega (arith, below, other)) holds)
+            ]
+      ];
+}
+
+pub below-all : (m : ℕ) (P : ℕ → Type 0) (xs : List ℕ) → AreBelow m P xs → ((i : ℕ) → m ≤ i → P i → ⊥) → AreAll P xs
+below-all m P xs are none = record {
+  ascend = are.ascend;
+  each = All-weaker (λ i. (i < m) × P i) P (λ i h. h.1) xs are.each;
+  all = λ i holds. elim (cases_lt i m) [ inl less ↦ are.all i less holds | inr more ↦ absurd (none i more holds) ];
+}
+
+-- no part of an entry
+pub none-in : (seq : ℕ) (parts : List Settled) → All (λ (s : Settled). s.seq ≢ seq) parts → settled_in seq parts ≡ []
+none-in seq [] apart = refl
+none-in seq (s ∷ parts) apart =
+    cond-false (eqb s.seq seq) (s ∷ settled_in seq parts) (settled_in seq parts) (ne_eqb s.seq seq (All-head (λ (x : Settled). x.seq ≢ seq) s parts apart))
+    ∙ none-in seq parts (All-tail (λ (x : Settled). x.seq ≢ seq) s parts apart)

@@ -11,10 +11,13 @@ pub mod WorkedRows
 pub mod ReplayLemmas
 pub mod RewindLemmas
 pub mod ChangeLemmas
+pub mod DifferLemmas
 pub mod TailLemmas
 pub mod ResumeLemmas
 pub mod RemovedLemmas
 pub mod ApplyLemmas
 pub mod RedoneLemmas
+pub mod OrderLemmas
+pub mod SealLemmas
 pub mod DueLemmas
 pub mod ClearingLemmas

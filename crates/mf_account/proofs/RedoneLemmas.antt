@@ -1,9 +1,9 @@
 -- An account with an entry more, or with one reversed: what stood before the place is as it was, and what then stands
 -- is applied from there.
-use Rattle.std.proofs.Common.{◌≡◌, ℕ, zero, suc, ◌+◌, ◌-◌, ◌<◌, ◌≤◌, true, false, List, [], ◌∷◌, ◌++◌, length, get_or, take, drop, arith, refl, ◌∙◌, ap, sym, subst, add-one}
+use Rattle.std.proofs.Common.{◌≡◌, ℕ, zero, suc, ◌+◌, ◌-◌, ◌<◌, ◌≤◌, true, false, List, [], ◌∷◌, ◌++◌, length, get_or, take, drop, arith, refl, ◌∙◌, ap, sym, subst, add-one, inl, inr}
 use Rattle.std.specs.Prelude.{fold, insert, remove, All}
 use Rattle.std.specs.List.{Contains}
-use Rattle.std.proofs.lemmas.Bool.{cond-false}
+use Rattle.std.proofs.lemmas.Bool.{cases_lt, cond-false}
 use Rattle.std.proofs.lemmas.List.{take_rest, drop-map, length-map, get_or-map, get_or_default, take-append-drop}
 use Rattle.std.proofs.lemmas.List.Elements.{All-take, All-drop}
 use Rattle.mf_account.specs.declared.entry.Entry.{Entry}
@@ -14,12 +14,13 @@ use Rattle.mf_account.specs.Applicable.{AreApplicable}
 use Rattle.mf_account.specs.Standing.{placed, with_entry, standing, no_entry, entry_at, entries_at, with_mark}
 use Rattle.mf_account.specs.StandingLaw.{IsStandingOf}
 use Rattle.mf_account.specs.Loan.{Loan, AreEntries, IsSound, cells_of, orders_of, schedule_of, state_of_loan, settled_of_loan}
-use Rattle.mf_account.specs.Change.{Changed, AreThose, HasOtherRow, HasOtherParts, IsChange}
+use Rattle.mf_account.specs.Change.{Changed, AreThose, AreAll, HasOtherRow, HasOtherParts, IsChange, settled_in}
 use Rattle.mf_account.specs.Rewind.{IsRedone, state_before, settled_upto}
 use Rattle.mf_account.proofs.SoundLemmas.{applicable-sound}
 use Rattle.mf_account.proofs.DueLemmas.{dues-after_all, orders-same}
-use Rattle.mf_account.proofs.TailLemmas.{after_all-append, settled_by-append, applicable-append, among-index, at-among}
-use Rattle.mf_account.proofs.ChangeLemmas.{change-is, those-tails}
+use Rattle.mf_account.proofs.TailLemmas.{after_all-append, settled_by-append, applicable-append, among-index, at-among, standing-at}
+use Rattle.mf_account.proofs.RewindLemmas.{numbers-apart}
+use Rattle.mf_account.proofs.ChangeLemmas.{change-is, all-tails, those-all, none-in}
 use Rattle.mf_account.proofs.RemovedLemmas.{standing-removed}
 use Rattle.mf_account.proofs.StandingIsOne.{standing-is-one}
 
@@ -74,16 +75,15 @@ order-has n day entries order at are within is there stands =
     let seqs = ap (λ (x : Entry). x.seq) read in
     (k, below, get_or_default order k at 0 below ∙ omega (arith, first, second, seqs))
 
+-- what stands at a place of an order
 pub at-order : (entries all : List Entry) (order : List ℕ) (k at : ℕ) → entries_at entries order ≡ all → k < length order → get_or order k 0 ≡ at → entry_at all k ≡ entry_at entries at
 at-order entries all order k at is within here =
     ap (λ x. entry_at x k) (sym is) ∙ get_or-map (λ i. get_or entries i no_entry) order k 0 no_entry within ∙ ap (entry_at entries) here
 
 -- the standing entries with one less
-pub standing-without-it : (n day : ℕ) (entries : List Entry) (order : List ℕ) (at k : ℕ) → AreEntries n day entries → AreEntries n day (with_mark entries at true) → at < length entries → entries_at entries order ≡ standing entries → k < length order → get_or order k 0 ≡ at → standing (with_mark entries at true) ≡ take k (standing entries) ++ drop (k + 1) (standing entries)
-standing-without-it n day entries order at k are are_marked there is within here =
-    let size : length (entries_at entries order) ≡ length order = length-map order (λ i. get_or entries i no_entry) in
-    let same = ap length is in
-    standing-removed n day entries at k are are_marked there (omega (arith, size, same, within)) (at-order entries (standing entries) order k at is within here)
+pub standing-without-it : (n day : ℕ) (entries : List Entry) (at k : ℕ) → AreEntries n day entries → AreEntries n day (with_mark entries at true) → at < length entries → k < length (standing entries) → entry_at (standing entries) k ≡ entry_at entries at → standing (with_mark entries at true) ≡ take k (standing entries) ++ drop (k + 1) (standing entries)
+standing-without-it n day entries at k are are_marked there within here =
+    standing-removed n day entries at k are are_marked there within here
     ∙ remove-parts (standing entries) k
     ∙ ap (λ n. take k (standing entries) ++ drop n (standing entries)) (sym (add-one k))
 
@@ -125,15 +125,40 @@ redone-from old es back applied k kept book next parts stands within front book_
           ∙ ap (λ x. settled_by orders x first) (sym stands);
     }
 
+-- a number that no entry has is that of no part
+none-of-number : (loan : Loan) (seq : ℕ) → IsSound loan → (1 ≤ seq → seq ≤ length loan.entries → ⊥) → settled_in seq (settled_of_loan loan) ≡ []
+none-of-number loan seq sound outside =
+    none-in seq (settled_of_loan loan)
+    (numbers-apart (orders_of loan) seq (standing loan.entries) (first_state (schedule_of loan)) (λ j below same.
+    let at = standing-at loan.periods loan.day loan.entries j sound.entries below in
+    let number = sound.entries.numbers at.0 at.1.within in
+    let own : (entry_at loan.entries at.0).seq ≡ (entry_at (standing loan.entries) j).seq = ap (λ (x : Entry). x.seq) at.1.same in
+    let there = at.1.within in
+    outside (omega (arith, number, own, same)) (omega (arith, number, own, same, there))))
+
+other-within : (before after : Loan) → IsSound before → IsSound after → length before.entries ≤ length after.entries → (seq : ℕ) → HasOtherParts (settled_of_loan before) (settled_of_loan after) seq → (1 ≤ seq) × (seq ≤ length after.entries)
+other-within before after sound_before sound_after more seq differ =
+    elim (cases_lt 0 seq) [
+      | inl some ↦
+          elim (cases_lt (length after.entries) seq) [
+            | inl past ↦ absurd (differ (none-of-number before seq sound_before (λ from to. omega (arith, to, past, more)) ∙ sym (none-of-number after seq sound_after (λ from to. omega (arith, to, past)))))
+            | inr within ↦ (omega (arith, some), within)
+          ]
+      | inr none ↦ absurd (differ (none-of-number before seq sound_before (λ from to. omega (arith, from, none)) ∙ sym (none-of-number after seq sound_after (λ from to. omega (arith, from, none)))))
+    ]
+
 -- what a change changes, seen from the parts that stay on
-pub change-tails : (before after : Loan) (old new : State) (kept : ℕ) (tail parts : List Settled) (count : ℕ) (change : Changed) → old ≡ state_of_loan before → tail ≡ drop kept (settled_of_loan before) → IsRedone before after new kept parts → length old.rows ≡ after.periods → count ≡ length after.entries → AreThose (length old.rows) (HasOtherRow old.rows new.rows) change.rows → AreThose count (HasOtherParts tail parts) change.seqs → IsChange before after change
-change-tails before after old new kept tail parts count change old_is tail_is redone periods entries rows seqs =
+pub change-tails : (before after : Loan) (old new : State) (kept : ℕ) (tail parts : List Settled) (change : Changed) → IsSound before → IsSound after → length before.entries ≤ length after.entries → old ≡ state_of_loan before → tail ≡ drop kept (settled_of_loan before) → IsRedone before after new kept parts → length old.rows ≡ after.periods → AreThose (length old.rows) (HasOtherRow old.rows new.rows) change.rows → AreAll (HasOtherParts tail parts) change.seqs → IsChange before after change
+change-tails before after old new kept tail parts change sound_before sound_after more old_is tail_is redone periods rows seqs =
     let all : List Settled = settled_of_loan before in
     let front : List Settled = take kept all in
-    let later : AreThose count (HasOtherParts (drop kept all) parts) change.seqs = subst (λ (x : List Settled). AreThose count (HasOtherParts x parts) change.seqs) tail_is seqs in
-    let whole : AreThose count (HasOtherParts all (front ++ parts)) change.seqs =
-    subst (λ (x : List Settled). AreThose count (HasOtherParts x (front ++ parts)) change.seqs) (take-append-drop kept all) (those-tails count front (drop kept all) parts change.seqs later) in
-    change-is before after old new all (front ++ parts) count change old_is refl redone.book_is redone.parts_are periods entries rows whole
+    let later : AreAll (HasOtherParts (drop kept all) parts) change.seqs = subst (λ (x : List Settled). AreAll (HasOtherParts x parts) change.seqs) tail_is seqs in
+    let whole : AreAll (HasOtherParts all (front ++ parts)) change.seqs =
+    subst (λ (x : List Settled). AreAll (HasOtherParts x (front ++ parts)) change.seqs) (take-append-drop kept all) (all-tails front (drop kept all) parts change.seqs later) in
+    let within : AreThose (length after.entries) (HasOtherParts all (front ++ parts)) change.seqs =
+    those-all (length after.entries) (HasOtherParts all (front ++ parts)) change.seqs whole
+    (λ seq differ. other-within before after sound_before sound_after more seq (subst (λ (x : List Settled). HasOtherParts all x seq) redone.parts_are differ)) in
+    change-is before after old new all (front ++ parts) change old_is refl redone.book_is redone.parts_are periods rows within
 
 -- the slice of the parts from a place on
 pub tail-from : (slice all : List Settled) (k : ℕ) → slice ≡ all → take (length slice - k) (drop k slice) ≡ drop k all

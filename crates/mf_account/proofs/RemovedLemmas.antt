@@ -34,7 +34,7 @@ precedes-among a x (y ∷ ys) before (inl is) = ap (is_before a) is ∙ before.0
 precedes-among a x (y ∷ ys) before (inr later) = precedes-among a x ys before.1 later
 
 -- the one removed is none of the others
-removed-apart : (e : Entry) (xs : List Entry) (k : ℕ) → Ascends xs → k < length xs → e ≡ entry_at xs k → IsAmong e (remove xs k) → ⊥
+pub removed-apart : (e : Entry) (xs : List Entry) (k : ℕ) → Ascends xs → k < length xs → e ≡ entry_at xs k → IsAmong e (remove xs k) → ⊥
 removed-apart e [] k up within is among = absurd (omega arith)
 removed-apart e (x ∷ xs) zero up within is among =
     let own : is_before x x ≡ true = ap (is_before x) (sym is) ∙ precedes-among x e xs up.0 among in before-asym x x own own

@@ -55,7 +55,7 @@ numbers-numbered seq place (part ∷ parts) =
     All-cons (λ (s : Settled). s.seq ≡ seq) (record { seq = seq; place = place; cell = part.cell; how = part.how; amount = part.amount }) (numbered seq (place + 1) parts) refl (numbers-numbered seq (place + 1) parts)
 
 -- and none another's
-numbers-apart : (orders : Orders) (q : ℕ) (entries : List Entry) (from : State) → ((j : ℕ) → j < length entries → (entry_at entries j).seq ≢ q) → All (λ (s : Settled). s.seq ≢ q) (settled_by orders entries from)
+pub numbers-apart : (orders : Orders) (q : ℕ) (entries : List Entry) (from : State) → ((j : ℕ) → j < length entries → (entry_at entries j).seq ≢ q) → All (λ (s : Settled). s.seq ≢ q) (settled_by orders entries from)
 numbers-apart orders q [] from apart = All-nil (λ (s : Settled). s.seq ≢ q)
 numbers-apart orders q (entry ∷ entries) from apart =
     let own : List Settled = numbered entry.seq 1 (parts_of (orders entry) entry from) in

@@ -261,10 +261,10 @@ from-by WriteOff first business_day e form in_order disbursed = omega (arith, fo
 from-by Refund first business_day e form in_order disbursed = omega (arith, form.0, disbursed)
 
 -- an entry added at the end, read
-entry_at-before : (entries : List Entry) (e : Entry) (i : ℕ) → i < length entries → entry_at (entries ++ e ∷ []) i ≡ entry_at entries i
+pub entry_at-before : (entries : List Entry) (e : Entry) (i : ℕ) → i < length entries → entry_at (entries ++ e ∷ []) i ≡ entry_at entries i
 entry_at-before entries e i within = get_or-append entries (e ∷ []) no_entry i within
 
-entry_at-last : (entries : List Entry) (e : Entry) (i : ℕ) → i ≡ length entries → entry_at (entries ++ e ∷ []) i ≡ e
+pub entry_at-last : (entries : List Entry) (e : Entry) (i : ℕ) → i ≡ length entries → entry_at (entries ++ e ∷ []) i ≡ e
 entry_at-last entries e i is =
     get_or-append_right entries (e ∷ []) (length entries) i no_entry refl (omega arith)
     ∙ (let none : i - length entries ≡ 0 = omega arith in ap (λ x. get_or (e ∷ []) x no_entry) none)
@@ -358,7 +358,7 @@ columns-marked Refund n e has = has
 marked-same : (entries : List Entry) (at : ℕ) → at < length entries → entry_at (with_mark entries at true) at ≡ record (entry_at entries at) { reversed = true }
 marked-same entries at within = get_or-set_same entries at (record (entry_at entries at) { reversed = true }) no_entry within
 
-marked-other : (entries : List Entry) (at i : ℕ) → i ≢ at → entry_at (with_mark entries at true) i ≡ entry_at entries i
+pub marked-other : (entries : List Entry) (at i : ℕ) → i ≢ at → entry_at (with_mark entries at true) i ≡ entry_at entries i
 marked-other entries at i other = get_or-set_other entries at i (record (entry_at entries at) { reversed = true }) no_entry other
 
 -- one that stands after the marking is another one

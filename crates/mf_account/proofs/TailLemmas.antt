@@ -42,12 +42,12 @@ ascends-at (x ∷ xs) zero (suc j) up less within = precedes-at x xs j up.0 (ome
 ascends-at (x ∷ xs) (suc i) (suc j) up less within = ascends-at xs i j up.1 (omega arith) (omega arith)
 
 -- where a standing entry stands among the entries
-record IsAt (entries : List Entry) (j i : ℕ) : Type 0 where
-  within : i < length entries
-  same : entry_at entries i ≡ entry_at (standing entries) j
-  stands : (entry_at entries i).reversed ≡ false
+pub record IsAt (entries : List Entry) (j i : ℕ) : Type 0 where
+  pub within : i < length entries
+  pub same : entry_at entries i ≡ entry_at (standing entries) j
+  pub stands : (entry_at entries i).reversed ≡ false
 
-standing-at : (n day : ℕ) (entries : List Entry) (j : ℕ) → AreEntries n day entries → j < length (standing entries) → (i : ℕ) × IsAt entries j i
+pub standing-at : (n day : ℕ) (entries : List Entry) (j : ℕ) → AreEntries n day entries → j < length (standing entries) → (i : ℕ) × IsAt entries j i
 standing-at n day entries j are within =
     let is : IsStandingOf entries (standing entries) = (standing-is-one n day entries are).0 in
     let from = is.from (entry_at (standing entries) j) (at-among (standing entries) j within) in
@@ -72,17 +72,21 @@ numbers-standing n day entries i j are less within same =
     let seqs : (entry_at entries one.0).seq ≡ (entry_at entries other.0).seq = ap (λ (x : Entry). x.seq) one.1.same ∙ same ∙ sym (ap (λ (x : Entry). x.seq) other.1.same) in
     apart-at n day entries i j one.0 other.0 are less within one.1 other.1 (omega (arith, first, second, seqs))
 
-pub refund_last-standing : (n day : ℕ) (entries : List Entry) (j : ℕ) → AreEntries n day entries → j + 1 < length (standing entries) → (entry_at (standing entries) j).kind ≢ Refund
-refund_last-standing n day entries j are within is =
+-- a seal that stands is the last
+pub seal_last-standing : (n day : ℕ) (entries : List Entry) (j : ℕ) → AreEntries n day entries → j + 1 < length (standing entries) → is_seal (entry_at (standing entries) j).kind ≡ true → ⊥
+seal_last-standing n day entries j are within is =
     let one = standing-at n day entries j are (omega (arith, within)) in
     let next = standing-at n day entries (j + 1) are within in
     let up = (standing-is-one n day entries are).0.ascends in
     let apart : one.0 ≢ next.0 = apart-at n day entries j (j + 1) one.0 next.0 are (omega arith) within one.1 next.1 in
-    let seal : is_seal (entry_at entries one.0).kind ≡ true = ap (λ (x : Entry). is_seal x.kind) one.1.same ∙ ap is_seal is in
+    let seal : is_seal (entry_at entries one.0).kind ≡ true = ap (λ (x : Entry). is_seal x.kind) one.1.same ∙ is in
     let last = are.seal_last one.0 next.0 one.1.within next.1.within apart one.1.stands next.1.stands seal in
     let back : is_before (entry_at (standing entries) (j + 1)) (entry_at (standing entries) j) ≡ true =
     ap (λ x. is_before x (entry_at (standing entries) j)) (sym next.1.same) ∙ ap (is_before (entry_at entries next.0)) (sym one.1.same) ∙ last in
     before-asym (entry_at (standing entries) j) (entry_at (standing entries) (j + 1)) (ascends-at (standing entries) j (j + 1) up (omega arith) within) back
+
+pub refund_last-standing : (n day : ℕ) (entries : List Entry) (j : ℕ) → AreEntries n day entries → j + 1 < length (standing entries) → (entry_at (standing entries) j).kind ≢ Refund
+refund_last-standing n day entries j are within is = seal_last-standing n day entries j are within (ap is_seal is)
 
 pub after_all-append : (orders : Orders) (xs ys : List Entry) (from : State) → after_all orders (xs ++ ys) from ≡ after_all orders ys (after_all orders xs from)
 after_all-append orders [] ys from = refl

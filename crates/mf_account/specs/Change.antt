@@ -26,6 +26,12 @@ pub record AreThose (n : ℕ) (P : ℕ → Type 0) (xs : List ℕ) : Type 0 wher
   pub each : All (λ i. (1 ≤ i) × (i ≤ n) × P i) xs
   pub all : (i : ℕ) → 1 ≤ i → i ≤ n → P i → Contains xs i
 
+-- the numbers of which something holds, all of them and no other, ascending
+pub record AreAll (P : ℕ → Type 0) (xs : List ℕ) : Type 0 where
+  pub ascend : IsStrictlyIncreasing xs
+  pub each : All P xs
+  pub all : (i : ℕ) → P i → Contains xs i
+
 -- the parts of one entry
 abbrev pub settled_in : ℕ → List Settled → List Settled
 settled_in seq settled = filter (λ (s : Settled). s.seq == seq) settled

@@ -1,14 +1,14 @@
-ghost use Rattle.std.specs.Prelude.{◌≡◌, ℕ, ◌+◌, ◌-◌, ◌<◌, ◌≤◌, ◌∷◌, [], ◌++◌, IfOk, OnOk, OnErr, IsOkUnless, None, Some, true, false, length, take, All, sum, slice_index};
+ghost use Rattle.std.specs.Prelude.{◌≡◌, ℕ, ◌+◌, ◌-◌, ◌<◌, ◌≤◌, ◌∷◌, [], ◌++◌, IfOk, OnOk, OnErr, IsOkUnless, None, Some, true, false, length, take, insert, sum, slice_index};
 ghost use Rattle.mf_base.specs.declared.fault.Fault.{Fault as FaultNumber};
 ghost use Rattle.mf_base.specs.DayText.{last_entered_day};
 ghost use Rattle.mf_schedule.specs.Fresh.{IsLoanWithinLimits};
-ghost use Rattle.mf_account.specs.Standing.{entry_at, entries_at, standing, with_mark};
+ghost use Rattle.mf_account.specs.Standing.{entry_at, standing, placed, with_mark};
 ghost use Rattle.mf_account.specs.Account.{shares_in};
 ghost use Rattle.mf_account.specs.Change.{Account, IsChange, no_change, settled_in};
 ghost use Rattle.mf_account.specs.Loan.{Loan, IsKept, IsSound, AreEntries, state_of_loan, settled_of_loan, status_of_loan};
 ghost use Rattle.mf_account.specs.Rewind.{IsRedone, state_before, settled_upto};
 ghost use Rattle.mf_account.specs.Balance.{balances_of, repaid};
-ghost use Rattle.mf_account.specs.Refusals.{refusal_of, reversal_refused, IsOffered};
+ghost use Rattle.mf_account.specs.Refusals.{refusal_of, reversal_refused, is_sealed as is_sealed_by, IsOffered};
 
 use crate::balances::{Balances, book_sums};
 use crate::change::{Change, change_between, unchanged};
@@ -19,7 +19,7 @@ use crate::refusal::{
 use crate::replay::{apply_all, apply_with, mark_in, place_in, position, replayed, standing_order};
 use crate::resume::resumed_book;
 use crate::rewind::rewind_to;
-use crate::settled::{Book, Settled, put_behind};
+use crate::settled::{Book, Settled, put_behind, put_in};
 use mf_alloc::{Row, Share};
 use mf_base::{Day, Fault};
 use mf_catalog::Terms;
@@ -39,6 +39,8 @@ pub struct LoanAccount {
     periods: u32,
     day: Day,
     entries: Vec<Entry>,
+    /// Where the standing entries are among all, in their order, so that no call goes over those before a change.
+    order: Vec<usize>,
     schedule: Vec<Instalment>,
     disbursement_fee: u64,
     book: Book,
@@ -51,7 +53,7 @@ impl Model for LoanAccount {
 
     ghost view = { λ a. record { loan = record { terms = a.terms; principal = a.principal; periods = a.periods; day = a.day; entries = a.entries.items }; change = a.change } };
 
-    ghost invariant = { λ a. IsKept (record { terms = a.terms; principal = a.principal; periods = a.periods; day = a.day; entries = a.entries.items }) a.schedule.items a.disbursement_fee a.book a.settled.items };
+    ghost invariant = { λ a. IsKept (record { terms = a.terms; principal = a.principal; periods = a.periods; day = a.day; entries = a.entries.items }) a.order.items a.schedule.items a.disbursement_fee a.book a.settled.items };
 }
 
 impl LoanAccount {
@@ -73,13 +75,15 @@ impl LoanAccount {
     {
         let schedule = fresh(alloc, &terms, principal, periods, day)?;
         let fee = disbursement_fee(&terms, principal, &schedule);
-        let (book, settled) = replayed(alloc, &terms.strategy, &schedule, &entries)?;
+        let order = standing_order(alloc, &entries)?;
+        let (book, settled) = replayed(alloc, &terms.strategy, &schedule, &entries, &order)?;
         Ok(LoanAccount {
             terms,
             principal,
             periods,
             day,
             entries,
+            order,
             schedule,
             disbursement_fee: fee,
             book,
@@ -109,13 +113,15 @@ impl LoanAccount {
     {
         let schedule = fresh(alloc, &terms, principal, periods, day)?;
         let first_fee = disbursement_fee(&terms, principal, &schedule);
-        let book = resumed_book(alloc, &entries, rows)?;
+        let order = standing_order(alloc, &entries)?;
+        let book = resumed_book(&entries, &order, rows);
         Ok(LoanAccount {
             terms,
             principal,
             periods,
             day,
             entries,
+            order,
             schedule,
             disbursement_fee: first_fee,
             book,
@@ -152,65 +158,76 @@ impl LoanAccount {
         ensures change { OnOk result (IsChange self.old.loan self.new.loan self.new.change) }
         ensures err { OnErr result (self.new ≡ self.old) }
     {
-        let (book, kept, parts) = self.redone_with(alloc, &entry)?;
-        let change = self.change_to(alloc, &book, kept, &parts, self.entries.len() + 1)?;
+        let place = self.place_of(&entry);
+        let (book, kept, parts) = self.redone_with(alloc, &entry, place)?;
+        let change = self.change_to(alloc, &book, kept, &parts)?;
+        let at = self.entries.len();
         self.settled.reserve(parts.len())?;
+        self.order.reserve(1)?;
         self.entries.push(entry)?;
+        put_in(&mut self.order, place, at);
         put_behind(&mut self.settled, kept, &parts);
         self.book = book;
         self.change = change;
         Ok(())
     }
 
-    /// What the account comes to with one entry more: the book, how many of the parts stay, and those that follow.
+    /// Where an entry belongs among the standing ones.
+    fn place_of(&self, entry: &Entry) -> usize
+        ensures within { result ≤ length (standing self.now.loan.entries) }
+        ensures place { placed entry.now (standing self.now.loan.entries) ≡ insert (standing self.now.loan.entries) result entry.now }
+    {
+        position(&self.entries, &self.order, entry)
+    }
+
+    /// What the account comes to with one entry more, at its place among the standing ones: the book, how many of the
+    /// parts stay, and those that follow.
     fn redone_with(
         &self,
         alloc: Global,
         entry: &Entry,
+        place: usize,
     ) -> Result<(Book, usize, Vec<Settled>), Fault>
         requires sound { IsSound (record self.now.loan { entries = self.now.loan.entries ++ entry.now ∷ [] }) }
         requires stands { entry.now.reversed ≡ false }
+        requires within { place ≤ length (standing self.now.loan.entries) }
+        requires place { placed entry.now (standing self.now.loan.entries) ≡ insert (standing self.now.loan.entries) place entry.now }
         ensures redone { IfOk result (λ r. IsRedone self.now.loan (record self.now.loan { entries = self.now.loan.entries ++ entry.now ∷ [] }) r.0 r.1 r.2.items) }
         ensures only { IsOkUnless result Fault.F20 }
     {
-        let order = standing_order(alloc, &self.entries)?;
-        let place = position(&self.entries, &order, entry);
-        let (mut book, kept) = self.rewound(alloc, &order, place)?;
-        let later = &order[place..];
+        let (mut book, kept) = self.rewound(alloc, place)?;
+        let later = &self.order[place..];
         let strategy = &self.terms.strategy;
         let parts = apply_with(alloc, strategy, &mut book, entry, &self.entries, later)?;
         Ok((book, kept, parts))
     }
 
-    /// What a change that leads to a book and parts changes, of so many entries.
+    /// What a change that leads to a book and parts changes.
     fn change_to(
         &self,
         alloc: Global,
         book: &Book,
         kept: usize,
         parts: &[Settled],
-        count: usize,
     ) -> Result<Change, Fault>
-        requires { (new : Loan) × IsSound new × (new.periods ≡ self.now.loan.periods) × (length new.entries ≡ count) × IsRedone self.now.loan new book.now kept parts.now }
-        ensures change { (new : Loan) → IsSound new → new.periods ≡ self.now.loan.periods → length new.entries ≡ count → IsRedone self.now.loan new book.now kept parts.now → IfOk result (IsChange self.now.loan new) }
+        requires { (new : Loan) × IsSound new × (new.periods ≡ self.now.loan.periods) × (length self.now.loan.entries ≤ length new.entries) × IsRedone self.now.loan new book.now kept parts.now }
+        ensures change { (new : Loan) → IsSound new → new.periods ≡ self.now.loan.periods → length self.now.loan.entries ≤ length new.entries → IsRedone self.now.loan new book.now kept parts.now → IfOk result (IsChange self.now.loan new) }
         ensures only { IsOkUnless result Fault.F20 }
     {
         let before = &self.settled[kept..];
-        let change = change_between(alloc, &self.book, before, book, parts, count)?;
+        let change = change_between(alloc, &self.book, before, book, parts)?;
         Ok(change)
     }
 
     /// The book before the standing entries from a place on, and how many parts are settled by then.
-    fn rewound(&self, alloc: Global, order: &[usize], place: usize) -> Result<(Book, usize), Fault>
-        requires within { All (λ at. at < length self.now.loan.entries) order.now }
-        requires order { entries_at self.now.loan.entries order.now ≡ standing self.now.loan.entries }
-        requires place { place ≤ length order.now }
+    fn rewound(&self, alloc: Global, place: usize) -> Result<(Book, usize), Fault>
+        requires place { place ≤ length (standing self.now.loan.entries) }
         ensures within { IfOk result (λ both. both.1 ≤ length (settled_of_loan self.now.loan)) }
         ensures back { IfOk result (λ both. (both.0 ≡ state_before self.now.loan place) × (take both.1 (settled_of_loan self.now.loan) ≡ settled_upto self.now.loan place)) }
         ensures only { IsOkUnless result Fault.F20 }
     {
         let mut book = self.book.copied(alloc)?;
-        let kept = rewind_to(&mut book, &self.entries, order, place, &self.settled);
+        let kept = rewind_to(&mut book, &self.entries, &self.order, place, &self.settled);
         Ok((book, kept))
     }
 
@@ -220,7 +237,7 @@ impl LoanAccount {
         ensures sound { IsSound self.now.loan }
     {
         let book = &self.book;
-        if is_sealed(&self.entries) {
+        if self.is_sealed() {
             Some(Fault::F11)
         } else if !admits(entry.kind, self.status()) {
             Some(Fault::F9)
@@ -252,7 +269,8 @@ impl LoanAccount {
         ensures change { OnOk result (IsChange self.old.loan self.new.loan self.new.change) }
         ensures err { OnErr result (self.new ≡ self.old) }
     {
-        match reversal(&self.entries, seq) {
+        let sealed = self.is_sealed();
+        match reversal(&self.entries, sealed, seq) {
             Some(fault) => Err(fault),
             None => self.take_out(alloc, (seq - 1) as usize),
         }
@@ -267,27 +285,40 @@ impl LoanAccount {
         ensures change { OnOk result (IsChange self.old.loan self.new.loan self.new.change) }
         ensures err { OnErr result (self.new ≡ self.old) }
     {
-        let (book, kept, parts) = self.redone_without(alloc, at)?;
-        let change = self.change_to(alloc, &book, kept, &parts, self.entries.len())?;
+        let place = self.place_at(at);
+        let (book, kept, parts) = self.redone_without(alloc, place)?;
+        let change = self.change_to(alloc, &book, kept, &parts)?;
         self.settled.reserve(parts.len())?;
         mark_in(&mut self.entries, at, true);
+        self.order.remove(place);
         put_behind(&mut self.settled, kept, &parts);
         self.book = book;
         self.change = change;
         Ok(())
     }
 
-    /// What the account comes to where the entry at a place is reversed: as `redone_with`.
-    fn redone_without(&self, alloc: Global, at: usize) -> Result<(Book, usize, Vec<Settled>), Fault>
+    /// Where the entry at a place stands among the standing ones.
+    fn place_at(&self, at: usize) -> usize
         requires there { at < length self.now.loan.entries }
         requires stands { (entry_at self.now.loan.entries at).reversed ≡ false }
-        ensures redone { IfOk result (λ r. IsRedone self.now.loan (record self.now.loan { entries = with_mark self.now.loan.entries at true }) r.0 r.1 r.2.items) }
+        ensures within { result < length (standing self.now.loan.entries) }
+        ensures there { entry_at (standing self.now.loan.entries) result ≡ entry_at self.now.loan.entries at }
+    {
+        place_in(&self.order, at)
+    }
+
+    /// What the account comes to where the entry at a place among the standing ones is reversed: as `redone_with`.
+    fn redone_without(
+        &self,
+        alloc: Global,
+        place: usize,
+    ) -> Result<(Book, usize, Vec<Settled>), Fault>
+        requires within { place < length (standing self.now.loan.entries) }
+        ensures redone { (at : ℕ) → at < length self.now.loan.entries → entry_at (standing self.now.loan.entries) place ≡ entry_at self.now.loan.entries at → IfOk result (λ r. IsRedone self.now.loan (record self.now.loan { entries = with_mark self.now.loan.entries at true }) r.0 r.1 r.2.items) }
         ensures only { IsOkUnless result Fault.F20 }
     {
-        let order = standing_order(alloc, &self.entries)?;
-        let place = place_in(&order, at);
-        let (mut book, kept) = self.rewound(alloc, &order, place)?;
-        let later = &order[place + 1..];
+        let (mut book, kept) = self.rewound(alloc, place)?;
+        let later = &self.order[place + 1..];
         let parts = apply_all(alloc, &self.terms.strategy, &mut book, &self.entries, later)?;
         Ok((book, kept, parts))
     }
@@ -298,7 +329,14 @@ impl LoanAccount {
         ensures { result ≡ status_of_loan self.now.loan }
     {
         let book = &self.book;
-        status(&self.entries, &book.rows, book.overpaid)
+        status(&self.entries, &self.order, &book.rows, book.overpaid)
+    }
+
+    /// Whether a write-off or a refund stands.
+    fn is_sealed(&self) -> bool
+        ensures { result ≡ is_sealed_by self.now.loan.entries }
+    {
+        is_sealed(&self.entries, &self.order)
     }
 
     /// The loan's sums over all instalments. The standing repayments add up to all that is paid, overpaid and refunded;

@@ -1,5 +1,7 @@
-ghost use Rattle.std.specs.Prelude.{◌≡◌, ◌≢◌, ℕ, ◌<◌, ◌≤◌, ◌^◌, ◌↔◌, true, IfOk, IsOkUnless, length, drop, slice_index_or};
-ghost use Rattle.mf_account.specs.Change.{AreThose, HasOtherRow, HasOtherParts, settled_in, no_change};
+ghost use Rattle.std.specs.Prelude.{◌≡◌, ◌≢◌, ℕ, ◌<◌, ◌≤◌, ◌↔◌, ◌⊎◌, true, IfOk, IsOkUnless, length, drop, slice_index_or};
+ghost use Rattle.std.specs.List.Sorted.{IsNonDecreasingBy};
+ghost use Rattle.mf_account.specs.declared.settled.Settled.{Settled as SettledRecord};
+ghost use Rattle.mf_account.specs.Change.{AreThose, AreAll, HasOtherRow, HasOtherParts, settled_in, no_change};
 ghost use Rattle.mf_account.specs.Applicable.{no_settled};
 
 use crate::settled::{Book, Settled};
@@ -116,44 +118,102 @@ fn has_same_parts(before: &[Settled], after: &[Settled], seq: u32) -> bool
     i == before.len() && k == after.len()
 }
 
-/// The entries whose parts differ, of so many entries.
-pub(crate) fn changed_seqs(
-    alloc: Global,
-    before: &[Settled],
-    after: &[Settled],
-    count: usize,
-) -> Result<Vec<u32>, Fault>
-    requires few { count ≤ 9999 }
-    ensures seqs { IfOk result (λ seqs. AreThose count (HasOtherParts before.now after.now) seqs.items) }
+/// Parts by the numbers of their entries, those of one entry in the order that they had.
+fn by_entry(alloc: Global, parts: &[Settled]) -> Result<Vec<Settled>, Fault>
+    ensures same { IfOk result (λ sorted. (seq : ℕ) → settled_in seq sorted.items ≡ settled_in seq parts.now) }
+    ensures ascend { IfOk result (λ sorted. IsNonDecreasingBy (λ (s : SettledRecord). s.seq) sorted.items) }
+    ensures only { IsOkUnless result Fault.F20 }
+{
+    let mut sorted = Vec::from_slice(alloc, parts)?;
+    sorted.sort_by_key(|part| part.seq)?;
+    Ok(sorted)
+}
+
+/// The least number that a part has, from a place on in one or the other of two lists by entry.
+fn least_seq(before: &[Settled], i: usize, after: &[Settled], k: usize) -> u32
+    requires before { IsNonDecreasingBy (λ (s : SettledRecord). s.seq) before.now }
+    requires after { IsNonDecreasingBy (λ (s : SettledRecord). s.seq) after.now }
+    requires some { length before.now ≤ i → k < length after.now }
+    ensures before { (j : ℕ) → i ≤ j → j < length before.now → result ≤ (slice_index_or before.now j no_settled).seq }
+    ensures after { (j : ℕ) → k ≤ j → j < length after.now → result ≤ (slice_index_or after.now j no_settled).seq }
+    ensures one { ((i < length before.now) × ((slice_index_or before.now i no_settled).seq ≡ result)) ⊎ ((k < length after.now) × ((slice_index_or after.now k no_settled).seq ≡ result)) }
+{
+    if i < before.len() {
+        if k < after.len() && after[k].seq < before[i].seq {
+            return after[k].seq;
+        }
+        return before[i].seq;
+    }
+    after[k].seq
+}
+
+/// Where the parts of an entry end, from a place on.
+fn own_end(parts: &[Settled], from: usize, seq: u32) -> usize
+    requires { from ≤ length parts.now }
+    ensures from { from ≤ result }
+    ensures within { result ≤ length parts.now }
+    ensures own { (j : ℕ) → from ≤ j → j < result → (slice_index_or parts.now j no_settled).seq ≡ seq }
+    ensures last { result < length parts.now → (slice_index_or parts.now result no_settled).seq ≢ seq }
+{
+    let mut end = from;
+    while end < parts.len() && parts[end].seq == seq {
+        end += 1;
+    }
+    end
+}
+
+/// The entries whose parts differ between two lists by entry.
+fn differing_seqs(alloc: Global, before: &[Settled], after: &[Settled]) -> Result<Vec<u32>, Fault>
+    requires before { IsNonDecreasingBy (λ (s : SettledRecord). s.seq) before.now }
+    requires after { IsNonDecreasingBy (λ (s : SettledRecord). s.seq) after.now }
+    ensures seqs { IfOk result (λ seqs. AreAll (HasOtherParts before.now after.now) seqs.items) }
     ensures only { IsOkUnless result Fault.F20 }
 {
     let mut changed = Vec::new(alloc);
-    for k in 0..count {
-        let seq = k as u32 + 1;
-        if !has_same_parts(before, after, seq) {
+    let mut i = 0;
+    let mut k = 0;
+    while i < before.len() || k < after.len() {
+        let seq = least_seq(before, i, after, k);
+        let next_i = own_end(before, i, seq);
+        let next_k = own_end(after, k, seq);
+        if !has_same_parts(&before[i..next_i], &after[k..next_k], seq) {
             changed.push(seq)?;
         }
+        i = next_i;
+        k = next_k;
     }
     Ok(changed)
 }
 
-/// What differs between two books and their parts, of so many entries.
+/// The entries whose parts differ. Only the parts given are gone over, so it costs what they come to and no more.
+pub(crate) fn changed_seqs(
+    alloc: Global,
+    before: &[Settled],
+    after: &[Settled],
+) -> Result<Vec<u32>, Fault>
+    ensures seqs { IfOk result (λ seqs. AreAll (HasOtherParts before.now after.now) seqs.items) }
+    ensures only { IsOkUnless result Fault.F20 }
+{
+    let before_by_entry = by_entry(alloc, before)?;
+    let after_by_entry = by_entry(alloc, after)?;
+    differing_seqs(alloc, &before_by_entry, &after_by_entry)
+}
+
+/// What differs between two books and their parts.
 pub(crate) fn change_between(
     alloc: Global,
     before: &Book,
     settled_before: &[Settled],
     after: &Book,
     settled_after: &[Settled],
-    count: usize,
 ) -> Result<Change, Fault>
     requires few { length before.now.rows ≤ 360 }
     requires size { length after.now.rows ≡ length before.now.rows }
-    requires entries { count ≤ 9999 }
     ensures rows { IfOk result (λ change. AreThose (length before.now.rows) (HasOtherRow before.now.rows after.now.rows) change.rows) }
-    ensures seqs { IfOk result (λ change. AreThose count (HasOtherParts settled_before.now settled_after.now) change.seqs) }
+    ensures seqs { IfOk result (λ change. AreAll (HasOtherParts settled_before.now settled_after.now) change.seqs) }
     ensures only { IsOkUnless result Fault.F20 }
 {
     let rows = changed_rows(alloc, &before.rows, &after.rows)?;
-    let seqs = changed_seqs(alloc, settled_before, settled_after, count)?;
+    let seqs = changed_seqs(alloc, settled_before, settled_after)?;
     Ok(Change { rows, seqs })
 }

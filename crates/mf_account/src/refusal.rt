@@ -1,28 +1,36 @@
-ghost use Rattle.std.specs.Prelude.{◌≡◌, ◌-◌, ◌≤◌, ◌&&◌, not, false, IsTrue, IfNone, length, is_some};
-ghost use Rattle.mf_account.specs.Standing.{entry_at};
+ghost use Rattle.std.specs.Prelude.{◌≡◌, ℕ, ◌-◌, ◌<◌, ◌≤◌, ◌&&◌, not, false, IsTrue, IfNone, length, is_some, All};
+ghost use Rattle.mf_account.specs.Standing.{entry_at, entries_at, standing};
+ghost use Rattle.mf_account.specs.Loan.{AreEntries};
 ghost use Rattle.mf_account.specs.Kinds.{is_write_off as is_write_off_kind};
 ghost use Rattle.std.specs.List.{list_any};
 ghost use Rattle.mf_alloc.specs.Sums.{is_open};
 ghost use Rattle.mf_account.specs.declared.entry.Entry.{Entry as EntryRecord};
 ghost use Rattle.mf_account.specs.Account.{status_of};
-ghost use Rattle.mf_account.specs.Refusals.{is_standing_seal as is_standing_seal_of, is_sealed as is_sealed_by, admits as admits_kind, is_out_of_order as is_out_of_order_day, is_there as is_there_among, is_penalty_on as is_penalty_on_it, has_penalty as has_penalty_on, is_forbidden as is_forbidden_there, forbids_penalty as forbids_penalty_at, is_out_of_limits as is_out_of_limits_amount, reversal_refused};
+ghost use Rattle.mf_account.specs.Refusals.{is_sealed as is_sealed_by, admits as admits_kind, is_out_of_order as is_out_of_order_day, is_there as is_there_among, is_penalty_on as is_penalty_on_it, has_penalty as has_penalty_on, is_forbidden as is_forbidden_there, forbids_penalty as forbids_penalty_at, is_out_of_limits as is_out_of_limits_amount, reversal_refused};
 
 use crate::entry::{Entry, Kind};
 use mf_alloc::{Cell, Row, outstanding};
 use mf_base::{Day, Fault};
 
-/// Whether an entry is a write-off that stands.
-fn is_standing_write_off(entry: &Entry) -> bool
-    ensures { result ≡ (not entry.now.reversed && is_write_off_kind entry.now.kind) }
+/// Whether a kind is a write-off.
+fn is_write_off(kind: Kind) -> bool
+    ensures { result ≡ is_write_off_kind kind }
 {
-    !entry.reversed && matches!(entry.kind, Kind::WriteOff)
+    matches!(kind, Kind::WriteOff)
 }
 
-/// Whether a write-off stands.
-fn has_write_off(entries: &[Entry]) -> bool
+/// Whether a write-off stands. It is then the last of the standing entries, whose places are given in their order.
+fn has_write_off(entries: &[Entry], order: &[usize]) -> bool
+    requires within { All (λ at. at < length entries.now) order.now }
+    requires order { entries_at entries.now order.now ≡ standing entries.now }
+    requires entries { (n : ℕ) × (day : ℕ) × AreEntries n day entries.now }
     ensures { result ≡ list_any (λ (e : EntryRecord). not e.reversed && is_write_off_kind e.kind) entries.now }
 {
-    entries.iter().any(|entry| is_standing_write_off(entry))
+    if order.len() == 0 {
+        return false;
+    }
+    let last = &entries[order[order.len() - 1]];
+    is_write_off(last.kind)
 }
 
 /// Whether anything is outstanding.
@@ -34,10 +42,13 @@ fn is_any_open(rows: &[Row]) -> bool
 
 /// The status of a disbursed loan: 601 where a write-off stands, else 300 where anything is outstanding, else 700
 /// where something is overpaid, else 600.
-pub(crate) fn status(entries: &[Entry], rows: &[Row], overpaid: u64) -> u16
+pub(crate) fn status(entries: &[Entry], order: &[usize], rows: &[Row], overpaid: u64) -> u16
+    requires within { All (λ at. at < length entries.now) order.now }
+    requires order { entries_at entries.now order.now ≡ standing entries.now }
+    requires entries { (n : ℕ) × (day : ℕ) × AreEntries n day entries.now }
     ensures { result ≡ status_of entries.now (record { rows = rows.now; overpaid = overpaid; refunded = 0 }) }
 {
-    if has_write_off(entries) {
+    if has_write_off(entries, order) {
         601
     } else if is_any_open(rows) {
         300
@@ -48,18 +59,19 @@ pub(crate) fn status(entries: &[Entry], rows: &[Row], overpaid: u64) -> u16
     }
 }
 
-/// Whether an entry is a write-off or a refund that stands.
-fn is_standing_seal(entry: &Entry) -> bool
-    ensures { result ≡ is_standing_seal_of entry.now }
-{
-    !entry.reversed && entry.kind.is_seal()
-}
-
-/// Whether a write-off or a refund stands.
-pub(crate) fn is_sealed(entries: &[Entry]) -> bool
+/// Whether a write-off or a refund stands. It is then the last of the standing entries, whose places are given in their
+/// order.
+pub(crate) fn is_sealed(entries: &[Entry], order: &[usize]) -> bool
+    requires within { All (λ at. at < length entries.now) order.now }
+    requires order { entries_at entries.now order.now ≡ standing entries.now }
+    requires entries { (n : ℕ) × (day : ℕ) × AreEntries n day entries.now }
     ensures { result ≡ is_sealed_by entries.now }
 {
-    entries.iter().any(|entry| is_standing_seal(entry))
+    if order.len() == 0 {
+        return false;
+    }
+    let last = &entries[order[order.len() - 1]];
+    last.kind.is_seal()
 }
 
 /// Whether a status admits entries of a kind.
@@ -161,8 +173,10 @@ pub(crate) fn is_out_of_limits(entry: &Entry) -> bool
     }
 }
 
-/// Why a reversal is refused: no such entry, reversed already, or another entry seals the loan.
-pub(crate) fn reversal(entries: &[Entry], seq: u32) -> Option<Fault>
+/// Why a reversal is refused: no such entry, reversed already, or another entry seals the loan. `sealed` says whether one
+/// does.
+pub(crate) fn reversal(entries: &[Entry], sealed: bool, seq: u32) -> Option<Fault>
+    requires { sealed ≡ is_sealed_by entries.now }
     ensures value { result ≡ reversal_refused entries.now seq }
     ensures first { IfNone result (1 ≤ seq) }
     ensures last { IfNone result (seq ≤ length entries.now) }
@@ -174,7 +188,7 @@ pub(crate) fn reversal(entries: &[Entry], seq: u32) -> Option<Fault>
     let entry = &entries[(seq - 1) as usize];
     if entry.reversed {
         Some(Fault::F13)
-    } else if is_sealed(entries) && !entry.kind.is_seal() {
+    } else if sealed && !entry.kind.is_seal() {
         Some(Fault::F11)
     } else {
         None

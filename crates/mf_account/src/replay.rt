@@ -154,22 +154,25 @@ pub(crate) fn apply_with<T: Strategy>(
     Ok(parts)
 }
 
-/// The state and the settled parts of a fresh schedule and entries: the effects of the standing entries, in order.
+/// The state and the settled parts of a fresh schedule and entries: the effects of the standing entries, whose places are
+/// given in their order.
 pub(crate) fn replayed<T: Strategy>(
     alloc: Global,
     strategy: &T,
     schedule: &[Instalment],
     entries: &[Entry],
+    order: &[usize],
 ) -> Result<(Book, Vec<Settled>), Fault>
     requires few { length schedule.now ≤ 360 }
+    requires within { All (λ i. i < length entries.now) order.now }
+    requires order { entries_at entries.now order.now ≡ standing entries.now }
     requires fits { AreApplicable (orders_by (T.cell_at strategy.now) (first_state schedule.now).rows) (standing entries.now) (first_state schedule.now) }
     ensures state { IfOk result (λ both. both.0 ≡ state_of (orders_by (T.cell_at strategy.now) (first_state schedule.now).rows) schedule.now entries.now) }
     ensures settled { IfOk result (λ both. both.1.items ≡ settled_of (orders_by (T.cell_at strategy.now) (first_state schedule.now).rows) schedule.now entries.now) }
     ensures only { IsOkUnless result Fault.F20 }
 {
-    let order = standing_order(alloc, entries)?;
     let mut book = first_book(alloc, schedule)?;
-    let settled = apply_all(alloc, strategy, &mut book, entries, &order)?;
+    let settled = apply_all(alloc, strategy, &mut book, entries, order)?;
     Ok((book, settled))
 }
 

@@ -1,21 +1,18 @@
-ghost use Rattle.std.specs.Prelude.{◌≡◌, ℕ, ◌+◌, ◌-◌, ◌<◌, ◌^◌, ◌↔◌, true, IfOk, IsOkUnless, length, sum_by, All};
+ghost use Rattle.std.specs.Prelude.{◌≡◌, ℕ, ◌+◌, ◌-◌, ◌<◌, ◌^◌, ◌↔◌, true, length, sum_by, All};
 ghost use Rattle.mf_alloc.specs.Sums.{Sums};
 ghost use Rattle.mf_account.specs.declared.entry.Entry.{Entry as EntryRecord};
 ghost use Rattle.mf_account.specs.declared.entry.Kind.TheVariants.{Refund};
 ghost use Rattle.mf_account.specs.Kinds.{money_in as money_of};
 ghost use Rattle.mf_account.specs.Account.{sum_at};
 ghost use Rattle.mf_account.specs.Balance.{HasRoom};
-ghost use Rattle.mf_account.specs.Standing.{entries_at, entry_at};
+ghost use Rattle.mf_account.specs.Standing.{entries_at, entry_at, standing};
 ghost use Rattle.mf_account.specs.Loan.{Loan, IsSound, state_of_loan};
 
 use crate::balances::all_paid;
 use crate::effect::money_in;
 use crate::entry::{Entry, Kind};
-use crate::replay::standing_order;
 use crate::settled::Book;
 use mf_alloc::Row;
-use mf_base::Fault;
-use std::alloc::Global;
 
 /// What entries bring.
 fn money_brought(entries: &[Entry], order: &[usize]) -> u64
@@ -53,23 +50,23 @@ fn ends_in_refund(entries: &[Entry], order: &[usize]) -> bool
     matches!(last.kind, Kind::Refund)
 }
 
-/// The book of a loan whose rows are known: what its repayments bring beyond what is paid is overpaid, or refunded
+/// The book of a loan whose rows and order are known: what its repayments bring beyond what is paid is overpaid, or refunded
 /// where a refund stands, which is then the last.
-pub(crate) fn resumed_book(alloc: Global, entries: &[Entry], rows: Vec<Row>) -> Result<Book, Fault>
-    requires { (loan : Loan) × IsSound loan × (entries.now ≡ loan.entries) × (rows.items ≡ (state_of_loan loan).rows) }
-    ensures book { (loan : Loan) → IsSound loan → entries.now ≡ loan.entries → rows.items ≡ (state_of_loan loan).rows → IfOk result (λ book. book ≡ state_of_loan loan) }
-    ensures only { IsOkUnless result Fault.F20 }
+pub(crate) fn resumed_book(entries: &[Entry], order: &[usize], rows: Vec<Row>) -> Book
+    requires within { All (λ i. i < length entries.now) order.now }
+    requires order { entries_at entries.now order.now ≡ standing entries.now }
+    requires loan { (loan : Loan) × IsSound loan × (entries.now ≡ loan.entries) × (rows.items ≡ (state_of_loan loan).rows) }
+    ensures { (loan : Loan) → IsSound loan → entries.now ≡ loan.entries → rows.items ≡ (state_of_loan loan).rows → result ≡ state_of_loan loan }
 {
-    let order = standing_order(alloc, entries)?;
-    let rest = money_brought(entries, &order) - money_paid(&rows);
-    let (overpaid, refunded) = if ends_in_refund(entries, &order) {
+    let rest = money_brought(entries, order) - money_paid(&rows);
+    let (overpaid, refunded) = if ends_in_refund(entries, order) {
         (0, rest)
     } else {
         (rest, 0)
     };
-    Ok(Book {
+    Book {
         rows,
         overpaid,
         refunded,
-    })
+    }
 }

@@ -1,4 +1,4 @@
-ghost use Rattle.std.specs.Prelude.{◌≡◌, ◌+◌, ◌≤◌, ◌++◌, length, take, vec_len, vec_capacity};
+ghost use Rattle.std.specs.Prelude.{◌≡◌, ◌+◌, ◌<◌, ◌≤◌, ◌++◌, length, take, insert, vec_len, vec_capacity};
 
 use mf_alloc::{Cell, Row, Share};
 use mf_base::Fault;
@@ -79,4 +79,13 @@ pub(crate) fn put_behind(settled: &mut Vec<Settled>, kept: usize, parts: &[Settl
 {
     settled.truncate(kept);
     let _put = settled.extend_from_slice(parts);
+}
+
+/// Puts the place of an entry into an order. There is room for it.
+pub(crate) fn put_in(order: &mut Vec<usize>, place: usize, at: usize)
+    requires within { place ≤ vec_len order.old }
+    requires room { vec_len order.old < vec_capacity order.old }
+    ensures { order.new.items ≡ insert order.old.items place at }
+{
+    let _put = order.insert(place, at);
 }

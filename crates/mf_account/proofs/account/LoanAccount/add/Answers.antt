@@ -1,19 +1,35 @@
-use Rattle.std.proofs.Common.{◌≡◌, ◌∙◌, ◌++◌, ◌∷◌, [], ap, sym, subst, arith, take, List, length-append}
+use Rattle.std.proofs.Common.{◌≡◌, ◌≤◌, ◌∙◌, ◌++◌, ◌∷◌, [], ℕ, ap, sym, subst, arith, take, List, length, length-append, refl}
+use Rattle.std.specs.Prelude.{insert}
 use Rattle.mf_account.specs.declared.entry.Entry.{Entry}
 use Rattle.mf_account.specs.declared.settled.Settled.{Settled}
 use Rattle.mf_account.specs.Change.{Account, IsChange}
+use Rattle.mf_account.specs.Standing.{placed, standing}
 use Rattle.mf_account.specs.Loan.{Loan, IsSound, IsKept, settled_of_loan}
 use Rattle.mf_account.specs.Rewind.{IsRedone}
+use Rattle.mf_account.proofs.OrderLemmas.{length-order, order-entered, within-entered}
 use Rattle.mf_account.proofs.account.LoanAccount.add.Goals as goal
+
+pub put_in-requires-clause-within : goal.put_in-requires-clause-within
+put_in-requires-clause-within c =
+    let within : c.place_of-place.result ≤ length (standing c.self.inside.entries.items) = subst (λ (a : Account). c.place_of-place.result ≤ length (standing a.loan.entries)) (sym c.self.view_is) c.place_of-place.ensures.within in
+    let size = length-order c.self.inside.entries.items c.self.inside.order.items c.self.invariant.order_is in
+    omega (arith, within, size, c.self.inside.order.ok, c.in_ok-reserve-2.ensures.len)
 
 pub invariant_of-self-2 : goal.invariant_of-self-2
 invariant_of-self-2 c =
     let old : Loan = record { terms = c.self.inside.terms; principal = c.self.inside.principal; periods = c.self.inside.periods; day = c.self.inside.day; entries = c.self.inside.entries.items } in
     let new : Loan = record old { entries = old.entries ++ c.args.entry ∷ [] } in
+    let place : ℕ = c.place_of-place.result in
     let sound : IsSound new = subst (λ (a : Account). IsSound (record a.loan { entries = a.loan.entries ++ c.args.entry ∷ [] })) (sym c.self.view_is) c.requires.sound in
+    let place_is : placed c.args.entry (standing old.entries) ≡ insert (standing old.entries) place c.args.entry = subst (λ (a : Account). placed c.args.entry (standing a.loan.entries) ≡ insert (standing a.loan.entries) place c.args.entry) (sym c.self.view_is) c.place_of-place.ensures.place in
     let redone : IsRedone old new c.in_ok-book.book c.in_ok-book.kept c.in_ok-book.parts.items = subst (λ (a : Account). IsRedone a.loan (record a.loan { entries = a.loan.entries ++ c.args.entry ∷ [] }) c.in_ok-book.book c.in_ok-book.kept c.in_ok-book.parts.items) (sym c.self.view_is) c.in_ok-book.ensures.redone in
-    let kept : IsKept new c.self.inside.schedule.items c.self.inside.disbursement_fee c.in_ok-book.book c.put_behind.new.settled.items = record {
+    let at : c.len-at.result ≡ length old.entries = omega (arith, c.len-at.ensures, c.self.inside.entries.ok) in
+    let order : c.put_in.new.order.items ≡ insert c.self.inside.order.items place (length old.entries) =
+    c.put_in.ensures ∙ ap (λ (o : List ℕ). insert o place c.len-at.result) c.in_ok-reserve-2.ensures.items ∙ ap (insert c.self.inside.order.items place) at in
+    let kept : IsKept new (insert c.self.inside.order.items place (length old.entries)) c.self.inside.schedule.items c.self.inside.disbursement_fee c.in_ok-book.book c.put_behind.new.settled.items = record {
       sound = sound;
+      within = within-entered old.entries c.self.inside.order.items place c.args.entry c.self.invariant.within;
+      order_is = order-entered old.entries c.self.inside.order.items place c.args.entry c.self.invariant.within c.self.invariant.order_is c.requires.stands place_is;
       schedule_is = c.self.invariant.schedule_is;
       fee_is = c.self.invariant.fee_is;
       book_is = redone.book_is;
@@ -22,19 +38,23 @@ invariant_of-self-2 c =
           ∙ ap (λ (x : List Settled). take c.in_ok-book.kept (settled_of_loan old) ++ x) c.deref-2.ensures.value
           ∙ redone.parts_are;
     } in
-    subst (λ (e : List Entry). IsKept (record old { entries = e }) c.self.inside.schedule.items c.self.inside.disbursement_fee c.in_ok-book.book c.put_behind.new.settled.items) (sym c.in_ok-push.ensures.items) kept
+    subst (λ (o : List ℕ). IsKept (record old { entries = c.push.new.self.items }) o c.self.inside.schedule.items c.self.inside.disbursement_fee c.in_ok-book.book c.put_behind.new.settled.items) (sym order)
+    (subst (λ (e : List Entry). IsKept (record old { entries = e }) (insert c.self.inside.order.items place (length old.entries)) c.self.inside.schedule.items c.self.inside.disbursement_fee c.in_ok-book.book c.put_behind.new.settled.items) (sym c.in_ok-push.ensures.items) kept)
+
+pub change_to-requires : goal.change_to-requires
+change_to-requires c =
+    let loan : Loan = c.args.self.now.loan in
+    let new : Loan = record loan { entries = loan.entries ++ c.args.entry ∷ [] } in
+    let longer = length-append loan.entries (c.args.entry ∷ []) in
+    (new, c.requires.sound, refl, omega (arith, longer), subst (λ (x : List Settled). IsRedone loan new c.in_ok-book.book c.in_ok-book.kept x) (sym c.deref.ensures.value) c.in_ok-book.ensures.redone)
 
 pub returns-clause-change : goal.returns-clause-change
 returns-clause-change c =
-    let old : Loan = record { terms = c.self.inside.terms; principal = c.self.inside.principal; periods = c.self.inside.periods; day = c.self.inside.day; entries = c.self.inside.entries.items } in
-    let new : Loan = record old { entries = old.entries ++ c.args.entry ∷ [] } in
-    let sound : IsSound new = subst (λ (a : Account). IsSound (record a.loan { entries = a.loan.entries ++ c.args.entry ∷ [] })) (sym c.self.view_is) c.requires.sound in
-    let redone : IsRedone old new c.in_ok-book.book c.in_ok-book.kept c.in_ok-book.parts.items = subst (λ (a : Account). IsRedone a.loan (record a.loan { entries = a.loan.entries ++ c.args.entry ∷ [] }) c.in_ok-book.book c.in_ok-book.kept c.in_ok-book.parts.items) (sym c.self.view_is) c.in_ok-book.ensures.redone in
-    let longer = length-append old.entries (c.args.entry ∷ []) in
-    let count = c.self.inside.entries.ok in
-    let own : IsRedone c.args.self.now.loan new c.in_ok-book.book c.in_ok-book.kept c.deref.result.now =
-    subst (λ (x : List Settled). IsRedone c.args.self.now.loan new c.in_ok-book.book c.in_ok-book.kept x) (sym c.deref.ensures.value)
-    (subst (λ (a : Account). IsRedone a.loan new c.in_ok-book.book c.in_ok-book.kept c.in_ok-book.parts.items) c.self.view_is redone) in
-    let same : new.periods ≡ c.args.self.now.loan.periods = ap (λ (a : Account). a.loan.periods) c.self.view_is in
-    subst (λ (e : List Entry). IsChange c.args.self.now.loan (record old { entries = e }) c.in_ok-change.change) (sym c.in_ok-push.ensures.items)
-    (c.in_ok-change.ensures.change new sound same (omega (arith, longer, c.len.ensures, count.0)) own)
+    let loan : Loan = c.args.self.now.loan in
+    let new : Loan = record loan { entries = loan.entries ++ c.args.entry ∷ [] } in
+    let longer = length-append loan.entries (c.args.entry ∷ []) in
+    let own : IsRedone loan new c.in_ok-book.book c.in_ok-book.kept c.deref.result.now =
+    subst (λ (x : List Settled). IsRedone loan new c.in_ok-book.book c.in_ok-book.kept x) (sym c.deref.ensures.value) c.in_ok-book.ensures.redone in
+    let is : IsChange loan new c.in_ok-change.change = c.in_ok-change.ensures.change new c.requires.sound refl (omega (arith, longer)) own in
+    subst (λ (a : Account). IsChange loan (record a.loan { entries = c.push.new.self.items }) c.in_ok-change.change) (sym c.self.view_is)
+    (subst (λ (e : List Entry). IsChange loan (record loan { entries = e }) c.in_ok-change.change) (sym (c.in_ok-push.ensures.items ∙ ap (λ (a : Account). a.loan.entries ++ c.args.entry ∷ []) c.self.view_is)) is)

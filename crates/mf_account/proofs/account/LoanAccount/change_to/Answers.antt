@@ -29,11 +29,12 @@ change_between-requires-clause-size c =
     size_new ∙ c.requires.2 ∙ sym same ∙ sym size_old
 
 pub returns-clause-change : goal.returns-clause-change
-returns-clause-change c = λ new sound periods entries redone.
+returns-clause-change c = λ new sound periods more redone.
     let old : Loan = record { terms = c.self.inside.terms; principal = c.self.inside.principal; periods = c.self.inside.periods; day = c.self.inside.day; entries = c.self.inside.entries.items } in
     let size_old : length c.self.inside.book.rows ≡ old.periods = ap (λ (x : State). length x.rows) c.self.invariant.book_is ∙ (good-sound old c.self.invariant.sound).size in
     let own : IsRedone old new c.args.book.now c.args.kept c.args.parts.now = subst (λ (a : Account). IsRedone a.loan new c.args.book.now c.args.kept c.args.parts.now) (sym c.self.view_is) redone in
     let same : old.periods ≡ c.args.self.now.loan.periods = ap (λ (a : Account). a.loan.periods) c.self.view_is in
+    let longer : length old.entries ≤ length new.entries = subst (λ (a : Account). length a.loan.entries ≤ length new.entries) (sym c.self.view_is) more in
     subst (λ (a : Account). IsChange a.loan new c.in_ok-change.change) c.self.view_is
-    (change-tails old new c.self.inside.book c.args.book.now c.args.kept _ c.args.parts.now c.args.count c.in_ok-change.change c.self.invariant.book_is
-    (tail-from c.deref.result.now (settled_of_loan old) c.args.kept (c.deref.ensures.value ∙ c.self.invariant.settled_is)) own (size_old ∙ same ∙ sym periods) (sym entries) c.in_ok-change.ensures.rows c.in_ok-change.ensures.seqs)
+    (change-tails old new c.self.inside.book c.args.book.now c.args.kept _ c.args.parts.now c.in_ok-change.change c.self.invariant.sound sound longer c.self.invariant.book_is
+    (tail-from c.deref.result.now (settled_of_loan old) c.args.kept (c.deref.ensures.value ∙ c.self.invariant.settled_is)) own (size_old ∙ same ∙ sym periods) c.in_ok-change.ensures.rows c.in_ok-change.ensures.seqs)

@@ -14,18 +14,17 @@ returns-then-is_forbidden-clause-value c =
     let loan : Loan = c.args.self.now.loan in
     let e : Entry = c.args.entry.now in
     let day : ℕ = c.args.business_day in
-    let seen : c.deref.result.now ≡ loan.entries = c.deref.ensures.value ∙ ap (λ (a : Account). a.loan.entries) c.self.view_is in
-    let sealed : is_sealed loan.entries ≡ false = ap is_sealed (sym seen) ∙ sym c.if-is_sealed.ensures in
+    let sealed : is_sealed loan.entries ≡ false = sym c.if-is_sealed.ensures in
     let admitted : not (admits e.kind (status_of_loan loan)) ≡ false = ap (λ n. not (admits e.kind n)) (sym c.status.ensures) ∙ ap not (sym c.if-not-admits.ensures) in
     let ordered : is_out_of_order e.kind loan.day day e.day ≡ false = ap (λ (a : Account). is_out_of_order e.kind a.loan.day day e.day) (sym c.self.view_is) ∙ sym c.if-is_out_of_order.ensures in
-    let rows : c.deref-else-is_out_of_order.result.now ≡ (state_of_loan loan).rows =
-    c.deref-else-is_out_of_order.ensures.value ∙ ap (λ (s : State). s.rows) (c.book.view_is ∙ c.self.invariant.book_is) ∙ ap (λ (a : Account). (state_of_loan a.loan).rows) c.self.view_is in
-    let entries : c.deref-else-is_out_of_order-2.result.now ≡ loan.entries = c.deref-else-is_out_of_order-2.ensures.value ∙ ap (λ (a : Account). a.loan.entries) c.self.view_is in
+    let rows : c.deref.result.now ≡ (state_of_loan loan).rows =
+    c.deref.ensures.value ∙ ap (λ (s : State). s.rows) (c.book.view_is ∙ c.self.invariant.book_is) ∙ ap (λ (a : Account). (state_of_loan a.loan).rows) c.self.view_is in
+    let entries : c.deref-else-is_out_of_order.result.now ≡ loan.entries = c.deref-else-is_out_of_order.ensures.value ∙ ap (λ (a : Account). a.loan.entries) c.self.view_is in
     let charged : c.is_some.result ≡ is_some loan.terms.overdue = c.is_some.ensures ∙ ap (λ (a : Account). is_some a.loan.terms.overdue) c.self.view_is in
     let allowed : is_forbidden e.kind (is_some loan.terms.overdue) (state_of_loan loan).rows loan.entries e day ≡ true =
     ap (λ b. is_forbidden e.kind b (state_of_loan loan).rows loan.entries e day) (sym charged)
     ∙ ap (λ r. is_forbidden e.kind c.is_some.result r loan.entries e day) (sym rows)
-    ∙ ap (λ (x : List Entry). is_forbidden e.kind c.is_some.result c.deref-else-is_out_of_order.result.now x e day) (sym entries)
+    ∙ ap (λ (x : List Entry). is_forbidden e.kind c.is_some.result c.deref.result.now x e day) (sym entries)
     ∙ sym c.if-is_forbidden.ensures in
     chosen-later _ _ _ _ sealed (chosen-later _ _ _ _ admitted (chosen-later _ _ _ _ ordered (chosen-here _ _ _ allowed)))
 
@@ -34,18 +33,17 @@ returns-then-is_out_of_limits-clause-value c =
     let loan : Loan = c.args.self.now.loan in
     let e : Entry = c.args.entry.now in
     let day : ℕ = c.args.business_day in
-    let seen : c.deref.result.now ≡ loan.entries = c.deref.ensures.value ∙ ap (λ (a : Account). a.loan.entries) c.self.view_is in
-    let sealed : is_sealed loan.entries ≡ false = ap is_sealed (sym seen) ∙ sym c.if-is_sealed.ensures in
+    let sealed : is_sealed loan.entries ≡ false = sym c.if-is_sealed.ensures in
     let admitted : not (admits e.kind (status_of_loan loan)) ≡ false = ap (λ n. not (admits e.kind n)) (sym c.status.ensures) ∙ ap not (sym c.if-not-admits.ensures) in
     let ordered : is_out_of_order e.kind loan.day day e.day ≡ false = ap (λ (a : Account). is_out_of_order e.kind a.loan.day day e.day) (sym c.self.view_is) ∙ sym c.if-is_out_of_order.ensures in
-    let rows : c.deref-else-is_out_of_order.result.now ≡ (state_of_loan loan).rows =
-    c.deref-else-is_out_of_order.ensures.value ∙ ap (λ (s : State). s.rows) (c.book.view_is ∙ c.self.invariant.book_is) ∙ ap (λ (a : Account). (state_of_loan a.loan).rows) c.self.view_is in
-    let entries : c.deref-else-is_out_of_order-2.result.now ≡ loan.entries = c.deref-else-is_out_of_order-2.ensures.value ∙ ap (λ (a : Account). a.loan.entries) c.self.view_is in
+    let rows : c.deref.result.now ≡ (state_of_loan loan).rows =
+    c.deref.ensures.value ∙ ap (λ (s : State). s.rows) (c.book.view_is ∙ c.self.invariant.book_is) ∙ ap (λ (a : Account). (state_of_loan a.loan).rows) c.self.view_is in
+    let entries : c.deref-else-is_out_of_order.result.now ≡ loan.entries = c.deref-else-is_out_of_order.ensures.value ∙ ap (λ (a : Account). a.loan.entries) c.self.view_is in
     let charged : c.is_some.result ≡ is_some loan.terms.overdue = c.is_some.ensures ∙ ap (λ (a : Account). is_some a.loan.terms.overdue) c.self.view_is in
     let allowed : is_forbidden e.kind (is_some loan.terms.overdue) (state_of_loan loan).rows loan.entries e day ≡ false =
     ap (λ b. is_forbidden e.kind b (state_of_loan loan).rows loan.entries e day) (sym charged)
     ∙ ap (λ r. is_forbidden e.kind c.is_some.result r loan.entries e day) (sym rows)
-    ∙ ap (λ (x : List Entry). is_forbidden e.kind c.is_some.result c.deref-else-is_out_of_order.result.now x e day) (sym entries)
+    ∙ ap (λ (x : List Entry). is_forbidden e.kind c.is_some.result c.deref.result.now x e day) (sym entries)
     ∙ sym c.if-is_forbidden.ensures in
     chosen-later _ _ _ _ sealed (chosen-later _ _ _ _ admitted (chosen-later _ _ _ _ ordered (chosen-later _ _ _ _ allowed (chosen-here _ _ _ (sym c.if-is_out_of_limits.ensures)))))
 
@@ -54,18 +52,17 @@ returns-then-len-ge-MOST_ENTRIES-clause-value c =
     let loan : Loan = c.args.self.now.loan in
     let e : Entry = c.args.entry.now in
     let day : ℕ = c.args.business_day in
-    let seen : c.deref.result.now ≡ loan.entries = c.deref.ensures.value ∙ ap (λ (a : Account). a.loan.entries) c.self.view_is in
-    let sealed : is_sealed loan.entries ≡ false = ap is_sealed (sym seen) ∙ sym c.if-is_sealed.ensures in
+    let sealed : is_sealed loan.entries ≡ false = sym c.if-is_sealed.ensures in
     let admitted : not (admits e.kind (status_of_loan loan)) ≡ false = ap (λ n. not (admits e.kind n)) (sym c.status.ensures) ∙ ap not (sym c.if-not-admits.ensures) in
     let ordered : is_out_of_order e.kind loan.day day e.day ≡ false = ap (λ (a : Account). is_out_of_order e.kind a.loan.day day e.day) (sym c.self.view_is) ∙ sym c.if-is_out_of_order.ensures in
-    let rows : c.deref-else-is_out_of_order.result.now ≡ (state_of_loan loan).rows =
-    c.deref-else-is_out_of_order.ensures.value ∙ ap (λ (s : State). s.rows) (c.book.view_is ∙ c.self.invariant.book_is) ∙ ap (λ (a : Account). (state_of_loan a.loan).rows) c.self.view_is in
-    let entries : c.deref-else-is_out_of_order-2.result.now ≡ loan.entries = c.deref-else-is_out_of_order-2.ensures.value ∙ ap (λ (a : Account). a.loan.entries) c.self.view_is in
+    let rows : c.deref.result.now ≡ (state_of_loan loan).rows =
+    c.deref.ensures.value ∙ ap (λ (s : State). s.rows) (c.book.view_is ∙ c.self.invariant.book_is) ∙ ap (λ (a : Account). (state_of_loan a.loan).rows) c.self.view_is in
+    let entries : c.deref-else-is_out_of_order.result.now ≡ loan.entries = c.deref-else-is_out_of_order.ensures.value ∙ ap (λ (a : Account). a.loan.entries) c.self.view_is in
     let charged : c.is_some.result ≡ is_some loan.terms.overdue = c.is_some.ensures ∙ ap (λ (a : Account). is_some a.loan.terms.overdue) c.self.view_is in
     let allowed : is_forbidden e.kind (is_some loan.terms.overdue) (state_of_loan loan).rows loan.entries e day ≡ false =
     ap (λ b. is_forbidden e.kind b (state_of_loan loan).rows loan.entries e day) (sym charged)
     ∙ ap (λ r. is_forbidden e.kind c.is_some.result r loan.entries e day) (sym rows)
-    ∙ ap (λ (x : List Entry). is_forbidden e.kind c.is_some.result c.deref-else-is_out_of_order.result.now x e day) (sym entries)
+    ∙ ap (λ (x : List Entry). is_forbidden e.kind c.is_some.result c.deref.result.now x e day) (sym entries)
     ∙ sym c.if-is_forbidden.ensures in
     let size : length c.self.inside.entries.items ≡ length loan.entries = ap (λ (a : Account). length a.loan.entries) c.self.view_is in
     let count = c.self.inside.entries.ok in
@@ -77,18 +74,17 @@ returns-else-len-ge-MOST_ENTRIES-clause-value c =
     let loan : Loan = c.args.self.now.loan in
     let e : Entry = c.args.entry.now in
     let day : ℕ = c.args.business_day in
-    let seen : c.deref.result.now ≡ loan.entries = c.deref.ensures.value ∙ ap (λ (a : Account). a.loan.entries) c.self.view_is in
-    let sealed : is_sealed loan.entries ≡ false = ap is_sealed (sym seen) ∙ sym c.if-is_sealed.ensures in
+    let sealed : is_sealed loan.entries ≡ false = sym c.if-is_sealed.ensures in
     let admitted : not (admits e.kind (status_of_loan loan)) ≡ false = ap (λ n. not (admits e.kind n)) (sym c.status.ensures) ∙ ap not (sym c.if-not-admits.ensures) in
     let ordered : is_out_of_order e.kind loan.day day e.day ≡ false = ap (λ (a : Account). is_out_of_order e.kind a.loan.day day e.day) (sym c.self.view_is) ∙ sym c.if-is_out_of_order.ensures in
-    let rows : c.deref-else-is_out_of_order.result.now ≡ (state_of_loan loan).rows =
-    c.deref-else-is_out_of_order.ensures.value ∙ ap (λ (s : State). s.rows) (c.book.view_is ∙ c.self.invariant.book_is) ∙ ap (λ (a : Account). (state_of_loan a.loan).rows) c.self.view_is in
-    let entries : c.deref-else-is_out_of_order-2.result.now ≡ loan.entries = c.deref-else-is_out_of_order-2.ensures.value ∙ ap (λ (a : Account). a.loan.entries) c.self.view_is in
+    let rows : c.deref.result.now ≡ (state_of_loan loan).rows =
+    c.deref.ensures.value ∙ ap (λ (s : State). s.rows) (c.book.view_is ∙ c.self.invariant.book_is) ∙ ap (λ (a : Account). (state_of_loan a.loan).rows) c.self.view_is in
+    let entries : c.deref-else-is_out_of_order.result.now ≡ loan.entries = c.deref-else-is_out_of_order.ensures.value ∙ ap (λ (a : Account). a.loan.entries) c.self.view_is in
     let charged : c.is_some.result ≡ is_some loan.terms.overdue = c.is_some.ensures ∙ ap (λ (a : Account). is_some a.loan.terms.overdue) c.self.view_is in
     let allowed : is_forbidden e.kind (is_some loan.terms.overdue) (state_of_loan loan).rows loan.entries e day ≡ false =
     ap (λ b. is_forbidden e.kind b (state_of_loan loan).rows loan.entries e day) (sym charged)
     ∙ ap (λ r. is_forbidden e.kind c.is_some.result r loan.entries e day) (sym rows)
-    ∙ ap (λ (x : List Entry). is_forbidden e.kind c.is_some.result c.deref-else-is_out_of_order.result.now x e day) (sym entries)
+    ∙ ap (λ (x : List Entry). is_forbidden e.kind c.is_some.result c.deref.result.now x e day) (sym entries)
     ∙ sym c.if-is_forbidden.ensures in
     let size : length c.self.inside.entries.items ≡ length loan.entries = ap (λ (a : Account). length a.loan.entries) c.self.view_is in
     let count = c.self.inside.entries.ok in

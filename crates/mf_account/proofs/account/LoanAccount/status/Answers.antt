@@ -1,18 +1,34 @@
-use Rattle.std.proofs.Common.{ℕ, List, ◌∙◌, ap}
+use Rattle.std.proofs.Common.{◌≡◌, ℕ, ◌<◌, List, length, ◌∙◌, ap, sym, subst}
+use Rattle.std.specs.Prelude.{All}
 use Rattle.mf_alloc.specs.Sums.{Sums}
 use Rattle.mf_account.specs.declared.entry.Entry.{Entry}
 use Rattle.mf_account.specs.Change.{Account}
 use Rattle.mf_account.specs.Effect.{State}
 use Rattle.mf_account.specs.Account.{status_of}
-use Rattle.mf_account.specs.Loan.{status_of_loan}
+use Rattle.mf_account.specs.Standing.{standing, entries_at}
+use Rattle.mf_account.specs.Loan.{AreEntries, status_of_loan}
 use Rattle.mf_account.proofs.account.LoanAccount.status.Goals as goal
+
+pub status-requires-clause-within : goal.status-requires-clause-within
+status-requires-clause-within c =
+    subst (λ (o : List ℕ). All (λ at. at < length c.deref.result.now) o) (sym c.deref-2.ensures.value)
+    (subst (λ (e : List Entry). All (λ at. at < length e) c.self.inside.order.items) (sym c.deref.ensures.value) c.self.invariant.within)
+
+pub status-requires-clause-order : goal.status-requires-clause-order
+status-requires-clause-order c =
+    ap (entries_at c.deref.result.now) c.deref-2.ensures.value
+    ∙ subst (λ (e : List Entry). entries_at e c.self.inside.order.items ≡ standing e) (sym c.deref.ensures.value) c.self.invariant.order_is
+
+pub status-requires-clause-entries : goal.status-requires-clause-entries
+status-requires-clause-entries c =
+    (c.self.inside.periods, c.self.inside.day, subst (AreEntries c.self.inside.periods c.self.inside.day) (sym c.deref.ensures.value) c.self.invariant.sound.entries)
 
 pub returns : goal.returns
 returns c =
     let at : List Entry → List Sums → ℕ → ℕ = λ entries rows overpaid. status_of entries (record { rows = rows; overpaid = overpaid; refunded = 0 }) in
     let overpaid : ℕ = c.book.inside.overpaid in
     c.status.ensures
-    ∙ ap (λ entries. at entries c.deref-2.result.now overpaid) c.deref.ensures.value
-    ∙ ap (λ rows. at c.self.inside.entries.items rows overpaid) c.deref-2.ensures.value
+    ∙ ap (λ entries. at entries c.deref-3.result.now overpaid) c.deref.ensures.value
+    ∙ ap (λ rows. at c.self.inside.entries.items rows overpaid) c.deref-3.ensures.value
     ∙ ap (λ (s : State). status_of c.self.inside.entries.items s) (c.book.view_is ∙ c.self.invariant.book_is)
     ∙ ap (λ (a : Account). status_of_loan a.loan) c.self.view_is

@@ -1,13 +1,21 @@
-use Rattle.std.proofs.Common.{◌≡◌, ◌<◌, ◌∙◌, ◌++◌, true, ap, sym, subst, arith, length, take, List}
+use Rattle.std.proofs.Common.{◌≡◌, ℕ, ◌<◌, ◌≤◌, ◌∙◌, ◌++◌, true, ap, sym, subst, arith, length, take, List}
+use Rattle.std.specs.Prelude.{remove}
 use Rattle.std.proofs.lemmas.List.{length-set}
 use Rattle.mf_account.specs.declared.entry.Entry.{Entry}
 use Rattle.mf_account.specs.declared.settled.Settled.{Settled}
-use Rattle.mf_account.specs.Standing.{with_mark, entry_at}
+use Rattle.mf_account.specs.Standing.{standing, with_mark, entry_at}
 use Rattle.mf_account.specs.Change.{Account, IsChange}
 use Rattle.mf_account.specs.Loan.{Loan, IsSound, IsKept, settled_of_loan}
 use Rattle.mf_account.specs.Rewind.{IsRedone}
 use Rattle.mf_account.proofs.SoundLemmas.{sound-reversed}
+use Rattle.mf_account.proofs.OrderLemmas.{length-order, order-removed, within-removed}
 use Rattle.mf_account.proofs.account.LoanAccount.take_out.Goals as goal
+
+pub remove-requires : goal.remove-requires
+remove-requires c =
+    let within : c.place_at-place.result < length (standing c.self.inside.entries.items) = subst (λ (a : Account). c.place_at-place.result < length (standing a.loan.entries)) (sym c.self.view_is) c.place_at-place.ensures.within in
+    let size = length-order c.self.inside.entries.items c.self.inside.order.items c.self.invariant.order_is in
+    omega (arith, within, size, c.self.inside.order.ok)
 
 pub change_to-requires : goal.change_to-requires
 change_to-requires c =
@@ -15,14 +23,14 @@ change_to-requires c =
     let new : Loan = record old { entries = with_mark old.entries c.args.at true } in
     let there : c.args.at < length old.entries = subst (λ (a : Account). c.args.at < length a.loan.entries) (sym c.self.view_is) c.requires.there in
     let sound : IsSound new = sound-reversed old c.args.at c.self.invariant.sound there in
-    let redone : IsRedone old new c.in_ok-book.book c.in_ok-book.kept c.in_ok-book.parts.items = subst (λ (a : Account). IsRedone a.loan (record a.loan { entries = with_mark a.loan.entries c.args.at true }) c.in_ok-book.book c.in_ok-book.kept c.in_ok-book.parts.items) (sym c.self.view_is) c.in_ok-book.ensures.redone in
+    let redone : IsRedone old new c.in_ok-book.book c.in_ok-book.kept c.in_ok-book.parts.items = subst (λ (a : Account). IsRedone a.loan (record a.loan { entries = with_mark a.loan.entries c.args.at true }) c.in_ok-book.book c.in_ok-book.kept c.in_ok-book.parts.items) (sym c.self.view_is) (c.in_ok-book.ensures.redone c.args.at c.requires.there c.place_at-place.ensures.there) in
     let longer : length new.entries ≡ length old.entries = length-set old.entries c.args.at (record (entry_at old.entries c.args.at) { reversed = true }) in
-    let count = c.self.inside.entries.ok in
+    let more : length c.args.self.now.loan.entries ≤ length new.entries = subst (λ (a : Account). length a.loan.entries ≤ length new.entries) c.self.view_is (omega (arith, longer)) in
     let own : IsRedone c.args.self.now.loan new c.in_ok-book.book c.in_ok-book.kept c.deref.result.now =
     subst (λ (x : List Settled). IsRedone c.args.self.now.loan new c.in_ok-book.book c.in_ok-book.kept x) (sym c.deref.ensures.value)
     (subst (λ (a : Account). IsRedone a.loan new c.in_ok-book.book c.in_ok-book.kept c.in_ok-book.parts.items) c.self.view_is redone) in
     let same : new.periods ≡ c.args.self.now.loan.periods = ap (λ (a : Account). a.loan.periods) c.self.view_is in
-    (new, sound, same, omega (arith, longer, c.len.ensures, count.0), own)
+    (new, sound, same, more, own)
 
 pub invariant_of-self-2 : goal.invariant_of-self-2
 invariant_of-self-2 c =
@@ -30,9 +38,14 @@ invariant_of-self-2 c =
     let new : Loan = record old { entries = with_mark old.entries c.args.at true } in
     let there : c.args.at < length old.entries = subst (λ (a : Account). c.args.at < length a.loan.entries) (sym c.self.view_is) c.requires.there in
     let sound : IsSound new = sound-reversed old c.args.at c.self.invariant.sound there in
-    let redone : IsRedone old new c.in_ok-book.book c.in_ok-book.kept c.in_ok-book.parts.items = subst (λ (a : Account). IsRedone a.loan (record a.loan { entries = with_mark a.loan.entries c.args.at true }) c.in_ok-book.book c.in_ok-book.kept c.in_ok-book.parts.items) (sym c.self.view_is) c.in_ok-book.ensures.redone in
-    let kept : IsKept new c.self.inside.schedule.items c.self.inside.disbursement_fee c.in_ok-book.book c.put_behind.new.settled.items = record {
+    let redone : IsRedone old new c.in_ok-book.book c.in_ok-book.kept c.in_ok-book.parts.items = subst (λ (a : Account). IsRedone a.loan (record a.loan { entries = with_mark a.loan.entries c.args.at true }) c.in_ok-book.book c.in_ok-book.kept c.in_ok-book.parts.items) (sym c.self.view_is) (c.in_ok-book.ensures.redone c.args.at c.requires.there c.place_at-place.ensures.there) in
+    let place : ℕ = c.place_at-place.result in
+    let within : place < length (standing old.entries) = subst (λ (a : Account). place < length (standing a.loan.entries)) (sym c.self.view_is) c.place_at-place.ensures.within in
+    let here : entry_at (standing old.entries) place ≡ entry_at old.entries c.args.at = subst (λ (a : Account). entry_at (standing a.loan.entries) place ≡ entry_at a.loan.entries c.args.at) (sym c.self.view_is) c.place_at-place.ensures.there in
+    let kept : IsKept new (remove c.self.inside.order.items place) c.self.inside.schedule.items c.self.inside.disbursement_fee c.in_ok-book.book c.put_behind.new.settled.items = record {
       sound = sound;
+      within = within-removed old.entries c.self.inside.order.items c.args.at place c.self.invariant.within;
+      order_is = order-removed old.periods old.day old.entries c.self.inside.order.items c.args.at place c.self.invariant.sound.entries sound.entries there c.self.invariant.order_is within here;
       schedule_is = c.self.invariant.schedule_is;
       fee_is = c.self.invariant.fee_is;
       book_is = redone.book_is;
@@ -41,7 +54,8 @@ invariant_of-self-2 c =
           ∙ ap (λ (x : List Settled). take c.in_ok-book.kept (settled_of_loan old) ++ x) c.deref-2.ensures.value
           ∙ redone.parts_are;
     } in
-    subst (λ (e : List Entry). IsKept (record old { entries = e }) c.self.inside.schedule.items c.self.inside.disbursement_fee c.in_ok-book.book c.put_behind.new.settled.items) (sym c.mark_in.ensures) kept
+    subst (λ (o : List ℕ). IsKept (record old { entries = c.mark_in.new.entries.items }) o c.self.inside.schedule.items c.self.inside.disbursement_fee c.in_ok-book.book c.put_behind.new.settled.items) (sym c.remove.ensures.items)
+    (subst (λ (e : List Entry). IsKept (record old { entries = e }) (remove c.self.inside.order.items place) c.self.inside.schedule.items c.self.inside.disbursement_fee c.in_ok-book.book c.put_behind.new.settled.items) (sym c.mark_in.ensures) kept)
 
 pub returns-clause-change : goal.returns-clause-change
 returns-clause-change c =
@@ -49,12 +63,12 @@ returns-clause-change c =
     let new : Loan = record old { entries = with_mark old.entries c.args.at true } in
     let there : c.args.at < length old.entries = subst (λ (a : Account). c.args.at < length a.loan.entries) (sym c.self.view_is) c.requires.there in
     let sound : IsSound new = sound-reversed old c.args.at c.self.invariant.sound there in
-    let redone : IsRedone old new c.in_ok-book.book c.in_ok-book.kept c.in_ok-book.parts.items = subst (λ (a : Account). IsRedone a.loan (record a.loan { entries = with_mark a.loan.entries c.args.at true }) c.in_ok-book.book c.in_ok-book.kept c.in_ok-book.parts.items) (sym c.self.view_is) c.in_ok-book.ensures.redone in
+    let redone : IsRedone old new c.in_ok-book.book c.in_ok-book.kept c.in_ok-book.parts.items = subst (λ (a : Account). IsRedone a.loan (record a.loan { entries = with_mark a.loan.entries c.args.at true }) c.in_ok-book.book c.in_ok-book.kept c.in_ok-book.parts.items) (sym c.self.view_is) (c.in_ok-book.ensures.redone c.args.at c.requires.there c.place_at-place.ensures.there) in
     let longer : length new.entries ≡ length old.entries = length-set old.entries c.args.at (record (entry_at old.entries c.args.at) { reversed = true }) in
-    let count = c.self.inside.entries.ok in
+    let more : length c.args.self.now.loan.entries ≤ length new.entries = subst (λ (a : Account). length a.loan.entries ≤ length new.entries) c.self.view_is (omega (arith, longer)) in
     let own : IsRedone c.args.self.now.loan new c.in_ok-book.book c.in_ok-book.kept c.deref.result.now =
     subst (λ (x : List Settled). IsRedone c.args.self.now.loan new c.in_ok-book.book c.in_ok-book.kept x) (sym c.deref.ensures.value)
     (subst (λ (a : Account). IsRedone a.loan new c.in_ok-book.book c.in_ok-book.kept c.in_ok-book.parts.items) c.self.view_is redone) in
     let same : new.periods ≡ c.args.self.now.loan.periods = ap (λ (a : Account). a.loan.periods) c.self.view_is in
     subst (λ (e : List Entry). IsChange c.args.self.now.loan (record old { entries = e }) c.in_ok-change.change) (sym c.mark_in.ensures)
-    (c.in_ok-change.ensures.change new sound same (omega (arith, longer, c.len.ensures, count.0)) own)
+    (c.in_ok-change.ensures.change new sound same more own)
