@@ -1,12 +1,9 @@
 -- The text of the report: a line for each office, then the line of all of them.
-use Rattle.std.specs.Prelude.{ℕ, ◌+◌, ◌-◌, List, [], ◌∷◌, ◌++◌, length, sum_by, replicate, decimal, codes}
+use Rattle.std.specs.Prelude.{ℕ, ◌+◌, List, [], ◌∷◌, ◌++◌, sum_by, decimal, codes}
 use Rattle.std.specs.List.{flat_map}
 use Rattle.mf_base.specs.Money.{money_text}
+use Rattle.mf_base.specs.Texts.{right}
 use Rattle.mf_arrears.specs.Line.{Line, par30_of}
-
--- a text at the right of a column
-abbrev pub right : ℕ → List ℕ → List ℕ
-right width text = replicate (width - length text) 32 ++ text
 
 -- the columns after the first: loans in 12, each sum in 24, the portfolio at risk in 8, and the line's end
 abbrev pub columns_of : ℕ → List ℕ → ℕ → List ℕ

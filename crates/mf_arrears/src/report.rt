@@ -1,10 +1,11 @@
 ghost use Rattle.std.specs.Prelude.{◌≡◌, ℕ, ◌+◌, ◌*◌, ◌-◌, ◌≤◌, ◌^◌, ◌++◌, [], OnOk, IfOk, IsOkUnless, string_bytes, sum_by, decimal};
 ghost use Rattle.mf_base.specs.Money as spec;
+ghost use Rattle.mf_base.specs.Texts.{right};
 ghost use Rattle.mf_arrears.specs.Line.{Line, IsLine, par30_of};
-ghost use Rattle.mf_arrears.specs.Report.{right, columns_of, columns, sums_of, line_text, all_text, total_of, plus as plus_line, report_bytes};
+ghost use Rattle.mf_arrears.specs.Report.{columns_of, columns, sums_of, line_text, all_text, total_of, plus as plus_line, report_bytes};
 
 use crate::line::OfficeLine;
-use mf_base::{Fault, half_even, money_text};
+use mf_base::{Fault, half_even, money_text, push_right};
 use std::alloc::Global;
 use std::marker::Model;
 
@@ -66,25 +67,14 @@ impl Totals {
     }
 }
 
-/// Writes a text at the right of a column.
-fn push_right(out: &mut String, text: &str, width: usize) -> Result<(), Fault>
-    ensures text { OnOk result (string_bytes out.new ≡ string_bytes out.old ++ right width text.now) }
-    ensures only { IsOkUnless result Fault.F20 }
-{
-    for _column in text.len()..width {
-        out.push(' ')?;
-    }
-    out.push_str(text)?;
-    Ok(())
-}
-
 /// Writes a sum at the right of a column.
 fn push_sum(alloc: Global, out: &mut String, sum: u128, width: usize) -> Result<(), Fault>
     ensures text { OnOk result (string_bytes out.new ≡ string_bytes out.old ++ right width (spec.money_text sum)) }
     ensures only { IsOkUnless result Fault.F20 }
 {
     let text = money_text(alloc, sum)?;
-    push_right(out, text.as_str(), width)
+    push_right(out, width, text.as_str())?;
+    Ok(())
 }
 
 /// Writes a number at the right of a column.
@@ -93,7 +83,8 @@ fn push_number(alloc: Global, out: &mut String, number: u64, width: usize) -> Re
     ensures only { IsOkUnless result Fault.F20 }
 {
     let text = format!(in alloc; "{number}")?;
-    push_right(out, text.as_str(), width)
+    push_right(out, width, text.as_str())?;
+    Ok(())
 }
 
 /// Writes the columns after the first, and the line's end.
@@ -144,7 +135,7 @@ fn push_all(alloc: Global, out: &mut String, all: &Totals) -> Result<(), Fault>
         all.c61_90,
         all.over_90,
     ];
-    push_right(out, "all", 4)?;
+    push_right(out, 4, "all")?;
     push_columns(alloc, out, all.loans, &sums, all.par30())
 }
 

@@ -1,8 +1,11 @@
+//! Numbers and the digits that write them.
+
 ghost use Rattle.std.specs.Prelude.{◌≡◌, ◌≢◌, ℕ, ◌+◌, ◌/◌, ◌%◌, ◌^◌, ◌<◌, ◌≤◌, length, IsTrue, IfSome, IsNone};
-ghost use Rattle.std.specs.List.{prefix_len};
+ghost use Rattle.std.specs.List.{list_all, prefix_len};
 ghost use Rattle.std.specs.Str.{all_ascii_digits};
 ghost use Rattle.std.specs.Str.Parse.{digits_value};
 ghost use Rattle.std.specs.Char.{is_ascii_digit};
+ghost use Rattle.mf_base.specs.Digits.{number_of_digits};
 
 /// The number that two digits are.
 pub(crate) fn read_two_digits(tens: u8, ones: u8) -> Option<u8>
@@ -35,4 +38,22 @@ pub(crate) fn value_of_digits(digits: &[u8]) -> u64
         value = 10 * value + u64::from(digit - b'0');
     }
     value
+}
+
+fn is_digits(text: &[u8]) -> bool
+    ensures { result ≡ list_all is_ascii_digit text.now }
+{
+    text.iter().all(|byte| byte.is_ascii_digit())
+}
+
+/// The number that 1 to 9 decimal digits write, which may begin with zeros. None is for any other text.
+pub fn parse_digits(text: &[u8]) -> Option<u32>
+    ensures value { result ≡ number_of_digits text.now }
+    ensures in_range { IfSome result (λ n. n ≤ 999999999) }
+{
+    if text.len() >= 1 && text.len() <= 9 && is_digits(text) {
+        Some(value_of_digits(text) as u32)
+    } else {
+        None
+    }
 }

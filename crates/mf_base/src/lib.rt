@@ -1,18 +1,22 @@
 //! What every crate of the loan desk shares: the numbered refusals and the faults of a stream, days and their texts,
-//! money texts, names, rounding, and splitting into parts.
+//! money texts, names, rounding and splitting into parts, and reading and writing of texts.
 #![tactic(auto)]
 
-mod calendar;
 mod day;
 mod digits;
 mod fault;
+mod frequency;
+pub mod laws;
 mod money;
 mod name;
 mod rounding;
+mod texts;
 
-pub use calendar::{dates_and_numbers, due_days_ascend, texts_of_days};
 pub use day::{Day, Freq};
+pub use digits::parse_digits;
 pub use fault::{Cause, Fault, StreamFault};
-pub use money::{money_text, money_texts_are_read, parse_money};
+pub use laws::{dates_and_numbers, due_days_ascend, money_texts_are_read, texts_of_days};
+pub use money::{money_text, parse_money};
 pub use name::Name;
 pub use rounding::{half_even, split};
+pub use texts::{push_right, split_once};

@@ -1,7 +1,7 @@
-ghost use Rattle.std.specs.Prelude.{◌≡◌, ℕ, ◌<◌, ◌≤◌, IfSome, IfOk, IfErr, string_bytes};
+ghost use Rattle.std.specs.Prelude.{◌≡◌, ℕ, ◌<◌, IfSome, IfOk, IfErr, string_bytes};
 ghost use Rattle.mf_base.specs.declared.fault.Fault.TheVariants.{F20};
 ghost use Rattle.mf_base.specs.Money as spec;
-ghost use Rattle.mf_base.specs.Money.{IsFraction, IsMoneyText, money_limit};
+ghost use Rattle.mf_base.specs.Money.{IsFraction, IsMoneyText};
 
 use crate::Fault;
 use crate::digits::{count_digits, read_two_digits, value_of_digits};
@@ -53,8 +53,3 @@ pub fn money_text(alloc: Global, cents: u128) -> Result<String, Fault>
     let text = format!(in alloc; "{units}.{rest:02}")?;
     Ok(text)
 }
-
-/// What `money_text` writes, `parse_money` reads: the text of an amount up to 10^12 cents stands for that amount.
-pub fn money_texts_are_read()
-    ensures { (cents : ℕ) → cents ≤ money_limit → IsMoneyText (spec.money_text cents) cents }
-{}

@@ -1,3 +1,4 @@
 pub mod Charge
 pub mod Limits
 pub mod Product
+pub mod Names

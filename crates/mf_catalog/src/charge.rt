@@ -5,26 +5,26 @@ use std::alloc::AllocError;
 #[derive(Clone, Copy, PartialEq, Eq, Debug)]
 pub enum ChargeKind {
     /// At disbursement, beside the schedule.
-    Disbursement,
+    Disbursement = 1,
     /// With each instalment.
-    Instalment,
+    Instalment = 2,
     /// For an instalment that is overdue.
-    Overdue,
+    Overdue = 3,
     /// On a due day that is named when it is entered.
-    DueDate,
+    DueDate = 4,
 }
 
 /// How a charge is computed.
 #[derive(Clone, Copy, PartialEq, Eq, Debug)]
 pub enum Calc {
     /// Its value itself, in cents.
-    Flat,
+    Flat = 1,
     /// A percentage of an amount.
-    OfAmount,
+    OfAmount = 2,
     /// A percentage of an interest.
-    OfInterest,
+    OfInterest = 3,
     /// A percentage of an amount and an interest together.
-    OfBoth,
+    OfBoth = 4,
 }
 
 /// A charge of the catalogue.

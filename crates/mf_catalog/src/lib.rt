@@ -3,9 +3,10 @@
 
 mod amount;
 mod charge;
-mod laws;
+pub mod laws;
 mod lending;
 mod limits;
+mod names;
 mod product;
 mod terms;
 
@@ -15,7 +16,7 @@ pub use laws::{limits_are_as_stated, terms_within_limits};
 pub use lending::{check_loan, check_product, terms_for, terms_of};
 pub use limits::{
     GREATEST_AMOUNT, GREATEST_PERCENTAGE, GREATEST_RATE, MOST_DAYS, MOST_GRACE, MOST_MONTHS,
-    MOST_PERIODS, MOST_WEEKS,
+    MOST_PERIODS, MOST_WEEKS, greatest_value, longest_step,
 };
 pub use mf_base::Name;
 pub use product::{Product, ProductMembers};

@@ -1,3 +1,9 @@
+ghost use Rattle.std.specs.Prelude.{◌≡◌};
+ghost use Rattle.mf_catalog.specs.Limits as spec;
+
+use crate::charge::Calc;
+use mf_base::Freq;
+
 /// The greatest principal, amount and flat charge: 10^12 cents.
 pub const GREATEST_AMOUNT: u64 = 1_000_000_000_000;
 
@@ -21,3 +27,23 @@ pub const MOST_PERIODS: u32 = 360;
 
 /// The longest grace, of principal or of interest, that a product may name.
 pub const MOST_GRACE: u32 = 359;
+
+/// The greatest value of a charge that is computed so: cents where it is flat, else hundredths of a percent.
+pub fn greatest_value(calc: Calc) -> u64
+    ensures { result ≡ spec.greatest_value calc }
+{
+    match calc {
+        Calc::Flat => GREATEST_AMOUNT,
+        Calc::OfAmount | Calc::OfInterest | Calc::OfBoth => GREATEST_PERCENTAGE,
+    }
+}
+
+/// The longest step from one due day to the next, in weeks or in months.
+pub fn longest_step(freq: Freq) -> u32
+    ensures { result ≡ spec.longest_step freq }
+{
+    match freq {
+        Freq::Weeks => MOST_WEEKS,
+        Freq::Months => MOST_MONTHS,
+    }
+}

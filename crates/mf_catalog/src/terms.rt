@@ -6,25 +6,25 @@ use std::alloc::AllocError;
 #[derive(Clone, Copy, PartialEq, Eq, Debug)]
 pub enum Method {
     /// Equal principal, and interest on the original principal in every period.
-    Flat,
+    Flat = 1,
     /// Equal principal, and interest on what is outstanding.
-    EqualPrincipal,
+    EqualPrincipal = 2,
     /// Equal instalments of principal and interest together, interest on what is outstanding.
-    Fixed,
+    Fixed = 3,
 }
 
 /// In which order a payment fills the portions of the instalments.
 #[derive(Clone, Copy, PartialEq, Eq, Debug)]
 pub enum StrategyName {
     /// Penalties, fees, interest, principal.
-    MifosStandard,
+    MifosStandard = 1,
     /// Principal, interest, penalties, fees.
-    PrincipalFirst,
+    PrincipalFirst = 2,
     /// Interest, principal, penalties, fees.
-    InterestFirst,
+    InterestFirst = 3,
     /// Over all instalments that are due, penalties, fees, interest, principal; then each later instalment in that
     /// order.
-    DueFirst,
+    DueFirst = 4,
 }
 
 /// The terms of a loan, copied from its product.

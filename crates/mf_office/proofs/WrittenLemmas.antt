@@ -1,22 +1,22 @@
 -- Numbers written in digits: what is read was written, and what was written is read.
 use Rattle.std.proofs.Common.{◌≡◌, ◌≢◌, ℕ, zero, suc, ◌+◌, ◌-◌, ◌*◌, ◌^◌, ◌<◌, ◌≤◌, Bool, true, false, cond, not, List, [], ◌∷◌, ◌++◌, length, get_or, take, drop, Option, Some, None, refl, sym, ap, ◌∙◌, subst, arith, lit<}
-use Rattle.std.specs.Prelude.{◌==◌, ◌&&◌, decimal, replicate, nat_lt, SomeIff, if◌then◌else◌}
+use Rattle.std.specs.Prelude.{◌==◌, ◌&&◌, decimal, replicate, nat_le, SomeIff, if◌then◌else◌}
 use Rattle.std.specs.Char.{digit_value, is_ascii_digit}
-use Rattle.std.specs.Int.{IsInRange}
 use Rattle.std.specs.Str.{bytes_eq}
 use Rattle.std.specs.Str.Parse.{AllDigits, digits_value, digits_value_after}
-use Rattle.std.specs.List.{before_first, after_first, position_or_len, position}
+use Rattle.std.specs.List.{before_first, after_first, position_or_len, list_all}
 use Rattle.std.proofs.Math.Seq.{take-append_seam, drop-append-add}
-use Rattle.std.proofs.Math.ListN.{drop_of_length-le}
 use Rattle.std.proofs.Math.Nat.{pow-le-pow_right, one-le-pow}
 use Rattle.std.proofs.lemmas.Bool.Decides.{nat_tests}
 use Rattle.std.proofs.lemmas.Fmt.{decimal_is_IsNumeral, decimal_digit, length-decimal-le, decimal_nonempty, first_decimal, decimal-digits_value}
-use Rattle.std.proofs.lemmas.Int.Digits.{digits_value-lt, digits_value_more, digits_more}
-use Rattle.std.proofs.lemmas.List.{length-drop, length-take-le}
+use Rattle.std.proofs.lemmas.Int.Digits.{digits_value-lt}
+use Rattle.std.proofs.lemmas.List.{length-drop}
 use Rattle.std.proofs.lemmas.List.Sums.{split_at_first, passes_at_first}
 use Rattle.std.proofs.lemmas.Slice.Eq.{bytes_eq-Decides}
-use Rattle.std.proofs.lemmas.Str.Parse.{IsNumeralModel, numerals_by_value, tells_digits, digits_value_short, digit_from_value, digit_at}
+use Rattle.std.proofs.lemmas.Str.Parse.{IsNumeralModel, numerals_by_value, tells_digits, digits_value_short, digit_from_value}
 use Rattle.std.proofs.lemmas.Str.{digit_value_digit}
+use Rattle.mf_base.specs.Digits.{number_of_digits}
+use Rattle.mf_base.proofs.DigitsLemmas.{own as digits_own, digits_test}
 use Rattle.mf_office.specs.Numbers.{IsNumberUpTo, is_number_up_to, number_up_to}
 use Rattle.mf_office.specs.Written.{zero_padded, number_written}
 
@@ -230,43 +230,16 @@ written_round s one two l m text a b h k =
     not_empty [] none = absurd (none refl)
     not_empty (c ∷ t) none = omega arith
 
--- what `position` found
-pub position_found : (s : ℕ) (text : List ℕ) (at : ℕ) → Some at ≡ position (λ c. c == s) text → (at ≡ position_or_len (λ c. c == s) text) × (at < length text)
-position_found s text at e = step (nat_lt (position_or_len (λ c. c == s) text) (length text)) refl e
+-- what up to nine digits read is their number
+pub digits_read : (text : List ℕ) (r : Option ℕ) → r ≡ number_of_digits text → 1 ≤ length text → length text ≤ 9 → SomeIff r (AllDigits 10 text) (digits_value 10 text)
+digits_read text r e some short = step (list_all is_ascii_digit text) refl
   where
-    step : (b : Bool) → nat_lt (position_or_len (λ c. c == s) text) (length text) ≡ b → Some at ≡ cond b (Some (position_or_len (λ c. c == s) text)) None → (at ≡ position_or_len (λ c. c == s) text) × (at < length text)
-    step true t h = let same : at ≡ position_or_len (λ c. c == s) text = cc in let inside : position_or_len (λ c. c == s) text < length text = grind (arith, nat_tests) in (same, omega arith)
-    step false t h = absurd (cc)
+    inside : (nat_le 1 (length text) && nat_le (length text) 9) ≡ true
+    inside = grind (arith, nat_tests)
 
-pub position_none : (s : ℕ) (text : List ℕ) → None ≡ position (λ c. c == s) text → after_first (λ c. c == s) text ≡ []
-position_none s text e = step (nat_lt (position_or_len (λ c. c == s) text) (length text)) refl e
-  where
-    step : (b : Bool) → nat_lt (position_or_len (λ c. c == s) text) (length text) ≡ b → None ≡ cond b (Some (position_or_len (λ c. c == s) text)) None → after_first (λ c. c == s) text ≡ []
-    step true t h = absurd (cc)
-    step false t h = let past : length text ≤ position_or_len (λ c. c == s) text = grind (arith, nat_tests) in drop_of_length-le text (omega arith)
+    is : (b : Bool) → list_all is_ascii_digit text ≡ b → cond b (Some (digits_value 10 text)) None ≡ r
+    is b h = sym (e ∙ (λ i. cond (inside i && h i) (Some (digits_value 10 text)) None))
 
--- reading digit by digit
-is_digit : (c : ℕ) → true ≡ is_ascii_digit c → IsInRange 48 57 c
-is_digit c h = grind (arith, nat_tests)
-
-digit_test : (c : ℕ) → IsInRange 48 57 c → is_ascii_digit c ≡ true
-digit_test c h = grind (arith, nat_tests)
-
-digit_small : (c : ℕ) → IsInRange 48 57 c → digit_value c < 10
-digit_small c h = let v = digit_value_digit c h in omega arith
-
-pub not_a_digit : (text : List ℕ) (i : ℕ) → i < length text → false ≡ is_ascii_digit (get_or text i 0) → AllDigits 10 text → ⊥
-not_a_digit text i inside other h = let e : is_ascii_digit (get_or text i 0) ≡ true = digit_test (get_or text i 0) (digit_at text i h inside) in cc
-
-pub value_so_far : (text : List ℕ) (i n : ℕ) → AllDigits 10 (take i text) → n ≡ digits_value 10 (take i text) → i < length text → length text ≤ 6 → n < 10 ^ 5
-value_so_far text i n h e inside short =
-    let len : length (take i text) ≡ i = length-take-le i text (omega arith) in
-    let small : digits_value 10 (take i text) < 10 ^ 5 = digits_value_short own (take i text) 5 h (omega arith) in
-    omega arith
-
-pub value_more : (text : List ℕ) (i n d : ℕ) → AllDigits 10 (take i text) → n ≡ digits_value 10 (take i text) → i < length text → true ≡ is_ascii_digit (get_or text i 0) → d ≡ get_or text i 0 - 48 → AllDigits 10 (take (i + 1) text) × (n * 10 + d ≡ digits_value 10 (take (i + 1) text))
-value_more text i n d h e inside digit is =
-    let range = is_digit (get_or text i 0) digit in
-    let v : digit_value (get_or text i 0) + 48 ≡ get_or text i 0 = digit_value_digit (get_or text i 0) range in
-    let more : digits_value 10 (take (i + 1) text) ≡ digits_value 10 (take i text) * 10 + digit_value (get_or text i 0) = digits_value_more 10 text i inside in
-    (digits_more 10 text i inside h (digit_small (get_or text i 0) range), omega arith)
+    step : (b : Bool) → list_all is_ascii_digit text ≡ b → SomeIff r (AllDigits 10 text) (digits_value 10 text)
+    step true all = subst (λ (o : Option ℕ). SomeIff o (AllDigits 10 text) (digits_value 10 text)) (is true all) (digits_own.to text (sym (digits_test text) ∙ all), refl)
+    step false all = subst (λ (o : Option ℕ). SomeIff o (AllDigits 10 text) (digits_value 10 text)) (is false all) (λ h. let yes : list_all is_ascii_digit text ≡ true = digits_test text ∙ digits_own.from text h in cc)

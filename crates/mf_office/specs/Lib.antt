@@ -3,3 +3,4 @@ pub mod Tree
 pub mod Keys
 pub mod Written
 pub mod Texts
+pub mod Roles

@@ -1,9 +1,9 @@
 ghost use Rattle.std.specs.Prelude.{◌≡◌, ◌↔◌, ℕ, Some, string_bytes, IfOk, IfSome, IsOkUnless};
 ghost use Rattle.mf_office.specs.Numbers.{IsNumberUpTo, number_up_to};
 
-use crate::digits::{padded_number, split_once};
+use crate::digits::padded_number;
 use crate::office::OfficeNo;
-use mf_base::Fault;
+use mf_base::{Fault, split_once};
 use std::alloc::Global;
 use std::marker::Model;
 

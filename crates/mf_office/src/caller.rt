@@ -1,9 +1,9 @@
 ghost use Rattle.std.specs.Prelude.{◌≡◌, ◌↔◌, Some, string_bytes, IfOk, IfSome, IsOkUnless};
 
-use crate::digits::{plain_number, split_once};
+use crate::digits::plain_number;
 use crate::office::OfficeNo;
 use crate::staff::StaffNo;
-use mf_base::Fault;
+use mf_base::{Fault, split_once};
 use std::alloc::Global;
 
 /// Who sends a request: a staff member of an office.

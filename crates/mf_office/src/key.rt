@@ -61,6 +61,14 @@ impl Key {
         self.text.as_str()
     }
 
+    /// Gives the text back.
+    pub fn into_text(self) -> String
+        ensures { string_bytes result ≡ self }
+    {
+        let Key { text: whole } = self;
+        whole
+    }
+
     /// How deep the key's office stands, the head at 1: the number of its dots. A tree's offices stand at most 6 deep.
     pub fn depth(&self) -> usize
         ensures { result ≡ key_depth self.now }

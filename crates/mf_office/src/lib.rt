@@ -6,9 +6,10 @@ mod account;
 mod caller;
 mod digits;
 mod key;
-mod laws;
+pub mod laws;
 mod number;
 mod office;
+mod roles;
 mod staff;
 
 pub use account::{Account, AccountNo};

@@ -49,11 +49,11 @@ impl StaffNo {
 #[derive(Clone, Copy, PartialEq, Eq, PartialOrd, Ord, Hash, Debug)]
 pub enum Role {
     /// Reads, and enters repayments.
-    Teller,
+    Teller = 1,
     /// Also enters clients, fees and penalties, and submits and withdraws loans.
-    Officer,
+    Officer = 2,
     /// Also adds staff, decides on loans, disburses, waives, writes off, refunds and reverses.
-    Manager,
+    Manager = 3,
 }
 
 /// A staff member of an office.

@@ -1,15 +1,12 @@
 -- The text of a schedule.
-use Rattle.std.specs.Prelude.{ℕ, ◌+◌, ◌-◌, List, [], ◌∷◌, ◌++◌, length, replicate, codes}
+use Rattle.std.specs.Prelude.{ℕ, ◌+◌, List, [], ◌∷◌, ◌++◌, codes}
 use Rattle.std.specs.Fmt.{decimal}
 use Rattle.std.specs.List.{enumerate_from, flat_map}
 use Rattle.mf_base.specs.DayText.{day_text}
 use Rattle.mf_base.specs.Money.{money_text}
+use Rattle.mf_base.specs.Texts.{right}
 use Rattle.mf_schedule.specs.Fresh.{total_interest, total_principal}
 use Rattle.mf_schedule.specs.declared.instalment.Instalment.{Instalment}
-
--- a word at the right of so many columns: spaces stand before it
-abbrev pub right : ℕ → List ℕ → List ℕ
-right columns word = replicate (columns - length word) 32 ++ word
 
 -- a money text at the right of 18 columns
 abbrev pub money_column : ℕ → List ℕ

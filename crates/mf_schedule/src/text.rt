@@ -1,21 +1,10 @@
 ghost use Rattle.std.specs.Prelude.{◌≡◌, ◌+◌, ◌<◌, ◌^◌, ◌++◌, IfOk, IsOkUnless, OnOk};
 ghost use Rattle.std.specs.String.{string_bytes};
-ghost use Rattle.mf_schedule.specs.ScheduleText.{amounts_text, right, row_line, schedule_text as text_of_schedule};
+ghost use Rattle.mf_schedule.specs.ScheduleText.{amounts_text, row_line, schedule_text as text_of_schedule};
 
 use crate::instalment::Instalment;
-use mf_base::{Fault, money_text};
-use std::alloc::{AllocError, Global};
-
-/// Writes a word at the right of so many columns.
-fn push_right(text: &mut String, columns: usize, word: &str) -> Result<(), AllocError>
-    ensures { OnOk result (string_bytes text.new ≡ string_bytes text.old ++ right columns word.now) }
-{
-    let spaces = columns.saturating_sub(word.len());
-    for _ in 0..spaces {
-        text.push(' ')?;
-    }
-    text.push_str(word)
-}
+use mf_base::{Fault, money_text, push_right};
+use std::alloc::Global;
 
 /// Writes principal, interest and both together as money, and ends the line.
 fn push_amounts(

@@ -2,7 +2,7 @@ use Rattle.std.proofs.Common.{◌≡◌, ◌++◌, take}
 use Rattle.std.specs.Prelude.{string_bytes, decimal}
 use Rattle.std.specs.List.{flat_map}
 use Rattle.mf_base.specs.Money.{money_text}
-use Rattle.mf_arrears.specs.Report.{right}
+use Rattle.mf_base.specs.Texts.{right}
 use Rattle.mf_arrears.proofs.report.push_columns.Given as goal
 
 abbrev pub invariant-loop-sum : goal.invariant-loop-sum

@@ -1,5 +1,5 @@
 use Rattle.mf_base.proofs.DueDayLemmas.{day_after-none, day_after-lt}
-use Rattle.mf_base.proofs.calendar.due_days_ascend.Goals as goal
+use Rattle.mf_base.proofs.laws.due_days_ascend.Goals as goal
 
 pub returns-clause-none : goal.returns-clause-none
 returns-clause-none c = day_after-none

@@ -1,9 +1,10 @@
-//! Laws of the calendar that the crates above may use.
+//! Laws of days and of money texts. Each function does nothing: its contract is the law.
 
 ghost use Rattle.std.specs.Prelude.{◌≡◌, ◌↔◌, ℕ, ◌<◌, ◌≤◌};
 ghost use Rattle.mf_base.specs.Calendar.{Date, IsDate, date_of, day_of, day_after};
 ghost use Rattle.mf_base.specs.declared.day.Freq.{Freq};
 ghost use Rattle.mf_base.specs.DayText.{date_text, day_text, last_entered_day, last_day};
+ghost use Rattle.mf_base.specs.Money.{IsMoneyText, money_limit, money_text};
 
 /// Date and number of a day give each other back: each number is that of one date, and each date has one number.
 pub fn dates_and_numbers()
@@ -25,4 +26,9 @@ pub fn texts_of_days()
 pub fn due_days_ascend()
     ensures none { (day : ℕ) (freq : Freq) → day_after day freq 0 ≡ day }
     ensures more { (day : ℕ) (freq : Freq) (fewer more : ℕ) → fewer < more → day_after day freq fewer < day_after day freq more }
+{}
+
+/// What `money_text` writes, `parse_money` reads: the text of an amount up to 10^12 cents stands for that amount.
+pub fn money_texts_are_read()
+    ensures { (cents : ℕ) → cents ≤ money_limit → IsMoneyText (money_text cents) cents }
 {}

@@ -1,6 +1,6 @@
 use Rattle.std.proofs.Common.{◌≡◌, ◌++◌, replicate}
 use Rattle.std.specs.String.{string_bytes}
-use Rattle.mf_schedule.proofs.text.push_right.Given as goal
+use Rattle.mf_base.proofs.texts.push_right.Given as goal
 
 abbrev pub invariant-loop : goal.invariant-loop
 invariant-loop l = string_bytes l.text ≡ string_bytes l.initial.text ++ replicate l.counter 32

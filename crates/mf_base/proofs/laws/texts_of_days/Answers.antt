@@ -1,5 +1,5 @@
 use Rattle.mf_base.proofs.DayTextLemmas.{day_text-is, day_text-injective, last_entered_year, last_year}
-use Rattle.mf_base.proofs.calendar.texts_of_days.Goals as goal
+use Rattle.mf_base.proofs.laws.texts_of_days.Goals as goal
 
 pub returns-clause-text : goal.returns-clause-text
 returns-clause-text c = day_text-is
