@@ -1,22 +1,25 @@
 -- Days of a new institution, line by line, with what each line is answered.
-use Rattle.std.specs.Prelude.{ℕ, false, List, [], ◌∷◌, codes, Option, Some, None, Result, Ok, Err}
+use Rattle.std.specs.Prelude.{ℕ, false, true, List, [], ◌∷◌, codes, Option, Some, None, Result, Ok, Err}
 use Rattle.mf_base.specs.declared.fault.Fault.{Fault}
-use Rattle.mf_base.specs.declared.fault.Fault.TheVariants.{F1, F2, F3, F4, F6, F7, F8, F9, F16, F18}
-use Rattle.mf_office.specs.declared.staff.Role.TheVariants.{Teller, Officer}
+use Rattle.mf_base.specs.declared.fault.Fault.TheVariants.{F1, F2, F3, F4, F5, F6, F7, F8, F9, F16, F17, F18}
+use Rattle.mf_office.specs.declared.staff.Role.TheVariants.{Teller, Officer, Manager}
 use Rattle.mf_office.specs.declared.caller.Caller.{Caller}
 use Rattle.mf_office.specs.declared.account.Account.{Account}
 use Rattle.mf_model.specs.declared.request.Request.{Request}
-use Rattle.mf_model.specs.declared.request.Flaw.TheVariants.{Malformed, NoMethod}
-use Rattle.mf_model.specs.declared.request.CatalogueRequest.TheVariants.{AddCharge, AddProduct, RetireProduct}
+use Rattle.mf_model.specs.declared.request.Flaw.TheVariants.{Malformed, NoRoute, NoMethod}
+use Rattle.mf_model.specs.declared.request.CatalogueRequest.TheVariants.{ShowDay, SetDay, AddCharge, ShowCharge, AddProduct, ShowProduct, RetireProduct}
 use Rattle.mf_model.specs.declared.request.OfficeRequest.TheVariants.{AddStaff, AddClient, ShowClient, SubmitLoan, ListLoans}
-use Rattle.mf_model.specs.declared.request.LoanRequest.TheVariants.{Take}
+use Rattle.mf_model.specs.declared.request.LoanRequest.TheVariants.{Show, Take}
 use Rattle.mf_model.specs.declared.request.LoanStep.{LoanStep}
-use Rattle.mf_model.specs.declared.request.LoanStep.TheVariants.{Approve, Withdraw, UndoApproval}
+use Rattle.mf_model.specs.declared.request.LoanStep.TheVariants.{Approve, Reject, Withdraw, UndoApproval}
 use Rattle.mf_model.specs.declared.request.Request.TheVariants.{Unreadable, Catalogue, Office, Loan, SeenOffices, NewOffice}
 use Rattle.mf_office.specs.declared.office.Office.{Office as OfficeLine}
+use Rattle.mf_model.specs.declared.loan.Loan.{Loan as LoanHeader}
+use Rattle.mf_model.specs.declared.loan.Stage.{Stage}
+use Rattle.mf_model.specs.declared.loan.Stage.TheVariants.{Submitted, Approved}
 use Rattle.mf_model.specs.declared.reply.Reply.{Reply}
-use Rattle.mf_model.specs.declared.reply.Reply.TheVariants.{OfficeMade, Offices, StaffMade, ClientMade, ClientShown, ChargeMade, ProductMade, ProductRetired, LoanMade, Loan as LoanTold, LoansShown}
-use Rattle.mf_model.specs.declared.reply.LoanReply.TheVariants.{Status}
+use Rattle.mf_model.specs.declared.reply.Reply.TheVariants.{OfficeMade, Offices, StaffMade, ClientMade, ClientShown, DayShown, DaySet, ChargeMade, ChargeShown, ProductMade, ProductShown, ProductRetired, LoanMade, Loan as LoanTold, LoansShown}
+use Rattle.mf_model.specs.declared.reply.LoanReply.TheVariants.{Shown, Status}
 use Rattle.mf_base.specs.declared.day.Freq.TheVariants.{Months}
 use Rattle.mf_catalog.specs.declared.charge.ChargeKind.TheVariants.{DueDate}
 use Rattle.mf_catalog.specs.declared.charge.Calc.TheVariants.{Flat}
@@ -132,4 +135,77 @@ lending =
     ∷ row (staff 1 1) (Catalogue (RetireProduct 1)) (Ok (ProductRetired 1))
     ∷ row (staff 1 1) (Catalogue (RetireProduct 1)) (Err F7)
     ∷ row (staff 1 1) (submit 1 1000001 3) (Err F7)
+    ∷ []
+
+-- 2024-01-01, as the number of the day
+abbrev pub first_of_2024 : ℕ
+first_of_2024 = 8766
+
+-- the business day goes on only, and each charge and product is shown as it was entered
+abbrev pub catalogue_day : List (Line × Result Reply Fault)
+catalogue_day =
+    row (staff 1 1) (Catalogue ShowDay) (Ok (DayShown 8766))
+    ∷ row (staff 1 1) (Catalogue (SetDay 8766)) (Err F17)
+    ∷ row (staff 1 1) (Catalogue (SetDay 8765)) (Err F17)
+    ∷ row (staff 1 1) (Catalogue (SetDay 8767)) (Ok (DaySet 8767))
+    ∷ row (staff 1 1) (Catalogue ShowDay) (Ok (DayShown 8767))
+    ∷ row (staff 1 1) (Catalogue (ShowCharge 1)) (Err F4)
+    ∷ row (staff 1 1) (Catalogue (AddCharge (codes "Visit") DueDate Flat 500)) (Ok (ChargeMade 1))
+    ∷ row (staff 1 1) (Catalogue (ShowCharge 1)) (Ok (ChargeShown (record { number = 1; name = codes "Visit"; kind = DueDate; calc = Flat; value = 500 })))
+    ∷ row (staff 1 1) (Catalogue (ShowCharge 0)) (Err F4)
+    ∷ row (staff 1 1) (Catalogue (AddProduct (usual None))) (Ok (ProductMade 1))
+    ∷ row (staff 1 1) (Catalogue (ShowProduct 1)) (Ok (ProductShown (record { number = 1; members = usual None; retired = false })))
+    ∷ row (staff 1 1) (Catalogue (ShowProduct 2)) (Err F4)
+    ∷ row (staff 1 1) (Catalogue (RetireProduct 2)) (Err F4)
+    ∷ row (staff 1 1) (Catalogue (RetireProduct 1)) (Ok (ProductRetired 1))
+    ∷ row (staff 1 1) (Catalogue (ShowProduct 1)) (Ok (ProductShown (record { number = 1; members = usual None; retired = true })))
+    ∷ row (staff 1 1) (Unreadable NoRoute) (Err F5)
+    ∷ []
+
+-- a loan of 1000.00 over three periods to client 1, at some stage
+abbrev pub loan_at_stage : Stage → LoanHeader
+loan_at_stage stage = record { client = 1; product = 1; principal = 100000; periods = 3; stage = stage }
+
+-- an application for such a loan, in office 2
+abbrev pub submit_in_two : Request
+submit_in_two = Office 2 (SubmitLoan (record { client = 1; product = 1; principal = 100000; periods = 3 }))
+
+-- what is asked of loan n of office x
+abbrev pub of_loan : ℕ → ℕ → LoanStep → Request
+of_loan office n step = Loan (account office n) (Take step)
+
+-- Loans are withdrawn, rejected and approved in office 2. Its officer may not decide, and of a manager of office 20 each of them is hidden: the reply is that of a loan that isn't there.
+abbrev pub deciding : List (Line × Result Reply Fault)
+deciding =
+    row (staff 1 1) (NewOffice 2 1 (codes "North")) (Ok (OfficeMade 2))
+    ∷ row (staff 1 1) (NewOffice 20 1 (codes "South")) (Ok (OfficeMade 20))
+    ∷ row (staff 1 1) (Office 2 (AddStaff (codes "Ben") Officer)) (Ok (StaffMade (record { office = 2; staff = 1 })))
+    ∷ row (staff 1 1) (Office 20 (AddStaff (codes "Dora") Manager)) (Ok (StaffMade (record { office = 20; staff = 1 })))
+    ∷ row (staff 1 1) (Catalogue (AddProduct (usual None))) (Ok (ProductMade 1))
+    ∷ row (staff 2 1) (Catalogue (SetDay 8767)) (Err F3)
+    ∷ row (staff 2 1) submit_in_two (Err F4)
+    ∷ row (staff 2 1) (add_client 2 (codes "Amina")) (Ok (ClientMade (account 2 1)))
+    ∷ row (staff 2 1) submit_in_two (Ok (LoanMade (account 2 1)))
+    ∷ row (staff 2 1) submit_in_two (Ok (LoanMade (account 2 2)))
+    ∷ row (staff 2 1) submit_in_two (Ok (LoanMade (account 2 3)))
+    ∷ row (staff 2 1) (Loan (account 2 1) Show) (Ok (LoanTold (account 2 1) (Shown (loan_at_stage Submitted))))
+    ∷ row (staff 2 1) (of_loan 2 1 Approve) (Err F3)
+    ∷ row (staff 2 1) (of_loan 2 1 Withdraw) (Ok (LoanTold (account 2 1) (Status 400)))
+    ∷ row (staff 2 1) (of_loan 2 1 Withdraw) (Err F9)
+    ∷ row (staff 1 1) (of_loan 2 2 Reject) (Ok (LoanTold (account 2 2) (Status 500)))
+    ∷ row (staff 1 1) (of_loan 2 2 Reject) (Err F9)
+    ∷ row (staff 1 1) (of_loan 2 2 UndoApproval) (Err F9)
+    ∷ row (staff 1 1) (of_loan 2 3 Approve) (Ok (LoanTold (account 2 3) (Status 200)))
+    ∷ row (staff 2 1) (Loan (account 2 3) Show) (Ok (LoanTold (account 2 3) (Shown (loan_at_stage (Approved 8766)))))
+    ∷ row (staff 20 1) (Loan (account 2 3) Show) (Err F4)
+    ∷ row (staff 20 1) (Loan (account 2 4) Show) (Err F4)
+    ∷ row (staff 20 1) (Loan (account 20 1) Show) (Err F4)
+    ∷ row (staff 20 1) (of_loan 2 3 UndoApproval) (Err F4)
+    ∷ row (staff 20 1) (of_loan 77 1 UndoApproval) (Err F4)
+    ∷ row (staff 20 1) (show_client 2 1) (Err F4)
+    ∷ row (staff 20 1) (show_client 2 2) (Err F4)
+    ∷ row (staff 20 1) submit_in_two (Err F4)
+    ∷ row (staff 2 1) (Office 2 (ListLoans 1)) (Ok (LoansShown (record { loan = account 2 2; status = 500 } ∷ record { loan = account 2 3; status = 200 } ∷ [])))
+    ∷ row (staff 20 1) (Office 2 (ListLoans 0)) (Err F4)
+    ∷ row (staff 2 1) (show_client 2 1) (Ok (ClientShown (account 2 1) (codes "Amina")))
     ∷ []

@@ -1,17 +1,21 @@
 //! Laws of whole runs. Each function does nothing: its contract is the law.
 
-ghost use Rattle.std.specs.Prelude.{◌≡◌, ◌≢◌, ◌≤◌, ℕ, List, [], ◌∷◌, ◌++◌, Some, map, true};
+ghost use Rattle.std.specs.Prelude.{◌≡◌, ◌≢◌, ◌≤◌, ℕ, List, [], ◌∷◌, ◌++◌, Some, Err, map, true};
+ghost use Rattle.mf_office.specs.declared.account.Account.{Account};
 ghost use Rattle.mf_office.specs.declared.caller.Caller.{Caller};
-ghost use Rattle.mf_model.specs.Institution.{Institution, Catalogue, Rows, Change, Catalogue_becomes, Rows_become, Office_added, after, office_at, newly_made};
+ghost use Rattle.mf_model.specs.Institution.{Institution, Catalogue, Rows, Staff, Change, Catalogue_becomes, Rows_become, Office_added, after, office_at, newly_made};
 ghost use Rattle.mf_model.specs.Tree.{IsTree, view, is_there, parent_of};
-ghost use Rattle.mf_model.specs.Desk.{effect, outcome, change_in};
+ghost use Rattle.mf_model.specs.Desk.{effect, outcome, change_in, meets, need, reply, staff_at};
+ghost use Rattle.mf_model.specs.Unseen.{Asked, IsUnseen, asked_of, sent};
 ghost use Rattle.mf_model.specs.Sound.{IsSound, IsInRange, AreInRange};
-ghost use Rattle.mf_model.specs.WorkedRows.{first_day, branches, chain, lending};
+ghost use Rattle.mf_model.specs.WorkedRows.{first_day, branches, chain, lending, first_of_2024, catalogue_day, deciding};
 ghost use Rattle.mf_base.specs.DayText.{last_entered_day};
 ghost use Rattle.mf_office.specs.Tree.{IsTreeOf};
 ghost use Rattle.mf_model.specs.declared.request.Call.{Call};
 ghost use Rattle.mf_model.specs.Run.{Line, ViewIsPlay, RepliesArePlay, OwnRepliesArePlay, Alike, NoneGivenUp, from_office, from_caller, given_up, told, answer, answers, last, next, touching, play_replies};
 ghost use Rattle.mf_model.specs.Store.{left_by, left_after};
+
+use mf_base::Fault;
 
 /// What a caller is answered, and what the request changes, is read off what the caller's office sees.
 pub fn answered_by_view()
@@ -69,6 +73,20 @@ pub fn alike_but_given_up()
         told (from_caller c) lines (answers lines i) ≡ told (from_caller c) others (answers others j) }
 {}
 
+/// A client or a loan that the caller may not see, and one that isn't there, are answered alike, whatever their
+/// accounts are: with F4, where the caller is known and its role may ask.
+pub fn hidden_is_missing()
+    ensures same { (asked : Asked) (a b : Account) (c : Caller) (i : Institution) → IsUnseen c asked a i → IsUnseen c asked b i →
+        reply (sent c (asked_of asked a)) i ≡ reply (sent c (asked_of asked b)) i }
+    ensures refusal { (asked : Asked) (a : Account) (c : Caller) (s : Staff) (i : Institution) → IsUnseen c asked a i →
+        staff_at i c ≡ Some s → meets (need (asked_of asked a)) s.role c.office ≡ true → reply (sent c (asked_of asked a)) i ≡ Err Fault.F4 }
+{}
+
+/// No call is answered F20 by the definitions: a line is told it only where it is given up.
+pub fn no_reply_is_given_up()
+    ensures { (call : Call) (i : Institution) → reply call i ≢ Err Fault.F20 }
+{}
+
 /// What an accepted request changes is worked out without the caller's row, from the request, the catalogue and the
 /// request's target alone.
 pub fn effects()
@@ -109,6 +127,8 @@ pub fn worked_rows()
     ensures branches { (day : ℕ) → answers (map (λ row. row.0) branches) (newly_made day) ≡ map (λ row. row.1) branches }
     ensures chain { (day : ℕ) → answers (map (λ row. row.0) chain) (newly_made day) ≡ map (λ row. row.1) chain }
     ensures lending { (day : ℕ) → answers (map (λ row. row.0) lending) (newly_made day) ≡ map (λ row. row.1) lending }
+    ensures catalogue_day { answers (map (λ row. row.0) catalogue_day) (newly_made first_of_2024) ≡ map (λ row. row.1) catalogue_day }
+    ensures deciding { answers (map (λ row. row.0) deciding) (newly_made first_of_2024) ≡ map (λ row. row.1) deciding }
 {}
 
 /// The offices of a sound institution are a tree as the keys of offices know it.

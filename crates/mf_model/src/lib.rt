@@ -12,8 +12,9 @@ mod store;
 
 pub use commit::Commit;
 pub use laws::{
-    alike, alike_but_given_up, answered_by_view, confinement, effects, isolation,
-    isolation_with_memory, longer_run, soundness, tree_of_offices, worked_rows,
+    alike, alike_but_given_up, answered_by_view, confinement, effects, hidden_is_missing,
+    isolation, isolation_with_memory, longer_run, no_reply_is_given_up, soundness, tree_of_offices,
+    worked_rows,
 };
 pub use loan::{Loan, LoanLine, LoanList, Stage};
 pub use names::is_name;

@@ -17,3 +17,11 @@ returns-clause-chain c = λ day. refl
 pub returns-clause-lending : goal.returns-clause-lending
 unfolding is_at_or_below is_within
 returns-clause-lending c = λ day. refl
+
+pub returns-clause-catalogue_day : goal.returns-clause-catalogue_day
+unfolding is_at_or_below is_within
+returns-clause-catalogue_day c = refl
+
+pub returns-clause-deciding : goal.returns-clause-deciding
+unfolding is_at_or_below is_within
+returns-clause-deciding c = refl
