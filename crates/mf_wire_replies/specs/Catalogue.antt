@@ -1,51 +1,11 @@
 -- How charges and products are shown.
-use Rattle.std.specs.Prelude.{ℕ, List, codes}
+use Rattle.std.specs.Prelude.{codes}
 use Rattle.serde_json.specs.Data.{Data, boolean, string, object, Members, member, no_members}
-use Rattle.mf_base.specs.declared.day.Freq.{Freq}
-use Rattle.mf_base.specs.declared.day.Freq.TheVariants.{Weeks, Months}
-use Rattle.mf_catalog.specs.declared.charge.ChargeKind.{ChargeKind}
-use Rattle.mf_catalog.specs.declared.charge.ChargeKind.TheVariants.{Disbursement, Instalment, Overdue, DueDate}
-use Rattle.mf_catalog.specs.declared.charge.Calc.{Calc}
-use Rattle.mf_catalog.specs.declared.charge.Calc.TheVariants.{Flat as Whole_value, OfAmount, OfInterest, OfBoth}
+use Rattle.mf_base.specs.Choices.{frequency_name}
+use Rattle.mf_catalog.specs.Names.{kind_name, calc_name, method_name, strategy_name}
 use Rattle.mf_catalog.specs.declared.charge.ChargeDef.{ChargeDef}
-use Rattle.mf_catalog.specs.declared.terms.Method.{Method}
-use Rattle.mf_catalog.specs.declared.terms.Method.TheVariants.{Flat, EqualPrincipal, Fixed}
-use Rattle.mf_catalog.specs.declared.terms.StrategyName.{StrategyName}
-use Rattle.mf_catalog.specs.declared.terms.StrategyName.TheVariants.{MifosStandard, PrincipalFirst, InterestFirst, DueFirst}
 use Rattle.mf_catalog.specs.declared.product.Product.{Product}
 use Rattle.mf_wire_replies.specs.Json.{whole, whole_or_null}
-
--- when a charge is taken
-abbrev pub kind_name : ChargeKind → List ℕ
-kind_name Disbursement = codes "disbursement"
-kind_name Instalment = codes "instalment"
-kind_name Overdue = codes "overdue"
-kind_name DueDate = codes "due-date"
-
--- how a charge is computed
-abbrev pub calc_name : Calc → List ℕ
-calc_name Whole_value = codes "flat"
-calc_name OfAmount = codes "percent-of-amount"
-calc_name OfInterest = codes "percent-of-interest"
-calc_name OfBoth = codes "percent-of-amount-and-interest"
-
--- whether a period goes by weeks or by months
-abbrev pub frequency_name : Freq → List ℕ
-frequency_name Weeks = codes "weeks"
-frequency_name Months = codes "months"
-
--- how principal and interest are planned
-abbrev pub method_name : Method → List ℕ
-method_name Flat = codes "flat"
-method_name EqualPrincipal = codes "declining-equal-principal"
-method_name Fixed = codes "declining-equal-instalments"
-
--- in which order a payment fills the portions
-abbrev pub strategy_name : StrategyName → List ℕ
-strategy_name MifosStandard = codes "mifos-standard-strategy"
-strategy_name PrincipalFirst = codes "principal-interest-penalties-fees-order-strategy"
-strategy_name InterestFirst = codes "interest-principal-penalties-fees-order-strategy"
-strategy_name DueFirst = codes "due-first-by-portion"
 
 -- a charge as GET /charges/{charge} shows it
 abbrev pub charge_data : ChargeDef → Data

@@ -1,4 +1,3 @@
 pub mod Asking
 pub mod DayTexts
-pub mod PathNumbers
 pub mod Matched

@@ -1,5 +1,5 @@
 -- What a body says, as JSON.
-use Rattle.std.specs.Prelude.{◌≡◌, ◌⊎◌, ℕ, ◌+◌, Bool, ◌&&◌, cond, List, length, nat_le, codes, Option, Some, None, is_some, option_map, option_and_then, Result, MatchResult}
+use Rattle.std.specs.Prelude.{◌≡◌, ◌⊎◌, ℕ, ◌+◌, Bool, ◌&&◌, cond, List, length, nat_le, Option, Some, None, is_some, option_map, option_and_then, Result, MatchResult}
 use Rattle.std.specs.List.{list_all, find, range_with_len}
 use Rattle.std.specs.Str.{is_utf8, chars, bytes_eq}
 use Rattle.serde_json.specs.Data.{Data}
@@ -11,8 +11,6 @@ use Rattle.mf_base.specs.declared.fault.Fault.TheVariants.{F1, F20}
 use Rattle.mf_office.specs.Numbers.{number_up_to}
 use Rattle.mf_office.specs.Texts.{account_of}
 use Rattle.mf_office.specs.declared.account.Account.{Account}
-use Rattle.mf_office.specs.declared.staff.Role.{Role}
-use Rattle.mf_office.specs.declared.staff.Role.TheVariants.{Teller, Officer, Manager}
 use Rattle.mf_model.specs.Sound.{is_plain}
 
 -- the JSON whose text the bytes are
@@ -38,16 +36,6 @@ name_at member d = option_and_then (λ text. cond (is_name text) (Some text) Non
 -- a member that is an office's number
 abbrev pub office_at : List ℕ → Data → Option ℕ
 office_at member d = option_and_then (number_up_to 9999) (whole_at member d)
-
-abbrev pub role_named : List ℕ → Option Role
-role_named text =
-    cond (bytes_eq text (codes "teller")) (Some Teller)
-    (cond (bytes_eq text (codes "officer")) (Some Officer)
-    (cond (bytes_eq text (codes "manager")) (Some Manager) None))
-
--- a member that names a role
-abbrev pub role_at : List ℕ → Data → Option Role
-role_at member d = option_and_then role_named (text_at member d)
 
 -- the number, where it lies from a least to a greatest
 abbrev pub within : ℕ → ℕ → ℕ → Option ℕ

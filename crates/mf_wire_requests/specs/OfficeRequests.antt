@@ -4,7 +4,8 @@ use Rattle.serde_json.specs.Data.{Data}
 use Rattle.mf_model.specs.declared.request.Request.{Request}
 use Rattle.mf_model.specs.declared.request.OfficeRequest.TheVariants.{AddStaff, AddClient, ShowClient}
 use Rattle.mf_model.specs.declared.request.Request.TheVariants.{Office, NewOffice}
-use Rattle.mf_wire_requests.specs.Bodies.{name_at, office_at, role_at}
+use Rattle.mf_wire_requests.specs.Bodies.{name_at, office_at}
+use Rattle.mf_wire_requests.specs.Named.{role_at}
 use Rattle.mf_wire_requests.specs.PathParts.{PathParts, account_in}
 
 -- a new office, by the members number, parent and name

@@ -1,7 +1,8 @@
 -- The parts of a request line.
-use Rattle.std.specs.Prelude.{ℕ, ◌+◌, ◌==◌, Bool, ◌&&◌, ◌||◌, List, [], length, take, drop, nat_lt, codes, Option, option_map, option_and_then, unwrap_or}
-use Rattle.std.specs.List.{position, list_any, list_all}
+use Rattle.std.specs.Prelude.{ℕ, ◌==◌, Bool, ◌&&◌, ◌||◌, List, [], length, nat_lt, codes, Option, option_map, option_and_then, unwrap_or}
+use Rattle.std.specs.List.{list_any, list_all}
 use Rattle.std.specs.Char.{is_ascii_alphanumeric}
+use Rattle.mf_base.specs.Texts.{parts_round}
 use Rattle.mf_wire_requests.specs.declared.request_line.LineParts.{LineParts}
 
 pub record Parts : Type 0 where
@@ -16,7 +17,7 @@ parts_now p = record { caller = p.caller.now; method = p.method.now; path = p.pa
 
 -- what stands before and after the first space, where there is one
 abbrev pub split_space : List ℕ → Option (List ℕ × List ℕ)
-split_space text = option_map (λ at. (take at text, drop (at + 1) text)) (position (λ b. b == 32) text)
+split_space text = parts_round 32 text
 
 -- the path and the body; the path may be all
 abbrev pub path_and_body : List ℕ → List ℕ × List ℕ

@@ -1,13 +1,13 @@
 // A request's body, as JSON.
 ghost use Rattle.std.specs.Prelude.{◌≡◌, ◌≤◌, Some, None, option_map, option_and_then, IfOk, IfErr, IfSome, ◌⊎◌};
 ghost use Rattle.serde_json.specs.View.{view};
-ghost use Rattle.mf_wire_requests.specs.Bodies.{json_of, whole_at, text_at, name_at, office_at, role_named, role_at, within as within_limits, number_at, optional_number_at, account_at, day_named as day_of, day_at, Gives};
+ghost use Rattle.mf_wire_requests.specs.Bodies.{json_of, whole_at, text_at, name_at, office_at, within as within_limits, number_at, optional_number_at, account_at, day_named as day_of, day_at, Gives};
 ghost use Rattle.mf_model.specs.Sound.{IsName, IsAccount};
 ghost use Rattle.mf_base.specs.DayText.{last_entered_day};
 
 use mf_base::{Day, Fault};
 use mf_model::is_name;
-use mf_office::{Account, Name, OfficeNo, Role};
+use mf_office::{Account, Name, OfficeNo};
 use serde_json::Value;
 use std::alloc::Global;
 
@@ -69,27 +69,6 @@ pub fn office(body: &Value, member: &str) -> Option<OfficeNo>
     } else {
         None
     }
-}
-
-fn role_of_text(text: &str) -> Option<Role>
-    ensures { result ≡ role_named text.now }
-{
-    if text == "teller" {
-        Some(Role::Teller)
-    } else if text == "officer" {
-        Some(Role::Officer)
-    } else if text == "manager" {
-        Some(Role::Manager)
-    } else {
-        None
-    }
-}
-
-/// A member that names a role.
-pub fn role(body: &Value, member: &str) -> Option<Role>
-    ensures { result ≡ role_at member.now (view body.now) }
-{
-    role_of_text(text(body, member)?)
 }
 
 /// The number, where it lies from the least to the greatest.

@@ -1,7 +1,9 @@
 // The parts of a request line: who sends it, the method, the path, and the body.
-ghost use Rattle.std.specs.Prelude.{◌≡◌, ◌==◌, option_map};
-ghost use Rattle.std.specs.List.{position, list_all};
-ghost use Rattle.mf_wire_requests.specs.RequestLine.{parts_now, parts_of, split_space as line_split, is_token as token_test, is_token_byte};
+ghost use Rattle.std.specs.Prelude.{◌≡◌, option_map};
+ghost use Rattle.std.specs.List.{list_all};
+ghost use Rattle.mf_wire_requests.specs.RequestLine.{parts_now, parts_of, is_token as token_test, is_token_byte};
+
+use mf_base::split_once;
 
 /// The parts of a request line, with single spaces between them. The body may have more.
 #[derive(Clone, Copy, Debug)]
@@ -16,29 +18,13 @@ pub struct LineParts<'a> {
     pub body: &'a [u8],
 }
 
-fn space_at(text: &[u8]) -> Option<usize>
-    ensures { result ≡ position (λ b. b == 32) text.now }
-{
-    text.iter().position(|b| *b == b' ')
-}
-
-/// What stands before and after the first space, where there is one.
-fn split_space(text: &[u8]) -> Option<(&[u8], &[u8])>
-    ensures { option_map (λ p. (p.0.now, p.1.now)) result ≡ line_split text.now }
-{
-    match space_at(text) {
-        Some(at) => Some((&text[..at], &text[at + 1..])),
-        None => None,
-    }
-}
-
 /// The parts of a line, or None where it has fewer than two spaces.
 pub fn line_parts(line: &[u8]) -> Option<LineParts<'_>>
     ensures { option_map parts_now result ≡ parts_of line.now }
 {
-    let (caller, rest) = split_space(line)?;
-    let (method, rest) = split_space(rest)?;
-    let (path, body) = match split_space(rest) {
+    let (caller, rest) = split_once(line, b' ')?;
+    let (method, rest) = split_once(rest, b' ')?;
+    let (path, body) = match split_once(rest, b' ') {
         Some((path, body)) => (path, body),
         None => (rest, [].as_slice()),
     };

@@ -2,25 +2,14 @@
 use Rattle.std.specs.Prelude.{◌≡◌, ℕ, ◌≤◌, List, codes, Some}
 use Rattle.std.specs.Str.Parse.{IsNumeral, digits_value, without_leading_plus}
 use Rattle.clap.specs.Words.{Row, Text, first_of, subcommand_of}
-use Rattle.mf_base.specs.declared.day.Freq.{Freq}
-use Rattle.mf_base.specs.declared.day.Freq.TheVariants.{Weeks, Months}
+use Rattle.mf_base.specs.Choices.{frequency_name}
 use Rattle.mf_base.specs.DayText.{day_text, last_entered_day}
 use Rattle.mf_catalog.specs.Limits.{greatest_amount, greatest_rate, most_grace, most_periods, longest_step}
-use Rattle.mf_catalog.specs.declared.terms.Method.{Method}
-use Rattle.mf_catalog.specs.declared.terms.Method.TheVariants.{Flat, EqualPrincipal, Fixed}
+use Rattle.mf_catalog.specs.Names.{method_name}
 use Rattle.microloan_words.specs.Options.{microloan_app}
 use Rattle.microloan_words.specs.declared.asked.ScheduleWords.{ScheduleWords}
 use Rattle.microloan_words.specs.declared.asked.Command.{Command}
 use Rattle.microloan_words.specs.declared.asked.Command.TheVariants.{Batch, Schedule}
-
-abbrev pub method_text : Method → List ℕ
-method_text Flat = codes "flat"
-method_text EqualPrincipal = codes "declining-equal-principal"
-method_text Fixed = codes "declining-equal-instalments"
-
-abbrev pub frequency_text : Freq → List ℕ
-frequency_text Weeks = codes "weeks"
-frequency_text Months = codes "months"
 
 -- the option's text is this number in decimal digits, and the number lies in its limits
 pub record IsNumberAt (rows : List Row) (id : Text) (least greatest number : ℕ) : Type 0 where
@@ -38,12 +27,12 @@ pub record IsDayAt (rows : List Row) (id : Text) (day : ℕ) : Type 0 where
 
 -- the options of `schedule`
 pub record AreScheduleWords (rows : List Row) (asked : ScheduleWords) : Type 0 where
-  pub method : first_of (codes "method") rows ≡ Some (method_text asked.method)
+  pub method : first_of (codes "method") rows ≡ Some (method_name asked.method)
   pub principal : IsNumberAt rows (codes "principal") 1 greatest_amount asked.principal
   pub rate : IsNumberAt rows (codes "rate") 0 greatest_rate asked.rate
   pub periods : IsNumberAt rows (codes "periods") 1 most_periods asked.periods
   pub day : IsDayAt rows (codes "day") asked.day
-  pub frequency : first_of (codes "frequency") rows ≡ Some (frequency_text asked.frequency)
+  pub frequency : first_of (codes "frequency") rows ≡ Some (frequency_name asked.frequency)
   pub every : IsNumberAt rows (codes "every") 1 (longest_step asked.frequency) asked.every
   pub principal_grace : IsNumberAt rows (codes "principal-grace") 0 most_grace asked.principal_grace
   pub interest_grace : IsNumberAt rows (codes "interest-grace") 0 most_grace asked.interest_grace

@@ -1,16 +1,12 @@
 ghost use Rattle.std.specs.Prelude.{◌≡◌, IfOk};
 ghost use Rattle.clap.specs.Words.{found_of, rows_of};
 ghost use Rattle.microloan_words.specs.Asked.{AreScheduleWords, IsWithinLimits};
-ghost use Rattle.mf_catalog.specs.Limits.{longest_step};
 ghost use Rattle.microloan_words.specs.declared.asked.ScheduleWords.{ScheduleWords};
 
 use crate::asked::ScheduleWords;
 use crate::values::{count_at, day_at, frequency_at, method_at, number_at};
 use clap::ArgMatches;
-use mf_base::Freq;
-use mf_catalog::{
-    GREATEST_AMOUNT, GREATEST_RATE, MOST_GRACE, MOST_MONTHS, MOST_PERIODS, MOST_WEEKS,
-};
+use mf_catalog::{GREATEST_AMOUNT, GREATEST_RATE, MOST_GRACE, MOST_PERIODS, longest_step};
 
 /// An option whose text isn't what the option wants.
 #[derive(Clone, Copy, PartialEq, Eq, Debug)]
@@ -24,16 +20,6 @@ pub(crate) enum Wrong {
     Every,
     PrincipalGrace,
     InterestGrace,
-}
-
-/// The most weeks or months that a period has.
-fn longest_step(frequency: Freq) -> u32
-    ensures { result ≡ longest_step frequency }
-{
-    match frequency {
-        Freq::Weeks => MOST_WEEKS,
-        Freq::Months => MOST_MONTHS,
-    }
 }
 
 /// The options of `schedule`, or the first that isn't what it should be.

@@ -1,6 +1,8 @@
 ghost use Rattle.std.specs.Prelude.{◌≡◌, ℕ, codes, IfSome, option_map};
 ghost use Rattle.clap.specs.Words.{first_of, found_of, rows_of};
-ghost use Rattle.microloan_words.specs.Asked.{IsNumberAt, IsDayAt, method_text, frequency_text};
+ghost use Rattle.mf_base.specs.Choices.{frequency_name};
+ghost use Rattle.mf_catalog.specs.Names.{method_name};
+ghost use Rattle.microloan_words.specs.Asked.{IsNumberAt, IsDayAt};
 ghost use Rattle.mf_catalog.specs.declared.terms.Method.{Method};
 ghost use Rattle.mf_base.specs.declared.day.Freq.{Freq};
 
@@ -33,31 +35,6 @@ pub(crate) fn number_at(
     }
 }
 
-/// The method of this name.
-pub(crate) fn method_of(text: &str) -> Option<Method>
-    ensures read { IfSome result (λ method. text.now ≡ method_text method) }
-    ensures every { (method : Method) → text.now ≡ method_text method → result ≡ Some method }
-{
-    match text {
-        "flat" => Some(Method::Flat),
-        "declining-equal-principal" => Some(Method::EqualPrincipal),
-        "declining-equal-instalments" => Some(Method::Fixed),
-        _ => None,
-    }
-}
-
-/// The unit of this name.
-pub(crate) fn frequency_of(text: &str) -> Option<Freq>
-    ensures read { IfSome result (λ frequency. text.now ≡ frequency_text frequency) }
-    ensures every { (frequency : Freq) → text.now ≡ frequency_text frequency → result ≡ Some frequency }
-{
-    match text {
-        "weeks" => Some(Freq::Weeks),
-        "months" => Some(Freq::Months),
-        _ => None,
-    }
-}
-
 /// A count of an option, in its limits.
 pub(crate) fn count_at(options: &ArgMatches<'_>, id: &str, least: u32, greatest: u32) -> Option<u32>
     ensures read { IfSome result (λ n. IsNumberAt (rows_of (found_of options.now)) id.now least greatest n) }
@@ -71,18 +48,18 @@ pub(crate) fn count_at(options: &ArgMatches<'_>, id: &str, least: u32, greatest:
 
 /// The method that is asked for.
 pub(crate) fn method_at(options: &ArgMatches<'_>) -> Option<Method>
-    ensures read { IfSome result (λ method. first_of (codes "method") (rows_of (found_of options.now)) ≡ Some (method_text method)) }
-    ensures every { (method : Method) → first_of (codes "method") (rows_of (found_of options.now)) ≡ Some (method_text method) → result ≡ Some method }
+    ensures read { IfSome result (λ method. first_of (codes "method") (rows_of (found_of options.now)) ≡ Some (method_name method)) }
+    ensures every { (method : Method) → first_of (codes "method") (rows_of (found_of options.now)) ≡ Some (method_name method) → result ≡ Some method }
 {
-    method_of(text_at(options, "method")?)
+    Method::from_name(text_at(options, "method")?)
 }
 
 /// The unit of a period.
 pub(crate) fn frequency_at(options: &ArgMatches<'_>) -> Option<Freq>
-    ensures read { IfSome result (λ frequency. first_of (codes "frequency") (rows_of (found_of options.now)) ≡ Some (frequency_text frequency)) }
-    ensures every { (frequency : Freq) → first_of (codes "frequency") (rows_of (found_of options.now)) ≡ Some (frequency_text frequency) → result ≡ Some frequency }
+    ensures read { IfSome result (λ frequency. first_of (codes "frequency") (rows_of (found_of options.now)) ≡ Some (frequency_name frequency)) }
+    ensures every { (frequency : Freq) → first_of (codes "frequency") (rows_of (found_of options.now)) ≡ Some (frequency_name frequency) → result ≡ Some frequency }
 {
-    frequency_of(text_at(options, "frequency")?)
+    Freq::from_name(text_at(options, "frequency")?)
 }
 
 /// The day of an option, where it is one that may be entered.

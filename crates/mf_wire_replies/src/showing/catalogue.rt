@@ -4,65 +4,13 @@ ghost use Rattle.serde_json.specs.View.{view, members_view};
 ghost use Rattle.mf_model.specs.declared.reply.Reply.TheVariants.{DayShown, ChargeMade, ProductMade};
 ghost use Rattle.mf_wire_replies.specs.Shown.{reply_data};
 ghost use Rattle.mf_wire_replies.specs.Json.{whole_or_null as whole_or_null_of};
-ghost use Rattle.mf_wire_replies.specs.Catalogue.{kind_name, calc_name, frequency_name, method_name, strategy_name, charge_data, product_end as product_end_of, product_rest as product_rest_of, product_data};
+ghost use Rattle.mf_wire_replies.specs.Catalogue.{charge_data, product_end as product_end_of, product_rest as product_rest_of, product_data};
 
 use super::members::{put_text, put_value, put_whole};
-use mf_base::{Day, Fault, Freq};
-use mf_catalog::{Calc, ChargeDef, ChargeKind, Method, Product, StrategyName};
+use mf_base::{Day, Fault};
+use mf_catalog::{ChargeDef, Product};
 use serde_json::{Map, Value, json};
 use std::alloc::{AllocError, Global};
-
-fn kind_text(kind: ChargeKind) -> &'static str
-    ensures { result.now ≡ kind_name kind }
-{
-    match kind {
-        ChargeKind::Disbursement => "disbursement",
-        ChargeKind::Instalment => "instalment",
-        ChargeKind::Overdue => "overdue",
-        ChargeKind::DueDate => "due-date",
-    }
-}
-
-fn calc_text(calc: Calc) -> &'static str
-    ensures { result.now ≡ calc_name calc }
-{
-    match calc {
-        Calc::Flat => "flat",
-        Calc::OfAmount => "percent-of-amount",
-        Calc::OfInterest => "percent-of-interest",
-        Calc::OfBoth => "percent-of-amount-and-interest",
-    }
-}
-
-fn frequency_text(freq: Freq) -> &'static str
-    ensures { result.now ≡ frequency_name freq }
-{
-    match freq {
-        Freq::Weeks => "weeks",
-        Freq::Months => "months",
-    }
-}
-
-fn method_text(method: Method) -> &'static str
-    ensures { result.now ≡ method_name method }
-{
-    match method {
-        Method::Flat => "flat",
-        Method::EqualPrincipal => "declining-equal-principal",
-        Method::Fixed => "declining-equal-instalments",
-    }
-}
-
-fn strategy_text(strategy: StrategyName) -> &'static str
-    ensures { result.now ≡ strategy_name strategy }
-{
-    match strategy {
-        StrategyName::MifosStandard => "mifos-standard-strategy",
-        StrategyName::PrincipalFirst => "principal-interest-penalties-fees-order-strategy",
-        StrategyName::InterestFirst => "interest-principal-penalties-fees-order-strategy",
-        StrategyName::DueFirst => "due-first-by-portion",
-    }
-}
 
 fn whole_or_null(alloc: Global, number: Option<u32>) -> Result<Value, AllocError>
     ensures { IfOk result (λ v. view v ≡ whole_or_null_of number) }
@@ -94,8 +42,8 @@ pub fn charge_made(alloc: Global, charge: u32) -> Result<Value, AllocError>
 pub fn charge_shown(alloc: Global, charge: &ChargeDef) -> Result<Value, AllocError>
     ensures { IfOk result (λ v. view v ≡ charge_data charge.now) }
 {
-    let calc = calc_text(charge.calc);
-    let kind = kind_text(charge.kind);
+    let calc = charge.calc.name();
+    let kind = charge.kind.name();
     let name = charge.name.as_str();
     json!(in alloc; {
         "calc": calc,
@@ -120,7 +68,7 @@ fn product_end(alloc: Global, product: &Product) -> Result<Map<String, Value>, A
     let members = &product.members;
     let overdue_charge = whole_or_null(alloc, members.overdue_charge)?;
     let mut map = Map::new(alloc);
-    put_text(alloc, &mut map, "strategy", strategy_text(members.strategy))?;
+    put_text(alloc, &mut map, "strategy", members.strategy.name())?;
     put_value(alloc, &mut map, "retired", Value::Bool(product.retired))?;
     put_whole(alloc, &mut map, "rate", members.rate as u64)?;
     put_whole(alloc, &mut map, "product", product.number as u64)?;
@@ -143,7 +91,7 @@ fn product_rest(alloc: Global, product: &Product) -> Result<Map<String, Value>, 
     put_text(alloc, &mut map, "name", members.name.as_str())?;
     put_whole(alloc, &mut map, "min_principal", members.min_principal)?;
     put_whole(alloc, &mut map, "min_periods", members.min_periods as u64)?;
-    put_text(alloc, &mut map, "method", method_text(members.method))?;
+    put_text(alloc, &mut map, "method", members.method.name())?;
     put_whole(alloc, &mut map, "max_principal", members.max_principal)?;
     put_whole(alloc, &mut map, "max_periods", members.max_periods as u64)?;
     Ok(map)
@@ -164,7 +112,7 @@ pub fn product_shown(alloc: Global, product: &Product) -> Result<Value, AllocErr
         members.interest_grace as u64,
     )?;
     put_value(alloc, &mut map, "instalment_charge", instalment_charge)?;
-    put_text(alloc, &mut map, "frequency", frequency_text(members.freq))?;
+    put_text(alloc, &mut map, "frequency", members.freq.name())?;
     put_whole(alloc, &mut map, "every", members.every as u64)?;
     put_value(alloc, &mut map, "disbursement_charge", disbursement_charge)?;
     Ok(Value::Object(map))

@@ -1,5 +1,5 @@
 // What is asked of the catalogue, but for new products.
-ghost use Rattle.std.specs.Prelude.{◌≡◌, codes, option_map, option_and_then, IfOk};
+ghost use Rattle.std.specs.Prelude.{codes, option_map, option_and_then, IfOk};
 ghost use Rattle.matchit.specs.Params.{AllText};
 ghost use Rattle.mf_model.specs.declared.request.CatalogueRequest.TheVariants.{ShowCharge, ShowProduct, RetireProduct};
 ghost use Rattle.mf_model.specs.declared.request.Request.TheVariants.{Catalogue};
@@ -7,14 +7,13 @@ ghost use Rattle.mf_model.specs.Sound.{IsInRange};
 ghost use Rattle.mf_wire_requests.specs.Bodies.{json_of, Gives};
 ghost use Rattle.mf_wire_requests.specs.CatalogueRequests.{later_day as day_asked, new_charge as charge_asked};
 ghost use Rattle.mf_wire_requests.specs.PathParts.{parts_of_params, number_in};
-ghost use Rattle.mf_catalog.specs.Limits.{greatest_value as greatest_value_of};
 
 use crate::body::{day, json, long_number, name};
 use crate::named::{calc, kind};
 use crate::paths::number;
 use matchit::Params;
 use mf_base::Fault;
-use mf_catalog::{Calc, GREATEST_AMOUNT, GREATEST_PERCENTAGE};
+use mf_catalog::greatest_value;
 use mf_model::{CatalogueRequest, Request};
 use std::alloc::Global;
 
@@ -26,16 +25,6 @@ pub fn later_day(alloc: Global, body: &[u8]) -> Result<Request, Fault>
     match day(&body, "day") {
         Some(day) => Ok(Request::Catalogue(CatalogueRequest::SetDay { day })),
         None => Err(Fault::F1),
-    }
-}
-
-/// The greatest value of a charge that is computed so: cents where it is flat, else hundredths of a percent.
-fn greatest_value(calc: Calc) -> u64
-    ensures { result ≡ greatest_value_of calc }
-{
-    match calc {
-        Calc::Flat => GREATEST_AMOUNT,
-        Calc::OfAmount | Calc::OfInterest | Calc::OfBoth => GREATEST_PERCENTAGE,
     }
 }
 

@@ -6,7 +6,8 @@ ghost use Rattle.mf_wire_requests.specs.Bodies.{json_of, Gives};
 ghost use Rattle.mf_wire_requests.specs.OfficeRequests.{new_office as office_asked, new_staff as staff_asked, new_client as client_asked, client_at};
 ghost use Rattle.mf_wire_requests.specs.PathParts.{parts_of_params};
 
-use crate::body::{json, name, office, role};
+use crate::body::{json, name, office};
+use crate::named::role;
 use crate::paths::account;
 use matchit::Params;
 use mf_base::Fault;

@@ -1,7 +1,6 @@
 // What is asked of a new product.
 ghost use Rattle.std.specs.Prelude.{◌≡◌, option_and_then, IfOk, IfSome};
 ghost use Rattle.serde_json.specs.View.{view};
-ghost use Rattle.mf_catalog.specs.Limits.{longest_step as longest_step_of};
 ghost use Rattle.mf_model.specs.Sound.{IsInRange, IsName, AreMembers};
 ghost use Rattle.mf_wire_requests.specs.Bodies.{json_of, Gives};
 ghost use Rattle.mf_wire_requests.specs.ProductRequests.{step_at, planning_at, bounds_at, charge_at, charged_at, members_of as members_by, new_product as product_asked, IsStepInRange, IsPlanningInRange, AreBoundsInRange};
@@ -10,8 +9,8 @@ use crate::body::{json, long_number, name, number, optional_number};
 use crate::named::{freq, method, strategy};
 use mf_base::{Fault, Freq};
 use mf_catalog::{
-    GREATEST_AMOUNT, GREATEST_RATE, MOST_GRACE, MOST_MONTHS, MOST_PERIODS, MOST_WEEKS, Method,
-    ProductMembers, StrategyName,
+    GREATEST_AMOUNT, GREATEST_RATE, MOST_GRACE, MOST_PERIODS, Method, ProductMembers, StrategyName,
+    longest_step,
 };
 use mf_model::{CatalogueRequest, Request};
 use mf_office::Name;
@@ -51,15 +50,6 @@ pub struct Charged {
     pub disbursement: Option<u32>,
     pub instalment: Option<u32>,
     pub overdue: Option<u32>,
-}
-
-fn longest_step(freq: Freq) -> u32
-    ensures { result ≡ longest_step_of freq }
-{
-    match freq {
-        Freq::Weeks => MOST_WEEKS,
-        Freq::Months => MOST_MONTHS,
-    }
 }
 
 fn read_step(body: &Value) -> Option<Step>
