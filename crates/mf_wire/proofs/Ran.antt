@@ -1,21 +1,26 @@
 -- A run line by line is a run on the institution, and what each office is told of it is isolated.
 use Rattle.std.proofs.Common.{◌≡◌, inl, inr, ℕ, nat_le, Bool, true, false, cond, List, [], ◌∷◌, length, map, Option, refl, sym, ap, ◌∙◌, subst}
-use Rattle.std.specs.Prelude.{MatchBool}
+use Rattle.std.specs.Prelude.{MatchBool, Result}
 use Rattle.mf_base.specs.declared.fault.Fault.TheVariants.{F1}
 use Rattle.mf_model.specs.declared.request.Flaw.TheVariants.{Malformed}
+use Rattle.mf_base.specs.declared.fault.Fault.{Fault}
+use Rattle.mf_office.specs.Written.{caller_text}
+use Rattle.mf_model.specs.declared.reply.Reply.{Reply}
 use Rattle.mf_model.specs.declared.request.Call.{Call}
 use Rattle.mf_model.specs.Institution.{Institution}
 use Rattle.mf_model.specs.Tree.{IsTree}
 use Rattle.mf_model.specs.Sound.{IsSound}
 use Rattle.mf_model.specs.Desk.{outcome, change_in}
-use Rattle.mf_model.specs.Run.{Line, answer, next, answers, last, told, ViewIsPlay, RepliesArePlay, OwnRepliesArePlay, from_office, from_caller}
+use Rattle.mf_model.specs.Run.{Line, answer, next, answers, last, told, ViewIsPlay, RepliesArePlay, OwnRepliesArePlay, from_office, from_caller, given_up, but_given_up}
 use Rattle.mf_model.specs.Store.{left_by, left_after}
 use Rattle.mf_wire_lines.specs.Replies.{fault_line}
 use Rattle.mf_wire_requests.specs.Requests.{call_of}
 use Rattle.mf_wire_replies.specs.Shown.{shown_line}
 use Rattle.mf_wire_lines.specs.Run.{LineStep, Run, Answered, Broken}
 use Rattle.mf_wire_lines.specs.Told.{Whole, Stopped, Severed}
-use Rattle.mf_wire.specs.Runs.{texts_of, Isolated, Calls, RunsLines}
+use Rattle.mf_wire.specs.Senders.{is_sent_by, is_sent_from, texts_for, NoneIsF20}
+use Rattle.mf_wire.specs.Runs.{texts_of, office_play, own_play, Isolated, Calls, RunsLines}
+use Rattle.mf_wire.proofs.Senders.{sent_by_is, sent_from_is, texts_for-told, all_told, all_answered_run}
 use Rattle.mf_wire.proofs.Calling.{told_malformed, too_long}
 
 -- what is told of texts is what is told of replies, as texts
@@ -32,12 +37,25 @@ told-map f meant (l ∷ ls) (r ∷ rs) =
 pub same_texts : (meant : Call → Bool) (ls ks : List Line) (i j : Institution) → told meant ls (answers ls i) ≡ told meant ks (answers ks j) → told meant ls (texts_of ls i) ≡ told meant ks (texts_of ks j)
 same_texts meant ls ks i j e = told-map shown_line meant ls (answers ls i) ∙ ap (map shown_line) e ∙ sym (told-map shown_line meant ks (answers ks j))
 
-isolated : (i : Institution) (ls : List Line) → ViewIsPlay i ls → RepliesArePlay i ls → OwnRepliesArePlay i ls → Isolated i ls
-isolated i ls views replies own = record {
-  views = views;
-  texts = λ o. told-map shown_line (from_office o) ls (answers ls i) ∙ ap (map shown_line) (replies o);
-  own_texts = λ c. told-map shown_line (from_caller c) ls (answers ls i) ∙ ap (map shown_line) (own c);
-}
+-- the texts for the lines that pass are what is told of the calls that are meant
+module _ (i : Institution) (run : List Line) (lines texts : List (List ℕ)) (calls : map (λ l. l.call) run ≡ map call_of lines) (replied : texts ≡ texts_of run i) where
+  texts_told : (passes : List ℕ → Bool) (meant : Call → Bool) → ((line : List ℕ) → passes line ≡ meant (call_of line)) → texts_for passes lines texts ≡ told meant run (texts_of run i)
+  texts_told passes meant same = texts_for-told passes meant same run lines texts calls ∙ ap (told meant run) replied
+
+  texts_play : (passes : List ℕ → Bool) (meant : Call → Bool) → ((line : List ℕ) → passes line ≡ meant (call_of line)) → (rs : List (Result Reply Fault)) → told meant run (answers run i) ≡ but_given_up (given_up meant run) rs → texts_for passes lines texts ≡ map shown_line (but_given_up (given_up meant run) rs)
+  texts_play passes meant same rs e = texts_told passes meant same ∙ told-map shown_line meant run (answers run i) ∙ ap (map shown_line) e
+
+  all_texts_play : (passes : List ℕ → Bool) (meant : Call → Bool) → ((line : List ℕ) → passes line ≡ meant (call_of line)) → (rs : List (Result Reply Fault)) → told meant run (answers run i) ≡ but_given_up (given_up meant run) rs → NoneIsF20 (texts_for passes lines texts) → texts_for passes lines texts ≡ map shown_line rs
+  all_texts_play passes meant same rs e none = texts_play passes meant same rs e ∙ ap (map shown_line) (all_told meant run i rs (subst NoneIsF20 (texts_told passes meant same) none))
+
+  isolated : ViewIsPlay i run → RepliesArePlay i run → OwnRepliesArePlay i run → Isolated i run lines texts
+  isolated views replies own = record {
+    views = views;
+    office_texts = λ o. texts_play (is_sent_from o) (from_office o) (sent_from_is o) (office_play o run i) (replies o);
+    own_texts = λ c range. texts_play (is_sent_by (caller_text c.office c.staff)) (from_caller c) (sent_by_is c range) (own_play c run i) (own c);
+    all_office_texts = λ o none. all_texts_play (is_sent_from o) (from_office o) (sent_from_is o) (office_play o run i) (replies o) none;
+    all_own_texts = λ c range none. all_texts_play (is_sent_by (caller_text c.office c.staff)) (from_caller c) (sent_by_is c range) (own_play c run i) (own c) none;
+  }
 
 -- the law of isolation, as it is handed on
 pub record IsolationLaw : Type 0 where
@@ -96,7 +114,8 @@ module _ {S : Type 0} (stands : S → Institution → Type 0) (clean : S → Typ
           calls = w.calls;
           replied = w.replied;
           follows = w.follows;
-          isolated = isolated i w.run (law.views i w.run tree) (law.replies i w.run tree) (law.own_replies i w.run tree);
+          isolated = isolated i w.run lines texts w.calls w.replied (law.views i w.run tree) (law.replies i w.run tree) (law.own_replies i w.run tree);
+          with_memory = λ none. all_answered_run w.run lines i w.calls (subst NoneIsF20 w.replied none);
           stop = w.stop;
         };
       }

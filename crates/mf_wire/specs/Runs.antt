@@ -1,26 +1,40 @@
 -- Runs of request lines over a store, in the words of the institution that it stands for.
 use Rattle.std.specs.Prelude.{◌≡◌, ℕ, Bool, List, map, Result}
 use Rattle.mf_office.specs.declared.caller.Caller.{Caller}
+use Rattle.mf_office.specs.Texts.{IsCaller}
+use Rattle.mf_office.specs.Written.{caller_text}
 use Rattle.mf_base.specs.declared.fault.Fault.{Fault}
 use Rattle.mf_model.specs.declared.request.Call.{Call}
 use Rattle.mf_model.specs.declared.reply.Reply.{Reply}
 use Rattle.mf_model.specs.Institution.{Institution}
 use Rattle.mf_model.specs.Tree.{view}
 use Rattle.mf_model.specs.Desk.{outcome, change_in}
-use Rattle.mf_model.specs.Run.{Line, answer, next, answers, last, from_office, from_caller, told, touching, play, play_replies, given_up, but_given_up}
+use Rattle.mf_model.specs.Run.{Line, answer, next, answers, last, from_office, from_caller, touching, play, play_replies, given_up, but_given_up}
+use Rattle.mf_model.specs.Answering.{all_answered}
 use Rattle.mf_model.specs.Store.{left_by, left_after}
 use Rattle.mf_wire_replies.specs.Shown.{shown_line}
 use Rattle.mf_wire_requests.specs.Requests.{call_of}
+use Rattle.mf_wire.specs.Senders.{is_sent_by, is_sent_from, texts_for, NoneIsF20}
 
 -- the texts of the replies to the lines
 abbrev pub texts_of : List Line → Institution → List (List ℕ)
 texts_of ls i = map shown_line (answers ls i)
 
--- An office's view after the lines is its touching list played on its first view, and the texts that its callers get, each member of staff for themselves too, are those of that play, but where a line was given up.
-pub record Isolated (i : Institution) (ls : List Line) : Type 0 where
+-- what office o's callers are told by its touching list, played on its first view
+abbrev pub office_play : ℕ → List Line → Institution → List (Result Reply Fault)
+office_play o ls i = play_replies (from_office o) (touching o ls i) (view o i)
+
+-- what a member of staff is told by the touching list of its office, played on that office's first view
+abbrev pub own_play : Caller → List Line → Institution → List (Result Reply Fault)
+own_play c ls i = play_replies (from_caller c) (touching c.office ls i) (view c.office i)
+
+-- An office's view after the run is its touching list played on its first view. The texts of the lines that its callers sent, and of those that one of them sent, are what that play answers: F20 stands where a line was given up, and where none of these texts is F20's they are all of it.
+pub record Isolated (i : Institution) (ls : List Line) (lines texts : List (List ℕ)) : Type 0 where
   pub views : (o : ℕ) → view o (last ls i) ≡ play (touching o ls i) (view o i)
-  pub texts : (o : ℕ) → told (from_office o) ls (texts_of ls i) ≡ map shown_line (but_given_up (given_up (from_office o) ls) (play_replies (from_office o) (touching o ls i) (view o i)))
-  pub own_texts : (c : Caller) → told (from_caller c) ls (texts_of ls i) ≡ map shown_line (but_given_up (given_up (from_caller c) ls) (play_replies (from_caller c) (touching c.office ls i) (view c.office i)))
+  pub office_texts : (o : ℕ) → texts_for (is_sent_from o) lines texts ≡ map shown_line (but_given_up (given_up (from_office o) ls) (office_play o ls i))
+  pub own_texts : (c : Caller) → IsCaller c → texts_for (is_sent_by (caller_text c.office c.staff)) lines texts ≡ map shown_line (but_given_up (given_up (from_caller c) ls) (own_play c ls i))
+  pub all_office_texts : (o : ℕ) → NoneIsF20 (texts_for (is_sent_from o) lines texts) → texts_for (is_sent_from o) lines texts ≡ map shown_line (office_play o ls i)
+  pub all_own_texts : (c : Caller) → IsCaller c → NoneIsF20 (texts_for (is_sent_by (caller_text c.office c.staff)) lines texts) → texts_for (is_sent_by (caller_text c.office c.staff)) lines texts ≡ map shown_line (own_play c ls i)
 
 module _ {S : Type 0} (stands : S → Institution → Type 0) (clean : S → Type 0) (leaves : S → List Institution → Type 0) where
   -- A line of a run on the institution was answered: this is told of its reply, and the store stands for what follows.
@@ -34,13 +48,14 @@ module _ {S : Type 0} (stands : S → Institution → Type 0) (clean : S → Typ
     pub premise : clean new → clean old
     pub answered : clean new → (i : Institution) → stands old i → (given_up : Bool) × AnswersLine told (record { call = call; given_up = given_up }) i old new
 
-  -- These texts are the replies of a run over the lines on the institution, and the store stands for what follows. What each office is told is isolated.
+  -- These texts are the replies of a run over the lines on the institution, and the store stands for what follows. What each office is told is isolated. Where no text is F20's, the run is that of the lines' calls with none given up.
   pub record RunsOn (i : Institution) (lines : List (List ℕ)) (old : S) (texts : List (List ℕ)) (new : S) : Type 0 where
     pub run : List Line
     pub calls : map (λ l. l.call) run ≡ map call_of lines
     pub replied : texts ≡ texts_of run i
     pub follows : stands new (last run i)
-    pub isolated : Isolated i run
+    pub isolated : Isolated i run lines texts
+    pub with_memory : NoneIsF20 texts → run ≡ all_answered (map call_of lines)
     pub stop : (is : List Institution) → leaves old is → leaves new (left_after run i is)
 
   -- The same of each institution that the store stood for. That the disk returned what was written holds only as long as it does so to the end.

@@ -12,9 +12,9 @@ ghost use Rattle.mf_wire.specs.Runs.{Calls};
 
 use mf_base::Fault;
 use mf_desk::answer;
-use mf_wire_lines::LineDesk;
 use mf_model::{InstitutionStore, Reply};
 use mf_office::Caller;
+use mf_wire_lines::LineDesk;
 use mf_wire_replies::{body_text, line_text, status};
 use mf_wire_requests::{LineParts, Routes, is_token, line_parts, read_request};
 use std::alloc::Global;

@@ -1,13 +1,14 @@
 // A run of request lines over a store.
-ghost use Rattle.std.specs.Prelude.{◌≡◌, ◌≢◌, ℕ, List, true, IfOk, IfErr, OnOk};
+ghost use Rattle.std.specs.Prelude.{◌≡◌, IfOk, IfErr};
 ghost use Rattle.mf_base.specs.declared.fault.Cause.TheVariants as cause;
-ghost use Rattle.mf_wire_lines.specs.Told.{Whole, Stopped, Severed};
+ghost use Rattle.mf_wire_lines.specs.Told.{Whole};
 ghost use Rattle.mf_wire.specs.Runs.{RunsLines};
+ghost use Rattle.mf_wire.specs.Streams.{Ends};
 
 use crate::answering::Desk;
 use mf_base::{Cause, StreamFault};
-use mf_wire_lines::{Sink, Source, run_lines};
 use mf_model::{InstitutionStore, isolation};
+use mf_wire_lines::{Sink, Source, run_lines};
 use mf_wire_requests::Routes;
 use std::alloc::Global;
 
@@ -29,22 +30,19 @@ pub fn run<S: InstitutionStore, R: Source, W: Sink>(
     source: &mut R,
     sink: &mut W,
 ) -> Result<u64, StreamFault>
+    ensures ends { Ends (RunsLines S.stands S.clean S.leaves) store.old store.new (record {
+      unread = R.unread source.old;
+      left = R.unread source.new;
+      before = W.written sink.old;
+      after = W.written sink.new;
+      source_had_failed = R.has_failed source.old;
+      source_has_failed = R.has_failed source.new;
+      sink_had_failed = W.has_failed sink.old;
+      sink_has_failed = W.has_failed sink.new;
+    }) result }
     ensures ok { IfOk result (Whole (RunsLines S.stands S.clean S.leaves) store.old store.new
         (R.unread source.old) (R.unread source.new) (W.written sink.old) (W.written sink.new)) }
-    ensures ok_source { OnOk result (R.has_failed source.new ≡ R.has_failed source.old) }
-    ensures ok_sink { OnOk result (W.has_failed sink.new ≡ W.has_failed sink.old) }
-
-    ensures read { IfErr result (λ f. f.cause ≡ cause.Read → Stopped (RunsLines S.stands S.clean S.leaves) store.old store.new
-        (R.unread source.old) (R.unread source.new) (W.written sink.old) (W.written sink.new) f.answered (R.has_failed source.new)) }
-    ensures read_sink { IfErr result (λ f. f.cause ≡ cause.Read → W.has_failed sink.new ≡ W.has_failed sink.old) }
-
-    ensures write { IfErr result (λ f. f.cause ≡ cause.Write → Severed (RunsLines S.stands S.clean S.leaves) store.old store.new
-        (R.unread source.old) (R.unread source.new) (W.written sink.old) (W.written sink.new) f.answered) }
-    ensures write_sink { IfErr result (λ f. f.cause ≡ cause.Write → W.has_failed sink.new ≡ true) }
-    ensures write_source { IfErr result (λ f. f.cause ≡ cause.Write → R.has_failed source.new ≡ R.has_failed source.old) }
-
-    ensures memory { IfErr result (λ f. f.cause ≡ cause.Memory
-        → (f.answered ≡ 0) × (store.new ≡ store.old) × (source.new ≡ source.old) × (sink.new ≡ sink.old)) }
+    ensures memory { IfErr result (λ f. f.cause ≡ cause.Memory → (source.new ≡ source.old) × (sink.new ≡ sink.old)) }
 {
     isolation();
     let Ok(routes) = Routes::new(alloc) else {

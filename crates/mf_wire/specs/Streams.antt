@@ -1,0 +1,51 @@
+-- What a run leaves of the streams that it reads and writes.
+use Rattle.std.specs.Prelude.{◌≡◌, ℕ, Bool, true, List, Option, Result, Ok, Err}
+use Rattle.mf_base.specs.declared.fault.Cause.{Cause}
+use Rattle.mf_base.specs.declared.fault.Cause.TheVariants.{Read, Write, Memory}
+use Rattle.mf_base.specs.declared.fault.StreamFault.{StreamFault}
+use Rattle.mf_wire_lines.specs.Told.{Whole, Stopped, Severed}
+
+-- the bytes that a source had to give and has left, those that a sink held and holds, where they are known; and whether either had failed before, and has failed now
+pub record Streams : Type 0 where
+  pub unread : Option (List ℕ)
+  pub left : Option (List ℕ)
+  pub before : Option (List ℕ)
+  pub after : Option (List ℕ)
+  pub source_had_failed : Bool
+  pub source_has_failed : Bool
+  pub sink_had_failed : Bool
+  pub sink_has_failed : Bool
+
+module _ {S : Type 0} (runs : S → List (List ℕ) → List (List ℕ) → S → Type 0) (old new : S) (streams : Streams) where
+  -- the stream was read to its end, and each of its lines was answered; neither stream failed
+  pub record EndsWhole (count : ℕ) : Type 0 where
+    pub answered : Whole runs old new streams.unread streams.left streams.before streams.after count
+    pub source : streams.source_has_failed ≡ streams.source_had_failed
+    pub sink : streams.sink_has_failed ≡ streams.sink_had_failed
+
+  -- the source failed, or 2^60 bytes came without an end: the lines that had ended were answered
+  pub record EndsReading (count : ℕ) : Type 0 where
+    pub answered : Stopped runs old new streams.unread streams.left streams.before streams.after count streams.source_has_failed
+    pub sink : streams.sink_has_failed ≡ streams.sink_had_failed
+
+  -- the sink failed: of the last line that was run only a part of the reply was written
+  pub record EndsWriting (count : ℕ) : Type 0 where
+    pub answered : Severed runs old new streams.unread streams.left streams.before streams.after count
+    pub source : streams.source_has_failed ≡ streams.source_had_failed
+    pub sink : streams.sink_has_failed ≡ true
+
+  -- there was no memory to begin: nothing was answered
+  pub record NeverBegins (count : ℕ) : Type 0 where
+    pub none : count ≡ 0
+    pub same : new ≡ old
+
+  -- by the cause of a fault, and how many replies were written whole
+  abbrev pub EndsBy : Cause → ℕ → Type 0
+  EndsBy Read count = EndsReading count
+  EndsBy Write count = EndsWriting count
+  EndsBy Memory count = NeverBegins count
+
+  -- what a run leaves, by what it answers
+  abbrev pub Ends : Result ℕ StreamFault → Type 0
+  Ends (Ok count) = EndsWhole count
+  Ends (Err fault) = EndsBy fault.cause fault.answered
