@@ -1,0 +1,504 @@
+//! An institution in vectors, over which the tests of the desk and of the wire run. Of it nothing is proved but that
+//! it is safe.
+
+ghost use Rattle.std.specs.Prelude.{◌≡◌, IfOk, IfErr};
+ghost use Rattle.mf_office.specs.Numbers.{IsNumberUpTo};
+
+use mf_base::{Day, Fault};
+use mf_catalog::{ChargeDef, Product, ProductMembers};
+use mf_model::{
+    CatalogueCounts, Commit, Counts, InstitutionStore, Loan, LoanLine, LoanList, OfficeList, Stage,
+};
+use mf_office::{Account, AccountNo, Caller, Name, Office, OfficeNo, Role};
+use std::alloc::Global;
+
+/// A loan, with its stage in two parts.
+#[derive(Drop)]
+struct Row {
+    client: AccountNo,
+    product: u32,
+    principal: u64,
+    periods: u32,
+    status: u16,
+    approved: Option<Day>,
+}
+
+#[derive(Drop)]
+struct Branch {
+    office: Office,
+    staff: Vec<Role>,
+    clients: Vec<Name>,
+    loans: Vec<Row>,
+}
+
+/// The catalogue, and the offices by number. One of its calls can be made to give up.
+#[derive(Drop)]
+pub struct Books {
+    day: Day,
+    charges: Vec<ChargeDef>,
+    products: Vec<Product>,
+    branches: Vec<Branch>,
+    calls_to_refusal: Option<u32>,
+}
+
+/// The name that a text is.
+pub fn name(alloc: Global, text: &str) -> Result<Name, Fault>
+    ensures text { IfOk result (λ name. name ≡ text.now) }
+    ensures err { IfErr result (λ fault. fault ≡ Fault.F20) }
+{
+    Ok(Name::new(String::from_str(alloc, text)?))
+}
+
+/// The office of a number; F1 where no office can have it.
+pub fn office_no(number: u32) -> Result<OfficeNo, Fault>
+    ensures { IfOk result (IsNumberUpTo 9999) }
+{
+    let Some(office) = OfficeNo::new(number) else {
+        return Err(Fault::F1);
+    };
+    let _number = office.get();
+    Ok(office)
+}
+
+impl Books {
+    /// The head office with its manager, on a day.
+    pub fn new(alloc: Global, day: Day) -> Result<Books, Fault> {
+        let mut staff = Vec::new(alloc);
+        staff.push(Role::Manager)?;
+        let office = Office {
+            number: office_no(1)?,
+            parent: None,
+            name: name(alloc, "Head Office")?,
+        };
+        let mut branches = Vec::new(alloc);
+        branches.push(Branch {
+            office,
+            staff,
+            clients: Vec::new(alloc),
+            loans: Vec::new(alloc),
+        })?;
+        Ok(Books {
+            day,
+            charges: Vec::new(alloc),
+            products: Vec::new(alloc),
+            branches,
+            calls_to_refusal: None,
+        })
+    }
+
+    /// After so many further calls one gives up.
+    pub fn refuse_after(&mut self, calls: u32) {
+        self.calls_to_refusal = Some(calls);
+    }
+
+    /// Gives up if the call is the one that is to.
+    fn count_call(&mut self) -> Result<(), Fault>
+        ensures { IfErr result (λ fault. fault ≡ Fault.F20) }
+    {
+        match self.calls_to_refusal {
+            None => Ok(()),
+            Some(0) => {
+                self.calls_to_refusal = None;
+                Err(Fault::F20)
+            }
+            Some(calls) => {
+                self.calls_to_refusal = Some(calls - 1);
+                Ok(())
+            }
+        }
+    }
+
+    fn find(&self, number: OfficeNo) -> Option<&Branch> {
+        self.branches
+            .iter()
+            .find(|branch| branch.office.number == number)
+    }
+
+    /// Whether `above` is the office, or one of so many next above it.
+    fn is_within(&self, steps: u32, number: OfficeNo, above: OfficeNo) -> bool {
+        let mut at = number;
+        for _ in 0..steps {
+            if at == above {
+                return true;
+            }
+            let Some(branch) = self.find(at) else {
+                return false;
+            };
+            let Some(parent) = branch.office.parent else {
+                return false;
+            };
+            at = parent;
+        }
+        at == above
+    }
+
+    fn add_office(&mut self, alloc: Global, office: Office) -> Result<(), Fault>
+        ensures { IfErr result (λ fault. fault ≡ Fault.F20) }
+    {
+        let number = office.number;
+        let at = self
+            .branches
+            .iter()
+            .position(|branch| branch.office.number > number)
+            .unwrap_or(self.branches.len());
+        let branch = Branch {
+            office,
+            staff: Vec::new(alloc),
+            clients: Vec::new(alloc),
+            loans: Vec::new(alloc),
+        };
+        self.branches.insert(at, branch)?;
+        Ok(())
+    }
+
+    fn add_staff(&mut self, office: OfficeNo, role: Role) -> Result<(), Fault>
+        ensures { IfErr result (λ fault. fault ≡ Fault.F20) }
+    {
+        let at = self.place(office);
+        if let Some(branch) = self.branches.get_mut(at) {
+            branch.staff.push(role)?;
+        }
+        Ok(())
+    }
+
+    fn add_client(&mut self, office: OfficeNo, name: Name) -> Result<(), Fault>
+        ensures { IfErr result (λ fault. fault ≡ Fault.F20) }
+    {
+        let at = self.place(office);
+        if let Some(branch) = self.branches.get_mut(at) {
+            branch.clients.push(name)?;
+        }
+        Ok(())
+    }
+
+    fn add_charge(&mut self, charge: ChargeDef) -> Result<(), Fault>
+        ensures { IfErr result (λ fault. fault ≡ Fault.F20) }
+    {
+        self.charges.push(charge)?;
+        Ok(())
+    }
+
+    fn add_product(&mut self, members: ProductMembers) -> Result<(), Fault>
+        ensures { IfErr result (λ fault. fault ≡ Fault.F20) }
+    {
+        let number = number_after(self.products.len())?;
+        self.products.push(Product {
+            number,
+            members,
+            retired: false,
+        })?;
+        Ok(())
+    }
+
+    fn retire(&mut self, number: u32) {
+        for product in self.products.iter_mut() {
+            if product.number == number {
+                product.retired = true;
+            }
+        }
+    }
+
+    fn place(&self, office: OfficeNo) -> usize {
+        self.branches
+            .iter()
+            .position(|branch| branch.office.number == office)
+            .unwrap_or(self.branches.len())
+    }
+
+    fn add_loan(&mut self, office: OfficeNo, loan: Row) -> Result<(), Fault>
+        ensures { IfErr result (λ fault. fault ≡ Fault.F20) }
+    {
+        let at = self.place(office);
+        let Some(branch) = self.branches.get_mut(at) else {
+            return Ok(());
+        };
+        branch.loans.push(loan)?;
+        Ok(())
+    }
+
+    fn set_stage(&mut self, loan: Account, stage: Stage) {
+        let at = self.place(loan.office);
+        let place = loan.number.get() - 1;
+        let Some(branch) = self.branches.get_mut(at) else {
+            return;
+        };
+        let Some(found) = branch.loans.get_mut(place as usize) else {
+            return;
+        };
+        let (status, approved) = parts_of(stage);
+        found.status = status;
+        found.approved = approved;
+    }
+}
+
+/// A stage's status number, and the day of its approval.
+fn parts_of(stage: Stage) -> (u16, Option<Day>) {
+    match stage {
+        Stage::Submitted => (100, None),
+        Stage::Approved(day) => (200, Some(day)),
+        Stage::Withdrawn => (400, None),
+        Stage::Rejected => (500, None),
+    }
+}
+
+fn row_of(loan: Loan) -> Row {
+    let Loan {
+        client,
+        product,
+        principal,
+        periods,
+        stage,
+    } = loan;
+    let (status, approved) = parts_of(stage);
+    Row {
+        client,
+        product,
+        principal,
+        periods,
+        status,
+        approved,
+    }
+}
+
+fn loan_of(row: &Row) -> Loan {
+    let stage = match row.approved {
+        Some(day) => Stage::Approved(day),
+        None => match row.status {
+            400 => Stage::Withdrawn,
+            500 => Stage::Rejected,
+            _ => Stage::Submitted,
+        },
+    };
+    Loan {
+        client: row.client,
+        product: row.product,
+        principal: row.principal,
+        periods: row.periods,
+        stage,
+    }
+}
+
+/// The next number after so many.
+fn number_after(used: usize) -> Result<u32, Fault>
+    ensures { IfErr result (λ fault. fault ≡ Fault.F20) }
+{
+    match u32::try_from(used) {
+        Ok(used) if used < u32::MAX => Ok(used + 1),
+        _ => Err(Fault::F20),
+    }
+}
+
+impl InstitutionStore for Books {
+    ghost stands = { λ _ _. ⊥ };
+
+    ghost clean = { λ _. Unit {0} };
+
+    ghost leaves = { λ _ _. ⊥ };
+
+    ghost sound = { λ _ _ h. absurd h };
+
+    ghost more = { λ _ _ _ h. absurd h };
+
+    fn role(&mut self, _alloc: Global, caller: Caller) -> Result<Option<Role>, Fault> {
+        self.count_call()?;
+        let Some(branch) = self.find(caller.office) else {
+            return Ok(None);
+        };
+        let place = caller.staff.get() - 1;
+        Ok(branch.staff.get(place as usize).copied())
+    }
+
+    fn is_visible(
+        &mut self,
+        _alloc: Global,
+        to: OfficeNo,
+        office: OfficeNo,
+    ) -> Result<bool, Fault> {
+        self.count_call()?;
+        Ok(self.find(office).is_some() && self.is_within(5, office, to))
+    }
+
+    fn is_there(&mut self, _alloc: Global, office: OfficeNo) -> Result<bool, Fault> {
+        self.count_call()?;
+        Ok(self.find(office).is_some())
+    }
+
+    fn has_room_below(&mut self, _alloc: Global, office: OfficeNo) -> Result<bool, Fault> {
+        self.count_call()?;
+        let Some(head) = OfficeNo::new(1) else {
+            return Err(Fault::F20);
+        };
+        Ok(self.is_within(4, office, head))
+    }
+
+    fn counts(&mut self, _alloc: Global, office: OfficeNo) -> Result<Counts, Fault> {
+        self.count_call()?;
+        let Some(branch) = self.find(office) else {
+            return Ok(Counts {
+                staff: 0,
+                clients: 0,
+                loans: 0,
+            });
+        };
+        let (Ok(staff), Ok(clients), Ok(loans)) = (
+            u32::try_from(branch.staff.len()),
+            u32::try_from(branch.clients.len()),
+            u32::try_from(branch.loans.len()),
+        ) else {
+            return Err(Fault::F20);
+        };
+        Ok(Counts {
+            staff,
+            clients,
+            loans,
+        })
+    }
+
+    fn client(&mut self, alloc: Global, client: Account) -> Result<Option<Name>, Fault> {
+        self.count_call()?;
+        let Some(branch) = self.find(client.office) else {
+            return Ok(None);
+        };
+        let place = client.number.get() - 1;
+        let Some(found) = branch.clients.get(place as usize) else {
+            return Ok(None);
+        };
+        Ok(Some(name(alloc, found.as_str())?))
+    }
+
+    fn business_day(&mut self, _alloc: Global) -> Result<Day, Fault> {
+        self.count_call()?;
+        Ok(self.day)
+    }
+
+    fn catalogue_counts(&mut self, _alloc: Global) -> Result<CatalogueCounts, Fault> {
+        self.count_call()?;
+        let (Ok(charges), Ok(products)) = (
+            u32::try_from(self.charges.len()),
+            u32::try_from(self.products.len()),
+        ) else {
+            return Err(Fault::F20);
+        };
+        Ok(CatalogueCounts { charges, products })
+    }
+
+    fn charge(&mut self, _alloc: Global, number: u32) -> Result<Option<ChargeDef>, Fault> {
+        self.count_call()?;
+        for charge in &self.charges {
+            if charge.number == number {
+                return Ok(Some(charge.clone()?));
+            }
+        }
+        Ok(None)
+    }
+
+    fn product(&mut self, _alloc: Global, number: u32) -> Result<Option<Product>, Fault> {
+        self.count_call()?;
+        for product in &self.products {
+            if product.number == number {
+                return Ok(Some(product.clone()?));
+            }
+        }
+        Ok(None)
+    }
+
+    fn loan(&mut self, _alloc: Global, loan: Account) -> Result<Option<Loan>, Fault> {
+        self.count_call()?;
+        let Some(branch) = self.find(loan.office) else {
+            return Ok(None);
+        };
+        let place = loan.number.get() - 1;
+        match branch.loans.get(place as usize) {
+            Some(row) => Ok(Some(loan_of(row))),
+            None => Ok(None),
+        }
+    }
+
+    fn loans(&mut self, alloc: Global, office: OfficeNo, after: u32) -> Result<LoanList, Fault> {
+        self.count_call()?;
+        let mut lines = Vec::new(alloc);
+        if let Some(branch) = self.find(office) {
+            let mut number = 0u32;
+            for loan in &branch.loans {
+                let Some(next) = AccountNo::new(number.saturating_add(1)) else {
+                    return Err(Fault::F20);
+                };
+                number = next.get();
+                if number > after && lines.len() < 100 {
+                    lines.push(LoanLine {
+                        loan: Account {
+                            office,
+                            number: next,
+                        },
+                        status: loan.status,
+                    })?;
+                }
+            }
+        }
+        Ok(LoanList::new(lines))
+    }
+
+    fn visible_offices(&mut self, alloc: Global, to: OfficeNo) -> Result<OfficeList, Fault> {
+        self.count_call()?;
+        let mut offices = Vec::new(alloc);
+        for branch in &self.branches {
+            if self.is_within(5, branch.office.number, to) {
+                offices.push(Office {
+                    number: branch.office.number,
+                    parent: branch.office.parent,
+                    name: name(alloc, branch.office.name.as_str())?,
+                })?;
+            }
+        }
+        Ok(OfficeList::new(offices))
+    }
+
+    fn commit(&mut self, alloc: Global, commit: Commit) -> Result<(), Fault> {
+        self.count_call()?;
+        match commit {
+            Commit::AddOffice {
+                number,
+                parent,
+                name,
+            } => self.add_office(
+                alloc,
+                Office {
+                    number,
+                    parent: Some(parent),
+                    name,
+                },
+            ),
+            Commit::AddStaff { office, role, .. } => self.add_staff(office, role),
+            Commit::AddClient { office, name } => self.add_client(office, name),
+            Commit::SetDay { day } => {
+                self.day = day;
+                Ok(())
+            }
+            Commit::AddCharge {
+                name,
+                kind,
+                calc,
+                value,
+            } => {
+                let number = number_after(self.charges.len())?;
+                self.add_charge(ChargeDef {
+                    number,
+                    name,
+                    kind,
+                    calc,
+                    value,
+                })
+            }
+            Commit::AddProduct { members } => self.add_product(members),
+            Commit::RetireProduct { product } => {
+                self.retire(product);
+                Ok(())
+            }
+            Commit::AddLoan { office, loan } => self.add_loan(office, row_of(loan)),
+            Commit::SetStage { loan, stage } => {
+                self.set_stage(loan, stage);
+                Ok(())
+            }
+        }
+    }
+}
