@@ -1,5 +1,5 @@
 -- No reply of the definitions is F20.
-use Rattle.std.proofs.Common.{◌≡◌, ℕ, Bool, true, false, cond, length, Option, Some, None, Result, Ok, Err, subst}
+use Rattle.std.proofs.Common.{◌≡◌, ℕ, Bool, true, false, cond, length, Option, Some, None, Result, Ok, Err, sym, subst}
 use Rattle.std.specs.Prelude.{◌&&◌, not, nat_lt}
 use Rattle.mf_base.specs.declared.fault.Fault.{Fault}
 use Rattle.mf_base.specs.declared.fault.Fault.TheVariants.{F3, F20}
@@ -11,7 +11,6 @@ use Rattle.mf_catalog.specs.declared.product.ProductMembers.{ProductMembers}
 use Rattle.mf_catalog.specs.Product.{charges_there, is_consistent, allows, lending}
 use Rattle.mf_model.specs.declared.loan.Loan.{Loan}
 use Rattle.mf_model.specs.declared.loan.Stage.{Stage}
-use Rattle.mf_model.specs.declared.loan.Stage.TheVariants.{Submitted, Approved, Withdrawn, Rejected}
 use Rattle.mf_model.specs.declared.reply.Reply.{Reply}
 use Rattle.mf_model.specs.declared.reply.LoanReply.{LoanReply}
 use Rattle.mf_model.specs.declared.request.Call.{Call}
@@ -21,8 +20,6 @@ use Rattle.mf_model.specs.declared.request.CatalogueRequest.{CatalogueRequest}
 use Rattle.mf_model.specs.declared.request.CatalogueRequest.TheVariants.{ShowDay, SetDay, AddCharge, ShowCharge, AddProduct, ShowProduct, RetireProduct}
 use Rattle.mf_model.specs.declared.request.OfficeRequest.{OfficeRequest}
 use Rattle.mf_model.specs.declared.request.OfficeRequest.TheVariants.{AddStaff, AddClient, ShowClient, SubmitLoan, ListLoans}
-use Rattle.mf_model.specs.declared.request.LoanStep.{LoanStep}
-use Rattle.mf_model.specs.declared.request.LoanStep.TheVariants.{Approve, Reject, Withdraw, UndoApproval}
 use Rattle.mf_model.specs.declared.request.LoanRequest.{LoanRequest}
 use Rattle.mf_model.specs.declared.request.LoanRequest.TheVariants.{Show, Take}
 use Rattle.mf_model.specs.declared.request.Request.{Request}
@@ -33,6 +30,7 @@ use Rattle.mf_model.specs.Outcomes.{next_of, with_value, with_found, where_found
 use Rattle.mf_model.specs.Catalogue.{on_catalogue, make_product}
 use Rattle.mf_model.specs.Loans.{next_stage, on_loan, of_loan, in_loan, lend}
 use Rattle.mf_model.specs.Desk.{Plan, on_office, plan, need, meets, Outcome, of_catalogue, of_office, in_office, carried_out, where_permitted, sent_by, staff_at, outcome, reply_in, reply}
+use Rattle.mf_model.proofs.SoundLemmas.{IsResultBy, step_keeps}
 
 -- any refusal but F20
 abbrev IsRuled : Fault → Type 0
@@ -95,27 +93,13 @@ office_ruled (ShowClient client) x k rows = by_found (numbered rows.clients clie
 office_ruled (SubmitLoan asked) x k rows = where_it_is (numbered rows.clients asked.client) _ (λ name. lend_ruled x asked (product_in k asked.product) rows)
 office_ruled (ListLoans after) x k rows = tt
 
-step_ruled : (step : LoanStep) (day : ℕ) (stage : Stage) → Ruled (next_stage step day stage)
-step_ruled Approve day Submitted = tt
-step_ruled Approve day (Approved d) = tt
-step_ruled Approve day Withdrawn = tt
-step_ruled Approve day Rejected = tt
-step_ruled Reject day Submitted = tt
-step_ruled Reject day (Approved d) = tt
-step_ruled Reject day Withdrawn = tt
-step_ruled Reject day Rejected = tt
-step_ruled Withdraw day Submitted = tt
-step_ruled Withdraw day (Approved d) = tt
-step_ruled Withdraw day Withdrawn = tt
-step_ruled Withdraw day Rejected = tt
-step_ruled UndoApproval day Submitted = tt
-step_ruled UndoApproval day (Approved d) = tt
-step_ruled UndoApproval day Withdrawn = tt
-step_ruled UndoApproval day Rejected = tt
+step_ruled : (day : ℕ) (r : Result Stage Fault) → IsResultBy day r → Ruled r
+step_ruled day (Ok stage) h = tt
+step_ruled day (Err fault) h = subst IsRuled (sym h) tt
 
 loan_ruled : (asked : LoanRequest) (k : Catalogue) (loan : Loan) → Ruled (on_loan asked k loan)
 loan_ruled Show k loan = tt
-loan_ruled (Take step) k loan = by_value (next_stage step k.day loan.stage) _ (step_ruled step k.day loan.stage)
+loan_ruled (Take step) k loan = by_value (next_stage step k.day loan.stage) _ (step_ruled k.day (next_stage step k.day loan.stage) (step_keeps step k.day loan.stage))
 
 told_ruled : (account : Account) (rows : Rows) (r : Result (LoanReply × Option Stage) Fault) → Ruled r → Ruled (of_loan account rows r)
 told_ruled account rows (Err fault) h = h

@@ -8,7 +8,7 @@ use Rattle.std.proofs.lemmas.Str.{IsUtf8-from_is_utf8}
 use Rattle.std.proofs.lemmas.Bool.Decides.{nat_tests}
 use Rattle.mf_base.specs.DayText.{last_entered_day}
 use Rattle.mf_base.specs.declared.fault.Fault.{Fault}
-use Rattle.mf_base.specs.declared.fault.Fault.TheVariants.{F4, F7, F8, F17, F18}
+use Rattle.mf_base.specs.declared.fault.Fault.TheVariants.{F4, F7, F8, F9, F17, F18}
 use Rattle.mf_office.specs.declared.staff.Role.{Role}
 use Rattle.mf_office.specs.declared.caller.Caller.{Caller}
 use Rattle.mf_office.specs.declared.account.Account.{Account}
@@ -239,17 +239,17 @@ office_keeps office (ShowClient client) r = shown_keeps office client
 office_keeps office (SubmitLoan asked) r = submit_sound office asked
 office_keeps office (ListLoans after) r = list_keeps office after
 
--- a stage's day is not after the business day
-abbrev IsResultBy : ℕ → Result Stage Fault → Type 0
-IsResultBy today (Err e) = Unit {0}
+-- a step is refused by F9 alone, and a stage's day is not after the business day
+abbrev pub IsResultBy : ℕ → Result Stage Fault → Type 0
+IsResultBy today (Err e) = e ≡ F9
 IsResultBy today (Ok stage) = IsStageBy today stage
 
-step_keeps : (step : LoanStep) (today : ℕ) (s : Stage) → IsResultBy today (next_stage step today s)
+pub step_keeps : (step : LoanStep) (today : ℕ) (s : Stage) → IsResultBy today (next_stage step today s)
 step_keeps Approve today Submitted = omega arith
 step_keeps Reject today Submitted = tt
 step_keeps Withdraw today Submitted = tt
 step_keeps UndoApproval today (Approved day) = tt
-step_keeps _ today _ = tt
+step_keeps _ today _ = refl
 
 stage_keeps : (asked : LoanRequest) (k : Catalogue) (l : Loan) (told : LoanReply) (stage : Stage) → on_loan asked k l ≡ Ok (told, Some stage) → IsStageBy k.day stage
 stage_keeps Show k l told stage h = absurd (not_changed (Shown l) told stage (ok_of (success (Shown l) None) (success told (Some stage)) h))

@@ -1,13 +1,15 @@
 -- What the program is asked to do, as it follows from the words.
 use Rattle.std.specs.Prelude.{◌≡◌, ℕ, ◌≤◌, List, codes, Some}
 use Rattle.std.specs.Str.Parse.{IsNumeral, digits_value, without_leading_plus}
-use Rattle.clap.specs.Words.{Row, Text, first_of, subcommand_of}
+use Rattle.clap.specs.Words.{Row, Text, Kinds, first_of, subcommand_of, fault_of}
 use Rattle.mf_base.specs.Choices.{frequency_name}
 use Rattle.mf_base.specs.DayText.{day_text, last_entered_day}
 use Rattle.mf_catalog.specs.Limits.{greatest_amount, greatest_rate, most_grace, most_periods, longest_step}
 use Rattle.mf_catalog.specs.Names.{method_name}
 use Rattle.microloan_words.specs.Options.{microloan_app}
 use Rattle.microloan_words.specs.declared.asked.ScheduleWords.{ScheduleWords}
+use Rattle.microloan_words.specs.declared.asked.Words.{Words}
+use Rattle.microloan_words.specs.declared.asked.Words.TheVariants.{Bad, Help, Memory}
 use Rattle.microloan_words.specs.declared.asked.Command.{Command}
 use Rattle.microloan_words.specs.declared.asked.Command.TheVariants.{Batch, Schedule}
 
@@ -60,3 +62,19 @@ HasLimits (Schedule asked) = IsWithinLimits asked
 abbrev pub IsAsked : List Text → Command → Type 0
 IsAsked words (Batch asked) = (rows : List Row) × HasOptions words (codes "batch") rows × IsDayAt rows (codes "day") asked.day
 IsAsked words (Schedule asked) = (rows : List Row) × HasOptions words (codes "schedule") rows × AreScheduleWords rows asked
+
+-- what `clap` finds wrong with the words: nothing, where it takes them
+abbrev pub faults_of : List Text → Kinds
+faults_of words = fault_of microloan_app words
+
+-- the help was asked for
+abbrev pub IsHelp : Words → Type 0
+IsHelp (Help text) = Unit {0}
+IsHelp (Bad line) = ⊥
+IsHelp Memory = ⊥
+
+-- the words are wrong
+abbrev pub IsBad : Words → Type 0
+IsBad (Help text) = ⊥
+IsBad (Bad line) = Unit {0}
+IsBad Memory = ⊥

@@ -1,7 +1,7 @@
-ghost use Rattle.std.specs.Prelude.{◌≡◌, ◌⊎◌, map, true, IfOk, IfErr, IsErrOf, string_bytes, Ok, Err};
-ghost use Rattle.clap.specs.Words.{subcommand_of, subcommand_rows_of, takes, kind_of};
+ghost use Rattle.std.specs.Prelude.{◌≡◌, ◌≢◌, ◌⊎◌, [], ◌∷◌, map, true, IfOk, IfErr, IsErrOf, string_bytes, Ok, Err};
+ghost use Rattle.clap.specs.Words.{subcommand_of, subcommand_rows_of, takes, kind_of, HasKind, IsAmong};
 ghost use Rattle.microloan_words.specs.Options.{microloan_app};
-ghost use Rattle.microloan_words.specs.Asked.{HasLimits, IsAsked};
+ghost use Rattle.microloan_words.specs.Asked.{HasLimits, IsAsked, IsHelp, IsBad, faults_of};
 ghost use Rattle.microloan_words.specs.declared.asked.Command.{Command};
 
 use crate::asked::{BatchWords, Command, Words};
@@ -17,6 +17,8 @@ use std::alloc::Global;
 fn matches_of<'a>(alloc: Global, words: &'a [String]) -> Result<ArgMatches<'a>, Error>
     ensures ok { IfOk result (λ m. subcommand_rows_of m ≡ subcommand_of microloan_app (map string_bytes words.entry.now)) }
     ensures err { IfErr result (λ e. takes microloan_app (map string_bytes words.entry.now) ≡ true → kind_of e ≡ ErrorKind.OutOfMemory) }
+    ensures sound { IfOk result (λ _. faults_of (map string_bytes words.entry.now) ≡ []) }
+    ensures kinds { IfErr result (HasKind (faults_of (map string_bytes words.entry.now))) }
 {
     let command = microloan_command(alloc)?;
     command.try_get_matches_from(words)
@@ -24,12 +26,15 @@ fn matches_of<'a>(alloc: Global, words: &'a [String]) -> Result<ArgMatches<'a>, 
 
 /// What the words ask for; the first of them is the program's own name.
 ///
-/// Words that `clap` takes, and whose options are as they should be, are refused for want of memory alone.
+/// Words that `clap` takes, and whose options are as they should be, are refused for want of memory alone. Help is told
+/// only where `clap` finds that it is asked for; where that is all it finds, the words are not told to be wrong.
 pub fn command(alloc: Global, words: &[String]) -> Result<Command, Words>
     ensures asked { IfOk result (IsAsked (map string_bytes words.now)) }
     ensures limits { IfOk result HasLimits }
     ensures every { (asked : Command) → takes microloan_app (map string_bytes words.now) ≡ true →
         IsAsked (map string_bytes words.now) asked → (result ≡ Ok asked) ⊎ (result ≡ Err Words.Memory) }
+    ensures help { IfErr result (λ refusal. IsHelp refusal → IsAmong ErrorKind.DisplayHelp (faults_of (map string_bytes words.now))) }
+    ensures bad { IfErr result (λ refusal. IsBad refusal → faults_of (map string_bytes words.now) ≢ ErrorKind.DisplayHelp ∷ []) }
 {
     let matches = match matches_of(alloc, words) {
         Ok(matches) => matches,

@@ -1,5 +1,6 @@
-ghost use Rattle.std.specs.Prelude.{◌≡◌};
+ghost use Rattle.std.specs.Prelude.{◌≡◌, ◌≢◌};
 ghost use Rattle.clap.specs.Words.{kind_of};
+ghost use Rattle.microloan_words.specs.Asked.{IsHelp, IsBad};
 
 use crate::asked::Words;
 use crate::reading::Wrong;
@@ -25,7 +26,9 @@ fn wants(wrong: Wrong) -> &'static str {
 }
 
 /// Bad words, with the line that says so, or want of memory for that line.
-fn bad(line: Result<String, AllocError>) -> Words {
+fn bad(line: Result<String, AllocError>) -> Words
+    ensures { IsHelp result → ⊥ }
+{
     match line {
         Ok(line) => Words::Bad(line),
         Err(_) => Words::Memory,
@@ -33,19 +36,25 @@ fn bad(line: Result<String, AllocError>) -> Words {
 }
 
 /// An option of a command isn't what it should be.
-pub(crate) fn wrong_option(alloc: Global, command: &str, wrong: Wrong) -> Words {
+pub(crate) fn wrong_option(alloc: Global, command: &str, wrong: Wrong) -> Words
+    ensures { IsHelp result → ⊥ }
+{
     let wants = wants(wrong);
     bad(format!(in alloc; "microloan: {wants}; see 'microloan {command} --help'"))
 }
 
 /// No command of the program is named.
-pub(crate) fn no_command(alloc: Global) -> Words {
+pub(crate) fn no_command(alloc: Global) -> Words
+    ensures { IsHelp result → ⊥ }
+{
     bad(format!(in alloc; "microloan: no such command; see 'microloan --help'"))
 }
 
 /// What `clap` says of the words: help where they ask for it, else what is wrong, in one line.
 pub(crate) fn refused_by_clap(alloc: Global, words: &[String], error: &Error) -> Words
-    ensures { kind_of error.now ≡ ErrorKind.OutOfMemory → result ≡ Words.Memory }
+    ensures memory { kind_of error.now ≡ ErrorKind.OutOfMemory → result ≡ Words.Memory }
+    ensures help { IsHelp result → kind_of error.now ≡ ErrorKind.DisplayHelp }
+    ensures bad { IsBad result → kind_of error.now ≢ ErrorKind.DisplayHelp }
 {
     match error.kind() {
         ErrorKind::OutOfMemory => Words::Memory,
