@@ -1,89 +1,67 @@
-//! Times what `bench/account` asks for, by the clock, and writes a line of nanoseconds for each kind of work.
+//! Times entries and reversals of an account by the clock, and writes a line for each, in nanoseconds. `bench/account`
+//! proves and runs it in a copy of the checkout, and prints a table of what it wrote.
 #![tactic(auto)]
 
-mod work;
+mod loan;
 
-use mf_base::{Day, Fault};
+use loan::{OpenLoan, add_line};
+use mf_base::Fault;
 use std::alloc::Global;
 use std::io;
 use std::process::ExitCode;
-use std::time::Instant;
-use work::{OpenLoan, Rows};
+use std::time::Clock;
 
-/// How often each kind of work is done; the script takes the median.
+/// How often each kind of work is done.
 const TIMES: u32 = 41;
 
-/// How many payments are timed at once, since one is shorter than the clock can tell.
+/// How many payments are timed at once, since one is too short for the clock.
 const PAYMENTS: u32 = 1000;
 
 fn main(rt: HostRuntime) -> io::Result<ExitCode> {
+    match times(rt.alloc(), &rt) {
+        Ok(text) => {
+            rt.print(text)?;
+            Ok(ExitCode::from(0))
+        }
+        Err(_) => Ok(ExitCode::from(1)),
+    }
+}
+
+/// A line for each run of each kind of work: how many entries stood, how many of them come after the one entered, and
+/// the nanoseconds of entering it and of reversing it; and of so many payments.
+fn times<C: Clock>(alloc: Global, clock: &C) -> Result<String, Fault> {
+    let mut text = String::new(alloc);
     for _ in 0..TIMES {
-        if let Err(fault) = time_all(&rt)? {
-            rt.eprintln(format_args!("{fault:?}"))?;
-            return Ok(ExitCode::from(1));
-        }
+        time_entry(alloc, clock, &mut text, 10, 0)?;
+        time_entry(alloc, clock, &mut text, 100, 0)?;
+        time_entry(alloc, clock, &mut text, 1000, 0)?;
+        time_entry(alloc, clock, &mut text, 9998, 0)?;
+        time_entry(alloc, clock, &mut text, 1000, 10)?;
+        time_entry(alloc, clock, &mut text, 1000, 100)?;
+        time_entry(alloc, clock, &mut text, 1000, 500)?;
+        time_entry(alloc, clock, &mut text, 1000, 1000)?;
+        time_payments(alloc, clock, &mut text)?;
     }
-    Ok(ExitCode::from(0))
+    Ok(text)
 }
 
-/// Each kind of work once.
-fn time_all<R: Print + Clock + AllocGlobal>(rt: &R) -> io::Result<Result<(), Fault>> {
-    for standing in [10, 100, 1000, 9998] {
-        if let Err(fault) = time_entry(rt, standing, 0)? {
-            return Ok(Err(fault));
-        }
-    }
-    for later in [10, 100, 500, 1000] {
-        if let Err(fault) = time_entry(rt, 1000, later)? {
-            return Ok(Err(fault));
-        }
-    }
-    time_payment(rt)
-}
-
-/// Entering an entry among so many standing ones, of which so many come after it, and reversing it.
-fn time_entry<R: Print + Clock + AllocGlobal>(
-    rt: &R,
+/// Entering one more among so many standing entries, of which so many come after it, and reversing it.
+fn time_entry<C: Clock>(
+    alloc: Global,
+    clock: &C,
+    text: &mut String,
     standing: u32,
     later: u32,
-) -> io::Result<Result<(), Fault>> {
-    let alloc = rt.alloc();
-    let mut loan = match OpenLoan::with_cents(alloc, standing, later) {
-        Ok(loan) => loan,
-        Err(fault) => return Ok(Err(fault)),
-    };
-    let Some(entry) = loan.next_entry(false) else {
-        return Ok(Err(Fault::F18));
-    };
-    let start = Instant::now(rt)?;
-    let entered = loan.enter(alloc, entry);
-    let enter = start.elapsed(rt)?.as_nanos();
-    if let Err(fault) = entered {
-        return Ok(Err(fault));
-    }
-    let start = Instant::now(rt)?;
-    let reversed = loan.reverse_last(alloc);
-    let reverse = start.elapsed(rt)?.as_nanos();
-    if let Err(fault) = reversed {
-        return Ok(Err(fault));
-    }
-    rt.println(format_args!("entry {standing} {later} {enter} {reverse}"))?;
-    Ok(Ok(()))
+) -> Result<(), Fault> {
+    let mut loan = OpenLoan::with_cents(alloc, clock, standing, later)?;
+    let entered = loan.enter_cent(alloc, clock, false)?;
+    let reversed = loan.reverse_last(alloc, clock)?;
+    add_line(text, standing, later, entered, reversed)
 }
 
-/// The bare arithmetic of one payment of a cent into the rows of the same loan.
-fn time_payment<R: Print + Clock + AllocGlobal>(rt: &R) -> io::Result<Result<(), Fault>> {
-    let alloc = rt.alloc();
-    let mut rows = match Rows::new(alloc) {
-        Ok(rows) => rows,
-        Err(fault) => return Ok(Err(fault)),
-    };
-    let start = Instant::now(rt)?;
-    let paid = rows.pay_cents(alloc, PAYMENTS);
-    let all = start.elapsed(rt)?.as_nanos();
-    if let Err(fault) = paid {
-        return Ok(Err(fault));
-    }
-    rt.println(format_args!("payment {PAYMENTS} {all}"))?;
-    Ok(Ok(()))
+/// The bare arithmetic of payments.
+fn time_payments<C: Clock>(alloc: Global, clock: &C, text: &mut String) -> Result<(), Fault> {
+    let loan = OpenLoan::with_cents(alloc, clock, 0, 0)?;
+    let all = loan.pay_cents(alloc, clock, PAYMENTS)?;
+    add_line(text, 0, PAYMENTS, all, 0)
 }
