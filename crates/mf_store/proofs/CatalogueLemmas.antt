@@ -20,14 +20,15 @@ use Rattle.mf_model.specs.Institution.{Institution, Charge, Offer, numbered, wit
 use Rattle.mf_model.specs.Sound.{IsSound}
 use Rattle.mf_model.specs.Store.{committed}
 use Rattle.mf_model.specs.declared.commit.Commit.TheVariants.{SetDay, AddCharge, AddProduct, RetireProduct}
-use Rattle.mf_store.specs.Rows.{ChargeRow, ProductRow, by_meta, by_charge, by_product}
-use Rattle.mf_store.specs.Flat.{tables_of, numbered_from, kind_number, calc_number, method_number, frequency_number, strategy_number, flag_number, charge_as, product_as}
-use Rattle.mf_store.specs.Writes.{charge_of, product_of}
-use Rattle.mf_store.specs.declared.records.MetaRecord.{MetaRecord}
-use Rattle.mf_store.specs.declared.records.ChargeRecord.{ChargeRecord}
-use Rattle.mf_store.specs.declared.records.ProductRecord.{ProductRecord}
-use Rattle.mf_store.specs.declared.writes.StoreWrite.TheVariants.{PutMeta, PutCharge, PutProduct}
-use Rattle.mf_store.specs.declared.writes.StoreWrite.TheVariants as write
+use Rattle.mf_store_records.specs.Rows.{ChargeRow, ProductRow, by_meta, by_charge, by_product}
+use Rattle.mf_store.specs.Flat.{tables_of, numbered_from, charge_as, product_as}
+use Rattle.mf_store_records.specs.Numbers.{kind_number, calc_number, method_number, frequency_number, strategy_number, flag_number}
+use Rattle.mf_store_records.specs.Writes.{charge_of, product_of}
+use Rattle.mf_store_records.specs.declared.records.MetaRecord.{MetaRecord}
+use Rattle.mf_store_records.specs.declared.records.ChargeRecord.{ChargeRecord}
+use Rattle.mf_store_records.specs.declared.records.ProductRecord.{ProductRecord}
+use Rattle.mf_store_records.specs.declared.writes.StoreWrite.TheVariants.{PutMeta, PutCharge, PutProduct}
+use Rattle.mf_store_records.specs.declared.writes.StoreWrite.TheVariants as write
 use Rattle.mf_store.specs.Stands.{Becomes}
 use Rattle.mf_store.proofs.FlatLemmas.{put_listed, put_listed_last}
 

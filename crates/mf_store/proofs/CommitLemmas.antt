@@ -18,14 +18,14 @@ use Rattle.mf_model.specs.Desk.{staff_added, client_added}
 use Rattle.mf_model.specs.Sound.{IsSound}
 use Rattle.mf_model.specs.Store.{Commits, committed, rows_at}
 use Rattle.mf_model.specs.Tree.{parent_of, is_there, Above, Ascending}
-use Rattle.mf_store.specs.Rows.{OfficeRow, StaffRow, ClientRow, LoanRow, Lists, by_office, by_staff, by_client, by_loan}
+use Rattle.mf_store_records.specs.Rows.{OfficeRow, StaffRow, ClientRow, LoanRow, Lists, by_office, by_staff, by_client, by_loan}
 use Rattle.mf_store.specs.Flat.{tables_of, office_under, office_row_at, staff_in, client_in, loan_in}
-use Rattle.mf_store.specs.Writes.{office_of, staff_of, client_of}
-use Rattle.mf_store.specs.declared.records.OfficeRecord.{OfficeRecord}
-use Rattle.mf_store.specs.declared.records.StaffRecord.{StaffRecord}
-use Rattle.mf_store.specs.declared.records.ClientRecord.{ClientRecord}
-use Rattle.mf_store.specs.declared.writes.StoreWrite.{StoreWrite}
-use Rattle.mf_store.specs.declared.writes.StoreWrite.TheVariants.{PutOffice, PutStaff, PutClient}
+use Rattle.mf_store_records.specs.Writes.{office_of, staff_of, client_of}
+use Rattle.mf_store_records.specs.declared.records.OfficeRecord.{OfficeRecord}
+use Rattle.mf_store_records.specs.declared.records.StaffRecord.{StaffRecord}
+use Rattle.mf_store_records.specs.declared.records.ClientRecord.{ClientRecord}
+use Rattle.mf_store_records.specs.declared.writes.StoreWrite.{StoreWrite}
+use Rattle.mf_store_records.specs.declared.writes.StoreWrite.TheVariants.{PutOffice, PutStaff, PutClient}
 use Rattle.mf_store.specs.Facts.{Kept}
 use Rattle.mf_store.specs.Learning.{Tells}
 use Rattle.mf_store.specs.declared.known.News.{News}

@@ -10,12 +10,12 @@ use Rattle.mf_office.specs.Keys.{key_of, key_within}
 use Rattle.mf_store_tables.specs.Writes.{Serves, AllFit, after_all, Turns}
 use Rattle.mf_model.specs.Institution.{newly_made}
 use Rattle.mf_model.specs.Sound.{IsSound}
-use Rattle.mf_store.specs.Writes.{schema_of, Holds, after, Fits}
-use Rattle.mf_store.specs.declared.records.MetaRecord.{MetaRecord}
-use Rattle.mf_store.specs.declared.records.OfficeRecord.{OfficeRecord}
-use Rattle.mf_store.specs.declared.records.StaffRecord.{StaffRecord}
-use Rattle.mf_store.specs.declared.writes.StoreWrite.{StoreWrite}
-use Rattle.mf_store.specs.declared.writes.StoreWrite.TheVariants.{MakeTables, PutMeta, PutOffice, PutStaff}
+use Rattle.mf_store_records.specs.Writes.{schema_of, Holds, after, Fits}
+use Rattle.mf_store_records.specs.declared.records.MetaRecord.{MetaRecord}
+use Rattle.mf_store_records.specs.declared.records.OfficeRecord.{OfficeRecord}
+use Rattle.mf_store_records.specs.declared.records.StaffRecord.{StaffRecord}
+use Rattle.mf_store_records.specs.declared.writes.StoreWrite.{StoreWrite}
+use Rattle.mf_store_records.specs.declared.writes.StoreWrite.TheVariants.{MakeTables, PutMeta, PutOffice, PutStaff}
 use Rattle.mf_store.specs.Stands.{IsTabled, Begins}
 
 first_list : MetaRecord → OfficeRecord → StaffRecord → List StoreWrite

@@ -1,8 +1,3 @@
-pub mod Texts
-pub mod TableLemmas
-pub mod AddLemmas
-pub mod ReadLemmas
-pub mod PutLemmas
 pub mod FlatLemmas
 pub mod StandLemmas
 pub mod KeptLemmas

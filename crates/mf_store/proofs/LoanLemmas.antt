@@ -21,19 +21,19 @@ use Rattle.mf_model.specs.Loans.{status_of, lines_from, lines_above}
 use Rattle.mf_model.specs.Sound.{IsSound}
 use Rattle.mf_model.specs.Store.{committed, rows_at}
 use Rattle.mf_model.specs.Tree.{is_there}
-use Rattle.mf_store.specs.Rows.{LoanRow, by_staff, by_client, by_loan, loan_row}
-use Rattle.mf_store.specs.Looks.{is_loan_of, is_loan_above}
+use Rattle.mf_store_records.specs.Rows.{LoanRow, by_staff, by_client, by_loan, loan_row}
+use Rattle.mf_store_records.specs.Looks.{is_loan_of, is_loan_above}
 use Rattle.mf_store.specs.Flat.{tables_of, numbered_from, staff_in, client_in, loan_in, line_in, approval_text}
-use Rattle.mf_store.specs.Writes.{loan_of}
-use Rattle.mf_store.specs.declared.records.LoanRecord.{LoanRecord}
-use Rattle.mf_store.specs.declared.writes.StoreWrite.TheVariants as write
+use Rattle.mf_store_records.specs.Writes.{loan_of}
+use Rattle.mf_store_records.specs.declared.records.LoanRecord.{LoanRecord}
+use Rattle.mf_store_records.specs.declared.writes.StoreWrite.TheVariants as write
 use Rattle.mf_store.specs.Stands.{Becomes, Shows}
 use Rattle.mf_store.proofs.CatalogueLemmas.{amount_is}
 use Rattle.mf_store.proofs.CommitLemmas.{same_lists, offices-with_rows}
 use Rattle.mf_store.proofs.FlatLemmas.{put_row_of, put_over_of, same_rows_of}
 use Rattle.mf_store.proofs.OfficeRowsLemmas.{rows_in_office, take_whole}
-use Rattle.mf_store.proofs.ReadLemmas.{loans_above_shows}
-use Rattle.mf_store.proofs.Texts.{loans_above}
+use Rattle.mf_store_records.proofs.ReadLemmas.{loans_above_shows}
+use Rattle.mf_store_records.proofs.Texts.{loans_above}
 
 -- ---- what a row is read as
 

@@ -10,15 +10,15 @@ use Rattle.mf_model.specs.Institution.{Institution, Catalogue, Office, office_at
 use Rattle.mf_model.specs.Sound.{IsSound, IsSoundOffice, IsSoundRows}
 use Rattle.mf_model.specs.Store.{rows_of}
 use Rattle.mf_model.specs.Tree.{parent_of}
-use Rattle.mf_store.specs.Rows.{MetaRow, OfficeRow, StaffRow, ClientRow, ChargeRow, ProductRow, LoanRow, meta_row, office_row, staff_row, client_row, charge_row, product_row, loan_row}
-use Rattle.mf_store.specs.Looks.{is_meta, is_office, is_staff, is_client, is_charge, is_product, is_loan}
+use Rattle.mf_store_records.specs.Rows.{MetaRow, OfficeRow, StaffRow, ClientRow, ChargeRow, ProductRow, LoanRow, meta_row, office_row, staff_row, client_row, charge_row, product_row, loan_row}
+use Rattle.mf_store_records.specs.Looks.{is_meta, is_office, is_staff, is_client, is_charge, is_product, is_loan}
 use Rattle.mf_store.specs.Flat.{meta_on, office_under, staff_in, client_in, charge_as, product_as, loan_in, tables_of, office_row_at, staff_row_at, client_row_at, charge_row_at, product_row_at, loan_row_at}
 use Rattle.mf_store.specs.Stands.{Shows}
 use Rattle.mf_store.specs.Counts.{count_of}
 use Rattle.mf_store.specs.declared.counts.Kind.{Kind}
 use Rattle.mf_store.specs.declared.counts.Kind.TheVariants.{Staff, Clients, Loans, Charges, Products}
-use Rattle.mf_store.proofs.Texts.{find_meta, find_office, find_staff, find_client, find_charge, find_product, find_loan}
-use Rattle.mf_store.proofs.ReadLemmas.{find_meta_shows, find_office_shows, find_staff_shows, find_client_shows, find_charge_shows, find_product_shows, find_loan_shows}
+use Rattle.mf_store_records.proofs.Texts.{find_meta, find_office, find_staff, find_client, find_charge, find_product, find_loan}
+use Rattle.mf_store_records.proofs.ReadLemmas.{find_meta_shows, find_office_shows, find_staff_shows, find_client_shows, find_charge_shows, find_product_shows, find_loan_shows}
 use Rattle.mf_store.proofs.FlatLemmas.{find_row, find_listed}
 
 -- the first row that a look-up shows

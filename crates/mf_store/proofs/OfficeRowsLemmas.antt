@@ -11,14 +11,15 @@ use Rattle.mf_model.specs.Institution.{Institution, Office, Rows, Staff, office_
 use Rattle.mf_model.specs.Sound.{IsSound}
 use Rattle.mf_model.specs.Store.{rows_of, rows_at}
 use Rattle.mf_model.specs.Tree.{Above, Ascending}
-use Rattle.mf_store.specs.Rows.{StaffRow, staff_row, client_row, loan_row}
-use Rattle.mf_store.specs.Looks.{is_staff_of, is_client_of, is_loan_of}
-use Rattle.mf_store.specs.Flat.{numbered_from, all_rows, staff_in, client_in, loan_in, role_number, tables_of}
+use Rattle.mf_store_records.specs.Rows.{StaffRow, staff_row, client_row, loan_row}
+use Rattle.mf_store_records.specs.Looks.{is_staff_of, is_client_of, is_loan_of}
+use Rattle.mf_store.specs.Flat.{numbered_from, all_rows, staff_in, client_in, loan_in, tables_of}
+use Rattle.mf_store_records.specs.Numbers.{role_number}
 use Rattle.mf_store.specs.Stands.{Shows}
-use Rattle.mf_store.specs.Writes.{staff_of}
-use Rattle.mf_store.specs.declared.records.StaffRecord.{StaffRecord}
-use Rattle.mf_store.proofs.Texts.{staff_of_office, clients_of_office, loans_of_office}
-use Rattle.mf_store.proofs.ReadLemmas.{staff_of_office_shows, clients_of_office_shows, loans_of_office_shows}
+use Rattle.mf_store_records.specs.Writes.{staff_of}
+use Rattle.mf_store_records.specs.declared.records.StaffRecord.{StaffRecord}
+use Rattle.mf_store_records.proofs.Texts.{staff_of_office, clients_of_office, loans_of_office}
+use Rattle.mf_store_records.proofs.ReadLemmas.{staff_of_office_shows, clients_of_office_shows, loans_of_office_shows}
 
 -- ---- one office's rows among all
 

@@ -12,10 +12,10 @@ use Rattle.mf_base.specs.declared.fault.Fault.{Fault}
 use Rattle.mf_base.specs.declared.fault.Fault.TheVariants.{F20}
 use Rattle.mf_store_tables.specs.Writes.{Serves, AllFit, after_all, Turns, IsSettled, MayHold}
 use Rattle.mf_model.specs.Institution.{Institution}
-use Rattle.mf_store.specs.Tables.{schema}
+use Rattle.mf_store_records.specs.Tables.{schema}
 use Rattle.mf_store.specs.Flat.{tables_of}
-use Rattle.mf_store.specs.Writes.{schema_of, Holds, after, Fits}
-use Rattle.mf_store.specs.declared.writes.StoreWrite.{StoreWrite}
+use Rattle.mf_store_records.specs.Writes.{schema_of, Holds, after, Fits}
+use Rattle.mf_store_records.specs.declared.writes.StoreWrite.{StoreWrite}
 use Rattle.mf_store.specs.Stands.{IsTabled, HasGoodDisk, LeavesTables, StayTabled, Becomes}
 
 -- ---- F20 in place of the store's own error

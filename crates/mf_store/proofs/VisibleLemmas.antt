@@ -16,16 +16,16 @@ use Rattle.mf_office.proofs.KeyLemmas.{range_below}
 use Rattle.mf_model.specs.Institution.{Institution, Office, office_at, new_office}
 use Rattle.mf_model.specs.Tree.{parent_of, is_there, seen_by, seen_office}
 use Rattle.mf_model.specs.Sound.{IsSound}
-use Rattle.mf_store.specs.Rows.{OfficeRow, office_row}
-use Rattle.mf_store.specs.Looks.{is_in_range}
+use Rattle.mf_store_records.specs.Rows.{OfficeRow, office_row}
+use Rattle.mf_store_records.specs.Looks.{is_in_range}
 use Rattle.mf_store.specs.Flat.{office_under, tables_of, key_at, sees, has_room}
 use Rattle.mf_office.specs.declared.office.Office.{Office as Shown}
 use Rattle.mf_model.specs.Desk.{line_of}
-use Rattle.mf_store.specs.Writes.{office_of}
-use Rattle.mf_store.specs.declared.records.OfficeRecord.{OfficeRecord}
+use Rattle.mf_store_records.specs.Writes.{office_of}
+use Rattle.mf_store_records.specs.declared.records.OfficeRecord.{OfficeRecord}
 use Rattle.mf_store.specs.Stands.{Shows}
-use Rattle.mf_store.proofs.Texts.{offices_in}
-use Rattle.mf_store.proofs.ReadLemmas.{offices_in_shows}
+use Rattle.mf_store_records.proofs.Texts.{offices_in}
+use Rattle.mf_store_records.proofs.ReadLemmas.{offices_in_shows}
 use Rattle.mf_store.proofs.CommitLemmas.{number_at, all_there}
 
 -- ---- ranges of texts

@@ -1,19 +1,7 @@
 -- The rows of an institution: one list a table, each in the order of its key.
-use Rattle.std.specs.Prelude.{ℕ, pos, Bool, true, false, ◌+◌, List, [], ◌∷◌, ◌++◌, map, option_map, Option, Some, None, nat_le}
+use Rattle.std.specs.Prelude.{ℕ, pos, Bool, false, ◌+◌, List, [], ◌∷◌, ◌++◌, map, option_map, Option, Some, None, nat_le}
 use Rattle.mf_base.specs.DayText.{day_text}
-use Rattle.mf_base.specs.declared.day.Freq.{Freq}
-use Rattle.mf_base.specs.declared.day.Freq.TheVariants.{Weeks, Months}
-use Rattle.mf_catalog.specs.declared.charge.ChargeKind.{ChargeKind}
-use Rattle.mf_catalog.specs.declared.charge.ChargeKind.TheVariants.{Disbursement, Instalment, Overdue, DueDate}
-use Rattle.mf_catalog.specs.declared.charge.Calc.{Calc}
-use Rattle.mf_catalog.specs.declared.charge.Calc.TheVariants as calc
-use Rattle.mf_catalog.specs.declared.terms.Method.{Method}
-use Rattle.mf_catalog.specs.declared.terms.Method.TheVariants as method
-use Rattle.mf_catalog.specs.declared.terms.StrategyName.{StrategyName}
-use Rattle.mf_catalog.specs.declared.terms.StrategyName.TheVariants.{MifosStandard, PrincipalFirst, InterestFirst, DueFirst}
 use Rattle.mf_office.specs.Keys.{key_of, key_depth, raised, is_in_range}
-use Rattle.mf_office.specs.declared.staff.Role.{Role}
-use Rattle.mf_office.specs.declared.staff.Role.TheVariants.{Teller, Officer, Manager}
 use Rattle.mf_model.specs.Institution.{Institution, Charge, Offer, Office, Rows, Staff, office_at, numbered}
 use Rattle.mf_model.specs.Loans.{status_of}
 use Rattle.mf_model.specs.declared.loan.Loan.{Loan}
@@ -22,50 +10,12 @@ use Rattle.mf_model.specs.declared.loan.Stage.{Stage}
 use Rattle.mf_model.specs.declared.loan.Stage.TheVariants.{Submitted, Approved, Withdrawn, Rejected}
 use Rattle.mf_model.specs.Store.{rows_at}
 use Rattle.mf_model.specs.Tree.{parent_of}
-use Rattle.mf_store.specs.Rows.{MetaRow, OfficeRow, StaffRow, ClientRow, ChargeRow, ProductRow, LoanRow, Lists}
+use Rattle.mf_store_records.specs.Rows.{MetaRow, OfficeRow, StaffRow, ClientRow, ChargeRow, ProductRow, LoanRow, Lists}
+use Rattle.mf_store_records.specs.Numbers.{role_number, kind_number, calc_number, method_number, frequency_number, strategy_number, flag_number}
 
 -- the number of the schema that these tables are
 abbrev pub schema_number : ℕ
 schema_number = 1
-
--- roles are kept as numbers, from 1
-abbrev pub role_number : Role → ℕ
-role_number Teller = 1
-role_number Officer = 2
-role_number Manager = 3
-
--- the numbers that the catalogue's choices are kept as, each from 1
-abbrev pub kind_number : ChargeKind → ℕ
-kind_number Disbursement = 1
-kind_number Instalment = 2
-kind_number Overdue = 3
-kind_number DueDate = 4
-
-abbrev pub calc_number : Calc → ℕ
-calc_number calc.Flat = 1
-calc_number calc.OfAmount = 2
-calc_number calc.OfInterest = 3
-calc_number calc.OfBoth = 4
-
-abbrev pub method_number : Method → ℕ
-method_number method.Flat = 1
-method_number method.EqualPrincipal = 2
-method_number method.Fixed = 3
-
-abbrev pub frequency_number : Freq → ℕ
-frequency_number Weeks = 1
-frequency_number Months = 2
-
-abbrev pub strategy_number : StrategyName → ℕ
-strategy_number MifosStandard = 1
-strategy_number PrincipalFirst = 2
-strategy_number InterestFirst = 3
-strategy_number DueFirst = 4
-
--- 1 for yes
-abbrev pub flag_number : Bool → ℕ
-flag_number false = 0
-flag_number true = 1
 
 -- the text of the day on which a loan was approved, where it stands approved
 abbrev pub approval_text : Stage → Option (List ℕ)

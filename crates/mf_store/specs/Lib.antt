@@ -1,9 +1,5 @@
-pub mod Tables
-pub mod Rows
-pub mod Looks
 pub mod Flat
 pub mod Counts
-pub mod Writes
 pub mod Facts
 pub mod Learning
 pub mod Stands

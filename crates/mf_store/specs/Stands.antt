@@ -10,11 +10,11 @@ use Rattle.mf_store_tables.specs.Queries.{Answers}
 use Rattle.mf_store_tables.specs.Writes.{Serves, AllFit, after_all}
 use Rattle.mf_model.specs.Institution.{Institution, newly_made}
 use Rattle.mf_model.specs.Sound.{IsSound}
-use Rattle.mf_store.specs.Tables.{schema}
+use Rattle.mf_store_records.specs.Tables.{schema}
 use Rattle.mf_store.specs.Facts.{Kept, AreTrueOf}
 use Rattle.mf_store.specs.Flat.{tables_of}
-use Rattle.mf_store.specs.Writes.{schema_of, Holds, after, Fits}
-use Rattle.mf_store.specs.declared.writes.StoreWrite.{StoreWrite}
+use Rattle.mf_store_records.specs.Writes.{schema_of, Holds, after, Fits}
+use Rattle.mf_store_records.specs.declared.writes.StoreWrite.{StoreWrite}
 
 -- the trees hold one of these institutions, whole
 abbrev pub HoldsOneOf : List Institution → Trees → Type 0

@@ -6,18 +6,18 @@ ghost use Rattle.mf_model.specs.Institution.{Institution, Charge, Offer, charge_
 ghost use Rattle.mf_model.specs.Store.{Commits, catalogue_counts};
 ghost use Rattle.mf_model.specs.declared.commit.Commit.TheVariants.{SetDay, AddCharge, AddProduct, RetireProduct};
 ghost use Rattle.mf_store.specs.Flat.{charge_as, product_as};
-ghost use Rattle.mf_store.specs.Writes.{charge_of, product_of};
+ghost use Rattle.mf_store_records.specs.Writes.{charge_of, product_of};
 
 use crate::counts::{Kind, MOST};
 use crate::known::News;
-use crate::numbers::{
+use mf_store_records::{
     calc_from, flag_from, frequency_from, kind_from, method_from, number_of_calc,
     number_of_frequency, number_of_kind, number_of_method, number_of_strategy, signed,
     strategy_from, unsigned,
 };
-use crate::records::{ChargeRecord, MetaRecord, ProductRecord};
+use mf_store_records::{ChargeRecord, MetaRecord, ProductRecord};
 use crate::store::Store;
-use crate::writes::StoreWrite;
+use mf_store_records::StoreWrite;
 use mf_base::{Day, Fault, Name};
 use mf_catalog::{Calc, ChargeDef, ChargeKind, Product, ProductMembers};
 use mf_model::CatalogueCounts;

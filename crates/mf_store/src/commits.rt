@@ -10,10 +10,10 @@ ghost use Rattle.mf_model.specs.declared.commit.Commit.TheVariants.{AddOffice, A
 
 use crate::counts::MOST;
 use crate::known::News;
-use crate::numbers::number_of_role;
-use crate::records::{ClientRecord, OfficeRecord, StaffRecord};
+use mf_store_records::number_of_role;
+use mf_store_records::{ClientRecord, OfficeRecord, StaffRecord};
 use crate::store::Store;
-use crate::writes::StoreWrite;
+use mf_store_records::StoreWrite;
 use mf_base::Fault;
 use mf_model::{Counts, tree_of_offices};
 use mf_office::{Name, OfficeNo, Role};

@@ -7,12 +7,12 @@ ghost use Rattle.sqlite.specs.Held.{state};
 ghost use Rattle.sqlite.specs.Files.{over_files};
 ghost use Rattle.mf_store_tables.specs.Writes.{Serves};
 ghost use Rattle.mf_model.specs.Institution.{newly_made};
-ghost use Rattle.mf_store.specs.Writes.{schema_of, Holds};
+ghost use Rattle.mf_store_records.specs.Writes.{schema_of, Holds};
 ghost use Rattle.mf_store.specs.Stands.{StandsFor, IsClean, Leaves, Begins};
 
-use crate::records::{MetaRecord, OfficeRecord, StaffRecord};
+use mf_store_records::{MetaRecord, OfficeRecord, StaffRecord};
 use crate::store::Store;
-use crate::writes::StoreWrite;
+use mf_store_records::StoreWrite;
 use mf_base::{Day, Fault};
 use mf_store_pages::PageStore;
 use std::alloc::Global;

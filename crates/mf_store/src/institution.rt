@@ -4,7 +4,7 @@ ghost use Rattle.std.specs.Prelude.{◌≡◌, IfOk, IfErr};
 ghost use Rattle.mf_base.specs.declared.fault.Fault.TheVariants.{F20};
 ghost use Rattle.mf_model.specs.Institution.{Institution};
 
-use crate::numbers::role_from;
+use mf_store_records::role_from;
 use crate::store::Store;
 use mf_base::{Day, Fault};
 use mf_catalog::{ChargeDef, Product};

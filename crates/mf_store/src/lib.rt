@@ -11,13 +11,10 @@ mod first;
 mod institution;
 mod known;
 mod loans;
-mod numbers;
 mod office_rows;
 mod reads;
-mod records;
 mod store;
 mod visible;
-mod writes;
 
 pub use office_rows::{OfficeRows, StaffMember};
 pub use store::Store;

@@ -9,16 +9,16 @@ ghost use Rattle.mf_model.specs.declared.commit.Commit.TheVariants.{AddLoan, Set
 ghost use Rattle.mf_model.specs.declared.loan.Loan.{Loan as ModelLoan};
 ghost use Rattle.mf_model.specs.declared.loan.Stage.{Stage as ModelStage};
 ghost use Rattle.mf_store.specs.Flat.{loan_in, approval_text, line_in};
-ghost use Rattle.mf_store.specs.Rows.{loan_row as loan_stored};
-ghost use Rattle.mf_store.specs.Writes.{loan_of};
+ghost use Rattle.mf_store_records.specs.Rows.{loan_row as loan_stored};
+ghost use Rattle.mf_store_records.specs.Writes.{loan_of};
 
 use crate::counts::MOST;
 use crate::known::News;
-use crate::numbers::{signed, unsigned};
-use crate::records::{LoanRecord, Record};
+use mf_store_records::{signed, unsigned};
+use mf_store_records::{LoanRecord, Record};
 use crate::store::{Store, given_up};
 use crate::visible::office_number;
-use crate::writes::StoreWrite;
+use mf_store_records::StoreWrite;
 use mf_base::{Day, Fault, texts_of_days};
 use mf_model::{Counts, Loan, LoanLine, LoanList, Stage};
 use mf_office::{Account, AccountNo, OfficeNo};

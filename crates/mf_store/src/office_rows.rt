@@ -5,12 +5,12 @@ ghost use Rattle.mf_base.specs.declared.fault.Fault.TheVariants.{F20};
 ghost use Rattle.mf_model.specs.Institution.{Institution, Staff};
 ghost use Rattle.mf_model.specs.Store.{rows_at};
 ghost use Rattle.mf_model.specs.declared.loan.Loan.{Loan as ModelLoan};
-ghost use Rattle.mf_store.specs.Rows.{staff_row, client_row, loan_row};
+ghost use Rattle.mf_store_records.specs.Rows.{staff_row, client_row, loan_row};
 ghost use Rattle.mf_store.specs.Flat.{staff_in, client_in, loan_in, numbered_from};
 
 use crate::loans::loan_from;
-use crate::numbers::role_from;
-use crate::records::{ClientRecord, LoanRecord, Record, StaffRecord};
+use mf_store_records::role_from;
+use mf_store_records::{ClientRecord, LoanRecord, Record, StaffRecord};
 use crate::store::{Store, given_up};
 use mf_base::Fault;
 use mf_model::Loan;

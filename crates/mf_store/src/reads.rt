@@ -5,10 +5,10 @@ ghost use Rattle.mf_base.specs.declared.fault.Fault.TheVariants.{F20};
 ghost use Rattle.mf_base.specs.DayText.{last_day};
 ghost use Rattle.mf_model.specs.Institution.{Institution};
 ghost use Rattle.mf_store.specs.Flat.{meta_on, office_row_at, staff_row_at, client_row_at, charge_row_at, product_row_at, loan_row_at};
-ghost use Rattle.mf_store.specs.Writes.{meta_of, office_of, staff_of, client_of, charge_of, product_of, loan_of};
+ghost use Rattle.mf_store_records.specs.Writes.{meta_of, office_of, staff_of, client_of, charge_of, product_of, loan_of};
 
 use crate::known::News;
-use crate::records::{
+use mf_store_records::{
     ChargeRecord, ClientRecord, LoanRecord, MetaRecord, OfficeRecord, ProductRecord, StaffRecord,
     first,
 };

@@ -10,14 +10,14 @@ ghost use Rattle.mf_model.specs.Institution.{Institution, newly_made, product_in
 ghost use Rattle.mf_model.specs.Store.{counts_at, catalogue_counts, role_of};
 ghost use Rattle.mf_model.specs.Tree.{is_there};
 ghost use Rattle.mf_store.specs.Flat.{key_at};
-ghost use Rattle.mf_store.specs.Writes.{schema_of, Holds};
-ghost use Rattle.mf_store.specs.Tables.{schema};
+ghost use Rattle.mf_store_records.specs.Writes.{schema_of, Holds};
+ghost use Rattle.mf_store_records.specs.Tables.{schema};
 ghost use Rattle.mf_store.specs.Learning.{Tells};
 ghost use Rattle.mf_store.specs.Stands.{IsTabled, HasGoodDisk, LeavesTables, StayTabled, StandsFor, IsClean, Leaves, Stays, Shows, Becomes};
 
 use crate::first::first_writes;
 use crate::known::{Known, News};
-use crate::writes::StoreWrite;
+use mf_store_records::StoreWrite;
 use mf_base::{Day, Fault};
 use mf_catalog::Product;
 use mf_model::{CatalogueCounts, Counts, soundness};

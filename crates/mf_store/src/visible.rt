@@ -7,9 +7,9 @@ ghost use Rattle.mf_model.specs.Institution.{Institution, Office as ModelOffice}
 ghost use Rattle.mf_model.specs.Tree.{parent_of, seen_by, seen_office};
 ghost use Rattle.mf_model.specs.Desk.{line_of};
 ghost use Rattle.mf_store.specs.Flat.{key_at, office_under, sees, has_room};
-ghost use Rattle.mf_store.specs.Rows.{office_row};
+ghost use Rattle.mf_store_records.specs.Rows.{office_row};
 
-use crate::records::{OfficeRecord, Record};
+use mf_store_records::{OfficeRecord, Record};
 use crate::store::{Store, given_up};
 use mf_base::Fault;
 use mf_model::{OfficeList, tree_of_offices};

@@ -1,8 +1,8 @@
 use Rattle.std.proofs.Common.{◌≡◌, None, [], ◌∷◌, ◌++◌, refl, ap, ◌∙◌}
-use Rattle.mf_store.specs.declared.writes.StoreWrite.TheVariants.{MakeTables, PutMeta, PutOffice, PutStaff}
-use Rattle.mf_store.specs.declared.records.MetaRecord.{MetaRecord}
-use Rattle.mf_store.specs.declared.records.OfficeRecord.{OfficeRecord}
-use Rattle.mf_store.specs.declared.records.StaffRecord.{StaffRecord}
+use Rattle.mf_store_records.specs.declared.writes.StoreWrite.TheVariants.{MakeTables, PutMeta, PutOffice, PutStaff}
+use Rattle.mf_store_records.specs.declared.records.MetaRecord.{MetaRecord}
+use Rattle.mf_store_records.specs.declared.records.OfficeRecord.{OfficeRecord}
+use Rattle.mf_store_records.specs.declared.records.StaffRecord.{StaffRecord}
 use Rattle.mf_store.proofs.FirstLemmas.{begins}
 use Rattle.mf_store.proofs.first.first_writes.Goals as goal
 

@@ -1,6 +1,6 @@
 use Rattle.std.proofs.Common.{ℕ, ◌∙◌}
 use Rattle.mf_model.specs.declared.loan.Loan.{Loan}
-use Rattle.mf_store.specs.Rows.{loan_row}
+use Rattle.mf_store_records.specs.Rows.{loan_row}
 use Rattle.mf_store.specs.Flat.{loan_in, line_in}
 use Rattle.mf_store.proofs.LoanLemmas.{line_more, line_all}
 use Rattle.mf_store.proofs.loans.lines_from.Goals as goal

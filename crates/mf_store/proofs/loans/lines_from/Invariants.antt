@@ -1,6 +1,6 @@
 use Rattle.std.proofs.Common.{◌≡◌, ℕ, List, map, take}
 use Rattle.mf_model.specs.declared.loan.Loan.{Loan}
-use Rattle.mf_store.specs.Rows.{loan_row}
+use Rattle.mf_store_records.specs.Rows.{loan_row}
 use Rattle.mf_store.specs.Flat.{loan_in, line_in}
 use Rattle.mf_store.proofs.loans.lines_from.Given as goal
 

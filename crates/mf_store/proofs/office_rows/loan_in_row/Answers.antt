@@ -1,8 +1,8 @@
 use Rattle.std.proofs.Common.{◌≡◌, IfOk, subst}
-use Rattle.mf_store.specs.Rows.{LoanRow, loan_row}
+use Rattle.mf_store_records.specs.Rows.{LoanRow, loan_row}
 use Rattle.mf_store.specs.Flat.{loan_in}
-use Rattle.mf_store.specs.Writes.{loan_of}
-use Rattle.mf_store.specs.declared.records.LoanRecord.{LoanRecord}
+use Rattle.mf_store_records.specs.Writes.{loan_of}
+use Rattle.mf_store_records.specs.declared.records.LoanRecord.{LoanRecord}
 use Rattle.mf_store.proofs.StandLemmas.{if_ok, weaker_if_ok}
 use Rattle.mf_store.proofs.office_rows.loan_in_row.Goals as goal
 

@@ -1,6 +1,6 @@
 use Rattle.std.proofs.Common.{◌≡◌, ℕ, List, take}
 use Rattle.mf_model.specs.declared.loan.Loan.{Loan}
-use Rattle.mf_store.specs.Rows.{loan_row}
+use Rattle.mf_store_records.specs.Rows.{loan_row}
 use Rattle.mf_store.specs.Flat.{loan_in, numbered_from}
 use Rattle.mf_store.proofs.office_rows.loans_from.Given as goal
 

@@ -1,8 +1,8 @@
 use Rattle.std.proofs.Common.{◌≡◌, IfOk, subst}
-use Rattle.mf_store.specs.Rows.{StaffRow, staff_row}
+use Rattle.mf_store_records.specs.Rows.{StaffRow, staff_row}
 use Rattle.mf_store.specs.Flat.{staff_in}
-use Rattle.mf_store.specs.Writes.{staff_of}
-use Rattle.mf_store.specs.declared.records.StaffRecord.{StaffRecord}
+use Rattle.mf_store_records.specs.Writes.{staff_of}
+use Rattle.mf_store_records.specs.declared.records.StaffRecord.{StaffRecord}
 use Rattle.mf_store.proofs.StandLemmas.{if_ok}
 use Rattle.mf_store.proofs.OfficeRowsLemmas.{member_is}
 use Rattle.mf_store.proofs.office_rows.member_from.Goals as goal

@@ -1,8 +1,8 @@
 use Rattle.std.proofs.Common.{◌≡◌, ◌∙◌, ap, IfOk, subst}
-use Rattle.mf_store.specs.Rows.{ClientRow, client_row}
+use Rattle.mf_store_records.specs.Rows.{ClientRow, client_row}
 use Rattle.mf_store.specs.Flat.{client_in}
-use Rattle.mf_store.specs.Writes.{client_of}
-use Rattle.mf_store.specs.declared.records.ClientRecord.{ClientRecord}
+use Rattle.mf_store_records.specs.Writes.{client_of}
+use Rattle.mf_store_records.specs.declared.records.ClientRecord.{ClientRecord}
 use Rattle.mf_store.proofs.StandLemmas.{if_ok}
 use Rattle.mf_store.proofs.office_rows.name_from.Goals as goal
 

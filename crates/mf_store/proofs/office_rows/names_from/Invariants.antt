@@ -1,5 +1,5 @@
 use Rattle.std.proofs.Common.{◌≡◌, ℕ, List, take}
-use Rattle.mf_store.specs.Rows.{client_row}
+use Rattle.mf_store_records.specs.Rows.{client_row}
 use Rattle.mf_store.specs.Flat.{client_in, numbered_from}
 use Rattle.mf_store.proofs.office_rows.names_from.Given as goal
 

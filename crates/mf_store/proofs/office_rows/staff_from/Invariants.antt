@@ -1,6 +1,6 @@
 use Rattle.std.proofs.Common.{◌≡◌, ℕ, List, take}
 use Rattle.mf_model.specs.Institution.{Staff}
-use Rattle.mf_store.specs.Rows.{staff_row}
+use Rattle.mf_store_records.specs.Rows.{staff_row}
 use Rattle.mf_store.specs.Flat.{staff_in, numbered_from}
 use Rattle.mf_store.proofs.office_rows.staff_from.Given as goal
 

@@ -1,8 +1,8 @@
 use Rattle.std.proofs.Common.{◌≡◌, IfOk, subst}
-use Rattle.mf_store.specs.Rows.{OfficeRow, office_row}
+use Rattle.mf_store_records.specs.Rows.{OfficeRow, office_row}
 use Rattle.mf_store.specs.Flat.{office_under}
-use Rattle.mf_store.specs.Writes.{office_of}
-use Rattle.mf_store.specs.declared.records.OfficeRecord.{OfficeRecord}
+use Rattle.mf_store_records.specs.Writes.{office_of}
+use Rattle.mf_store_records.specs.declared.records.OfficeRecord.{OfficeRecord}
 use Rattle.mf_store.proofs.StandLemmas.{if_ok}
 use Rattle.mf_store.proofs.VisibleLemmas.{line_from}
 use Rattle.mf_store.proofs.visible.office_from.Goals as goal

@@ -1,5 +1,5 @@
 use Rattle.mf_model.specs.Desk.{line_of}
-use Rattle.mf_store.specs.Rows.{office_row}
+use Rattle.mf_store_records.specs.Rows.{office_row}
 use Rattle.mf_store.specs.Flat.{office_under}
 use Rattle.mf_store.proofs.VisibleLemmas.{lines_more}
 use Rattle.mf_store.proofs.visible.offices_from.Goals as goal

@@ -4,7 +4,7 @@ use Rattle.mf_model.specs.Institution.{newly_made}
 use Rattle.mf_store_tables.specs.Writes.{Serves}
 use Rattle.mf_store_pages.proofs.OpenLemmas.{always_clean}
 use Rattle.std.proofs.Common.{None, refl, [], ◌∷◌}
-use Rattle.mf_store.specs.Writes.{schema_of, Holds}
+use Rattle.mf_store_records.specs.Writes.{schema_of, Holds}
 use Rattle.mf_store.specs.Stands.{StandsFor, IsClean, Leaves}
 use Rattle.mf_store.proofs.StandLemmas.{weaker_if_ok}
 use Rattle.mf_store.proofs.FirstLemmas.{empty_serves}

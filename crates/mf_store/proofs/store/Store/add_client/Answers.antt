@@ -3,8 +3,8 @@ use Rattle.mf_model.specs.declared.commit.Commit.TheVariants.{AddClient}
 use Rattle.mf_model.specs.Store.{rows_at}
 use Rattle.mf_model.specs.declared.store.Counts.{Counts}
 use Rattle.mf_model.specs.Tree.{is_there}
-use Rattle.mf_store.specs.declared.records.ClientRecord.{ClientRecord}
-use Rattle.mf_store.specs.declared.writes.StoreWrite.TheVariants.{PutClient}
+use Rattle.mf_store_records.specs.declared.records.ClientRecord.{ClientRecord}
+use Rattle.mf_store_records.specs.declared.writes.StoreWrite.TheVariants.{PutClient}
 use Rattle.mf_store.proofs.CommitLemmas.{made_by, client_becomes, same_client}
 use Rattle.mf_store.proofs.KeptLemmas.{stays_then}
 use Rattle.mf_store.specs.declared.known.News.TheVariants.{OfficeCounts}

@@ -4,7 +4,7 @@ use Rattle.mf_model.specs.Store.{rows_at}
 use Rattle.mf_model.specs.declared.store.Counts.{Counts}
 use Rattle.mf_model.specs.Tree.{is_there}
 use Rattle.mf_store.specs.Flat.{loan_in}
-use Rattle.mf_store.specs.declared.writes.StoreWrite.TheVariants as write
+use Rattle.mf_store_records.specs.declared.writes.StoreWrite.TheVariants as write
 use Rattle.mf_store.proofs.CommitLemmas.{made_by}
 use Rattle.mf_store.proofs.LoanLemmas.{loan_becomes}
 use Rattle.mf_store.proofs.KeptLemmas.{stays_then}

@@ -3,8 +3,8 @@ use Rattle.mf_office.specs.Keys.{key_of, child_key}
 use Rattle.mf_model.specs.declared.commit.Commit.TheVariants.{AddOffice}
 use Rattle.mf_model.specs.Institution.{office_at}
 use Rattle.mf_model.specs.Tree.{is_there, parent_of}
-use Rattle.mf_store.specs.declared.records.OfficeRecord.{OfficeRecord}
-use Rattle.mf_store.specs.declared.writes.StoreWrite.TheVariants.{PutOffice}
+use Rattle.mf_store_records.specs.declared.records.OfficeRecord.{OfficeRecord}
+use Rattle.mf_store_records.specs.declared.writes.StoreWrite.TheVariants.{PutOffice}
 use Rattle.mf_store.proofs.CommitLemmas.{made_by, office_becomes, same_office, office_known, none_there}
 use Rattle.mf_store.proofs.KeptLemmas.{stays_then}
 use Rattle.mf_store.specs.declared.known.News.TheVariants.{Nothing}

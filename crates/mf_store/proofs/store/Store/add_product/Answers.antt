@@ -3,7 +3,7 @@ use Rattle.mf_model.specs.declared.store.CatalogueCounts.{CatalogueCounts}
 use Rattle.mf_model.specs.Institution.{Offer}
 use Rattle.mf_model.specs.declared.commit.Commit.TheVariants.{AddProduct}
 use Rattle.mf_store.specs.Flat.{product_as}
-use Rattle.mf_store.specs.declared.writes.StoreWrite.TheVariants as write
+use Rattle.mf_store_records.specs.declared.writes.StoreWrite.TheVariants as write
 use Rattle.mf_store.proofs.CatalogueLemmas.{product_becomes}
 use Rattle.mf_store.proofs.CommitLemmas.{made_by}
 use Rattle.mf_store.specs.declared.known.News.TheVariants.{Catalogue}

@@ -3,9 +3,9 @@ use Rattle.mf_model.specs.declared.commit.Commit.TheVariants.{AddStaff}
 use Rattle.mf_model.specs.Store.{rows_at}
 use Rattle.mf_model.specs.declared.store.Counts.{Counts}
 use Rattle.mf_model.specs.Tree.{is_there}
-use Rattle.mf_store.specs.Flat.{role_number}
-use Rattle.mf_store.specs.declared.records.StaffRecord.{StaffRecord}
-use Rattle.mf_store.specs.declared.writes.StoreWrite.TheVariants.{PutStaff}
+use Rattle.mf_store_records.specs.Numbers.{role_number}
+use Rattle.mf_store_records.specs.declared.records.StaffRecord.{StaffRecord}
+use Rattle.mf_store_records.specs.declared.writes.StoreWrite.TheVariants.{PutStaff}
 use Rattle.mf_store.proofs.CommitLemmas.{made_by, staff_becomes, same_staff}
 use Rattle.mf_store.proofs.KeptLemmas.{stays_then}
 use Rattle.mf_store.specs.declared.known.News.TheVariants.{OfficeCounts}

@@ -1,7 +1,7 @@
 use Rattle.std.proofs.Common.{◌≡◌, ◌∙◌}
 use Rattle.mf_model.specs.Store.{rows_at}
 use Rattle.mf_store.proofs.StandLemmas.{weaker_if_ok}
-use Rattle.mf_store.proofs.Texts.{clients_of_office_plain}
+use Rattle.mf_store_records.proofs.Texts.{clients_of_office_plain}
 use Rattle.mf_store.proofs.OfficeRowsLemmas.{clients_shown}
 use Rattle.mf_store.proofs.store.Store.clients_at.Goals as goal
 

@@ -1,11 +1,11 @@
 use Rattle.std.proofs.Common.{◌≡◌, ◌∙◌, List, map, slice_get}
 use Rattle.std.specs.Option.{option_map}
 use Rattle.mf_store.specs.Flat.{client_row_at}
-use Rattle.mf_store.specs.Rows.{ClientRow, client_row}
-use Rattle.mf_store.specs.Writes.{client_of}
+use Rattle.mf_store_records.specs.Rows.{ClientRow, client_row}
+use Rattle.mf_store_records.specs.Writes.{client_of}
 use Rattle.mf_store.proofs.LookLemmas.{client_found}
 use Rattle.mf_store.proofs.StandLemmas.{if_ok, weaker_if_ok}
-use Rattle.mf_store.proofs.Texts.{find_client_plain}
+use Rattle.mf_store_records.proofs.Texts.{find_client_plain}
 use Rattle.mf_store.proofs.store.Store.find_client.Goals as goal
 
 pub rows-requires : goal.rows-requires

@@ -1,11 +1,11 @@
 use Rattle.std.proofs.Common.{◌≡◌, ◌∙◌, Some, List, map, slice_get}
 use Rattle.std.specs.Option.{option_map}
 use Rattle.mf_store.specs.Flat.{meta_on}
-use Rattle.mf_store.specs.Rows.{MetaRow, meta_row}
-use Rattle.mf_store.specs.Writes.{meta_of}
+use Rattle.mf_store_records.specs.Rows.{MetaRow, meta_row}
+use Rattle.mf_store_records.specs.Writes.{meta_of}
 use Rattle.mf_store.proofs.LookLemmas.{meta_found}
 use Rattle.mf_store.proofs.StandLemmas.{if_ok, weaker_if_ok}
-use Rattle.mf_store.proofs.Texts.{find_meta_plain}
+use Rattle.mf_store_records.proofs.Texts.{find_meta_plain}
 use Rattle.mf_store.proofs.store.Store.find_meta.Goals as goal
 
 pub rows-requires : goal.rows-requires

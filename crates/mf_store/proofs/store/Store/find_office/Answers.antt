@@ -1,11 +1,11 @@
 use Rattle.std.proofs.Common.{◌≡◌, ◌∙◌, List, map, slice_get}
 use Rattle.std.specs.Option.{option_map}
 use Rattle.mf_store.specs.Flat.{office_row_at}
-use Rattle.mf_store.specs.Rows.{OfficeRow, office_row}
-use Rattle.mf_store.specs.Writes.{office_of}
+use Rattle.mf_store_records.specs.Rows.{OfficeRow, office_row}
+use Rattle.mf_store_records.specs.Writes.{office_of}
 use Rattle.mf_store.proofs.LookLemmas.{office_found}
 use Rattle.mf_store.proofs.StandLemmas.{if_ok, weaker_if_ok}
-use Rattle.mf_store.proofs.Texts.{find_office_plain}
+use Rattle.mf_store_records.proofs.Texts.{find_office_plain}
 use Rattle.mf_store.proofs.store.Store.find_office.Goals as goal
 
 pub rows-requires : goal.rows-requires

@@ -2,7 +2,7 @@ use Rattle.std.proofs.Common.{Some, sym, ap, ◌∙◌}
 use Rattle.mf_model.specs.Institution.{numbered}
 use Rattle.mf_model.specs.Store.{rows_at}
 use Rattle.mf_store.specs.Flat.{loan_in, loan_row_at}
-use Rattle.mf_store.specs.Writes.{loan_of}
+use Rattle.mf_store_records.specs.Writes.{loan_of}
 use Rattle.mf_store.proofs.CatalogueLemmas.{known}
 use Rattle.mf_store.proofs.store.Store.loan_at.Goals as goal
 

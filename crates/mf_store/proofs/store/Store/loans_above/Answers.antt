@@ -2,7 +2,7 @@ use Rattle.std.proofs.Common.{◌≡◌, ◌∙◌}
 use Rattle.mf_model.specs.Store.{rows_at, loans_at}
 use Rattle.mf_store.proofs.LoanLemmas.{shown_loans, above_shown, lines_shown}
 use Rattle.mf_store.proofs.StandLemmas.{weaker_if_ok}
-use Rattle.mf_store.proofs.Texts.{loans_above_plain}
+use Rattle.mf_store_records.proofs.Texts.{loans_above_plain}
 use Rattle.mf_store.proofs.store.Store.loans_above.Goals as goal
 
 pub rows-requires : goal.rows-requires

@@ -2,9 +2,9 @@ use Rattle.std.proofs.Common.{[], ◌∷◌, ap, ◌∙◌}
 use Rattle.mf_model.specs.Institution.{numbered}
 use Rattle.mf_model.specs.declared.commit.Commit.TheVariants.{RetireProduct}
 use Rattle.mf_store.specs.Flat.{product_as}
-use Rattle.mf_store.specs.Rows.{ProductRow}
-use Rattle.mf_store.specs.Writes.{product_of}
-use Rattle.mf_store.specs.declared.writes.StoreWrite.TheVariants.{PutProduct}
+use Rattle.mf_store_records.specs.Rows.{ProductRow}
+use Rattle.mf_store_records.specs.Writes.{product_of}
+use Rattle.mf_store_records.specs.declared.writes.StoreWrite.TheVariants.{PutProduct}
 use Rattle.mf_store.proofs.CatalogueLemmas.{known, retired_becomes}
 use Rattle.mf_store.proofs.CommitLemmas.{made_by}
 use Rattle.mf_store.specs.declared.known.News.TheVariants.{Retirement}

@@ -1,7 +1,7 @@
 use Rattle.std.proofs.Common.{[], ◌∷◌, refl}
 use Rattle.mf_model.specs.declared.commit.Commit.TheVariants.{SetDay}
-use Rattle.mf_store.specs.declared.records.MetaRecord.{MetaRecord}
-use Rattle.mf_store.specs.declared.writes.StoreWrite.TheVariants.{PutMeta}
+use Rattle.mf_store_records.specs.declared.records.MetaRecord.{MetaRecord}
+use Rattle.mf_store_records.specs.declared.writes.StoreWrite.TheVariants.{PutMeta}
 use Rattle.mf_store.proofs.CatalogueLemmas.{day_becomes}
 use Rattle.mf_store.proofs.CommitLemmas.{made_by}
 use Rattle.mf_store.proofs.KeptLemmas.{stays_same}

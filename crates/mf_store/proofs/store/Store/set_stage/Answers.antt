@@ -3,8 +3,8 @@ use Rattle.mf_model.specs.declared.commit.Commit.TheVariants.{SetStage}
 use Rattle.mf_model.specs.Institution.{numbered}
 use Rattle.mf_model.specs.Store.{rows_at}
 use Rattle.mf_store.specs.Flat.{loan_in, loan_row_at}
-use Rattle.mf_store.specs.Writes.{loan_of}
-use Rattle.mf_store.specs.declared.writes.StoreWrite.TheVariants.{PutLoan}
+use Rattle.mf_store_records.specs.Writes.{loan_of}
+use Rattle.mf_store_records.specs.declared.writes.StoreWrite.TheVariants.{PutLoan}
 use Rattle.mf_store.proofs.CatalogueLemmas.{known}
 use Rattle.mf_store.proofs.CommitLemmas.{made_by}
 use Rattle.mf_store.proofs.LoanLemmas.{staged_becomes}

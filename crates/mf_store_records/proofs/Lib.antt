@@ -1,0 +1,5 @@
+pub mod Texts
+pub mod TableLemmas
+pub mod AddLemmas
+pub mod ReadLemmas
+pub mod PutLemmas

@@ -1,0 +1,228 @@
+-- What one statement makes of all tables together.
+use Rattle.std.proofs.Common.{◌≡◌, ℕ, List, None, Some, Ok, Option, IsSome, [], sym, subst, arith, true≢false}
+use Rattle.sqlite.specs.Effect.{Database}
+use Rattle.sqlite.specs.State.{State, Executes}
+use Rattle.sqlite_catalog.specs.Listing.{IsSound}
+use Rattle.mf_store_tables.specs.Keep.{Keeps, put_item}
+use Rattle.mf_store_tables.specs.Making.{IsEmpty}
+use Rattle.mf_store_tables.specs.Tables.{no_schema}
+use Rattle.mf_store_tables.specs.Writes.{Ran, Serves}
+use Rattle.mf_store_tables.proofs.KeepLemmas.{keeps_none}
+use Rattle.mf_store_tables.proofs.KeptLemmas.{Spares}
+use Rattle.mf_store_tables.proofs.MakeLemmas.{makes_one}
+use Rattle.mf_store_records.specs.Tables.{schema}
+use Rattle.mf_store_records.specs.Rows.{MetaRow, OfficeRow, StaffRow, ClientRow, ChargeRow, ProductRow, LoanRow, Lists, no_rows, meta_row, office_row, staff_row, client_row, charge_row, product_row, loan_row, by_meta, by_office, by_staff, by_client, by_charge, by_product, by_loan, put_meta, put_office, put_staff, put_client, put_charge, put_product, put_loan}
+use Rattle.mf_store_records.specs.Writes.{changed, schema_of, Holds, Making, Putting}
+use Rattle.mf_store_records.proofs.Texts.{create_meta, create_offices, create_staff, create_clients, create_charges, create_products, create_loans, defines_meta, defines_offices, defines_staff, defines_clients, defines_charges, defines_products, defines_loans, made_is, upsert_meta, upsert_product, upsert_loan}
+use Rattle.mf_store_records.proofs.AddLemmas.{insert_office, insert_staff, insert_client, insert_charge, insert_product, insert_loan, adds_office, adds_staff, adds_client, adds_charge, adds_product, adds_loan}
+use Rattle.mf_store_records.proofs.TableLemmas.{by_meta_total, by_office_total, by_staff_total, by_client_total, by_charge_total, by_product_total, by_loan_total, puts_meta, puts_product, puts_loan}
+
+abbrev pub StandsAs : Database → Option Lists → Type 0
+StandsAs = Serves schema_of Holds
+
+nothing_there : {A : Type 0} → (let none : Option Lists = None in IsSome none) → A
+nothing_there h = absurd (true≢false (sym h))
+
+pub putting_meta : (x : MetaRow) (old new : State) → Ran upsert_meta (meta_row x) old new → Putting (put_meta x) old new
+putting_meta x old new ran = record { mode = ran.mode; was_open = ran.was_open; turns = turns }
+  where
+    turns : (lists : Option Lists) → StandsAs old.now lists → IsSome lists → StandsAs new.now (changed (put_meta x) lists)
+    turns None s there = nothing_there there
+    turns (Some m) s there =
+        let did = puts_meta x old new ran.count m.meta s.schema_is s.holds.meta ran.ran in
+        let spared = did.2 in record {
+          schema_is = did.0;
+          holds = record {
+            sound = did.3;
+            meta = did.1;
+            offices = subst (λ t. Keeps office_row by_office t m.offices) (sym (spared.1.0 (λ e. absurd (omega arith)))) s.holds.offices;
+            staff = subst (λ t. Keeps staff_row by_staff t m.staff) (sym (spared.1.1.0 (λ e. absurd (omega arith)))) s.holds.staff;
+            clients = subst (λ t. Keeps client_row by_client t m.clients) (sym (spared.1.1.1.0 (λ e. absurd (omega arith)))) s.holds.clients;
+            charges = subst (λ t. Keeps charge_row by_charge t m.charges) (sym (spared.1.1.1.1.0 (λ e. absurd (omega arith)))) s.holds.charges;
+            products = subst (λ t. Keeps product_row by_product t m.products) (sym (spared.1.1.1.1.1.0 (λ e. absurd (omega arith)))) s.holds.products;
+            loans = subst (λ t. Keeps loan_row by_loan t m.loans) (sym (spared.1.1.1.1.1.1.0 (λ e. absurd (omega arith)))) s.holds.loans;
+          };
+        }
+
+pub putting_office : (x : OfficeRow) (old new : State) → Ran insert_office (office_row x) old new → Putting (put_office x) old new
+putting_office x old new ran = record { mode = ran.mode; was_open = ran.was_open; turns = turns }
+  where
+    turns : (lists : Option Lists) → StandsAs old.now lists → IsSome lists → StandsAs new.now (changed (put_office x) lists)
+    turns None s there = nothing_there there
+    turns (Some m) s there =
+        let did = adds_office x old new ran.count m.offices s.schema_is s.holds.offices ran.ran in
+        let spared = did.2 in record {
+          schema_is = did.0;
+          holds = record {
+            sound = did.3;
+            meta = subst (λ t. Keeps meta_row by_meta t m.meta) (sym (spared.0 (λ e. absurd (omega arith)))) s.holds.meta;
+            offices = did.1;
+            staff = subst (λ t. Keeps staff_row by_staff t m.staff) (sym (spared.1.1.0 (λ e. absurd (omega arith)))) s.holds.staff;
+            clients = subst (λ t. Keeps client_row by_client t m.clients) (sym (spared.1.1.1.0 (λ e. absurd (omega arith)))) s.holds.clients;
+            charges = subst (λ t. Keeps charge_row by_charge t m.charges) (sym (spared.1.1.1.1.0 (λ e. absurd (omega arith)))) s.holds.charges;
+            products = subst (λ t. Keeps product_row by_product t m.products) (sym (spared.1.1.1.1.1.0 (λ e. absurd (omega arith)))) s.holds.products;
+            loans = subst (λ t. Keeps loan_row by_loan t m.loans) (sym (spared.1.1.1.1.1.1.0 (λ e. absurd (omega arith)))) s.holds.loans;
+          };
+        }
+
+pub putting_staff : (x : StaffRow) (old new : State) → Ran insert_staff (staff_row x) old new → Putting (put_staff x) old new
+putting_staff x old new ran = record { mode = ran.mode; was_open = ran.was_open; turns = turns }
+  where
+    turns : (lists : Option Lists) → StandsAs old.now lists → IsSome lists → StandsAs new.now (changed (put_staff x) lists)
+    turns None s there = nothing_there there
+    turns (Some m) s there =
+        let did = adds_staff x old new ran.count m.staff s.schema_is s.holds.staff ran.ran in
+        let spared = did.2 in record {
+          schema_is = did.0;
+          holds = record {
+            sound = did.3;
+            meta = subst (λ t. Keeps meta_row by_meta t m.meta) (sym (spared.0 (λ e. absurd (omega arith)))) s.holds.meta;
+            offices = subst (λ t. Keeps office_row by_office t m.offices) (sym (spared.1.0 (λ e. absurd (omega arith)))) s.holds.offices;
+            staff = did.1;
+            clients = subst (λ t. Keeps client_row by_client t m.clients) (sym (spared.1.1.1.0 (λ e. absurd (omega arith)))) s.holds.clients;
+            charges = subst (λ t. Keeps charge_row by_charge t m.charges) (sym (spared.1.1.1.1.0 (λ e. absurd (omega arith)))) s.holds.charges;
+            products = subst (λ t. Keeps product_row by_product t m.products) (sym (spared.1.1.1.1.1.0 (λ e. absurd (omega arith)))) s.holds.products;
+            loans = subst (λ t. Keeps loan_row by_loan t m.loans) (sym (spared.1.1.1.1.1.1.0 (λ e. absurd (omega arith)))) s.holds.loans;
+          };
+        }
+
+pub putting_client : (x : ClientRow) (old new : State) → Ran insert_client (client_row x) old new → Putting (put_client x) old new
+putting_client x old new ran = record { mode = ran.mode; was_open = ran.was_open; turns = turns }
+  where
+    turns : (lists : Option Lists) → StandsAs old.now lists → IsSome lists → StandsAs new.now (changed (put_client x) lists)
+    turns None s there = nothing_there there
+    turns (Some m) s there =
+        let did = adds_client x old new ran.count m.clients s.schema_is s.holds.clients ran.ran in
+        let spared = did.2 in record {
+          schema_is = did.0;
+          holds = record {
+            sound = did.3;
+            meta = subst (λ t. Keeps meta_row by_meta t m.meta) (sym (spared.0 (λ e. absurd (omega arith)))) s.holds.meta;
+            offices = subst (λ t. Keeps office_row by_office t m.offices) (sym (spared.1.0 (λ e. absurd (omega arith)))) s.holds.offices;
+            staff = subst (λ t. Keeps staff_row by_staff t m.staff) (sym (spared.1.1.0 (λ e. absurd (omega arith)))) s.holds.staff;
+            clients = did.1;
+            charges = subst (λ t. Keeps charge_row by_charge t m.charges) (sym (spared.1.1.1.1.0 (λ e. absurd (omega arith)))) s.holds.charges;
+            products = subst (λ t. Keeps product_row by_product t m.products) (sym (spared.1.1.1.1.1.0 (λ e. absurd (omega arith)))) s.holds.products;
+            loans = subst (λ t. Keeps loan_row by_loan t m.loans) (sym (spared.1.1.1.1.1.1.0 (λ e. absurd (omega arith)))) s.holds.loans;
+          };
+        }
+
+pub putting_charge : (x : ChargeRow) (old new : State) → Ran insert_charge (charge_row x) old new → Putting (put_charge x) old new
+putting_charge x old new ran = record { mode = ran.mode; was_open = ran.was_open; turns = turns }
+  where
+    turns : (lists : Option Lists) → StandsAs old.now lists → IsSome lists → StandsAs new.now (changed (put_charge x) lists)
+    turns None s there = nothing_there there
+    turns (Some m) s there =
+        let did = adds_charge x old new ran.count m.charges s.schema_is s.holds.charges ran.ran in
+        let spared = did.2 in record {
+          schema_is = did.0;
+          holds = record {
+            sound = did.3;
+            meta = subst (λ t. Keeps meta_row by_meta t m.meta) (sym (spared.0 (λ e. absurd (omega arith)))) s.holds.meta;
+            offices = subst (λ t. Keeps office_row by_office t m.offices) (sym (spared.1.0 (λ e. absurd (omega arith)))) s.holds.offices;
+            staff = subst (λ t. Keeps staff_row by_staff t m.staff) (sym (spared.1.1.0 (λ e. absurd (omega arith)))) s.holds.staff;
+            clients = subst (λ t. Keeps client_row by_client t m.clients) (sym (spared.1.1.1.0 (λ e. absurd (omega arith)))) s.holds.clients;
+            charges = did.1;
+            products = subst (λ t. Keeps product_row by_product t m.products) (sym (spared.1.1.1.1.1.0 (λ e. absurd (omega arith)))) s.holds.products;
+            loans = subst (λ t. Keeps loan_row by_loan t m.loans) (sym (spared.1.1.1.1.1.1.0 (λ e. absurd (omega arith)))) s.holds.loans;
+          };
+        }
+
+-- what a text makes of its own table and of the others
+abbrev Puts_product : List ℕ → Type 1
+Puts_product sql = (x : ProductRow) (old new : State) (count : ℕ) (items : List ProductRow) → old.now.schema ≡ schema → Keeps product_row by_product (old.now.trees 11) items → Executes sql (product_row x) old new (Ok count)
+    → (new.now.schema ≡ schema) × Keeps product_row by_product (new.now.trees 11) (put_item by_product x items) × Spares schema 11 old.now.trees new.now.trees × IsSound schema new.now.trees
+
+product_written : (sql : List ℕ) → Puts_product sql → (x : ProductRow) (old new : State) → Ran sql (product_row x) old new → Putting (put_product x) old new
+product_written sql puts x old new ran = record { mode = ran.mode; was_open = ran.was_open; turns = turns }
+  where
+    turns : (lists : Option Lists) → StandsAs old.now lists → IsSome lists → StandsAs new.now (changed (put_product x) lists)
+    turns None s there = nothing_there there
+    turns (Some m) s there =
+        let did = puts x old new ran.count m.products s.schema_is s.holds.products ran.ran in
+        let spared = did.2 in record {
+          schema_is = did.0;
+          holds = record {
+            sound = did.3;
+            meta = subst (λ t. Keeps meta_row by_meta t m.meta) (sym (spared.0 (λ e. absurd (omega arith)))) s.holds.meta;
+            offices = subst (λ t. Keeps office_row by_office t m.offices) (sym (spared.1.0 (λ e. absurd (omega arith)))) s.holds.offices;
+            staff = subst (λ t. Keeps staff_row by_staff t m.staff) (sym (spared.1.1.0 (λ e. absurd (omega arith)))) s.holds.staff;
+            clients = subst (λ t. Keeps client_row by_client t m.clients) (sym (spared.1.1.1.0 (λ e. absurd (omega arith)))) s.holds.clients;
+            charges = subst (λ t. Keeps charge_row by_charge t m.charges) (sym (spared.1.1.1.1.0 (λ e. absurd (omega arith)))) s.holds.charges;
+            products = did.1;
+            loans = subst (λ t. Keeps loan_row by_loan t m.loans) (sym (spared.1.1.1.1.1.1.0 (λ e. absurd (omega arith)))) s.holds.loans;
+          };
+        }
+
+pub putting_product : (x : ProductRow) (old new : State) → Ran upsert_product (product_row x) old new → Putting (put_product x) old new
+putting_product = product_written upsert_product puts_product
+
+pub adding_product : (x : ProductRow) (old new : State) → Ran insert_product (product_row x) old new → Putting (put_product x) old new
+adding_product = product_written insert_product adds_product
+
+-- what a text makes of its own table and of the others
+abbrev Puts_loan : List ℕ → Type 1
+Puts_loan sql = (x : LoanRow) (old new : State) (count : ℕ) (items : List LoanRow) → old.now.schema ≡ schema → Keeps loan_row by_loan (old.now.trees 13) items → Executes sql (loan_row x) old new (Ok count)
+    → (new.now.schema ≡ schema) × Keeps loan_row by_loan (new.now.trees 13) (put_item by_loan x items) × Spares schema 13 old.now.trees new.now.trees × IsSound schema new.now.trees
+
+loan_written : (sql : List ℕ) → Puts_loan sql → (x : LoanRow) (old new : State) → Ran sql (loan_row x) old new → Putting (put_loan x) old new
+loan_written sql puts x old new ran = record { mode = ran.mode; was_open = ran.was_open; turns = turns }
+  where
+    turns : (lists : Option Lists) → StandsAs old.now lists → IsSome lists → StandsAs new.now (changed (put_loan x) lists)
+    turns None s there = nothing_there there
+    turns (Some m) s there =
+        let did = puts x old new ran.count m.loans s.schema_is s.holds.loans ran.ran in
+        let spared = did.2 in record {
+          schema_is = did.0;
+          holds = record {
+            sound = did.3;
+            meta = subst (λ t. Keeps meta_row by_meta t m.meta) (sym (spared.0 (λ e. absurd (omega arith)))) s.holds.meta;
+            offices = subst (λ t. Keeps office_row by_office t m.offices) (sym (spared.1.0 (λ e. absurd (omega arith)))) s.holds.offices;
+            staff = subst (λ t. Keeps staff_row by_staff t m.staff) (sym (spared.1.1.0 (λ e. absurd (omega arith)))) s.holds.staff;
+            clients = subst (λ t. Keeps client_row by_client t m.clients) (sym (spared.1.1.1.0 (λ e. absurd (omega arith)))) s.holds.clients;
+            charges = subst (λ t. Keeps charge_row by_charge t m.charges) (sym (spared.1.1.1.1.0 (λ e. absurd (omega arith)))) s.holds.charges;
+            products = subst (λ t. Keeps product_row by_product t m.products) (sym (spared.1.1.1.1.1.0 (λ e. absurd (omega arith)))) s.holds.products;
+            loans = did.1;
+          };
+        }
+
+pub putting_loan : (x : LoanRow) (old new : State) → Ran upsert_loan (loan_row x) old new → Putting (put_loan x) old new
+putting_loan = loan_written upsert_loan puts_loan
+
+pub adding_loan : (x : LoanRow) (old new : State) → Ran insert_loan (loan_row x) old new → Putting (put_loan x) old new
+adding_loan = loan_written insert_loan adds_loan
+
+-- ---- the tables made
+
+empty_at_first : (db : Database) → StandsAs db None → IsEmpty no_schema db
+empty_at_first db s = record { schema_is = s.schema_is; empty = tt; sound = s.holds }
+
+stands_empty : (db : Database) → IsEmpty schema db → StandsAs db (Some no_rows)
+stands_empty db e = record {
+  schema_is = e.schema_is;
+  holds = record {
+    sound = e.sound;
+    meta = subst (λ t. Keeps meta_row by_meta t []) (sym e.empty.0) (keeps_none by_meta by_meta_total meta_row);
+    offices = subst (λ t. Keeps office_row by_office t []) (sym e.empty.1.0) (keeps_none by_office by_office_total office_row);
+    staff = subst (λ t. Keeps staff_row by_staff t []) (sym e.empty.1.1.0) (keeps_none by_staff by_staff_total staff_row);
+    clients = subst (λ t. Keeps client_row by_client t []) (sym e.empty.1.1.1.0) (keeps_none by_client by_client_total client_row);
+    charges = subst (λ t. Keeps charge_row by_charge t []) (sym e.empty.1.1.1.1.0) (keeps_none by_charge by_charge_total charge_row);
+    products = subst (λ t. Keeps product_row by_product t []) (sym e.empty.1.1.1.1.1.0) (keeps_none by_product by_product_total product_row);
+    loans = subst (λ t. Keeps loan_row by_loan t []) (sym e.empty.1.1.1.1.1.1.0) (keeps_none by_loan by_loan_total loan_row);
+  };
+}
+
+pub making : (a b c d e f g h : State) → Ran create_meta [] a b → Ran create_offices [] b c → Ran create_staff [] c d → Ran create_clients [] d e → Ran create_charges [] e f → Ran create_products [] f g → Ran create_loans [] g h → Making a h
+making a b c d e f g h one two three four five six seven = record { mode = seven.mode; was_open = one.was_open; turns = turns }
+  where
+    turns : (lists : Option Lists) → StandsAs a.now lists → lists ≡ None → StandsAs h.now (Some no_rows)
+    turns lists s none =
+        let first = empty_at_first a.now (subst (StandsAs a.now) none s) in
+        let has_meta = makes_one _ _ create_meta a b one.count defines_meta first one.ran in
+        let has_offices = makes_one _ _ create_offices b c two.count defines_offices has_meta two.ran in
+        let has_staff = makes_one _ _ create_staff c d three.count defines_staff has_offices three.ran in
+        let has_clients = makes_one _ _ create_clients d e four.count defines_clients has_staff four.ran in
+        let has_charges = makes_one _ _ create_charges e f five.count defines_charges has_clients five.ran in
+        let has_products = makes_one _ _ create_products f g six.count defines_products has_charges six.ran in
+        let has_loans = makes_one _ _ create_loans g h seven.count defines_loans has_products seven.ran in
+        stands_empty h.now (subst (λ s. IsEmpty s h.now) made_is has_loans)

@@ -1,0 +1,81 @@
+-- What each upsert does to its table.
+use Rattle.std.proofs.Common.{◌≡◌, ℕ, ℤ, List, [], ◌∷◌, Some, refl, ◌∙◌, is_eq, Ok}
+use Rattle.std.specs.Cmp.{IsTotalOrder}
+use Rattle.std.proofs.lemmas.Cmp.{on_total, then_total, nat_cmp_total}
+use Rattle.sqlite.specs.declared.types.Value.TheVariants.{Int}
+use Rattle.sqlite.specs.State.{State, Executes}
+use Rattle.sqlite_catalog.specs.Listing.{IsSound}
+use Rattle.sqlite_rules.specs.Keys.{conflicts}
+use Rattle.sqlite_value.specs.Keys.{first_key}
+use Rattle.mf_store_tables.specs.Keep.{Keeps, put_item}
+use Rattle.mf_store_tables.proofs.CompareLemmas.{equals_back, and_true, or_false, both_equal, number_same, key_step, also, each_kept, null_kept, text_kept}
+use Rattle.mf_store_tables.proofs.KeptLemmas.{Spares}
+use Rattle.mf_store_tables.proofs.UpsertLemmas.{upserts_kept}
+use Rattle.mf_store_records.specs.Tables.{schema, meta, offices, staff, clients, charges, products, loans}
+use Rattle.mf_store_records.specs.Rows.{MetaRow, by_meta, meta_row, OfficeRow, by_office, office_row, StaffRow, by_staff, staff_row, ClientRow, by_client, client_row, ChargeRow, by_charge, charge_row, ProductRow, by_product, product_row, LoanRow, by_loan, loan_row}
+use Rattle.mf_store_records.proofs.Texts.{upsert_meta, upsert_meta_is, upsert_meta_plain, upsert_product, upsert_product_is, upsert_product_plain, upsert_loan, upsert_loan_is, upsert_loan_plain}
+
+-- ---- meta
+
+pub by_meta_total : IsTotalOrder by_meta
+by_meta_total = on_total (λ (x : MetaRow). x.one) nat_cmp_total
+
+meta_clash : (x : MetaRow) (id i : ℤ) (y : MetaRow) → conflicts (Some (1 ∷ [])) schema.indexes meta (Int id ∷ meta_row x) (Int i ∷ meta_row y) ≡ is_eq (by_meta x y)
+unfolding first_key
+meta_clash x id i y = or_false _ ∙ (and_true _ ∙ equals_back y.one x.one)
+
+pub puts_meta : (x : MetaRow) (old new : State) (count : ℕ) (items : List MetaRow) → old.now.schema ≡ schema → Keeps meta_row by_meta (old.now.trees 0) items → Executes upsert_meta (meta_row x) old new (Ok count)
+    → (new.now.schema ≡ schema) × Keeps meta_row by_meta (new.now.trees 0) (put_item by_meta x items) × Spares schema 0 old.now.trees new.now.trees × IsSound schema new.now.trees
+puts_meta x old new count items has k h =
+    upserts_kept meta_row by_meta by_meta_total schema 0 meta refl (λ keys olds news. refl) refl upsert_meta upsert_meta_plain _ 4 (1 ∷ []) 3 _ upsert_meta_is _ x refl (λ v. each_kept meta v (meta_row x) (refl, (refl, (refl, tt)))) (meta_clash x) (λ v vs. refl)
+    (λ id i y tied. also refl (also refl (also (number_same _ _ tied) (refl)))) (λ t. refl) old new count items has k h
+
+-- ---- offices
+
+pub by_office_total : IsTotalOrder by_office
+by_office_total = on_total (λ (x : OfficeRow). x.number) nat_cmp_total
+
+-- ---- staff
+
+pub by_staff_total : IsTotalOrder by_staff
+by_staff_total = then_total (on_total (λ (x : StaffRow). x.office) nat_cmp_total) (on_total (λ (x : StaffRow). x.number) nat_cmp_total)
+
+-- ---- clients
+
+pub by_client_total : IsTotalOrder by_client
+by_client_total = then_total (on_total (λ (x : ClientRow). x.office) nat_cmp_total) (on_total (λ (x : ClientRow). x.number) nat_cmp_total)
+
+-- ---- charges
+
+pub by_charge_total : IsTotalOrder by_charge
+by_charge_total = on_total (λ (x : ChargeRow). x.number) nat_cmp_total
+
+-- ---- products
+
+pub by_product_total : IsTotalOrder by_product
+by_product_total = on_total (λ (x : ProductRow). x.number) nat_cmp_total
+
+product_clash : (x : ProductRow) (id i : ℤ) (y : ProductRow) → conflicts (Some (1 ∷ [])) schema.indexes products (Int id ∷ product_row x) (Int i ∷ product_row y) ≡ is_eq (by_product x y)
+unfolding first_key
+product_clash x id i y = or_false _ ∙ (and_true _ ∙ equals_back y.number x.number)
+
+pub puts_product : (x : ProductRow) (old new : State) (count : ℕ) (items : List ProductRow) → old.now.schema ≡ schema → Keeps product_row by_product (old.now.trees 11) items → Executes upsert_product (product_row x) old new (Ok count)
+    → (new.now.schema ≡ schema) × Keeps product_row by_product (new.now.trees 11) (put_item by_product x items) × Spares schema 11 old.now.trees new.now.trees × IsSound schema new.now.trees
+puts_product x old new count items has k h =
+    upserts_kept product_row by_product by_product_total schema 5 products refl (λ keys olds news. refl) refl upsert_product upsert_product_plain _ 18 (1 ∷ []) 17 _ upsert_product_is _ x refl (λ v. each_kept products v (product_row x) (refl, (refl, (refl, (refl, (refl, (refl, (refl, (refl, (refl, (refl, (refl, (refl, (refl, (null_kept x.disbursement_charge, (null_kept x.instalment_charge, (null_kept x.overdue_charge, (refl, tt)))))))))))))))))) (product_clash x) (λ v vs. refl)
+    (λ id i y tied. also refl (also refl (also (number_same _ _ tied) (refl)))) (λ t. refl) old new count items has k h
+
+-- ---- loans
+
+pub by_loan_total : IsTotalOrder by_loan
+by_loan_total = then_total (on_total (λ (x : LoanRow). x.office) nat_cmp_total) (on_total (λ (x : LoanRow). x.number) nat_cmp_total)
+
+loan_clash : (x : LoanRow) (id i : ℤ) (y : LoanRow) → conflicts (Some (1 ∷ 2 ∷ [])) schema.indexes loans (Int id ∷ loan_row x) (Int i ∷ loan_row y) ≡ is_eq (by_loan x y)
+unfolding first_key
+loan_clash x id i y = or_false _ ∙ (key_step _ _ _ _ (equals_back y.office x.office) (and_true _ ∙ equals_back y.number x.number))
+
+pub puts_loan : (x : LoanRow) (old new : State) (count : ℕ) (items : List LoanRow) → old.now.schema ≡ schema → Keeps loan_row by_loan (old.now.trees 13) items → Executes upsert_loan (loan_row x) old new (Ok count)
+    → (new.now.schema ≡ schema) × Keeps loan_row by_loan (new.now.trees 13) (put_item by_loan x items) × Spares schema 13 old.now.trees new.now.trees × IsSound schema new.now.trees
+puts_loan x old new count items has k h =
+    upserts_kept loan_row by_loan by_loan_total schema 6 loans refl (λ keys olds news. refl) refl upsert_loan upsert_loan_plain _ 10 (1 ∷ 2 ∷ []) 9 _ upsert_loan_is _ x refl (λ v. each_kept loans v (loan_row x) (refl, (refl, (refl, (refl, (refl, (refl, (refl, (text_kept x.approved, (text_kept x.disbursed, tt)))))))))) (loan_clash x) (λ v vs. refl)
+    (λ id i y tied. let k0 = both_equal _ _ tied in also refl (also refl (also (number_same _ _ k0.0) (also (number_same _ _ k0.1) (refl))))) (λ t. refl) old new count items has k h

@@ -1,0 +1,19 @@
+use Rattle.std.proofs.Common.{◌≡◌, ap, refl, subst}
+use Rattle.std.proofs.lemmas.Result.{on_ok_weaker}
+use Rattle.sqlite.specs.Held.{state}
+use Rattle.sqlite.specs.Order.{Row}
+use Rattle.sqlite.specs.Values.{bound_value}
+use Rattle.mf_store_tables.specs.Writes.{Ran}
+use Rattle.mf_store_tables.proofs.CompareLemmas.{also}
+use Rattle.mf_store_records.specs.Rows.{charge_row}
+use Rattle.mf_store_records.specs.Writes.{charge_of}
+use Rattle.mf_store_records.proofs.PutLemmas.{putting_charge}
+use Rattle.mf_store_records.proofs.AddLemmas.{insert_charge}
+use Rattle.mf_store_records.proofs.writes.put_charge.Goals as goal
+
+pub returns-clause-ok : goal.returns-clause-ok
+returns-clause-ok g c clean inside =
+    let old = state g.S.Store c.args.tx.now.conn.now in
+    let new = state g.S.Store c.run.new.tx.conn.now in
+    let given = λ (p : Row) (it : Ran insert_charge p old new) (same : p ≡ charge_row (charge_of c.args.charge.now)). subst (λ r. Ran insert_charge r old new) same it in
+    on_ok_weaker c.run.result (λ it. putting_charge (charge_of c.args.charge.now) old new (given _ it (also (ap bound_value c.params-to_sql.ensures) (also (ap bound_value c.params-to_sql-2.ensures) (also (ap bound_value c.params-to_sql-3.ensures) (also (ap bound_value c.params-to_sql-4.ensures) (also (ap bound_value c.params-to_sql-5.ensures) (refl)))))))) (c.run.ensures.ok clean inside)

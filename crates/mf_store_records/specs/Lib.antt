@@ -1,0 +1,5 @@
+pub mod Tables
+pub mod Rows
+pub mod Looks
+pub mod Numbers
+pub mod Writes
