@@ -14,14 +14,12 @@ ghost use Rattle.mf_store_records.specs.Writes.{loan_of};
 
 use crate::counts::MOST;
 use crate::known::News;
-use mf_store_records::{signed, unsigned};
-use mf_store_records::{LoanRecord, Record};
 use crate::store::{Store, given_up};
 use crate::visible::office_number;
-use mf_store_records::StoreWrite;
 use mf_base::{Day, Fault, texts_of_days};
 use mf_model::{Counts, Loan, LoanLine, LoanList, Stage};
 use mf_office::{Account, AccountNo, OfficeNo};
+use mf_store_records::{LoanRecord, Record, StoreWrite, signed, unsigned};
 use sqlite::{Alter, Row, params};
 use std::alloc::Global;
 

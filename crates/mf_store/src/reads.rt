@@ -8,12 +8,12 @@ ghost use Rattle.mf_store.specs.Flat.{meta_on, office_row_at, staff_row_at, clie
 ghost use Rattle.mf_store_records.specs.Writes.{meta_of, office_of, staff_of, client_of, charge_of, product_of, loan_of};
 
 use crate::known::News;
+use crate::store::{Store, given_up};
+use mf_base::{Day, Fault};
 use mf_store_records::{
     ChargeRecord, ClientRecord, LoanRecord, MetaRecord, OfficeRecord, ProductRecord, StaffRecord,
     first,
 };
-use crate::store::{Store, given_up};
-use mf_base::{Day, Fault};
 use sqlite::{Alter, params};
 
 /// The day that the table meta holds.

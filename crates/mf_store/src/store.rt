@@ -17,11 +17,11 @@ ghost use Rattle.mf_store.specs.Stands.{IsTabled, HasGoodDisk, LeavesTables, Sta
 
 use crate::first::first_writes;
 use crate::known::{Known, News};
-use mf_store_records::StoreWrite;
 use mf_base::{Day, Fault};
 use mf_catalog::Product;
 use mf_model::{CatalogueCounts, Counts, soundness};
 use mf_office::{Caller, Key, Role};
+use mf_store_records::StoreWrite;
 use mf_store_tables::{apply, query};
 use sqlite::{Alter, Connection, Error, Row};
 use sqlite_value::value::ValueRef;

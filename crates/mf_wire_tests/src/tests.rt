@@ -9,8 +9,8 @@ mod texts;
 
 use books::Books;
 use mf_base::{Cause, Fault, StreamFault};
-use mf_wire_lines::{WatchedReader, WatchedWriter, fault_text};
 use mf_wire::{answer_text, run};
+use mf_wire_lines::{WatchedReader, WatchedWriter, fault_text};
 use std::alloc::Global;
 use std::test::Fail;
 use streams::{Narrow, Torn};

@@ -6,8 +6,8 @@ ghost use Rattle.mf_base.specs.DayText.{last_entered_day};
 ghost use Rattle.microloan_words.specs.Asked.{IsWithinLimits};
 
 use mf_base::Cause;
-use microloan_commands::{answer_lines, schedule};
 use mf_wire_lines::{WatchedReader, WatchedWriter};
+use microloan_commands::{answer_lines, schedule};
 use microloan_words::{BatchWords, Command, ScheduleWords, Words, command};
 use std::process::ExitCode;
 use std::{env, fmt, io};

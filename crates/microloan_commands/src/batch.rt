@@ -3,8 +3,8 @@ ghost use Rattle.mf_base.specs.DayText.{last_entered_day};
 ghost use Rattle.microloan_commands.specs.Batch.{AnswersFromNew};
 
 use mf_base::{Cause, Day, StreamFault};
-use mf_store_pages::PageStore;
 use mf_store::Store;
+use mf_store_pages::PageStore;
 use mf_wire::{Sink, Source, run};
 use sqlite_trees::store::Store as TreeStore;
 use std::alloc::Global;
