@@ -11,7 +11,7 @@ ghost use Rattle.mf_model.specs.declared.commit.Commit.TheVariants.{AddOffice, A
 use crate::counts::MOST;
 use crate::known::News;
 use mf_store_records::number_of_role;
-use mf_store_records::{ClientRecord, OfficeRecord, StaffRecord};
+use mf_store_records::{ClientRow, OfficeRow, StaffRow, Text};
 use crate::store::Store;
 use mf_store_records::StoreWrite;
 use mf_base::Fault;
@@ -58,11 +58,11 @@ impl<S: Alter> Store<S> {
         };
         let above_key = above.hkey.as_str();
         let hkey = format!(in alloc; "{above_key}{number}.")?;
-        let office = OfficeRecord {
+        let office = OfficeRow {
             number,
             parent: Some(parent),
-            hkey,
-            name: name.into_text(),
+            hkey: Text::new(hkey),
+            name: Text::of_name(name),
         };
         self.make(&[StoreWrite::PutOffice(office)], News::Nothing)
     }
@@ -81,10 +81,10 @@ impl<S: Alter> Store<S> {
             return Err(Fault::F20);
         }
         let number = counts.staff + 1;
-        let staff = StaffRecord {
+        let staff = StaffRow {
             office,
             number,
-            name: name.into_text(),
+            name: Text::of_name(name),
             role: number_of_role(role),
         };
         let now = Counts {
@@ -112,10 +112,10 @@ impl<S: Alter> Store<S> {
             return Err(Fault::F20);
         }
         let number = counts.clients + 1;
-        let client = ClientRecord {
+        let client = ClientRow {
             office,
             number,
-            name: name.into_text(),
+            name: Text::of_name(name),
         };
         let now = Counts {
             staff: counts.staff,
