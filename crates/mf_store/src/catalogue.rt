@@ -9,17 +9,15 @@ ghost use Rattle.mf_store.specs.Flat.{charge_as, product_as};
 
 use crate::counts::{Kind, MOST};
 use crate::known::News;
-use mf_store_records::{
-    calc_from, flag_from, frequency_from, kind_from, method_from, number_of_calc,
-    number_of_frequency, number_of_kind, number_of_method, number_of_strategy, signed,
-    strategy_from, unsigned,
-};
-use mf_store_records::{ChargeRow, MetaRow, ProductRow, Text};
 use crate::store::Store;
-use mf_store_records::StoreWrite;
 use mf_base::{Day, Fault, Name};
 use mf_catalog::{Calc, ChargeDef, ChargeKind, Product, ProductMembers};
 use mf_model::CatalogueCounts;
+use mf_store_records::{
+    ChargeRow, MetaRow, ProductRow, StoreWrite, Text, calc_from, flag_from, frequency_from,
+    kind_from, method_from, number_of_calc, number_of_frequency, number_of_kind, number_of_method,
+    number_of_strategy, signed, strategy_from, unsigned,
+};
 use sqlite::Alter;
 use std::alloc::Global;
 

@@ -10,13 +10,11 @@ ghost use Rattle.mf_model.specs.declared.commit.Commit.TheVariants.{AddOffice, A
 
 use crate::counts::MOST;
 use crate::known::News;
-use mf_store_records::number_of_role;
-use mf_store_records::{ClientRow, OfficeRow, StaffRow, Text};
 use crate::store::Store;
-use mf_store_records::StoreWrite;
 use mf_base::Fault;
 use mf_model::{Counts, tree_of_offices};
 use mf_office::{Name, OfficeNo, Role};
+use mf_store_records::{ClientRow, OfficeRow, StaffRow, StoreWrite, Text, number_of_role};
 use sqlite::Alter;
 use std::alloc::Global;
 

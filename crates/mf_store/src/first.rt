@@ -10,11 +10,10 @@ ghost use Rattle.mf_model.specs.Institution.{newly_made};
 ghost use Rattle.mf_store_records.specs.Writes.{schema_of, Holds};
 ghost use Rattle.mf_store.specs.Stands.{StandsFor, IsClean, Leaves, Begins};
 
-use mf_store_records::{MetaRow, OfficeRow, StaffRow, Text};
 use crate::store::Store;
-use mf_store_records::StoreWrite;
 use mf_base::{Day, Fault};
 use mf_store_pages::PageStore;
+use mf_store_records::{MetaRow, OfficeRow, StaffRow, StoreWrite, Text};
 use std::alloc::Global;
 
 /// The tables, the business day, the head office and its manager.

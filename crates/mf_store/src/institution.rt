@@ -4,12 +4,12 @@ ghost use Rattle.std.specs.Prelude.{◌≡◌, IfOk, IfErr};
 ghost use Rattle.mf_base.specs.declared.fault.Fault.TheVariants.{F20};
 ghost use Rattle.mf_model.specs.Institution.{Institution};
 
-use mf_store_records::role_from;
 use crate::store::Store;
 use mf_base::{Day, Fault};
 use mf_catalog::{ChargeDef, Product};
 use mf_model::{CatalogueCounts, Commit, Counts, InstitutionStore, Loan, LoanList, OfficeList};
 use mf_office::{Account, Caller, Name, OfficeNo, Role};
+use mf_store_records::role_from;
 use sqlite::Alter;
 use std::alloc::Global;
 

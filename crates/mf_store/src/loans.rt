@@ -13,14 +13,12 @@ ghost use Rattle.mf_store_records.specs.Rows.{loan_row as loan_stored};
 
 use crate::counts::MOST;
 use crate::known::News;
-use mf_store_records::{signed, unsigned};
-use mf_store_records::{LoanRow, Text, read_row};
 use crate::store::Store;
 use crate::visible::office_number;
-use mf_store_records::StoreWrite;
 use mf_base::{Day, Fault, texts_of_days};
 use mf_model::{Counts, Loan, LoanLine, LoanList, Stage};
 use mf_office::{Account, AccountNo, OfficeNo};
+use mf_store_records::{LoanRow, StoreWrite, Text, read_row, signed, unsigned};
 use sqlite::{Alter, Row};
 use std::alloc::Global;
 

@@ -9,12 +9,11 @@ ghost use Rattle.mf_store_records.specs.Rows.{staff_row, client_row, loan_row};
 ghost use Rattle.mf_store.specs.Flat.{staff_in, client_in, loan_in, numbered_from};
 
 use crate::loans::loan_from;
-use mf_store_records::role_from;
-use mf_store_records::{ClientRow, LoanRow, StaffRow, read_row};
 use crate::store::Store;
 use mf_base::Fault;
 use mf_model::Loan;
 use mf_office::{Name, OfficeNo, Role};
+use mf_store_records::{ClientRow, LoanRow, StaffRow, read_row, role_from};
 use sqlite::{Alter, Row};
 use std::alloc::Global;
 use std::marker::Model;

@@ -7,11 +7,9 @@ ghost use Rattle.mf_model.specs.Institution.{Institution};
 ghost use Rattle.mf_store.specs.Flat.{meta_on, office_row_at, staff_row_at, client_row_at, charge_row_at, product_row_at, loan_row_at};
 
 use crate::known::News;
-use mf_store_records::{
-    ChargeRow, ClientRow, LoanRow, MetaRow, OfficeRow, ProductRow, StaffRow,
-};
 use crate::store::Store;
 use mf_base::{Day, Fault};
+use mf_store_records::{ChargeRow, ClientRow, LoanRow, MetaRow, OfficeRow, ProductRow, StaffRow};
 use sqlite::Alter;
 
 /// The day that the table meta holds.
@@ -62,11 +60,7 @@ impl<S: Alter> Store<S> {
         self.find(number)
     }
 
-    pub(crate) fn find_staff(
-        &mut self,
-        office: u32,
-        number: u32,
-    ) -> Result<Option<StaffRow>, Fault>
+    pub(crate) fn find_staff(&mut self, office: u32, number: u32) -> Result<Option<StaffRow>, Fault>
         ensures kept { Stays S.Store self.old self.new }
         ensures gives_up { IfErr result (λ fault. fault ≡ F20) }
         ensures value { IsClean S.Store self.new → (i : Institution) → StandsFor S.Store self.old i → IfOk result (λ x. x ≡ staff_row_at office number i) }
@@ -102,11 +96,7 @@ impl<S: Alter> Store<S> {
         self.find(number)
     }
 
-    pub(crate) fn find_loan(
-        &mut self,
-        office: u32,
-        number: u32,
-    ) -> Result<Option<LoanRow>, Fault>
+    pub(crate) fn find_loan(&mut self, office: u32, number: u32) -> Result<Option<LoanRow>, Fault>
         ensures kept { Stays S.Store self.old self.new }
         ensures gives_up { IfErr result (λ fault. fault ≡ F20) }
         ensures value { IsClean S.Store self.new → (i : Institution) → StandsFor S.Store self.old i → IfOk result (λ x. x ≡ loan_row_at office number i) }

@@ -15,11 +15,13 @@ ghost use Rattle.mf_store.specs.Stands.{IsTabled, HasGoodDisk, LeavesTables, Sta
 
 use crate::first::first_writes;
 use crate::known::{Known, News};
-use mf_store_records::{Listed, StoreWrite, Table, find_row, list_rows, loans_above, offices_within};
 use mf_base::{Day, Fault};
 use mf_catalog::Product;
 use mf_model::{CatalogueCounts, Counts, soundness};
 use mf_office::{Caller, Key, Role};
+use mf_store_records::{
+    Listed, StoreWrite, Table, find_row, list_rows, loans_above, offices_within,
+};
 use mf_store_tables::apply;
 use sqlite::{Alter, Connection, Error, Row};
 use std::alloc::Global;

@@ -9,11 +9,11 @@ ghost use Rattle.mf_model.specs.Desk.{line_of};
 ghost use Rattle.mf_store.specs.Flat.{key_at, office_under, sees, has_room};
 ghost use Rattle.mf_store_records.specs.Rows.{office_row};
 
-use mf_store_records::{OfficeRow, read_row};
 use crate::store::Store;
 use mf_base::Fault;
 use mf_model::{OfficeList, tree_of_offices};
 use mf_office::{Key, Office, OfficeNo, depth_by_key, in_range};
+use mf_store_records::{OfficeRow, read_row};
 use sqlite::{Alter, Row};
 use std::alloc::Global;
 

@@ -41,13 +41,11 @@ impl Table for ChargeRow {
     }
 
     fn execute<S: Alter>(&self, tx: &mut Transaction<'_, S>, sql: &str) -> Result<(), Error> {
-        run(tx, sql, params![
-            self.number,
-            &self.name,
-            self.kind,
-            self.calc,
-            &self.value
-        ])
+        run(
+            tx,
+            sql,
+            params![self.number, &self.name, self.kind, self.calc, &self.value],
+        )
     }
 
     fn find_text() -> &'static str {
@@ -57,9 +55,6 @@ impl Table for ChargeRow {
 
 impl Added for ChargeRow {
     fn insert<S: Alter>(&self, tx: &mut Transaction<'_, S>) -> Result<(), Error> {
-        self.execute(
-            tx,
-            "INSERT INTO charges VALUES (?1, ?2, ?3, ?4, ?5)",
-        )
+        self.execute(tx, "INSERT INTO charges VALUES (?1, ?2, ?3, ?4, ?5)")
     }
 }

@@ -44,10 +44,7 @@ impl Table for ClientRow {
 
 impl Added for ClientRow {
     fn insert<S: Alter>(&self, tx: &mut Transaction<'_, S>) -> Result<(), Error> {
-        self.execute(
-            tx,
-            "INSERT INTO clients VALUES (?1, ?2, ?3)",
-        )
+        self.execute(tx, "INSERT INTO clients VALUES (?1, ?2, ?3)")
     }
 }
 

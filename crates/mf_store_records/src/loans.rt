@@ -6,7 +6,6 @@ ghost use Rattle.mf_store_records.specs.Rows.{Lists, loan_row, put_loan};
 ghost use Rattle.mf_store_records.specs.Looks.{is_loan, is_loan_of, is_loan_above};
 ghost use Rattle.mf_store_records.specs.Calls.{IsUnchanged, IsKeeping};
 
-
 use crate::table::{Added, Changed, Listed, Table, ask};
 use crate::text::Text;
 use mf_base::Fault;
@@ -58,17 +57,21 @@ impl Table for LoanRow {
     }
 
     fn execute<S: Alter>(&self, tx: &mut Transaction<'_, S>, sql: &str) -> Result<(), Error> {
-        run(tx, sql, params![
-            self.office,
-            self.number,
-            self.client,
-            self.product,
-            &self.principal,
-            self.periods,
-            self.stage,
-            self.approved.as_ref(),
-            self.disbursed.as_ref()
-        ])
+        run(
+            tx,
+            sql,
+            params![
+                self.office,
+                self.number,
+                self.client,
+                self.product,
+                &self.principal,
+                self.periods,
+                self.stage,
+                self.approved.as_ref(),
+                self.disbursed.as_ref()
+            ],
+        )
     }
 
     fn find_text() -> &'static str {

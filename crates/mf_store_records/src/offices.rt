@@ -6,7 +6,6 @@ ghost use Rattle.mf_store_records.specs.Rows.{Lists, office_row, put_office};
 ghost use Rattle.mf_store_records.specs.Looks.{is_office, is_in_range};
 ghost use Rattle.mf_store_records.specs.Calls.{IsUnchanged, IsKeeping};
 
-
 use crate::table::{Added, Table, ask};
 use crate::text::Text;
 use mf_base::Fault;
@@ -45,7 +44,11 @@ impl Table for OfficeRow {
     }
 
     fn execute<S: Alter>(&self, tx: &mut Transaction<'_, S>, sql: &str) -> Result<(), Error> {
-        run(tx, sql, params![self.number, self.parent, &self.hkey, &self.name])
+        run(
+            tx,
+            sql,
+            params![self.number, self.parent, &self.hkey, &self.name],
+        )
     }
 
     fn find_text() -> &'static str {
@@ -55,10 +58,7 @@ impl Table for OfficeRow {
 
 impl Added for OfficeRow {
     fn insert<S: Alter>(&self, tx: &mut Transaction<'_, S>) -> Result<(), Error> {
-        self.execute(
-            tx,
-            "INSERT INTO offices VALUES (?1, ?2, ?3, ?4)",
-        )
+        self.execute(tx, "INSERT INTO offices VALUES (?1, ?2, ?3, ?4)")
     }
 }
 

@@ -69,25 +69,29 @@ impl Table for ProductRow {
     }
 
     fn execute<S: Alter>(&self, tx: &mut Transaction<'_, S>, sql: &str) -> Result<(), Error> {
-        run(tx, sql, params![
-            self.number,
-            &self.name,
-            self.method,
-            self.rate,
-            self.frequency,
-            self.every,
-            self.principal_grace,
-            self.interest_grace,
-            &self.min_principal,
-            &self.max_principal,
-            self.min_periods,
-            self.max_periods,
-            self.strategy,
-            self.disbursement_charge,
-            self.instalment_charge,
-            self.overdue_charge,
-            self.retired
-        ])
+        run(
+            tx,
+            sql,
+            params![
+                self.number,
+                &self.name,
+                self.method,
+                self.rate,
+                self.frequency,
+                self.every,
+                self.principal_grace,
+                self.interest_grace,
+                &self.min_principal,
+                &self.max_principal,
+                self.min_periods,
+                self.max_periods,
+                self.strategy,
+                self.disbursement_charge,
+                self.instalment_charge,
+                self.overdue_charge,
+                self.retired
+            ],
+        )
     }
 
     fn find_text() -> &'static str {

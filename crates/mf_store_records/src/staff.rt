@@ -37,7 +37,11 @@ impl Table for StaffRow {
     }
 
     fn execute<S: Alter>(&self, tx: &mut Transaction<'_, S>, sql: &str) -> Result<(), Error> {
-        run(tx, sql, params![self.office, self.number, &self.name, self.role])
+        run(
+            tx,
+            sql,
+            params![self.office, self.number, &self.name, self.role],
+        )
     }
 
     fn find_text() -> &'static str {
@@ -47,10 +51,7 @@ impl Table for StaffRow {
 
 impl Added for StaffRow {
     fn insert<S: Alter>(&self, tx: &mut Transaction<'_, S>) -> Result<(), Error> {
-        self.execute(
-            tx,
-            "INSERT INTO staff VALUES (?1, ?2, ?3, ?4)",
-        )
+        self.execute(tx, "INSERT INTO staff VALUES (?1, ?2, ?3, ?4)")
     }
 }
 
