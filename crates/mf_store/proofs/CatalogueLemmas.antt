@@ -20,13 +20,12 @@ use Rattle.mf_model.specs.Institution.{Institution, Charge, Offer, numbered, wit
 use Rattle.mf_model.specs.Sound.{IsSound}
 use Rattle.mf_model.specs.Store.{committed}
 use Rattle.mf_model.specs.declared.commit.Commit.TheVariants.{SetDay, AddCharge, AddProduct, RetireProduct}
-use Rattle.mf_store_records.specs.Rows.{ChargeRow, ProductRow, by_meta, by_charge, by_product}
+use Rattle.mf_store_records.specs.Rows.{by_meta, by_charge, by_product}
+use Rattle.mf_store_records.specs.declared.charges.ChargeRow.{ChargeRow}
+use Rattle.mf_store_records.specs.declared.products.ProductRow.{ProductRow}
 use Rattle.mf_store.specs.Flat.{tables_of, numbered_from, charge_as, product_as}
 use Rattle.mf_store_records.specs.Numbers.{kind_number, calc_number, method_number, frequency_number, strategy_number, flag_number}
-use Rattle.mf_store_records.specs.Writes.{charge_of, product_of}
-use Rattle.mf_store_records.specs.declared.records.MetaRecord.{MetaRecord}
-use Rattle.mf_store_records.specs.declared.records.ChargeRecord.{ChargeRecord}
-use Rattle.mf_store_records.specs.declared.records.ProductRecord.{ProductRecord}
+use Rattle.mf_store_records.specs.declared.meta.MetaRow.{MetaRow}
 use Rattle.mf_store_records.specs.declared.writes.StoreWrite.TheVariants.{PutMeta, PutCharge, PutProduct}
 use Rattle.mf_store_records.specs.declared.writes.StoreWrite.TheVariants as write
 use Rattle.mf_store.specs.Stands.{Becomes}
@@ -106,7 +105,7 @@ amount_is a b e = cc
 
 -- ---- what a row is read as
 
-pub charge_is : (row : ChargeRecord) (name : List ℕ) (kind : ChargeKind) (calc : Calc) (value n : ℕ) (c : Charge) → charge_of row ≡ charge_as n c → name ≡ string_bytes row.name → kind_number kind ≡ row.kind → calc_number calc ≡ row.calc → pos value ≡ row.value
+pub charge_is : (row : ChargeRow) (name : List ℕ) (kind : ChargeKind) (calc : Calc) (value n : ℕ) (c : Charge) → row ≡ charge_as n c → name ≡ row.name → kind_number kind ≡ row.kind → calc_number calc ≡ row.calc → pos value ≡ row.value
     → ◌≡◌ {A = ChargeDef} (record { number = row.number; name = name; kind = kind; calc = calc; value = value }) (charge_def n c)
 charge_is row name kind calc value n c e a b d v = λ k. record {
   number = ap (λ (r : ChargeRow). r.number) e k;
@@ -116,8 +115,8 @@ charge_is row name kind calc value n c e a b d v = λ k. record {
   value = amount_is value c.value (v ∙ ap (λ (r : ChargeRow). r.value) e) k;
 }
 
-pub product_is : (row : ProductRecord) (name : List ℕ) (method : Method) (freq : Freq) (strategy : StrategyName) (least most : ℕ) (retired : Bool) (n : ℕ) (p : Offer) → product_of row ≡ product_as n p
-    → name ≡ string_bytes row.name → method_number method ≡ row.method → frequency_number freq ≡ row.frequency → strategy_number strategy ≡ row.strategy → pos least ≡ row.min_principal → pos most ≡ row.max_principal → flag_number retired ≡ row.retired
+pub product_is : (row : ProductRow) (name : List ℕ) (method : Method) (freq : Freq) (strategy : StrategyName) (least most : ℕ) (retired : Bool) (n : ℕ) (p : Offer) → row ≡ product_as n p
+    → name ≡ row.name → method_number method ≡ row.method → frequency_number freq ≡ row.frequency → strategy_number strategy ≡ row.strategy → pos least ≡ row.min_principal → pos most ≡ row.max_principal → flag_number retired ≡ row.retired
     → ◌≡◌ {A = Product} (record {
       number = row.number;
       members = record {
@@ -162,45 +161,45 @@ product_is row name method freq strategy least most retired n p e a b c d f g h 
 }
 
 -- a row that was found is that of something that is there
-pub known : {A R V : Type 0} (of : V → R) (make : A → R) (found : Option V) (row : V) (o : Option A) → found ≡ Some row → option_map of found ≡ option_map make o → (a : A) × (o ≡ Some a) × (of row ≡ make a)
-known of make found row o is e = go o (sym (ap (option_map of) is) ∙ e)
+pub known : {A R : Type 0} (make : A → R) (found : Option R) (row : R) (o : Option A) → found ≡ Some row → found ≡ option_map make o → (a : A) × (o ≡ Some a) × (row ≡ make a)
+known make found row o is e = go o (sym is ∙ e)
   where
-    go : (o : Option _) → Some (of row) ≡ option_map make o → (a : _) × (o ≡ Some a) × (of row ≡ make a)
-    go None h = absurd (let k : Some (of row) ≡ None = h in cc)
-    go (Some a) h = (a, refl, (let k : Some (of row) ≡ Some (make a) = h in cc))
+    go : (o : Option _) → Some row ≡ option_map make o → (a : _) × (o ≡ Some a) × (row ≡ make a)
+    go None h = absurd (let k : Some row ≡ None = h in cc)
+    go (Some a) h = (a, refl, (let k : Some row ≡ Some (make a) = h in cc))
 
 -- ---- the commits
 
-pub day_becomes : (day : ℕ) (i : Institution) (m : MetaRecord) → IsSound (committed (SetDay day) i) → m.one ≡ 1 → m.schema ≡ 1 → string_bytes m.day ≡ day_text day → Becomes (PutMeta m ∷ []) i (committed (SetDay day) i)
+pub day_becomes : (day : ℕ) (i : Institution) (m : MetaRow) → IsSound (committed (SetDay day) i) → m.one ≡ 1 → m.schema ≡ 1 → m.day ≡ day_text day → Becomes (PutMeta m ∷ []) i (committed (SetDay day) i)
 day_becomes day i m sound one schema text = record {
   sound = sound;
   fits = (refl, tt);
   is = λ k. Some (record (tables_of i) { meta = put_item by_meta (record { one = one k; schema = schema k; day = text k }) (tables_of i).meta });
 }
 
-pub charge_becomes : (c : Charge) (i : Institution) (x : ChargeRecord) → IsSound (committed (AddCharge c.name c.kind c.calc c.value) i) → charge_of x ≡ charge_as (length i.catalogue.charges + 1) c
+pub charge_becomes : (c : Charge) (i : Institution) (x : ChargeRow) → IsSound (committed (AddCharge c.name c.kind c.calc c.value) i) → x ≡ charge_as (length i.catalogue.charges + 1) c
     → Becomes (PutCharge x ∷ []) i (committed (AddCharge c.name c.kind c.calc c.value) i)
 charge_becomes c i x sound is = record { sound = sound; fits = (refl, tt); is = λ k. Some (record (tables_of i) { charges = charges k }) }
   where
-    charges : put_item by_charge (charge_of x) (tables_of i).charges ≡ numbered_from charge_as 1 (i.catalogue.charges ++ c ∷ [])
+    charges : put_item by_charge x (tables_of i).charges ≡ numbered_from charge_as 1 (i.catalogue.charges ++ c ∷ [])
     charges = ap (λ r. put_item by_charge r (tables_of i).charges) is ∙ put_listed_last charge_as by_charge (λ n m a b. refl) c (length i.catalogue.charges + 1) 1 i.catalogue.charges (omega arith)
 
-pub product_becomes : (members : ProductMembers) (i : Institution) (x : ProductRecord) → IsSound (committed (AddProduct members) i) → product_of x ≡ product_as (length i.catalogue.products + 1) (record { members = members; retired = false })
+pub product_becomes : (members : ProductMembers) (i : Institution) (x : ProductRow) → IsSound (committed (AddProduct members) i) → x ≡ product_as (length i.catalogue.products + 1) (record { members = members; retired = false })
     → Becomes (write.AddProduct x ∷ []) i (committed (AddProduct members) i)
 product_becomes members i x sound is = record { sound = sound; fits = (refl, tt); is = λ k. Some (record (tables_of i) { products = products k }) }
   where
     new : Offer
     new = record { members = members; retired = false }
 
-    products : put_item by_product (product_of x) (tables_of i).products ≡ numbered_from product_as 1 (i.catalogue.products ++ new ∷ [])
+    products : put_item by_product x (tables_of i).products ≡ numbered_from product_as 1 (i.catalogue.products ++ new ∷ [])
     products = ap (λ r. put_item by_product r (tables_of i).products) is ∙ put_listed_last product_as by_product (λ n m a b. refl) new (length i.catalogue.products + 1) 1 i.catalogue.products (omega arith)
 
-pub retired_becomes : (n : ℕ) (p : Offer) (i : Institution) (x : ProductRecord) → IsSound (committed (RetireProduct n) i) → numbered i.catalogue.products n ≡ Some p → product_of x ≡ product_as n (record p { retired = true })
+pub retired_becomes : (n : ℕ) (p : Offer) (i : Institution) (x : ProductRow) → IsSound (committed (RetireProduct n) i) → numbered i.catalogue.products n ≡ Some p → x ≡ product_as n (record p { retired = true })
     → Becomes (PutProduct x ∷ []) i (committed (RetireProduct n) i)
 retired_becomes n p i x sound there is = record { sound = sound; fits = (refl, tt); is = λ k. Some (record (tables_of i) { products = products k }) }
   where
     change : Offer → Offer
     change o = record o { retired = true }
 
-    products : put_item by_product (product_of x) (tables_of i).products ≡ numbered_from product_as 1 (with_numbered n change i.catalogue.products)
+    products : put_item by_product x (tables_of i).products ≡ numbered_from product_as 1 (with_numbered n change i.catalogue.products)
     products = ap (λ r. put_item by_product r (tables_of i).products) is ∙ put_listed product_as by_product (λ n m a b. refl) change p n i.catalogue.products there

@@ -18,12 +18,12 @@ use Rattle.mf_model.specs.Desk.{staff_added, client_added}
 use Rattle.mf_model.specs.Sound.{IsSound}
 use Rattle.mf_model.specs.Store.{Commits, committed, rows_at}
 use Rattle.mf_model.specs.Tree.{parent_of, is_there, Above, Ascending}
-use Rattle.mf_store_records.specs.Rows.{OfficeRow, StaffRow, ClientRow, LoanRow, Lists, by_office, by_staff, by_client, by_loan}
+use Rattle.mf_store_records.specs.Rows.{Lists, by_office, by_staff, by_client, by_loan}
+use Rattle.mf_store_records.specs.declared.offices.OfficeRow.{OfficeRow}
+use Rattle.mf_store_records.specs.declared.staff.StaffRow.{StaffRow}
+use Rattle.mf_store_records.specs.declared.clients.ClientRow.{ClientRow}
+use Rattle.mf_store_records.specs.declared.loans.LoanRow.{LoanRow}
 use Rattle.mf_store.specs.Flat.{tables_of, office_under, office_row_at, staff_in, client_in, loan_in}
-use Rattle.mf_store_records.specs.Writes.{office_of, staff_of, client_of}
-use Rattle.mf_store_records.specs.declared.records.OfficeRecord.{OfficeRecord}
-use Rattle.mf_store_records.specs.declared.records.StaffRecord.{StaffRecord}
-use Rattle.mf_store_records.specs.declared.records.ClientRecord.{ClientRecord}
 use Rattle.mf_store_records.specs.declared.writes.StoreWrite.{StoreWrite}
 use Rattle.mf_store_records.specs.declared.writes.StoreWrite.TheVariants.{PutOffice, PutStaff, PutClient}
 use Rattle.mf_store.specs.Facts.{Kept}
@@ -96,7 +96,7 @@ under-with_rows ps x new (f ∷ fs) = ap (λ l. office_under ps f ∷ l) (under-
 pub offices-with_rows : (x : ℕ) (new : Rows) (fs : List Office) → map (office_under (parent_of fs)) fs ≡ map (office_under (parent_of (with_rows x new fs))) (with_rows x new fs)
 offices-with_rows x new fs = under-with_rows (parent_of fs) x new fs ∙ (λ k. map (office_under (λ y. sym (parent_of-with_rows x new fs y) k)) (with_rows x new fs))
 
-pub client_becomes : (x : ℕ) (name : List ℕ) (i : Institution) (c : ClientRecord) → IsSound i → IsSound (committed (AddClient x name) i) → is_there i.offices x ≡ true → client_of c ≡ client_in x (length (rows_at x i).clients + 1) name
+pub client_becomes : (x : ℕ) (name : List ℕ) (i : Institution) (c : ClientRow) → IsSound i → IsSound (committed (AddClient x name) i) → is_there i.offices x ≡ true → c ≡ client_in x (length (rows_at x i).clients + 1) name
     → Becomes (PutClient c ∷ []) i (committed (AddClient x name) i)
 client_becomes x name i c before sound there is = record {
   sound = sound;
@@ -109,8 +109,8 @@ client_becomes x name i c before sound there is = record {
     new : Rows
     new = client_added name (rows_at x i)
 
-pub staff_becomes : (x : ℕ) (name : List ℕ) (role : Role) (i : Institution) (s : StaffRecord) → IsSound i → IsSound (committed (AddStaff x name role) i) → is_there i.offices x ≡ true
-    → staff_of s ≡ staff_in x (length (rows_at x i).staff + 1) (record { name = name; role = role }) → Becomes (PutStaff s ∷ []) i (committed (AddStaff x name role) i)
+pub staff_becomes : (x : ℕ) (name : List ℕ) (role : Role) (i : Institution) (s : StaffRow) → IsSound i → IsSound (committed (AddStaff x name role) i) → is_there i.offices x ≡ true
+    → s ≡ staff_in x (length (rows_at x i).staff + 1) (record { name = name; role = role }) → Becomes (PutStaff s ∷ []) i (committed (AddStaff x name role) i)
 staff_becomes x name role i s before sound there is = record {
   sound = sound;
   fits = (refl, tt);
@@ -221,8 +221,8 @@ office_key_kept x parent name i before free y here =
     let new = new_office x parent name in
     key_kept 5 (parent_of fs) (parent_of (with_office new fs)) (is_there fs) (λ z p h e. before.tree.parents_there z p e) (λ z h. parent_of-with_office new fs z (apart x z fs free h)) y here
 
-pub office_becomes : (x parent : ℕ) (name key : List ℕ) (i : Institution) (o : OfficeRecord) → IsSound i → IsSound (committed (AddOffice x parent name) i) → ((j : Institution) → IsSound j → IsTreeOf (is_there j.offices) (parent_of j.offices))
-    → office_at x i.offices ≡ None → is_there i.offices parent ≡ true → key ≡ key_of (parent_of i.offices) parent → office_of o ≡ record { number = x; parent = Some parent; hkey = child_key key x; name = name }
+pub office_becomes : (x parent : ℕ) (name key : List ℕ) (i : Institution) (o : OfficeRow) → IsSound i → IsSound (committed (AddOffice x parent name) i) → ((j : Institution) → IsSound j → IsTreeOf (is_there j.offices) (parent_of j.offices))
+    → office_at x i.offices ≡ None → is_there i.offices parent ≡ true → key ≡ key_of (parent_of i.offices) parent → o ≡ record { number = x; parent = Some parent; hkey = child_key key x; name = name }
     → Becomes (PutOffice o ∷ []) i (committed (AddOffice x parent name) i)
 unfolding key_of
 office_becomes x parent name key i o before sound trees free there key_is is = record {
@@ -273,12 +273,12 @@ number_at x (e ∷ fs) f h = go (e.number == x) refl h (number_at x fs f)
     go true same h more = let k : Some e ≡ Some f = h in let is : e ≡ f = cc in ap (λ (o : Office). o.number) (sym is) ∙ (let n : e.number ≡ x = grind (arith, nat_tests) in n)
     go false same h more = more h
 
-pub office_known : (found : Option OfficeRecord) (o : OfficeRecord) (x : ℕ) (i : Institution) → found ≡ Some o → option_map office_of found ≡ office_row_at x i → (is_there i.offices x ≡ true) × (string_bytes o.hkey ≡ key_of (parent_of i.offices) x)
-office_known found o x i is h = go (office_at x i.offices) refl (sym (ap (option_map office_of) is) ∙ h)
+pub office_known : (found : Option OfficeRow) (o : OfficeRow) (x : ℕ) (i : Institution) → found ≡ Some o → found ≡ office_row_at x i → (is_there i.offices x ≡ true) × (o.hkey ≡ key_of (parent_of i.offices) x)
+office_known found o x i is h = go (office_at x i.offices) refl (sym is ∙ h)
   where
-    go : (at : Option Office) → office_at x i.offices ≡ at → Some (office_of o) ≡ option_map (office_under (parent_of i.offices)) at → (is_there i.offices x ≡ true) × (string_bytes o.hkey ≡ key_of (parent_of i.offices) x)
-    go None e h = absurd (let k : Some (office_of o) ≡ None = h in cc)
+    go : (at : Option Office) → office_at x i.offices ≡ at → Some o ≡ option_map (office_under (parent_of i.offices)) at → (is_there i.offices x ≡ true) × (o.hkey ≡ key_of (parent_of i.offices) x)
+    go None e h = absurd (let k : Some o ≡ None = h in cc)
     go (Some f) e h =
-        let k : Some (office_of o) ≡ Some (office_under (parent_of i.offices) f) = h in
-        let same : office_of o ≡ office_under (parent_of i.offices) f = cc in
+        let k : Some o ≡ Some (office_under (parent_of i.offices) f) = h in
+        let same : o ≡ office_under (parent_of i.offices) f = cc in
         (ap is_some e, ap (λ (r : OfficeRow). r.hkey) same ∙ ap (key_of (parent_of i.offices)) (number_at x i.offices f e))

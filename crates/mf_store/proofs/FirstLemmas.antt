@@ -11,19 +11,19 @@ use Rattle.mf_store_tables.specs.Writes.{Serves, AllFit, after_all, Turns}
 use Rattle.mf_model.specs.Institution.{newly_made}
 use Rattle.mf_model.specs.Sound.{IsSound}
 use Rattle.mf_store_records.specs.Writes.{schema_of, Holds, after, Fits}
-use Rattle.mf_store_records.specs.declared.records.MetaRecord.{MetaRecord}
-use Rattle.mf_store_records.specs.declared.records.OfficeRecord.{OfficeRecord}
-use Rattle.mf_store_records.specs.declared.records.StaffRecord.{StaffRecord}
+use Rattle.mf_store_records.specs.declared.meta.MetaRow.{MetaRow}
+use Rattle.mf_store_records.specs.declared.offices.OfficeRow.{OfficeRow}
+use Rattle.mf_store_records.specs.declared.staff.StaffRow.{StaffRow}
 use Rattle.mf_store_records.specs.declared.writes.StoreWrite.{StoreWrite}
 use Rattle.mf_store_records.specs.declared.writes.StoreWrite.TheVariants.{MakeTables, PutMeta, PutOffice, PutStaff}
 use Rattle.mf_store.specs.Stands.{IsTabled, Begins}
 
-first_list : MetaRecord → OfficeRecord → StaffRecord → List StoreWrite
+first_list : MetaRow → OfficeRow → StaffRow → List StoreWrite
 first_list m o s = MakeTables ∷ PutMeta m ∷ PutOffice o ∷ PutStaff s ∷ []
 
-pub begins : (writes : List StoreWrite) (day : ℕ) (m : MetaRecord) (o : OfficeRecord) (s : StaffRecord) → writes ≡ MakeTables ∷ PutMeta m ∷ PutOffice o ∷ PutStaff s ∷ []
-    → m.one ≡ 1 → m.schema ≡ 1 → string_bytes m.day ≡ day_text day → o.number ≡ 1 → o.parent ≡ None → string_bytes o.hkey ≡ codes "." → string_bytes o.name ≡ codes "Head Office"
-    → s.office ≡ 1 → s.number ≡ 1 → string_bytes s.name ≡ codes "Head Manager" → s.role ≡ 3 → Begins writes day
+pub begins : (writes : List StoreWrite) (day : ℕ) (m : MetaRow) (o : OfficeRow) (s : StaffRow) → writes ≡ MakeTables ∷ PutMeta m ∷ PutOffice o ∷ PutStaff s ∷ []
+    → m.one ≡ 1 → m.schema ≡ 1 → m.day ≡ day_text day → o.number ≡ 1 → o.parent ≡ None → o.hkey ≡ codes "." → o.name ≡ codes "Head Office"
+    → s.office ≡ 1 → s.number ≡ 1 → s.name ≡ codes "Head Manager" → s.role ≡ 3 → Begins writes day
 unfolding key_of key_within
 begins writes day m o s is one schema text number parent key head office staff manager role = subst (λ ws. Begins ws day) (sym is) (record {
   some = omega arith;

@@ -21,19 +21,16 @@ use Rattle.mf_model.specs.Loans.{status_of, lines_from, lines_above}
 use Rattle.mf_model.specs.Sound.{IsSound}
 use Rattle.mf_model.specs.Store.{committed, rows_at}
 use Rattle.mf_model.specs.Tree.{is_there}
-use Rattle.mf_store_records.specs.Rows.{LoanRow, by_staff, by_client, by_loan, loan_row}
+use Rattle.mf_store_records.specs.Rows.{by_staff, by_client, by_loan, loan_row}
+use Rattle.mf_store_records.specs.declared.loans.LoanRow.{LoanRow}
 use Rattle.mf_store_records.specs.Looks.{is_loan_of, is_loan_above}
 use Rattle.mf_store.specs.Flat.{tables_of, numbered_from, staff_in, client_in, loan_in, line_in, approval_text}
-use Rattle.mf_store_records.specs.Writes.{loan_of}
-use Rattle.mf_store_records.specs.declared.records.LoanRecord.{LoanRecord}
 use Rattle.mf_store_records.specs.declared.writes.StoreWrite.TheVariants as write
-use Rattle.mf_store.specs.Stands.{Becomes, Shows}
+use Rattle.mf_store.specs.Stands.{Becomes}
 use Rattle.mf_store.proofs.CatalogueLemmas.{amount_is}
 use Rattle.mf_store.proofs.CommitLemmas.{same_lists, offices-with_rows}
 use Rattle.mf_store.proofs.FlatLemmas.{put_row_of, put_over_of, same_rows_of}
 use Rattle.mf_store.proofs.OfficeRowsLemmas.{rows_in_office, take_whole}
-use Rattle.mf_store_records.proofs.ReadLemmas.{loans_above_shows}
-use Rattle.mf_store_records.proofs.Texts.{loans_above}
 
 -- ---- what a row is read as
 
@@ -56,7 +53,7 @@ stage_is apart Rejected (Approved b) e h = absurd (omega arith)
 stage_is apart Rejected Withdrawn e h = absurd (omega arith)
 stage_is apart Rejected Rejected e h = refl
 
-pub loan_is : (row : LoanRecord) (client principal : ℕ) (stage : Stage) (x n : ℕ) (l : Loan) → loan_of row ≡ loan_in x n l → client ≡ row.client → pos principal ≡ row.principal → ((s : Stage) → status_of s ≡ row.stage → approval_text s ≡ option_map string_bytes row.approved → stage ≡ s)
+pub loan_is : (row : LoanRow) (client principal : ℕ) (stage : Stage) (x n : ℕ) (l : Loan) → row ≡ loan_in x n l → client ≡ row.client → pos principal ≡ row.principal → ((s : Stage) → status_of s ≡ row.stage → approval_text s ≡ row.approved → stage ≡ s)
     → ◌≡◌ {A = Loan} (record { client = client; product = row.product; principal = principal; periods = row.periods; stage = stage }) l
 loan_is row client principal stage x n l e a b s = λ k. record {
   client = (a ∙ ap (λ (r : LoanRow). r.client) e) k;
@@ -66,7 +63,7 @@ loan_is row client principal stage x n l e a b s = λ k. record {
   stage = s l.stage (sym (ap (λ (r : LoanRow). r.stage) e)) (sym (ap (λ (r : LoanRow). r.approved) e)) k;
 }
 
-pub line_is : (row : LoanRecord) (office number status x n : ℕ) (l : Loan) → loan_of row ≡ loan_in x n l → office ≡ row.office → number ≡ row.number → status ≡ row.stage
+pub line_is : (row : LoanRow) (office number status x n : ℕ) (l : Loan) → row ≡ loan_in x n l → office ≡ row.office → number ≡ row.number → status ≡ row.stage
     → ◌≡◌ {A = LoanLine} (record { loan = record { office = office; number = number }; status = status }) (line_in x n l)
 line_is row office number status x n l e a b c = λ k. record {
   loan = record { office = (a ∙ ap (λ (r : LoanRow). r.office) e) k; number = (b ∙ ap (λ (r : LoanRow). r.number) e) k };
@@ -75,7 +72,7 @@ line_is row office number status x n l e a b c = λ k. record {
 
 -- ---- the commits
 
-pub loan_becomes : (x : ℕ) (l : Loan) (i : Institution) (r : LoanRecord) → IsSound i → IsSound (committed (AddLoan x l) i) → is_there i.offices x ≡ true → loan_of r ≡ loan_in x (length (rows_at x i).loans + 1) l → Becomes (write.AddLoan r ∷ []) i (committed (AddLoan x l) i)
+pub loan_becomes : (x : ℕ) (l : Loan) (i : Institution) (r : LoanRow) → IsSound i → IsSound (committed (AddLoan x l) i) → is_there i.offices x ≡ true → r ≡ loan_in x (length (rows_at x i).loans + 1) l → Becomes (write.AddLoan r ∷ []) i (committed (AddLoan x l) i)
 loan_becomes x l i r before sound there is = record {
   sound = sound;
   fits = (refl, tt);
@@ -87,8 +84,8 @@ loan_becomes x l i r before sound there is = record {
     new : Rows
     new = loan_added l (rows_at x i)
 
-pub staged_becomes : (account : Account) (stage : Stage) (l : Loan) (i : Institution) (r : LoanRecord) → IsSound i → IsSound (committed (SetStage account stage) i) → numbered (rows_at account.office i).loans account.number ≡ Some l
-    → loan_of r ≡ loan_in account.office account.number (record l { stage = stage }) → Becomes (write.PutLoan r ∷ []) i (committed (SetStage account stage) i)
+pub staged_becomes : (account : Account) (stage : Stage) (l : Loan) (i : Institution) (r : LoanRow) → IsSound i → IsSound (committed (SetStage account stage) i) → numbered (rows_at account.office i).loans account.number ≡ Some l
+    → r ≡ loan_in account.office account.number (record l { stage = stage }) → Becomes (write.PutLoan r ∷ []) i (committed (SetStage account stage) i)
 staged_becomes account stage l i r before sound there is = record {
   sound = sound;
   fits = (refl, tt);
@@ -144,10 +141,9 @@ above_dropped x after m (suc k) (l ∷ ls) e = let past : (is_eq (nat_cmp x x) &
 abbrev pub shown_loans : ℕ → List Loan → List (ℕ × Loan)
 shown_loans after ls = take 100 (drop after (counted 1 ls))
 
-pub above_shown : (x after : ℕ) (i : Institution) (rows : List Row) → IsSound i → Shows i loans_above (Int (pos x) ∷ Int (pos after) ∷ []) rows → rows ≡ map (λ (l : ℕ × Loan). loan_row (loan_in x l.0 l.1)) (shown_loans after (rows_at x i).loans)
-above_shown x after i rows sound s =
-    loans_above_shows x after s.db rows (tables_of i).loans s.serves.schema_is s.serves.holds.loans s.answers
-    ∙ ap (λ l. take 100 (map loan_row l)) (sym (filter-filter (is_loan_above x after) (is_loan_of x) (λ r h. (and_parts _ _ h).0) (tables_of i).loans)
+pub above_shown : (x after : ℕ) (i : Institution) → IsSound i → take 100 (map loan_row (filter (is_loan_above x after) (tables_of i).loans)) ≡ map (λ (l : ℕ × Loan). loan_row (loan_in x l.0 l.1)) (shown_loans after (rows_at x i).loans)
+above_shown x after i sound =
+    ap (λ l. take 100 (map loan_row l)) (sym (filter-filter (is_loan_above x after) (is_loan_of x) (λ r h. (and_parts _ _ h).0) (tables_of i).loans)
     ∙ ap (filter (is_loan_above x after)) (rows_in_office loan_in (λ rows. rows.loans) refl is_loan_of (λ x y m a. refl) x i.offices sound.tree.ascending) ∙ above_dropped x after 1 after loans (omega arith) ∙ ap (drop after) (rows_counted x 1 loans) ∙ drop_map row after (counted 1 loans))
     ∙ ap (take 100) (map_map loan_row row (drop after (counted 1 loans))) ∙ take_map (λ (l : ℕ × Loan). loan_row (loan_in x l.0 l.1)) 100 (drop after (counted 1 loans))
   where

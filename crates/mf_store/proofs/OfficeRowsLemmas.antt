@@ -11,15 +11,11 @@ use Rattle.mf_model.specs.Institution.{Institution, Office, Rows, Staff, office_
 use Rattle.mf_model.specs.Sound.{IsSound}
 use Rattle.mf_model.specs.Store.{rows_of, rows_at}
 use Rattle.mf_model.specs.Tree.{Above, Ascending}
-use Rattle.mf_store_records.specs.Rows.{StaffRow, staff_row, client_row, loan_row}
+use Rattle.mf_store_records.specs.Rows.{staff_row, client_row, loan_row}
+use Rattle.mf_store_records.specs.declared.staff.StaffRow.{StaffRow}
 use Rattle.mf_store_records.specs.Looks.{is_staff_of, is_client_of, is_loan_of}
 use Rattle.mf_store.specs.Flat.{numbered_from, all_rows, staff_in, client_in, loan_in, tables_of}
 use Rattle.mf_store_records.specs.Numbers.{role_number}
-use Rattle.mf_store.specs.Stands.{Shows}
-use Rattle.mf_store_records.specs.Writes.{staff_of}
-use Rattle.mf_store_records.specs.declared.records.StaffRecord.{StaffRecord}
-use Rattle.mf_store_records.proofs.Texts.{staff_of_office, clients_of_office, loans_of_office}
-use Rattle.mf_store_records.proofs.ReadLemmas.{staff_of_office_shows, clients_of_office_shows, loans_of_office_shows}
 
 -- ---- one office's rows among all
 
@@ -59,20 +55,14 @@ pub map_numbered : {A R : Type 0} (row : R → Row) (make : ℕ → A → R) (n 
 map_numbered row make n [] = refl
 map_numbered row make n (a ∷ xs) = ap (λ l. row (make n a) ∷ l) (map_numbered row make (n + 1) xs)
 
-pub staff_shown : (x : ℕ) (i : Institution) (rows : List Row) → IsSound i → Shows i staff_of_office (Int (pos x) ∷ []) rows → rows ≡ numbered_from (λ m s. staff_row (staff_in x m s)) 1 (rows_at x i).staff
-staff_shown x i rows sound s =
-    staff_of_office_shows x s.db rows (tables_of i).staff s.serves.schema_is s.serves.holds.staff s.answers
-    ∙ ap (map staff_row) (rows_in_office staff_in (λ rows. rows.staff) refl is_staff_of (λ x y m a. refl) x i.offices sound.tree.ascending) ∙ map_numbered staff_row (staff_in x) 1 (rows_at x i).staff
+pub staff_shown : (x : ℕ) (i : Institution) → IsSound i → map staff_row (filter (is_staff_of x) (tables_of i).staff) ≡ numbered_from (λ m s. staff_row (staff_in x m s)) 1 (rows_at x i).staff
+staff_shown x i sound = ap (map staff_row) (rows_in_office staff_in (λ rows. rows.staff) refl is_staff_of (λ x y m a. refl) x i.offices sound.tree.ascending) ∙ map_numbered staff_row (staff_in x) 1 (rows_at x i).staff
 
-pub clients_shown : (x : ℕ) (i : Institution) (rows : List Row) → IsSound i → Shows i clients_of_office (Int (pos x) ∷ []) rows → rows ≡ numbered_from (λ m name. client_row (client_in x m name)) 1 (rows_at x i).clients
-clients_shown x i rows sound s =
-    clients_of_office_shows x s.db rows (tables_of i).clients s.serves.schema_is s.serves.holds.clients s.answers
-    ∙ ap (map client_row) (rows_in_office client_in (λ rows. rows.clients) refl is_client_of (λ x y m a. refl) x i.offices sound.tree.ascending) ∙ map_numbered client_row (client_in x) 1 (rows_at x i).clients
+pub clients_shown : (x : ℕ) (i : Institution) → IsSound i → map client_row (filter (is_client_of x) (tables_of i).clients) ≡ numbered_from (λ m name. client_row (client_in x m name)) 1 (rows_at x i).clients
+clients_shown x i sound = ap (map client_row) (rows_in_office client_in (λ rows. rows.clients) refl is_client_of (λ x y m a. refl) x i.offices sound.tree.ascending) ∙ map_numbered client_row (client_in x) 1 (rows_at x i).clients
 
-pub loans_shown : (x : ℕ) (i : Institution) (rows : List Row) → IsSound i → Shows i loans_of_office (Int (pos x) ∷ []) rows → rows ≡ numbered_from (λ m l. loan_row (loan_in x m l)) 1 (rows_at x i).loans
-loans_shown x i rows sound s =
-    loans_of_office_shows x s.db rows (tables_of i).loans s.serves.schema_is s.serves.holds.loans s.answers
-    ∙ ap (map loan_row) (rows_in_office loan_in (λ rows. rows.loans) refl is_loan_of (λ x y m a. refl) x i.offices sound.tree.ascending) ∙ map_numbered loan_row (loan_in x) 1 (rows_at x i).loans
+pub loans_shown : (x : ℕ) (i : Institution) → IsSound i → map loan_row (filter (is_loan_of x) (tables_of i).loans) ≡ numbered_from (λ m l. loan_row (loan_in x m l)) 1 (rows_at x i).loans
+loans_shown x i sound = ap (map loan_row) (rows_in_office loan_in (λ rows. rows.loans) refl is_loan_of (λ x y m a. refl) x i.offices sound.tree.ascending) ∙ map_numbered loan_row (loan_in x) 1 (rows_at x i).loans
 
 -- ---- rows that are read in turn
 
@@ -116,5 +106,5 @@ role_is Manager Teller e = absurd (omega arith)
 role_is Manager Officer e = absurd (omega arith)
 role_is Manager Manager e = refl
 
-pub member_is : (found : StaffRecord) (name : List ℕ) (role : Role) (x n : ℕ) (s : Staff) → staff_of found ≡ staff_in x n s → name ≡ string_bytes found.name → role_number role ≡ found.role → ◌≡◌ {A = Staff} (record { name = name; role = role }) s
+pub member_is : (found : StaffRow) (name : List ℕ) (role : Role) (x n : ℕ) (s : Staff) → found ≡ staff_in x n s → name ≡ found.name → role_number role ≡ found.role → ◌≡◌ {A = Staff} (record { name = name; role = role }) s
 member_is found name role x n s e b d = λ k. record { name = (b ∙ ap (λ (r : StaffRow). r.name) e) k; role = role_is role s.role (d ∙ ap (λ (r : StaffRow). r.role) e) k }

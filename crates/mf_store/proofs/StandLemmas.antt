@@ -4,8 +4,6 @@ use Rattle.sqlite.specs.Tree.{Trees}
 use Rattle.sqlite.specs.Effect.{Database}
 use Rattle.sqlite.specs.State.{State, HasCleanDisk, Survives}
 use Rattle.sqlite.specs.Held.{Held, state}
-use Rattle.sqlite.specs.Listing.{understood}
-use Rattle.sqlite.proofs.Callers.{IsPlain}
 use Rattle.sqlite.specs.declared.error.Error.{Error}
 use Rattle.sqlite_trees.specs.declared.store.Store.{Ghosts}
 use Rattle.mf_base.specs.declared.fault.Fault.{Fault}
@@ -14,6 +12,7 @@ use Rattle.mf_store_tables.specs.Writes.{Serves, AllFit, after_all, Turns, IsSet
 use Rattle.mf_model.specs.Institution.{Institution}
 use Rattle.mf_store_records.specs.Tables.{schema}
 use Rattle.mf_store.specs.Flat.{tables_of}
+use Rattle.mf_store_records.specs.Calls.{IsUnchanged}
 use Rattle.mf_store_records.specs.Writes.{schema_of, Holds, after, Fits}
 use Rattle.mf_store_records.specs.declared.writes.StoreWrite.{StoreWrite}
 use Rattle.mf_store.specs.Stands.{IsTabled, HasGoodDisk, LeavesTables, StayTabled, Becomes}
@@ -39,11 +38,6 @@ module _ {A : Type 0} (answer : Result A Error) (r : Result A Fault) where
 
   pub on_err : (P : Type 0) → IfOk answer (λ x. r ≡ Ok x) → OnErr answer (r ≡ Err F20) → OnErr answer P → OnErr r P
   on_err P ok err h = cases ok err (λ x a b. subst (λ o. OnErr o P) (sym b) tt) (λ e a b. subst (λ o. OnErr o P) (sym b) (subst (λ o. OnErr o P) a h))
-
--- what holds where the store's own answer was Ok
-pub was_ok : {A : Type 0} (answer : Result A Error) (r : Result A Fault) (P : Type 0) {x : A} → IfOk answer (λ x. r ≡ Ok x) → OnErr answer (r ≡ Err F20) → r ≡ Ok x → OnOk answer P → P
-was_ok (Ok v) r P ok err is h = h
-was_ok (Err e) r P {x} ok err is h = absurd (let k : Ok x ≡ Err F20 = sym is ∙ err in cc)
 
 pub both_if_ok : {A E : Type 0} (r : Result A E) (P Q : A → Type 0) (O : Type 0) → IfOk r P → OnOk r O → ((x : A) → P x → O → Q x) → IfOk r Q
 both_if_ok (Ok x) P Q O h o f = f x h o
@@ -72,23 +66,16 @@ module _ {S : Type 0} (g : Ghosts S) where
     earlier : {P : Trees → Type 0} → Survives was is P → HasGoodDisk g new → HasGoodDisk g old
     earlier survives clean = omega (arith, survives.clean, clean)
 
-    plain_then : (sql : List ℕ) → IsPlain (understood schema sql) → was.now.schema ≡ schema → IsPlain (understood was.now.schema sql)
-    plain_then sql plain ours = subst (λ k. IsPlain (understood k sql)) (sym ours) plain
-
-    pub query_stays : (sql : List ℕ) → IsPlain (understood schema sql) → (HasCleanDisk is → IsTrue is.is_open → IsPlain (understood was.now.schema sql) → is.now ≡ was.now) → (HasCleanDisk is → IsTrue is.is_open → IsTrue was.is_open)
-        → Survives was is (λ _. IsTrue was.is_open × ¬ IsPlain (understood was.now.schema sql)) → StayTabled g old new
-    query_stays sql plain same was_open survives = record {
-      premise = earlier survives;
+    pub unchanged_stays : IsUnchanged was is → StayTabled g old new
+    unchanged_stays u = record {
+      premise = u.premise;
       same = λ clean i s. record {
         sound = s.sound;
-        serves = λ live. let before = s.serves (was_open clean live) in subst (λ d. Serves schema_of Holds d (Some (tables_of i))) (sym (same clean live (plain_then sql plain before.schema_is))) before;
+        serves = λ live. let before = s.serves (u.was_open clean live) in subst (λ d. Serves schema_of Holds d (Some (tables_of i))) (sym (u.same clean live before.schema_is)) before;
       };
       stop = λ clean left l. record {
-        ours = λ now live. let before = l.ours (earlier survives now) (was_open now live) in ap (λ (d : Database). d.schema) (same now live (plain_then sql plain before)) ∙ before;
-        whole = λ now trees may. elim (survives.crash now trees may) [
-          | inl before ↦ l.whole (earlier survives now) trees before
-          | inr wrote ↦ absurd (wrote.1 (plain_then sql plain (l.ours (earlier survives now) wrote.0)))
-        ];
+        ours = λ now live. let before = l.ours (u.premise now) (u.was_open now live) in ap (λ (d : Database). d.schema) (u.same now live before) ∙ before;
+        whole = λ now trees may. l.whole (u.premise now) trees (u.stop now (l.ours (u.premise now)) trees may);
       };
     }
 

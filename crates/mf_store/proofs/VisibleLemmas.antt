@@ -16,16 +16,12 @@ use Rattle.mf_office.proofs.KeyLemmas.{range_below}
 use Rattle.mf_model.specs.Institution.{Institution, Office, office_at, new_office}
 use Rattle.mf_model.specs.Tree.{parent_of, is_there, seen_by, seen_office}
 use Rattle.mf_model.specs.Sound.{IsSound}
-use Rattle.mf_store_records.specs.Rows.{OfficeRow, office_row}
+use Rattle.mf_store_records.specs.Rows.{office_row}
+use Rattle.mf_store_records.specs.declared.offices.OfficeRow.{OfficeRow}
 use Rattle.mf_store_records.specs.Looks.{is_in_range}
 use Rattle.mf_store.specs.Flat.{office_under, tables_of, key_at, sees, has_room}
 use Rattle.mf_office.specs.declared.office.Office.{Office as Shown}
 use Rattle.mf_model.specs.Desk.{line_of}
-use Rattle.mf_store_records.specs.Writes.{office_of}
-use Rattle.mf_store_records.specs.declared.records.OfficeRecord.{OfficeRecord}
-use Rattle.mf_store.specs.Stands.{Shows}
-use Rattle.mf_store_records.proofs.Texts.{offices_in}
-use Rattle.mf_store_records.proofs.ReadLemmas.{offices_in_shows}
 use Rattle.mf_store.proofs.CommitLemmas.{number_at, all_there}
 
 -- ---- ranges of texts
@@ -138,11 +134,11 @@ module _ (i : Institution) (sound : IsSound i) (tree : IsTreeOf (is_there i.offi
   filter_alike p q (f ∷ gs) all = rw (all.0, filter_alike p q gs all.1)
 
   -- the rows in the range of an office's text are those of the offices that it sees
-  pub rows_seen : (o : ℕ) → is_there fs o ≡ true → (rows : List Row) → Shows i offices_in (Text (key_of ps o) ∷ Text (raised (key_of ps o)) ∷ []) rows → rows ≡ map (λ f. office_row (office_under ps f)) (seen_by o fs)
-  rows_seen o there rows s =
+  pub rows_seen : (o : ℕ) → is_there fs o ≡ true → map office_row (filter (is_in_range (key_of ps o) (raised (key_of ps o))) (tables_of i).offices) ≡ map (λ f. office_row (office_under ps f)) (seen_by o fs)
+  rows_seen o there =
       let low = key_of ps o in
       let p = is_in_range low (raised low) in
-      offices_in_shows low (raised low) s.db rows (tables_of i).offices s.serves.schema_is s.serves.holds.offices s.answers ∙ ap (map office_row) (filter-map p (office_under ps) fs)
+      ap (map office_row) (filter-map p (office_under ps) fs)
       ∙ ap (λ l. map office_row (map (office_under ps) l)) (filter_alike (λ f. p (office_under ps f)) (λ f. is_at_or_below ps f.number o) fs
       (all_there fs fs (λ f. p (office_under ps f) ≡ is_at_or_below ps f.number o) sound.tree.ascending (λ f here. range_is low (raised low) (office_under ps f) ∙ range_tree o f.number there here)))
       ∙ Rattle.sqlite_keyed.proofs.ListLemmas.map-map office_row (office_under ps) (seen_by o fs)
@@ -170,15 +166,14 @@ module _ (i : Institution) (sound : IsSound i) (tree : IsTreeOf (is_there i.offi
       go None e h = absurd (let k : Some above ≡ None = h in cc)
       go (Some f) e h = let k : Some above ≡ Some (key_of ps f.number) = h in let same : above ≡ key_of ps f.number = cc in (ap is_some e, same ∙ ap (key_of ps) (number_at o fs f e))
 
-  pub offices_are : (o : ℕ) (found : Option (List ℕ)) (above low high : List ℕ) → found ≡ Some above → found ≡ key_at o i → low ≡ above → high ≡ raised above → (rows : List Row) → Shows i offices_in (Text low ∷ Text high ∷ []) rows
-      → rows ≡ map (λ f. office_row (office_under ps f)) (seen_by o fs)
-  offices_are o found above low high is are l h rows s =
+  pub offices_are : (o : ℕ) (found : Option (List ℕ)) (above low high : List ℕ) → found ≡ Some above → found ≡ key_at o i → low ≡ above → high ≡ raised above → map office_row (filter (is_in_range low high) (tables_of i).offices) ≡ map (λ f. office_row (office_under ps f)) (seen_by o fs)
+  offices_are o found above low high is are l h =
       let known = key_known o above (sym is ∙ are) in
-      rows_seen o known.0 rows (subst₂ (λ a b. Shows i offices_in (Text a ∷ Text b ∷ []) rows) (l ∙ known.1) (h ∙ ap raised known.1) s)
+      ap₂ (λ a b. map office_row (filter (is_in_range a b) (tables_of i).offices)) (l ∙ known.1) (h ∙ ap raised known.1) ∙ rows_seen o known.0
 
 -- ---- rows that are read into lines
 
-pub line_from : (found : OfficeRecord) (n : ℕ) (p : Option ℕ) (name : List ℕ) (ps : ℕ → Option ℕ) (f : Office) → office_of found ≡ office_under ps f → n ≡ found.number → p ≡ found.parent → name ≡ string_bytes found.name
+pub line_from : (found : OfficeRow) (n : ℕ) (p : Option ℕ) (name : List ℕ) (ps : ℕ → Option ℕ) (f : Office) → found ≡ office_under ps f → n ≡ found.number → p ≡ found.parent → name ≡ found.name
     → ◌≡◌ {A = Shown} (record { number = n; parent = p; name = name }) (line_of f)
 line_from found n p name ps f e a b d = λ k. record { number = (a ∙ ap (λ (r : OfficeRow). r.number) e) k; parent = (b ∙ ap (λ (r : OfficeRow). r.parent) e) k; name = (d ∙ ap (λ (r : OfficeRow). r.name) e) k }
 

@@ -10,7 +10,14 @@ use Rattle.mf_model.specs.declared.loan.Stage.{Stage}
 use Rattle.mf_model.specs.declared.loan.Stage.TheVariants.{Submitted, Approved, Withdrawn, Rejected}
 use Rattle.mf_model.specs.Store.{rows_at}
 use Rattle.mf_model.specs.Tree.{parent_of}
-use Rattle.mf_store_records.specs.Rows.{MetaRow, OfficeRow, StaffRow, ClientRow, ChargeRow, ProductRow, LoanRow, Lists}
+use Rattle.mf_store_records.specs.Rows.{Lists}
+use Rattle.mf_store_records.specs.declared.meta.MetaRow.{MetaRow}
+use Rattle.mf_store_records.specs.declared.offices.OfficeRow.{OfficeRow}
+use Rattle.mf_store_records.specs.declared.staff.StaffRow.{StaffRow}
+use Rattle.mf_store_records.specs.declared.clients.ClientRow.{ClientRow}
+use Rattle.mf_store_records.specs.declared.charges.ChargeRow.{ChargeRow}
+use Rattle.mf_store_records.specs.declared.products.ProductRow.{ProductRow}
+use Rattle.mf_store_records.specs.declared.loans.LoanRow.{LoanRow}
 use Rattle.mf_store_records.specs.Numbers.{role_number, kind_number, calc_number, method_number, frequency_number, strategy_number, flag_number}
 
 -- the number of the schema that these tables are

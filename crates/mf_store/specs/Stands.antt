@@ -4,9 +4,6 @@ use Rattle.sqlite.specs.Tree.{Trees}
 use Rattle.sqlite.specs.State.{HasCleanDisk}
 use Rattle.sqlite.specs.Held.{Held, state}
 use Rattle.sqlite_trees.specs.declared.store.Store.{Ghosts}
-use Rattle.sqlite.specs.Order.{Row}
-use Rattle.sqlite.specs.Effect.{Database}
-use Rattle.mf_store_tables.specs.Queries.{Answers}
 use Rattle.mf_store_tables.specs.Writes.{Serves, AllFit, after_all}
 use Rattle.mf_model.specs.Institution.{Institution, newly_made}
 use Rattle.mf_model.specs.Sound.{IsSound}
@@ -61,12 +58,6 @@ module _ {S : Type 0} (g : Ghosts S) where
     pub premise : IsClean new → IsClean old
     pub same : IsClean new → (i : Institution) → StandsFor old i → StandsFor new i
     pub stop : IsClean new → (is : List Institution) → Leaves old is → Leaves new is
-
--- the rows are those that the text shows of the institution's tables
-pub record Shows (i : Institution) (sql : List ℕ) (params : Row) (rows : List Row) : Type 0 where
-  pub db : Database
-  pub serves : Serves schema_of Holds db (Some (tables_of i))
-  pub answers : Answers sql params db rows
 
 -- the writes make the one sound institution's rows of the other's
 pub record Becomes (writes : List StoreWrite) (i j : Institution) : Type 0 where

@@ -6,7 +6,6 @@ ghost use Rattle.mf_model.specs.Institution.{Institution, Charge, Offer, charge_
 ghost use Rattle.mf_model.specs.Store.{Commits, catalogue_counts};
 ghost use Rattle.mf_model.specs.declared.commit.Commit.TheVariants.{SetDay, AddCharge, AddProduct, RetireProduct};
 ghost use Rattle.mf_store.specs.Flat.{charge_as, product_as};
-ghost use Rattle.mf_store_records.specs.Writes.{charge_of, product_of};
 
 use crate::counts::{Kind, MOST};
 use crate::known::News;
@@ -15,7 +14,7 @@ use mf_base::{Day, Fault, Name};
 use mf_catalog::{Calc, ChargeDef, ChargeKind, Product, ProductMembers};
 use mf_model::CatalogueCounts;
 use mf_store_records::{
-    ChargeRecord, MetaRecord, ProductRecord, StoreWrite, calc_from, flag_from, frequency_from,
+    ChargeRow, MetaRow, ProductRow, StoreWrite, Text, calc_from, flag_from, frequency_from,
     kind_from, method_from, number_of_calc, number_of_frequency, number_of_kind, number_of_method,
     number_of_strategy, signed, strategy_from, unsigned,
 };
@@ -23,8 +22,8 @@ use sqlite::Alter;
 use std::alloc::Global;
 
 /// The charge of a row.
-fn charge_from(row: ChargeRecord) -> Result<ChargeDef, Fault>
-    ensures charge { IfOk result (λ charge. (number : ℕ) (c : Charge) → charge_of row ≡ charge_as number c → charge ≡ charge_def number c) }
+fn charge_from(row: ChargeRow) -> Result<ChargeDef, Fault>
+    ensures charge { IfOk result (λ charge. (number : ℕ) (c : Charge) → row ≡ charge_as number c → charge ≡ charge_def number c) }
     ensures gives_up { IfErr result (λ fault. fault ≡ F20) }
 {
     let kind = kind_from(row.kind)?;
@@ -32,7 +31,7 @@ fn charge_from(row: ChargeRecord) -> Result<ChargeDef, Fault>
     let value = unsigned(row.value)?;
     Ok(ChargeDef {
         number: row.number,
-        name: Name::new(row.name),
+        name: row.name.into_name(),
         kind,
         calc,
         value,
@@ -46,14 +45,14 @@ fn charge_row(
     kind: ChargeKind,
     calc: Calc,
     value: u64,
-) -> Result<ChargeRecord, Fault>
-    ensures row { IfOk result (λ row. charge_of row ≡ charge_as number (record { name = name; kind = kind; calc = calc; value = value })) }
+) -> Result<ChargeRow, Fault>
+    ensures row { IfOk result (λ row. row ≡ charge_as number (record { name = name; kind = kind; calc = calc; value = value })) }
     ensures gives_up { IfErr result (λ fault. fault ≡ F20) }
 {
     let stored = signed(value)?;
-    Ok(ChargeRecord {
+    Ok(ChargeRow {
         number,
-        name: name.into_text(),
+        name: Text::of_name(name),
         kind: number_of_kind(kind),
         calc: number_of_calc(calc),
         value: stored,
@@ -61,8 +60,8 @@ fn charge_row(
 }
 
 /// The product of a row.
-fn product_from(row: ProductRecord) -> Result<Product, Fault>
-    ensures product { IfOk result (λ product. (number : ℕ) (p : Offer) → product_of row ≡ product_as number p → product ≡ product_numbered number p) }
+fn product_from(row: ProductRow) -> Result<Product, Fault>
+    ensures product { IfOk result (λ product. (number : ℕ) (p : Offer) → row ≡ product_as number p → product ≡ product_numbered number p) }
     ensures gives_up { IfErr result (λ fault. fault ≡ F20) }
 {
     let method = method_from(row.method)?;
@@ -74,7 +73,7 @@ fn product_from(row: ProductRecord) -> Result<Product, Fault>
     Ok(Product {
         number: row.number,
         members: ProductMembers {
-            name: Name::new(row.name),
+            name: row.name.into_name(),
             method,
             rate: row.rate,
             freq,
@@ -95,15 +94,15 @@ fn product_from(row: ProductRecord) -> Result<Product, Fault>
 }
 
 /// The row of a new product.
-fn product_row(number: u32, members: ProductMembers) -> Result<ProductRecord, Fault>
-    ensures row { IfOk result (λ row. product_of row ≡ product_as number (record { members = members; retired = false })) }
+fn product_row(number: u32, members: ProductMembers) -> Result<ProductRow, Fault>
+    ensures row { IfOk result (λ row. row ≡ product_as number (record { members = members; retired = false })) }
     ensures gives_up { IfErr result (λ fault. fault ≡ F20) }
 {
     let min_principal = signed(members.min_principal)?;
     let max_principal = signed(members.max_principal)?;
-    Ok(ProductRecord {
+    Ok(ProductRow {
         number,
-        name: members.name.into_text(),
+        name: Text::of_name(members.name),
         method: number_of_method(members.method),
         rate: members.rate,
         frequency: number_of_frequency(members.freq),
@@ -123,8 +122,8 @@ fn product_row(number: u32, members: ProductMembers) -> Result<ProductRecord, Fa
 }
 
 /// The row of the same product, retired.
-fn retired(row: ProductRecord) -> ProductRecord
-    ensures { product_of result ≡ record (product_of row) { retired = 1 } }
+fn retired(row: ProductRow) -> ProductRow
+    ensures { result ≡ record row { retired = 1 } }
 {
     let mut row = row;
     row.retired = 1;
@@ -199,10 +198,10 @@ impl<S: Alter> Store<S> {
         ensures { Commits (StandsFor S.Store) (IsClean S.Store) (Leaves S.Store) (SetDay day) self.old self.new result }
     {
         let text = day.text(alloc)?;
-        let meta = MetaRecord {
+        let meta = MetaRow {
             one: 1,
             schema: 1,
-            day: text,
+            day: Text::new(text),
         };
         self.make(&[StoreWrite::PutMeta(meta)], News::BusinessDay(day))
     }

@@ -14,7 +14,7 @@ use crate::store::Store;
 use mf_base::Fault;
 use mf_model::{Counts, tree_of_offices};
 use mf_office::{Name, OfficeNo, Role};
-use mf_store_records::{ClientRecord, OfficeRecord, StaffRecord, StoreWrite, number_of_role};
+use mf_store_records::{ClientRow, OfficeRow, StaffRow, StoreWrite, Text, number_of_role};
 use sqlite::Alter;
 use std::alloc::Global;
 
@@ -56,11 +56,11 @@ impl<S: Alter> Store<S> {
         };
         let above_key = above.hkey.as_str();
         let hkey = format!(in alloc; "{above_key}{number}.")?;
-        let office = OfficeRecord {
+        let office = OfficeRow {
             number,
             parent: Some(parent),
-            hkey,
-            name: name.into_text(),
+            hkey: Text::new(hkey),
+            name: Text::of_name(name),
         };
         self.make(&[StoreWrite::PutOffice(office)], News::Nothing)
     }
@@ -79,10 +79,10 @@ impl<S: Alter> Store<S> {
             return Err(Fault::F20);
         }
         let number = counts.staff + 1;
-        let staff = StaffRecord {
+        let staff = StaffRow {
             office,
             number,
-            name: name.into_text(),
+            name: Text::of_name(name),
             role: number_of_role(role),
         };
         let now = Counts {
@@ -110,10 +110,10 @@ impl<S: Alter> Store<S> {
             return Err(Fault::F20);
         }
         let number = counts.clients + 1;
-        let client = ClientRecord {
+        let client = ClientRow {
             office,
             number,
-            name: name.into_text(),
+            name: Text::of_name(name),
         };
         let now = Counts {
             staff: counts.staff,

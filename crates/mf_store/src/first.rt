@@ -13,7 +13,7 @@ ghost use Rattle.mf_store.specs.Stands.{StandsFor, IsClean, Leaves, Begins};
 use crate::store::Store;
 use mf_base::{Day, Fault};
 use mf_store_pages::PageStore;
-use mf_store_records::{MetaRecord, OfficeRecord, StaffRecord, StoreWrite};
+use mf_store_records::{MetaRow, OfficeRow, StaffRow, StoreWrite, Text};
 use std::alloc::Global;
 
 /// The tables, the business day, the head office and its manager.
@@ -21,21 +21,21 @@ pub(crate) fn first_writes(alloc: Global, day: Day) -> Result<Vec<StoreWrite>, F
     ensures writes { IfOk result (λ writes. Begins writes.items day) }
     ensures gives_up { IfErr result (λ fault. fault ≡ F20) }
 {
-    let meta = MetaRecord {
+    let meta = MetaRow {
         one: 1,
         schema: 1,
-        day: day.text(alloc)?,
+        day: Text::new(day.text(alloc)?),
     };
-    let head = OfficeRecord {
+    let head = OfficeRow {
         number: 1,
         parent: None,
-        hkey: String::from_str(alloc, ".")?,
-        name: String::from_str(alloc, "Head Office")?,
+        hkey: Text::new(String::from_str(alloc, ".")?),
+        name: Text::new(String::from_str(alloc, "Head Office")?),
     };
-    let manager = StaffRecord {
+    let manager = StaffRow {
         office: 1,
         number: 1,
-        name: String::from_str(alloc, "Head Manager")?,
+        name: Text::new(String::from_str(alloc, "Head Manager")?),
         role: 3,
     };
     let mut writes = Vec::new(alloc);

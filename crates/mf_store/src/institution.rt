@@ -66,7 +66,7 @@ impl<S: Alter> Store<S> {
     {
         match self.find_client(client.office.get(), client.number.get())? {
             None => Ok(None),
-            Some(record) => Ok(Some(Name::new(record.name))),
+            Some(record) => Ok(Some(record.name.into_name())),
         }
     }
 }

@@ -1,6 +1,6 @@
 //! Loans: by number, in lists, and the commits that change them.
 
-ghost use Rattle.std.specs.Prelude.{◌≡◌, ℕ, List, ◌∷◌, map, option_map, string_bytes, IfOk, IfErr};
+ghost use Rattle.std.specs.Prelude.{◌≡◌, ℕ, List, ◌∷◌, map, IfOk, IfErr};
 ghost use Rattle.mf_base.specs.declared.fault.Fault.TheVariants.{F20};
 ghost use Rattle.mf_model.specs.Institution.{Institution};
 ghost use Rattle.mf_model.specs.Loans.{status_of};
@@ -10,39 +10,38 @@ ghost use Rattle.mf_model.specs.declared.loan.Loan.{Loan as ModelLoan};
 ghost use Rattle.mf_model.specs.declared.loan.Stage.{Stage as ModelStage};
 ghost use Rattle.mf_store.specs.Flat.{loan_in, approval_text, line_in};
 ghost use Rattle.mf_store_records.specs.Rows.{loan_row as loan_stored};
-ghost use Rattle.mf_store_records.specs.Writes.{loan_of};
 
 use crate::counts::MOST;
 use crate::known::News;
-use crate::store::{Store, given_up};
+use crate::store::Store;
 use crate::visible::office_number;
 use mf_base::{Day, Fault, texts_of_days};
 use mf_model::{Counts, Loan, LoanLine, LoanList, Stage};
 use mf_office::{Account, AccountNo, OfficeNo};
-use mf_store_records::{LoanRecord, Record, StoreWrite, signed, unsigned};
-use sqlite::{Alter, Row, params};
+use mf_store_records::{LoanRow, StoreWrite, Text, read_row, signed, unsigned};
+use sqlite::{Alter, Row};
 use std::alloc::Global;
 
 /// The text of the day on which a loan was approved, where it stands approved.
-fn approval(alloc: Global, stage: Stage) -> Result<Option<String>, Fault>
-    ensures text { IfOk result (λ text. option_map string_bytes text ≡ approval_text stage) }
+fn approval(alloc: Global, stage: Stage) -> Result<Option<Text>, Fault>
+    ensures text { IfOk result (λ text. text ≡ approval_text stage) }
     ensures gives_up { IfErr result (λ fault. fault ≡ F20) }
 {
     match stage {
-        Stage::Approved(day) => Ok(Some(day.text(alloc)?)),
+        Stage::Approved(day) => Ok(Some(Text::new(day.text(alloc)?))),
         _ => Ok(None),
     }
 }
 
 /// The stage that a status number and a day of approval stand for.
-fn stage_from(status: u32, approved: Option<String>) -> Result<Stage, Fault>
-    ensures stage { IfOk result (λ stage. (s : ModelStage) → status_of s ≡ status → approval_text s ≡ option_map string_bytes approved → stage ≡ s) }
+fn stage_from(status: u32, approved: Option<Text>) -> Result<Stage, Fault>
+    ensures stage { IfOk result (λ stage. (s : ModelStage) → status_of s ≡ status → approval_text s ≡ approved → stage ≡ s) }
     ensures gives_up { IfErr result (λ fault. fault ≡ F20) }
 {
     texts_of_days();
     match (status, approved) {
         (100, None) => Ok(Stage::Submitted),
-        (200, Some(text)) => match Day::read(text.as_bytes()) {
+        (200, Some(text)) => match Day::read(text.as_str().as_bytes()) {
             Some(day) => Ok(Stage::Approved(day)),
             None => Err(Fault::F20),
         },
@@ -64,8 +63,8 @@ fn account_number(number: u32) -> Result<AccountNo, Fault>
 }
 
 /// The loan of a row.
-pub(crate) fn loan_from(row: LoanRecord) -> Result<Loan, Fault>
-    ensures loan { IfOk result (λ loan. (office number : ℕ) (l : ModelLoan) → loan_of row ≡ loan_in office number l → loan ≡ l) }
+pub(crate) fn loan_from(row: LoanRow) -> Result<Loan, Fault>
+    ensures loan { IfOk result (λ loan. (office number : ℕ) (l : ModelLoan) → row ≡ loan_in office number l → loan ≡ l) }
     ensures gives_up { IfErr result (λ fault. fault ≡ F20) }
 {
     let client = account_number(row.client)?;
@@ -81,13 +80,13 @@ pub(crate) fn loan_from(row: LoanRecord) -> Result<Loan, Fault>
 }
 
 /// The row of a loan.
-fn loan_row(alloc: Global, office: u32, number: u32, loan: Loan) -> Result<LoanRecord, Fault>
-    ensures row { IfOk result (λ row. loan_of row ≡ loan_in office number loan) }
+fn loan_row(alloc: Global, office: u32, number: u32, loan: Loan) -> Result<LoanRow, Fault>
+    ensures row { IfOk result (λ row. row ≡ loan_in office number loan) }
     ensures gives_up { IfErr result (λ fault. fault ≡ F20) }
 {
     let principal = signed(loan.principal)?;
     let approved = approval(alloc, loan.stage)?;
-    Ok(LoanRecord {
+    Ok(LoanRow {
         office,
         number,
         client: loan.client.get(),
@@ -101,13 +100,13 @@ fn loan_row(alloc: Global, office: u32, number: u32, loan: Loan) -> Result<LoanR
 }
 
 /// The row of the same loan, at another stage.
-fn staged(alloc: Global, row: &LoanRecord, stage: &Stage) -> Result<LoanRecord, Fault>
-    ensures row { IfOk result (λ new. (office number : ℕ) (l : ModelLoan) → loan_of row.now ≡ loan_in office number l → loan_of new ≡ loan_in office number (record l { stage = stage.now })) }
+fn staged(alloc: Global, row: &LoanRow, stage: &Stage) -> Result<LoanRow, Fault>
+    ensures row { IfOk result (λ new. (office number : ℕ) (l : ModelLoan) → row.now ≡ loan_in office number l → new ≡ loan_in office number (record l { stage = stage.now })) }
     ensures gives_up { IfErr result (λ fault. fault ≡ F20) }
 {
     let status = stage.status() as u32;
     let approved = approval(alloc, *stage)?;
-    Ok(LoanRecord {
+    Ok(LoanRow {
         office: row.office,
         number: row.number,
         client: row.client,
@@ -136,7 +135,7 @@ fn line_from(row: &Row) -> Result<LoanLine, Fault>
     ensures line { IfOk result (λ line. (office number : ℕ) (l : ModelLoan) → row.now ≡ loan_stored (loan_in office number l) → line ≡ line_in office number l) }
     ensures gives_up { IfErr result (λ fault. fault ≡ F20) }
 {
-    let found = given_up(LoanRecord::read(row))?;
+    let found = read_row::<LoanRow>(row)?;
     let office = office_number(found.office)?;
     let number = account_number(found.number)?;
     let status = status_from(found.stage)?;
@@ -185,10 +184,7 @@ impl<S: Alter> Store<S> {
         ensures gives_up { IfErr result (λ fault. fault ≡ F20) }
         ensures value { IsClean S.Store self.new → (i : Institution) → StandsFor S.Store self.old i → IfOk result (λ list. list ≡ loans_at office after i) }
     {
-        let rows = self.rows(
-            "SELECT office, number, client, product, principal, periods, stage, approved, disbursed FROM loans WHERE office = ?1 AND number > ?2 ORDER BY office, number LIMIT 100",
-            params![office.get(), after],
-        )?;
+        let rows = self.rows_above(office.get(), after)?;
         lines_from(alloc, &rows)
     }
 

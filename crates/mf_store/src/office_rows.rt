@@ -9,12 +9,12 @@ ghost use Rattle.mf_store_records.specs.Rows.{staff_row, client_row, loan_row};
 ghost use Rattle.mf_store.specs.Flat.{staff_in, client_in, loan_in, numbered_from};
 
 use crate::loans::loan_from;
-use crate::store::{Store, given_up};
+use crate::store::Store;
 use mf_base::Fault;
 use mf_model::Loan;
 use mf_office::{Name, OfficeNo, Role};
-use mf_store_records::{ClientRecord, LoanRecord, Record, StaffRecord, role_from};
-use sqlite::{Alter, Row, params};
+use mf_store_records::{ClientRow, LoanRow, StaffRow, read_row, role_from};
+use sqlite::{Alter, Row};
 use std::alloc::Global;
 use std::marker::Model;
 
@@ -77,10 +77,10 @@ fn member_from(row: &Row) -> Result<StaffMember, Fault>
     ensures member { IfOk result (λ member. (office number : ℕ) (s : Staff) → row.now ≡ staff_row (staff_in office number s) → member ≡ s) }
     ensures gives_up { IfErr result (λ fault. fault ≡ F20) }
 {
-    let found = given_up(StaffRecord::read(row))?;
+    let found = read_row::<StaffRow>(row)?;
     let role = role_from(found.role)?;
     Ok(StaffMember {
-        name: Name::new(found.name),
+        name: found.name.into_name(),
         role,
     })
 }
@@ -102,8 +102,8 @@ fn name_from(row: &Row) -> Result<Name, Fault>
     ensures name { IfOk result (λ found. (office number : ℕ) (name : List ℕ) → row.now ≡ client_row (client_in office number name) → found ≡ name) }
     ensures gives_up { IfErr result (λ fault. fault ≡ F20) }
 {
-    let found = given_up(ClientRecord::read(row))?;
-    Ok(Name::new(found.name))
+    let found = read_row::<ClientRow>(row)?;
+    Ok(found.name.into_name())
 }
 
 /// The names of the rows, in order.
@@ -123,7 +123,7 @@ fn loan_in_row(row: &Row) -> Result<Loan, Fault>
     ensures loan { IfOk result (λ found. (office number : ℕ) (l : ModelLoan) → row.now ≡ loan_row (loan_in office number l) → found ≡ l) }
     ensures gives_up { IfErr result (λ fault. fault ≡ F20) }
 {
-    let found = given_up(LoanRecord::read(row))?;
+    let found = read_row::<LoanRow>(row)?;
     loan_from(found)
 }
 
@@ -162,10 +162,7 @@ impl<S: Alter> Store<S> {
         ensures gives_up { IfErr result (λ fault. fault ≡ F20) }
         ensures value { IsClean S.Store self.new → (i : Institution) → StandsFor S.Store self.old i → IfOk result (λ list. list.items ≡ (rows_at office i).staff) }
     {
-        let rows = self.rows(
-            "SELECT office, number, name, role FROM staff WHERE office = ?1 ORDER BY office, number",
-            params![office],
-        )?;
+        let rows = self.list::<StaffRow>(office)?;
         staff_from(alloc, &rows)
     }
 
@@ -175,10 +172,7 @@ impl<S: Alter> Store<S> {
         ensures gives_up { IfErr result (λ fault. fault ≡ F20) }
         ensures value { IsClean S.Store self.new → (i : Institution) → StandsFor S.Store self.old i → IfOk result (λ list. list.items ≡ (rows_at office i).clients) }
     {
-        let rows = self.rows(
-            "SELECT office, number, name FROM clients WHERE office = ?1 ORDER BY office, number",
-            params![office],
-        )?;
+        let rows = self.list::<ClientRow>(office)?;
         names_from(alloc, &rows)
     }
 
@@ -188,10 +182,7 @@ impl<S: Alter> Store<S> {
         ensures gives_up { IfErr result (λ fault. fault ≡ F20) }
         ensures value { IsClean S.Store self.new → (i : Institution) → StandsFor S.Store self.old i → IfOk result (λ list. list.items ≡ (rows_at office i).loans) }
     {
-        let rows = self.rows(
-            "SELECT office, number, client, product, principal, periods, stage, approved, disbursed FROM loans WHERE office = ?1 ORDER BY office, number",
-            params![office],
-        )?;
+        let rows = self.list::<LoanRow>(office)?;
         loans_from(alloc, &rows)
     }
 

@@ -1,19 +1,17 @@
-ghost use Rattle.std.specs.Prelude.{◌≡◌, ◌<◌, ◌≤◌, List, [], ◌∷◌, length, true, false, Some, None, IsTrue, OnOk, OnErr, IfOk, IfErr, IfSome};
+ghost use Rattle.std.specs.Prelude.{◌≡◌, ◌<◌, ◌≤◌, List, [], ◌∷◌, length, true, false, Some, None, IsTrue, OnOk, OnErr, IfOk, IfErr, IfSome, map, filter, find, take};
 ghost use Rattle.mf_base.specs.declared.fault.Fault.TheVariants.{F20};
-ghost use Rattle.sqlite.specs.Given.{IsPlain};
-ghost use Rattle.sqlite.specs.Listing.{understood};
-ghost use Rattle.sqlite.specs.Values.{bound};
 ghost use Rattle.mf_base.specs.DayText.{last_entered_day};
 ghost use Rattle.sqlite.specs.Held.{state};
 ghost use Rattle.mf_store_tables.specs.Writes.{Serves};
 ghost use Rattle.mf_model.specs.Institution.{Institution, newly_made, product_in};
 ghost use Rattle.mf_model.specs.Store.{counts_at, catalogue_counts, role_of};
 ghost use Rattle.mf_model.specs.Tree.{is_there};
-ghost use Rattle.mf_store.specs.Flat.{key_at};
+ghost use Rattle.mf_store.specs.Flat.{key_at, tables_of};
+ghost use Rattle.mf_store_records.specs.Looks.{is_loan_above, is_in_range};
+ghost use Rattle.mf_store_records.specs.Rows.{loan_row, office_row};
 ghost use Rattle.mf_store_records.specs.Writes.{schema_of, Holds};
-ghost use Rattle.mf_store_records.specs.Tables.{schema};
 ghost use Rattle.mf_store.specs.Learning.{Tells};
-ghost use Rattle.mf_store.specs.Stands.{IsTabled, HasGoodDisk, LeavesTables, StayTabled, StandsFor, IsClean, Leaves, Stays, Shows, Becomes};
+ghost use Rattle.mf_store.specs.Stands.{IsTabled, HasGoodDisk, LeavesTables, StandsFor, IsClean, Leaves, Stays, Becomes};
 
 use crate::first::first_writes;
 use crate::known::{Known, News};
@@ -21,10 +19,11 @@ use mf_base::{Day, Fault};
 use mf_catalog::Product;
 use mf_model::{CatalogueCounts, Counts, soundness};
 use mf_office::{Caller, Key, Role};
-use mf_store_records::StoreWrite;
-use mf_store_tables::{apply, query};
+use mf_store_records::{
+    Listed, StoreWrite, Table, find_row, list_rows, loans_above, offices_within,
+};
+use mf_store_tables::apply;
 use sqlite::{Alter, Connection, Error, Row};
-use sqlite_value::value::ValueRef;
 use std::alloc::Global;
 use std::marker::Model;
 
@@ -49,7 +48,7 @@ impl<S: Alter> Model for Store<S> {
 }
 
 /// What the store could not do is F20, whatever the cause.
-pub(crate) fn given_up<T>(answer: Result<T, Error>) -> Result<T, Fault>
+fn given_up<T>(answer: Result<T, Error>) -> Result<T, Fault>
     ensures ok { IfOk answer (λ x. result ≡ Ok x) }
     ensures err { OnErr answer (result ≡ Err Fault.F20) }
 {
@@ -57,22 +56,6 @@ pub(crate) fn given_up<T>(answer: Result<T, Error>) -> Result<T, Fault>
         Ok(x) => Ok(x),
         Err(_) => Err(Fault::F20),
     }
-}
-
-/// The rows that a query shows.
-fn ask<S: Alter>(
-    connection: &mut Connection<S>,
-    sql: &str,
-    params: &[ValueRef<'_>],
-) -> Result<Vec<Row>, Fault>
-    requires alone { connection.old.in_transaction ≡ false }
-    requires plain { IsPlain (understood schema sql.now) }
-    ensures kept { StayTabled S.Store connection.old connection.new }
-    ensures gives_up { IfErr result (λ fault. fault ≡ F20) }
-    ensures shows { HasGoodDisk S.Store connection.new → (i : Institution) → IsTabled S.Store connection.old i → IfOk result (λ rows. Shows i sql.now (bound params.now) rows.items) }
-    ensures mode { connection.new.in_transaction ≡ false }
-{
-    given_up(query(connection, sql, params))
 }
 
 /// Makes the writes in one commit, or none.
@@ -91,14 +74,40 @@ fn write<S: Alter>(connection: &mut Connection<S>, writes: &[StoreWrite]) -> Res
 }
 
 impl<S: Alter> Store<S> {
-    /// The rows that a query shows.
-    pub(crate) fn rows(&mut self, sql: &str, params: &[ValueRef<'_>]) -> Result<Vec<Row>, Fault>
-        requires { IsPlain (understood schema sql.now) }
+    /// The row under a key, if there is one.
+    pub(crate) fn find<T: Table>(&mut self, key: T::Key) -> Result<Option<T>, Fault>
         ensures kept { Stays S.Store self.old self.new }
         ensures gives_up { IfErr result (λ fault. fault ≡ F20) }
-        ensures shows { IsClean S.Store self.new → (i : Institution) → StandsFor S.Store self.old i → IfOk result (λ rows. Shows i sql.now (bound params.now) rows.items) }
+        ensures row { IsClean S.Store self.new → (i : Institution) → StandsFor S.Store self.old i → IfOk result (λ x. x ≡ find (T.is_at key) (T.list (tables_of i))) }
     {
-        ask(&mut self.connection, sql, params)
+        find_row(&mut self.connection, key)
+    }
+
+    /// The rows with these values of the first columns.
+    pub(crate) fn list<T: Listed>(&mut self, part: T::Part) -> Result<Vec<Row>, Fault>
+        ensures kept { Stays S.Store self.old self.new }
+        ensures gives_up { IfErr result (λ fault. fault ≡ F20) }
+        ensures rows { IsClean S.Store self.new → (i : Institution) → StandsFor S.Store self.old i → IfOk result (λ rows. rows.items ≡ map T.Table.stored (filter (T.is_in part) (T.Table.list (tables_of i)))) }
+    {
+        list_rows::<T, S>(&mut self.connection, part)
+    }
+
+    /// The first 100 rows of an office's loans under numbers above one.
+    pub(crate) fn rows_above(&mut self, office: u32, after: u32) -> Result<Vec<Row>, Fault>
+        ensures kept { Stays S.Store self.old self.new }
+        ensures gives_up { IfErr result (λ fault. fault ≡ F20) }
+        ensures rows { IsClean S.Store self.new → (i : Institution) → StandsFor S.Store self.old i → IfOk result (λ rows. rows.items ≡ take 100 (map loan_row (filter (is_loan_above office after) (tables_of i).loans))) }
+    {
+        loans_above(&mut self.connection, office, after)
+    }
+
+    /// The rows of the offices whose hierarchy text is in a range.
+    pub(crate) fn rows_within(&mut self, low: &str, high: &str) -> Result<Vec<Row>, Fault>
+        ensures kept { Stays S.Store self.old self.new }
+        ensures gives_up { IfErr result (λ fault. fault ≡ F20) }
+        ensures rows { IsClean S.Store self.new → (i : Institution) → StandsFor S.Store self.old i → IfOk result (λ rows. rows.items ≡ map office_row (filter (is_in_range low.now high.now) (tables_of i).offices)) }
+    {
+        offices_within(&mut self.connection, low, high)
     }
 
     /// A new institution where there are no tables yet.

@@ -9,12 +9,12 @@ ghost use Rattle.mf_model.specs.Desk.{line_of};
 ghost use Rattle.mf_store.specs.Flat.{key_at, office_under, sees, has_room};
 ghost use Rattle.mf_store_records.specs.Rows.{office_row};
 
-use crate::store::{Store, given_up};
+use crate::store::Store;
 use mf_base::Fault;
 use mf_model::{OfficeList, tree_of_offices};
-use mf_office::{Key, Name, Office, OfficeNo, depth_by_key, in_range};
-use mf_store_records::{OfficeRecord, Record};
-use sqlite::{Alter, Row, params};
+use mf_office::{Key, Office, OfficeNo, depth_by_key, in_range};
+use mf_store_records::{OfficeRow, read_row};
+use sqlite::{Alter, Row};
 use std::alloc::Global;
 
 /// The number of an office, as each number in the tables is.
@@ -44,13 +44,13 @@ fn office_from(row: &Row) -> Result<Office, Fault>
     ensures office { IfOk result (λ office. (parents : ℕ → Option ℕ) (f : ModelOffice) → row.now ≡ office_row (office_under parents f) → office ≡ line_of f) }
     ensures gives_up { IfErr result (λ fault. fault ≡ F20) }
 {
-    let found = given_up(OfficeRecord::read(row))?;
+    let found = read_row::<OfficeRow>(row)?;
     let number = office_number(found.number)?;
     let parent = parent_number(found.parent)?;
     Ok(Office {
         number,
         parent,
-        name: Name::new(found.name),
+        name: found.name.into_name(),
     })
 }
 
@@ -103,7 +103,7 @@ impl<S: Alter> Store<S> {
         let Some(office) = self.find_office(number)? else {
             return Ok(None);
         };
-        match Key::from_text(office.hkey) {
+        match Key::from_text(office.hkey.into_string()) {
             Some(key) => Ok(Some(key)),
             None => Err(Fault::F20),
         }
@@ -164,10 +164,7 @@ impl<S: Alter> Store<S> {
             return Ok(OfficeList::new(Vec::new(alloc)));
         };
         let (low, high) = above.range(alloc)?;
-        let rows = self.rows(
-            "SELECT number, parent, hkey, name FROM offices WHERE hkey >= ?1 AND hkey < ?2 ORDER BY number",
-            params![&low, &high],
-        )?;
+        let rows = self.rows_within(low.as_str(), high.as_str())?;
         offices_from(alloc, &rows)
     }
 }

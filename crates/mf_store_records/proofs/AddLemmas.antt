@@ -18,7 +18,13 @@ use Rattle.mf_store_tables.proofs.CompareLemmas.{equals_back, and_true, key_step
 use Rattle.mf_store_tables.proofs.KeptLemmas.{Spares}
 use Rattle.mf_store_tables.proofs.InsertLemmas.{inserts_kept}
 use Rattle.mf_store_records.specs.Tables.{schema, offices, staff, clients, charges, products, loans}
-use Rattle.mf_store_records.specs.Rows.{OfficeRow, by_office, office_row, StaffRow, by_staff, staff_row, ClientRow, by_client, client_row, ChargeRow, by_charge, charge_row, ProductRow, by_product, product_row, LoanRow, by_loan, loan_row}
+use Rattle.mf_store_records.specs.Rows.{by_office, office_row, by_staff, staff_row, by_client, client_row, by_charge, charge_row, by_product, product_row, by_loan, loan_row}
+use Rattle.mf_store_records.specs.declared.offices.OfficeRow.{OfficeRow}
+use Rattle.mf_store_records.specs.declared.staff.StaffRow.{StaffRow}
+use Rattle.mf_store_records.specs.declared.clients.ClientRow.{ClientRow}
+use Rattle.mf_store_records.specs.declared.charges.ChargeRow.{ChargeRow}
+use Rattle.mf_store_records.specs.declared.products.ProductRow.{ProductRow}
+use Rattle.mf_store_records.specs.declared.loans.LoanRow.{LoanRow}
 use Rattle.mf_store_records.proofs.TableLemmas.{by_office_total, by_staff_total, by_client_total, by_charge_total, by_product_total, by_loan_total}
 
 -- ---- offices

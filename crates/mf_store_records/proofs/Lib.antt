@@ -3,3 +3,4 @@ pub mod TableLemmas
 pub mod AddLemmas
 pub mod ReadLemmas
 pub mod PutLemmas
+pub mod CallLemmas

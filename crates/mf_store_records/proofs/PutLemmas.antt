@@ -11,7 +11,14 @@ use Rattle.mf_store_tables.proofs.KeepLemmas.{keeps_none}
 use Rattle.mf_store_tables.proofs.KeptLemmas.{Spares}
 use Rattle.mf_store_tables.proofs.MakeLemmas.{makes_one}
 use Rattle.mf_store_records.specs.Tables.{schema}
-use Rattle.mf_store_records.specs.Rows.{MetaRow, OfficeRow, StaffRow, ClientRow, ChargeRow, ProductRow, LoanRow, Lists, no_rows, meta_row, office_row, staff_row, client_row, charge_row, product_row, loan_row, by_meta, by_office, by_staff, by_client, by_charge, by_product, by_loan, put_meta, put_office, put_staff, put_client, put_charge, put_product, put_loan}
+use Rattle.mf_store_records.specs.Rows.{Lists, no_rows, meta_row, office_row, staff_row, client_row, charge_row, product_row, loan_row, by_meta, by_office, by_staff, by_client, by_charge, by_product, by_loan, put_meta, put_office, put_staff, put_client, put_charge, put_product, put_loan}
+use Rattle.mf_store_records.specs.declared.meta.MetaRow.{MetaRow}
+use Rattle.mf_store_records.specs.declared.offices.OfficeRow.{OfficeRow}
+use Rattle.mf_store_records.specs.declared.staff.StaffRow.{StaffRow}
+use Rattle.mf_store_records.specs.declared.clients.ClientRow.{ClientRow}
+use Rattle.mf_store_records.specs.declared.charges.ChargeRow.{ChargeRow}
+use Rattle.mf_store_records.specs.declared.products.ProductRow.{ProductRow}
+use Rattle.mf_store_records.specs.declared.loans.LoanRow.{LoanRow}
 use Rattle.mf_store_records.specs.Writes.{changed, schema_of, Holds, Making, Putting}
 use Rattle.mf_store_records.proofs.Texts.{create_meta, create_offices, create_staff, create_clients, create_charges, create_products, create_loans, defines_meta, defines_offices, defines_staff, defines_clients, defines_charges, defines_products, defines_loans, made_is, upsert_meta, upsert_product, upsert_loan}
 use Rattle.mf_store_records.proofs.AddLemmas.{insert_office, insert_staff, insert_client, insert_charge, insert_product, insert_loan, adds_office, adds_staff, adds_client, adds_charge, adds_product, adds_loan}

@@ -12,7 +12,14 @@ use Rattle.mf_store_tables.proofs.CompareLemmas.{equals_back, and_true, or_false
 use Rattle.mf_store_tables.proofs.KeptLemmas.{Spares}
 use Rattle.mf_store_tables.proofs.UpsertLemmas.{upserts_kept}
 use Rattle.mf_store_records.specs.Tables.{schema, meta, offices, staff, clients, charges, products, loans}
-use Rattle.mf_store_records.specs.Rows.{MetaRow, by_meta, meta_row, OfficeRow, by_office, office_row, StaffRow, by_staff, staff_row, ClientRow, by_client, client_row, ChargeRow, by_charge, charge_row, ProductRow, by_product, product_row, LoanRow, by_loan, loan_row}
+use Rattle.mf_store_records.specs.Rows.{by_meta, meta_row, by_office, office_row, by_staff, staff_row, by_client, client_row, by_charge, charge_row, by_product, product_row, by_loan, loan_row}
+use Rattle.mf_store_records.specs.declared.meta.MetaRow.{MetaRow}
+use Rattle.mf_store_records.specs.declared.offices.OfficeRow.{OfficeRow}
+use Rattle.mf_store_records.specs.declared.staff.StaffRow.{StaffRow}
+use Rattle.mf_store_records.specs.declared.clients.ClientRow.{ClientRow}
+use Rattle.mf_store_records.specs.declared.charges.ChargeRow.{ChargeRow}
+use Rattle.mf_store_records.specs.declared.products.ProductRow.{ProductRow}
+use Rattle.mf_store_records.specs.declared.loans.LoanRow.{LoanRow}
 use Rattle.mf_store_records.proofs.Texts.{upsert_meta, upsert_meta_is, upsert_meta_plain, upsert_product, upsert_product_is, upsert_product_plain, upsert_loan, upsert_loan_is, upsert_loan_plain}
 
 -- ---- meta

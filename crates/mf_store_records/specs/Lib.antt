@@ -3,3 +3,4 @@ pub mod Rows
 pub mod Looks
 pub mod Numbers
 pub mod Writes
+pub mod Calls

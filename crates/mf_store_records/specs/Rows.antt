@@ -6,12 +6,13 @@ use Rattle.sqlite.specs.declared.types.Value.TheVariants.{Int, Text as Words}
 use Rattle.sqlite.specs.Order.{Row}
 use Rattle.mf_store_tables.specs.Values.{or_null, or_text}
 use Rattle.mf_store_tables.specs.Keep.{put_item}
-
--- the one row of what the file is: its schema's number and the business day
-pub record MetaRow : Type 0 where
-  pub one : ℕ
-  pub schema : ℕ
-  pub day : List ℕ
+use Rattle.mf_store_records.specs.declared.meta.MetaRow.{MetaRow}
+use Rattle.mf_store_records.specs.declared.offices.OfficeRow.{OfficeRow}
+use Rattle.mf_store_records.specs.declared.staff.StaffRow.{StaffRow}
+use Rattle.mf_store_records.specs.declared.clients.ClientRow.{ClientRow}
+use Rattle.mf_store_records.specs.declared.charges.ChargeRow.{ChargeRow}
+use Rattle.mf_store_records.specs.declared.products.ProductRow.{ProductRow}
+use Rattle.mf_store_records.specs.declared.loans.LoanRow.{LoanRow}
 
 abbrev pub by_meta : MetaRow → MetaRow → Ordering
 by_meta a b = nat_cmp a.one b.one
@@ -19,25 +20,11 @@ by_meta a b = nat_cmp a.one b.one
 abbrev pub meta_row : MetaRow → Row
 meta_row x = Int (pos x.one) ∷ Int (pos x.schema) ∷ Words x.day ∷ []
 
--- an office, with its hierarchy text
-pub record OfficeRow : Type 0 where
-  pub number : ℕ
-  pub parent : Option ℕ
-  pub hkey : List ℕ
-  pub name : List ℕ
-
 abbrev pub by_office : OfficeRow → OfficeRow → Ordering
 by_office a b = nat_cmp a.number b.number
 
 abbrev pub office_row : OfficeRow → Row
 office_row x = Int (pos x.number) ∷ or_null x.parent ∷ Words x.hkey ∷ Words x.name ∷ []
-
--- a member of staff
-pub record StaffRow : Type 0 where
-  pub office : ℕ
-  pub number : ℕ
-  pub name : List ℕ
-  pub role : ℕ
 
 abbrev pub by_staff : StaffRow → StaffRow → Ordering
 by_staff a b = ordering_then (nat_cmp a.office b.office) (nat_cmp a.number b.number)
@@ -45,25 +32,11 @@ by_staff a b = ordering_then (nat_cmp a.office b.office) (nat_cmp a.number b.num
 abbrev pub staff_row : StaffRow → Row
 staff_row x = Int (pos x.office) ∷ Int (pos x.number) ∷ Words x.name ∷ Int (pos x.role) ∷ []
 
--- a client
-pub record ClientRow : Type 0 where
-  pub office : ℕ
-  pub number : ℕ
-  pub name : List ℕ
-
 abbrev pub by_client : ClientRow → ClientRow → Ordering
 by_client a b = ordering_then (nat_cmp a.office b.office) (nat_cmp a.number b.number)
 
 abbrev pub client_row : ClientRow → Row
 client_row x = Int (pos x.office) ∷ Int (pos x.number) ∷ Words x.name ∷ []
-
--- a charge of the catalogue; an amount is a signed number, as the columns of SQL are
-pub record ChargeRow : Type 0 where
-  pub number : ℕ
-  pub name : List ℕ
-  pub kind : ℕ
-  pub calc : ℕ
-  pub value : ℤ
 
 abbrev pub by_charge : ChargeRow → ChargeRow → Ordering
 by_charge a b = nat_cmp a.number b.number
@@ -71,43 +44,11 @@ by_charge a b = nat_cmp a.number b.number
 abbrev pub charge_row : ChargeRow → Row
 charge_row x = Int (pos x.number) ∷ Words x.name ∷ Int (pos x.kind) ∷ Int (pos x.calc) ∷ Int x.value ∷ []
 
--- a product of the catalogue
-pub record ProductRow : Type 0 where
-  pub number : ℕ
-  pub name : List ℕ
-  pub method : ℕ
-  pub rate : ℕ
-  pub frequency : ℕ
-  pub every : ℕ
-  pub principal_grace : ℕ
-  pub interest_grace : ℕ
-  pub min_principal : ℤ
-  pub max_principal : ℤ
-  pub min_periods : ℕ
-  pub max_periods : ℕ
-  pub strategy : ℕ
-  pub disbursement_charge : Option ℕ
-  pub instalment_charge : Option ℕ
-  pub overdue_charge : Option ℕ
-  pub retired : ℕ
-
 abbrev pub by_product : ProductRow → ProductRow → Ordering
 by_product a b = nat_cmp a.number b.number
 
 abbrev pub product_row : ProductRow → Row
 product_row x = Int (pos x.number) ∷ Words x.name ∷ Int (pos x.method) ∷ Int (pos x.rate) ∷ Int (pos x.frequency) ∷ Int (pos x.every) ∷ Int (pos x.principal_grace) ∷ Int (pos x.interest_grace) ∷ Int x.min_principal ∷ Int x.max_principal ∷ Int (pos x.min_periods) ∷ Int (pos x.max_periods) ∷ Int (pos x.strategy) ∷ or_null x.disbursement_charge ∷ or_null x.instalment_charge ∷ or_null x.overdue_charge ∷ Int (pos x.retired) ∷ []
-
--- a loan of an office
-pub record LoanRow : Type 0 where
-  pub office : ℕ
-  pub number : ℕ
-  pub client : ℕ
-  pub product : ℕ
-  pub principal : ℤ
-  pub periods : ℕ
-  pub stage : ℕ
-  pub approved : Option (List ℕ)
-  pub disbursed : Option (List ℕ)
 
 abbrev pub by_loan : LoanRow → LoanRow → Ordering
 by_loan a b = ordering_then (nat_cmp a.office b.office) (nat_cmp a.number b.number)

@@ -1,5 +1,5 @@
 -- The lists that the tables keep, and what each write makes of them. Before the tables are made there is none.
-use Rattle.std.specs.Prelude.{◌≡◌, Option, Some, None, IsSome, option_map, string_bytes}
+use Rattle.std.specs.Prelude.{◌≡◌, Option, Some, None, IsSome}
 use Rattle.sqlite.specs.Schema.{Schema}
 use Rattle.sqlite.specs.Tree.{Trees}
 use Rattle.sqlite_catalog.specs.Listing.{IsSound}
@@ -8,37 +8,16 @@ use Rattle.sqlite.specs.State.{State}
 use Rattle.mf_store_tables.specs.Tables.{no_schema}
 use Rattle.mf_store_tables.specs.Writes.{Serves, Steps}
 use Rattle.mf_store_records.specs.Tables.{schema}
-use Rattle.mf_store_records.specs.Rows.{MetaRow, OfficeRow, StaffRow, ClientRow, ChargeRow, ProductRow, LoanRow, Lists, no_rows, meta_row, office_row, staff_row, client_row, charge_row, product_row, loan_row, by_meta, by_office, by_staff, by_client, by_charge, by_product, by_loan, put_meta, put_office, put_staff, put_client, put_charge, put_product, put_loan}
-use Rattle.mf_store_records.specs.declared.records.MetaRecord.{MetaRecord}
-use Rattle.mf_store_records.specs.declared.records.OfficeRecord.{OfficeRecord}
-use Rattle.mf_store_records.specs.declared.records.StaffRecord.{StaffRecord}
-use Rattle.mf_store_records.specs.declared.records.ClientRecord.{ClientRecord}
-use Rattle.mf_store_records.specs.declared.records.ChargeRecord.{ChargeRecord}
-use Rattle.mf_store_records.specs.declared.records.ProductRecord.{ProductRecord}
-use Rattle.mf_store_records.specs.declared.records.LoanRecord.{LoanRecord}
+use Rattle.mf_store_records.specs.Rows.{Lists, no_rows, meta_row, office_row, staff_row, client_row, charge_row, product_row, loan_row, by_meta, by_office, by_staff, by_client, by_charge, by_product, by_loan, put_meta, put_office, put_staff, put_client, put_charge, put_product, put_loan}
+use Rattle.mf_store_records.specs.declared.meta.MetaRow.{MetaRow}
+use Rattle.mf_store_records.specs.declared.offices.OfficeRow.{OfficeRow}
+use Rattle.mf_store_records.specs.declared.staff.StaffRow.{StaffRow}
+use Rattle.mf_store_records.specs.declared.clients.ClientRow.{ClientRow}
+use Rattle.mf_store_records.specs.declared.charges.ChargeRow.{ChargeRow}
+use Rattle.mf_store_records.specs.declared.products.ProductRow.{ProductRow}
+use Rattle.mf_store_records.specs.declared.loans.LoanRow.{LoanRow}
 use Rattle.mf_store_records.specs.declared.writes.StoreWrite.{StoreWrite}
 use Rattle.mf_store_records.specs.declared.writes.StoreWrite.TheVariants.{MakeTables, PutMeta, PutOffice, PutStaff, PutClient, PutCharge, AddProduct, PutProduct, AddLoan, PutLoan}
-
-abbrev pub meta_of : MetaRecord → MetaRow
-meta_of x = record { one = x.one; schema = x.schema; day = string_bytes x.day }
-
-abbrev pub office_of : OfficeRecord → OfficeRow
-office_of x = record { number = x.number; parent = x.parent; hkey = string_bytes x.hkey; name = string_bytes x.name }
-
-abbrev pub staff_of : StaffRecord → StaffRow
-staff_of x = record { office = x.office; number = x.number; name = string_bytes x.name; role = x.role }
-
-abbrev pub client_of : ClientRecord → ClientRow
-client_of x = record { office = x.office; number = x.number; name = string_bytes x.name }
-
-abbrev pub charge_of : ChargeRecord → ChargeRow
-charge_of x = record { number = x.number; name = string_bytes x.name; kind = x.kind; calc = x.calc; value = x.value }
-
-abbrev pub product_of : ProductRecord → ProductRow
-product_of x = record { number = x.number; name = string_bytes x.name; method = x.method; rate = x.rate; frequency = x.frequency; every = x.every; principal_grace = x.principal_grace; interest_grace = x.interest_grace; min_principal = x.min_principal; max_principal = x.max_principal; min_periods = x.min_periods; max_periods = x.max_periods; strategy = x.strategy; disbursement_charge = x.disbursement_charge; instalment_charge = x.instalment_charge; overdue_charge = x.overdue_charge; retired = x.retired }
-
-abbrev pub loan_of : LoanRecord → LoanRow
-loan_of x = record { office = x.office; number = x.number; client = x.client; product = x.product; principal = x.principal; periods = x.periods; stage = x.stage; approved = option_map string_bytes x.approved; disbursed = option_map string_bytes x.disbursed }
 
 -- the trees list the schema and obey it, and keep these lists
 pub record HoldsLists (trees : Trees) (lists : Lists) : Type 0 where
@@ -65,15 +44,15 @@ changed change (Some lists) = Some (change lists)
 
 abbrev pub after : StoreWrite → Option Lists → Option Lists
 after MakeTables lists = Some no_rows
-after (PutMeta x) lists = changed (put_meta (meta_of x)) lists
-after (PutOffice x) lists = changed (put_office (office_of x)) lists
-after (PutStaff x) lists = changed (put_staff (staff_of x)) lists
-after (PutClient x) lists = changed (put_client (client_of x)) lists
-after (PutCharge x) lists = changed (put_charge (charge_of x)) lists
-after (AddProduct x) lists = changed (put_product (product_of x)) lists
-after (PutProduct x) lists = changed (put_product (product_of x)) lists
-after (AddLoan x) lists = changed (put_loan (loan_of x)) lists
-after (PutLoan x) lists = changed (put_loan (loan_of x)) lists
+after (PutMeta x) lists = changed (put_meta x) lists
+after (PutOffice x) lists = changed (put_office x) lists
+after (PutStaff x) lists = changed (put_staff x) lists
+after (PutClient x) lists = changed (put_client x) lists
+after (PutCharge x) lists = changed (put_charge x) lists
+after (AddProduct x) lists = changed (put_product x) lists
+after (PutProduct x) lists = changed (put_product x) lists
+after (AddLoan x) lists = changed (put_loan x) lists
+after (PutLoan x) lists = changed (put_loan x) lists
 
 -- tables are made where there is none, and rows are put where there are
 abbrev pub Fits : StoreWrite → Option Lists → Type 0

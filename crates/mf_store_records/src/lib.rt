@@ -3,17 +3,30 @@
 //! Contracts speak of the lists of rows that the tables keep. What institution these are is left to the crate above.
 #![tactic(auto)]
 
+mod charges;
+mod clients;
+mod loans;
+mod meta;
 mod numbers;
-mod records;
+mod offices;
+mod products;
+mod staff;
+mod table;
+mod text;
 mod writes;
 
+pub use charges::ChargeRow;
+pub use clients::ClientRow;
+pub use loans::{LoanRow, loans_above};
+pub use meta::MetaRow;
 pub use numbers::{
     calc_from, flag_from, frequency_from, kind_from, method_from, number_of_calc,
     number_of_frequency, number_of_kind, number_of_method, number_of_role, number_of_strategy,
     role_from, signed, strategy_from, unsigned,
 };
-pub use records::{
-    ChargeRecord, ClientRecord, LoanRecord, MetaRecord, OfficeRecord, ProductRecord, Record,
-    StaffRecord, first,
-};
+pub use offices::{OfficeRow, offices_within};
+pub use products::ProductRow;
+pub use staff::StaffRow;
+pub use table::{Columns, Listed, Table, find_row, list_rows, read_row};
+pub use text::Text;
 pub use writes::StoreWrite;

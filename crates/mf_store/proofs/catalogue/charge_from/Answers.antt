@@ -8,4 +8,4 @@ use Rattle.mf_store.proofs.catalogue.charge_from.Goals as goal
 pub returns-clause-charge : goal.returns-clause-charge
 returns-clause-charge c number k are =
     let fits : SFits w64 c.args.row.value = search rules in
-    charge_is c.args.row c.new.result c.in_ok-kind.kind c.in_ok-calc.calc c.in_ok-value.value number k are c.new.ensures c.in_ok-kind.ensures.kind c.in_ok-calc.ensures.calc (c.in_ok-value.ensures.amount ∙ to_z-of_z w64 c.args.row.value fits)
+    charge_is c.args.row c.into_name.result c.in_ok-kind.kind c.in_ok-calc.calc c.in_ok-value.value number k are c.into_name.ensures c.in_ok-kind.ensures.kind c.in_ok-calc.ensures.calc (c.in_ok-value.ensures.amount ∙ to_z-of_z w64 c.args.row.value fits)

@@ -10,7 +10,7 @@ returns-clause-row c =
     let most : SFits w64 c.in_ok-max_principal.max_principal = search rules in
     λ k. record {
       number = c.args.number;
-      name = c.into_text.ensures k;
+      name = c.of_name.ensures k;
       method = c.number_of_method.ensures k;
       rate = c.args.members.rate;
       frequency = c.number_of_frequency.ensures k;

@@ -2,7 +2,7 @@ use Rattle.std.proofs.Common.{None, ap, ◌∙◌, rules}
 use Rattle.std.proofs.lemmas.Int.{to_z-of_z}
 use mir.Syntax.{w64}
 use mir.Val.{SFits}
-use Rattle.mf_store_records.specs.Rows.{LoanRow}
+use Rattle.mf_store_records.specs.declared.loans.LoanRow.{LoanRow}
 use Rattle.mf_store.proofs.loans.staged.Goals as goal
 
 pub returns-clause-row : goal.returns-clause-row

@@ -3,7 +3,7 @@ use Rattle.mf_model.specs.declared.commit.Commit.TheVariants.{AddClient}
 use Rattle.mf_model.specs.Store.{rows_at}
 use Rattle.mf_model.specs.declared.store.Counts.{Counts}
 use Rattle.mf_model.specs.Tree.{is_there}
-use Rattle.mf_store_records.specs.declared.records.ClientRecord.{ClientRecord}
+use Rattle.mf_store_records.specs.declared.clients.ClientRow.{ClientRow}
 use Rattle.mf_store_records.specs.declared.writes.StoreWrite.TheVariants.{PutClient}
 use Rattle.mf_store.proofs.CommitLemmas.{made_by, client_becomes, same_client}
 use Rattle.mf_store.proofs.KeptLemmas.{stays_then}
@@ -16,7 +16,7 @@ returns g c =
     let old = c.args.self.now in
     let first = c.has_office.new.self in
     let mid = c.counts_of.new.self in
-    let client : ClientRecord = record { office = c.get-office.result; number = c.in_ok-counts.counts.clients + 1; name = c.into_text.result } in
+    let client : ClientRow = record { office = c.get-office.result; number = c.in_ok-counts.counts.clients + 1; name = c.of_name.result } in
     let there : c.in_ok-there.there ≡ true = search rules in
     let known = c.in_ok-counts.counts in
     made_by g.S.Store (AddClient c.args.office c.args.name) old mid c.make.new.self (PutClient client ∷ []) (OfficeCounts c.get-office.result (record { staff = known.staff; clients = known.clients + 1; loans = known.loans })) c.make.result (stays_then g.S.Store old first mid c.in_ok-there.ensures.kept c.in_ok-counts.ensures.kept)
@@ -24,8 +24,8 @@ returns g c =
     let here = ap (is_there i.offices) (sym c.get-office.ensures.value) ∙ sym (c.in_ok-there.ensures.value before i s) ∙ there in
     let counts = c.in_ok-counts.ensures.value clean i (c.in_ok-there.ensures.kept.same before i s) in (
       client_becomes c.args.office c.args.name i client s.sound sound here
-          (same_client c.get-office.result c.args.office known.clients (length (rows_at c.args.office i).clients) (string_bytes c.into_text.result) c.args.name c.get-office.ensures.value
-          (ap (λ (k : Counts). k.clients) counts ∙ ap (λ x. length (rows_at x i).clients) c.get-office.ensures.value) c.into_text.ensures),
+          (same_client c.get-office.result c.args.office known.clients (length (rows_at c.args.office i).clients) c.of_name.result c.args.name c.get-office.ensures.value
+          (ap (λ (k : Counts). k.clients) counts ∙ ap (λ x. length (rows_at x i).clients) c.get-office.ensures.value) c.of_name.ensures),
       client_tells c.get-office.result c.args.office c.args.name i known c.get-office.ensures.value here counts,
     ))
     c.make.ensures.premise c.make.ensures.gives_up c.make.ensures.made c.make.ensures.left c.make.ensures.same c.make.ensures.stop

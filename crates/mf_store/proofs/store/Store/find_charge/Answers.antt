@@ -1,19 +1,7 @@
-use Rattle.std.proofs.Common.{◌≡◌, ◌∙◌, List, map, slice_get}
-use Rattle.std.specs.Option.{option_map}
-use Rattle.mf_store.specs.Flat.{charge_row_at}
-use Rattle.mf_store_records.specs.Rows.{ChargeRow, charge_row}
-use Rattle.mf_store_records.specs.Writes.{charge_of}
-use Rattle.mf_store.proofs.LookLemmas.{charge_found}
-use Rattle.mf_store.proofs.StandLemmas.{if_ok, weaker_if_ok}
-use Rattle.mf_store_records.proofs.Texts.{find_charge_plain}
+use Rattle.std.proofs.Common.{◌∙◌}
+use Rattle.mf_store.proofs.LookLemmas.{charge_by_key}
+use Rattle.mf_store.proofs.StandLemmas.{weaker_if_ok}
 use Rattle.mf_store.proofs.store.Store.find_charge.Goals as goal
 
-pub rows-requires : goal.rows-requires
-rows-requires g c = find_charge_plain
-
 pub returns-clause-value : goal.returns-clause-value
-returns-clause-value g c clean i s =
-    let shown = rw (c.params-to_sql.ensures) at (c.in_ok-rows.ensures.shows clean i s) in
-    if_ok c.first.result c.given_up.result (λ x. option_map charge_of x ≡ charge_row_at c.args.number i) c.given_up.ensures.ok c.given_up.ensures.err
-    (weaker_if_ok c.first.result (λ x. (rs : List ChargeRow) → c.deref.result.now ≡ map charge_row rs → option_map charge_of x ≡ slice_get rs 0) (λ x. option_map charge_of x ≡ charge_row_at c.args.number i)
-    (λ x reads. charge_found charge_of c.args.number i c.in_ok-rows.rows.items x shown (λ rs are. reads rs (c.deref.ensures.value ∙ are))) c.first.ensures)
+returns-clause-value g c clean i s = weaker_if_ok c.find.result _ _ (λ x is. is ∙ charge_by_key c.args.number i) (c.find.ensures.row clean i s)

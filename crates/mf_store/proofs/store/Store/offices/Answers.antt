@@ -5,12 +5,8 @@ use Rattle.mf_model.specs.Desk.{line_of}
 use Rattle.mf_store_records.specs.Rows.{office_row}
 use Rattle.mf_store.specs.Flat.{key_at, office_under}
 use Rattle.mf_store.proofs.StandLemmas.{weaker_if_ok}
-use Rattle.mf_store_records.proofs.Texts.{offices_in_plain}
 use Rattle.mf_store.proofs.VisibleLemmas.{none_seen, offices_are}
 use Rattle.mf_store.proofs.store.Store.offices.Goals as goal
-
-pub rows-requires : goal.rows-requires
-rows-requires g c = offices_in_plain
 
 pub returns-in_default-clause-value : goal.returns-in_default-clause-value
 returns-in_default-clause-value g c clean i s =
@@ -20,8 +16,8 @@ returns-in_default-clause-value g c clean i s =
 pub returns-clause-value : goal.returns-clause-value
 returns-clause-value g c clean i s =
     let before = c.in_ok-rows.ensures.kept.premise clean in
-    let shown = rw (c.params-to_sql.ensures, c.params-to_sql-2.ensures) at (c.in_ok-rows.ensures.shows clean i (c.in_ok-found.ensures.kept.same before i s)) in
+    let shown = c.in_ok-rows.ensures.rows clean i (c.in_ok-found.ensures.kept.same before i s) in
     let found = c.in_ok-found.ensures.value before i s ∙ ap (λ x. key_at x i) c.get.ensures.value in
-    let rows = offices_are i s.sound (c.tree_of_offices.ensures i s.sound) c.args.to c.in_ok-found.found c.in-Some.above (string_bytes c.in_ok-low.low) (string_bytes c.in_ok-low.high) c.in-Some.is found c.in_ok-low.ensures.low c.in_ok-low.ensures.high c.in_ok-rows.rows.items shown in
+    let rows = offices_are i s.sound (c.tree_of_offices.ensures i s.sound) c.args.to c.in_ok-found.found c.in-Some.above c.as_str.result.now c.as_str-2.result.now c.in-Some.is found (c.as_str.ensures.value ∙ c.in_ok-low.ensures.low) (c.as_str-2.ensures.value ∙ c.in_ok-low.ensures.high) in
     weaker_if_ok c.offices_from.result (λ list. (parents : ℕ → Option ℕ) (fs : List Office) → c.deref.result.now ≡ map (λ f. office_row (office_under parents f)) fs → list ≡ map line_of fs) (λ list. list ≡ map line_of (seen_by c.args.to i.offices))
-    (λ list h. h (parent_of i.offices) (seen_by c.args.to i.offices) (c.deref.ensures.value ∙ rows)) c.offices_from.ensures.offices
+    (λ list h. h (parent_of i.offices) (seen_by c.args.to i.offices) (c.deref.ensures.value ∙ shown ∙ rows)) c.offices_from.ensures.offices

@@ -2,8 +2,7 @@ use Rattle.std.proofs.Common.{[], ◌∷◌, ap, ◌∙◌}
 use Rattle.mf_model.specs.Institution.{numbered}
 use Rattle.mf_model.specs.declared.commit.Commit.TheVariants.{RetireProduct}
 use Rattle.mf_store.specs.Flat.{product_as}
-use Rattle.mf_store_records.specs.Rows.{ProductRow}
-use Rattle.mf_store_records.specs.Writes.{product_of}
+use Rattle.mf_store_records.specs.declared.products.ProductRow.{ProductRow}
 use Rattle.mf_store_records.specs.declared.writes.StoreWrite.TheVariants.{PutProduct}
 use Rattle.mf_store.proofs.CatalogueLemmas.{known, retired_becomes}
 use Rattle.mf_store.proofs.CommitLemmas.{made_by}
@@ -14,6 +13,6 @@ use Rattle.mf_store.proofs.store.Store.retire_product.Goals as goal
 pub returns : goal.returns
 returns g c =
     made_by g.S.Store (RetireProduct c.args.product) c.args.self.now c.find_product.new.self c.make.new.self (PutProduct c.retired-row.result ∷ []) Retirement c.make.result c.in_ok-found.ensures.kept
-    (λ clean i s sound. let k = known product_of (product_as c.args.product) c.in_ok-found.field-0 c.in-Some.found (numbered i.catalogue.products c.args.product) c.in-Some.is (c.in_ok-found.ensures.value clean i s) in
+    (λ clean i s sound. let k = known (product_as c.args.product) c.in_ok-found.field-0 c.in-Some.found (numbered i.catalogue.products c.args.product) c.in-Some.is (c.in_ok-found.ensures.value clean i s) in
     (retired_becomes c.args.product k.0 i c.retired-row.result sound k.1 (c.retired-row.ensures ∙ ap (λ (r : ProductRow). record r { retired = 1 }) k.2), retired_tells c.args.product i))
     c.make.ensures.premise c.make.ensures.gives_up c.make.ensures.made c.make.ensures.left c.make.ensures.same c.make.ensures.stop

@@ -1,6 +1,6 @@
-use Rattle.std.proofs.Common.{[], ◌∷◌, refl}
+use Rattle.std.proofs.Common.{[], ◌∷◌, refl, ◌∙◌}
 use Rattle.mf_model.specs.declared.commit.Commit.TheVariants.{SetDay}
-use Rattle.mf_store_records.specs.declared.records.MetaRecord.{MetaRecord}
+use Rattle.mf_store_records.specs.declared.meta.MetaRow.{MetaRow}
 use Rattle.mf_store_records.specs.declared.writes.StoreWrite.TheVariants.{PutMeta}
 use Rattle.mf_store.proofs.CatalogueLemmas.{day_becomes}
 use Rattle.mf_store.proofs.CommitLemmas.{made_by}
@@ -12,6 +12,6 @@ use Rattle.mf_store.proofs.store.Store.set_day.Goals as goal
 pub returns : goal.returns
 returns g c =
     let old = c.args.self.now in
-    let meta : MetaRecord = record { one = 1; schema = 1; day = c.in_ok-text.text } in
-    made_by g.S.Store (SetDay c.args.day) old old c.make.new.self (PutMeta meta ∷ []) (BusinessDay c.args.day) c.make.result (stays_same g.S.Store old) (λ clean i s sound. (day_becomes c.args.day i meta sound refl refl c.in_ok-text.ensures.ok, day_tells c.args.day i))
+    let meta : MetaRow = record { one = 1; schema = 1; day = c.new.result } in
+    made_by g.S.Store (SetDay c.args.day) old old c.make.new.self (PutMeta meta ∷ []) (BusinessDay c.args.day) c.make.result (stays_same g.S.Store old) (λ clean i s sound. (day_becomes c.args.day i meta sound refl refl (c.new.ensures ∙ c.in_ok-text.ensures.ok), day_tells c.args.day i))
     c.make.ensures.premise c.make.ensures.gives_up c.make.ensures.made c.make.ensures.left c.make.ensures.same c.make.ensures.stop

@@ -1,0 +1,58 @@
+-- What a query and the calls made of it come to.
+use Rattle.std.proofs.Common.{◌≡◌, ℕ, inl, inr, Bool, List, Option, None, Some, Result, Ok, Err, IfOk, IsTrue, refl, sym, ap, ◌∙◌, subst, arith, map, filter, find, slice_get}
+use denote.Ref.{Bor}
+use Rattle.std.specs.Option.{option_copied}
+use Rattle.sqlite.specs.declared.types.Value.TheVariants.{Null, Text}
+use Rattle.sqlite.specs.Values.{bound_value, or_null}
+use Rattle.mf_store_tables.specs.Values.{or_text}
+use Rattle.sqlite.specs.Tree.{Trees}
+use Rattle.sqlite.specs.Order.{Row}
+use Rattle.sqlite.specs.State.{State, HasCleanDisk, Survives}
+use Rattle.sqlite.specs.Listing.{understood}
+use Rattle.sqlite.proofs.Callers.{IsPlain}
+use Rattle.sqlite_keyed.proofs.ListLemmas.{slice_get-filter}
+use Rattle.mf_store_records.specs.Tables.{schema}
+use Rattle.mf_store_tables.specs.Queries.{Answers}
+use Rattle.mf_store_tables.specs.Writes.{Serves}
+use Rattle.mf_store_records.specs.Rows.{Lists}
+use Rattle.mf_store_records.specs.Writes.{schema_of, Holds}
+use Rattle.mf_store_records.specs.Calls.{IsUnchanged, IsKeeping, Shows}
+
+module _ (was is : State) where
+  earlier : {P : Trees → Type 0} → Survives was is P → HasCleanDisk is → HasCleanDisk was
+  earlier survives clean = omega (arith, survives.clean, clean)
+
+  plain_then : (sql : List ℕ) → IsPlain (understood schema sql) → was.now.schema ≡ schema → IsPlain (understood was.now.schema sql)
+  plain_then sql plain ours = subst (λ k. IsPlain (understood k sql)) (sym ours) plain
+
+  -- a plain text changes nothing
+  pub unchanged : (sql : List ℕ) → IsPlain (understood schema sql) → (HasCleanDisk is → IsTrue is.is_open → IsPlain (understood was.now.schema sql) → is.now ≡ was.now) → (HasCleanDisk is → IsTrue is.is_open → IsTrue was.is_open)
+      → Survives was is (λ _. IsTrue was.is_open × ¬ IsPlain (understood was.now.schema sql)) → IsUnchanged was is
+  unchanged sql plain same was_open survives = record {
+    premise = earlier survives;
+    was_open = was_open;
+    same = λ clean live ours. same clean live (plain_then sql plain ours);
+    stop = λ clean ours trees may. elim (survives.crash clean trees may) [
+      | inl before ↦ before
+      | inr wrote ↦ absurd (wrote.1 (plain_then sql plain (ours wrote.0)))
+    ];
+  }
+
+pub weaker_if_ok : {A E : Type 0} (r : Result A E) (P Q : A → Type 0) → ((x : A) → P x → Q x) → IfOk r P → IfOk r Q
+weaker_if_ok (Ok x) P Q f h = f x h
+weaker_if_ok (Err e) P Q f h = tt
+
+-- the first of the rows that pass the test
+pub first_is : {R : Type 0} (row : R → Row) (p : R → Bool) (items : List R) (rows : List Row) (found : Option R) → rows ≡ map row (filter p items) → ((rs : List R) → rows ≡ map row rs → found ≡ slice_get rs 0) → found ≡ find p items
+first_is row p items rows found are reads = reads (filter p items) are ∙ slice_get-filter p items
+
+-- an absent text is bound as NULL
+pub bound_text : (o : Option (Bor (List ℕ))) (t : Option (List ℕ)) → option_copied o ≡ t → bound_value (or_null (λ s. Text s.now) o) ≡ or_text t
+bound_text None t e = subst (λ u. Null ≡ or_text u) e refl
+bound_text (Some s) t e = subst (λ u. Text s.now ≡ or_text u) e refl
+
+-- what a query shows of the lists that the tables keep
+pub shown : {V E : Type 0} (r : Result V E) (rows_of : V → List Row) (s : State) (sql : List ℕ) (params : Row) (lists : Lists) (P : V → Type 0) → ((v : V) → Serves schema_of Holds s.now (Some lists) → Answers sql params s.now (rows_of v) → P v)
+    → IsKeeping s lists → IfOk r (λ v. Shows s sql params (rows_of v)) → IfOk r P
+shown (Ok v) rows_of s sql params lists P law kept h = law v (kept h.is_open) h.answers
+shown (Err e) rows_of s sql params lists P law kept h = tt

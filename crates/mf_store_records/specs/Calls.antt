@@ -1,0 +1,26 @@
+-- What a reading call shows and leaves.
+use Rattle.std.specs.Prelude.{◌≡◌, ℕ, List, Some, IsTrue}
+use Rattle.sqlite.specs.Tree.{Trees}
+use Rattle.sqlite.specs.Order.{Row}
+use Rattle.sqlite.specs.State.{State, HasCleanDisk}
+use Rattle.mf_store_tables.specs.Queries.{Answers}
+use Rattle.mf_store_tables.specs.Writes.{Serves}
+use Rattle.mf_store_records.specs.Tables.{schema}
+use Rattle.mf_store_records.specs.Rows.{Lists}
+use Rattle.mf_store_records.specs.Writes.{schema_of, Holds}
+
+-- Nothing is changed where the tables are this program's, and then a stop leaves nothing that it could not leave before.
+pub record IsUnchanged (old new : State) : Type 0 where
+  pub premise : HasCleanDisk new → HasCleanDisk old
+  pub was_open : HasCleanDisk new → IsTrue new.is_open → IsTrue old.is_open
+  pub same : HasCleanDisk new → IsTrue new.is_open → old.now.schema ≡ schema → new.now ≡ old.now
+  pub stop : HasCleanDisk new → (IsTrue old.is_open → old.now.schema ≡ schema) → (trees : Trees) → new.may_leave trees → old.may_leave trees
+
+-- while the connection is open, the tables keep these lists
+abbrev pub IsKeeping : State → Lists → Type 0
+IsKeeping s lists = IsTrue s.is_open → Serves schema_of Holds s.now (Some lists)
+
+-- the connection is open, and the rows are what the text shows of its tables
+pub record Shows (s : State) (sql : List ℕ) (params : Row) (rows : List Row) : Type 0 where
+  pub is_open : IsTrue s.is_open
+  pub answers : Answers sql params s.now rows

@@ -1,0 +1,60 @@
+ghost use Rattle.mf_store_records.specs.Rows.{charge_row, put_charge};
+ghost use Rattle.mf_store_records.specs.Looks.{is_charge};
+
+use crate::table::{Added, Table};
+use crate::text::Text;
+use mf_store_tables::run;
+use sqlite::{Alter, Error, Row, Transaction, params};
+
+/// A row of the table charges.
+#[derive(Debug, Drop)]
+pub struct ChargeRow {
+    pub number: u32,
+    pub name: Text,
+    /// 1 at disbursement, 2 with each instalment, 3 overdue, 4 on a due day.
+    pub kind: u32,
+    /// 1 flat, 2 of an amount, 3 of an interest, 4 of both.
+    pub calc: u32,
+    /// Cents where it is flat, else hundredths of a percent.
+    pub value: i64,
+}
+
+impl Table for ChargeRow {
+    type Key = u32;
+
+    ghost stored = { charge_row };
+
+    ghost list = { λ lists. lists.charges };
+
+    ghost put = { put_charge };
+
+    ghost is_at = { is_charge };
+
+    fn read(row: &Row) -> Result<ChargeRow, Error> {
+        Ok(ChargeRow {
+            number: row.get(0)?,
+            name: row.get(1)?,
+            kind: row.get(2)?,
+            calc: row.get(3)?,
+            value: row.get(4)?,
+        })
+    }
+
+    fn execute<S: Alter>(&self, tx: &mut Transaction<'_, S>, sql: &str) -> Result<(), Error> {
+        run(
+            tx,
+            sql,
+            params![self.number, &self.name, self.kind, self.calc, &self.value],
+        )
+    }
+
+    fn find_text() -> &'static str {
+        "SELECT number, name, kind, calc, value FROM charges WHERE number = ?1 ORDER BY number"
+    }
+}
+
+impl Added for ChargeRow {
+    fn insert<S: Alter>(&self, tx: &mut Transaction<'_, S>) -> Result<(), Error> {
+        self.execute(tx, "INSERT INTO charges VALUES (?1, ?2, ?3, ?4, ?5)")
+    }
+}

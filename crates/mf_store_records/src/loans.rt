@@ -1,0 +1,127 @@
+ghost use Rattle.std.specs.Prelude.{◌≡◌, false, IfOk, IfErr, map, filter, take};
+ghost use Rattle.mf_base.specs.declared.fault.Fault.TheVariants.{F20};
+ghost use Rattle.sqlite.specs.Held.{state};
+ghost use Rattle.sqlite.specs.State.{HasCleanDisk};
+ghost use Rattle.mf_store_records.specs.Rows.{Lists, loan_row, put_loan};
+ghost use Rattle.mf_store_records.specs.Looks.{is_loan, is_loan_of, is_loan_above};
+ghost use Rattle.mf_store_records.specs.Calls.{IsUnchanged, IsKeeping};
+
+use crate::table::{Added, Changed, Listed, Table, ask};
+use crate::text::Text;
+use mf_base::Fault;
+use mf_store_tables::run;
+use sqlite::{Alter, Connection, Error, Row, Transaction, params};
+
+/// A row of the table loans.
+#[derive(Debug, Drop)]
+pub struct LoanRow {
+    pub office: u32,
+    pub number: u32,
+    /// The client's number within the same office.
+    pub client: u32,
+    pub product: u32,
+    /// Cents.
+    pub principal: i64,
+    pub periods: u32,
+    /// The status number: 100, 200, 400 or 500.
+    pub stage: u32,
+    /// The day of its approval, as YYYY-MM-DD.
+    pub approved: Option<Text>,
+    /// The day of its disbursement, as YYYY-MM-DD.
+    pub disbursed: Option<Text>,
+}
+
+impl Table for LoanRow {
+    type Key = (u32, u32);
+
+    ghost stored = { loan_row };
+
+    ghost list = { λ lists. lists.loans };
+
+    ghost put = { put_loan };
+
+    ghost is_at = { λ key. is_loan key.0 key.1 };
+
+    fn read(row: &Row) -> Result<LoanRow, Error> {
+        Ok(LoanRow {
+            office: row.get(0)?,
+            number: row.get(1)?,
+            client: row.get(2)?,
+            product: row.get(3)?,
+            principal: row.get(4)?,
+            periods: row.get(5)?,
+            stage: row.get(6)?,
+            approved: row.get(7)?,
+            disbursed: row.get(8)?,
+        })
+    }
+
+    fn execute<S: Alter>(&self, tx: &mut Transaction<'_, S>, sql: &str) -> Result<(), Error> {
+        run(
+            tx,
+            sql,
+            params![
+                self.office,
+                self.number,
+                self.client,
+                self.product,
+                &self.principal,
+                self.periods,
+                self.stage,
+                self.approved.as_ref(),
+                self.disbursed.as_ref()
+            ],
+        )
+    }
+
+    fn find_text() -> &'static str {
+        "SELECT office, number, client, product, principal, periods, stage, approved, disbursed FROM loans WHERE office = ?1 AND number = ?2 ORDER BY office, number"
+    }
+}
+
+impl Added for LoanRow {
+    fn insert<S: Alter>(&self, tx: &mut Transaction<'_, S>) -> Result<(), Error> {
+        self.execute(
+            tx,
+            "INSERT INTO loans VALUES (?1, ?2, ?3, ?4, ?5, ?6, ?7, ?8, ?9)",
+        )
+    }
+}
+
+impl Changed for LoanRow {
+    fn upsert<S: Alter>(&self, tx: &mut Transaction<'_, S>) -> Result<(), Error> {
+        self.execute(
+            tx,
+            "INSERT INTO loans VALUES (?1, ?2, ?3, ?4, ?5, ?6, ?7, ?8, ?9) ON CONFLICT (office, number) DO UPDATE SET client = excluded.client, product = excluded.product, principal = excluded.principal, periods = excluded.periods, stage = excluded.stage, approved = excluded.approved, disbursed = excluded.disbursed",
+        )
+    }
+}
+
+impl Listed for LoanRow {
+    type Part = u32;
+
+    ghost is_in = { is_loan_of };
+
+    fn list_text() -> &'static str {
+        "SELECT office, number, client, product, principal, periods, stage, approved, disbursed FROM loans WHERE office = ?1 ORDER BY office, number"
+    }
+}
+
+/// The first 100 rows of an office under numbers above one, in the order of their numbers.
+pub fn loans_above<S: Alter>(
+    connection: &mut Connection<S>,
+    office: u32,
+    after: u32,
+) -> Result<Vec<Row>, Fault>
+    requires alone { connection.old.in_transaction ≡ false }
+    ensures kept { IsUnchanged (state S.Store connection.old) (state S.Store connection.new) }
+    ensures gives_up { IfErr result (λ fault. fault ≡ F20) }
+    ensures rows { HasCleanDisk (state S.Store connection.new) → (lists : Lists) → IsKeeping (state S.Store connection.old) lists → IfOk result (λ rows. rows.items ≡ take 100 (map loan_row (filter (is_loan_above office after) lists.loans))) }
+    ensures mode { connection.new.in_transaction ≡ false }
+{
+    ask(
+        connection,
+        "SELECT office, number, client, product, principal, periods, stage, approved, disbursed FROM loans WHERE office = ?1 AND number > ?2 ORDER BY office, number LIMIT 100",
+        params![office, after],
+    )
+}

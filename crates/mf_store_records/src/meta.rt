@@ -1,0 +1,53 @@
+ghost use Rattle.mf_store_records.specs.Rows.{meta_row, put_meta};
+ghost use Rattle.mf_store_records.specs.Looks.{is_meta};
+
+use crate::table::{Changed, Table};
+use crate::text::Text;
+use mf_store_tables::run;
+use sqlite::{Alter, Error, Row, Transaction, params};
+
+/// The one row of the table meta: what the file is, and the business day.
+#[derive(Debug, Drop)]
+pub struct MetaRow {
+    pub one: u32,
+    pub schema: u32,
+    /// The business day, as YYYY-MM-DD.
+    pub day: Text,
+}
+
+impl Table for MetaRow {
+    type Key = u32;
+
+    ghost stored = { meta_row };
+
+    ghost list = { λ lists. lists.meta };
+
+    ghost put = { put_meta };
+
+    ghost is_at = { is_meta };
+
+    fn read(row: &Row) -> Result<MetaRow, Error> {
+        Ok(MetaRow {
+            one: row.get(0)?,
+            schema: row.get(1)?,
+            day: row.get(2)?,
+        })
+    }
+
+    fn execute<S: Alter>(&self, tx: &mut Transaction<'_, S>, sql: &str) -> Result<(), Error> {
+        run(tx, sql, params![self.one, self.schema, &self.day])
+    }
+
+    fn find_text() -> &'static str {
+        "SELECT one, schema, day FROM meta WHERE one = ?1 ORDER BY one"
+    }
+}
+
+impl Changed for MetaRow {
+    fn upsert<S: Alter>(&self, tx: &mut Transaction<'_, S>) -> Result<(), Error> {
+        self.execute(
+            tx,
+            "INSERT INTO meta VALUES (?1, ?2, ?3) ON CONFLICT (one) DO UPDATE SET schema = excluded.schema, day = excluded.day",
+        )
+    }
+}

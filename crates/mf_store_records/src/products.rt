@@ -1,0 +1,118 @@
+ghost use Rattle.mf_store_records.specs.Rows.{product_row, put_product};
+ghost use Rattle.mf_store_records.specs.Looks.{is_product};
+
+use crate::table::{Added, Changed, Table};
+use crate::text::Text;
+use mf_store_tables::run;
+use sqlite::{Alter, Error, Row, Transaction, params};
+
+/// A row of the table products.
+#[derive(Debug, Drop)]
+pub struct ProductRow {
+    pub number: u32,
+    pub name: Text,
+    /// 1 flat, 2 equal principal, 3 equal instalments.
+    pub method: u32,
+    /// Hundredths of a percent a year.
+    pub rate: u32,
+    /// 1 by weeks, 2 by months.
+    pub frequency: u32,
+    pub every: u32,
+    pub principal_grace: u32,
+    pub interest_grace: u32,
+    /// Cents.
+    pub min_principal: i64,
+    /// Cents.
+    pub max_principal: i64,
+    pub min_periods: u32,
+    pub max_periods: u32,
+    /// 1 penalties first, 2 principal first, 3 interest first.
+    pub strategy: u32,
+    pub disbursement_charge: Option<u32>,
+    pub instalment_charge: Option<u32>,
+    pub overdue_charge: Option<u32>,
+    /// 1 where it lends no more, else 0.
+    pub retired: u32,
+}
+
+impl Table for ProductRow {
+    type Key = u32;
+
+    ghost stored = { product_row };
+
+    ghost list = { λ lists. lists.products };
+
+    ghost put = { put_product };
+
+    ghost is_at = { is_product };
+
+    fn read(row: &Row) -> Result<ProductRow, Error> {
+        Ok(ProductRow {
+            number: row.get(0)?,
+            name: row.get(1)?,
+            method: row.get(2)?,
+            rate: row.get(3)?,
+            frequency: row.get(4)?,
+            every: row.get(5)?,
+            principal_grace: row.get(6)?,
+            interest_grace: row.get(7)?,
+            min_principal: row.get(8)?,
+            max_principal: row.get(9)?,
+            min_periods: row.get(10)?,
+            max_periods: row.get(11)?,
+            strategy: row.get(12)?,
+            disbursement_charge: row.get(13)?,
+            instalment_charge: row.get(14)?,
+            overdue_charge: row.get(15)?,
+            retired: row.get(16)?,
+        })
+    }
+
+    fn execute<S: Alter>(&self, tx: &mut Transaction<'_, S>, sql: &str) -> Result<(), Error> {
+        run(
+            tx,
+            sql,
+            params![
+                self.number,
+                &self.name,
+                self.method,
+                self.rate,
+                self.frequency,
+                self.every,
+                self.principal_grace,
+                self.interest_grace,
+                &self.min_principal,
+                &self.max_principal,
+                self.min_periods,
+                self.max_periods,
+                self.strategy,
+                self.disbursement_charge,
+                self.instalment_charge,
+                self.overdue_charge,
+                self.retired
+            ],
+        )
+    }
+
+    fn find_text() -> &'static str {
+        "SELECT number, name, method, rate, frequency, every, principal_grace, interest_grace, min_principal, max_principal, min_periods, max_periods, strategy, disbursement_charge, instalment_charge, overdue_charge, retired FROM products WHERE number = ?1 ORDER BY number"
+    }
+}
+
+impl Added for ProductRow {
+    fn insert<S: Alter>(&self, tx: &mut Transaction<'_, S>) -> Result<(), Error> {
+        self.execute(
+            tx,
+            "INSERT INTO products VALUES (?1, ?2, ?3, ?4, ?5, ?6, ?7, ?8, ?9, ?10, ?11, ?12, ?13, ?14, ?15, ?16, ?17)",
+        )
+    }
+}
+
+impl Changed for ProductRow {
+    fn upsert<S: Alter>(&self, tx: &mut Transaction<'_, S>) -> Result<(), Error> {
+        self.execute(
+            tx,
+            "INSERT INTO products VALUES (?1, ?2, ?3, ?4, ?5, ?6, ?7, ?8, ?9, ?10, ?11, ?12, ?13, ?14, ?15, ?16, ?17) ON CONFLICT (number) DO UPDATE SET name = excluded.name, method = excluded.method, rate = excluded.rate, frequency = excluded.frequency, every = excluded.every, principal_grace = excluded.principal_grace, interest_grace = excluded.interest_grace, min_principal = excluded.min_principal, max_principal = excluded.max_principal, min_periods = excluded.min_periods, max_periods = excluded.max_periods, strategy = excluded.strategy, disbursement_charge = excluded.disbursement_charge, instalment_charge = excluded.instalment_charge, overdue_charge = excluded.overdue_charge, retired = excluded.retired",
+        )
+    }
+}

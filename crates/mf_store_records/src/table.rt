@@ -1,0 +1,201 @@
+//! A table: the texts that read and write it, and what these mean.
+
+ghost use Rattle.std.specs.Prelude.{◌≡◌, ℕ, List, Bool, IsTrue, OnOk, IfOk, IfErr, Some, false, map, filter, find, slice_get};
+ghost use Rattle.mf_base.specs.declared.fault.Fault.TheVariants.{F20};
+ghost use Rattle.sqlite.specs.Order.{Row as SqlRow};
+ghost use Rattle.sqlite.specs.Effect.{Database};
+ghost use Rattle.sqlite.specs.Given.{IsPlain};
+ghost use Rattle.sqlite.specs.Held.{state};
+ghost use Rattle.sqlite.specs.Listing.{understood};
+ghost use Rattle.sqlite.specs.State.{HasCleanDisk, KeepsCommit, Survives};
+ghost use Rattle.sqlite.specs.Values.{bound};
+ghost use Rattle.mf_store_tables.specs.Queries.{Answers};
+ghost use Rattle.mf_store_tables.specs.Writes.{Ran, Serves};
+ghost use Rattle.mf_store_records.specs.Tables.{schema};
+ghost use Rattle.mf_store_records.specs.Rows.{Lists};
+ghost use Rattle.mf_store_records.specs.Writes.{schema_of, Holds, Putting};
+ghost use Rattle.mf_store_records.specs.Calls.{IsUnchanged, IsKeeping, Shows};
+
+use mf_base::Fault;
+use mf_store_tables::query;
+use sqlite::{Alter, Connection, Error, Row, Transaction, params};
+use sqlite_value::value::ValueRef;
+
+/// The values that rows are looked for by.
+pub trait Columns {
+    ghost values: { Self → SqlRow };
+
+    /// The rows that a plain text shows of these values.
+    fn ask<S: Alter>(self, connection: &mut Connection<S>, sql: &str) -> Result<Vec<Row>, Fault>
+        requires alone { connection.old.in_transaction ≡ false }
+        requires plain { IsPlain (understood schema sql.now) }
+        ensures kept { IsUnchanged (state S.Store connection.old) (state S.Store connection.new) }
+        ensures gives_up { IfErr result (λ fault. fault ≡ F20) }
+        ensures shows { HasCleanDisk (state S.Store connection.new) → IfOk result (λ rows. Shows (state S.Store connection.old) sql.now (values self) rows.items) }
+        ensures mode { connection.new.in_transaction ≡ false };
+}
+
+impl Columns for u32 {
+    ghost use Rattle.std.specs.Prelude.{pos, [], ◌∷◌};
+    ghost use Rattle.sqlite.specs.declared.types.Value.TheVariants.{Int};
+
+    ghost values = { λ n. Int (pos n) ∷ [] };
+
+    fn ask<S: Alter>(self, connection: &mut Connection<S>, sql: &str) -> Result<Vec<Row>, Fault> {
+        ask(connection, sql, params![self])
+    }
+}
+
+impl Columns for (u32, u32) {
+    ghost use Rattle.std.specs.Prelude.{pos, [], ◌∷◌};
+    ghost use Rattle.sqlite.specs.declared.types.Value.TheVariants.{Int};
+
+    ghost values = { λ key. Int (pos key.0) ∷ Int (pos key.1) ∷ [] };
+
+    fn ask<S: Alter>(self, connection: &mut Connection<S>, sql: &str) -> Result<Vec<Row>, Fault> {
+        ask(connection, sql, params![self.0, self.1])
+    }
+}
+
+/// The rows of a table, each as the program holds it.
+pub trait Table: Sized {
+    /// What one row is found by.
+    type Key: Columns;
+
+    /// The values that the table keeps of a row.
+    ghost stored: { Self → SqlRow };
+
+    /// The list that the table keeps.
+    ghost list: { Lists → List Self };
+
+    /// The lists with a row put in its place.
+    ghost put: { Self → Lists → Lists };
+
+    /// Whether a row is the one under a key.
+    ghost is_at: { Self.Key → Self → Bool };
+
+    /// The error is only for want of memory and for a row that the table cannot have.
+    fn read(row: &Row) -> Result<Self, Error>
+        ensures { IfOk result (λ x. (r : Self) → row.now ≡ stored r → x ≡ r) };
+
+    /// Runs a text with the row's values for its parameters.
+    fn execute<S: Alter>(&self, tx: &mut Transaction<'_, S>, sql: &str) -> Result<(), Error>
+        ensures same_reference { tx.new.conn.ghost_name ≡ tx.old.conn.ghost_name }
+        ensures ok { HasCleanDisk (state S.Store tx.new.conn.now) → IsTrue (state S.Store tx.old.conn.now).in_transaction
+            → OnOk result (Ran sql.now (stored self.now) (state S.Store tx.old.conn.now) (state S.Store tx.new.conn.now)) }
+        ensures kept { HasCleanDisk (state S.Store tx.new.conn.now) → KeepsCommit (state S.Store tx.old.conn.now) (state S.Store tx.new.conn.now) }
+        ensures survives { Survives (state S.Store tx.old.conn.now) (state S.Store tx.new.conn.now) (λ _. ⊥) };
+
+    /// The text that shows the row under a key.
+    fn find_text() -> &'static str
+        ensures plain { IsPlain (understood schema result.now) }
+        ensures shows { (key : Self.Key) (lists : Lists) (db : Database) (rows : List SqlRow) → Serves schema_of Holds db (Some lists) → Answers result.now (Self.Key.values key) db rows
+            → rows ≡ map stored (filter (is_at key) (list lists)) };
+}
+
+/// A table that gets new rows.
+pub trait Added: Table {
+    /// Puts the row, whose key is new.
+    fn insert<S: Alter>(&self, tx: &mut Transaction<'_, S>) -> Result<(), Error>
+        ensures same_reference { tx.new.conn.ghost_name ≡ tx.old.conn.ghost_name }
+        ensures ok { HasCleanDisk (state S.Store tx.new.conn.now) → IsTrue (state S.Store tx.old.conn.now).in_transaction
+            → OnOk result (Putting (Self.put self.now) (state S.Store tx.old.conn.now) (state S.Store tx.new.conn.now)) }
+        ensures kept { HasCleanDisk (state S.Store tx.new.conn.now) → KeepsCommit (state S.Store tx.old.conn.now) (state S.Store tx.new.conn.now) }
+        ensures survives { Survives (state S.Store tx.old.conn.now) (state S.Store tx.new.conn.now) (λ _. ⊥) };
+}
+
+/// A table whose rows change.
+pub trait Changed: Table {
+    /// Puts the row, in place of the one with its key.
+    fn upsert<S: Alter>(&self, tx: &mut Transaction<'_, S>) -> Result<(), Error>
+        ensures same_reference { tx.new.conn.ghost_name ≡ tx.old.conn.ghost_name }
+        ensures ok { HasCleanDisk (state S.Store tx.new.conn.now) → IsTrue (state S.Store tx.old.conn.now).in_transaction
+            → OnOk result (Putting (Self.put self.now) (state S.Store tx.old.conn.now) (state S.Store tx.new.conn.now)) }
+        ensures kept { HasCleanDisk (state S.Store tx.new.conn.now) → KeepsCommit (state S.Store tx.old.conn.now) (state S.Store tx.new.conn.now) }
+        ensures survives { Survives (state S.Store tx.old.conn.now) (state S.Store tx.new.conn.now) (λ _. ⊥) };
+}
+
+/// A table that is listed by its first columns.
+pub trait Listed: Table {
+    /// The values of these.
+    type Part: Columns;
+
+    /// Whether a row has these values.
+    ghost is_in: { Self.Part → Self → Bool };
+
+    /// The text that shows the rows with these values, in the order of their key.
+    fn list_text() -> &'static str
+        ensures plain { IsPlain (understood schema result.now) }
+        ensures shows { (part : Self.Part) (lists : Lists) (db : Database) (rows : List SqlRow) → Serves schema_of Holds db (Some lists) → Answers result.now (Self.Part.values part) db rows
+            → rows ≡ map Self.stored (filter (is_in part) (Self.list lists)) };
+}
+
+/// The rows that a plain text shows.
+pub(crate) fn ask<S: Alter>(
+    connection: &mut Connection<S>,
+    sql: &str,
+    params: &[ValueRef<'_>],
+) -> Result<Vec<Row>, Fault>
+    requires alone { connection.old.in_transaction ≡ false }
+    requires plain { IsPlain (understood schema sql.now) }
+    ensures kept { IsUnchanged (state S.Store connection.old) (state S.Store connection.new) }
+    ensures gives_up { IfErr result (λ fault. fault ≡ F20) }
+    ensures shows { HasCleanDisk (state S.Store connection.new) → IfOk result (λ rows. Shows (state S.Store connection.old) sql.now (bound params.now) rows.items) }
+    ensures mode { connection.new.in_transaction ≡ false }
+{
+    match query(connection, sql, params) {
+        Ok(rows) => Ok(rows),
+        Err(_) => Err(Fault::F20),
+    }
+}
+
+/// Reads a row of the table.
+pub fn read_row<T: Table>(row: &Row) -> Result<T, Fault>
+    ensures row { IfOk result (λ x. (r : T) → row.now ≡ T.stored r → x ≡ r) }
+    ensures gives_up { IfErr result (λ fault. fault ≡ F20) }
+{
+    match T::read(row) {
+        Ok(x) => Ok(x),
+        Err(_) => Err(Fault::F20),
+    }
+}
+
+/// The first row, if there is one.
+fn first<T: Table>(rows: &[Row]) -> Result<Option<T>, Fault>
+    ensures row { IfOk result (λ x. (rs : List T) → rows.now ≡ map T.stored rs → x ≡ slice_get rs 0) }
+    ensures gives_up { IfErr result (λ fault. fault ≡ F20) }
+{
+    match rows.first() {
+        None => Ok(None),
+        Some(row) => Ok(Some(read_row(row)?)),
+    }
+}
+
+/// The row under a key, if there is one.
+pub fn find_row<T: Table, S: Alter>(
+    connection: &mut Connection<S>,
+    key: T::Key,
+) -> Result<Option<T>, Fault>
+    requires alone { connection.old.in_transaction ≡ false }
+    ensures kept { IsUnchanged (state S.Store connection.old) (state S.Store connection.new) }
+    ensures gives_up { IfErr result (λ fault. fault ≡ F20) }
+    ensures row { HasCleanDisk (state S.Store connection.new) → (lists : Lists) → IsKeeping (state S.Store connection.old) lists → IfOk result (λ x. x ≡ find (T.is_at key) (T.list lists)) }
+    ensures mode { connection.new.in_transaction ≡ false }
+{
+    let rows = key.ask(connection, T::find_text())?;
+    first(&rows)
+}
+
+/// The rows with these values of the first columns, in the order of their key.
+pub fn list_rows<T: Listed, S: Alter>(
+    connection: &mut Connection<S>,
+    part: T::Part,
+) -> Result<Vec<Row>, Fault>
+    requires alone { connection.old.in_transaction ≡ false }
+    ensures kept { IsUnchanged (state S.Store connection.old) (state S.Store connection.new) }
+    ensures gives_up { IfErr result (λ fault. fault ≡ F20) }
+    ensures rows { HasCleanDisk (state S.Store connection.new) → (lists : Lists) → IsKeeping (state S.Store connection.old) lists → IfOk result (λ rows. rows.items ≡ map T.stored (filter (T.is_in part) (T.list lists))) }
+    ensures mode { connection.new.in_transaction ≡ false }
+{
+    part.ask(connection, T::list_text())
+}
