@@ -6,8 +6,8 @@ mod rows;
 mod sent;
 
 use mf_base::Day;
-use microloan_commands::answer_lines;
 use mf_wire_lines::{WatchedReader, WatchedWriter};
+use microloan_commands::answer_lines;
 use std::alloc::Global;
 use std::test::Fail;
 

@@ -9,8 +9,8 @@ mod writes;
 use asked::{Ask, told};
 use mf_base::{Day, Fault, Name};
 use mf_office::{Account, AccountNo, Caller, OfficeNo, StaffNo};
-use mf_store_pages::PageStore;
 use mf_store::{OfficeRows, Store};
+use mf_store_pages::PageStore;
 use std::alloc::Global;
 use writes::{Write, make_all};
 
