@@ -2,12 +2,12 @@
 
 ghost use Rattle.std.specs.Prelude.{◌≡◌, ◌≤◌, IfOk};
 ghost use Rattle.mf_base.specs.DayText.{last_entered_day};
-ghost use Rattle.mf_model.specs.Sound.{AreMembers, IsAccount, IsInRange};
+ghost use Rattle.mf_model.specs.Sound.{IsAccount, IsInRange};
 
-use crate::books::{Books, name, office_no};
-use mf_base::{Day, Fault, Freq};
-use mf_catalog::{Calc, ChargeKind, Method, ProductMembers, StrategyName};
+use mf_base::{Day, Fault};
+use mf_catalog::{Calc, ChargeKind};
 use mf_desk::answer;
+use mf_desk_books::{Books, members, name, office_no};
 use mf_model::{
     Application, CatalogueRequest, Flaw, LoanList, LoanReply, LoanRequest, LoanStep, OfficeRequest,
     Reply, Request, is_name,
@@ -208,31 +208,6 @@ fn account(number: u32) -> Result<Account, Fault>
     let number = AccountNo::new(number).ok_or(Fault::F1)?;
     let _number = number.get();
     Ok(Account { office, number })
-}
-
-fn members(alloc: Global, instalment_charge: Option<u32>) -> Result<ProductMembers, Fault>
-    ensures { IfOk result AreMembers }
-{
-    if !is_name("P") {
-        return Err(Fault::F1);
-    }
-    Ok(ProductMembers {
-        name: name(alloc, "P")?,
-        method: Method::EqualPrincipal,
-        rate: 1200,
-        freq: Freq::Months,
-        every: 1,
-        principal_grace: 0,
-        interest_grace: 0,
-        min_principal: 1,
-        max_principal: 1000000,
-        min_periods: 1,
-        max_periods: 12,
-        strategy: StrategyName::MifosStandard,
-        disbursement_charge: None,
-        instalment_charge,
-        overdue_charge: None,
-    })
 }
 
 fn add_product(

@@ -1,59 +1,19 @@
 //! Streams of request lines, run over an institution in vectors. Of that store nothing is proved but that it is safe.
 
-mod books;
 mod limits;
 mod refused;
 mod requests;
 mod streams;
 mod texts;
 
-use books::Books;
-use mf_base::{Cause, Fault, StreamFault};
+use mf_base::{Cause, Day, Fault, StreamFault};
+use mf_desk_books::Books;
+use mf_desk_books::streams::{BRANCHES, BRANCHES_REPLIES, FIRST, FIRST_REPLIES};
 use mf_wire::{answer_text, run};
 use mf_wire_lines::{WatchedReader, WatchedWriter, fault_text};
 use std::alloc::Global;
 use std::test::Fail;
 use streams::{Narrow, Torn};
-
-const FIRST: &str = "1/1 POST /clients {\"office\":1,\"name\":\"Amina\"}\n\
-1/1 GET /clients/0001-000001\n\
-1/1 GET /clients/0001-000002\n\
-1/1 GET /clients/1-1\n\
-1/1 POST /clients {\"office\":2,\"name\":\"B\"}\n\
-1/1 PUT /clients\n\
-01/1 GET /clients/0001-000001\n\
-2/1 GET /clients/0001-000001\n";
-
-const FIRST_REPLIES: &str = "201 {\"client\":\"0001-000001\"}\n\
-200 {\"client\":\"0001-000001\",\"name\":\"Amina\"}\n\
-404 {\"fault\":\"F4\"}\n\
-400 {\"fault\":\"F1\"}\n\
-404 {\"fault\":\"F4\"}\n\
-405 {\"fault\":\"F6\"}\n\
-400 {\"fault\":\"F1\"}\n\
-401 {\"fault\":\"F2\"}\n";
-
-const BRANCHES: &str = "1/1 POST /offices {\"number\":2,\"parent\":1,\"name\":\"North\"}\n\
-1/1 POST /offices {\"number\":20,\"parent\":1,\"name\":\"South\"}\n\
-1/1 POST /offices {\"number\":5,\"parent\":2,\"name\":\"Mill\"}\n\
-1/1 POST /staff {\"office\":2,\"name\":\"Ben\",\"role\":\"officer\"}\n\
-2/1 GET /offices\n\
-2/1 POST /clients {\"office\":5,\"name\":\"C\"}\n\
-2/1 POST /clients {\"office\":20,\"name\":\"C\"}\n\
-2/1 POST /clients {\"office\":77,\"name\":\"C\"}\n\
-2/1 POST /staff {\"office\":20,\"name\":\"D\",\"role\":\"teller\"}\n\
-1/1 POST /offices {\"number\":5,\"parent\":1,\"name\":\"X\"}\n";
-
-const BRANCHES_REPLIES: &str = "201 {\"office\":2}\n\
-201 {\"office\":20}\n\
-201 {\"office\":5}\n\
-201 {\"staff\":\"2/1\"}\n\
-200 {\"offices\":[{\"name\":\"North\",\"number\":2,\"parent\":1},{\"name\":\"Mill\",\"number\":5,\"parent\":2}]}\n\
-201 {\"client\":\"0005-000001\"}\n\
-404 {\"fault\":\"F4\"}\n\
-404 {\"fault\":\"F4\"}\n\
-403 {\"fault\":\"F3\"}\n\
-409 {\"fault\":\"F16\"}\n";
 
 const MALFORMED: &[u8] = b"hello\n\
 \r\n\
@@ -93,6 +53,11 @@ const LONGEST_REPLIES: &str =
 400 {\"fault\":\"F1\"}\n\
 404 {\"fault\":\"F4\"}\n";
 
+fn new_books(alloc: Global) -> Result<Books, Fault> {
+    let day = Day::parse(b"2024-01-31").ok_or(Fault::F1)?;
+    Books::new(alloc, day)
+}
+
 /// What a run over the whole stream writes.
 fn replies(alloc: Global, books: &mut Books, stream: &[u8]) -> Result<(u64, Vec<u8>), Fail> {
     let mut source = WatchedReader::new(stream);
@@ -113,7 +78,7 @@ fn is_answered(told: &Result<(u16, String), Fault>, status: u16, body: &str) -> 
 #[test]
 fn a_client_is_entered_and_read(rt: HostRuntime) -> Result<(), Fail> {
     let alloc = rt.alloc();
-    let mut books = Books::new(alloc)?;
+    let mut books = new_books(alloc)?;
     let (count, written) = replies(alloc, &mut books, FIRST.as_bytes())?;
     assert_eq!(rt; count, 8);
     assert_eq!(rt; written.as_slice(), FIRST_REPLIES.as_bytes());
@@ -123,7 +88,7 @@ fn a_client_is_entered_and_read(rt: HostRuntime) -> Result<(), Fail> {
 #[test]
 fn branches_see_their_own(rt: HostRuntime) -> Result<(), Fail> {
     let alloc = rt.alloc();
-    let mut books = Books::new(alloc)?;
+    let mut books = new_books(alloc)?;
     let (count, written) = replies(alloc, &mut books, BRANCHES.as_bytes())?;
     assert_eq!(rt; count, 10);
     assert_eq!(rt; written.as_slice(), BRANCHES_REPLIES.as_bytes());
@@ -133,7 +98,7 @@ fn branches_see_their_own(rt: HostRuntime) -> Result<(), Fail> {
 #[test]
 fn malformed_lines(rt: HostRuntime) -> Result<(), Fail> {
     let alloc = rt.alloc();
-    let mut books = Books::new(alloc)?;
+    let mut books = new_books(alloc)?;
     let (count, written) = replies(alloc, &mut books, MALFORMED)?;
     assert_eq!(rt; count, 14);
     assert_eq!(rt; written.as_slice(), MALFORMED_REPLIES.as_bytes());
@@ -144,7 +109,7 @@ fn malformed_lines(rt: HostRuntime) -> Result<(), Fail> {
 #[test]
 fn the_longest_line(rt: HostRuntime) -> Result<(), Fail> {
     let alloc = rt.alloc();
-    let mut books = Books::new(alloc)?;
+    let mut books = new_books(alloc)?;
     let begin = b"1/1 GET /offices ";
     let mut stream = Vec::new(alloc);
     for length in [65536usize, 65537, 70000] {
@@ -165,7 +130,7 @@ fn the_longest_line(rt: HostRuntime) -> Result<(), Fail> {
 #[test]
 fn a_reader_that_fails(rt: HostRuntime) -> Result<(), Fail> {
     let alloc = rt.alloc();
-    let mut books = Books::new(alloc)?;
+    let mut books = new_books(alloc)?;
     let torn =
         b"1/1 POST /clients {\"office\":1,\"name\":\"A\"}\n1/1 GET /nowhere\n1/1 POST /clients {\"office\":1,\"name\":\"B\"}";
     let mut source = WatchedReader::new(Torn {
@@ -198,7 +163,7 @@ fn a_reader_that_fails(rt: HostRuntime) -> Result<(), Fail> {
 #[test]
 fn a_writer_that_fails(rt: HostRuntime) -> Result<(), Fail> {
     let alloc = rt.alloc();
-    let mut books = Books::new(alloc)?;
+    let mut books = new_books(alloc)?;
     let mut source = WatchedReader::new(FIRST.as_bytes());
     let mut sink = WatchedWriter::new(Narrow {
         taken: Vec::new(alloc),
@@ -236,7 +201,7 @@ fn a_writer_that_fails(rt: HostRuntime) -> Result<(), Fail> {
 #[test]
 fn a_writer_of_one_byte_a_call(rt: HostRuntime) -> Result<(), Fail> {
     let alloc = rt.alloc();
-    let mut books = Books::new(alloc)?;
+    let mut books = new_books(alloc)?;
     let mut source = WatchedReader::new(FIRST.as_bytes());
     let mut sink = WatchedWriter::new(Narrow {
         taken: Vec::new(alloc),

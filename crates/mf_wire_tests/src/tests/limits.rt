@@ -1,7 +1,6 @@
 //! Bodies at the limits of what is read.
 
-use super::books::Books;
-use super::replies;
+use super::{new_books, replies};
 use std::alloc::{AllocError, Global};
 use std::test::Fail;
 
@@ -46,7 +45,7 @@ fn stream(alloc: Global) -> Result<Vec<u8>, AllocError> {
 /// 127 levels and 100 characters are read. One more of either is not, nor is what isn't UTF-8.
 #[test]
 fn limits_of_a_body(rt: HostRuntime) -> Result<(), Fail> {
-    let mut books = Books::new(rt.alloc())?;
+    let mut books = new_books(rt.alloc())?;
     let stream = stream(rt.alloc())?;
     let (_, told) = replies(rt.alloc(), &mut books, stream.as_slice())?;
     assert_eq!(rt; told.as_slice(), LIMITS_REPLIES.as_bytes());

@@ -1,9 +1,10 @@
 //! The texts of replies of the catalogue and of loans.
 
-use mf_base::{Day, Fault, Freq};
-use mf_catalog::{Calc, ChargeDef, ChargeKind, Method, Product, ProductMembers, StrategyName};
+use mf_base::{Day, Fault};
+use mf_catalog::{Calc, ChargeDef, ChargeKind, Product};
+use mf_desk_books::{members, name};
 use mf_model::{Loan, LoanLine, LoanList, LoanReply, Reply, Stage};
-use mf_office::{Account, AccountNo, Name, OfficeNo};
+use mf_office::{Account, AccountNo, OfficeNo};
 use mf_wire_replies::{body_text, status};
 use std::alloc::Global;
 use std::test::Fail;
@@ -32,35 +33,6 @@ fn first_loan() -> Result<Account, Fault> {
     Ok(Account { office, number })
 }
 
-fn name(alloc: Global, text: &str) -> Result<Name, Fault> {
-    Ok(Name::new(String::from_str(alloc, text)?))
-}
-
-/// Equal principal by the month at 12 percent, with one charge an instalment.
-fn product(alloc: Global) -> Result<Product, Fault> {
-    Ok(Product {
-        number: 1,
-        members: ProductMembers {
-            name: name(alloc, "P")?,
-            method: Method::EqualPrincipal,
-            rate: 1200,
-            freq: Freq::Months,
-            every: 1,
-            principal_grace: 0,
-            interest_grace: 0,
-            min_principal: 1,
-            max_principal: 1000000,
-            min_periods: 1,
-            max_periods: 12,
-            strategy: StrategyName::MifosStandard,
-            disbursement_charge: None,
-            instalment_charge: Some(4),
-            overdue_charge: None,
-        },
-        retired: false,
-    })
-}
-
 #[test]
 fn a_day_is_shown(rt: HostRuntime) -> Result<(), Fail> {
     let day = Day::parse(b"2024-01-31").ok_or(Fault::F1)?;
@@ -85,7 +57,11 @@ fn a_charge_is_shown(rt: HostRuntime) -> Result<(), Fail> {
 
 #[test]
 fn a_product_is_shown(rt: HostRuntime) -> Result<(), Fail> {
-    let product = product(rt.alloc())?;
+    let product = Product {
+        number: 1,
+        members: members(rt.alloc(), Some(4))?,
+        retired: false,
+    };
     let body = body_text(rt.alloc(), &Reply::ProductShown(product))?;
     assert_eq!(rt; body.as_str(), PRODUCT);
     Ok(())

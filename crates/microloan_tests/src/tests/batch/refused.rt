@@ -1,29 +1,11 @@
 //! A line that is refused for want of memory. `rt try --test --fail-alloc N` refuses one request for memory: it may
 //! then be any of those that the store, the desk and the wire make, and with every N all of them in turn.
 
-use super::rows::{BRANCHES, BRANCHES_REPLIES};
 use super::{told, written};
-use std::alloc::{AllocError, Global};
+use mf_desk_books::streams::{BRANCHES, BRANCHES_REPLIES};
+use mf_desk_books::{refused_line, without};
+use std::alloc::Global;
 use std::test::Fail;
-
-/// Which line was refused for want of memory, if one was.
-fn refused_line(replies: &[u8]) -> Option<usize> {
-    replies
-        .split(|b| *b == b'\n')
-        .position(|reply| reply == b"503 {\"fault\":\"F20\"}".as_slice())
-}
-
-/// The lines of a text without one of them.
-fn without(alloc: Global, text: &[u8], place: usize) -> Result<Vec<u8>, AllocError> {
-    let mut kept = Vec::new(alloc);
-    for (at, line) in text.split(|b| *b == b'\n').enumerate() {
-        if at != place && !line.is_empty() {
-            kept.extend_from_slice(line)?;
-            kept.push(b'\n')?;
-        }
-    }
-    Ok(kept)
-}
 
 /// Whether the other lines get the same replies where the refused one isn't sent.
 fn is_as_not_sent(alloc: Global, replies: &[u8], place: usize) -> Result<bool, Fail> {
