@@ -19,5 +19,6 @@ pub mod ApplyLemmas
 pub mod RedoneLemmas
 pub mod OrderLemmas
 pub mod SealLemmas
+pub mod PenaltyLemmas
 pub mod DueLemmas
 pub mod ClearingLemmas

@@ -18,7 +18,7 @@ use Rattle.mf_account.proofs.TailLemmas.{among-index, at-among, seal_last-standi
 abbrev stands_by : (Kind → Bool) → Entry → Bool
 stands_by P e = not e.reversed && P e.kind
 
-not_true : (b : Bool) → not b ≡ true → b ≡ false
+pub not_true : (b : Bool) → not b ≡ true → b ≡ false
 not_true true is = absurd (true≢false (sym is))
 not_true false is = refl
 

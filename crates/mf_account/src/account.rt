@@ -246,7 +246,6 @@ impl LoanAccount {
         } else if is_forbidden(
             self.terms.overdue.is_some(),
             &book.rows,
-            &self.entries,
             entry,
             business_day,
         ) {

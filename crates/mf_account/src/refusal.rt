@@ -1,12 +1,13 @@
 ghost use Rattle.std.specs.Prelude.{◌≡◌, ℕ, ◌-◌, ◌<◌, ◌≤◌, ◌&&◌, not, false, IsTrue, IfNone, length, is_some, All};
 ghost use Rattle.mf_account.specs.Standing.{entry_at, entries_at, standing};
-ghost use Rattle.mf_account.specs.Loan.{AreEntries};
+ghost use Rattle.mf_alloc.specs.Rows.{row_at};
+ghost use Rattle.mf_account.specs.Loan.{Loan, AreEntries, IsSound, state_of_loan};
 ghost use Rattle.mf_account.specs.Kinds.{is_write_off as is_write_off_kind};
 ghost use Rattle.std.specs.List.{list_any};
 ghost use Rattle.mf_alloc.specs.Sums.{is_open};
 ghost use Rattle.mf_account.specs.declared.entry.Entry.{Entry as EntryRecord};
 ghost use Rattle.mf_account.specs.Account.{status_of};
-ghost use Rattle.mf_account.specs.Refusals.{is_sealed as is_sealed_by, admits as admits_kind, is_out_of_order as is_out_of_order_day, is_there as is_there_among, is_penalty_on as is_penalty_on_it, has_penalty as has_penalty_on, is_forbidden as is_forbidden_there, forbids_penalty as forbids_penalty_at, is_out_of_limits as is_out_of_limits_amount, reversal_refused};
+ghost use Rattle.mf_account.specs.Refusals.{is_sealed as is_sealed_by, admits as admits_kind, is_out_of_order as is_out_of_order_day, is_there as is_there_among, has_penalty as has_penalty_on, is_forbidden as is_forbidden_there, forbids_penalty as forbids_penalty_at, is_out_of_limits as is_out_of_limits_amount, reversal_refused};
 
 use crate::entry::{Entry, Kind};
 use mf_alloc::{Cell, Row, outstanding};
@@ -102,43 +103,25 @@ pub(crate) fn is_there(n: usize, number: u32) -> bool
     1 <= number && number as usize <= n
 }
 
-/// Whether an entry is a penalty that stands on an instalment.
-fn is_penalty_on(entry: &Entry, instalment: u32) -> bool
-    ensures { result ≡ is_penalty_on_it instalment entry.now }
+/// Whether a penalty stands on the instalment of a row. The row then owes penalties, and only then: what it owes of them
+/// is what the standing ones come to, each of a cent or more.
+fn has_penalty(row: &Row) -> bool
+    ensures { (loan : Loan) (instalment : ℕ) → IsSound loan → 1 ≤ instalment → row.now ≡ row_at (state_of_loan loan).rows instalment → result ≡ has_penalty_on loan.entries instalment }
 {
-    !entry.reversed && (matches!(entry.kind, Kind::Penalty) && entry.instalment == instalment)
-}
-
-/// Whether a penalty stands on an instalment.
-fn has_penalty(entries: &[Entry], instalment: u32) -> bool
-    ensures { result ≡ has_penalty_on entries.now instalment }
-{
-    entries.iter().any(|entry| is_penalty_on(entry, instalment))
+    row.owed[0] > 0
 }
 
 /// Whether an instalment that is there does not allow a penalty.
-fn forbids_penalty(
-    charged: bool,
-    row: &Row,
-    entries: &[Entry],
-    instalment: u32,
-    business_day: Day,
-) -> bool
-    ensures { result ≡ forbids_penalty_at charged row.now entries.now instalment business_day }
+fn forbids_penalty(charged: bool, row: &Row, business_day: Day) -> bool
+    ensures { (loan : Loan) (instalment : ℕ) → IsSound loan → 1 ≤ instalment → row.now ≡ row_at (state_of_loan loan).rows instalment → result ≡ forbids_penalty_at charged row.now loan.entries instalment business_day }
 {
-    !charged || (business_day <= row.due || (!row.is_open() || has_penalty(entries, instalment)))
+    !charged || (business_day <= row.due || (!row.is_open() || has_penalty(row)))
 }
 
 /// Whether the instalment that an entry names does not allow it. `charged` says whether the product has an overdue
 /// charge.
-pub(crate) fn is_forbidden(
-    charged: bool,
-    rows: &[Row],
-    entries: &[Entry],
-    entry: &Entry,
-    business_day: Day,
-) -> bool
-    ensures { result ≡ is_forbidden_there entry.now.kind charged rows.now entries.now entry.now business_day }
+pub(crate) fn is_forbidden(charged: bool, rows: &[Row], entry: &Entry, business_day: Day) -> bool
+    ensures { (loan : Loan) → IsSound loan → rows.now ≡ (state_of_loan loan).rows → result ≡ is_forbidden_there entry.now.kind charged rows.now loan.entries entry.now business_day }
 {
     match entry.kind {
         Kind::Repay | Kind::WriteOff | Kind::Refund => false,
@@ -148,7 +131,7 @@ pub(crate) fn is_forbidden(
                 return true;
             }
             let row = &rows[(entry.instalment - 1) as usize];
-            forbids_penalty(charged, row, entries, entry.instalment, business_day)
+            forbids_penalty(charged, row, business_day)
         }
         Kind::Waive => {
             if !is_there(rows.len(), entry.instalment) {
