@@ -9,3 +9,4 @@ pub mod VisibleLemmas
 pub mod OfficeRowsLemmas
 pub mod CatalogueLemmas
 pub mod LoanLemmas
+pub mod OneInstitution

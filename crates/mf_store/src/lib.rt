@@ -10,11 +10,13 @@ mod counts;
 mod first;
 mod institution;
 mod known;
+mod laws;
 mod loans;
 mod office_rows;
 mod reads;
 mod store;
 mod visible;
 
+pub use laws::one_institution;
 pub use office_rows::{OfficeRows, StaffMember};
 pub use store::Store;

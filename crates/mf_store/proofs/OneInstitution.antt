@@ -1,0 +1,317 @@
+-- A sound institution is the only one with its rows: each value is read back off its row, and an office's rows are those that stand first.
+use Rattle.std.proofs.Common.{◌≡◌, ◌<◌, ◌+◌, ◌∙◌, ℕ, suc, pos, Bool, true, false, cond, List, [], ◌∷◌, ◌++◌, map, take, drop, Option, refl, sym, ap, arith, ◌==◌}
+use Rattle.std.specs.List.{prefix_len}
+use Rattle.std.proofs.lemmas.Bool.Decides.{nat_tests}
+use Rattle.std.proofs.lemmas.List.Sums.{take_while-cons}
+use Rattle.mf_base.specs.DayText.{day_text}
+use Rattle.mf_base.specs.declared.day.Freq.{Freq}
+use Rattle.mf_base.specs.declared.day.Freq.TheVariants.{Weeks, Months}
+use Rattle.mf_catalog.specs.declared.charge.ChargeKind.{ChargeKind}
+use Rattle.mf_catalog.specs.declared.charge.ChargeKind.TheVariants.{Disbursement, Instalment, Overdue, DueDate}
+use Rattle.mf_catalog.specs.declared.charge.Calc.{Calc}
+use Rattle.mf_catalog.specs.declared.charge.Calc.TheVariants as calc
+use Rattle.mf_catalog.specs.declared.terms.Method.{Method}
+use Rattle.mf_catalog.specs.declared.terms.Method.TheVariants as method
+use Rattle.mf_catalog.specs.declared.terms.StrategyName.{StrategyName}
+use Rattle.mf_catalog.specs.declared.terms.StrategyName.TheVariants.{MifosStandard, PrincipalFirst, InterestFirst, DueFirst}
+use Rattle.mf_office.specs.declared.staff.Role.{Role}
+use Rattle.mf_office.specs.declared.staff.Role.TheVariants.{Teller, Officer, Manager}
+use Rattle.mf_model.specs.Institution.{Institution, Charge, Offer, Office, Rows, Staff, no_rows}
+use Rattle.mf_model.specs.Loans.{status_of}
+use Rattle.mf_model.specs.Sound.{IsSound}
+use Rattle.mf_model.specs.Tree.{Above, Ascending, parent_of}
+use Rattle.mf_model.specs.declared.loan.Loan.{Loan}
+use Rattle.mf_model.specs.declared.loan.Stage.{Stage}
+use Rattle.mf_model.specs.declared.loan.Stage.TheVariants.{Submitted, Approved, Withdrawn, Rejected}
+use Rattle.mf_store_records.specs.declared.meta.MetaRow.{MetaRow}
+use Rattle.mf_store_records.specs.declared.offices.OfficeRow.{OfficeRow}
+use Rattle.mf_store_records.specs.declared.staff.StaffRow.{StaffRow}
+use Rattle.mf_store_records.specs.declared.clients.ClientRow.{ClientRow}
+use Rattle.mf_store_records.specs.declared.charges.ChargeRow.{ChargeRow}
+use Rattle.mf_store_records.specs.declared.products.ProductRow.{ProductRow}
+use Rattle.mf_store_records.specs.declared.loans.LoanRow.{LoanRow}
+use Rattle.mf_store_records.specs.Numbers.{role_number, kind_number, calc_number, method_number, frequency_number, strategy_number, flag_number}
+use Rattle.mf_store.specs.Flat.{approval_text, office_under, meta_on, staff_in, client_in, charge_as, product_as, loan_in, numbered_from, all_rows, tables_of}
+use Rattle.mf_store_records.specs.Rows.{Lists}
+
+-- ---- rows in the order of their offices: those of the first office, and those of later ones
+
+-- how many rows are this office's before the first that is not
+abbrev own_count : {R : Type 0} → (R → ℕ) → ℕ → List R → ℕ
+own_count office_of x rows = prefix_len (λ r. office_of r == x) rows
+
+abbrev own : {R : Type 0} → (R → ℕ) → ℕ → List R → List R
+own office_of x rows = take (own_count office_of x rows) rows
+
+abbrev later : {R : Type 0} → (R → ℕ) → ℕ → List R → List R
+later office_of x rows = drop (own_count office_of x rows) rows
+
+own-cons : {R : Type 0} (office : R → ℕ) (x : ℕ) (r : R) (rs : List R) → own office x (r ∷ rs) ≡ cond (office r == x) (r ∷ own office x rs) []
+own-cons office x r rs = take_while-cons (λ s. office s == x) r rs
+
+later-cons : {R : Type 0} (office : R → ℕ) (x : ℕ) (r : R) (rs : List R) → later office x (r ∷ rs) ≡ cond (office r == x) (later office x rs) (r ∷ rs)
+later-cons office x r rs = go (office r == x)
+  where
+    go : (b : Bool) → drop (cond b (1 + own_count office x rs) 0) (r ∷ rs) ≡ cond b (later office x rs) (r ∷ rs)
+    go true = ap (λ n. drop n (r ∷ rs)) (let e : 1 + own_count office x rs ≡ suc (own_count office x rs) = omega arith in e)
+    go false = refl
+
+module _ {A R : Type 0} (make : ℕ → ℕ → A → R) (of : Rows → List A) (office : R → ℕ) (belongs : (x n : ℕ) (a : A) → office (make x n a) ≡ x) where
+  at_own : (x n : ℕ) (a : A) → (office (make x n a) == x) ≡ true
+  at_own x n a = let same : office (make x n a) ≡ x = belongs x n a in grind (arith, nat_tests)
+
+  own_block : (x n : ℕ) (xs : List A) (rest : List R) → own office x rest ≡ [] → own office x (numbered_from (make x) n xs ++ rest) ≡ numbered_from (make x) n xs
+  own_block x n [] rest h = h
+  own_block x n (a ∷ xs) rest h =
+      own-cons office x (make x n a) (numbered_from (make x) (n + 1) xs ++ rest) ∙ ap (λ b. cond b (make x n a ∷ own office x (numbered_from (make x) (n + 1) xs ++ rest)) []) (at_own x n a) ∙ ap (λ l. make x n a ∷ l) (own_block x (n + 1) xs rest h)
+
+  later_block : (x n : ℕ) (xs : List A) (rest : List R) → later office x rest ≡ rest → later office x (numbered_from (make x) n xs ++ rest) ≡ rest
+  later_block x n [] rest h = h
+  later_block x n (a ∷ xs) rest h =
+      later-cons office x (make x n a) (numbered_from (make x) (n + 1) xs ++ rest) ∙ ap (λ b. cond b (later office x (numbered_from (make x) (n + 1) xs ++ rest)) (make x n a ∷ numbered_from (make x) (n + 1) xs ++ rest)) (at_own x n a) ∙ later_block x (n + 1) xs rest h
+
+  -- offices with greater numbers have none of the first office's rows
+  none_own : (x : ℕ) (fs : List Office) → Above x fs → own_count office x (all_rows make of fs) ≡ 0
+  none_own x [] h = refl
+  none_own x (f ∷ fs) h = go (of f.rows) (none_own x fs h.1)
+    where
+      go : (xs : List A) → own_count office x (all_rows make of fs) ≡ 0 → own_count office x (numbered_from (make f.number) 1 xs ++ all_rows make of fs) ≡ 0
+      go [] more = more
+      go (a ∷ xs) more =
+          let low : x < f.number = h.0 in
+          let its : office (make f.number 1 a) ≡ f.number = belongs f.number 1 a in
+          let apart : (office (make f.number 1 a) == x) ≡ false = grind (arith, nat_tests) in
+          ap (λ b. cond b (1 + own_count office x (numbered_from (make f.number) (1 + 1) xs ++ all_rows make of fs)) 0) apart
+
+  own_of_first : (f : Office) (fs : List Office) → Above f.number fs → own office f.number (all_rows make of (f ∷ fs)) ≡ numbered_from (make f.number) 1 (of f.rows)
+  own_of_first f fs h = own_block f.number 1 (of f.rows) (all_rows make of fs) (ap (λ n. take n (all_rows make of fs)) (none_own f.number fs h))
+
+  later_of_first : (f : Office) (fs : List Office) → Above f.number fs → later office f.number (all_rows make of (f ∷ fs)) ≡ all_rows make of fs
+  later_of_first f fs h = later_block f.number 1 (of f.rows) (all_rows make of fs) (ap (λ n. drop n (all_rows make of fs)) (none_own f.number fs h))
+
+-- the office of a row, with none of the rows that belong to it
+abbrev office_of : OfficeRow → Office
+office_of r = record { number = r.number; parent = r.parent; name = r.name; rows = no_rows }
+
+-- the office, with none of the rows that belong to it
+abbrev bare : Office → Office
+bare f = record f { rows = no_rows }
+
+heads_of : (parents : ℕ → Option ℕ) (fs : List Office) → map office_of (map (office_under parents) fs) ≡ map bare fs
+heads_of parents [] = refl
+heads_of parents (f ∷ fs) = ap (λ gs. bare f ∷ gs) (heads_of parents fs)
+
+-- ---- numbers that stand for choices
+
+abbrev role_at : ℕ → Role
+role_at n = cond (n == 1) Teller (cond (n == 2) Officer Manager)
+
+role_read : (x : Role) → role_at (role_number x) ≡ x
+role_read Teller = refl
+role_read Officer = refl
+role_read Manager = refl
+
+role_same : (a b : Role) → role_number a ≡ role_number b → a ≡ b
+role_same a b e = sym (role_read a) ∙ ap role_at e ∙ role_read b
+
+abbrev kind_at : ℕ → ChargeKind
+kind_at n = cond (n == 1) Disbursement (cond (n == 2) Instalment (cond (n == 3) Overdue DueDate))
+
+kind_read : (x : ChargeKind) → kind_at (kind_number x) ≡ x
+kind_read Disbursement = refl
+kind_read Instalment = refl
+kind_read Overdue = refl
+kind_read DueDate = refl
+
+kind_same : (a b : ChargeKind) → kind_number a ≡ kind_number b → a ≡ b
+kind_same a b e = sym (kind_read a) ∙ ap kind_at e ∙ kind_read b
+
+abbrev calc_at : ℕ → Calc
+calc_at n = cond (n == 1) calc.Flat (cond (n == 2) calc.OfAmount (cond (n == 3) calc.OfInterest calc.OfBoth))
+
+calc_read : (x : Calc) → calc_at (calc_number x) ≡ x
+calc_read calc.Flat = refl
+calc_read calc.OfAmount = refl
+calc_read calc.OfInterest = refl
+calc_read calc.OfBoth = refl
+
+calc_same : (a b : Calc) → calc_number a ≡ calc_number b → a ≡ b
+calc_same a b e = sym (calc_read a) ∙ ap calc_at e ∙ calc_read b
+
+abbrev method_at : ℕ → Method
+method_at n = cond (n == 1) method.Flat (cond (n == 2) method.EqualPrincipal method.Fixed)
+
+method_read : (x : Method) → method_at (method_number x) ≡ x
+method_read method.Flat = refl
+method_read method.EqualPrincipal = refl
+method_read method.Fixed = refl
+
+method_same : (a b : Method) → method_number a ≡ method_number b → a ≡ b
+method_same a b e = sym (method_read a) ∙ ap method_at e ∙ method_read b
+
+abbrev frequency_at : ℕ → Freq
+frequency_at n = cond (n == 1) Weeks Months
+
+frequency_read : (x : Freq) → frequency_at (frequency_number x) ≡ x
+frequency_read Weeks = refl
+frequency_read Months = refl
+
+frequency_same : (a b : Freq) → frequency_number a ≡ frequency_number b → a ≡ b
+frequency_same a b e = sym (frequency_read a) ∙ ap frequency_at e ∙ frequency_read b
+
+abbrev strategy_at : ℕ → StrategyName
+strategy_at n = cond (n == 1) MifosStandard (cond (n == 2) PrincipalFirst (cond (n == 3) InterestFirst DueFirst))
+
+strategy_read : (x : StrategyName) → strategy_at (strategy_number x) ≡ x
+strategy_read MifosStandard = refl
+strategy_read PrincipalFirst = refl
+strategy_read InterestFirst = refl
+strategy_read DueFirst = refl
+
+strategy_same : (a b : StrategyName) → strategy_number a ≡ strategy_number b → a ≡ b
+strategy_same a b e = sym (strategy_read a) ∙ ap strategy_at e ∙ strategy_read b
+
+abbrev flag_at : ℕ → Bool
+flag_at n = cond (n == 0) false true
+
+flag_read : (x : Bool) → flag_at (flag_number x) ≡ x
+flag_read false = refl
+flag_read true = refl
+
+flag_same : (a b : Bool) → flag_number a ≡ flag_number b → a ≡ b
+flag_same a b e = sym (flag_read a) ∙ ap flag_at e ∙ flag_read b
+
+-- ---- values, by their rows
+
+pos_same : (m n : ℕ) → pos m ≡ pos n → m ≡ n
+pos_same m n e = cc
+
+staff_same : (x n : ℕ) (a b : Staff) → staff_in x n a ≡ staff_in x n b → a ≡ b
+staff_same x n a b e = λ t. record { name = ap (λ (r : StaffRow). r.name) e t; role = role_same a.role b.role (ap (λ (r : StaffRow). r.role) e) t }
+
+client_same : (x n : ℕ) (a b : List ℕ) → client_in x n a ≡ client_in x n b → a ≡ b
+client_same x n a b e = ap (λ (r : ClientRow). r.name) e
+
+charge_same : (n : ℕ) (a b : Charge) → charge_as n a ≡ charge_as n b → a ≡ b
+charge_same n a b e = λ t. record {
+  name = ap (λ (r : ChargeRow). r.name) e t;
+  kind = kind_same a.kind b.kind (ap (λ (r : ChargeRow). r.kind) e) t;
+  calc = calc_same a.calc b.calc (ap (λ (r : ChargeRow). r.calc) e) t;
+  value = pos_same a.value b.value (ap (λ (r : ChargeRow). r.value) e) t;
+}
+
+product_same : (n : ℕ) (a b : Offer) → product_as n a ≡ product_as n b → a ≡ b
+product_same n a b e = λ t. record {
+  members = record {
+    name = (e t).name;
+    method = method_same a.members.method b.members.method (ap (λ (r : ProductRow). r.method) e) t;
+    rate = (e t).rate;
+    freq = frequency_same a.members.freq b.members.freq (ap (λ (r : ProductRow). r.frequency) e) t;
+    every = (e t).every;
+    principal_grace = (e t).principal_grace;
+    interest_grace = (e t).interest_grace;
+    min_principal = pos_same a.members.min_principal b.members.min_principal (ap (λ (r : ProductRow). r.min_principal) e) t;
+    max_principal = pos_same a.members.max_principal b.members.max_principal (ap (λ (r : ProductRow). r.max_principal) e) t;
+    min_periods = (e t).min_periods;
+    max_periods = (e t).max_periods;
+    strategy = strategy_same a.members.strategy b.members.strategy (ap (λ (r : ProductRow). r.strategy) e) t;
+    disbursement_charge = (e t).disbursement_charge;
+    instalment_charge = (e t).instalment_charge;
+    overdue_charge = (e t).overdue_charge;
+  };
+  retired = flag_same a.retired b.retired (ap (λ (r : ProductRow). r.retired) e) t;
+}
+
+-- ---- lists of rows
+
+numbered_same : {A R : Type 0} (make : ℕ → A → R) (same : (n : ℕ) (a b : A) → make n a ≡ make n b → a ≡ b) (n : ℕ) (xs ys : List A) → numbered_from make n xs ≡ numbered_from make n ys → xs ≡ ys
+numbered_same make same n [] [] e = refl
+numbered_same make same n [] (y ∷ ys) e = absurd (cc)
+numbered_same make same n (x ∷ xs) [] e = absurd (cc)
+numbered_same make same n (x ∷ xs) (y ∷ ys) e =
+    let first : make n x ≡ make n y = cc in
+    let others : numbered_from make (n + 1) xs ≡ numbered_from make (n + 1) ys = cc in
+    λ t. same n x y first t ∷ numbered_same make same (n + 1) xs ys others t
+
+module _ {A R : Type 0} (make : ℕ → ℕ → A → R) (of : Rows → List A) (office : R → ℕ) (belongs : (x n : ℕ) (a : A) → office (make x n a) ≡ x) (same : (x n : ℕ) (a b : A) → make x n a ≡ make x n b → a ≡ b) where
+  all_same : (fs gs : List Office) → map bare fs ≡ map bare gs → Ascending fs → Ascending gs → all_rows make of fs ≡ all_rows make of gs → map (λ (f : Office). of f.rows) fs ≡ map (λ (f : Office). of f.rows) gs
+  all_same [] [] h up vp e = refl
+  all_same [] (g ∷ gs) h up vp e = absurd (cc)
+  all_same (f ∷ fs) [] h up vp e = absurd (cc)
+  all_same (f ∷ fs) (g ∷ gs) h up vp e =
+      let head : bare f ≡ bare g = cc in
+      let others : map bare fs ≡ map bare gs = cc in
+      let number : f.number ≡ g.number = ap (λ (o : Office). o.number) head in
+      let firsts : numbered_from (make f.number) 1 (of f.rows) ≡ numbered_from (make f.number) 1 (of g.rows) =
+      sym (own_of_first make of office belongs f fs up.0) ∙ (λ t. own office (number t) (e t)) ∙ own_of_first make of office belongs g gs vp.0 ∙ (λ t. numbered_from (make (sym number t)) 1 (of g.rows)) in
+      let laters : all_rows make of fs ≡ all_rows make of gs =
+      sym (later_of_first make of office belongs f fs up.0) ∙ (λ t. later office (number t) (e t)) ∙ later_of_first make of office belongs g gs vp.0 in
+      λ t. numbered_same (make f.number) (same f.number) 1 (of f.rows) (of g.rows) firsts t ∷ all_same fs gs others up.1 vp.1 laters t
+
+offices_same : (fs gs : List Office) → map bare fs ≡ map bare gs → map (λ (f : Office). f.rows.staff) fs ≡ map (λ (f : Office). f.rows.staff) gs → map (λ (f : Office). f.rows.clients) fs ≡ map (λ (f : Office). f.rows.clients) gs → map (λ (f : Office). f.rows.loans) fs ≡ map (λ (f : Office). f.rows.loans) gs → fs ≡ gs
+offices_same [] [] h s c l = refl
+offices_same [] (g ∷ gs) h s c l = absurd (cc)
+offices_same (f ∷ fs) [] h s c l = absurd (cc)
+offices_same (f ∷ fs) (g ∷ gs) h s c l =
+    let head : bare f ≡ bare g = cc in
+    let heads : map bare fs ≡ map bare gs = cc in
+    let staff : f.rows.staff ≡ g.rows.staff = cc in
+    let more_staff : map (λ (f : Office). f.rows.staff) fs ≡ map (λ (f : Office). f.rows.staff) gs = cc in
+    let clients : f.rows.clients ≡ g.rows.clients = cc in
+    let more_clients : map (λ (f : Office). f.rows.clients) fs ≡ map (λ (f : Office). f.rows.clients) gs = cc in
+    let loans : f.rows.loans ≡ g.rows.loans = cc in
+    let more_loans : map (λ (f : Office). f.rows.loans) fs ≡ map (λ (f : Office). f.rows.loans) gs = cc in
+    λ t. record { number = (head t).number; parent = (head t).parent; name = (head t).name; rows = record { staff = staff t; clients = clients t; loans = loans t } } ∷ offices_same fs gs heads more_staff more_clients more_loans t
+
+module _ (apart : (d e : ℕ) → day_text d ≡ day_text e → d ≡ e) where
+  abbrev day_of_stage : Stage → ℕ
+  day_of_stage Submitted = 0
+  day_of_stage (Approved d) = d
+  day_of_stage Withdrawn = 0
+  day_of_stage Rejected = 0
+
+  abbrev stage_at : ℕ → ℕ → Stage
+  stage_at n d = cond (n == 100) Submitted (cond (n == 200) (Approved d) (cond (n == 400) Withdrawn Rejected))
+
+  stage_read : (s : Stage) → stage_at (status_of s) (day_of_stage s) ≡ s
+  stage_read Submitted = refl
+  stage_read (Approved d) = refl
+  stage_read Withdrawn = refl
+  stage_read Rejected = refl
+
+  day_same : (a b : Stage) → approval_text a ≡ approval_text b → day_of_stage a ≡ day_of_stage b
+  day_same Submitted Submitted h = refl
+  day_same Submitted (Approved e) h = absurd (cc)
+  day_same Submitted Withdrawn h = refl
+  day_same Submitted Rejected h = refl
+  day_same (Approved d) Submitted h = absurd (cc)
+  day_same (Approved d) (Approved e) h = apart d e (let same : day_text d ≡ day_text e = cc in same)
+  day_same (Approved d) Withdrawn h = absurd (cc)
+  day_same (Approved d) Rejected h = absurd (cc)
+  day_same Withdrawn Submitted h = refl
+  day_same Withdrawn (Approved e) h = absurd (cc)
+  day_same Withdrawn Withdrawn h = refl
+  day_same Withdrawn Rejected h = refl
+  day_same Rejected Submitted h = refl
+  day_same Rejected (Approved e) h = absurd (cc)
+  day_same Rejected Withdrawn h = refl
+  day_same Rejected Rejected h = refl
+
+  loan_same : (x n : ℕ) (a b : Loan) → loan_in x n a ≡ loan_in x n b → a ≡ b
+  loan_same x n a b e =
+      let stage : a.stage ≡ b.stage = sym (stage_read a.stage) ∙ (λ t. stage_at (e t).stage (day_same a.stage b.stage (ap (λ (r : LoanRow). r.approved) e) t)) ∙ stage_read b.stage in
+      λ t. record { client = (e t).client; product = (e t).product; principal = pos_same a.principal b.principal (ap (λ (r : LoanRow). r.principal) e) t; periods = (e t).periods; stage = stage t }
+
+  pub one_institution : (i j : Institution) → IsSound i → IsSound j → tables_of i ≡ tables_of j → i ≡ j
+  one_institution i j s r e =
+      let heads : map bare i.offices ≡ map bare j.offices = sym (heads_of (parent_of i.offices) i.offices) ∙ (λ t. map office_of (e t).offices) ∙ heads_of (parent_of j.offices) j.offices in
+      let metas : meta_on i.catalogue.day ∷ [] ≡ meta_on j.catalogue.day ∷ [] = ap (λ (l : Lists). l.meta) e in
+      let one : meta_on i.catalogue.day ≡ meta_on j.catalogue.day = cc in
+      let day = apart i.catalogue.day j.catalogue.day (ap (λ (m : MetaRow). m.day) one) in
+      let charges = numbered_same charge_as charge_same 1 i.catalogue.charges j.catalogue.charges (ap (λ (l : Lists). l.charges) e) in
+      let products = numbered_same product_as product_same 1 i.catalogue.products j.catalogue.products (ap (λ (l : Lists). l.products) e) in
+      let staff = all_same staff_in (λ rows. rows.staff) (λ (r : StaffRow). r.office) (λ x n a. refl) staff_same i.offices j.offices heads s.tree.ascending r.tree.ascending (ap (λ (l : Lists). l.staff) e) in
+      let clients = all_same client_in (λ rows. rows.clients) (λ (r : ClientRow). r.office) (λ x n a. refl) client_same i.offices j.offices heads s.tree.ascending r.tree.ascending (ap (λ (l : Lists). l.clients) e) in
+      let loans = all_same loan_in (λ rows. rows.loans) (λ (r : LoanRow). r.office) (λ x n a. refl) loan_same i.offices j.offices heads s.tree.ascending r.tree.ascending (ap (λ (l : Lists). l.loans) e) in
+      let offices = offices_same i.offices j.offices heads staff clients loans in
+      λ t. record { catalogue = record { day = day t; charges = charges t; products = products t }; offices = offices t }

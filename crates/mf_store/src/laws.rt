@@ -1,0 +1,15 @@
+//! Laws of the tables. Each function does nothing: its contract is the law.
+
+ghost use Rattle.std.specs.Prelude.{◌≡◌};
+ghost use Rattle.mf_model.specs.Institution.{Institution};
+ghost use Rattle.mf_model.specs.Sound.{IsSound};
+ghost use Rattle.mf_store.specs.Flat.{tables_of};
+
+use mf_base::texts_of_days;
+
+/// The tables determine the institution: two sound ones that have the same rows are one and the same.
+pub fn one_institution()
+    ensures { (i j : Institution) → IsSound i → IsSound j → tables_of i ≡ tables_of j → i ≡ j }
+{
+    texts_of_days();
+}
