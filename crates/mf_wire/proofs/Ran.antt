@@ -143,8 +143,8 @@ module _ {S : Type 0} (P Q : S → List (List ℕ) → List (List ℕ) → S →
   pub whole : (old new : S) (unread left before after : Option (List ℕ)) (n : ℕ) → Whole P old new unread left before after n → Whole Q old new unread left before after n
   whole old new unread left before after n w = (w.0, w.1, w.2, answered old new _ before after n w.3)
 
-  pub stopped : (old new : S) (unread left before after : Option (List ℕ)) (n : ℕ) (failed : Bool) → Stopped P old new unread left before after n failed → Stopped Q old new unread left before after n failed
-  stopped old new unread left before after n failed w = (w.0, w.1, answered old new _ before after n w.2, w.3)
+  pub stopped : (old new : S) (unread left before after : Option (List ℕ)) (n faults_before faults_after : ℕ) → Stopped P old new unread left before after n faults_before faults_after → Stopped Q old new unread left before after n faults_before faults_after
+  stopped old new unread left before after n faults_before faults_after w = (w.0, w.1, answered old new _ before after n w.2, w.3)
 
   pub severed : (old new : S) (unread left before after : Option (List ℕ)) (n : ℕ) → Severed P old new unread left before after n → Severed Q old new unread left before after n
   severed old new unread left before after n w = (w.0, w.1, elim w.2 [ inl b ↦ inl (broken old new _ before after n b) | inr b ↦ inr (b.0, broken old new _ before after n b.1) ])

@@ -1,38 +1,38 @@
 -- What a run leaves of the streams that it reads and writes.
-use Rattle.std.specs.Prelude.{◌≡◌, ℕ, Bool, true, List, Option, Result, Ok, Err}
+use Rattle.std.specs.Prelude.{◌≡◌, ◌≢◌, ℕ, List, Option, Result, Ok, Err}
 use Rattle.mf_base.specs.declared.fault.Cause.{Cause}
 use Rattle.mf_base.specs.declared.fault.Cause.TheVariants.{Read, Write, Memory}
 use Rattle.mf_base.specs.declared.fault.StreamFault.{StreamFault}
 use Rattle.mf_wire_lines.specs.Told.{Whole, Stopped, Severed}
 
--- the bytes that a source had to give and has left, those that a sink held and holds, where they are known; and whether either had failed before, and has failed now
+-- the bytes that a source had to give and has left, those that a sink held and holds, where they are known; and the faults that each had counted before, and has counted now
 pub record Streams : Type 0 where
   pub unread : Option (List ℕ)
   pub left : Option (List ℕ)
   pub before : Option (List ℕ)
   pub after : Option (List ℕ)
-  pub source_had_failed : Bool
-  pub source_has_failed : Bool
-  pub sink_had_failed : Bool
-  pub sink_has_failed : Bool
+  pub source_faults_before : ℕ
+  pub source_faults_after : ℕ
+  pub sink_faults_before : ℕ
+  pub sink_faults_after : ℕ
 
 module _ {S : Type 0} (runs : S → List (List ℕ) → List (List ℕ) → S → Type 0) (old new : S) (streams : Streams) where
   -- the stream was read to its end, and each of its lines was answered; neither stream failed
   pub record EndsWhole (count : ℕ) : Type 0 where
     pub answered : Whole runs old new streams.unread streams.left streams.before streams.after count
-    pub source : streams.source_has_failed ≡ streams.source_had_failed
-    pub sink : streams.sink_has_failed ≡ streams.sink_had_failed
+    pub source : streams.source_faults_after ≡ streams.source_faults_before
+    pub sink : streams.sink_faults_after ≡ streams.sink_faults_before
 
-  -- the source failed, or 2^60 bytes came without an end: the lines that had ended were answered
+  -- the source failed in this run, or 2^60 bytes came without an end: the lines that had ended were answered; the sink did not fail
   pub record EndsReading (count : ℕ) : Type 0 where
-    pub answered : Stopped runs old new streams.unread streams.left streams.before streams.after count streams.source_has_failed
-    pub sink : streams.sink_has_failed ≡ streams.sink_had_failed
+    pub answered : Stopped runs old new streams.unread streams.left streams.before streams.after count streams.source_faults_before streams.source_faults_after
+    pub sink : streams.sink_faults_after ≡ streams.sink_faults_before
 
-  -- the sink failed: of the last line that was run only a part of the reply was written
+  -- the sink failed in this run: of the last line that was run only a part of the reply was written; the source did not fail
   pub record EndsWriting (count : ℕ) : Type 0 where
     pub answered : Severed runs old new streams.unread streams.left streams.before streams.after count
-    pub source : streams.source_has_failed ≡ streams.source_had_failed
-    pub sink : streams.sink_has_failed ≡ true
+    pub source : streams.source_faults_after ≡ streams.source_faults_before
+    pub sink : streams.sink_faults_after ≢ streams.sink_faults_before
 
   -- there was no memory to begin: nothing was answered
   pub record NeverBegins (count : ℕ) : Type 0 where

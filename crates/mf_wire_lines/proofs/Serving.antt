@@ -1,5 +1,5 @@
 -- A stream, piece by piece.
-use Rattle.std.proofs.Common.{◌≡◌, ℕ, ◌+◌, ◌^◌, ◌≤◌, Bool, true, inl, inr, List, [], ◌++◌, length, length-append, take, sym, ap, ◌∙◌, subst, arith, append-nil, refl, Option}
+use Rattle.std.proofs.Common.{◌≡◌, ◌≢◌, ℕ, ◌+◌, ◌^◌, ◌≤◌, inl, inr, List, [], ◌++◌, length, length-append, take, sym, ap, ◌∙◌, subst, arith, append-nil, refl, Option}
 use Rattle.std.specs.Io.KnownBytes.{Consumes, IsAtEnd, Keeps}
 use Rattle.std.proofs.KnownBytes.{Consumes-nil, Consumes-trans, Consumes-kept}
 use Rattle.mf_wire_lines.specs.Cut.{request, ended_lines, begun_line, request_lines}
@@ -34,13 +34,13 @@ Going-more step old now new unread mid left held held' piece before between afte
       sized = omega (arith, t.sized, long, length-append t.bytes piece);
     }
 
-pub Going-kept : {S : Type 0} (step : S → List ℕ → List ℕ → S → Type 0) (old now : S) (unread mid left : Option (List ℕ)) (held : List ℕ) (before after : Option (List ℕ)) (n size : ℕ) (failed : Bool)
-    → Keeps mid left → failed ≡ true → Going step old now unread mid held before after n size → Stopped (Run step) old now unread left before after n failed
-Going-kept step old now unread mid left held before after n size failed kept f t = (t.bytes, Consumes-kept unread mid left t.bytes t.read kept, t.answered, inl f)
+pub Going-kept : {S : Type 0} (step : S → List ℕ → List ℕ → S → Type 0) (old now : S) (unread mid left : Option (List ℕ)) (held : List ℕ) (before after : Option (List ℕ)) (n size faults_before faults_after : ℕ)
+    → Keeps mid left → faults_after ≢ faults_before → Going step old now unread mid held before after n size → Stopped (Run step) old now unread left before after n faults_before faults_after
+Going-kept step old now unread mid left held before after n size faults_before faults_after kept f t = (t.bytes, Consumes-kept unread mid left t.bytes t.read kept, t.answered, inl f)
 
-pub Going-endless : {S : Type 0} (step : S → List ℕ → List ℕ → S → Type 0) (old now : S) (unread left : Option (List ℕ)) (held : List ℕ) (before after : Option (List ℕ)) (n size : ℕ) (failed : Bool)
-    → 2 ^ 60 ≤ size → Going step old now unread left held before after n size → Stopped (Run step) old now unread left before after n failed
-Going-endless step old now unread left held before after n size failed many t = (t.bytes, t.read, t.answered, inr (omega (arith, t.sized)))
+pub Going-endless : {S : Type 0} (step : S → List ℕ → List ℕ → S → Type 0) (old now : S) (unread left : Option (List ℕ)) (held : List ℕ) (before after : Option (List ℕ)) (n size faults_before faults_after : ℕ)
+    → 2 ^ 60 ≤ size → Going step old now unread left held before after n size → Stopped (Run step) old now unread left before after n faults_before faults_after
+Going-endless step old now unread left held before after n size faults_before faults_after many t = (t.bytes, t.read, t.answered, inr (omega (arith, t.sized)))
 
 pub Going-end : {S : Type 0} (step : S → List ℕ → List ℕ → S → Type 0) (old now new : S) (unread mid left : Option (List ℕ)) (held : List ℕ) (before between after : Option (List ℕ)) (n m size : ℕ)
     → Consumes mid left [] → IsAtEnd left → Answered (Run step) now new (request held) between after m → Going step old now unread mid held before between n size → Whole (Run step) old new unread left before after (n + m)

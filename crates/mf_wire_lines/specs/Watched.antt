@@ -1,5 +1,5 @@
 -- What a watched reader and a watched writer hold.
-use Rattle.std.specs.Prelude.{Bool}
+use Rattle.std.specs.Prelude.{ℕ}
 use Rattle.mf_wire_lines.specs.declared.sources.WatchedReader.{WatchedReader}
 use Rattle.mf_wire_lines.specs.declared.sinks.WatchedWriter.{WatchedWriter}
 
@@ -7,14 +7,14 @@ use Rattle.mf_wire_lines.specs.declared.sinks.WatchedWriter.{WatchedWriter}
 abbrev pub reads_from : {R : Type 0} → WatchedReader R → R
 reads_from source = source.reader
 
--- whether a read has failed
-abbrev pub has_read_fault : {R : Type 0} → WatchedReader R → Bool
-has_read_fault source = source.has_failed
+-- its count of failed reads
+abbrev pub read_faults : {R : Type 0} → WatchedReader R → ℕ
+read_faults source = source.faults
 
 -- the writer inside
 abbrev pub writes_to : {W : Type 0} → WatchedWriter W → W
 writes_to sink = sink.writer
 
--- whether a write has failed or taken no byte
-abbrev pub has_write_fault : {W : Type 0} → WatchedWriter W → Bool
-has_write_fault sink = sink.has_failed
+-- its count of writes that failed or took no byte
+abbrev pub write_faults : {W : Type 0} → WatchedWriter W → ℕ
+write_faults sink = sink.faults

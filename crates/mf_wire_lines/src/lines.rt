@@ -1,5 +1,5 @@
 // A run over a stream of request lines.
-ghost use Rattle.std.specs.Prelude.{◌≡◌, ◌≢◌, ℕ, ◌+◌, ◌-◌, ◌<◌, ◌≤◌, ◌^◌, List, [], true, length, take, IfOk, IfErr, OnOk};
+ghost use Rattle.std.specs.Prelude.{◌≡◌, ◌≢◌, ℕ, ◌+◌, ◌-◌, ◌<◌, ◌≤◌, ◌^◌, List, [], length, take, IfOk, IfErr, OnOk};
 ghost use Rattle.mf_base.specs.declared.fault.Cause.TheVariants as cause;
 ghost use Rattle.mf_wire_lines.specs.Cut.{without_return as line_without_return, request};
 ghost use Rattle.mf_wire_lines.specs.Reading.{ended_from, begun_from};
@@ -60,8 +60,8 @@ fn answer_line<S, D: LineDesk<S>, W: Sink>(
         (W.written sink.old) (W.written sink.new) n) }
     ensures err { IfErr result (λ _. Half (D.may_answer desk.now) state.old state.new line.now
         (W.written sink.old) (W.written sink.new)) }
-    ensures sound { OnOk result (W.has_failed sink.new ≡ W.has_failed sink.old) }
-    ensures fault { IfErr result (λ _. W.has_failed sink.new ≡ true) }
+    ensures sound { OnOk result (W.faults sink.new ≡ W.faults sink.old) }
+    ensures fault { IfErr result (λ _. W.faults sink.new ≢ W.faults sink.old) }
 {
     if line.is_empty() {
         return Ok(0);
@@ -99,8 +99,8 @@ fn feed<S, D: LineDesk<S>, W: Sink>(
     ensures err { IfErr result (λ n. (begun : List ℕ) → held.old ≡ take 65538 begun
         → (n ≤ length piece.now)
         × Broken (Run (D.may_answer desk.now)) state.old state.new (ended_from begun piece.now) (W.written sink.old) (W.written sink.new) n) }
-    ensures sound { OnOk result (W.has_failed sink.new ≡ W.has_failed sink.old) }
-    ensures fault { IfErr result (λ _. W.has_failed sink.new ≡ true) }
+    ensures sound { OnOk result (W.faults sink.new ≡ W.faults sink.old) }
+    ensures fault { IfErr result (λ _. W.faults sink.new ≢ W.faults sink.old) }
 {
     let mut answered = 0;
     for byte in piece {
@@ -138,17 +138,17 @@ pub fn run_lines<S, D: LineDesk<S>, R: Source, W: Sink>(
 ) -> Result<u64, StreamFault>
     ensures ok { IfOk result (Whole (Run (D.may_answer desk.now)) state.old state.new (R.unread source.old) (R.unread source.new)
         (W.written sink.old) (W.written sink.new)) }
-    ensures ok_source { OnOk result (R.has_failed source.new ≡ R.has_failed source.old) }
-    ensures ok_sink { OnOk result (W.has_failed sink.new ≡ W.has_failed sink.old) }
+    ensures ok_source { OnOk result (R.faults source.new ≡ R.faults source.old) }
+    ensures ok_sink { OnOk result (W.faults sink.new ≡ W.faults sink.old) }
 
     ensures read { IfErr result (λ f. f.cause ≡ cause.Read → Stopped (Run (D.may_answer desk.now)) state.old state.new (R.unread source.old) (R.unread source.new)
-        (W.written sink.old) (W.written sink.new) f.answered (R.has_failed source.new)) }
-    ensures read_sink { IfErr result (λ f. f.cause ≡ cause.Read → W.has_failed sink.new ≡ W.has_failed sink.old) }
+        (W.written sink.old) (W.written sink.new) f.answered (R.faults source.old) (R.faults source.new)) }
+    ensures read_sink { IfErr result (λ f. f.cause ≡ cause.Read → W.faults sink.new ≡ W.faults sink.old) }
 
     ensures write { IfErr result (λ f. f.cause ≡ cause.Write → Severed (Run (D.may_answer desk.now)) state.old state.new (R.unread source.old) (R.unread source.new)
         (W.written sink.old) (W.written sink.new) f.answered) }
-    ensures write_sink { IfErr result (λ f. f.cause ≡ cause.Write → W.has_failed sink.new ≡ true) }
-    ensures write_source { IfErr result (λ f. f.cause ≡ cause.Write → R.has_failed source.new ≡ R.has_failed source.old) }
+    ensures write_sink { IfErr result (λ f. f.cause ≡ cause.Write → W.faults sink.new ≢ W.faults sink.old) }
+    ensures write_source { IfErr result (λ f. f.cause ≡ cause.Write → R.faults source.new ≡ R.faults source.old) }
 
     ensures memory { IfErr result (λ f. f.cause ≡ cause.Memory
         → (f.answered ≡ 0) × (state.new ≡ state.old) × (source.new ≡ source.old) × (sink.new ≡ sink.old)) }
@@ -188,17 +188,17 @@ fn serve_lines<S, D: LineDesk<S>, R: Source, W: Sink>(
     requires room { length room.old ≡ 65536 }
     ensures ok { IfOk result (Whole (Run (D.may_answer desk.now)) state.old state.new (R.unread source.old) (R.unread source.new)
         (W.written sink.old) (W.written sink.new)) }
-    ensures ok_source { OnOk result (R.has_failed source.new ≡ R.has_failed source.old) }
-    ensures ok_sink { OnOk result (W.has_failed sink.new ≡ W.has_failed sink.old) }
+    ensures ok_source { OnOk result (R.faults source.new ≡ R.faults source.old) }
+    ensures ok_sink { OnOk result (W.faults sink.new ≡ W.faults sink.old) }
 
     ensures read { IfErr result (λ f. f.cause ≡ cause.Read → Stopped (Run (D.may_answer desk.now)) state.old state.new (R.unread source.old) (R.unread source.new)
-        (W.written sink.old) (W.written sink.new) f.answered (R.has_failed source.new)) }
-    ensures read_sink { IfErr result (λ f. f.cause ≡ cause.Read → W.has_failed sink.new ≡ W.has_failed sink.old) }
+        (W.written sink.old) (W.written sink.new) f.answered (R.faults source.old) (R.faults source.new)) }
+    ensures read_sink { IfErr result (λ f. f.cause ≡ cause.Read → W.faults sink.new ≡ W.faults sink.old) }
 
     ensures write { IfErr result (λ f. f.cause ≡ cause.Write → Severed (Run (D.may_answer desk.now)) state.old state.new (R.unread source.old) (R.unread source.new)
         (W.written sink.old) (W.written sink.new) f.answered) }
-    ensures write_sink { IfErr result (λ f. f.cause ≡ cause.Write → W.has_failed sink.new ≡ true) }
-    ensures write_source { IfErr result (λ f. f.cause ≡ cause.Write → R.has_failed source.new ≡ R.has_failed source.old) }
+    ensures write_sink { IfErr result (λ f. f.cause ≡ cause.Write → W.faults sink.new ≢ W.faults sink.old) }
+    ensures write_source { IfErr result (λ f. f.cause ≡ cause.Write → R.faults source.new ≡ R.faults source.old) }
 
     ensures memory { IfErr result (λ f. f.cause ≢ cause.Memory) }
 {

@@ -1,5 +1,5 @@
 // Replies written by a loop over the sink's writes.
-ghost use Rattle.std.specs.Prelude.{◌≡◌, ◌≢◌, ◌<◌, ◌≤◌, ◌++◌, ◌∷◌, [], true, ℕ, OnOk, OnErr, IfErr, decimal, length, take};
+ghost use Rattle.std.specs.Prelude.{◌≡◌, ◌≢◌, ◌<◌, ◌≤◌, ◌++◌, ◌∷◌, [], ℕ, OnOk, OnErr, IfErr, decimal, length, take};
 ghost use Rattle.std.specs.Io.KnownBytes.{Appends};
 ghost use Rattle.mf_wire_lines.specs.Replies.{line_of, fault_line, fault_status};
 
@@ -11,8 +11,8 @@ use mf_base::Fault;
 pub fn put<W: Sink>(sink: &mut W, bytes: &[u8]) -> Result<(), WriteFault>
     ensures ok { OnOk result (Appends (W.written sink.old) (W.written sink.new) bytes.now) }
     ensures err { OnErr result ((n : ℕ) × (n < length bytes.now) × Appends (W.written sink.old) (W.written sink.new) (take n bytes.now)) }
-    ensures sound { OnOk result (W.has_failed sink.new ≡ W.has_failed sink.old) }
-    ensures fault { OnErr result (W.has_failed sink.new ≡ true) }
+    ensures sound { OnOk result (W.faults sink.new ≡ W.faults sink.old) }
+    ensures fault { OnErr result (W.faults sink.new ≢ W.faults sink.old) }
 {
     let mut done = 0;
     while done < bytes.len() {
@@ -43,8 +43,8 @@ fn put_refusal<W: Sink>(sink: &mut W, fault: Fault) -> Result<(), WriteFault>
     requires { fault ≢ Fault.F19 }
     ensures ok { OnOk result (Appends (W.written sink.old) (W.written sink.new) (fault_line fault)) }
     ensures err { OnErr result ((n : ℕ) × (n < length (fault_line fault)) × Appends (W.written sink.old) (W.written sink.new) (take n (fault_line fault))) }
-    ensures sound { OnOk result (W.has_failed sink.new ≡ W.has_failed sink.old) }
-    ensures fault { OnErr result (W.has_failed sink.new ≡ true) }
+    ensures sound { OnOk result (W.faults sink.new ≡ W.faults sink.old) }
+    ensures fault { OnErr result (W.faults sink.new ≢ W.faults sink.old) }
 {
     let (status, body) = fault_text(fault);
     let Ok(()) = put(sink, status_text(status).as_slice()) else {
@@ -61,8 +61,8 @@ pub fn put_reply<W: Sink>(sink: &mut W, reply: &Result<String, Fault>) -> Result
     requires { IfErr reply.now (λ f. f ≢ Fault.F19) }
     ensures ok { OnOk result (Appends (W.written sink.old) (W.written sink.new) (line_of reply.now)) }
     ensures err { OnErr result ((n : ℕ) × (n < length (line_of reply.now)) × Appends (W.written sink.old) (W.written sink.new) (take n (line_of reply.now))) }
-    ensures sound { OnOk result (W.has_failed sink.new ≡ W.has_failed sink.old) }
-    ensures fault { OnErr result (W.has_failed sink.new ≡ true) }
+    ensures sound { OnOk result (W.faults sink.new ≡ W.faults sink.old) }
+    ensures fault { OnErr result (W.faults sink.new ≢ W.faults sink.old) }
 {
     match reply {
         Ok(text) => put(sink, text.as_bytes()),

@@ -1,11 +1,13 @@
 //! The loan desk's program: reads its words, and does what they ask for.
 #![tactic(auto)]
 
-ghost use Rattle.std.specs.Prelude.{◌≤◌};
+ghost use Rattle.std.specs.Prelude.{◌≡◌, ◌≤◌, IfOk};
 ghost use Rattle.mf_base.specs.DayText.{last_entered_day};
 ghost use Rattle.microloan_words.specs.Asked.{IsWithinLimits};
+ghost use Rattle.microloan_commands.specs.Printed.{HasLongGrace};
+ghost use Rattle.microloan.specs.Status.{IsStatusOf, IsPrintStatus, IsWordsStatus};
 
-use mf_base::Cause;
+use mf_base::{Cause, StreamFault};
 use mf_wire_lines::{WatchedReader, WatchedWriter};
 use microloan_commands::{answer_lines, schedule};
 use microloan_words::{BatchWords, Command, ScheduleWords, Words, command};
@@ -51,10 +53,19 @@ fn answer_input<R: Print + Eprint + Input + AllocGlobal>(
     asked: &BatchWords,
 ) -> io::Result<u8>
     requires { asked.now.day ≤ last_entered_day }
+    ensures { IfOk result IsPrintStatus }
 {
     let mut source = WatchedReader::new(rt.reader());
     let mut sink = WatchedWriter::new(io::writer(rt));
-    match answer_lines(rt.alloc(), asked.day, &mut source, &mut sink) {
+    let ended = answer_lines(rt.alloc(), asked.day, &mut source, &mut sink);
+    tell_end(rt, &ended)
+}
+
+/// Says which fault ended a run, if one did, and gives the program's status.
+fn tell_end<R: Eprint>(rt: &R, ended: &Result<u64, StreamFault>) -> io::Result<u8>
+    ensures { IfOk result (IsStatusOf ended.now) }
+{
+    match ended {
         Ok(_) => Ok(DONE),
         Err(fault) => tell_fault(rt, name_of(fault.cause)),
     }
@@ -63,6 +74,8 @@ fn answer_input<R: Print + Eprint + Input + AllocGlobal>(
 /// Prints the schedule that the words ask for, and gives the program's status.
 fn print_schedule<R: Print + Eprint + AllocGlobal>(rt: &R, asked: &ScheduleWords) -> io::Result<u8>
     requires { IsWithinLimits asked.now }
+    ensures status { IfOk result IsPrintStatus }
+    ensures long_grace { HasLongGrace asked.now → IfOk result (λ status. status ≡ 1) }
 {
     match schedule(rt.alloc(), asked) {
         Ok(text) => print_text(rt, text),
@@ -71,7 +84,9 @@ fn print_schedule<R: Print + Eprint + AllocGlobal>(rt: &R, asked: &ScheduleWords
 }
 
 /// Says what is wrong with words, or the help that they ask for, and gives the program's status.
-fn refuse_words<R: Print + Eprint>(rt: &R, words: Words) -> io::Result<u8> {
+fn refuse_words<R: Print + Eprint>(rt: &R, words: Words) -> io::Result<u8>
+    ensures { IfOk result (IsWordsStatus words) }
+{
     match words {
         Words::Help(text) => print_text(rt, text),
         Words::Bad(line) => {
@@ -83,8 +98,17 @@ fn refuse_words<R: Print + Eprint>(rt: &R, words: Words) -> io::Result<u8> {
 }
 
 /// Prints a text, and gives the program's status.
-fn print_text<R: Print + Eprint>(rt: &R, text: String) -> io::Result<u8> {
-    match rt.print(text) {
+fn print_text<R: Print + Eprint>(rt: &R, text: String) -> io::Result<u8>
+    ensures { IfOk result IsPrintStatus }
+{
+    tell_printed(rt, &rt.print(text))
+}
+
+/// Says that a text was not printed, where it wasn't, and gives the program's status.
+fn tell_printed<R: Eprint>(rt: &R, printed: &io::Result<()>) -> io::Result<u8>
+    ensures { IfOk result (IsStatusOf printed.now) }
+{
+    match printed {
         Ok(()) => Ok(DONE),
         Err(_) => tell_fault(rt, name_of(Cause::Write)),
     }
@@ -100,7 +124,9 @@ fn name_of(cause: Cause) -> &'static str {
 }
 
 /// Says which fault it was, and gives the program's status.
-fn tell_fault<R: Eprint>(rt: &R, fault: impl fmt::Display + Drop) -> io::Result<u8> {
+fn tell_fault<R: Eprint>(rt: &R, fault: impl fmt::Display + Drop) -> io::Result<u8>
+    ensures { IfOk result (λ status. status ≡ 1) }
+{
     rt.eprintln(format_args!("microloan: {fault}"))?;
     Ok(FAULT)
 }

@@ -1,5 +1,6 @@
-ghost use Rattle.std.specs.Prelude.{◌≤◌, IfOk};
+ghost use Rattle.std.specs.Prelude.{◌≡◌, ◌≤◌, IfErr};
 ghost use Rattle.mf_base.specs.DayText.{last_entered_day};
+ghost use Rattle.mf_base.specs.declared.fault.Cause.TheVariants as cause;
 ghost use Rattle.microloan_commands.specs.Batch.{AnswersFromNew};
 
 use mf_base::{Cause, Day, StreamFault};
@@ -11,6 +12,9 @@ use std::alloc::Global;
 
 /// Answers the request lines of a source over a new institution in memory, which begins on a day, and gives how many
 /// replies were written.
+///
+/// Its errors are those of `mf_wire::run`. Memory is also told where there is none for the institution; with Memory
+/// nothing was read, answered or written.
 pub fn answer_lines<R: Source, W: Sink>(
     alloc: Global,
     day: Day,
@@ -18,7 +22,17 @@ pub fn answer_lines<R: Source, W: Sink>(
     sink: &mut W,
 ) -> Result<u64, StreamFault>
     requires { day ≤ last_entered_day }
-    ensures { IfOk result (AnswersFromNew ⟦<PageStore as TreeStore>⟧ day (R.unread source.old) (R.unread source.new) (W.written sink.old) (W.written sink.new)) }
+    ensures ends { AnswersFromNew ⟦<PageStore as TreeStore>⟧ day (record {
+      unread = R.unread source.old;
+      left = R.unread source.new;
+      before = W.written sink.old;
+      after = W.written sink.new;
+      source_faults_before = R.faults source.old;
+      source_faults_after = R.faults source.new;
+      sink_faults_before = W.faults sink.old;
+      sink_faults_after = W.faults sink.new;
+    }) result }
+    ensures memory { IfErr result (λ f. f.cause ≡ cause.Memory → (source.new ≡ source.old) × (sink.new ≡ sink.old)) }
 {
     let Ok(mut store) = Store::in_memory(alloc, day) else {
         return Err(StreamFault {

@@ -6,7 +6,7 @@ abbrev pub invariant-loop-done : goal.invariant-loop-done
 invariant-loop-done g l = record {
   within : l.done ≤ length l.bytes;
   told : Appends (g.W.Sink.written l.initial.sink) (g.W.Sink.written l.sink) (take l.done l.bytes);
-  sound : g.W.Sink.has_failed l.sink ≡ g.W.Sink.has_failed l.initial.sink;
+  sound : g.W.Sink.faults l.sink ≡ g.W.Sink.faults l.initial.sink;
 }
 
 abbrev pub decreases-loop-done : goal.decreases-loop-done

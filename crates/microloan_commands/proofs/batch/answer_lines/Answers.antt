@@ -1,8 +1,13 @@
-use Rattle.std.proofs.lemmas.Result.{IfOk-weaker}
+use Rattle.std.proofs.Common.{inr, refl}
+use Rattle.mf_store_pages.proofs.OpenLemmas.{always_clean}
 use Rattle.microloan_commands.proofs.batch.answer_lines.Goals as goal
 
-pub returns : goal.returns
-returns g c =
-    IfOk-weaker c.run.result _ _
-    (λ count answered. record { first = c.in-Ok.store; last = c.run.new.store; stood = c.in-Ok.ensures.stands; answered = answered })
-    c.run.ensures.ok
+pub returns-clause-ends : goal.returns-clause-ends
+returns-clause-ends g c = inr (record {
+  first = c.in-Ok.store;
+  last = c.run.new.store;
+  stood = c.in-Ok.ensures.stands;
+  left = c.in-Ok.ensures.leaves;
+  clean = always_clean (λ _. refl) c.run.new.store.connection;
+  ended = c.run.ensures.ends;
+})
