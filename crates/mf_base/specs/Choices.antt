@@ -1,5 +1,5 @@
 -- Choices by their names and their numbers; weeks and months are one.
-use Rattle.std.specs.Prelude.{ℕ, List, [], ◌∷◌, codes, Option}
+use Rattle.std.specs.Prelude.{ℕ, ◌==◌, List, [], ◌∷◌, codes, Option}
 use Rattle.std.specs.List.{find}
 use Rattle.std.specs.Str.{bytes_eq}
 use Rattle.mf_base.specs.declared.day.Freq.{Freq}
@@ -8,6 +8,10 @@ use Rattle.mf_base.specs.declared.day.Freq.TheVariants.{Weeks, Months}
 -- the choice of this name, among some
 abbrev pub choice_named : {A : Type 0} → (A → List ℕ) → List A → List ℕ → Option A
 choice_named name_of choices text = find (λ choice. bytes_eq (name_of choice) text) choices
+
+-- the choice of this number, among some
+abbrev pub choice_numbered : {A : Type 0} → (A → ℕ) → List A → ℕ → Option A
+choice_numbered number_of choices number = find (λ choice. number_of choice == number) choices
 
 -- whether a period goes by weeks or by months
 abbrev pub frequency_name : Freq → List ℕ

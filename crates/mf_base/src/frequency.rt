@@ -1,49 +1,33 @@
-//! Names and numbers of weeks and months.
+//! Weeks and months as a choice.
 
-ghost use Rattle.std.specs.Prelude.{◌≡◌, Some, IfSome};
-ghost use Rattle.mf_base.specs.Choices.{choice_named, frequencies, frequency_name, frequency_number};
-ghost use Rattle.mf_base.specs.declared.day.Freq.{Freq};
+ghost use Rattle.std.specs.Prelude.{refl};
+ghost use Rattle.mf_base.specs.Choices.{frequencies, frequency_name, frequency_number};
+ghost use Rattle.mf_base.specs.declared.day.Freq.TheVariants.{Weeks, Months};
 
+use crate::choice::Choice;
 use crate::day::Freq;
 
-impl Freq {
-    /// Weeks and months, in the order of their numbers.
-    pub const ALL: [Freq; 2] = [Freq::Weeks, Freq::Months];
+impl Choice for Freq {
+    ghost choices = { frequencies };
 
-    /// Its name, in requests, replies and options.
-    pub fn name(self) -> &'static str
-        ensures { result.now ≡ frequency_name self }
-    {
+    ghost name_of = { frequency_name };
+
+    ghost number_of = { frequency_number };
+
+    fn all() -> &'static [Freq] {
+        &[Freq::Weeks, Freq::Months]
+    }
+
+    fn name(self) -> &'static str {
         match self {
             Freq::Weeks => "weeks",
             Freq::Months => "months",
         }
     }
 
-    /// The one of this name.
-    pub fn from_name(text: &str) -> Option<Freq>
-        ensures value { result ≡ choice_named frequency_name frequencies text.now }
-        ensures some { IfSome result (λ freq. text.now ≡ frequency_name freq) }
-        ensures every { (freq : Freq) → text.now ≡ frequency_name freq → result ≡ Some freq }
-    {
-        Freq::ALL.iter().copied().find(|freq| freq.name() == text)
-    }
-
-    /// The number by which the tables keep it.
-    pub fn number(self) -> u32
-        ensures { result ≡ frequency_number self }
-    {
+    fn number(self) -> u32 {
         self as u32
     }
 
-    /// The one of this number.
-    pub fn from_number(number: u32) -> Option<Freq>
-        ensures some { IfSome result (λ freq. number ≡ frequency_number freq) }
-        ensures every { (freq : Freq) → number ≡ frequency_number freq → result ≡ Some freq }
-    {
-        Freq::ALL
-            .iter()
-            .copied()
-            .find(|freq| freq.number() == number)
-    }
+    ghost told_apart = { elim [ Weeks ↦ (refl, refl) | Months ↦ (refl, refl) ] };
 }

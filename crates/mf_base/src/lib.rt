@@ -2,6 +2,7 @@
 //! money texts, names, rounding and splitting into parts, and reading and writing of texts.
 #![tactic(auto)]
 
+mod choice;
 mod day;
 mod digits;
 mod fault;
@@ -12,6 +13,7 @@ mod name;
 mod rounding;
 mod texts;
 
+pub use choice::Choice;
 pub use day::{Day, Freq};
 pub use digits::parse_digits;
 pub use fault::{Cause, Fault, StreamFault};

@@ -1,5 +1,4 @@
 use mf_base::Name;
-use std::alloc::AllocError;
 
 /// When a charge is taken. An overdue charge is a penalty, every other one a fee.
 #[derive(Clone, Copy, PartialEq, Eq, Debug)]
@@ -28,7 +27,7 @@ pub enum Calc {
 }
 
 /// A charge of the catalogue.
-#[derive(Debug, Drop)]
+#[derive(Clone, Debug, Drop)]
 pub struct ChargeDef {
     /// Its number in the catalogue, from 1.
     pub number: u32,
@@ -40,20 +39,4 @@ pub struct ChargeDef {
     pub calc: Calc,
     /// Whole cents where it is flat, else hundredths of a percent.
     pub value: u64,
-}
-
-impl Clone for ChargeDef {
-    ghost use Rattle.std.specs.Prelude.{◌≡◌};
-
-    ghost is_clone = { λ charge copy. copy ≡ charge };
-
-    fn clone(&self) -> Result<ChargeDef, AllocError> {
-        Ok(ChargeDef {
-            number: self.number,
-            name: self.name.clone()?,
-            kind: self.kind,
-            calc: self.calc,
-            value: self.value,
-        })
-    }
 }

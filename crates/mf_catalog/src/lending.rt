@@ -1,4 +1,5 @@
 ghost use Rattle.std.specs.Prelude.{◌≡◌, ◌⊎◌, ℕ, cond, option_map, true, Ok, Err, IfOk, IfErr};
+ghost use Rattle.mf_base.specs.declared.fault.Fault.{Fault};
 ghost use Rattle.mf_base.specs.declared.fault.Fault.TheVariants.{F7, F8, F20};
 ghost use Rattle.mf_catalog.specs.Product.{charge_at, charges_there, is_consistent, limits_agree, kinds_right, is_of_kind, lending, charge_of, terms_of as terms_given};
 
@@ -114,7 +115,8 @@ pub fn terms_of(product: &Product, charges: &[ChargeDef]) -> Result<Terms, Fault
 }
 
 /// The terms of a new loan of a principal, in cents, for a number of periods: F7 where the product is retired, then F8
-/// outside its limits. The charges hold those that the product names. F20 for want of memory.
+/// outside its limits, both before any memory is taken; then the terms, or F20 for want of memory. The charges hold
+/// those that the product names.
 pub fn terms_for(
     product: &Product,
     charges: &[ChargeDef],
@@ -123,11 +125,9 @@ pub fn terms_for(
 ) -> Result<Terms, Fault>
     requires named { charges_there (charge_at charges.now) product.now.members ≡ true }
     ensures ok { IfOk result (λ terms. (lending product.now principal periods ≡ Ok tt) × (terms ≡ terms_given (charge_at charges.now) product.now.members)) }
-    ensures err { IfErr result (λ fault. (fault ≡ F20) ⊎ (lending product.now principal periods ≡ Err fault)) }
+    ensures refused { (fault : Fault) → lending product.now principal periods ≡ Err fault → result ≡ Err fault }
+    ensures err { IfErr result (λ fault. (lending product.now principal periods ≡ Err fault) ⊎ ((lending product.now principal periods ≡ Ok tt) × (fault ≡ F20))) }
 {
-    match check_loan(product, principal, periods) {
-        Ok(()) => {}
-        Err(fault) => return Err(fault),
-    }
+    check_loan(product, principal, periods)?;
     terms_of(product, charges)
 }

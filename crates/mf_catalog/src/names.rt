@@ -1,29 +1,33 @@
-//! Names and numbers of the choices that charges and products make.
+//! The choices that charges and products make, with their names and numbers.
 
-ghost use Rattle.std.specs.Prelude.{◌≡◌, Some, IfSome};
-ghost use Rattle.mf_base.specs.Choices.{choice_named};
+ghost use Rattle.std.specs.Prelude.{refl};
 ghost use Rattle.mf_catalog.specs.Names.{kind_name, kind_number, kinds, calc_name, calc_number, calcs, method_name, method_number, methods, strategy_name, strategy_number, strategies};
-ghost use Rattle.mf_catalog.specs.declared.charge.ChargeKind.{ChargeKind};
-ghost use Rattle.mf_catalog.specs.declared.charge.Calc.{Calc};
-ghost use Rattle.mf_catalog.specs.declared.terms.Method.{Method};
-ghost use Rattle.mf_catalog.specs.declared.terms.StrategyName.{StrategyName};
+ghost use Rattle.mf_catalog.specs.declared.charge.ChargeKind.TheVariants.{Disbursement, Instalment, Overdue, DueDate};
+ghost use Rattle.mf_catalog.specs.declared.charge.Calc.TheVariants as calc;
+ghost use Rattle.mf_catalog.specs.declared.terms.Method.TheVariants as method;
+ghost use Rattle.mf_catalog.specs.declared.terms.StrategyName.TheVariants.{MifosStandard, PrincipalFirst, InterestFirst, DueFirst};
 
 use crate::charge::{Calc, ChargeKind};
 use crate::terms::{Method, StrategyName};
+use mf_base::Choice;
 
-impl ChargeKind {
-    /// The kinds, in the order of their numbers.
-    pub const ALL: [ChargeKind; 4] = [
-        ChargeKind::Disbursement,
-        ChargeKind::Instalment,
-        ChargeKind::Overdue,
-        ChargeKind::DueDate,
-    ];
+impl Choice for ChargeKind {
+    ghost choices = { kinds };
 
-    /// Its name, in requests and replies.
-    pub fn name(self) -> &'static str
-        ensures { result.now ≡ kind_name self }
-    {
+    ghost name_of = { kind_name };
+
+    ghost number_of = { kind_number };
+
+    fn all() -> &'static [ChargeKind] {
+        &[
+            ChargeKind::Disbursement,
+            ChargeKind::Instalment,
+            ChargeKind::Overdue,
+            ChargeKind::DueDate,
+        ]
+    }
+
+    fn name(self) -> &'static str {
         match self {
             ChargeKind::Disbursement => "disbursement",
             ChargeKind::Instalment => "instalment",
@@ -32,45 +36,25 @@ impl ChargeKind {
         }
     }
 
-    /// The one of this name.
-    pub fn from_name(text: &str) -> Option<ChargeKind>
-        ensures value { result ≡ choice_named kind_name kinds text.now }
-        ensures some { IfSome result (λ kind. text.now ≡ kind_name kind) }
-        ensures every { (kind : ChargeKind) → text.now ≡ kind_name kind → result ≡ Some kind }
-    {
-        ChargeKind::ALL
-            .iter()
-            .copied()
-            .find(|kind| kind.name() == text)
-    }
-
-    /// The number by which the tables keep it.
-    pub fn number(self) -> u32
-        ensures { result ≡ kind_number self }
-    {
+    fn number(self) -> u32 {
         self as u32
     }
 
-    /// The one of this number.
-    pub fn from_number(number: u32) -> Option<ChargeKind>
-        ensures some { IfSome result (λ kind. number ≡ kind_number kind) }
-        ensures every { (kind : ChargeKind) → number ≡ kind_number kind → result ≡ Some kind }
-    {
-        ChargeKind::ALL
-            .iter()
-            .copied()
-            .find(|kind| kind.number() == number)
-    }
+    ghost told_apart = { elim [ Disbursement ↦ (refl, refl) | Instalment ↦ (refl, refl) | Overdue ↦ (refl, refl) | DueDate ↦ (refl, refl) ] };
 }
 
-impl Calc {
-    /// The ways, in the order of their numbers.
-    pub const ALL: [Calc; 4] = [Calc::Flat, Calc::OfAmount, Calc::OfInterest, Calc::OfBoth];
+impl Choice for Calc {
+    ghost choices = { calcs };
 
-    /// Its name, in requests and replies.
-    pub fn name(self) -> &'static str
-        ensures { result.now ≡ calc_name self }
-    {
+    ghost name_of = { calc_name };
+
+    ghost number_of = { calc_number };
+
+    fn all() -> &'static [Calc] {
+        &[Calc::Flat, Calc::OfAmount, Calc::OfInterest, Calc::OfBoth]
+    }
+
+    fn name(self) -> &'static str {
         match self {
             Calc::Flat => "flat",
             Calc::OfAmount => "percent-of-amount",
@@ -79,48 +63,25 @@ impl Calc {
         }
     }
 
-    /// The one of this name.
-    pub fn from_name(text: &str) -> Option<Calc>
-        ensures value { result ≡ choice_named calc_name calcs text.now }
-        ensures some { IfSome result (λ calc. text.now ≡ calc_name calc) }
-        ensures every { (calc : Calc) → text.now ≡ calc_name calc → result ≡ Some calc }
-    {
-        find_calc(text)
-    }
-
-    /// The number by which the tables keep it.
-    pub fn number(self) -> u32
-        ensures { result ≡ calc_number self }
-    {
+    fn number(self) -> u32 {
         self as u32
     }
 
-    /// The one of this number.
-    pub fn from_number(number: u32) -> Option<Calc>
-        ensures some { IfSome result (λ calc. number ≡ calc_number calc) }
-        ensures every { (calc : Calc) → number ≡ calc_number calc → result ≡ Some calc }
-    {
-        Calc::ALL
-            .iter()
-            .copied()
-            .find(|calc| calc.number() == number)
+    ghost told_apart = { elim [ calc.Flat ↦ (refl, refl) | calc.OfAmount ↦ (refl, refl) | calc.OfInterest ↦ (refl, refl) | calc.OfBoth ↦ (refl, refl) ] };
+}
+
+impl Choice for Method {
+    ghost choices = { methods };
+
+    ghost name_of = { method_name };
+
+    ghost number_of = { method_number };
+
+    fn all() -> &'static [Method] {
+        &[Method::Flat, Method::EqualPrincipal, Method::Fixed]
     }
-}
 
-fn find_calc(text: &str) -> Option<Calc>
-    ensures { result ≡ choice_named calc_name calcs text.now }
-{
-    Calc::ALL.iter().copied().find(|calc| calc.name() == text)
-}
-
-impl Method {
-    /// The methods, in the order of their numbers.
-    pub const ALL: [Method; 3] = [Method::Flat, Method::EqualPrincipal, Method::Fixed];
-
-    /// Its name, in requests, replies and options.
-    pub fn name(self) -> &'static str
-        ensures { result.now ≡ method_name self }
-    {
+    fn name(self) -> &'static str {
         match self {
             Method::Flat => "flat",
             Method::EqualPrincipal => "declining-equal-principal",
@@ -128,50 +89,30 @@ impl Method {
         }
     }
 
-    /// The one of this name.
-    pub fn from_name(text: &str) -> Option<Method>
-        ensures value { result ≡ choice_named method_name methods text.now }
-        ensures some { IfSome result (λ method. text.now ≡ method_name method) }
-        ensures every { (method : Method) → text.now ≡ method_name method → result ≡ Some method }
-    {
-        Method::ALL
-            .iter()
-            .copied()
-            .find(|method| method.name() == text)
-    }
-
-    /// The number by which the tables keep it.
-    pub fn number(self) -> u32
-        ensures { result ≡ method_number self }
-    {
+    fn number(self) -> u32 {
         self as u32
     }
 
-    /// The one of this number.
-    pub fn from_number(number: u32) -> Option<Method>
-        ensures some { IfSome result (λ method. number ≡ method_number method) }
-        ensures every { (method : Method) → number ≡ method_number method → result ≡ Some method }
-    {
-        Method::ALL
-            .iter()
-            .copied()
-            .find(|method| method.number() == number)
-    }
+    ghost told_apart = { elim [ method.Flat ↦ (refl, refl) | method.EqualPrincipal ↦ (refl, refl) | method.Fixed ↦ (refl, refl) ] };
 }
 
-impl StrategyName {
-    /// The strategies, in the order of their numbers.
-    pub const ALL: [StrategyName; 4] = [
-        StrategyName::MifosStandard,
-        StrategyName::PrincipalFirst,
-        StrategyName::InterestFirst,
-        StrategyName::DueFirst,
-    ];
+impl Choice for StrategyName {
+    ghost choices = { strategies };
 
-    /// Its name, in requests and replies.
-    pub fn name(self) -> &'static str
-        ensures { result.now ≡ strategy_name self }
-    {
+    ghost name_of = { strategy_name };
+
+    ghost number_of = { strategy_number };
+
+    fn all() -> &'static [StrategyName] {
+        &[
+            StrategyName::MifosStandard,
+            StrategyName::PrincipalFirst,
+            StrategyName::InterestFirst,
+            StrategyName::DueFirst,
+        ]
+    }
+
+    fn name(self) -> &'static str {
         match self {
             StrategyName::MifosStandard => "mifos-standard-strategy",
             StrategyName::PrincipalFirst => "principal-interest-penalties-fees-order-strategy",
@@ -180,33 +121,9 @@ impl StrategyName {
         }
     }
 
-    /// The one of this name.
-    pub fn from_name(text: &str) -> Option<StrategyName>
-        ensures value { result ≡ choice_named strategy_name strategies text.now }
-        ensures some { IfSome result (λ strategy. text.now ≡ strategy_name strategy) }
-        ensures every { (strategy : StrategyName) → text.now ≡ strategy_name strategy → result ≡ Some strategy }
-    {
-        StrategyName::ALL
-            .iter()
-            .copied()
-            .find(|strategy| strategy.name() == text)
-    }
-
-    /// The number by which the tables keep it.
-    pub fn number(self) -> u32
-        ensures { result ≡ strategy_number self }
-    {
+    fn number(self) -> u32 {
         self as u32
     }
 
-    /// The one of this number.
-    pub fn from_number(number: u32) -> Option<StrategyName>
-        ensures some { IfSome result (λ strategy. number ≡ strategy_number strategy) }
-        ensures every { (strategy : StrategyName) → number ≡ strategy_number strategy → result ≡ Some strategy }
-    {
-        StrategyName::ALL
-            .iter()
-            .copied()
-            .find(|strategy| strategy.number() == number)
-    }
+    ghost told_apart = { elim [ MifosStandard ↦ (refl, refl) | PrincipalFirst ↦ (refl, refl) | InterestFirst ↦ (refl, refl) | DueFirst ↦ (refl, refl) ] };
 }

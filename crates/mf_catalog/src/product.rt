@@ -1,9 +1,8 @@
 use crate::terms::{Method, StrategyName};
 use mf_base::{Freq, Name};
-use std::alloc::AllocError;
 
 /// What a product lends by: the members that whoever makes it names.
-#[derive(Debug, Drop)]
+#[derive(Clone, Debug, Drop)]
 pub struct ProductMembers {
     /// Its name.
     pub name: Name,
@@ -37,34 +36,8 @@ pub struct ProductMembers {
     pub overdue_charge: Option<u32>,
 }
 
-impl Clone for ProductMembers {
-    ghost use Rattle.std.specs.Prelude.{◌≡◌};
-
-    ghost is_clone = { λ members copy. copy ≡ members };
-
-    fn clone(&self) -> Result<ProductMembers, AllocError> {
-        Ok(ProductMembers {
-            name: self.name.clone()?,
-            method: self.method,
-            rate: self.rate,
-            freq: self.freq,
-            every: self.every,
-            principal_grace: self.principal_grace,
-            interest_grace: self.interest_grace,
-            min_principal: self.min_principal,
-            max_principal: self.max_principal,
-            min_periods: self.min_periods,
-            max_periods: self.max_periods,
-            strategy: self.strategy,
-            disbursement_charge: self.disbursement_charge,
-            instalment_charge: self.instalment_charge,
-            overdue_charge: self.overdue_charge,
-        })
-    }
-}
-
 /// A product of the catalogue.
-#[derive(Debug, Drop)]
+#[derive(Clone, Debug, Drop)]
 pub struct Product {
     /// Its number in the catalogue, from 1.
     pub number: u32,
@@ -72,18 +45,4 @@ pub struct Product {
     pub members: ProductMembers,
     /// A retired product lends no more; its loans stay as they are.
     pub retired: bool,
-}
-
-impl Clone for Product {
-    ghost use Rattle.std.specs.Prelude.{◌≡◌};
-
-    ghost is_clone = { λ product copy. copy ≡ product };
-
-    fn clone(&self) -> Result<Product, AllocError> {
-        Ok(Product {
-            number: self.number,
-            members: self.members.clone()?,
-            retired: self.retired,
-        })
-    }
 }

@@ -1,6 +1,5 @@
 use crate::charge::ChargeDef;
 use mf_base::Freq;
-use std::alloc::AllocError;
 
 /// How principal and interest are planned.
 #[derive(Clone, Copy, PartialEq, Eq, Debug)]
@@ -28,7 +27,7 @@ pub enum StrategyName {
 }
 
 /// The terms of a loan, copied from its product.
-#[derive(Debug, Drop)]
+#[derive(Clone, Debug, Drop)]
 pub struct Terms {
     /// How principal and interest are planned.
     pub method: Method,
@@ -50,25 +49,4 @@ pub struct Terms {
     pub instalment: Option<ChargeDef>,
     /// The charge that is taken for an overdue instalment.
     pub overdue: Option<ChargeDef>,
-}
-
-impl Clone for Terms {
-    ghost use Rattle.std.specs.Prelude.{◌≡◌};
-
-    ghost is_clone = { λ terms copy. copy ≡ terms };
-
-    fn clone(&self) -> Result<Terms, AllocError> {
-        Ok(Terms {
-            method: self.method,
-            rate: self.rate,
-            freq: self.freq,
-            every: self.every,
-            principal_grace: self.principal_grace,
-            interest_grace: self.interest_grace,
-            strategy: self.strategy,
-            disbursement: self.disbursement.clone()?,
-            instalment: self.instalment.clone()?,
-            overdue: self.overdue.clone()?,
-        })
-    }
 }

@@ -15,18 +15,18 @@ use Rattle.mf_model.specs.Catalogue.{make_product, add_product}
 use Rattle.mf_model.specs.Desk.{of_catalogue}
 use Rattle.mf_desk.specs.declared.decision.Decision.{Decision}
 use Rattle.mf_desk.specs.Answers.{Asks, Decides, in_catalogue}
-use Rattle.mf_desk.specs.Charges.{number_of, charge_named, before, list_of}
+use Rattle.mf_desk.specs.Charges.{number_of, charge_named, charge_before, list_of}
 use Rattle.mf_desk.proofs.Decisions.{Learns, learns, learns_both, learned_decides, learned_refuses}
 
 same_number : (n : ℕ) → (n == n) ≡ true
 same_number n = grind (arith, nat_tests)
 
 -- a charge is found where it stands first, and where it stands later
-there_first : (charge : Option ChargeDef) (others : List ChargeDef) → is_there (charge_at (before charge others)) (number_of charge) ≡ true
+there_first : (charge : Option ChargeDef) (others : List ChargeDef) → is_there (charge_at (charge_before charge others)) (number_of charge) ≡ true
 there_first None others = refl
 there_first (Some c) others = ap (λ b. is_some (cond b (Some c) (charge_at others c.number))) (same_number c.number)
 
-there_later : (charge : Option ChargeDef) (others : List ChargeDef) (named : Option ℕ) → is_there (charge_at others) named ≡ true → is_there (charge_at (before charge others)) named ≡ true
+there_later : (charge : Option ChargeDef) (others : List ChargeDef) (named : Option ℕ) → is_there (charge_at others) named ≡ true → is_there (charge_at (charge_before charge others)) named ≡ true
 there_later None others named h = h
 there_later (Some c) others None h = refl
 there_later (Some c) others (Some n) h = either (c.number == n)
@@ -40,9 +40,9 @@ all_three a b c x y z = rw (x, y, z)
 
 pub there_listed : (d i o : Option ChargeDef) (p : ProductMembers) → number_of d ≡ p.disbursement_charge → number_of i ≡ p.instalment_charge → number_of o ≡ p.overdue_charge → charges_there (charge_at (list_of d i o)) p ≡ true
 there_listed d i o p hd hi ho = all_three _ _ _
-    (subst (λ (n : Option ℕ). is_there (charge_at (list_of d i o)) n ≡ true) hd (there_first d (before i (before o []))))
-    (subst (λ (n : Option ℕ). is_there (charge_at (list_of d i o)) n ≡ true) hi (there_later d (before i (before o [])) (number_of i) (there_first i (before o []))))
-    (subst (λ (n : Option ℕ). is_there (charge_at (list_of d i o)) n ≡ true) ho (there_later d (before i (before o [])) (number_of o) (there_later i (before o []) (number_of o) (there_first o []))))
+    (subst (λ (n : Option ℕ). is_there (charge_at (list_of d i o)) n ≡ true) hd (there_first d (charge_before i (charge_before o []))))
+    (subst (λ (n : Option ℕ). is_there (charge_at (list_of d i o)) n ≡ true) hi (there_later d (charge_before i (charge_before o [])) (number_of i) (there_first i (charge_before o []))))
+    (subst (λ (n : Option ℕ). is_there (charge_at (list_of d i o)) n ≡ true) ho (there_later d (charge_before i (charge_before o [])) (number_of o) (there_later i (charge_before o []) (number_of o) (there_first o []))))
 
 -- a charge is the catalogue's, if there is one
 abbrev pub IsOf : (ℕ → Option ChargeDef) → Option ChargeDef → Type 0
@@ -60,7 +60,7 @@ agree_at : (charges : ℕ → Option ChargeDef) (c : ChargeDef) (found : Option 
 agree_at charges c found n true h a e t = sym h ∙ ap charges (e refl)
 agree_at charges c found n false h a e t = a t
 
-agree_before : (charges : ℕ → Option ChargeDef) (d : Option ChargeDef) (xs : List ChargeDef) → IsOf charges d → Agree charges xs → Agree charges (before d xs)
+agree_before : (charges : ℕ → Option ChargeDef) (d : Option ChargeDef) (xs : List ChargeDef) → IsOf charges d → Agree charges xs → Agree charges (charge_before d xs)
 agree_before charges None xs h a = a
 agree_before charges (Some c) xs h a = λ n t. agree_at charges c (charge_at xs n) n (c.number == n) h (a n) (equal_numbers c.number n) t
 
@@ -68,7 +68,7 @@ agree_none : (charges : ℕ → Option ChargeDef) → Agree charges []
 agree_none charges n t = absurd (cc)
 
 agree_listed : (charges : ℕ → Option ChargeDef) (d i o : Option ChargeDef) → IsOf charges d → IsOf charges i → IsOf charges o → Agree charges (list_of d i o)
-agree_listed charges d i o hd hi ho = agree_before charges d (before i (before o [])) hd (agree_before charges i (before o []) hi (agree_before charges o [] ho (agree_none charges)))
+agree_listed charges d i o hd hi ho = agree_before charges d (charge_before i (charge_before o [])) hd (agree_before charges i (charge_before o []) hi (agree_before charges o [] ho (agree_none charges)))
 
 same_kinds : (charges : ℕ → Option ChargeDef) (xs : List ChargeDef) → Agree charges xs → (kind : ChargeKind) (named : Option ℕ) → is_there (charge_at xs) named ≡ true → is_of_kind (charge_at xs) kind named ≡ is_of_kind charges kind named
 same_kinds charges xs a kind None t = refl

@@ -52,9 +52,9 @@ abbrev pub seen_number : ℕ → ℕ → Institution → Result ℕ Fault
 seen_number o x i = cond (is_some (seen_office o x i)) (Ok x) (Err F4)
 
 -- a thing that is there; F4 where it isn't
-abbrev pub there : {A : Type 0} → Option A → Result A Fault
-there None = Err F4
-there (Some x) = Ok x
+abbrev pub if_there : {A : Type 0} → Option A → Result A Fault
+if_there None = Err F4
+if_there (Some x) = Ok x
 
 -- that a client is there; F4 where it isn't
 abbrev pub client_there : Account → Institution → Result (Unit {0}) Fault
@@ -62,7 +62,7 @@ client_there client i = cond (is_some (client_at client i)) (Ok tt) (Err F4)
 
 -- a loan of an office that o sees
 abbrev pub seen_loan : ℕ → Account → Institution → Result Loan Fault
-seen_loan o loan i = cond (is_some (seen_office o loan.office i)) (there (loan_at loan i)) (Err F4)
+seen_loan o loan i = cond (is_some (seen_office o loan.office i)) (if_there (loan_at loan i)) (Err F4)
 
 -- what a loan that was found is told and comes to
 abbrev pub loan_outcome : LoanRequest → Loan → Institution → Result (LoanReply × Option Stage) Fault

@@ -15,10 +15,10 @@ charge_named None i = Ok None
 charge_named (Some n) i = with_found (charge_in i.catalogue n) (λ c. Some c)
 
 -- a charge, if there is one, and others after it
-abbrev pub before : Option ChargeDef → List ChargeDef → List ChargeDef
-before None charges = charges
-before (Some charge) charges = charge ∷ charges
+abbrev pub charge_before : Option ChargeDef → List ChargeDef → List ChargeDef
+charge_before None charges = charges
+charge_before (Some charge) charges = charge ∷ charges
 
 -- those of three charges that there are
 abbrev pub list_of : Option ChargeDef → Option ChargeDef → Option ChargeDef → List ChargeDef
-list_of disbursement instalment overdue = before disbursement (before instalment (before overdue []))
+list_of disbursement instalment overdue = charge_before disbursement (charge_before instalment (charge_before overdue []))

@@ -10,7 +10,7 @@ use crate::decision::Decision;
 use crate::roles::may_send;
 use crate::routes::act;
 use mf_base::Fault;
-use mf_model::{InstitutionStore, Reply, Request, answered_by_view, soundness};
+use mf_model::{InstitutionStore, Reply, Request, laws};
 use mf_office::Caller;
 use std::alloc::Global;
 
@@ -51,7 +51,7 @@ fn finish<S: InstitutionStore, T: Drop, F: FnOnce(&Reply) -> Result<T, Fault> + 
     ensures changes { Changes S.stands S.clean S.leaves (call_of caller request) store.old store.new result }
     ensures refusal { IfErr result (λ f. (f ≢ Fault.F19) ⊎ ((reply : Reply) × FnOnceReturnsAt F.FnOnce show reply (Err f))) }
 {
-    soundness();
+    laws::soundness();
     let Decision { reply, commit } = decide(alloc, store, caller, request)?;
     let shown = show(&reply)?;
     match commit {
@@ -84,6 +84,6 @@ pub fn answer<S: InstitutionStore, T: Drop, F: FnOnce(&Reply) -> Result<T, Fault
     ensures own_view { Tells S.stands S.clean S.leaves (FnOnceReturnsAt F.FnOnce show) (λ i. reply (call_of caller request) (view caller.office i)) store.old store.new result }
     ensures refusal { IfErr result (λ f. (f ≢ Fault.F19) ⊎ ((reply : Reply) × FnOnceReturnsAt F.FnOnce show reply (Err f))) }
 {
-    answered_by_view();
+    laws::answered_by_view();
     finish(alloc, store, caller, request, show)
 }

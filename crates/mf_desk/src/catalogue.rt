@@ -1,28 +1,17 @@
 //! The catalogue, which all offices share: the business day and charges.
 
-ghost use Rattle.std.specs.Prelude.{◌≡◌, ◌≢◌, IfErr};
-ghost use Rattle.mf_model.specs.Outcomes.{next_of};
+ghost use Rattle.std.specs.Prelude.{◌≢◌, IfErr};
 ghost use Rattle.mf_model.specs.Catalogue.{show_day, set_day, add_charge, show_charge, on_catalogue};
 ghost use Rattle.mf_desk.specs.Answers.{Decides, in_catalogue};
 
 use crate::decision::Decision;
+use crate::numbers::next_in_catalogue;
 use crate::products::{add_product, retire_product, show_product};
 use mf_base::{Day, Fault};
 use mf_catalog::{Calc, ChargeKind};
 use mf_model::{CatalogueRequest, Commit, InstitutionStore, Reply};
-use mf_office::{Name, next_number};
+use mf_office::Name;
 use std::alloc::Global;
-
-/// The greatest number of a charge or a product.
-const MOST_IN_CATALOGUE: u32 = 999;
-
-/// The number of the next charge or product; F18 where the catalogue has 999.
-pub fn next_in_catalogue(used: u32) -> Result<u32, Fault>
-    ensures value { result ≡ next_of used 999 }
-    ensures refusal { IfErr result (λ f. f ≡ Fault.F18) }
-{
-    next_number(used, MOST_IN_CATALOGUE)
-}
 
 /// Decides a request on the catalogue.
 pub fn on_catalogue<S: InstitutionStore>(
@@ -54,10 +43,7 @@ fn show_day<S: InstitutionStore>(alloc: Global, store: &mut S) -> Result<Decisio
     ensures refusal { IfErr result (λ f. f ≢ Fault.F19) }
 {
     let day = store.business_day(alloc)?;
-    Ok(Decision {
-        reply: Reply::DayShown(day),
-        commit: None,
-    })
+    Ok(Decision::show(Reply::DayShown(day)))
 }
 
 fn set_day<S: InstitutionStore>(alloc: Global, store: &mut S, day: Day) -> Result<Decision, Fault>
@@ -67,10 +53,7 @@ fn set_day<S: InstitutionStore>(alloc: Global, store: &mut S, day: Day) -> Resul
     if store.business_day(alloc)? >= day {
         return Err(Fault::F17);
     }
-    Ok(Decision {
-        reply: Reply::DaySet(day),
-        commit: Some(Commit::SetDay { day }),
-    })
+    Ok(Decision::change(Commit::SetDay { day }, Reply::DaySet(day)))
 }
 
 fn add_charge<S: InstitutionStore>(
@@ -86,15 +69,15 @@ fn add_charge<S: InstitutionStore>(
 {
     let counts = store.catalogue_counts(alloc)?;
     let number = next_in_catalogue(counts.charges)?;
-    Ok(Decision {
-        reply: Reply::ChargeMade(number),
-        commit: Some(Commit::AddCharge {
+    Ok(Decision::change(
+        Commit::AddCharge {
             name,
             kind,
             calc,
             value,
-        }),
-    })
+        },
+        Reply::ChargeMade(number),
+    ))
 }
 
 fn show_charge<S: InstitutionStore>(
@@ -108,8 +91,5 @@ fn show_charge<S: InstitutionStore>(
     let Some(charge) = store.charge(alloc, charge)? else {
         return Err(Fault::F4);
     };
-    Ok(Decision {
-        reply: Reply::ChargeShown(charge),
-        commit: None,
-    })
+    Ok(Decision::show(Reply::ChargeShown(charge)))
 }

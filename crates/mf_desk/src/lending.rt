@@ -1,29 +1,17 @@
 //! How loans are submitted in an office, and how they are listed.
 
-ghost use Rattle.std.specs.Prelude.{◌≡◌, ◌≢◌, IfErr};
-ghost use Rattle.mf_model.specs.Outcomes.{next_of};
+ghost use Rattle.std.specs.Prelude.{◌≢◌, IfErr};
 ghost use Rattle.mf_model.specs.Institution.{product_in};
 ghost use Rattle.mf_model.specs.Loans.{make_loan, lend, submit, list_loans};
 ghost use Rattle.mf_desk.specs.Answers.{Asks, Decides, in_rows, client_there};
 
 use crate::decision::Decision;
+use crate::numbers::next_account;
 use mf_base::Fault;
 use mf_catalog::check_loan;
 use mf_model::{Application, Commit, InstitutionStore, Loan, Reply, Stage};
-use mf_office::{Account, AccountNo, OfficeNo, next_number};
+use mf_office::{Account, OfficeNo};
 use std::alloc::Global;
-
-/// The number of the next loan; F18 where the office has 999,999.
-fn next_loan(used: u32) -> Result<AccountNo, Fault>
-    ensures value { result ≡ next_of used 999999 }
-    ensures refusal { IfErr result (λ f. f ≡ Fault.F18) }
-{
-    let number = next_number(used, AccountNo::MAX)?;
-    match AccountNo::new(number) {
-        Some(number) => Ok(number),
-        None => Err(Fault::F18),
-    }
-}
 
 /// A new loan of a client that is there, of a product that lends so.
 fn make_loan<S: InstitutionStore>(
@@ -36,7 +24,7 @@ fn make_loan<S: InstitutionStore>(
     ensures refusal { IfErr result (λ f. f ≢ Fault.F19) }
 {
     let counts = store.counts(alloc, office)?;
-    let number = next_loan(counts.loans)?;
+    let number = next_account(counts.loans)?;
     let loan = Loan {
         client: asked.client,
         product: asked.product,
@@ -44,10 +32,10 @@ fn make_loan<S: InstitutionStore>(
         periods: asked.periods,
         stage: Stage::Submitted,
     };
-    Ok(Decision {
-        reply: Reply::LoanMade(Account { office, number }),
-        commit: Some(Commit::AddLoan { office, loan }),
-    })
+    Ok(Decision::change(
+        Commit::AddLoan { office, loan },
+        Reply::LoanMade(Account { office, number }),
+    ))
 }
 
 /// A new loan of a client that is there.
@@ -110,8 +98,5 @@ pub fn list_loans<S: InstitutionStore>(
     ensures refusal { IfErr result (λ f. f ≢ Fault.F19) }
 {
     let loans = store.loans(alloc, office, after)?;
-    Ok(Decision {
-        reply: Reply::LoansShown(loans),
-        commit: None,
-    })
+    Ok(Decision::show(Reply::LoansShown(loans)))
 }

@@ -6,6 +6,7 @@ mod catalogue;
 mod decision;
 mod lending;
 mod loans;
+mod numbers;
 mod offices;
 mod products;
 mod roles;

@@ -1,42 +1,18 @@
 //! Offices, and what is asked of one: its staff, its clients and its loans.
 
-ghost use Rattle.std.specs.Prelude.{◌≡◌, ◌≢◌, IfErr};
+ghost use Rattle.std.specs.Prelude.{◌≢◌, IfErr};
 ghost use Rattle.mf_model.specs.declared.request.Request.TheVariants.{Office, SeenOffices, NewOffice};
-ghost use Rattle.mf_model.specs.Outcomes.{next_of};
 ghost use Rattle.mf_model.specs.Offices.{add_staff, add_client, show_client};
 ghost use Rattle.mf_desk.specs.Answers.{Decides, request_outcome, in_rows};
 
 use crate::decision::Decision;
 use crate::lending::{list_loans, submit_loan};
+use crate::numbers::{next_account, next_staff};
 use crate::sight::{check_sight, find_office};
 use mf_base::Fault;
 use mf_model::{Commit, InstitutionStore, OfficeRequest, Reply};
-use mf_office::{Account, AccountNo, Caller, Name, OfficeNo, Role, StaffNo, next_number};
+use mf_office::{Account, AccountNo, Caller, Name, OfficeNo, Role};
 use std::alloc::Global;
-
-/// The number of the next member of staff; F18 where the office has 9,999.
-fn next_staff(used: u32) -> Result<StaffNo, Fault>
-    ensures value { result ≡ next_of used 9999 }
-    ensures refusal { IfErr result (λ f. f ≡ Fault.F18) }
-{
-    let number = next_number(used, StaffNo::MAX)?;
-    match StaffNo::new(number) {
-        Some(number) => Ok(number),
-        None => Err(Fault::F18),
-    }
-}
-
-/// The number of the next client; F18 where the office has 999,999.
-fn next_client(used: u32) -> Result<AccountNo, Fault>
-    ensures value { result ≡ next_of used 999999 }
-    ensures refusal { IfErr result (λ f. f ≡ Fault.F18) }
-{
-    let number = next_number(used, AccountNo::MAX)?;
-    match AccountNo::new(number) {
-        Some(number) => Ok(number),
-        None => Err(Fault::F18),
-    }
-}
 
 pub fn add_office<S: InstitutionStore>(
     alloc: Global,
@@ -56,14 +32,14 @@ pub fn add_office<S: InstitutionStore>(
     if !store.has_room_below(alloc, parent)? {
         return Err(Fault::F18);
     }
-    Ok(Decision {
-        reply: Reply::OfficeMade(number),
-        commit: Some(Commit::AddOffice {
+    Ok(Decision::change(
+        Commit::AddOffice {
             number,
             parent,
             name,
-        }),
-    })
+        },
+        Reply::OfficeMade(number),
+    ))
 }
 
 /// The caller's office and those below it.
@@ -76,10 +52,7 @@ pub fn list_offices<S: InstitutionStore>(
     ensures refusal { IfErr result (λ f. f ≢ Fault.F19) }
 {
     let offices = store.visible_offices(alloc, caller.office)?;
-    Ok(Decision {
-        reply: Reply::Offices(offices),
-        commit: None,
-    })
+    Ok(Decision::show(Reply::Offices(offices)))
 }
 
 /// Decides a request on one office, which the caller must see.
@@ -115,10 +88,10 @@ fn add_staff<S: InstitutionStore>(
 {
     let counts = store.counts(alloc, office)?;
     let staff = next_staff(counts.staff)?;
-    Ok(Decision {
-        reply: Reply::StaffMade(Caller { office, staff }),
-        commit: Some(Commit::AddStaff { office, name, role }),
-    })
+    Ok(Decision::change(
+        Commit::AddStaff { office, name, role },
+        Reply::StaffMade(Caller { office, staff }),
+    ))
 }
 
 fn add_client<S: InstitutionStore>(
@@ -131,11 +104,11 @@ fn add_client<S: InstitutionStore>(
     ensures refusal { IfErr result (λ f. f ≢ Fault.F19) }
 {
     let counts = store.counts(alloc, office)?;
-    let number = next_client(counts.clients)?;
-    Ok(Decision {
-        reply: Reply::ClientMade(Account { office, number }),
-        commit: Some(Commit::AddClient { office, name }),
-    })
+    let number = next_account(counts.clients)?;
+    Ok(Decision::change(
+        Commit::AddClient { office, name },
+        Reply::ClientMade(Account { office, number }),
+    ))
 }
 
 fn show_client<S: InstitutionStore>(
@@ -150,11 +123,8 @@ fn show_client<S: InstitutionStore>(
     let Some(name) = store.client(alloc, Account { office, number })? else {
         return Err(Fault::F4);
     };
-    Ok(Decision {
-        reply: Reply::ClientShown {
-            client: Account { office, number },
-            name,
-        },
-        commit: None,
-    })
+    Ok(Decision::show(Reply::ClientShown {
+        client: Account { office, number },
+        name,
+    }))
 }

@@ -5,10 +5,10 @@ ghost use Rattle.mf_base.specs.declared.fault.Fault.TheVariants.{F8, F20};
 ghost use Rattle.mf_catalog.specs.Product.{charge_at, is_consistent};
 ghost use Rattle.mf_model.specs.Catalogue.{make_product, add_product, show_product, retire_product};
 ghost use Rattle.mf_desk.specs.Answers.{Asks, Decides, in_catalogue};
-ghost use Rattle.mf_desk.specs.Charges.{number_of, charge_named, before, list_of};
+ghost use Rattle.mf_desk.specs.Charges.{number_of, charge_named, charge_before, list_of};
 
-use crate::catalogue::next_in_catalogue;
 use crate::decision::Decision;
+use crate::numbers::next_in_catalogue;
 use mf_base::Fault;
 use mf_catalog::{ChargeDef, ProductMembers, check_product};
 use mf_model::{Commit, InstitutionStore, Reply};
@@ -48,7 +48,7 @@ fn find_charge<S: InstitutionStore>(
 
 /// A charge, if there is one, after others.
 fn push_charge(charges: &mut Vec<ChargeDef>, charge: Option<ChargeDef>) -> Result<(), Fault>
-    ensures ok { IfOk result (λ u. charges.new.items ≡ charges.old.items ++ before charge []) }
+    ensures ok { IfOk result (λ u. charges.new.items ≡ charges.old.items ++ charge_before charge []) }
     ensures err { IfErr result (λ fault. fault ≡ F20) }
 {
     match charge {
@@ -106,10 +106,7 @@ fn make_product<S: InstitutionStore>(
 {
     let counts = store.catalogue_counts(alloc)?;
     let number = next_in_catalogue(counts.products)?;
-    Ok(Decision {
-        reply: Reply::ProductMade(number),
-        commit: Some(Commit::AddProduct { members }),
-    })
+    Ok(Decision::change(Commit::AddProduct { members }, Reply::ProductMade(number)))
 }
 
 /// A new product, of charges that are there.
@@ -139,10 +136,7 @@ pub fn show_product<S: InstitutionStore>(
     let Some(product) = store.product(alloc, product)? else {
         return Err(Fault::F4);
     };
-    Ok(Decision {
-        reply: Reply::ProductShown(product),
-        commit: None,
-    })
+    Ok(Decision::show(Reply::ProductShown(product)))
 }
 
 pub fn retire_product<S: InstitutionStore>(
@@ -159,8 +153,8 @@ pub fn retire_product<S: InstitutionStore>(
     if found.retired {
         return Err(Fault::F7);
     }
-    Ok(Decision {
-        reply: Reply::ProductRetired(product),
-        commit: Some(Commit::RetireProduct { product }),
-    })
+    Ok(Decision::change(
+        Commit::RetireProduct { product },
+        Reply::ProductRetired(product),
+    ))
 }

@@ -3,7 +3,8 @@
 #![tactic(auto)]
 
 mod commit;
-mod laws;
+pub mod laws;
+mod listing;
 mod loan;
 mod names;
 mod reply;
@@ -11,14 +12,11 @@ mod request;
 mod store;
 
 pub use commit::Commit;
-pub use laws::{
-    alike, alike_but_given_up, answered_by_view, confinement, effects, hidden_is_missing,
-    isolation, isolation_with_memory, longer_run, no_reply_is_given_up, soundness, tree_of_offices,
-    worked_rows,
-};
-pub use loan::{Loan, LoanLine, LoanList, Stage};
+pub use laws::{hidden_is_missing, isolation, soundness, tree_of_offices};
+pub use listing::{Listing, LoanList, OfficeList};
+pub use loan::{Loan, LoanLine, Stage};
 pub use names::is_name;
-pub use reply::{LoanReply, OfficeList, Reply};
+pub use reply::{LoanReply, Reply};
 pub use request::{
     Application, Call, CatalogueRequest, Flaw, LoanRequest, LoanStep, OfficeRequest, Request,
 };

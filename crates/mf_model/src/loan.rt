@@ -3,7 +3,6 @@ ghost use Rattle.mf_model.specs.Loans.{status_of};
 
 use mf_base::Day;
 use mf_office::{Account, AccountNo};
-use std::marker::Model;
 
 /// How far a loan has come.
 #[derive(Clone, Copy, Debug)]
@@ -54,43 +53,4 @@ pub struct LoanLine {
     pub loan: Account,
     /// Its status number.
     pub status: u16,
-}
-
-/// Loans by number, which contracts see as a list.
-#[derive(Debug, Drop)]
-pub struct LoanList {
-    loans: Vec<LoanLine>,
-}
-
-impl Model for LoanList {
-    ghost use Rattle.std.specs.Prelude.{List};
-    ghost use Rattle.mf_model.specs.declared.loan.LoanLine.{LoanLine};
-
-    ghost Value = { List LoanLine };
-
-    ghost view = { λ list. list.loans.items };
-}
-
-impl LoanList {
-    /// The list of these loans. It takes no memory.
-    pub fn new(loans: Vec<LoanLine>) -> LoanList
-        ensures { result ≡ loans.items }
-    {
-        LoanList { loans }
-    }
-
-    /// The loans.
-    pub fn as_slice(&self) -> &[LoanLine]
-        ensures { result.now ≡ self.now }
-    {
-        self.loans.as_slice()
-    }
-
-    /// Gives the loans back. It takes no memory.
-    pub fn into_loans(self) -> Vec<LoanLine>
-        ensures { result.items ≡ self }
-    {
-        let LoanList { loans } = self;
-        loans
-    }
 }

@@ -1,49 +1,8 @@
-ghost use Rattle.std.specs.Prelude.{◌≡◌};
-
-use crate::loan::{Loan, LoanList};
+use crate::listing::{LoanList, OfficeList};
+use crate::loan::Loan;
 use mf_base::Day;
 use mf_catalog::{ChargeDef, Product};
-use mf_office::{Account, Caller, Name, Office, OfficeNo};
-use std::marker::Model;
-
-/// Offices by number, which contracts see as a list.
-#[derive(Debug, Drop)]
-pub struct OfficeList {
-    offices: Vec<Office>,
-}
-
-impl Model for OfficeList {
-    ghost use Rattle.std.specs.Prelude.{List};
-    ghost use Rattle.mf_office.specs.declared.office.Office.{Office};
-
-    ghost Value = { List Office };
-
-    ghost view = { λ list. list.offices.items };
-}
-
-impl OfficeList {
-    /// The list of these offices. It takes no memory.
-    pub fn new(offices: Vec<Office>) -> OfficeList
-        ensures { result ≡ offices.items }
-    {
-        OfficeList { offices }
-    }
-
-    /// The offices.
-    pub fn as_slice(&self) -> &[Office]
-        ensures { result.now ≡ self.now }
-    {
-        self.offices.as_slice()
-    }
-
-    /// Gives the offices back. It takes no memory.
-    pub fn into_offices(self) -> Vec<Office>
-        ensures { result.items ≡ self }
-    {
-        let OfficeList { offices } = self;
-        offices
-    }
-}
+use mf_office::{Account, Caller, Name, OfficeNo};
 
 /// What is told of one loan.
 #[derive(Clone, Copy, Debug)]

@@ -1,6 +1,6 @@
 use crate::commit::Commit;
-use crate::loan::{Loan, LoanList};
-use crate::reply::OfficeList;
+use crate::listing::{LoanList, OfficeList};
+use crate::loan::Loan;
 use mf_base::{Day, Fault};
 use mf_catalog::{ChargeDef, Product};
 use mf_office::{Account, Caller, Name, OfficeNo, Role};

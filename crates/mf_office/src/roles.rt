@@ -1,20 +1,24 @@
-//! Names and numbers of roles.
+//! Roles as a choice.
 
-ghost use Rattle.std.specs.Prelude.{◌≡◌, Some, IfSome};
-ghost use Rattle.mf_base.specs.Choices.{choice_named};
+ghost use Rattle.std.specs.Prelude.{refl};
 ghost use Rattle.mf_office.specs.Roles.{role_name, role_number, roles};
-ghost use Rattle.mf_office.specs.declared.staff.Role.{Role};
+ghost use Rattle.mf_office.specs.declared.staff.Role.TheVariants.{Teller, Officer, Manager};
 
 use crate::staff::Role;
+use mf_base::Choice;
 
-impl Role {
-    /// The roles, in the order of their numbers.
-    pub const ALL: [Role; 3] = [Role::Teller, Role::Officer, Role::Manager];
+impl Choice for Role {
+    ghost choices = { roles };
 
-    /// Its name, in requests.
-    pub fn name(self) -> &'static str
-        ensures { result.now ≡ role_name self }
-    {
+    ghost name_of = { role_name };
+
+    ghost number_of = { role_number };
+
+    fn all() -> &'static [Role] {
+        &[Role::Teller, Role::Officer, Role::Manager]
+    }
+
+    fn name(self) -> &'static str {
         match self {
             Role::Teller => "teller",
             Role::Officer => "officer",
@@ -22,30 +26,9 @@ impl Role {
         }
     }
 
-    /// The one of this name.
-    pub fn from_name(text: &str) -> Option<Role>
-        ensures value { result ≡ choice_named role_name roles text.now }
-        ensures some { IfSome result (λ role. text.now ≡ role_name role) }
-        ensures every { (role : Role) → text.now ≡ role_name role → result ≡ Some role }
-    {
-        Role::ALL.iter().copied().find(|role| role.name() == text)
-    }
-
-    /// The number by which the tables keep it.
-    pub fn number(self) -> u32
-        ensures { result ≡ role_number self }
-    {
+    fn number(self) -> u32 {
         self as u32
     }
 
-    /// The one of this number.
-    pub fn from_number(number: u32) -> Option<Role>
-        ensures some { IfSome result (λ role. number ≡ role_number role) }
-        ensures every { (role : Role) → number ≡ role_number role → result ≡ Some role }
-    {
-        Role::ALL
-            .iter()
-            .copied()
-            .find(|role| role.number() == number)
-    }
+    ghost told_apart = { elim [ Teller ↦ (refl, refl) | Officer ↦ (refl, refl) | Manager ↦ (refl, refl) ] };
 }

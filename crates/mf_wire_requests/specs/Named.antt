@@ -12,26 +12,30 @@ use Rattle.mf_catalog.specs.declared.terms.Method.{Method}
 use Rattle.mf_catalog.specs.declared.terms.StrategyName.{StrategyName}
 use Rattle.mf_wire_requests.specs.Bodies.{text_at}
 
+-- a member that names a choice, among some
+abbrev pub choice_at : {A : Type 0} → (A → List ℕ) → List A → List ℕ → Data → Option A
+choice_at name_of choices member d = option_and_then (choice_named name_of choices) (text_at member d)
+
 -- a member that names when a charge is taken
 abbrev pub kind_at : List ℕ → Data → Option ChargeKind
-kind_at member d = option_and_then (choice_named kind_name kinds) (text_at member d)
+kind_at = choice_at kind_name kinds
 
 -- a member that names how a charge is computed
 abbrev pub calc_at : List ℕ → Data → Option Calc
-calc_at member d = option_and_then (choice_named calc_name calcs) (text_at member d)
+calc_at = choice_at calc_name calcs
 
 -- a member that names how principal and interest are planned
 abbrev pub method_at : List ℕ → Data → Option Method
-method_at member d = option_and_then (choice_named method_name methods) (text_at member d)
+method_at = choice_at method_name methods
 
 -- a member that names weeks or months
 abbrev pub freq_at : List ℕ → Data → Option Freq
-freq_at member d = option_and_then (choice_named frequency_name frequencies) (text_at member d)
+freq_at = choice_at frequency_name frequencies
 
 -- a member that names the order in which payments fill the portions
 abbrev pub strategy_at : List ℕ → Data → Option StrategyName
-strategy_at member d = option_and_then (choice_named strategy_name strategies) (text_at member d)
+strategy_at = choice_at strategy_name strategies
 
 -- a member that names a role
 abbrev pub role_at : List ℕ → Data → Option Role
-role_at member d = option_and_then (choice_named role_name roles) (text_at member d)
+role_at = choice_at role_name roles

@@ -7,7 +7,7 @@ ghost use Rattle.mf_catalog.specs.declared.terms.Method.{Method};
 ghost use Rattle.mf_base.specs.declared.day.Freq.{Freq};
 
 use clap::ArgMatches;
-use mf_base::{Day, Freq};
+use mf_base::{Choice, Day, Freq};
 use mf_catalog::Method;
 
 /// The text of an option.

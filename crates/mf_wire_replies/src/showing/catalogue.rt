@@ -7,7 +7,7 @@ ghost use Rattle.mf_wire_replies.specs.Json.{whole_or_null as whole_or_null_of};
 ghost use Rattle.mf_wire_replies.specs.Catalogue.{charge_data, product_end as product_end_of, product_rest as product_rest_of, product_data};
 
 use super::members::{put_text, put_value, put_whole};
-use mf_base::{Day, Fault};
+use mf_base::{Choice, Day, Fault};
 use mf_catalog::{ChargeDef, Product};
 use serde_json::{Map, Value, json};
 use std::alloc::{AllocError, Global};

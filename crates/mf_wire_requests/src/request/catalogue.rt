@@ -9,11 +9,11 @@ ghost use Rattle.mf_wire_requests.specs.CatalogueRequests.{later_day as day_aske
 ghost use Rattle.mf_wire_requests.specs.PathParts.{parts_of_params, number_in};
 
 use crate::body::{day, json, long_number, name};
-use crate::named::{calc, kind};
+use crate::named::choice;
 use crate::paths::number;
 use matchit::Params;
 use mf_base::Fault;
-use mf_catalog::greatest_value;
+use mf_catalog::{Calc, ChargeKind, greatest_value};
 use mf_model::{CatalogueRequest, Request};
 use std::alloc::Global;
 
@@ -33,10 +33,10 @@ pub fn new_charge(alloc: Global, body: &[u8]) -> Result<Request, Fault>
     ensures in_range { IfOk result IsInRange }
 {
     let body = json(alloc, body)?;
-    let Some(kind) = kind(&body, "kind") else {
+    let Some(kind) = choice::<ChargeKind>(&body, "kind") else {
         return Err(Fault::F1);
     };
-    let Some(calc) = calc(&body, "calc") else {
+    let Some(calc) = choice::<Calc>(&body, "calc") else {
         return Err(Fault::F1);
     };
     let Some(value) = long_number(&body, "value", 1, greatest_value(calc)) else {

@@ -7,12 +7,12 @@ ghost use Rattle.mf_wire_requests.specs.OfficeRequests.{new_office as office_ask
 ghost use Rattle.mf_wire_requests.specs.PathParts.{parts_of_params};
 
 use crate::body::{json, name, office};
-use crate::named::role;
+use crate::named::choice;
 use crate::paths::account;
 use matchit::Params;
 use mf_base::Fault;
 use mf_model::{OfficeRequest, Request};
-use mf_office::Account;
+use mf_office::{Account, Role};
 use std::alloc::Global;
 
 pub fn new_office(alloc: Global, body: &[u8]) -> Result<Request, Fault>
@@ -42,7 +42,7 @@ pub fn new_staff(alloc: Global, body: &[u8]) -> Result<Request, Fault>
     let Some(office) = office(&body, "office") else {
         return Err(Fault::F1);
     };
-    let Some(role) = role(&body, "role") else {
+    let Some(role) = choice::<Role>(&body, "role") else {
         return Err(Fault::F1);
     };
     let name = name(alloc, &body, "name")?;

@@ -6,7 +6,7 @@ ghost use Rattle.mf_wire_requests.specs.Bodies.{json_of, Gives};
 ghost use Rattle.mf_wire_requests.specs.ProductRequests.{step_at, planning_at, bounds_at, charge_at, charged_at, members_of as members_by, new_product as product_asked, IsStepInRange, IsPlanningInRange, AreBoundsInRange};
 
 use crate::body::{json, long_number, name, number, optional_number};
-use crate::named::{freq, method, strategy};
+use crate::named::choice;
 use mf_base::{Fault, Freq};
 use mf_catalog::{
     GREATEST_AMOUNT, GREATEST_RATE, MOST_GRACE, MOST_PERIODS, Method, ProductMembers, StrategyName,
@@ -56,7 +56,7 @@ fn read_step(body: &Value) -> Option<Step>
     ensures value { result ≡ step_at (view body.now) }
     ensures in_range { IfSome result IsStepInRange }
 {
-    let freq = freq(body, "frequency")?;
+    let freq = choice::<Freq>(body, "frequency")?;
     let every = number(body, "every", 1, longest_step(freq))?;
     Some(Step { freq, every })
 }
@@ -65,12 +65,12 @@ fn read_planning(body: &Value) -> Option<Planning>
     ensures value { result ≡ planning_at (view body.now) }
     ensures in_range { IfSome result IsPlanningInRange }
 {
-    let method = method(body, "method")?;
+    let method = choice::<Method>(body, "method")?;
     let rate = number(body, "rate", 0, GREATEST_RATE)?;
     let step = read_step(body)?;
     let principal_grace = number(body, "principal_grace", 0, MOST_GRACE)?;
     let interest_grace = number(body, "interest_grace", 0, MOST_GRACE)?;
-    let strategy = strategy(body, "strategy")?;
+    let strategy = choice::<StrategyName>(body, "strategy")?;
     Some(Planning {
         method,
         rate,

@@ -1,0 +1,10 @@
+use Rattle.std.proofs.Common.{ap, ◌∙◌}
+use Rattle.mf_base.specs.Choices.{choice_named}
+use Rattle.mf_base.proofs.choice.Choice.from_name.Goals as goal
+
+pub returns-clause-value : goal.returns-clause-value
+returns-clause-value g c = c.find_named.ensures.value
+
+pub returns-clause-every : goal.returns-clause-every
+returns-clause-every g c choice e =
+    returns-clause-value g c ∙ ap (choice_named g.Self.Choice.name_of g.Self.Choice.choices) e ∙ (g.met.Self.Choice.told_apart choice).0
