@@ -233,12 +233,11 @@ impl Books {
 
 /// A stage's status number, and the day of its approval.
 fn parts_of(stage: Stage) -> (u16, Option<Day>) {
-    match stage {
-        Stage::Submitted => (100, None),
-        Stage::Approved(day) => (200, Some(day)),
-        Stage::Withdrawn => (400, None),
-        Stage::Rejected => (500, None),
-    }
+    let approved = match stage {
+        Stage::Approved(day) => Some(day),
+        _ => None,
+    };
+    (stage.status(), approved)
 }
 
 fn row_of(loan: Loan) -> Row {
@@ -384,22 +383,22 @@ impl InstitutionStore for Books {
 
     fn charge(&mut self, _alloc: Global, number: u32) -> Result<Option<ChargeDef>, Fault> {
         self.count_call()?;
-        for charge in &self.charges {
-            if charge.number == number {
-                return Ok(Some(charge.clone()?));
-            }
+        match self.charges.iter().find(|charge| charge.number == number) {
+            Some(charge) => Ok(Some(charge.clone()?)),
+            None => Ok(None),
         }
-        Ok(None)
     }
 
     fn product(&mut self, _alloc: Global, number: u32) -> Result<Option<Product>, Fault> {
         self.count_call()?;
-        for product in &self.products {
-            if product.number == number {
-                return Ok(Some(product.clone()?));
-            }
+        match self
+            .products
+            .iter()
+            .find(|product| product.number == number)
+        {
+            Some(product) => Ok(Some(product.clone()?)),
+            None => Ok(None),
         }
-        Ok(None)
     }
 
     fn loan(&mut self, _alloc: Global, loan: Account) -> Result<Option<Loan>, Fault> {

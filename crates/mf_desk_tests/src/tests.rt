@@ -1,29 +1,18 @@
 //! The desk over an institution in vectors.
 
-ghost use Rattle.std.specs.Prelude.{◌≡◌, ◌≤◌, IfOk};
-ghost use Rattle.mf_base.specs.DayText.{last_entered_day};
-ghost use Rattle.mf_model.specs.Sound.{IsAccount, IsInRange};
+mod requests;
 
-use mf_base::{Day, Fault};
-use mf_catalog::{Calc, ChargeKind};
+use mf_base::Fault;
 use mf_desk::answer;
-use mf_desk_books::{Books, members, name, office_no};
-use mf_model::{
-    Application, CatalogueRequest, Flaw, LoanList, LoanReply, LoanRequest, LoanStep, OfficeRequest,
-    Reply, Request, is_name,
-};
-use mf_office::{Account, AccountNo, Caller, Office, Role};
+use mf_desk_books::Books;
+use mf_model::LoanStep::*;
+use mf_model::{Flaw, LoanList, LoanReply, Reply};
+use mf_office::{Account, Caller, Office, Role};
+use requests::Asked::{self, *};
+use requests::{day, request};
 use std::alloc::Global;
+use std::process::Abort;
 use std::test::Fail;
-
-fn day(text: &[u8]) -> Result<Day, Fault>
-    ensures { IfOk result (λ day. day ≤ last_entered_day) }
-{
-    match Day::parse(text) {
-        Some(day) => Ok(day),
-        None => Err(Fault::F1),
-    }
-}
 
 fn office_line(alloc: Global, office: &Office) -> Result<String, Fault> {
     let number = office.number.get();
@@ -108,346 +97,135 @@ fn shown(alloc: Global, reply: &Reply) -> Result<String, Fault> {
     }
 }
 
-fn send(alloc: Global, books: &mut Books, caller: &str, request: Request) -> Result<String, Fault>
-    requires { IsInRange request }
-{
+/// What a caller is told: the reply in a few words, or the number of the refusal.
+fn told(alloc: Global, books: &mut Books, caller: &str, asked: Asked) -> Result<String, Fault> {
     let Some(caller) = Caller::parse(caller.as_bytes()) else {
         return Err(Fault::F1);
     };
-    answer(
+    let request = request(alloc, asked)?;
+    let told = answer(
         alloc,
         books,
         caller,
         request,
         |reply: &Reply| -> Result<String, Fault> { shown(alloc, reply) },
-    )
-}
-
-fn add_office(
-    alloc: Global,
-    books: &mut Books,
-    caller: &str,
-    number: u32,
-    parent: u32,
-    text: &str,
-) -> Result<String, Fault> {
-    if !is_name(text) {
-        return Err(Fault::F1);
+    );
+    match told {
+        Ok(text) => Ok(text),
+        Err(Fault::F20) => Err(Fault::F20),
+        Err(fault) => Ok(format!(in alloc; "{fault:?}")?),
     }
-    let number = office_no(number)?;
-    let parent = office_no(parent)?;
-    let name = name(alloc, text)?;
-    let request = Request::NewOffice {
-        number,
-        parent,
-        name,
-    };
-    send(alloc, books, caller, request)
 }
 
-fn add_staff(
+/// Over a new institution each row's caller is told at its request what stands beside it, after the head's manager has
+/// sent some others.
+fn assert_told(
+    rt: &impl Abort,
     alloc: Global,
-    books: &mut Books,
-    caller: &str,
-    office: u32,
-    text: &str,
-    role: Role,
-) -> Result<String, Fault> {
-    if !is_name(text) {
-        return Err(Fault::F1);
+    before: &[Asked],
+    rows: &[(&str, Asked, &str)],
+) -> Result<(), Fail> {
+    let mut books = Books::new(alloc, day("2024-01-31")?)?;
+    for asked in before {
+        let _told = told(alloc, &mut books, "1/1", *asked)?;
     }
-    let office = office_no(office)?;
-    let name = name(alloc, text)?;
-    let request = Request::Office {
-        office: office.get(),
-        asked: OfficeRequest::AddStaff { name, role },
-    };
-    send(alloc, books, caller, request)
-}
-
-fn add_client(
-    alloc: Global,
-    books: &mut Books,
-    caller: &str,
-    office: u32,
-    text: &str,
-) -> Result<String, Fault> {
-    if !is_name(text) {
-        return Err(Fault::F1);
+    for (caller, asked, expected) in rows {
+        let told = told(alloc, &mut books, caller, *asked)?;
+        assert_eq!(rt; told.as_str(), *expected);
     }
-    let office = office_no(office)?;
-    let name = name(alloc, text)?;
-    let request = Request::Office {
-        office: office.get(),
-        asked: OfficeRequest::AddClient { name },
-    };
-    send(alloc, books, caller, request)
-}
-
-fn client(
-    alloc: Global,
-    books: &mut Books,
-    caller: &str,
-    office: u32,
-    number: u32,
-) -> Result<String, Fault> {
-    let office = office_no(office)?;
-    let number = AccountNo::new(number).ok_or(Fault::F1)?;
-    let _number = number.get();
-    let request = Request::Office {
-        office: office.get(),
-        asked: OfficeRequest::ShowClient { client: number },
-    };
-    send(alloc, books, caller, request)
-}
-
-fn account(number: u32) -> Result<Account, Fault>
-    ensures { IfOk result IsAccount }
-{
-    let office = office_no(1)?;
-    let number = AccountNo::new(number).ok_or(Fault::F1)?;
-    let _number = number.get();
-    Ok(Account { office, number })
-}
-
-fn add_product(
-    alloc: Global,
-    books: &mut Books,
-    instalment_charge: Option<u32>,
-) -> Result<String, Fault> {
-    let members = members(alloc, instalment_charge)?;
-    let request = Request::Catalogue(CatalogueRequest::AddProduct { members });
-    send(alloc, books, "1/1", request)
-}
-
-fn submit(
-    alloc: Global,
-    books: &mut Books,
-    product: u32,
-    principal: u64,
-    periods: u32,
-) -> Result<String, Fault> {
-    let is_product = product < 1000;
-    let is_principal = 1 <= principal && principal <= 1000001;
-    let are_periods = 1 <= periods && periods <= 13;
-    if !(is_product && is_principal && are_periods) {
-        return Err(Fault::F1);
-    }
-    let client = AccountNo::new(1).ok_or(Fault::F1)?;
-    let _number = client.get();
-    let request = Request::Office {
-        office: 1,
-        asked: OfficeRequest::SubmitLoan(Application {
-            client,
-            product,
-            principal,
-            periods,
-        }),
-    };
-    send(alloc, books, "1/1", request)
-}
-
-fn take_step(alloc: Global, books: &mut Books, step: LoanStep) -> Result<String, Fault> {
-    let request = Request::Loan {
-        loan: account(1)?,
-        asked: LoanRequest::Take(step),
-    };
-    send(alloc, books, "1/1", request)
-}
-
-fn approve(alloc: Global, books: &mut Books) -> Result<String, Fault> {
-    take_step(alloc, books, LoanStep::Approve)
-}
-
-fn retire(alloc: Global, books: &mut Books) -> Result<String, Fault> {
-    let request = Request::Catalogue(CatalogueRequest::RetireProduct { product: 1 });
-    send(alloc, books, "1/1", request)
-}
-
-fn set_day(alloc: Global, books: &mut Books, day: Day) -> Result<String, Fault>
-    requires { day ≤ last_entered_day }
-{
-    let request = Request::Catalogue(CatalogueRequest::SetDay { day });
-    send(alloc, books, "1/1", request)
-}
-
-fn new_books(alloc: Global) -> Result<Books, Fault> {
-    Books::new(alloc, day(b"2024-01-31")?)
+    Ok(())
 }
 
 /// A product, a client and a submitted loan.
-fn with_loan(alloc: Global) -> Result<Books, Fault> {
-    let mut books = new_books(alloc)?;
-    let _product = add_product(alloc, &mut books, None)?;
-    let _client = add_client(alloc, &mut books, "1/1", 1, "Amina")?;
-    let _loan = submit(alloc, &mut books, 1, 100000, 3)?;
-    Ok(books)
-}
-
-fn is_text(told: &Result<String, Fault>, text: &str) -> bool {
-    match told {
-        Ok(told) => told.as_str() == text,
-        Err(_) => false,
-    }
-}
-
-fn is_fault(told: &Result<String, Fault>, fault: Fault) -> bool {
-    match told {
-        Ok(_) => false,
-        Err(told) => *told == fault,
-    }
-}
+const LOAN: [Asked; 3] = [
+    AddProduct(None),
+    AddClient(1, "Amina"),
+    SubmitLoan(1, 100000, 3),
+];
 
 #[test]
 fn a_client_is_entered_and_read(rt: HostRuntime) -> Result<(), Fail> {
-    let alloc = rt.alloc();
-    let mut books = new_books(alloc)?;
-    let made = add_client(alloc, &mut books, "1/1", 1, "Amina");
-    assert!(rt; is_text(&made, "0001-000001"));
-    let read = client(alloc, &mut books, "1/1", 1, 1);
-    assert!(rt; is_text(&read, "0001-000001 Amina"));
-    let missing = client(alloc, &mut books, "1/1", 1, 2);
-    assert!(rt; is_fault(&missing, Fault::F4));
-    let no_office = add_client(alloc, &mut books, "1/1", 2, "B");
-    assert!(rt; is_fault(&no_office, Fault::F4));
-    let malformed = send(
-        alloc,
-        &mut books,
-        "1/1",
-        Request::Unreadable(Flaw::NoMethod),
-    );
-    assert!(rt; is_fault(&malformed, Fault::F6));
-    let unknown = client(alloc, &mut books, "2/1", 1, 1);
-    assert!(rt; is_fault(&unknown, Fault::F2));
-    Ok(())
+    let rows = [
+        ("1/1", AddClient(1, "Amina"), "0001-000001"),
+        ("1/1", ShowClient(1, 1), "0001-000001 Amina"),
+        ("1/1", ShowClient(1, 2), "F4"),
+        ("1/1", AddClient(2, "B"), "F4"),
+        ("1/1", Unreadable(Flaw::NoMethod), "F6"),
+        ("2/1", ShowClient(1, 1), "F2"),
+    ];
+    assert_told(&rt, rt.alloc(), &[], &rows)
 }
 
 #[test]
 fn branches_see_their_own(rt: HostRuntime) -> Result<(), Fail> {
-    let alloc = rt.alloc();
-    let mut books = new_books(alloc)?;
-    let north = add_office(alloc, &mut books, "1/1", 2, 1, "North");
-    assert!(rt; is_text(&north, "office 2"));
-    let south = add_office(alloc, &mut books, "1/1", 20, 1, "South");
-    assert!(rt; is_text(&south, "office 20"));
-    let mill = add_office(alloc, &mut books, "1/1", 5, 2, "Mill");
-    assert!(rt; is_text(&mill, "office 5"));
-    let ben = add_staff(alloc, &mut books, "1/1", 2, "Ben", Role::Officer);
-    assert!(rt; is_text(&ben, "2/1"));
-    let seen = send(alloc, &mut books, "2/1", Request::SeenOffices);
-    assert!(rt; is_text(&seen, "offices 2 North under 1 5 Mill under 2"));
-    let below = add_client(alloc, &mut books, "2/1", 5, "C");
-    assert!(rt; is_text(&below, "0005-000001"));
-    let hidden = add_client(alloc, &mut books, "2/1", 20, "C");
-    assert!(rt; is_fault(&hidden, Fault::F4));
-    let missing = add_client(alloc, &mut books, "2/1", 77, "C");
-    assert!(rt; is_fault(&missing, Fault::F4));
-    let forbidden = add_staff(alloc, &mut books, "2/1", 20, "D", Role::Teller);
-    assert!(rt; is_fault(&forbidden, Fault::F3));
-    let taken = add_office(alloc, &mut books, "1/1", 5, 1, "X");
-    assert!(rt; is_fault(&taken, Fault::F16));
-    Ok(())
+    let rows = [
+        ("1/1", NewOffice(2, 1, "North"), "office 2"),
+        ("1/1", NewOffice(20, 1, "South"), "office 20"),
+        ("1/1", NewOffice(5, 2, "Mill"), "office 5"),
+        ("1/1", AddStaff(2, "Ben", Role::Officer), "2/1"),
+        ("2/1", SeenOffices, "offices 2 North under 1 5 Mill under 2"),
+        ("2/1", AddClient(5, "C"), "0005-000001"),
+        ("2/1", AddClient(20, "C"), "F4"),
+        ("2/1", AddClient(77, "C"), "F4"),
+        ("2/1", AddStaff(20, "D", Role::Teller), "F3"),
+        ("1/1", NewOffice(5, 1, "X"), "F16"),
+    ];
+    assert_told(&rt, rt.alloc(), &[], &rows)
 }
 
 #[test]
 fn six_levels_and_no_more(rt: HostRuntime) -> Result<(), Fail> {
-    let alloc = rt.alloc();
-    let mut books = new_books(alloc)?;
-    for parent in 1..6u32 {
-        let made = add_office(alloc, &mut books, "1/1", parent + 1, parent, "Level");
-        assert!(rt; made.is_ok());
-    }
-    let seventh = add_office(alloc, &mut books, "1/1", 7, 6, "Level");
-    assert!(rt; is_fault(&seventh, Fault::F18));
-    Ok(())
+    let rows = [
+        ("1/1", NewOffice(2, 1, "Level"), "office 2"),
+        ("1/1", NewOffice(3, 2, "Level"), "office 3"),
+        ("1/1", NewOffice(4, 3, "Level"), "office 4"),
+        ("1/1", NewOffice(5, 4, "Level"), "office 5"),
+        ("1/1", NewOffice(6, 5, "Level"), "office 6"),
+        ("1/1", NewOffice(7, 6, "Level"), "F18"),
+    ];
+    assert_told(&rt, rt.alloc(), &[], &rows)
 }
 
 #[test]
 fn a_loan_is_approved_once(rt: HostRuntime) -> Result<(), Fail> {
-    let alloc = rt.alloc();
-    let mut books = with_loan(alloc)?;
-    let once = approve(alloc, &mut books);
-    assert!(rt; is_text(&once, "0001-000001 200"));
-    let twice = approve(alloc, &mut books);
-    assert!(rt; is_fault(&twice, Fault::F9));
-    let withdrawn = take_step(alloc, &mut books, LoanStep::Withdraw);
-    assert!(rt; is_fault(&withdrawn, Fault::F9));
-    Ok(())
+    let rows = [
+        ("1/1", Take(Approve), "0001-000001 200"),
+        ("1/1", Take(Approve), "F9"),
+        ("1/1", Take(Withdraw), "F9"),
+        ("1/1", Take(UndoApproval), "0001-000001 100"),
+        ("1/1", ListLoans, "loans 0001-000001 100"),
+    ];
+    assert_told(&rt, rt.alloc(), &LOAN, &rows)
 }
 
 #[test]
-fn an_approval_is_undone(rt: HostRuntime) -> Result<(), Fail> {
-    let alloc = rt.alloc();
-    let mut books = with_loan(alloc)?;
-    let _approved = approve(alloc, &mut books);
-    let undone = take_step(alloc, &mut books, LoanStep::UndoApproval);
-    assert!(rt; is_text(&undone, "0001-000001 100"));
-    let listing = Request::Office {
-        office: 1,
-        asked: OfficeRequest::ListLoans { after: 0 },
-    };
-    let listed = send(alloc, &mut books, "1/1", listing);
-    assert!(rt; is_text(&listed, "loans 0001-000001 100"));
-    Ok(())
-}
-
-#[test]
-fn a_product_lends_within_its_limits(rt: HostRuntime) -> Result<(), Fail> {
-    let alloc = rt.alloc();
-    let mut books = with_loan(alloc)?;
-    let too_much = submit(alloc, &mut books, 1, 1000001, 3);
-    assert!(rt; is_fault(&too_much, Fault::F8));
-    let too_long = submit(alloc, &mut books, 1, 100000, 13);
-    assert!(rt; is_fault(&too_long, Fault::F8));
-    let missing = submit(alloc, &mut books, 2, 100000, 3);
-    assert!(rt; is_fault(&missing, Fault::F4));
-    Ok(())
-}
-
-#[test]
-fn a_retired_product_lends_no_more(rt: HostRuntime) -> Result<(), Fail> {
-    let alloc = rt.alloc();
-    let mut books = with_loan(alloc)?;
-    let once = retire(alloc, &mut books);
-    assert!(rt; is_text(&once, "1 retired"));
-    let twice = retire(alloc, &mut books);
-    assert!(rt; is_fault(&twice, Fault::F7));
-    let loan = submit(alloc, &mut books, 1, 1000001, 3);
-    assert!(rt; is_fault(&loan, Fault::F7));
-    Ok(())
+fn a_product_lends_within_its_limits_until_it_is_retired(rt: HostRuntime) -> Result<(), Fail> {
+    let rows = [
+        ("1/1", SubmitLoan(1, 1000001, 3), "F8"),
+        ("1/1", SubmitLoan(1, 100000, 13), "F8"),
+        ("1/1", SubmitLoan(2, 100000, 3), "F4"),
+        ("1/1", RetireProduct, "1 retired"),
+        ("1/1", RetireProduct, "F7"),
+        ("1/1", SubmitLoan(1, 1000001, 3), "F7"),
+    ];
+    assert_told(&rt, rt.alloc(), &LOAN, &rows)
 }
 
 #[test]
 fn a_product_names_instalment_charges(rt: HostRuntime) -> Result<(), Fail> {
-    let alloc = rt.alloc();
-    let mut books = new_books(alloc)?;
-    if !is_name("Visit") {
-        return Err(Fail::from(Fault::F1));
-    }
-    let visit = Request::Catalogue(CatalogueRequest::AddCharge {
-        name: name(alloc, "Visit")?,
-        kind: ChargeKind::DueDate,
-        calc: Calc::Flat,
-        value: 500,
-    });
-    let made = send(alloc, &mut books, "1/1", visit);
-    assert!(rt; is_text(&made, "1 charge"));
-    let other_kind = add_product(alloc, &mut books, Some(1));
-    assert!(rt; is_fault(&other_kind, Fault::F8));
-    let missing = add_product(alloc, &mut books, Some(9));
-    assert!(rt; is_fault(&missing, Fault::F4));
-    Ok(())
+    let rows = [
+        ("1/1", AddCharge("Visit"), "1 charge"),
+        ("1/1", AddProduct(Some(1)), "F8"),
+        ("1/1", AddProduct(Some(9)), "F4"),
+    ];
+    assert_told(&rt, rt.alloc(), &[], &rows)
 }
 
 #[test]
 fn the_day_goes_forward(rt: HostRuntime) -> Result<(), Fail> {
-    let alloc = rt.alloc();
-    let mut books = new_books(alloc)?;
-    let present = day(b"2024-01-31")?;
-    let same = set_day(alloc, &mut books, present);
-    assert!(rt; is_fault(&same, Fault::F17));
-    let later = day(b"2024-03-31")?;
-    let set = set_day(alloc, &mut books, later);
-    assert!(rt; is_text(&set, "2024-03-31"));
-    Ok(())
+    let rows = [
+        ("1/1", SetDay("2024-01-31"), "F17"),
+        ("1/1", SetDay("2024-03-31"), "2024-03-31"),
+    ];
+    assert_told(&rt, rt.alloc(), &[], &rows)
 }

@@ -11,27 +11,38 @@ mod undoing;
 
 use mf_base::Fault;
 use mf_catalog::StrategyName;
-use opened::{OpenLoan, Step};
+use opened::{OpenLoan, Overdue, Step};
 use std::alloc::Global;
+use std::process::Abort;
+use std::test::Fail;
 
 /// What a new loan tells at steps.
-fn told(alloc: Global, steps: &[Step]) -> Result<String, Fault> {
-    let mut loan = OpenLoan::new(alloc, StrategyName::MifosStandard)?;
-    loan.told(alloc, steps)
-}
-
-/// The same of a loan by another strategy.
-fn told_by(alloc: Global, strategy: StrategyName, steps: &[Step]) -> Result<String, Fault> {
-    let mut loan = OpenLoan::new(alloc, strategy)?;
-    loan.told(alloc, steps)
-}
-
-/// The same of a loan with a charge on overdue instalments.
-fn told_with_penalties(
+fn told(
     alloc: Global,
     strategy: StrategyName,
+    overdue: Overdue,
     steps: &[Step],
 ) -> Result<String, Fault> {
-    let mut loan = OpenLoan::with_penalties(alloc, strategy)?;
+    let mut loan = OpenLoan::new(alloc, strategy, overdue)?;
     loan.told(alloc, steps)
+}
+
+/// A new loan of each case tells at its steps what stands beside them.
+fn assert_told_by(
+    rt: &impl Abort,
+    alloc: Global,
+    strategy: StrategyName,
+    overdue: Overdue,
+    cases: &[(&[Step], &str)],
+) -> Result<(), Fail> {
+    for (steps, expected) in cases {
+        let told = told(alloc, strategy, overdue, steps)?;
+        assert_eq!(rt; told.as_str(), *expected);
+    }
+    Ok(())
+}
+
+/// The same by the standard strategy, of loans without a charge on overdue instalments.
+fn assert_told(rt: &impl Abort, alloc: Global, cases: &[(&[Step], &str)]) -> Result<(), Fail> {
+    assert_told_by(rt, alloc, StrategyName::MifosStandard, Overdue::Free, cases)
 }

@@ -21,16 +21,14 @@ fn numbers_within_their_limits(rt: HostRuntime) -> Result<(), Fail> {
 
 #[test]
 fn callers(rt: HostRuntime) -> Result<(), Fail> {
-    let caller = Caller::parse(b"7/3").ok_or("7/3")?;
-    assert_eq!(rt; caller.office.get(), 7);
-    assert_eq!(rt; caller.staff.get(), 3);
-    assert_eq!(rt; caller.text(rt.alloc())?.as_str(), "7/3");
-    let last = Caller::parse(b"9999/9999").ok_or("9999/9999")?;
-    assert_eq!(rt; last.text(rt.alloc())?.as_str(), "9999/9999");
-    assert!(rt; Caller::parse(b"01/1").is_none() && Caller::parse(b"1/01").is_none());
-    assert!(rt; Caller::parse(b"0/1").is_none() && Caller::parse(b"10000/1").is_none());
-    assert!(rt; Caller::parse(b"").is_none() && Caller::parse(b"7").is_none());
-    assert!(rt; Caller::parse(b"7/3/1").is_none() && Caller::parse(b"7/+3").is_none());
+    for (text, office, staff) in [("7/3", 7, 3), ("9999/9999", 9999, 9999)] {
+        let caller = Caller::parse(text.as_bytes()).ok_or("a caller")?;
+        assert_eq!(rt; (caller.office.get(), caller.staff.get()), (office, staff));
+        assert_eq!(rt; caller.text(rt.alloc())?.as_str(), text);
+    }
+    for text in ["01/1", "1/01", "0/1", "10000/1", "", "7", "7/3/1", "7/+3"] {
+        assert!(rt; Caller::parse(text.as_bytes()).is_none());
+    }
     Ok(())
 }
 

@@ -9,6 +9,7 @@ use mf_alloc::{
 use mf_base::{Day, Fault};
 use mf_catalog::StrategyName;
 use std::alloc::Global;
+use std::process::Abort;
 use std::test::Fail;
 
 fn share(instalment: u32, portion: Portion, amount: u64) -> Share
@@ -75,33 +76,35 @@ fn three_rows(alloc: Global) -> Result<Vec<Row>, Fail>
     Ok(rows)
 }
 
-#[test]
-fn pays_what_is_due_first(rt: HostRuntime) -> Result<(), Fail> {
-    let mut rows = three_rows(rt.alloc())?;
-    let day = Day::parse(b"2024-03-31").ok_or("a day")?;
-    assert_eq!(rt; due_by(&rows, day), 2);
-    let (shares, _rest) = pay(rt.alloc(), &DueFirst, &mut rows, 20000, day)?;
-    let expected = [
-        share(1, Portion::Interest, 1000),
-        share(2, Portion::Interest, 667),
-        share(1, Portion::Principal, 18333),
-    ];
-    assert_eq!(rt; shares.as_slice(), expected.as_slice());
+/// 20000 cents on these rows, by what is due first at a day on which so many are due.
+fn assert_paid(
+    rt: &impl Abort,
+    alloc: Global,
+    day: &[u8],
+    due: u32,
+    expected: &[Share],
+) -> Result<(), Fail> {
+    let mut rows = three_rows(alloc)?;
+    let day = Day::parse(day).ok_or("a day")?;
+    assert_eq!(rt; due_by(&rows, day), due);
+    let (shares, _rest) = pay(alloc, &DueFirst, &mut rows, 20000, day)?;
+    assert_eq!(rt; shares.as_slice(), expected);
     Ok(())
 }
 
 #[test]
-fn pays_by_instalment_before_any_is_due(rt: HostRuntime) -> Result<(), Fail> {
-    let mut rows = three_rows(rt.alloc())?;
-    let day = Day::parse(b"2024-02-01").ok_or("a day")?;
-    assert_eq!(rt; due_by(&rows, day), 0);
-    let (shares, _rest) = pay(rt.alloc(), &DueFirst, &mut rows, 20000, day)?;
-    let expected = [
+fn pays_what_is_due_first(rt: HostRuntime) -> Result<(), Fail> {
+    let shares = [
+        share(1, Portion::Interest, 1000),
+        share(2, Portion::Interest, 667),
+        share(1, Portion::Principal, 18333),
+    ];
+    assert_paid(&rt, rt.alloc(), b"2024-03-31", 2, &shares)?;
+    let by_instalment = [
         share(1, Portion::Interest, 1000),
         share(1, Portion::Principal, 19000),
     ];
-    assert_eq!(rt; shares.as_slice(), expected.as_slice());
-    Ok(())
+    assert_paid(&rt, rt.alloc(), b"2024-02-01", 0, &by_instalment)
 }
 
 #[test]

@@ -41,7 +41,7 @@ fn terms(
     }
 }
 
-fn monthly(method: Method, principal_grace: u32, interest_grace: u32) -> Terms
+pub(crate) fn monthly(method: Method, principal_grace: u32, interest_grace: u32) -> Terms
     ensures within { AreTermsWithinLimits result }
     ensures principal_grace { result.principal_grace ≡ principal_grace }
     ensures interest_grace { result.interest_grace ≡ interest_grace }

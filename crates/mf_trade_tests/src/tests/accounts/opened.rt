@@ -8,9 +8,10 @@ ghost use Rattle.mf_schedule.specs.Fresh.{IsLoanWithinLimits};
 ghost use Rattle.mf_account.specs.Standing.{entry_at};
 ghost use Rattle.mf_account.specs.Refusals.{HasForm};
 
+use crate::tests::schedules::monthly;
 use mf_account::{Entry, Kind, LoanAccount};
 use mf_alloc::Portion;
-use mf_base::{Day, Fault, Freq, Name};
+use mf_base::{Day, Fault, Name};
 use mf_catalog::{Calc, ChargeDef, ChargeKind, Method, StrategyName, Terms};
 use mf_office::{Caller, OfficeNo, StaffNo};
 use std::alloc::Global;
@@ -18,35 +19,38 @@ use std::alloc::Global;
 /// What is done to a loan, or asked of it.
 #[derive(Clone, Copy, Debug)]
 pub(crate) enum Step {
-    Repay { day: &'static str, amount: u64 },
-    Fee { instalment: u32, amount: u64 },
-    Penalty { instalment: u32, amount: u64 },
-    WaiveInterest { instalment: u32 },
+    /// A repayment: its day and its cents.
+    Repay(&'static str, u64),
+    /// A fee on an instalment, and a penalty.
+    Fee(u32, u64),
+    Penalty(u32, u64),
+    /// A waiver of an instalment's interest.
+    WaiveInterest(u32),
     WriteOff,
     Refund,
-    Reverse { seq: u32 },
+    /// The reversal of the entry of a number.
+    Reverse(u32),
     /// What the calls that read tell.
     Status,
     Balances,
     Rows,
     Entries,
-    Shares { seq: u32 },
+    /// What the entry of a number settled.
+    Shares(u32),
     Change,
 }
 
-pub(crate) fn repayment(day: &'static str, amount: u64) -> Step {
-    Step::Repay { day, amount }
+/// The two repayments of most cases.
+pub(crate) const FIRST: Step = Step::Repay("2024-02-29", 20000);
+
+pub(crate) const SECOND: Step = Step::Repay("2024-03-31", 50000);
+
+/// Whether overdue instalments bear a charge.
+#[derive(Clone, Copy, Debug)]
+pub(crate) enum Overdue {
+    Free,
+    Charged,
 }
-
-pub(crate) const FIRST_REPAYMENT: Step = Step::Repay {
-    day: "2024-02-29",
-    amount: 20000,
-};
-
-pub(crate) const SECOND_REPAYMENT: Step = Step::Repay {
-    day: "2024-03-31",
-    amount: 50000,
-};
 
 /// A loan of 100000 cents at 12 percent for 3 months of equal principal, disbursed on 2024-01-31. The business day is
 /// 2024-03-31.
@@ -61,18 +65,10 @@ fn terms(strategy: StrategyName, overdue: Option<ChargeDef>) -> Terms
     requires { IfSome overdue IsChargeWithinLimits }
     ensures { IsLoanWithinLimits result 100000 3 }
 {
-    Terms {
-        method: Method::EqualPrincipal,
-        rate: 1200,
-        freq: Freq::Months,
-        every: 1,
-        principal_grace: 0,
-        interest_grace: 0,
-        strategy,
-        disbursement: None,
-        instalment: None,
-        overdue,
-    }
+    let mut terms = monthly(Method::EqualPrincipal, 0, 0);
+    terms.strategy = strategy;
+    terms.overdue = overdue;
+    terms
 }
 
 /// A charge of 10 percent of what is overdue.
@@ -154,6 +150,19 @@ fn has_form(entry: &Entry, business_day: Day) -> bool
     }
 }
 
+/// An entry's kind, amount, instalment and portion.
+fn columns(step: Step) -> (Kind, u64, u32, Portion) {
+    match step {
+        Step::Fee(instalment, amount) => (Kind::Fee, amount, instalment, Portion::Fee),
+        Step::Penalty(instalment, amount) => (Kind::Penalty, amount, instalment, Portion::Penalty),
+        Step::WaiveInterest(instalment) => (Kind::Waive, 0, instalment, Portion::Interest),
+        Step::WriteOff => (Kind::WriteOff, 0, 0, Portion::Principal),
+        Step::Refund => (Kind::Refund, 0, 0, Portion::Principal),
+        Step::Repay(_, amount) => (Kind::Repay, amount, 0, Portion::Principal),
+        _ => (Kind::Repay, 0, 0, Portion::Principal),
+    }
+}
+
 fn manager() -> Option<Caller> {
     Some(Caller {
         office: OfficeNo::new(1)?,
@@ -163,13 +172,12 @@ fn manager() -> Option<Caller> {
 
 impl OpenLoan {
     /// The loan, with nothing entered.
-    pub fn new(alloc: Global, strategy: StrategyName) -> Result<OpenLoan, Fault> {
-        disbursed(alloc, terms(strategy, None))
-    }
-
-    /// The same, with a charge on overdue instalments.
-    pub fn with_penalties(alloc: Global, strategy: StrategyName) -> Result<OpenLoan, Fault> {
-        disbursed(alloc, terms(strategy, Some(overdue_charge(alloc))))
+    pub fn new(alloc: Global, strategy: StrategyName, overdue: Overdue) -> Result<OpenLoan, Fault> {
+        let charge = match overdue {
+            Overdue::Free => None,
+            Overdue::Charged => Some(overdue_charge(alloc)),
+        };
+        disbursed(alloc, terms(strategy, charge))
     }
 
     /// Takes steps, and gives what is told: by a refused one the number of its refusal, by one that reads what it reads.
@@ -191,7 +199,7 @@ impl OpenLoan {
             Step::Balances => self.tell_balances(text),
             Step::Rows => self.tell_rows(text),
             Step::Entries => self.tell_entries(text),
-            Step::Shares { seq } => self.tell_shares(alloc, seq, text),
+            Step::Shares(seq) => self.tell_shares(alloc, seq, text),
             Step::Change => self.tell_change(text),
             _ => self.take(alloc, step),
         }
@@ -250,53 +258,16 @@ impl OpenLoan {
         Ok(())
     }
 
-    /// Takes a step.
+    /// Takes a step: the next entry, or a reversal.
     fn take(&mut self, alloc: Global, step: Step) -> Result<(), Fault> {
-        let today = self.business_day;
-        match step {
-            Step::Repay { day: text, amount } => {
-                self.enter(
-                    alloc,
-                    Kind::Repay,
-                    day(text)?,
-                    amount,
-                    0,
-                    Portion::Principal,
-                )
-            }
-            Step::Fee { instalment, amount } => {
-                self.enter(alloc, Kind::Fee, today, amount, instalment, Portion::Fee)
-            }
-            Step::Penalty { instalment, amount } => {
-                self.enter(
-                    alloc,
-                    Kind::Penalty,
-                    today,
-                    amount,
-                    instalment,
-                    Portion::Penalty,
-                )
-            }
-            Step::WaiveInterest { instalment } => {
-                self.enter(alloc, Kind::Waive, today, 0, instalment, Portion::Interest)
-            }
-            Step::WriteOff => self.enter(alloc, Kind::WriteOff, today, 0, 0, Portion::Principal),
-            Step::Refund => self.enter(alloc, Kind::Refund, today, 0, 0, Portion::Principal),
-            Step::Reverse { seq } => self.account.reverse(alloc, seq),
-            _ => Ok(()),
-        }
-    }
-
-    /// Enters an entry with the next number.
-    fn enter(
-        &mut self,
-        alloc: Global,
-        kind: Kind,
-        day: Day,
-        amount: u64,
-        instalment: u32,
-        portion: Portion,
-    ) -> Result<(), Fault> {
+        let (kind, amount, instalment, portion) = match step {
+            Step::Reverse(seq) => return self.account.reverse(alloc, seq),
+            entered => columns(entered),
+        };
+        let day = match step {
+            Step::Repay(text, _) => day(text)?,
+            _ => self.business_day,
+        };
         let entered = self.account.entries().len();
         let (Some(staff), Ok(entered)) = (manager(), u32::try_from(entered)) else {
             return Err(Fault::F2);

@@ -1,95 +1,62 @@
 //! Overpaid loans, refunds, and write-offs: the last two seal a loan.
 
-use super::opened::{FIRST_REPAYMENT, SECOND_REPAYMENT, Step, repayment};
-use super::told;
+use super::assert_told;
+use super::opened::Step::{self, *};
+use super::opened::{FIRST, SECOND};
 use std::test::Fail;
 
-const OVERPAYMENT: Step = Step::Repay {
-    day: "2024-03-31",
-    amount: 110000,
-};
+const OVERPAYMENT: Step = Repay("2024-03-31", 110000);
 
 #[test]
-fn overpays(rt: HostRuntime) -> Result<(), Fail> {
-    let told = told(rt.alloc(), &[OVERPAYMENT, Step::Status, Step::Balances])?;
-    assert_eq!(rt;
-        told.as_str(),
-        "700;fee 0 owed [0, 0, 2000, 100000] paid [0, 0, 2000, 100000] waived [0, 0, 0, 0] written off [0, 0, 0, 0] \
-outstanding [0, 0, 0, 0] overpaid 8000 refunded 0;"
-    );
-    Ok(())
-}
-
-#[test]
-fn refunds(rt: HostRuntime) -> Result<(), Fail> {
-    let steps = [
-        OVERPAYMENT,
-        Step::Refund,
-        Step::Status,
-        Step::Balances,
-        Step::Reverse { seq: 1 },
-    ];
-    let told = told(rt.alloc(), &steps)?;
-    assert_eq!(rt;
-        told.as_str(),
-        "600;fee 0 owed [0, 0, 2000, 100000] paid [0, 0, 2000, 100000] waived [0, 0, 0, 0] written off [0, 0, 0, 0] \
-outstanding [0, 0, 0, 0] overpaid 0 refunded 8000;F11;"
-    );
-    Ok(())
-}
-
-#[test]
-fn reverses_a_refund(rt: HostRuntime) -> Result<(), Fail> {
-    let steps = [
-        OVERPAYMENT,
-        Step::Refund,
-        Step::Reverse { seq: 2 },
-        Step::Status,
-        Step::Balances,
-    ];
-    let told = told(rt.alloc(), &steps)?;
-    assert_eq!(rt;
-        told.as_str(),
-        "700;fee 0 owed [0, 0, 2000, 100000] paid [0, 0, 2000, 100000] waived [0, 0, 0, 0] written off [0, 0, 0, 0] \
-outstanding [0, 0, 0, 0] overpaid 8000 refunded 0;"
-    );
-    Ok(())
+fn overpaid_loans(rt: HostRuntime) -> Result<(), Fail> {
+    assert_told(
+        &rt,
+        rt.alloc(),
+        &[
+            (
+                &[OVERPAYMENT, Status, Balances],
+                "700;fee 0 owed [0, 0, 2000, 100000] paid [0, 0, 2000, 100000] waived [0, 0, 0, 0] written off [0, 0, 0, 0] \
+outstanding [0, 0, 0, 0] overpaid 8000 refunded 0;",
+            ),
+            (
+                &[OVERPAYMENT, Refund, Status, Balances, Reverse(1)],
+                "600;fee 0 owed [0, 0, 2000, 100000] paid [0, 0, 2000, 100000] waived [0, 0, 0, 0] written off [0, 0, 0, 0] \
+outstanding [0, 0, 0, 0] overpaid 0 refunded 8000;F11;",
+            ),
+            // the refund is reversed
+            (
+                &[OVERPAYMENT, Refund, Reverse(2), Status, Balances],
+                "700;fee 0 owed [0, 0, 2000, 100000] paid [0, 0, 2000, 100000] waived [0, 0, 0, 0] written off [0, 0, 0, 0] \
+outstanding [0, 0, 0, 0] overpaid 8000 refunded 0;",
+            ),
+        ],
+    )
 }
 
 #[test]
 fn writes_off(rt: HostRuntime) -> Result<(), Fail> {
-    let steps = [
-        FIRST_REPAYMENT,
-        SECOND_REPAYMENT,
-        Step::WriteOff,
-        Step::Status,
-        Step::Balances,
-        repayment("2024-03-31", 100),
-    ];
-    let told = told(rt.alloc(), &steps)?;
-    assert_eq!(rt;
-        told.as_str(),
-        "601;fee 0 owed [0, 0, 2000, 100000] paid [0, 0, 2000, 68000] waived [0, 0, 0, 0] written off [0, 0, 0, 32000] \
-outstanding [0, 0, 0, 0] overpaid 0 refunded 0;F11;"
-    );
-    Ok(())
-}
-
-#[test]
-fn reverses_a_write_off(rt: HostRuntime) -> Result<(), Fail> {
-    let steps = [
-        FIRST_REPAYMENT,
-        SECOND_REPAYMENT,
-        Step::WriteOff,
-        Step::Reverse { seq: 3 },
-        Step::Status,
-        Step::Balances,
-    ];
-    let told = told(rt.alloc(), &steps)?;
-    assert_eq!(rt;
-        told.as_str(),
-        "300;fee 0 owed [0, 0, 2000, 100000] paid [0, 0, 2000, 68000] waived [0, 0, 0, 0] written off [0, 0, 0, 0] \
-outstanding [0, 0, 0, 32000] overpaid 0 refunded 0;"
-    );
-    Ok(())
+    assert_told(
+        &rt,
+        rt.alloc(),
+        &[
+            (
+                &[
+                    FIRST,
+                    SECOND,
+                    WriteOff,
+                    Status,
+                    Balances,
+                    Repay("2024-03-31", 100),
+                ],
+                "601;fee 0 owed [0, 0, 2000, 100000] paid [0, 0, 2000, 68000] waived [0, 0, 0, 0] written off [0, 0, 0, 32000] \
+outstanding [0, 0, 0, 0] overpaid 0 refunded 0;F11;",
+            ),
+            // the write-off is reversed
+            (
+                &[FIRST, SECOND, WriteOff, Reverse(3), Status, Balances],
+                "300;fee 0 owed [0, 0, 2000, 100000] paid [0, 0, 2000, 68000] waived [0, 0, 0, 0] written off [0, 0, 0, 0] \
+outstanding [0, 0, 0, 32000] overpaid 0 refunded 0;",
+            ),
+        ],
+    )
 }

@@ -1,69 +1,56 @@
 //! One entry more after many, and the last of many reversed: only what it touches changes. How many requests for memory
 //! each makes is counted by `bench/count-requests`.
 
-use super::opened::{OpenLoan, Step, repayment};
+use super::opened::Step::{self, *};
+use super::opened::{OpenLoan, Overdue};
 use mf_catalog::StrategyName;
 use std::alloc::Global;
+use std::process::Abort;
 use std::test::Fail;
 
-const CENT: Step = Step::Repay {
-    day: "2024-03-31",
-    amount: 1,
-};
+const CENT: Step = Repay("2024-03-31", 1);
 
-/// A loan with so many repayments of one cent.
-fn loan_of_cents(alloc: Global, count: u32) -> Result<OpenLoan, Fail> {
-    let mut loan = OpenLoan::new(alloc, StrategyName::MifosStandard)?;
-    for _ in 0..count {
+/// A loan with so many repayments of one cent tells this at steps.
+fn assert_told_after(
+    rt: &impl Abort,
+    alloc: Global,
+    cents: u32,
+    steps: &[Step],
+    expected: &str,
+) -> Result<(), Fail> {
+    let mut loan = OpenLoan::new(alloc, StrategyName::MifosStandard, Overdue::Free)?;
+    for _ in 0..cents {
         loan.told(alloc, &[CENT])?;
     }
-    Ok(loan)
+    let told = loan.told(alloc, steps)?;
+    assert_eq!(rt; told.as_str(), expected);
+    Ok(())
 }
 
 #[test]
 fn many_cents(rt: HostRuntime) -> Result<(), Fail> {
-    let mut loan = loan_of_cents(rt.alloc(), 200)?;
-    let told = loan.told(rt.alloc(), &[Step::Entries])?;
-    assert_eq!(rt; told.as_str(), "200 entries;");
-    Ok(())
+    assert_told_after(&rt, rt.alloc(), 200, &[Entries], "200 entries;")
 }
 
 #[test]
 fn short_undo(rt: HostRuntime) -> Result<(), Fail> {
-    let mut loan = loan_of_cents(rt.alloc(), 200)?;
-    let told = loan.told(rt.alloc(), &[CENT, Step::Change])?;
-    assert_eq!(rt; told.as_str(), "[1] [201];");
-    Ok(())
+    assert_told_after(&rt, rt.alloc(), 200, &[CENT, Change], "[1] [201];")
 }
 
 #[test]
 fn short_undo_of_the_last(rt: HostRuntime) -> Result<(), Fail> {
-    let mut loan = loan_of_cents(rt.alloc(), 200)?;
-    let told = loan.told(rt.alloc(), &[Step::Reverse { seq: 200 }, Step::Change])?;
-    assert_eq!(rt; told.as_str(), "[1] [200];");
-    Ok(())
+    assert_told_after(&rt, rt.alloc(), 200, &[Reverse(200), Change], "[1] [200];")
 }
 
 #[test]
 fn a_cent_after_a_thousand(rt: HostRuntime) -> Result<(), Fail> {
-    let mut loan = loan_of_cents(rt.alloc(), 1000)?;
-    let told = loan.told(
-        rt.alloc(),
-        &[CENT, Step::Change, Step::Shares { seq: 1001 }],
-    )?;
-    assert_eq!(rt; told.as_str(), "[1] [1001];1 Principal 1,;");
-    Ok(())
+    let steps = [CENT, Change, Shares(1001)];
+    assert_told_after(&rt, rt.alloc(), 1000, &steps, "[1] [1001];1 Principal 1,;")
 }
 
 #[test]
 fn an_entry_among_others(rt: HostRuntime) -> Result<(), Fail> {
-    let mut loan = loan_of_cents(rt.alloc(), 3)?;
-    let steps = [
-        repayment("2024-02-29", 1000),
-        Step::Change,
-        Step::Shares { seq: 1 },
-    ];
-    let told = loan.told(rt.alloc(), &steps)?;
-    assert_eq!(rt; told.as_str(), "[1] [1, 2, 3, 4];1 Principal 1,;");
-    Ok(())
+    let steps = [Repay("2024-02-29", 1000), Change, Shares(1)];
+    let expected = "[1] [1, 2, 3, 4];1 Principal 1,;";
+    assert_told_after(&rt, rt.alloc(), 3, &steps, expected)
 }
