@@ -14,6 +14,7 @@ mod loans;
 mod office_rows;
 mod reads;
 mod store;
+mod stored;
 mod visible;
 
 pub use office_rows::{OfficeRows, StaffMember};
