@@ -3,18 +3,13 @@ use Rattle.std.proofs.Common.{◌≡◌, ◌+◌, ℕ, pos, Bool, true, false, c
 use Rattle.std.specs.Option.{option_map}
 use Rattle.mf_base.specs.DayText.{day_text}
 use Rattle.mf_base.specs.declared.day.Freq.{Freq}
-use Rattle.mf_base.specs.declared.day.Freq.TheVariants.{Weeks, Months}
 use Rattle.mf_catalog.specs.declared.charge.ChargeDef.{ChargeDef}
 use Rattle.mf_catalog.specs.declared.charge.ChargeKind.{ChargeKind}
-use Rattle.mf_catalog.specs.declared.charge.ChargeKind.TheVariants.{Disbursement, Instalment, Overdue, DueDate}
 use Rattle.mf_catalog.specs.declared.charge.Calc.{Calc}
-use Rattle.mf_catalog.specs.declared.charge.Calc.TheVariants as calc
 use Rattle.mf_catalog.specs.declared.product.Product.{Product}
 use Rattle.mf_catalog.specs.declared.product.ProductMembers.{ProductMembers}
 use Rattle.mf_catalog.specs.declared.terms.Method.{Method}
-use Rattle.mf_catalog.specs.declared.terms.Method.TheVariants as method
 use Rattle.mf_catalog.specs.declared.terms.StrategyName.{StrategyName}
-use Rattle.mf_catalog.specs.declared.terms.StrategyName.TheVariants.{MifosStandard, PrincipalFirst, InterestFirst, DueFirst}
 use Rattle.mf_store_tables.specs.Keep.{put_item}
 use Rattle.mf_model.specs.Institution.{Institution, Charge, Offer, numbered, with_numbered, charge_def, product_of as product_numbered}
 use Rattle.mf_model.specs.Sound.{IsSound}
@@ -23,8 +18,7 @@ use Rattle.mf_model.specs.declared.commit.Commit.TheVariants.{SetDay, AddCharge,
 use Rattle.mf_store_records.specs.Rows.{by_meta, by_charge, by_product}
 use Rattle.mf_store_records.specs.declared.charges.ChargeRow.{ChargeRow}
 use Rattle.mf_store_records.specs.declared.products.ProductRow.{ProductRow}
-use Rattle.mf_store.specs.Flat.{tables_of, numbered_from, charge_as, product_as}
-use Rattle.mf_store_records.specs.Numbers.{kind_number, calc_number, method_number, frequency_number, strategy_number, flag_number}
+use Rattle.mf_store.specs.Flat.{tables_of, numbered_from, charge_as, product_as, flag_number}
 use Rattle.mf_store_records.specs.declared.meta.MetaRow.{MetaRow}
 use Rattle.mf_store_records.specs.declared.writes.StoreWrite.TheVariants.{PutMeta, PutCharge, PutProduct}
 use Rattle.mf_store_records.specs.declared.writes.StoreWrite.TheVariants as write
@@ -33,62 +27,8 @@ use Rattle.mf_store.proofs.FlatLemmas.{put_listed, put_listed_last}
 
 -- ---- a number stands for one choice
 
-abbrev kind_at : ℕ → ChargeKind
-kind_at n = cond (n == 1) Disbursement (cond (n == 2) Instalment (cond (n == 3) Overdue DueDate))
-
-kind_back : (k : ChargeKind) → kind_at (kind_number k) ≡ k
-kind_back Disbursement = refl
-kind_back Instalment = refl
-kind_back Overdue = refl
-kind_back DueDate = refl
-
-pub kind_is : (a b : ChargeKind) → kind_number a ≡ kind_number b → a ≡ b
-kind_is a b e = sym (kind_back a) ∙ ap kind_at e ∙ kind_back b
-
-abbrev calc_at : ℕ → Calc
-calc_at n = cond (n == 1) calc.Flat (cond (n == 2) calc.OfAmount (cond (n == 3) calc.OfInterest calc.OfBoth))
-
-calc_back : (k : Calc) → calc_at (calc_number k) ≡ k
-calc_back calc.Flat = refl
-calc_back calc.OfAmount = refl
-calc_back calc.OfInterest = refl
-calc_back calc.OfBoth = refl
-
-pub calc_is : (a b : Calc) → calc_number a ≡ calc_number b → a ≡ b
-calc_is a b e = sym (calc_back a) ∙ ap calc_at e ∙ calc_back b
-
-abbrev method_at : ℕ → Method
-method_at n = cond (n == 1) method.Flat (cond (n == 2) method.EqualPrincipal method.Fixed)
-
-method_back : (k : Method) → method_at (method_number k) ≡ k
-method_back method.Flat = refl
-method_back method.EqualPrincipal = refl
-method_back method.Fixed = refl
-
-pub method_is : (a b : Method) → method_number a ≡ method_number b → a ≡ b
-method_is a b e = sym (method_back a) ∙ ap method_at e ∙ method_back b
-
-abbrev frequency_at : ℕ → Freq
-frequency_at n = cond (n == 1) Weeks Months
-
-frequency_back : (k : Freq) → frequency_at (frequency_number k) ≡ k
-frequency_back Weeks = refl
-frequency_back Months = refl
-
-pub frequency_is : (a b : Freq) → frequency_number a ≡ frequency_number b → a ≡ b
-frequency_is a b e = sym (frequency_back a) ∙ ap frequency_at e ∙ frequency_back b
-
-abbrev strategy_at : ℕ → StrategyName
-strategy_at n = cond (n == 1) MifosStandard (cond (n == 2) PrincipalFirst (cond (n == 3) InterestFirst DueFirst))
-
-strategy_back : (k : StrategyName) → strategy_at (strategy_number k) ≡ k
-strategy_back MifosStandard = refl
-strategy_back PrincipalFirst = refl
-strategy_back InterestFirst = refl
-strategy_back DueFirst = refl
-
-pub strategy_is : (a b : StrategyName) → strategy_number a ≡ strategy_number b → a ≡ b
-strategy_is a b e = sym (strategy_back a) ∙ ap strategy_at e ∙ strategy_back b
+pub choice_is : {A : Type 0} (number : A → ℕ) (found : Option A) (a b : A) (n : ℕ) → ((x : A) → n ≡ number x → found ≡ Some x) → found ≡ Some a → n ≡ number b → a ≡ b
+choice_is number found a b n every is e = let same : Some a ≡ Some b = sym is ∙ every b e in cc
 
 abbrev flag_at : ℕ → Bool
 flag_at n = cond (n == 0) false true
@@ -105,18 +45,18 @@ amount_is a b e = cc
 
 -- ---- what a row is read as
 
-pub charge_is : (row : ChargeRow) (name : List ℕ) (kind : ChargeKind) (calc : Calc) (value n : ℕ) (c : Charge) → row ≡ charge_as n c → name ≡ row.name → kind_number kind ≡ row.kind → calc_number calc ≡ row.calc → pos value ≡ row.value
+pub charge_is : (row : ChargeRow) (name : List ℕ) (kind : ChargeKind) (calc : Calc) (value n : ℕ) (c : Charge) → row ≡ charge_as n c → name ≡ row.name → kind ≡ c.kind → calc ≡ c.calc → pos value ≡ row.value
     → ◌≡◌ {A = ChargeDef} (record { number = row.number; name = name; kind = kind; calc = calc; value = value }) (charge_def n c)
 charge_is row name kind calc value n c e a b d v = λ k. record {
   number = ap (λ (r : ChargeRow). r.number) e k;
   name = (a ∙ ap (λ (r : ChargeRow). r.name) e) k;
-  kind = kind_is kind c.kind (b ∙ ap (λ (r : ChargeRow). r.kind) e) k;
-  calc = calc_is calc c.calc (d ∙ ap (λ (r : ChargeRow). r.calc) e) k;
+  kind = b k;
+  calc = d k;
   value = amount_is value c.value (v ∙ ap (λ (r : ChargeRow). r.value) e) k;
 }
 
 pub product_is : (row : ProductRow) (name : List ℕ) (method : Method) (freq : Freq) (strategy : StrategyName) (least most : ℕ) (retired : Bool) (n : ℕ) (p : Offer) → row ≡ product_as n p
-    → name ≡ row.name → method_number method ≡ row.method → frequency_number freq ≡ row.frequency → strategy_number strategy ≡ row.strategy → pos least ≡ row.min_principal → pos most ≡ row.max_principal → flag_number retired ≡ row.retired
+    → name ≡ row.name → method ≡ p.members.method → freq ≡ p.members.freq → strategy ≡ p.members.strategy → pos least ≡ row.min_principal → pos most ≡ row.max_principal → flag_number retired ≡ row.retired
     → ◌≡◌ {A = Product} (record {
       number = row.number;
       members = record {
@@ -142,9 +82,9 @@ product_is row name method freq strategy least most retired n p e a b c d f g h 
   number = ap (λ (r : ProductRow). r.number) e k;
   members = record {
     name = (a ∙ ap (λ (r : ProductRow). r.name) e) k;
-    method = method_is method p.members.method (b ∙ ap (λ (r : ProductRow). r.method) e) k;
+    method = b k;
     rate = ap (λ (r : ProductRow). r.rate) e k;
-    freq = frequency_is freq p.members.freq (c ∙ ap (λ (r : ProductRow). r.frequency) e) k;
+    freq = c k;
     every = ap (λ (r : ProductRow). r.every) e k;
     principal_grace = ap (λ (r : ProductRow). r.principal_grace) e k;
     interest_grace = ap (λ (r : ProductRow). r.interest_grace) e k;
@@ -152,7 +92,7 @@ product_is row name method freq strategy least most retired n p e a b c d f g h 
     max_principal = amount_is most p.members.max_principal (g ∙ ap (λ (r : ProductRow). r.max_principal) e) k;
     min_periods = ap (λ (r : ProductRow). r.min_periods) e k;
     max_periods = ap (λ (r : ProductRow). r.max_periods) e k;
-    strategy = strategy_is strategy p.members.strategy (d ∙ ap (λ (r : ProductRow). r.strategy) e) k;
+    strategy = d k;
     disbursement_charge = ap (λ (r : ProductRow). r.disbursement_charge) e k;
     instalment_charge = ap (λ (r : ProductRow). r.instalment_charge) e k;
     overdue_charge = ap (λ (r : ProductRow). r.overdue_charge) e k;

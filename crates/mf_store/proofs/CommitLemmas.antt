@@ -23,7 +23,7 @@ use Rattle.mf_store_records.specs.declared.offices.OfficeRow.{OfficeRow}
 use Rattle.mf_store_records.specs.declared.staff.StaffRow.{StaffRow}
 use Rattle.mf_store_records.specs.declared.clients.ClientRow.{ClientRow}
 use Rattle.mf_store_records.specs.declared.loans.LoanRow.{LoanRow}
-use Rattle.mf_store.specs.Flat.{tables_of, office_under, office_row_at, staff_in, client_in, loan_in}
+use Rattle.mf_store.specs.Flat.{tables_of, office_under, key_at, staff_in, client_in, loan_in}
 use Rattle.mf_store_records.specs.declared.writes.StoreWrite.{StoreWrite}
 use Rattle.mf_store_records.specs.declared.writes.StoreWrite.TheVariants.{PutOffice, PutStaff, PutClient}
 use Rattle.mf_store.specs.Facts.{Kept}
@@ -273,12 +273,12 @@ number_at x (e ∷ fs) f h = go (e.number == x) refl h (number_at x fs f)
     go true same h more = let k : Some e ≡ Some f = h in let is : e ≡ f = cc in ap (λ (o : Office). o.number) (sym is) ∙ (let n : e.number ≡ x = grind (arith, nat_tests) in n)
     go false same h more = more h
 
-pub office_known : (found : Option OfficeRow) (o : OfficeRow) (x : ℕ) (i : Institution) → found ≡ Some o → found ≡ office_row_at x i → (is_there i.offices x ≡ true) × (o.hkey ≡ key_of (parent_of i.offices) x)
-office_known found o x i is h = go (office_at x i.offices) refl (sym is ∙ h)
+pub office_known : (found : Option (List ℕ)) (key : List ℕ) (x : ℕ) (i : Institution) → found ≡ Some key → found ≡ key_at x i → (is_there i.offices x ≡ true) × (key ≡ key_of (parent_of i.offices) x)
+office_known found key x i is h = go (office_at x i.offices) refl (sym is ∙ h)
   where
-    go : (at : Option Office) → office_at x i.offices ≡ at → Some o ≡ option_map (office_under (parent_of i.offices)) at → (is_there i.offices x ≡ true) × (o.hkey ≡ key_of (parent_of i.offices) x)
-    go None e h = absurd (let k : Some o ≡ None = h in cc)
+    go : (at : Option Office) → office_at x i.offices ≡ at → Some key ≡ option_map (λ (f : Office). key_of (parent_of i.offices) f.number) at → (is_there i.offices x ≡ true) × (key ≡ key_of (parent_of i.offices) x)
+    go None e h = absurd (let k : Some key ≡ None = h in cc)
     go (Some f) e h =
-        let k : Some o ≡ Some (office_under (parent_of i.offices) f) = h in
-        let same : o ≡ office_under (parent_of i.offices) f = cc in
-        (ap is_some e, ap (λ (r : OfficeRow). r.hkey) same ∙ ap (key_of (parent_of i.offices)) (number_at x i.offices f e))
+        let k : Some key ≡ Some (key_of (parent_of i.offices) f.number) = h in
+        let same : key ≡ key_of (parent_of i.offices) f.number = cc in
+        (ap is_some e, same ∙ ap (key_of (parent_of i.offices)) (number_at x i.offices f e))

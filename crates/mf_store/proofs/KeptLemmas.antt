@@ -6,7 +6,7 @@ use Rattle.std.proofs.lemmas.Bool.Decides.{nat_tests}
 use Rattle.std.specs.Cmp.{nat_eq_equiv}
 use Rattle.lru.specs.LruCache.{LruCache, lru_cache, put_entries}
 use Rattle.lru.proofs.CallerLemmas.{Contains-lookup_entry, lookup-put_entries}
-use Rattle.sqlite.specs.Held.{Held}
+use Rattle.sqlite.specs.Held.{Held, state}
 use Rattle.sqlite_trees.specs.declared.store.Store.{Ghosts}
 use Rattle.mf_model.specs.Institution.{Institution, product_in}
 use Rattle.mf_model.specs.declared.store.Counts.{Counts}
@@ -15,22 +15,24 @@ use Rattle.mf_office.specs.declared.staff.Role.{Role}
 use Rattle.mf_office.specs.declared.caller.Caller.{Caller}
 use Rattle.mf_catalog.specs.declared.product.Product.{Product}
 use Rattle.mf_model.specs.Store.{counts_at, catalogue_counts, role_of}
+use Rattle.mf_store_records.specs.Calls.{OnlyFaultsShut}
 use Rattle.mf_store.specs.Facts.{Facts, Kept, AreTrueOf, caller_number}
 use Rattle.mf_store.specs.Flat.{key_at}
 use Rattle.mf_store.specs.Learning.{Tells}
 use Rattle.mf_store.specs.declared.known.News.TheVariants.{OfficeCounts, Catalogue, BusinessDay}
-use Rattle.mf_store.specs.Stands.{IsTabled, HasGoodDisk, LeavesTables, StayTabled, StandsFor, IsClean, Stays}
+use Rattle.mf_store.specs.Stands.{IsTabled, HasGoodDisk, LeavesTables, StayTabled, StandsFor, IsClean, IsOpenUntil, Stays}
 
 module _ {S : Type 0} (g : Ghosts S) where
   pub tabled : (k : Kept S) (i : Institution) → StandsFor g k i → IsTabled g k.connection i
   tabled k i s = record { sound = s.sound; serves = s.serves }
 
   pub stays_same : (h : Kept S) → Stays g h h
-  stays_same h = record { premise = λ c. c; same = λ c i s. s; stop = λ c is l. l }
+  stays_same h = record { premise = λ c. c; shuts = λ n o. o; same = λ c i s. s; stop = λ c is l. l }
 
   pub stays_then : (a b c : Kept S) → Stays g a b → Stays g b c → Stays g a c
   stays_then a b c p q = record {
     premise = λ clean. p.premise (q.premise clean);
+    shuts = λ n o. q.shuts n (p.shuts n o);
     same = λ clean i s. q.same clean i (p.same (q.premise clean) i s);
     stop = λ clean is l. q.stop clean is (p.stop (q.premise clean) is l);
   }
@@ -151,10 +153,15 @@ any_err (Ok x) P p = tt
 any_err (Err e) P p = p
 
 module _ {S : Type 0} (g : Ghosts S) where
+  pub shuts_alike : (old new : Held S) → OnlyFaultsShut (state g old) (state g new) → (n : ℕ) → IsOpenUntil g n old → IsOpenUntil g n new
+  unfolding IsOpenUntil
+  shuts_alike old new h n o = (o.0, h n o.0 o.1)
+
   -- the tables stay, and what is known
   pub known_stays : (old new : Held S) (f : Facts) → StayTabled g old new → Stays g (record { connection = old; known = f }) (record { connection = new; known = f })
   known_stays old new f t = record {
     premise = t.premise;
+    shuts = shuts_alike old new t.shuts;
     same = λ clean i s. let k = t.same clean i (tabled g (record { connection = old; known = f }) i s) in record { sound = k.sound; serves = k.serves; knows = s.knows };
     stop = t.stop;
   }
@@ -185,6 +192,7 @@ module _ {S : Type 0} (g : Ghosts S) where
       → (IsClean g mid → (i : Institution) → StandsFor g old i → IsSo i) → Stays g old new
   learnt_stays old mid new IsSo kept learns tables told = record {
     premise = λ clean. kept.premise (now clean);
+    shuts = λ n o. subst (λ h. IsOpenUntil g n h) (sym tables) (kept.shuts n o);
     same = λ clean i s. learns i (kept.same (now clean) i s) (told (now clean) i s);
     stop = λ clean is l. subst (λ h. LeavesTables g h is) (sym tables) (kept.stop (now clean) is l);
   }

@@ -21,9 +21,8 @@ use Rattle.mf_model.specs.Loans.{status_of, lines_from, lines_above}
 use Rattle.mf_model.specs.Sound.{IsSound}
 use Rattle.mf_model.specs.Store.{committed, rows_at}
 use Rattle.mf_model.specs.Tree.{is_there}
-use Rattle.mf_store_records.specs.Rows.{by_staff, by_client, by_loan, loan_row}
+use Rattle.mf_store_records.specs.Rows.{by_staff, by_client, by_loan, loan_row, is_loan_of, is_loan_above}
 use Rattle.mf_store_records.specs.declared.loans.LoanRow.{LoanRow}
-use Rattle.mf_store_records.specs.Looks.{is_loan_of, is_loan_above}
 use Rattle.mf_store.specs.Flat.{tables_of, numbered_from, staff_in, client_in, loan_in, line_in, approval_text}
 use Rattle.mf_store_records.specs.declared.writes.StoreWrite.TheVariants as write
 use Rattle.mf_store.specs.Stands.{Becomes}

@@ -6,16 +6,13 @@ use Rattle.std.proofs.lemmas.List.Elements.{filter-append}
 use Rattle.sqlite.specs.declared.types.Value.TheVariants.{Int}
 use Rattle.sqlite.specs.Order.{Row}
 use Rattle.mf_office.specs.declared.staff.Role.{Role}
-use Rattle.mf_office.specs.declared.staff.Role.TheVariants.{Teller, Officer, Manager}
 use Rattle.mf_model.specs.Institution.{Institution, Office, Rows, Staff, office_at, no_rows}
 use Rattle.mf_model.specs.Sound.{IsSound}
 use Rattle.mf_model.specs.Store.{rows_of, rows_at}
 use Rattle.mf_model.specs.Tree.{Above, Ascending}
-use Rattle.mf_store_records.specs.Rows.{staff_row, client_row, loan_row}
+use Rattle.mf_store_records.specs.Rows.{staff_row, client_row, loan_row, is_staff_of, is_client_of, is_loan_of}
 use Rattle.mf_store_records.specs.declared.staff.StaffRow.{StaffRow}
-use Rattle.mf_store_records.specs.Looks.{is_staff_of, is_client_of, is_loan_of}
 use Rattle.mf_store.specs.Flat.{numbered_from, all_rows, staff_in, client_in, loan_in, tables_of}
-use Rattle.mf_store_records.specs.Numbers.{role_number}
 
 -- ---- one office's rows among all
 
@@ -95,16 +92,5 @@ read_all row rows k xs all are past is =
 
 -- ---- what a row is read as
 
-pub role_is : (a b : Role) → role_number a ≡ role_number b → a ≡ b
-role_is Teller Teller e = refl
-role_is Teller Officer e = absurd (omega arith)
-role_is Teller Manager e = absurd (omega arith)
-role_is Officer Teller e = absurd (omega arith)
-role_is Officer Officer e = refl
-role_is Officer Manager e = absurd (omega arith)
-role_is Manager Teller e = absurd (omega arith)
-role_is Manager Officer e = absurd (omega arith)
-role_is Manager Manager e = refl
-
-pub member_is : (found : StaffRow) (name : List ℕ) (role : Role) (x n : ℕ) (s : Staff) → found ≡ staff_in x n s → name ≡ found.name → role_number role ≡ found.role → ◌≡◌ {A = Staff} (record { name = name; role = role }) s
-member_is found name role x n s e b d = λ k. record { name = (b ∙ ap (λ (r : StaffRow). r.name) e) k; role = role_is role s.role (d ∙ ap (λ (r : StaffRow). r.role) e) k }
+pub member_is : (found : StaffRow) (name : List ℕ) (role : Role) (x n : ℕ) (s : Staff) → found ≡ staff_in x n s → name ≡ found.name → role ≡ s.role → ◌≡◌ {A = Staff} (record { name = name; role = role }) s
+member_is found name role x n s e b d = λ k. record { name = (b ∙ ap (λ (r : StaffRow). r.name) e) k; role = d k }

@@ -51,6 +51,11 @@ pub weaker_if_ok : {A E : Type 0} (r : Result A E) (P Q : A → Type 0) → ((x 
 weaker_if_ok (Ok x) P Q f h = f x h
 weaker_if_ok (Err e) P Q f h = tt
 
+-- what holds in any case holds at Ok
+pub at_ok : {A E : Type 0} (r : Result A E) (P : Type 0) → P → OnOk r P
+at_ok (Ok x) P h = h
+at_ok (Err e) P h = tt
+
 pub weaker_on_err : {A E : Type 0} (r : Result A E) (P Q : Type 0) → OnErr r P → (P → Q) → OnErr r Q
 weaker_on_err (Ok x) P Q h f = tt
 weaker_on_err (Err e) P Q h f = f h
@@ -69,6 +74,7 @@ module _ {S : Type 0} (g : Ghosts S) where
     pub unchanged_stays : IsUnchanged was is → StayTabled g old new
     unchanged_stays u = record {
       premise = u.premise;
+      shuts = u.shuts;
       same = λ clean i s. record {
         sound = s.sound;
         serves = λ live. let before = s.serves (u.was_open clean live) in subst (λ d. Serves schema_of Holds d (Some (tables_of i))) (sym (u.same clean live before.schema_is)) before;

@@ -1,7 +1,10 @@
 -- The rows of an institution: one list a table, each in the order of its key.
-use Rattle.std.specs.Prelude.{ℕ, pos, Bool, false, ◌+◌, List, [], ◌∷◌, ◌++◌, map, option_map, Option, Some, None, nat_le}
+use Rattle.std.specs.Prelude.{ℕ, pos, Bool, true, false, ◌+◌, List, [], ◌∷◌, ◌++◌, map, option_map, Option, Some, None, nat_le}
+use Rattle.mf_base.specs.Choices.{frequency_number}
 use Rattle.mf_base.specs.DayText.{day_text}
+use Rattle.mf_catalog.specs.Names.{kind_number, calc_number, method_number, strategy_number}
 use Rattle.mf_office.specs.Keys.{key_of, key_depth, raised, is_in_range}
+use Rattle.mf_office.specs.Roles.{role_number}
 use Rattle.mf_model.specs.Institution.{Institution, Charge, Offer, Office, Rows, Staff, office_at, numbered}
 use Rattle.mf_model.specs.Loans.{status_of}
 use Rattle.mf_model.specs.declared.loan.Loan.{Loan}
@@ -18,11 +21,15 @@ use Rattle.mf_store_records.specs.declared.clients.ClientRow.{ClientRow}
 use Rattle.mf_store_records.specs.declared.charges.ChargeRow.{ChargeRow}
 use Rattle.mf_store_records.specs.declared.products.ProductRow.{ProductRow}
 use Rattle.mf_store_records.specs.declared.loans.LoanRow.{LoanRow}
-use Rattle.mf_store_records.specs.Numbers.{role_number, kind_number, calc_number, method_number, frequency_number, strategy_number, flag_number}
 
 -- the number of the schema that these tables are
 abbrev pub schema_number : ℕ
 schema_number = 1
+
+-- 1 for yes
+abbrev pub flag_number : Bool → ℕ
+flag_number false = 0
+flag_number true = 1
 
 -- the text of the day on which a loan was approved, where it stands approved
 abbrev pub approval_text : Stage → Option (List ℕ)

@@ -1,5 +1,5 @@
 -- The institution that a store stands for.
-use Rattle.std.specs.Prelude.{◌≡◌, ◌⊎◌, ◌<◌, ℕ, List, [], ◌∷◌, length, None, Some, IsTrue}
+use Rattle.std.specs.Prelude.{◌≡◌, ◌⊎◌, ◌<◌, ◌-◌, ◌^◌, ℕ, List, [], ◌∷◌, length, None, Some, IsTrue}
 use Rattle.sqlite.specs.Tree.{Trees}
 use Rattle.sqlite.specs.State.{HasCleanDisk}
 use Rattle.sqlite.specs.Held.{Held, state}
@@ -7,6 +7,7 @@ use Rattle.sqlite_trees.specs.declared.store.Store.{Ghosts}
 use Rattle.mf_store_tables.specs.Writes.{Serves, AllFit, after_all}
 use Rattle.mf_model.specs.Institution.{Institution, newly_made}
 use Rattle.mf_model.specs.Sound.{IsSound}
+use Rattle.mf_store_records.specs.Calls.{IsOpenUpTo, OnlyFaultsShut}
 use Rattle.mf_store_records.specs.Tables.{schema}
 use Rattle.mf_store.specs.Facts.{Kept, AreTrueOf}
 use Rattle.mf_store.specs.Flat.{tables_of}
@@ -33,9 +34,10 @@ module _ {S : Type 0} (g : Ghosts S) where
     pub ours : HasGoodDisk h → IsTrue (state g h).is_open → (state g h).now.schema ≡ schema
     pub whole : HasGoodDisk h → (trees : Trees) → (state g h).may_leave trees → HoldsOneOf is trees
 
-  -- the tables hold what they held, and a stop leaves nothing more than before
+  -- the tables hold what they held, a stop leaves nothing more than before, and only a fault of the disk shuts the connection
   pub record StayTabled (old new : Held S) : Type 0 where
     pub premise : HasGoodDisk new → HasGoodDisk old
+    pub shuts : OnlyFaultsShut (state g old) (state g new)
     pub same : HasGoodDisk new → (i : Institution) → IsTabled old i → IsTabled new i
     pub stop : HasGoodDisk new → (is : List Institution) → LeavesTables old is → LeavesTables new is
 
@@ -53,9 +55,22 @@ module _ {S : Type 0} (g : Ghosts S) where
   abbrev pub Leaves : Kept S → List Institution → Type 0
   Leaves k is = LeavesTables k.connection is
 
-  -- it stands for what it stood for, and a stop leaves nothing more than before
+  -- no fault has shut its connection, so that it can ask its tables
+  abbrev pub IsOpen : Kept S → Type 0
+  IsOpen k = IsTrue (state g k.connection).is_open
+
+  -- The disk has failed so often by now, or more often; and if no more often, it is open. The count of faults, of 64 bits, is not at its greatest.
+  unfoldable pub IsOpenUntil : ℕ → Held S → Type 0
+  IsOpenUntil faults h = (faults < 2 ^ 64 - 1) × IsOpenUpTo faults (state g h)
+
+  -- only a fault of the disk shuts it in between
+  abbrev pub FaultsAloneShut : Kept S → Kept S → Type 0
+  FaultsAloneShut old new = (faults : ℕ) → IsOpenUntil faults old.connection → IsOpenUntil faults new.connection
+
+  -- it stands for what it stood for, a stop leaves nothing more than before, and only a fault of the disk shuts it
   pub record Stays (old new : Kept S) : Type 0 where
     pub premise : IsClean new → IsClean old
+    pub shuts : FaultsAloneShut old new
     pub same : IsClean new → (i : Institution) → StandsFor old i → StandsFor new i
     pub stop : IsClean new → (is : List Institution) → Leaves old is → Leaves new is
 

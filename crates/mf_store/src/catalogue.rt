@@ -1,6 +1,6 @@
 //! The catalogue: its charges and products by number, and the commits that change it.
 
-ghost use Rattle.std.specs.Prelude.{◌≡◌, ℕ, false, IfOk, IfErr};
+ghost use Rattle.std.specs.Prelude.{◌≡◌, ℕ, false, OnOk, IfOk, IfErr};
 ghost use Rattle.mf_base.specs.declared.fault.Fault.TheVariants.{F20};
 ghost use Rattle.mf_model.specs.Institution.{Institution, Charge, Offer, charge_def, charge_in, product_in, product_of as product_numbered};
 ghost use Rattle.mf_model.specs.Store.{Commits, catalogue_counts};
@@ -10,14 +10,11 @@ ghost use Rattle.mf_store.specs.Flat.{charge_as, product_as};
 use crate::counts::{Kind, MOST};
 use crate::known::News;
 use crate::store::Store;
-use mf_base::{Day, Fault, Name};
-use mf_catalog::{Calc, ChargeDef, ChargeKind, Product, ProductMembers};
+use crate::stored::{flag_from, signed, stored, unsigned};
+use mf_base::{Day, Fault, Freq, Name};
+use mf_catalog::{Calc, ChargeDef, ChargeKind, Method, Product, ProductMembers, StrategyName};
 use mf_model::CatalogueCounts;
-use mf_store_records::{
-    ChargeRow, MetaRow, ProductRow, StoreWrite, Text, calc_from, flag_from, frequency_from,
-    kind_from, method_from, number_of_calc, number_of_frequency, number_of_kind, number_of_method,
-    number_of_strategy, signed, strategy_from, unsigned,
-};
+use mf_store_records::{ChargeRow, MetaRow, ProductRow, StoreWrite, Text};
 use sqlite::Alter;
 use std::alloc::Global;
 
@@ -26,8 +23,8 @@ fn charge_from(row: ChargeRow) -> Result<ChargeDef, Fault>
     ensures charge { IfOk result (λ charge. (number : ℕ) (c : Charge) → row ≡ charge_as number c → charge ≡ charge_def number c) }
     ensures gives_up { IfErr result (λ fault. fault ≡ F20) }
 {
-    let kind = kind_from(row.kind)?;
-    let calc = calc_from(row.calc)?;
+    let kind = stored(ChargeKind::from_number(row.kind))?;
+    let calc = stored(Calc::from_number(row.calc))?;
     let value = unsigned(row.value)?;
     Ok(ChargeDef {
         number: row.number,
@@ -49,13 +46,13 @@ fn charge_row(
     ensures row { IfOk result (λ row. row ≡ charge_as number (record { name = name; kind = kind; calc = calc; value = value })) }
     ensures gives_up { IfErr result (λ fault. fault ≡ F20) }
 {
-    let stored = signed(value)?;
+    let cents = signed(value)?;
     Ok(ChargeRow {
         number,
         name: Text::of_name(name),
-        kind: number_of_kind(kind),
-        calc: number_of_calc(calc),
-        value: stored,
+        kind: kind.number(),
+        calc: calc.number(),
+        value: cents,
     })
 }
 
@@ -64,9 +61,9 @@ fn product_from(row: ProductRow) -> Result<Product, Fault>
     ensures product { IfOk result (λ product. (number : ℕ) (p : Offer) → row ≡ product_as number p → product ≡ product_numbered number p) }
     ensures gives_up { IfErr result (λ fault. fault ≡ F20) }
 {
-    let method = method_from(row.method)?;
-    let freq = frequency_from(row.frequency)?;
-    let strategy = strategy_from(row.strategy)?;
+    let method = stored(Method::from_number(row.method))?;
+    let freq = stored(Freq::from_number(row.frequency))?;
+    let strategy = stored(StrategyName::from_number(row.strategy))?;
     let min_principal = unsigned(row.min_principal)?;
     let max_principal = unsigned(row.max_principal)?;
     let retired = flag_from(row.retired)?;
@@ -103,9 +100,9 @@ fn product_row(number: u32, members: ProductMembers) -> Result<ProductRow, Fault
     Ok(ProductRow {
         number,
         name: Text::of_name(members.name),
-        method: number_of_method(members.method),
+        method: members.method.number(),
         rate: members.rate,
-        frequency: number_of_frequency(members.freq),
+        frequency: members.freq.number(),
         every: members.every,
         principal_grace: members.principal_grace,
         interest_grace: members.interest_grace,
@@ -113,7 +110,7 @@ fn product_row(number: u32, members: ProductMembers) -> Result<ProductRow, Fault
         max_principal,
         min_periods: members.min_periods,
         max_periods: members.max_periods,
-        strategy: number_of_strategy(members.strategy),
+        strategy: members.strategy.number(),
         disbursement_charge: members.disbursement_charge,
         instalment_charge: members.instalment_charge,
         overdue_charge: members.overdue_charge,
@@ -131,12 +128,13 @@ fn retired(row: ProductRow) -> ProductRow
 }
 
 impl<S: Alter> Store<S> {
-    ghost use Rattle.mf_store.specs.Stands.{StandsFor, IsClean, Leaves, Stays};
+    ghost use Rattle.mf_store.specs.Stands.{StandsFor, IsClean, Leaves, Stays, IsOpen, FaultsAloneShut};
 
     /// How many charges and products the catalogue has: one less than their next numbers.
     pub fn count_catalogue(&mut self) -> Result<CatalogueCounts, Fault>
         ensures kept { Stays S.Store self.old self.new }
         ensures gives_up { IfErr result (λ fault. fault ≡ F20) }
+        ensures open { IsClean S.Store self.new → IsOpen S.Store self.old → OnOk result (IsOpen S.Store self.new) }
         ensures value { IsClean S.Store self.new → (i : Institution) → StandsFor S.Store self.old i → IfOk result (λ counts. counts ≡ catalogue_counts i) }
     {
         if let Some(counts) = self.known_catalogue() {
@@ -153,6 +151,7 @@ impl<S: Alter> Store<S> {
     pub fn charge_at(&mut self, number: u32) -> Result<Option<ChargeDef>, Fault>
         ensures kept { Stays S.Store self.old self.new }
         ensures gives_up { IfErr result (λ fault. fault ≡ F20) }
+        ensures open { IsClean S.Store self.new → OnOk result (IsOpen S.Store self.new) }
         ensures value { IsClean S.Store self.new → (i : Institution) → StandsFor S.Store self.old i → IfOk result (λ charge. charge ≡ charge_in i.catalogue number) }
     {
         let Some(row) = self.find_charge(number)? else {
@@ -166,6 +165,7 @@ impl<S: Alter> Store<S> {
     fn read_product(&mut self, number: u32) -> Result<Option<Product>, Fault>
         ensures kept { Stays S.Store self.old self.new }
         ensures gives_up { IfErr result (λ fault. fault ≡ F20) }
+        ensures open { IsClean S.Store self.new → OnOk result (IsOpen S.Store self.new) }
         ensures value { IsClean S.Store self.new → (i : Institution) → StandsFor S.Store self.old i → IfOk result (λ product. product ≡ product_in i.catalogue number) }
     {
         let Some(row) = self.find_product(number)? else {
@@ -179,6 +179,7 @@ impl<S: Alter> Store<S> {
     pub fn product_at(&mut self, number: u32) -> Result<Option<Product>, Fault>
         ensures kept { Stays S.Store self.old self.new }
         ensures gives_up { IfErr result (λ fault. fault ≡ F20) }
+        ensures open { IsClean S.Store self.new → IsOpen S.Store self.old → OnOk result (IsOpen S.Store self.new) }
         ensures value { IsClean S.Store self.new → (i : Institution) → StandsFor S.Store self.old i → IfOk result (λ product. product ≡ product_in i.catalogue number) }
     {
         if let Some(product) = self.known_product(number) {
@@ -195,7 +196,9 @@ impl<S: Alter> Store<S> {
 
     /// Makes this the business day.
     pub fn set_day(&mut self, alloc: Global, day: Day) -> Result<(), Fault>
-        ensures { Commits (StandsFor S.Store) (IsClean S.Store) (Leaves S.Store) (SetDay day) self.old self.new result }
+        ensures commits { Commits (StandsFor S.Store) (IsClean S.Store) (Leaves S.Store) (SetDay day) self.old self.new result }
+        ensures shuts { FaultsAloneShut S.Store self.old self.new }
+        ensures open { IsClean S.Store self.new → OnOk result (IsOpen S.Store self.new) }
     {
         let text = day.text(alloc)?;
         let meta = MetaRow {
@@ -214,7 +217,9 @@ impl<S: Alter> Store<S> {
         calc: Calc,
         value: u64,
     ) -> Result<(), Fault>
-        ensures { Commits (StandsFor S.Store) (IsClean S.Store) (Leaves S.Store) (AddCharge name kind calc value) self.old self.new result }
+        ensures commits { Commits (StandsFor S.Store) (IsClean S.Store) (Leaves S.Store) (AddCharge name kind calc value) self.old self.new result }
+        ensures shuts { FaultsAloneShut S.Store self.old self.new }
+        ensures open { IsClean S.Store self.new → OnOk result (IsOpen S.Store self.new) }
     {
         let counts = self.count_catalogue()?;
         if counts.charges > MOST {
@@ -231,7 +236,9 @@ impl<S: Alter> Store<S> {
 
     /// Adds a product, under the next number.
     pub fn add_product(&mut self, members: ProductMembers) -> Result<(), Fault>
-        ensures { Commits (StandsFor S.Store) (IsClean S.Store) (Leaves S.Store) (AddProduct members) self.old self.new result }
+        ensures commits { Commits (StandsFor S.Store) (IsClean S.Store) (Leaves S.Store) (AddProduct members) self.old self.new result }
+        ensures shuts { FaultsAloneShut S.Store self.old self.new }
+        ensures open { IsClean S.Store self.new → OnOk result (IsOpen S.Store self.new) }
     {
         let counts = self.count_catalogue()?;
         if counts.products > MOST {
@@ -248,7 +255,9 @@ impl<S: Alter> Store<S> {
 
     /// Retires a product that is there.
     pub fn retire_product(&mut self, product: u32) -> Result<(), Fault>
-        ensures { Commits (StandsFor S.Store) (IsClean S.Store) (Leaves S.Store) (RetireProduct product) self.old self.new result }
+        ensures commits { Commits (StandsFor S.Store) (IsClean S.Store) (Leaves S.Store) (RetireProduct product) self.old self.new result }
+        ensures shuts { FaultsAloneShut S.Store self.old self.new }
+        ensures open { IsClean S.Store self.new → OnOk result (IsOpen S.Store self.new) }
     {
         let Some(found) = self.find_product(product)? else {
             return Err(Fault::F20);

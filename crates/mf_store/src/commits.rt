@@ -1,7 +1,7 @@
 //! Commits: each is one change of the institution, made whole or, with F20, not at all. A stop during the call leaves
 //! what it could before, or the change.
 
-ghost use Rattle.std.specs.Prelude.{◌≡◌, IfErr, IfOk};
+ghost use Rattle.std.specs.Prelude.{◌≡◌, IfErr, OnOk, IfOk};
 ghost use Rattle.mf_base.specs.declared.fault.Fault.TheVariants.{F20};
 ghost use Rattle.mf_model.specs.Institution.{Institution};
 ghost use Rattle.mf_model.specs.Store.{Commits};
@@ -14,17 +14,18 @@ use crate::store::Store;
 use mf_base::Fault;
 use mf_model::{Counts, tree_of_offices};
 use mf_office::{Name, OfficeNo, Role};
-use mf_store_records::{ClientRow, OfficeRow, StaffRow, StoreWrite, Text, number_of_role};
+use mf_store_records::{ClientRow, OfficeRow, StaffRow, StoreWrite, Text};
 use sqlite::Alter;
 use std::alloc::Global;
 
 impl<S: Alter> Store<S> {
-    ghost use Rattle.mf_store.specs.Stands.{StandsFor, IsClean, Leaves, Stays};
+    ghost use Rattle.mf_store.specs.Stands.{StandsFor, IsClean, Leaves, Stays, IsOpen, FaultsAloneShut};
 
     /// Whether an office is there.
     pub(crate) fn has_office(&mut self, number: u32) -> Result<bool, Fault>
         ensures kept { Stays S.Store self.old self.new }
         ensures gives_up { IfErr result (λ fault. fault ≡ F20) }
+        ensures open { IsClean S.Store self.new → IsOpen S.Store self.old → OnOk result (IsOpen S.Store self.new) }
         ensures value { IsClean S.Store self.new → (i : Institution) → StandsFor S.Store self.old i → IfOk result (λ there. there ≡ is_there i.offices number) }
     {
         if self.knows_office(number) {
@@ -42,24 +43,24 @@ impl<S: Alter> Store<S> {
         parent: OfficeNo,
         name: Name,
     ) -> Result<(), Fault>
-        ensures { Commits (StandsFor S.Store) (IsClean S.Store) (Leaves S.Store) (AddOffice number parent name) self.old self.new result }
+        ensures commits { Commits (StandsFor S.Store) (IsClean S.Store) (Leaves S.Store) (AddOffice number parent name) self.old self.new result }
+        ensures shuts { FaultsAloneShut S.Store self.old self.new }
+        ensures open { IsClean S.Store self.new → OnOk result (IsOpen S.Store self.new) }
     {
         tree_of_offices();
-        let number = number.get();
         let parent = parent.get();
-        let taken = self.has_office(number)?;
+        let taken = self.has_office(number.get())?;
         if taken {
             return Err(Fault::F20);
         }
-        let Some(above) = self.find_office(parent)? else {
+        let Some(above) = self.key(parent)? else {
             return Err(Fault::F20);
         };
-        let above_key = above.hkey.as_str();
-        let hkey = format!(in alloc; "{above_key}{number}.")?;
+        let key = above.child(alloc, number)?;
         let office = OfficeRow {
-            number,
+            number: number.get(),
             parent: Some(parent),
-            hkey: Text::new(hkey),
+            hkey: Text::new(key.into_text()),
             name: Text::of_name(name),
         };
         self.make(&[StoreWrite::PutOffice(office)], News::Nothing)
@@ -67,7 +68,9 @@ impl<S: Alter> Store<S> {
 
     /// Adds a member of staff of an office that is there, under the next number.
     pub fn add_staff(&mut self, office: OfficeNo, name: Name, role: Role) -> Result<(), Fault>
-        ensures { Commits (StandsFor S.Store) (IsClean S.Store) (Leaves S.Store) (AddStaff office name role) self.old self.new result }
+        ensures commits { Commits (StandsFor S.Store) (IsClean S.Store) (Leaves S.Store) (AddStaff office name role) self.old self.new result }
+        ensures shuts { FaultsAloneShut S.Store self.old self.new }
+        ensures open { IsClean S.Store self.new → OnOk result (IsOpen S.Store self.new) }
     {
         let office = office.get();
         let there = self.has_office(office)?;
@@ -83,7 +86,7 @@ impl<S: Alter> Store<S> {
             office,
             number,
             name: Text::of_name(name),
-            role: number_of_role(role),
+            role: role.number(),
         };
         let now = Counts {
             staff: number,
@@ -98,7 +101,9 @@ impl<S: Alter> Store<S> {
 
     /// Adds a client of an office that is there, under the next number.
     pub fn add_client(&mut self, office: OfficeNo, name: Name) -> Result<(), Fault>
-        ensures { Commits (StandsFor S.Store) (IsClean S.Store) (Leaves S.Store) (AddClient office name) self.old self.new result }
+        ensures commits { Commits (StandsFor S.Store) (IsClean S.Store) (Leaves S.Store) (AddClient office name) self.old self.new result }
+        ensures shuts { FaultsAloneShut S.Store self.old self.new }
+        ensures open { IsClean S.Store self.new → OnOk result (IsOpen S.Store self.new) }
     {
         let office = office.get();
         let there = self.has_office(office)?;

@@ -1,7 +1,7 @@
 //! The last number of an office's staff, clients or loans, or of the catalogue's charges or products. Numbers run from
 //! 1 without gaps, so look-ups by key find it: the cost is a logarithm of how many there are, and nothing else is read.
 
-ghost use Rattle.std.specs.Prelude.{◌≡◌, ◌<◌, ◌≤◌, ◌↔◌, IsTrue, IfOk, IfErr};
+ghost use Rattle.std.specs.Prelude.{◌≡◌, ◌<◌, ◌≤◌, ◌↔◌, IsTrue, OnOk, IfOk, IfErr};
 ghost use Rattle.mf_base.specs.declared.fault.Fault.TheVariants.{F20};
 ghost use Rattle.mf_model.specs.Institution.{Institution};
 ghost use Rattle.mf_model.specs.Store.{counts_at};
@@ -27,12 +27,13 @@ pub enum Kind {
 pub(crate) const MOST: u32 = 999_999;
 
 impl<S: Alter> Store<S> {
-    ghost use Rattle.mf_store.specs.Stands.{StandsFor, IsClean, Stays};
+    ghost use Rattle.mf_store.specs.Stands.{StandsFor, IsClean, Stays, IsOpen};
 
     /// Whether there is one of the kind with this number.
     fn has(&mut self, kind: Kind, number: u32) -> Result<bool, Fault>
         ensures kept { Stays S.Store self.old self.new }
         ensures gives_up { IfErr result (λ fault. fault ≡ F20) }
+        ensures open { IsClean S.Store self.new → OnOk result (IsOpen S.Store self.new) }
         ensures value { IsClean S.Store self.new → (i : Institution) → StandsFor S.Store self.old i → IfOk result (λ there. IsTrue there ↔ ((1 ≤ number) × (number ≤ count_of kind i))) }
     {
         match kind {
@@ -48,6 +49,7 @@ impl<S: Alter> Store<S> {
     fn above_last(&mut self, kind: Kind) -> Result<u32, Fault>
         ensures kept { Stays S.Store self.old self.new }
         ensures gives_up { IfErr result (λ fault. fault ≡ F20) }
+        ensures open { IsClean S.Store self.new → IsOpen S.Store self.old → OnOk result (IsOpen S.Store self.new) }
         ensures bound { IfOk result (λ high. (0 < high) × (high ≤ 2_000_000)) }
         ensures value { IsClean S.Store self.new → (i : Institution) → StandsFor S.Store self.old i → IfOk result (λ high. count_of kind i < high) }
     {
@@ -66,6 +68,7 @@ impl<S: Alter> Store<S> {
         requires { 0 < bound }
         ensures kept { Stays S.Store self.old self.new }
         ensures gives_up { IfErr result (λ fault. fault ≡ F20) }
+        ensures open { IsClean S.Store self.new → IsOpen S.Store self.old → OnOk result (IsOpen S.Store self.new) }
         ensures below { IfOk result (λ last. last < bound) }
         ensures value { IsClean S.Store self.new → (i : Institution) → StandsFor S.Store self.old i → count_of kind i < bound → IfOk result (λ last. last ≡ count_of kind i) }
     {
@@ -87,6 +90,7 @@ impl<S: Alter> Store<S> {
     pub(crate) fn last_number(&mut self, kind: Kind) -> Result<u32, Fault>
         ensures kept { Stays S.Store self.old self.new }
         ensures gives_up { IfErr result (λ fault. fault ≡ F20) }
+        ensures open { IsClean S.Store self.new → IsOpen S.Store self.old → OnOk result (IsOpen S.Store self.new) }
         ensures bound { IfOk result (λ last. last < 2_000_000) }
         ensures value { IsClean S.Store self.new → (i : Institution) → StandsFor S.Store self.old i → IfOk result (λ last. last ≡ count_of kind i) }
     {
@@ -97,6 +101,7 @@ impl<S: Alter> Store<S> {
     fn search_counts(&mut self, office: u32) -> Result<Counts, Fault>
         ensures kept { Stays S.Store self.old self.new }
         ensures gives_up { IfErr result (λ fault. fault ≡ F20) }
+        ensures open { IsClean S.Store self.new → IsOpen S.Store self.old → OnOk result (IsOpen S.Store self.new) }
         ensures value { IsClean S.Store self.new → (i : Institution) → StandsFor S.Store self.old i → IfOk result (λ counts. counts ≡ counts_at office i) }
     {
         let staff = self.last_number(Kind::Staff(office))?;
@@ -113,6 +118,7 @@ impl<S: Alter> Store<S> {
     pub(crate) fn counts_of(&mut self, office: u32) -> Result<Counts, Fault>
         ensures kept { Stays S.Store self.old self.new }
         ensures gives_up { IfErr result (λ fault. fault ≡ F20) }
+        ensures open { IsClean S.Store self.new → IsOpen S.Store self.old → OnOk result (IsOpen S.Store self.new) }
         ensures value { IsClean S.Store self.new → (i : Institution) → StandsFor S.Store self.old i → IfOk result (λ counts. counts ≡ counts_at office i) }
     {
         if let Some(counts) = self.known_counts(office) {

@@ -8,7 +8,7 @@ ghost use Rattle.sqlite.specs.Files.{over_files};
 ghost use Rattle.mf_store_tables.specs.Writes.{Serves};
 ghost use Rattle.mf_model.specs.Institution.{newly_made};
 ghost use Rattle.mf_store_records.specs.Writes.{schema_of, Holds};
-ghost use Rattle.mf_store.specs.Stands.{StandsFor, IsClean, Leaves, Begins};
+ghost use Rattle.mf_store.specs.Stands.{StandsFor, IsClean, Leaves, Begins, IsOpen};
 
 use crate::store::Store;
 use mf_base::{Day, Fault};
@@ -53,6 +53,7 @@ impl Store<PageStore> {
         requires { day ≤ last_entered_day }
         ensures stands { IfOk result (λ store. StandsFor over_files store (newly_made day)) }
         ensures leaves { IfOk result (λ store. Leaves over_files store (newly_made day ∷ [])) }
+        ensures open { IfOk result (λ store. IsOpen over_files store) }
         ensures gives_up { IfErr result (λ fault. fault ≡ F20) }
     {
         let Ok(connection) = mf_store_pages::open(alloc) else {

@@ -1,31 +1,32 @@
 //! The store as the desk sees it.
 
-ghost use Rattle.std.specs.Prelude.{◌≡◌, IfOk, IfErr};
+ghost use Rattle.std.specs.Prelude.{◌≡◌, OnOk, IfOk, IfErr};
 ghost use Rattle.mf_base.specs.declared.fault.Fault.TheVariants.{F20};
 ghost use Rattle.mf_model.specs.Institution.{Institution};
 
 use crate::store::Store;
+use crate::stored::stored;
 use mf_base::{Day, Fault};
 use mf_catalog::{ChargeDef, Product};
 use mf_model::{CatalogueCounts, Commit, Counts, InstitutionStore, Loan, LoanList, OfficeList};
 use mf_office::{Account, Caller, Name, OfficeNo, Role};
-use mf_store_records::role_from;
 use sqlite::Alter;
 use std::alloc::Global;
 
 impl<S: Alter> Store<S> {
     ghost use Rattle.mf_model.specs.Store.{role_of, counts_at, client_at};
-    ghost use Rattle.mf_store.specs.Stands.{StandsFor, IsClean, Stays};
+    ghost use Rattle.mf_store.specs.Stands.{StandsFor, IsClean, Stays, IsOpen};
 
     /// The same, as the tables tell.
     fn find_role(&mut self, caller: Caller) -> Result<Option<Role>, Fault>
         ensures kept { Stays S.Store self.old self.new }
         ensures gives_up { IfErr result (λ fault. fault ≡ F20) }
+        ensures open { IsClean S.Store self.new → OnOk result (IsOpen S.Store self.new) }
         ensures value { IsClean S.Store self.new → (i : Institution) → StandsFor S.Store self.old i → IfOk result (λ role. role ≡ role_of caller i) }
     {
         match self.find_staff(caller.office.get(), caller.staff.get())? {
             None => Ok(None),
-            Some(staff) => Ok(Some(role_from(staff.role)?)),
+            Some(staff) => Ok(Some(stored(Role::from_number(staff.role))?)),
         }
     }
 
@@ -33,6 +34,7 @@ impl<S: Alter> Store<S> {
     pub fn caller(&mut self, caller: Caller) -> Result<Option<Role>, Fault>
         ensures kept { Stays S.Store self.old self.new }
         ensures gives_up { IfErr result (λ fault. fault ≡ F20) }
+        ensures open { IsClean S.Store self.new → IsOpen S.Store self.old → OnOk result (IsOpen S.Store self.new) }
         ensures value { IsClean S.Store self.new → (i : Institution) → StandsFor S.Store self.old i → IfOk result (λ role. role ≡ role_of caller i) }
     {
         let Caller { office, staff } = caller;
@@ -53,6 +55,7 @@ impl<S: Alter> Store<S> {
     pub fn next_numbers(&mut self, office: OfficeNo) -> Result<Counts, Fault>
         ensures kept { Stays S.Store self.old self.new }
         ensures gives_up { IfErr result (λ fault. fault ≡ F20) }
+        ensures open { IsClean S.Store self.new → IsOpen S.Store self.old → OnOk result (IsOpen S.Store self.new) }
         ensures value { IsClean S.Store self.new → (i : Institution) → StandsFor S.Store self.old i → IfOk result (λ counts. counts ≡ counts_at office i) }
     {
         self.counts_of(office.get())
@@ -62,6 +65,7 @@ impl<S: Alter> Store<S> {
     pub fn find_name(&mut self, client: Account) -> Result<Option<Name>, Fault>
         ensures kept { Stays S.Store self.old self.new }
         ensures gives_up { IfErr result (λ fault. fault ≡ F20) }
+        ensures open { IsClean S.Store self.new → OnOk result (IsOpen S.Store self.new) }
         ensures value { IsClean S.Store self.new → (i : Institution) → StandsFor S.Store self.old i → IfOk result (λ name. name ≡ client_at client i) }
     {
         match self.find_client(client.office.get(), client.number.get())? {
@@ -73,7 +77,7 @@ impl<S: Alter> Store<S> {
 
 impl<S: Alter> InstitutionStore for Store<S> {
     ghost use Rattle.std.proofs.Common.{inr};
-    ghost use Rattle.mf_store.specs.Stands.{StandsFor, IsClean, Leaves};
+    ghost use Rattle.mf_store.specs.Stands.{StandsFor, IsClean, Leaves, IsOpen};
 
     ghost stands = { λ store i. StandsFor S.Store store i };
 

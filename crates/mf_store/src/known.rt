@@ -12,10 +12,10 @@ ghost use Rattle.mf_store.specs.Learning.{Tells};
 
 use lru::LruCache;
 use mf_base::{Day, Fault};
-use mf_catalog::{Product, ProductMembers};
+use mf_catalog::Product;
 use mf_model::{CatalogueCounts, Counts};
 use mf_office::{Caller, Key, Role};
-use std::alloc::{AllocError, Global};
+use std::alloc::Global;
 use std::marker::Model;
 use std::num::NonZeroUsize;
 
@@ -92,35 +92,6 @@ fn copied(alloc: Global, key: &Key) -> Option<Key>
     }
 }
 
-/// The same product, where there is memory for it.
-fn same_product(product: &Product) -> Result<Product, AllocError>
-    ensures { IfOk result (λ copy. copy ≡ product.now) }
-{
-    let members = &product.members;
-    let name = members.name.clone()?;
-    Ok(Product {
-        number: product.number,
-        members: ProductMembers {
-            name,
-            method: members.method,
-            rate: members.rate,
-            freq: members.freq,
-            every: members.every,
-            principal_grace: members.principal_grace,
-            interest_grace: members.interest_grace,
-            min_principal: members.min_principal,
-            max_principal: members.max_principal,
-            min_periods: members.min_periods,
-            max_periods: members.max_periods,
-            strategy: members.strategy,
-            disbursement_charge: members.disbursement_charge,
-            instalment_charge: members.instalment_charge,
-            overdue_charge: members.overdue_charge,
-        },
-        retired: product.retired,
-    })
-}
-
 impl Known {
     /// Nothing is known.
     pub(crate) fn nothing(alloc: Global) -> Result<Known, Fault>
@@ -192,7 +163,7 @@ impl Known {
     {
         match self.products.peek(&number) {
             None => None,
-            Some(product) => same_product(product).ok(),
+            Some(product) => product.clone().ok(),
         }
     }
 
@@ -218,7 +189,7 @@ impl Known {
     pub(crate) fn learn_product(&mut self, number: u32, product: &Product)
         ensures { (i : Institution) → AreTrueOf self.old i → product_in i.catalogue number ≡ Some product.now → AreTrueOf self.new i }
     {
-        let Ok(copy) = same_product(product) else {
+        let Ok(copy) = product.clone() else {
             return;
         };
         let _kept = self.products.put(number, copy);

@@ -15,6 +15,7 @@ mod loans;
 mod office_rows;
 mod reads;
 mod store;
+mod stored;
 mod visible;
 
 pub use laws::one_institution;

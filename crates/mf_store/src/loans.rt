@@ -1,6 +1,6 @@
 //! Loans: by number, in lists, and the commits that change them.
 
-ghost use Rattle.std.specs.Prelude.{◌≡◌, ℕ, List, ◌∷◌, map, IfOk, IfErr};
+ghost use Rattle.std.specs.Prelude.{◌≡◌, ℕ, List, ◌∷◌, map, OnOk, IfOk, IfErr};
 ghost use Rattle.mf_base.specs.declared.fault.Fault.TheVariants.{F20};
 ghost use Rattle.mf_model.specs.Institution.{Institution};
 ghost use Rattle.mf_model.specs.Loans.{status_of};
@@ -14,11 +14,12 @@ ghost use Rattle.mf_store_records.specs.Rows.{loan_row as loan_stored};
 use crate::counts::MOST;
 use crate::known::News;
 use crate::store::Store;
+use crate::stored::{signed, unsigned};
 use crate::visible::office_number;
 use mf_base::{Day, Fault, texts_of_days};
 use mf_model::{Counts, Loan, LoanLine, LoanList, Stage};
 use mf_office::{Account, AccountNo, OfficeNo};
-use mf_store_records::{LoanRow, StoreWrite, Text, read_row, signed, unsigned};
+use mf_store_records::{LoanRow, StoreWrite, Text, read_row};
 use sqlite::{Alter, Row};
 use std::alloc::Global;
 
@@ -158,12 +159,13 @@ fn lines_from(alloc: Global, rows: &[Row]) -> Result<LoanList, Fault>
 }
 
 impl<S: Alter> Store<S> {
-    ghost use Rattle.mf_store.specs.Stands.{StandsFor, IsClean, Leaves, Stays};
+    ghost use Rattle.mf_store.specs.Stands.{StandsFor, IsClean, Leaves, Stays, IsOpen, FaultsAloneShut};
 
     /// A loan, or None where there is no such loan.
     pub fn loan_at(&mut self, loan: Account) -> Result<Option<Loan>, Fault>
         ensures kept { Stays S.Store self.old self.new }
         ensures gives_up { IfErr result (λ fault. fault ≡ F20) }
+        ensures open { IsClean S.Store self.new → OnOk result (IsOpen S.Store self.new) }
         ensures value { IsClean S.Store self.new → (i : Institution) → StandsFor S.Store self.old i → IfOk result (λ found. found ≡ loan_at loan i) }
     {
         let Some(row) = self.find_loan(loan.office.get(), loan.number.get())? else {
@@ -182,6 +184,7 @@ impl<S: Alter> Store<S> {
     ) -> Result<LoanList, Fault>
         ensures kept { Stays S.Store self.old self.new }
         ensures gives_up { IfErr result (λ fault. fault ≡ F20) }
+        ensures open { IsClean S.Store self.new → OnOk result (IsOpen S.Store self.new) }
         ensures value { IsClean S.Store self.new → (i : Institution) → StandsFor S.Store self.old i → IfOk result (λ list. list ≡ loans_at office after i) }
     {
         let rows = self.rows_above(office.get(), after)?;
@@ -190,7 +193,9 @@ impl<S: Alter> Store<S> {
 
     /// Adds a loan of an office that is there, under the next number.
     pub fn add_loan(&mut self, alloc: Global, office: OfficeNo, loan: Loan) -> Result<(), Fault>
-        ensures { Commits (StandsFor S.Store) (IsClean S.Store) (Leaves S.Store) (AddLoan office loan) self.old self.new result }
+        ensures commits { Commits (StandsFor S.Store) (IsClean S.Store) (Leaves S.Store) (AddLoan office loan) self.old self.new result }
+        ensures shuts { FaultsAloneShut S.Store self.old self.new }
+        ensures open { IsClean S.Store self.new → OnOk result (IsOpen S.Store self.new) }
     {
         let office = office.get();
         let there = self.has_office(office)?;
@@ -213,7 +218,9 @@ impl<S: Alter> Store<S> {
 
     /// Brings a loan that is there to a stage.
     pub fn set_stage(&mut self, alloc: Global, loan: Account, stage: Stage) -> Result<(), Fault>
-        ensures { Commits (StandsFor S.Store) (IsClean S.Store) (Leaves S.Store) (SetStage loan stage) self.old self.new result }
+        ensures commits { Commits (StandsFor S.Store) (IsClean S.Store) (Leaves S.Store) (SetStage loan stage) self.old self.new result }
+        ensures shuts { FaultsAloneShut S.Store self.old self.new }
+        ensures open { IsClean S.Store self.new → OnOk result (IsOpen S.Store self.new) }
     {
         let Some(found) = self.find_loan(loan.office.get(), loan.number.get())? else {
             return Err(Fault::F20);

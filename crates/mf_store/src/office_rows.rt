@@ -1,6 +1,6 @@
 //! The rows of one office, whole: one query a kind, over the range of the office's keys.
 
-ghost use Rattle.std.specs.Prelude.{◌≡◌, ℕ, List, IfOk, IfErr};
+ghost use Rattle.std.specs.Prelude.{◌≡◌, ℕ, List, OnOk, IfOk, IfErr};
 ghost use Rattle.mf_base.specs.declared.fault.Fault.TheVariants.{F20};
 ghost use Rattle.mf_model.specs.Institution.{Institution, Staff};
 ghost use Rattle.mf_model.specs.Store.{rows_at};
@@ -10,10 +10,11 @@ ghost use Rattle.mf_store.specs.Flat.{staff_in, client_in, loan_in, numbered_fro
 
 use crate::loans::loan_from;
 use crate::store::Store;
+use crate::stored::stored;
 use mf_base::Fault;
 use mf_model::Loan;
 use mf_office::{Name, OfficeNo, Role};
-use mf_store_records::{ClientRow, LoanRow, StaffRow, read_row, role_from};
+use mf_store_records::{ClientRow, LoanRow, StaffRow, read_row};
 use sqlite::{Alter, Row};
 use std::alloc::Global;
 use std::marker::Model;
@@ -78,7 +79,7 @@ fn member_from(row: &Row) -> Result<StaffMember, Fault>
     ensures gives_up { IfErr result (λ fault. fault ≡ F20) }
 {
     let found = read_row::<StaffRow>(row)?;
-    let role = role_from(found.role)?;
+    let role = stored(Role::from_number(found.role))?;
     Ok(StaffMember {
         name: found.name.into_name(),
         role,
@@ -154,12 +155,13 @@ fn loans_from(alloc: Global, rows: &[Row]) -> Result<Vec<Loan>, Fault>
 }
 
 impl<S: Alter> Store<S> {
-    ghost use Rattle.mf_store.specs.Stands.{StandsFor, IsClean, Stays};
+    ghost use Rattle.mf_store.specs.Stands.{StandsFor, IsClean, Stays, IsOpen};
 
     /// The staff of an office, by number.
     fn staff_at(&mut self, alloc: Global, office: u32) -> Result<Vec<StaffMember>, Fault>
         ensures kept { Stays S.Store self.old self.new }
         ensures gives_up { IfErr result (λ fault. fault ≡ F20) }
+        ensures open { IsClean S.Store self.new → OnOk result (IsOpen S.Store self.new) }
         ensures value { IsClean S.Store self.new → (i : Institution) → StandsFor S.Store self.old i → IfOk result (λ list. list.items ≡ (rows_at office i).staff) }
     {
         let rows = self.list::<StaffRow>(office)?;
@@ -170,6 +172,7 @@ impl<S: Alter> Store<S> {
     fn clients_at(&mut self, alloc: Global, office: u32) -> Result<Vec<Name>, Fault>
         ensures kept { Stays S.Store self.old self.new }
         ensures gives_up { IfErr result (λ fault. fault ≡ F20) }
+        ensures open { IsClean S.Store self.new → OnOk result (IsOpen S.Store self.new) }
         ensures value { IsClean S.Store self.new → (i : Institution) → StandsFor S.Store self.old i → IfOk result (λ list. list.items ≡ (rows_at office i).clients) }
     {
         let rows = self.list::<ClientRow>(office)?;
@@ -180,6 +183,7 @@ impl<S: Alter> Store<S> {
     fn loans_of(&mut self, alloc: Global, office: u32) -> Result<Vec<Loan>, Fault>
         ensures kept { Stays S.Store self.old self.new }
         ensures gives_up { IfErr result (λ fault. fault ≡ F20) }
+        ensures open { IsClean S.Store self.new → OnOk result (IsOpen S.Store self.new) }
         ensures value { IsClean S.Store self.new → (i : Institution) → StandsFor S.Store self.old i → IfOk result (λ list. list.items ≡ (rows_at office i).loans) }
     {
         let rows = self.list::<LoanRow>(office)?;
@@ -190,6 +194,7 @@ impl<S: Alter> Store<S> {
     pub fn office_rows(&mut self, alloc: Global, office: OfficeNo) -> Result<OfficeRows, Fault>
         ensures kept { Stays S.Store self.old self.new }
         ensures gives_up { IfErr result (λ fault. fault ≡ F20) }
+        ensures open { IsClean S.Store self.new → OnOk result (IsOpen S.Store self.new) }
         ensures value { IsClean S.Store self.new → (i : Institution) → StandsFor S.Store self.old i → IfOk result (λ rows. rows ≡ rows_at office i) }
     {
         let office = office.get();

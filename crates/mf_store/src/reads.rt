@@ -1,6 +1,6 @@
 //! Look-ups by key, each one query.
 
-ghost use Rattle.std.specs.Prelude.{◌≡◌, ◌≤◌, ℕ, IfOk, IfErr, Some};
+ghost use Rattle.std.specs.Prelude.{◌≡◌, ◌≤◌, ℕ, OnOk, IfOk, IfErr, Some};
 ghost use Rattle.mf_base.specs.declared.fault.Fault.TheVariants.{F20};
 ghost use Rattle.mf_base.specs.DayText.{last_day};
 ghost use Rattle.mf_model.specs.Institution.{Institution};
@@ -27,11 +27,12 @@ fn day_in(meta: Option<MetaRow>) -> Result<Day, Fault>
 }
 
 impl<S: Alter> Store<S> {
-    ghost use Rattle.mf_store.specs.Stands.{StandsFor, IsClean, Stays};
+    ghost use Rattle.mf_store.specs.Stands.{StandsFor, IsClean, Stays, IsOpen};
 
     pub(crate) fn find_meta(&mut self) -> Result<Option<MetaRow>, Fault>
         ensures kept { Stays S.Store self.old self.new }
         ensures gives_up { IfErr result (λ fault. fault ≡ F20) }
+        ensures open { IsClean S.Store self.new → OnOk result (IsOpen S.Store self.new) }
         ensures value { IsClean S.Store self.new → (i : Institution) → StandsFor S.Store self.old i → IfOk result (λ x. x ≡ Some (meta_on i.catalogue.day)) }
     {
         self.find(1)
@@ -41,6 +42,7 @@ impl<S: Alter> Store<S> {
     pub fn today(&mut self) -> Result<Day, Fault>
         ensures kept { Stays S.Store self.old self.new }
         ensures gives_up { IfErr result (λ fault. fault ≡ F20) }
+        ensures open { IsClean S.Store self.new → IsOpen S.Store self.old → OnOk result (IsOpen S.Store self.new) }
         ensures value { IsClean S.Store self.new → (i : Institution) → StandsFor S.Store self.old i → IfOk result (λ day. day ≡ i.catalogue.day) }
     {
         if let Some(day) = self.known_day() {
@@ -55,6 +57,7 @@ impl<S: Alter> Store<S> {
     pub(crate) fn find_office(&mut self, number: u32) -> Result<Option<OfficeRow>, Fault>
         ensures kept { Stays S.Store self.old self.new }
         ensures gives_up { IfErr result (λ fault. fault ≡ F20) }
+        ensures open { IsClean S.Store self.new → OnOk result (IsOpen S.Store self.new) }
         ensures value { IsClean S.Store self.new → (i : Institution) → StandsFor S.Store self.old i → IfOk result (λ x. x ≡ office_row_at number i) }
     {
         self.find(number)
@@ -63,6 +66,7 @@ impl<S: Alter> Store<S> {
     pub(crate) fn find_staff(&mut self, office: u32, number: u32) -> Result<Option<StaffRow>, Fault>
         ensures kept { Stays S.Store self.old self.new }
         ensures gives_up { IfErr result (λ fault. fault ≡ F20) }
+        ensures open { IsClean S.Store self.new → OnOk result (IsOpen S.Store self.new) }
         ensures value { IsClean S.Store self.new → (i : Institution) → StandsFor S.Store self.old i → IfOk result (λ x. x ≡ staff_row_at office number i) }
     {
         self.find((office, number))
@@ -75,6 +79,7 @@ impl<S: Alter> Store<S> {
     ) -> Result<Option<ClientRow>, Fault>
         ensures kept { Stays S.Store self.old self.new }
         ensures gives_up { IfErr result (λ fault. fault ≡ F20) }
+        ensures open { IsClean S.Store self.new → OnOk result (IsOpen S.Store self.new) }
         ensures value { IsClean S.Store self.new → (i : Institution) → StandsFor S.Store self.old i → IfOk result (λ x. x ≡ client_row_at office number i) }
     {
         self.find((office, number))
@@ -83,6 +88,7 @@ impl<S: Alter> Store<S> {
     pub(crate) fn find_charge(&mut self, number: u32) -> Result<Option<ChargeRow>, Fault>
         ensures kept { Stays S.Store self.old self.new }
         ensures gives_up { IfErr result (λ fault. fault ≡ F20) }
+        ensures open { IsClean S.Store self.new → OnOk result (IsOpen S.Store self.new) }
         ensures value { IsClean S.Store self.new → (i : Institution) → StandsFor S.Store self.old i → IfOk result (λ x. x ≡ charge_row_at number i) }
     {
         self.find(number)
@@ -91,6 +97,7 @@ impl<S: Alter> Store<S> {
     pub(crate) fn find_product(&mut self, number: u32) -> Result<Option<ProductRow>, Fault>
         ensures kept { Stays S.Store self.old self.new }
         ensures gives_up { IfErr result (λ fault. fault ≡ F20) }
+        ensures open { IsClean S.Store self.new → OnOk result (IsOpen S.Store self.new) }
         ensures value { IsClean S.Store self.new → (i : Institution) → StandsFor S.Store self.old i → IfOk result (λ x. x ≡ product_row_at number i) }
     {
         self.find(number)
@@ -99,6 +106,7 @@ impl<S: Alter> Store<S> {
     pub(crate) fn find_loan(&mut self, office: u32, number: u32) -> Result<Option<LoanRow>, Fault>
         ensures kept { Stays S.Store self.old self.new }
         ensures gives_up { IfErr result (λ fault. fault ≡ F20) }
+        ensures open { IsClean S.Store self.new → OnOk result (IsOpen S.Store self.new) }
         ensures value { IsClean S.Store self.new → (i : Institution) → StandsFor S.Store self.old i → IfOk result (λ x. x ≡ loan_row_at office number i) }
     {
         self.find((office, number))

@@ -7,11 +7,11 @@ ghost use Rattle.mf_model.specs.Institution.{Institution, newly_made, product_in
 ghost use Rattle.mf_model.specs.Store.{counts_at, catalogue_counts, role_of};
 ghost use Rattle.mf_model.specs.Tree.{is_there};
 ghost use Rattle.mf_store.specs.Flat.{key_at, tables_of};
-ghost use Rattle.mf_store_records.specs.Looks.{is_loan_above, is_in_range};
-ghost use Rattle.mf_store_records.specs.Rows.{loan_row, office_row};
+ghost use Rattle.mf_store_records.specs.Rows.{loan_row, office_row, is_loan_above, is_in_range};
+ghost use Rattle.mf_store_records.specs.Calls.{OnlyFaultsShut};
 ghost use Rattle.mf_store_records.specs.Writes.{schema_of, Holds};
 ghost use Rattle.mf_store.specs.Learning.{Tells};
-ghost use Rattle.mf_store.specs.Stands.{IsTabled, HasGoodDisk, LeavesTables, StandsFor, IsClean, Leaves, Stays, Becomes};
+ghost use Rattle.mf_store.specs.Stands.{IsTabled, HasGoodDisk, LeavesTables, StandsFor, IsClean, Leaves, Stays, Becomes, IsOpen, FaultsAloneShut};
 
 use crate::first::first_writes;
 use crate::known::{Known, News};
@@ -64,6 +64,8 @@ fn write<S: Alter>(connection: &mut Connection<S>, writes: &[StoreWrite]) -> Res
     requires some { 0 < length writes.now }
     ensures premise { HasGoodDisk S.Store connection.new → HasGoodDisk S.Store connection.old }
     ensures gives_up { IfErr result (λ fault. fault ≡ F20) }
+    ensures shuts { OnlyFaultsShut (state S.Store connection.old) (state S.Store connection.new) }
+    ensures open { HasGoodDisk S.Store connection.new → OnOk result (IsTrue (state S.Store connection.new).is_open) }
     ensures made { HasGoodDisk S.Store connection.new → OnOk result ((i j : Institution) → IsTabled S.Store connection.old i → Becomes writes.now i j → IsTabled S.Store connection.new j) }
     ensures left { HasGoodDisk S.Store connection.new → OnOk result ((i j : Institution) → IsTabled S.Store connection.old i → Becomes writes.now i j → LeavesTables S.Store connection.new (j ∷ [])) }
     ensures same { HasGoodDisk S.Store connection.new → OnErr result ((i : Institution) → IsTabled S.Store connection.old i → IsTabled S.Store connection.new i) }
@@ -78,6 +80,7 @@ impl<S: Alter> Store<S> {
     pub(crate) fn find<T: Table>(&mut self, key: T::Key) -> Result<Option<T>, Fault>
         ensures kept { Stays S.Store self.old self.new }
         ensures gives_up { IfErr result (λ fault. fault ≡ F20) }
+        ensures open { IsClean S.Store self.new → OnOk result (IsOpen S.Store self.new) }
         ensures row { IsClean S.Store self.new → (i : Institution) → StandsFor S.Store self.old i → IfOk result (λ x. x ≡ find (T.is_at key) (T.list (tables_of i))) }
     {
         find_row(&mut self.connection, key)
@@ -87,6 +90,7 @@ impl<S: Alter> Store<S> {
     pub(crate) fn list<T: Listed>(&mut self, part: T::Part) -> Result<Vec<Row>, Fault>
         ensures kept { Stays S.Store self.old self.new }
         ensures gives_up { IfErr result (λ fault. fault ≡ F20) }
+        ensures open { IsClean S.Store self.new → OnOk result (IsOpen S.Store self.new) }
         ensures rows { IsClean S.Store self.new → (i : Institution) → StandsFor S.Store self.old i → IfOk result (λ rows. rows.items ≡ map T.Table.stored (filter (T.is_in part) (T.Table.list (tables_of i)))) }
     {
         list_rows::<T, S>(&mut self.connection, part)
@@ -96,6 +100,7 @@ impl<S: Alter> Store<S> {
     pub(crate) fn rows_above(&mut self, office: u32, after: u32) -> Result<Vec<Row>, Fault>
         ensures kept { Stays S.Store self.old self.new }
         ensures gives_up { IfErr result (λ fault. fault ≡ F20) }
+        ensures open { IsClean S.Store self.new → OnOk result (IsOpen S.Store self.new) }
         ensures rows { IsClean S.Store self.new → (i : Institution) → StandsFor S.Store self.old i → IfOk result (λ rows. rows.items ≡ take 100 (map loan_row (filter (is_loan_above office after) (tables_of i).loans))) }
     {
         loans_above(&mut self.connection, office, after)
@@ -105,6 +110,7 @@ impl<S: Alter> Store<S> {
     pub(crate) fn rows_within(&mut self, low: &str, high: &str) -> Result<Vec<Row>, Fault>
         ensures kept { Stays S.Store self.old self.new }
         ensures gives_up { IfErr result (λ fault. fault ≡ F20) }
+        ensures open { IsClean S.Store self.new → OnOk result (IsOpen S.Store self.new) }
         ensures rows { IsClean S.Store self.new → (i : Institution) → StandsFor S.Store self.old i → IfOk result (λ rows. rows.items ≡ map office_row (filter (is_in_range low.now high.now) (tables_of i).offices)) }
     {
         offices_within(&mut self.connection, low, high)
@@ -122,6 +128,7 @@ impl<S: Alter> Store<S> {
         requires day { day ≤ last_entered_day }
         ensures stands { IfOk result (λ store. IsClean S.Store store → Serves schema_of Holds (state S.Store connection).now None → StandsFor S.Store store (newly_made day)) }
         ensures leaves { IfOk result (λ store. IsClean S.Store store → Serves schema_of Holds (state S.Store connection).now None → Leaves S.Store store (newly_made day ∷ [])) }
+        ensures open { IfOk result (λ store. IsClean S.Store store → IsOpen S.Store store) }
         ensures gives_up { IfErr result (λ fault. fault ≡ F20) }
     {
         soundness();
@@ -219,6 +226,8 @@ impl<S: Alter> Store<S> {
         requires { 0 < length writes.now }
         ensures premise { IsClean S.Store self.new → IsClean S.Store self.old }
         ensures gives_up { IfErr result (λ fault. fault ≡ F20) }
+        ensures shuts { FaultsAloneShut S.Store self.old self.new }
+        ensures open { IsClean S.Store self.new → OnOk result (IsOpen S.Store self.new) }
         ensures made { IsClean S.Store self.new → OnOk result ((i j : Institution) → StandsFor S.Store self.old i → Becomes writes.now i j → Tells news i j → StandsFor S.Store self.new j) }
         ensures left { IsClean S.Store self.new → OnOk result ((i j : Institution) → StandsFor S.Store self.old i → Becomes writes.now i j → Leaves S.Store self.new (j ∷ [])) }
         ensures same { IsClean S.Store self.new → OnErr result ((i : Institution) → StandsFor S.Store self.old i → StandsFor S.Store self.new i) }

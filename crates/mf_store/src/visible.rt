@@ -1,6 +1,6 @@
 //! What an office sees, by the range of its hierarchy text.
 
-ghost use Rattle.std.specs.Prelude.{◌≡◌, ℕ, List, Option, map, is_some, IfOk, IfErr};
+ghost use Rattle.std.specs.Prelude.{◌≡◌, ℕ, List, Option, map, is_some, OnOk, IfOk, IfErr};
 ghost use Rattle.mf_base.specs.declared.fault.Fault.TheVariants.{F20};
 ghost use Rattle.mf_office.specs.Tree.{is_within};
 ghost use Rattle.mf_model.specs.Institution.{Institution, Office as ModelOffice};
@@ -92,12 +92,13 @@ fn has_room_below(key: &Option<Key>) -> bool
 }
 
 impl<S: Alter> Store<S> {
-    ghost use Rattle.mf_store.specs.Stands.{StandsFor, IsClean, Stays};
+    ghost use Rattle.mf_store.specs.Stands.{StandsFor, IsClean, Stays, IsOpen};
 
     /// The key of an office that is there.
-    fn key(&mut self, number: u32) -> Result<Option<Key>, Fault>
+    pub(crate) fn key(&mut self, number: u32) -> Result<Option<Key>, Fault>
         ensures kept { Stays S.Store self.old self.new }
         ensures gives_up { IfErr result (λ fault. fault ≡ F20) }
+        ensures open { IsClean S.Store self.new → OnOk result (IsOpen S.Store self.new) }
         ensures value { IsClean S.Store self.new → (i : Institution) → StandsFor S.Store self.old i → IfOk result (λ key. key ≡ key_at number i) }
     {
         let Some(office) = self.find_office(number)? else {
@@ -113,6 +114,7 @@ impl<S: Alter> Store<S> {
     fn kept_key(&mut self, alloc: Global, number: u32) -> Result<Option<Key>, Fault>
         ensures kept { Stays S.Store self.old self.new }
         ensures gives_up { IfErr result (λ fault. fault ≡ F20) }
+        ensures open { IsClean S.Store self.new → IsOpen S.Store self.old → OnOk result (IsOpen S.Store self.new) }
         ensures value { IsClean S.Store self.new → (i : Institution) → StandsFor S.Store self.old i → IfOk result (λ key. key ≡ key_at number i) }
     {
         if let Some(key) = self.known_key(alloc, number) {
@@ -132,6 +134,7 @@ impl<S: Alter> Store<S> {
     pub fn visible(&mut self, alloc: Global, to: OfficeNo, office: OfficeNo) -> Result<bool, Fault>
         ensures kept { Stays S.Store self.old self.new }
         ensures gives_up { IfErr result (λ fault. fault ≡ F20) }
+        ensures open { IsClean S.Store self.new → IsOpen S.Store self.old → OnOk result (IsOpen S.Store self.new) }
         ensures value { IsClean S.Store self.new → (i : Institution) → StandsFor S.Store self.old i → IfOk result (λ seen. seen ≡ is_some (seen_office to office i)) }
     {
         tree_of_offices();
@@ -144,6 +147,7 @@ impl<S: Alter> Store<S> {
     pub fn room_below(&mut self, office: OfficeNo) -> Result<bool, Fault>
         ensures kept { Stays S.Store self.old self.new }
         ensures gives_up { IfErr result (λ fault. fault ≡ F20) }
+        ensures open { IsClean S.Store self.new → OnOk result (IsOpen S.Store self.new) }
         ensures value { IsClean S.Store self.new → (i : Institution) → StandsFor S.Store self.old i → IfOk result (λ room. room ≡ is_within 4 (parent_of i.offices) office 1) }
     {
         tree_of_offices();
@@ -156,6 +160,7 @@ impl<S: Alter> Store<S> {
     pub fn offices(&mut self, alloc: Global, to: OfficeNo) -> Result<OfficeList, Fault>
         ensures kept { Stays S.Store self.old self.new }
         ensures gives_up { IfErr result (λ fault. fault ≡ F20) }
+        ensures open { IsClean S.Store self.new → IsOpen S.Store self.old → OnOk result (IsOpen S.Store self.new) }
         ensures value { IsClean S.Store self.new → (i : Institution) → StandsFor S.Store self.old i → IfOk result (λ list. list ≡ map line_of (seen_by to i.offices)) }
     {
         tree_of_offices();

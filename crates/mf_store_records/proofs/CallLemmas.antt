@@ -1,5 +1,5 @@
 -- What a query and the calls made of it come to.
-use Rattle.std.proofs.Common.{◌≡◌, ℕ, inl, inr, Bool, List, Option, None, Some, Result, Ok, Err, IfOk, IsTrue, refl, sym, ap, ◌∙◌, subst, arith, map, filter, find, slice_get}
+use Rattle.std.proofs.Common.{◌≡◌, ℕ, inl, inr, Bool, List, Option, None, Some, Result, Ok, Err, ◌<◌, ◌≤◌, IfOk, OnOk, IsTrue, refl, sym, ap, ◌∙◌, subst, arith, map, filter, find, slice_get}
 use denote.Ref.{Bor}
 use Rattle.std.specs.Option.{option_copied}
 use Rattle.sqlite.specs.declared.types.Value.TheVariants.{Null, Text}
@@ -16,11 +16,24 @@ use Rattle.mf_store_tables.specs.Queries.{Answers}
 use Rattle.mf_store_tables.specs.Writes.{Serves}
 use Rattle.mf_store_records.specs.Rows.{Lists}
 use Rattle.mf_store_records.specs.Writes.{schema_of, Holds}
-use Rattle.mf_store_records.specs.Calls.{IsUnchanged, IsKeeping, Shows}
+use Rattle.mf_store_records.specs.Calls.{IsUnchanged, IsKeeping, OnlyFaultsShut, Shows}
 
 module _ (was is : State) where
   earlier : {P : Trees → Type 0} → Survives was is P → HasCleanDisk is → HasCleanDisk was
   earlier survives clean = omega (arith, survives.clean, clean)
+
+  -- the kit's own clause, for each count of faults
+  pub only_faults_shut : {P : Trees → Type 0} → Survives was is P → OnlyFaultsShut was is
+  only_faults_shut survives faults few before = record {
+    counted = omega (arith, before.counted, survives.counts);
+    is_open = λ clean none.
+        let up : was.faults ≤ is.faults = survives.counts in
+        let least : faults ≤ was.faults = before.counted in
+        elim (survives.closes clean (before.is_open (earlier survives clean) (omega arith))) [
+          | inl still ↦ still
+          | inr more ↦ absurd (omega (arith, more))
+        ];
+  }
 
   plain_then : (sql : List ℕ) → IsPlain (understood schema sql) → was.now.schema ≡ schema → IsPlain (understood was.now.schema sql)
   plain_then sql plain ours = subst (λ k. IsPlain (understood k sql)) (sym ours) plain
@@ -31,12 +44,18 @@ module _ (was is : State) where
   unchanged sql plain same was_open survives = record {
     premise = earlier survives;
     was_open = was_open;
+    shuts = only_faults_shut survives;
     same = λ clean live ours. same clean live (plain_then sql plain ours);
     stop = λ clean ours trees may. elim (survives.crash clean trees may) [
       | inl before ↦ before
       | inr wrote ↦ absurd (wrote.1 (plain_then sql plain (ours wrote.0)))
     ];
   }
+
+-- what holds in any case holds at Ok
+pub at_ok : {A E : Type 0} (r : Result A E) (P : Type 0) → P → OnOk r P
+at_ok (Ok x) P h = h
+at_ok (Err e) P h = tt
 
 pub weaker_if_ok : {A E : Type 0} (r : Result A E) (P Q : A → Type 0) → ((x : A) → P x → Q x) → IfOk r P → IfOk r Q
 weaker_if_ok (Ok x) P Q f h = f x h

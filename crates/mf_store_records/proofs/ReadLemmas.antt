@@ -16,7 +16,7 @@ use Rattle.mf_store_tables.specs.Scan.{eq, by, scan}
 use Rattle.mf_store_tables.proofs.CompareLemmas.{equals_back, and_true, key_step, int_cmp-pos, at_least_text, below_text, above_number}
 use Rattle.mf_store_tables.proofs.ShownLemmas.{shown_kept, shown_first_kept}
 use Rattle.mf_store_records.specs.Tables.{schema}
-use Rattle.mf_store_records.specs.Rows.{by_meta, meta_row, by_office, office_row, by_staff, staff_row, by_client, client_row, by_charge, charge_row, by_product, product_row, by_loan, loan_row}
+use Rattle.mf_store_records.specs.Rows.{by_meta, meta_row, by_office, office_row, by_staff, staff_row, by_client, client_row, by_charge, charge_row, by_product, product_row, by_loan, loan_row, is_meta, is_office, is_staff, is_client, is_charge, is_product, is_loan, is_staff_of, is_client_of, is_loan_of, is_loan_above, is_in_range}
 use Rattle.mf_store_records.specs.declared.meta.MetaRow.{MetaRow}
 use Rattle.mf_store_records.specs.declared.offices.OfficeRow.{OfficeRow}
 use Rattle.mf_store_records.specs.declared.staff.StaffRow.{StaffRow}
@@ -24,7 +24,6 @@ use Rattle.mf_store_records.specs.declared.clients.ClientRow.{ClientRow}
 use Rattle.mf_store_records.specs.declared.charges.ChargeRow.{ChargeRow}
 use Rattle.mf_store_records.specs.declared.products.ProductRow.{ProductRow}
 use Rattle.mf_store_records.specs.declared.loans.LoanRow.{LoanRow}
-use Rattle.mf_store_records.specs.Looks.{is_meta, is_office, is_staff, is_client, is_charge, is_product, is_loan, is_staff_of, is_client_of, is_loan_of, is_loan_above, is_in_range}
 use Rattle.mf_store_records.proofs.Texts.{find_meta, find_meta_is, find_meta_plain, find_meta_listed, find_office, find_office_is, find_office_plain, find_office_listed, find_staff, find_staff_is, find_staff_plain, find_staff_listed, staff_of_office, staff_of_office_is, staff_of_office_plain, staff_of_office_listed, clients_of_office, clients_of_office_is, clients_of_office_plain, clients_of_office_listed, find_client, find_client_is, find_client_plain, find_client_listed, offices_in, offices_in_is, offices_in_plain, offices_in_listed, find_charge, find_charge_is, find_charge_plain, find_charge_listed, find_product, find_product_is, find_product_plain, find_product_listed, find_loan, find_loan_is, find_loan_plain, find_loan_listed, loans_of_office, loans_of_office_is, loans_of_office_plain, loans_of_office_listed, loans_above, loans_above_is, loans_above_plain, loans_above_listed}
 
 -- ---- meta

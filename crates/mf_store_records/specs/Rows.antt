@@ -1,7 +1,8 @@
--- The rows of the tables, each table's as a list in the order of its key.
-use Rattle.std.specs.Prelude.{ℕ, ℤ, pos, List, [], ◌∷◌, Option}
+-- The rows of the tables, each table's as a list in the order of its key; and which of them the queries look for.
+use Rattle.std.specs.Prelude.{ℕ, ℤ, pos, Bool, ◌&&◌, List, [], ◌∷◌, Option}
 use Rattle.std.specs.declared.cmp.Ordering.{Ordering}
-use Rattle.std.specs.Ordering.{nat_cmp, ordering_then}
+use Rattle.std.specs.Ordering.{nat_cmp, ordering_then, is_eq, is_lt, is_ge, is_gt}
+use Rattle.std.specs.Cmp.Lexicographic.{slice_cmp}
 use Rattle.sqlite.specs.declared.types.Value.TheVariants.{Int, Text as Words}
 use Rattle.sqlite.specs.Order.{Row}
 use Rattle.mf_store_tables.specs.Values.{or_null, or_text}
@@ -20,11 +21,22 @@ by_meta a b = nat_cmp a.one b.one
 abbrev pub meta_row : MetaRow → Row
 meta_row x = Int (pos x.one) ∷ Int (pos x.schema) ∷ Words x.day ∷ []
 
+-- the row under a key
+abbrev pub is_meta : ℕ → MetaRow → Bool
+is_meta one x = is_eq (nat_cmp one x.one)
+
 abbrev pub by_office : OfficeRow → OfficeRow → Ordering
 by_office a b = nat_cmp a.number b.number
 
 abbrev pub office_row : OfficeRow → Row
 office_row x = Int (pos x.number) ∷ or_null x.parent ∷ Words x.hkey ∷ Words x.name ∷ []
+
+abbrev pub is_office : ℕ → OfficeRow → Bool
+is_office number x = is_eq (nat_cmp number x.number)
+
+-- the rows whose hierarchy text lies in a range, byte by byte
+abbrev pub is_in_range : List ℕ → List ℕ → OfficeRow → Bool
+is_in_range low high x = is_ge (slice_cmp nat_cmp x.hkey low) && is_lt (slice_cmp nat_cmp x.hkey high)
 
 abbrev pub by_staff : StaffRow → StaffRow → Ordering
 by_staff a b = ordering_then (nat_cmp a.office b.office) (nat_cmp a.number b.number)
@@ -32,11 +44,24 @@ by_staff a b = ordering_then (nat_cmp a.office b.office) (nat_cmp a.number b.num
 abbrev pub staff_row : StaffRow → Row
 staff_row x = Int (pos x.office) ∷ Int (pos x.number) ∷ Words x.name ∷ Int (pos x.role) ∷ []
 
+abbrev pub is_staff : ℕ → ℕ → StaffRow → Bool
+is_staff office number x = is_eq (ordering_then (nat_cmp office x.office) (nat_cmp number x.number))
+
+-- the rows of one office
+abbrev pub is_staff_of : ℕ → StaffRow → Bool
+is_staff_of office x = is_eq (nat_cmp office x.office)
+
 abbrev pub by_client : ClientRow → ClientRow → Ordering
 by_client a b = ordering_then (nat_cmp a.office b.office) (nat_cmp a.number b.number)
 
 abbrev pub client_row : ClientRow → Row
 client_row x = Int (pos x.office) ∷ Int (pos x.number) ∷ Words x.name ∷ []
+
+abbrev pub is_client : ℕ → ℕ → ClientRow → Bool
+is_client office number x = is_eq (ordering_then (nat_cmp office x.office) (nat_cmp number x.number))
+
+abbrev pub is_client_of : ℕ → ClientRow → Bool
+is_client_of office x = is_eq (nat_cmp office x.office)
 
 abbrev pub by_charge : ChargeRow → ChargeRow → Ordering
 by_charge a b = nat_cmp a.number b.number
@@ -44,17 +69,33 @@ by_charge a b = nat_cmp a.number b.number
 abbrev pub charge_row : ChargeRow → Row
 charge_row x = Int (pos x.number) ∷ Words x.name ∷ Int (pos x.kind) ∷ Int (pos x.calc) ∷ Int x.value ∷ []
 
+abbrev pub is_charge : ℕ → ChargeRow → Bool
+is_charge number x = is_eq (nat_cmp number x.number)
+
 abbrev pub by_product : ProductRow → ProductRow → Ordering
 by_product a b = nat_cmp a.number b.number
 
 abbrev pub product_row : ProductRow → Row
 product_row x = Int (pos x.number) ∷ Words x.name ∷ Int (pos x.method) ∷ Int (pos x.rate) ∷ Int (pos x.frequency) ∷ Int (pos x.every) ∷ Int (pos x.principal_grace) ∷ Int (pos x.interest_grace) ∷ Int x.min_principal ∷ Int x.max_principal ∷ Int (pos x.min_periods) ∷ Int (pos x.max_periods) ∷ Int (pos x.strategy) ∷ or_null x.disbursement_charge ∷ or_null x.instalment_charge ∷ or_null x.overdue_charge ∷ Int (pos x.retired) ∷ []
 
+abbrev pub is_product : ℕ → ProductRow → Bool
+is_product number x = is_eq (nat_cmp number x.number)
+
 abbrev pub by_loan : LoanRow → LoanRow → Ordering
 by_loan a b = ordering_then (nat_cmp a.office b.office) (nat_cmp a.number b.number)
 
 abbrev pub loan_row : LoanRow → Row
 loan_row x = Int (pos x.office) ∷ Int (pos x.number) ∷ Int (pos x.client) ∷ Int (pos x.product) ∷ Int x.principal ∷ Int (pos x.periods) ∷ Int (pos x.stage) ∷ or_text x.approved ∷ or_text x.disbursed ∷ []
+
+abbrev pub is_loan : ℕ → ℕ → LoanRow → Bool
+is_loan office number x = is_eq (ordering_then (nat_cmp office x.office) (nat_cmp number x.number))
+
+abbrev pub is_loan_of : ℕ → LoanRow → Bool
+is_loan_of office x = is_eq (nat_cmp office x.office)
+
+-- and those with a number above one
+abbrev pub is_loan_above : ℕ → ℕ → LoanRow → Bool
+is_loan_above office after x = is_eq (nat_cmp office x.office) && is_gt (nat_cmp x.number after)
 
 pub record Lists : Type 0 where
   pub meta : List MetaRow

@@ -1,5 +1,4 @@
-ghost use Rattle.mf_store_records.specs.Rows.{charge_row, put_charge};
-ghost use Rattle.mf_store_records.specs.Looks.{is_charge};
+ghost use Rattle.mf_store_records.specs.Rows.{charge_row, put_charge, is_charge};
 
 use crate::table::{Added, Table};
 use crate::text::Text;

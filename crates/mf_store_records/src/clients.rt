@@ -1,5 +1,4 @@
-ghost use Rattle.mf_store_records.specs.Rows.{client_row, put_client};
-ghost use Rattle.mf_store_records.specs.Looks.{is_client, is_client_of};
+ghost use Rattle.mf_store_records.specs.Rows.{client_row, put_client, is_client, is_client_of};
 
 use crate::table::{Added, Listed, Table};
 use crate::text::Text;

@@ -7,7 +7,6 @@ mod charges;
 mod clients;
 mod loans;
 mod meta;
-mod numbers;
 mod offices;
 mod products;
 mod staff;
@@ -19,11 +18,6 @@ pub use charges::ChargeRow;
 pub use clients::ClientRow;
 pub use loans::{LoanRow, loans_above};
 pub use meta::MetaRow;
-pub use numbers::{
-    calc_from, flag_from, frequency_from, kind_from, method_from, number_of_calc,
-    number_of_frequency, number_of_kind, number_of_method, number_of_role, number_of_strategy,
-    role_from, signed, strategy_from, unsigned,
-};
 pub use offices::{OfficeRow, offices_within};
 pub use products::ProductRow;
 pub use staff::StaffRow;

@@ -1,9 +1,8 @@
-ghost use Rattle.std.specs.Prelude.{◌≡◌, false, IfOk, IfErr, map, filter, take};
+ghost use Rattle.std.specs.Prelude.{◌≡◌, false, IsTrue, OnOk, IfOk, IfErr, map, filter, take};
 ghost use Rattle.mf_base.specs.declared.fault.Fault.TheVariants.{F20};
 ghost use Rattle.sqlite.specs.Held.{state};
 ghost use Rattle.sqlite.specs.State.{HasCleanDisk};
-ghost use Rattle.mf_store_records.specs.Rows.{Lists, loan_row, put_loan};
-ghost use Rattle.mf_store_records.specs.Looks.{is_loan, is_loan_of, is_loan_above};
+ghost use Rattle.mf_store_records.specs.Rows.{Lists, loan_row, put_loan, is_loan, is_loan_of, is_loan_above};
 ghost use Rattle.mf_store_records.specs.Calls.{IsUnchanged, IsKeeping};
 
 use crate::table::{Added, Changed, Listed, Table, ask};
@@ -116,6 +115,7 @@ pub fn loans_above<S: Alter>(
     requires alone { connection.old.in_transaction ≡ false }
     ensures kept { IsUnchanged (state S.Store connection.old) (state S.Store connection.new) }
     ensures gives_up { IfErr result (λ fault. fault ≡ F20) }
+    ensures open { HasCleanDisk (state S.Store connection.new) → OnOk result (IsTrue (state S.Store connection.new).is_open) }
     ensures rows { HasCleanDisk (state S.Store connection.new) → (lists : Lists) → IsKeeping (state S.Store connection.old) lists → IfOk result (λ rows. rows.items ≡ take 100 (map loan_row (filter (is_loan_above office after) lists.loans))) }
     ensures mode { connection.new.in_transaction ≡ false }
 {

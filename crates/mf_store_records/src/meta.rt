@@ -1,5 +1,4 @@
-ghost use Rattle.mf_store_records.specs.Rows.{meta_row, put_meta};
-ghost use Rattle.mf_store_records.specs.Looks.{is_meta};
+ghost use Rattle.mf_store_records.specs.Rows.{meta_row, put_meta, is_meta};
 
 use crate::table::{Changed, Table};
 use crate::text::Text;

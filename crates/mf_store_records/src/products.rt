@@ -1,5 +1,4 @@
-ghost use Rattle.mf_store_records.specs.Rows.{product_row, put_product};
-ghost use Rattle.mf_store_records.specs.Looks.{is_product};
+ghost use Rattle.mf_store_records.specs.Rows.{product_row, put_product, is_product};
 
 use crate::table::{Added, Changed, Table};
 use crate::text::Text;

@@ -1,5 +1,4 @@
-ghost use Rattle.mf_store_records.specs.Rows.{staff_row, put_staff};
-ghost use Rattle.mf_store_records.specs.Looks.{is_staff, is_staff_of};
+ghost use Rattle.mf_store_records.specs.Rows.{staff_row, put_staff, is_staff, is_staff_of};
 
 use crate::table::{Added, Listed, Table};
 use crate::text::Text;

@@ -31,6 +31,7 @@ pub trait Columns {
         requires plain { IsPlain (understood schema sql.now) }
         ensures kept { IsUnchanged (state S.Store connection.old) (state S.Store connection.new) }
         ensures gives_up { IfErr result (λ fault. fault ≡ F20) }
+        ensures open { HasCleanDisk (state S.Store connection.new) → OnOk result (IsTrue (state S.Store connection.new).is_open) }
         ensures shows { HasCleanDisk (state S.Store connection.new) → IfOk result (λ rows. Shows (state S.Store connection.old) sql.now (values self) rows.items) }
         ensures mode { connection.new.in_transaction ≡ false };
 }
@@ -140,6 +141,7 @@ pub(crate) fn ask<S: Alter>(
     requires plain { IsPlain (understood schema sql.now) }
     ensures kept { IsUnchanged (state S.Store connection.old) (state S.Store connection.new) }
     ensures gives_up { IfErr result (λ fault. fault ≡ F20) }
+    ensures open { HasCleanDisk (state S.Store connection.new) → OnOk result (IsTrue (state S.Store connection.new).is_open) }
     ensures shows { HasCleanDisk (state S.Store connection.new) → IfOk result (λ rows. Shows (state S.Store connection.old) sql.now (bound params.now) rows.items) }
     ensures mode { connection.new.in_transaction ≡ false }
 {
@@ -179,6 +181,7 @@ pub fn find_row<T: Table, S: Alter>(
     requires alone { connection.old.in_transaction ≡ false }
     ensures kept { IsUnchanged (state S.Store connection.old) (state S.Store connection.new) }
     ensures gives_up { IfErr result (λ fault. fault ≡ F20) }
+    ensures open { HasCleanDisk (state S.Store connection.new) → OnOk result (IsTrue (state S.Store connection.new).is_open) }
     ensures row { HasCleanDisk (state S.Store connection.new) → (lists : Lists) → IsKeeping (state S.Store connection.old) lists → IfOk result (λ x. x ≡ find (T.is_at key) (T.list lists)) }
     ensures mode { connection.new.in_transaction ≡ false }
 {
@@ -194,6 +197,7 @@ pub fn list_rows<T: Listed, S: Alter>(
     requires alone { connection.old.in_transaction ≡ false }
     ensures kept { IsUnchanged (state S.Store connection.old) (state S.Store connection.new) }
     ensures gives_up { IfErr result (λ fault. fault ≡ F20) }
+    ensures open { HasCleanDisk (state S.Store connection.new) → OnOk result (IsTrue (state S.Store connection.new).is_open) }
     ensures rows { HasCleanDisk (state S.Store connection.new) → (lists : Lists) → IsKeeping (state S.Store connection.old) lists → IfOk result (λ rows. rows.items ≡ map T.stored (filter (T.is_in part) (T.list lists))) }
     ensures mode { connection.new.in_transaction ≡ false }
 {

@@ -1,9 +1,11 @@
 -- A query that writes nothing, and what is read of its rows.
-use Rattle.std.proofs.Common.{◌≡◌, inl, inr, subst, subst₂, ℕ, ◌+◌, ◌<◌, ◌++◌, length, take, get_or, slice_get, find, Option, Some, None, Result, Ok, Err, IfOk, IfErr, Bool, refl, arith, List, [], ◌∷◌, map, filter, sym, ap, ap₂, ◌∙◌, IsTrue}
+use Rattle.std.proofs.Common.{◌≡◌, inl, inr, subst, subst₂, ℕ, ◌+◌, ◌<◌, ◌++◌, length, take, get_or, slice_get, find, Option, Some, None, Result, Ok, Err, IfOk, IfErr, OnOk, Bool, refl, arith, List, [], ◌∷◌, map, filter, sym, ap, ap₂, ◌∙◌, IsTrue}
 use Rattle.std.proofs.lemmas.List.{take_more, map-append, length-map, get_or-map}
 use Rattle.sqlite_keyed.proofs.ListLemmas.{slice_get-filter}
 use Rattle.sqlite.specs.Order.{Row}
-use Rattle.sqlite.specs.State.{State, Shown, FailsToQuery, IsUnchanged, IsNotRun, Fails, CommitsShowing, Survives, HasCleanDisk}
+use Rattle.sqlite.specs.Clock.{timed}
+use Rattle.sqlite_schema.specs.declared.command.Returning.{Returning}
+use Rattle.sqlite.specs.State.{State, Shown, ShowsRows, FailsToQuery, IsUnchanged, IsNotRun, Fails, CommitsShowing, Survives, HasCleanDisk}
 use Rattle.sqlite.specs.declared.error.Error.{Error}
 use Rattle.sqlite.specs.Listing.{understood}
 use Rattle.sqlite.specs.Effect.{Database}
@@ -18,9 +20,23 @@ pub either_way : {A E : Type 0} (r : Result A E) (P : A → Type 0) (Q : E → T
 either_way (Ok a) P Q R on_ok on_err h k = on_ok a h
 either_way (Err e) P Q R on_ok on_err h k = on_err e k
 
+-- what follows from each answer holds of the call that gave one
+pub on_ok_if : {A E : Type 0} (r : Result A E) (P : A → Type 0) (Q : Type 0) → ((a : A) → P a → Q) → IfOk r P → OnOk r Q
+on_ok_if (Ok a) P Q f h = f a h
+on_ok_if (Err e) P Q f h = tt
+
 pub shown_same : (sql : List ℕ) (params : Row) (old new : State) (rows : List Row) → IsPlain (understood old.now.schema sql) → Shown sql params old new rows → new.now ≡ old.now
 unfolding Shown
 shown_same sql params old new rows plain h = let bare = subst IsPlain h.1.is plain in (rw bare.0 at h.2).3.0.now_is
+
+-- what shows its rows leaves the connection open
+pub shown_open : (sql : List ℕ) (params : Row) (old new : State) (rows : List Row) → Shown sql params old new rows → IsTrue new.is_open
+unfolding Shown
+shown_open sql params old new rows h = go h.0.returning h.2
+  where
+    go : (what : Option Returning) → ShowsRows old new sql h.0 (timed params h.0.formats h.1.now) rows what → IsTrue new.is_open
+    go None it = it.3.0.is_open
+    go (Some what) it = it.1.shown.is_open
 
 fails_same : (old new : State) (cause : Type 0) (e : Error) → (IsTrue old.is_open → old.now ≡ old.committed) → IsTrue new.is_open → Fails old new cause e → new.now ≡ old.now
 fails_same old new cause e settled live h = (h.3.undone live).0 ∙ sym (settled (h.3.was_open live))

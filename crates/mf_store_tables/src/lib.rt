@@ -91,6 +91,7 @@ pub fn query<S: Alter>(
 
     ensures rows { HasCleanDisk (state S.Store connection.new) → IfOk result (λ rows. Answers sql.now (bound params.now) (state S.Store connection.old).now rows.items) }
     ensures ok_open { HasCleanDisk (state S.Store connection.new) → OnOk result (IsTrue (state S.Store connection.old).is_open) }
+    ensures still_open { HasCleanDisk (state S.Store connection.new) → OnOk result (IsTrue (state S.Store connection.new).is_open) }
     ensures same { HasCleanDisk (state S.Store connection.new) → IsTrue (state S.Store connection.new).is_open → IsPlain (understood (state S.Store connection.old).now.schema sql.now)
         → (state S.Store connection.new).now ≡ (state S.Store connection.old).now }
     ensures was_open { HasCleanDisk (state S.Store connection.new) → IsTrue (state S.Store connection.new).is_open → IsTrue (state S.Store connection.old).is_open }

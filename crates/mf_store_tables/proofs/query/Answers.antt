@@ -1,10 +1,10 @@
-use Rattle.std.proofs.Common.{◌≡◌, true, not, ap, ◌∙◌, [], arith}
+use Rattle.std.proofs.Common.{◌≡◌, true, not, ap, ◌∙◌, [], IsTrue, arith}
 use Rattle.std.proofs.lemmas.Result.{IfOk-weaker}
 use Rattle.sqlite.specs.Held.{state}
 use Rattle.sqlite.specs.Values.{bound}
 use Rattle.sqlite.specs.State.{HasCleanDisk, Shown}
 use Rattle.mf_store_tables.specs.Queries.{Answers}
-use Rattle.mf_store_tables.proofs.QueryLemmas.{not_run_same, answers_prepared, same_prepared, crash_prepared}
+use Rattle.mf_store_tables.proofs.QueryLemmas.{not_run_same, answers_prepared, same_prepared, crash_prepared, on_ok_if, shown_open}
 use Rattle.mf_store_tables.proofs.query.Goals as goal
 
 pub returns-in_err-prepare-clause-same : goal.returns-in_err-prepare-clause-same
@@ -26,6 +26,10 @@ returns-clause-rows g c clean =
     let params = bound c.args.params.now in
     IfOk-weaker c.query_all.result (λ rows. Shown c.args.sql.now params mid new rows.items) (λ rows. Answers c.args.sql.now params old.now rows.items)
     (λ rows h. answers_prepared c.args.sql.now params old mid new rows.items (c.in_ok-prepare.ensures.ok early).1 h) (c.query_all.ensures.ok clean)
+
+pub returns-clause-still_open : goal.returns-clause-still_open
+returns-clause-still_open g c clean =
+    on_ok_if c.query_all.result _ (IsTrue (state g.S.Store c.query_all.new.self).is_open) (λ rows h. shown_open c.args.sql.now (bound c.args.params.now) (state g.S.Store c.prepare.new.self) (state g.S.Store c.query_all.new.self) rows.items h) (c.query_all.ensures.ok clean)
 
 pub returns-clause-same : goal.returns-clause-same
 returns-clause-same g c clean live plain =

@@ -6,5 +6,5 @@ use Rattle.mf_store.proofs.catalogue.charge_row.Goals as goal
 
 pub returns-clause-row : goal.returns-clause-row
 returns-clause-row c =
-    let fits : SFits w64 c.in_ok-stored.stored = search rules in
-    λ k. record { number = c.args.number; name = c.of_name.ensures k; kind = c.number_of_kind.ensures k; calc = c.number_of_calc.ensures k; value = (to_z-of_z w64 c.in_ok-stored.stored fits ∙ c.in_ok-stored.ensures.amount) k }
+    let fits : SFits w64 c.in_ok-cents.cents = search rules in
+    λ k. record { number = c.args.number; name = c.of_name.ensures k; kind = c.number.ensures k; calc = c.number-2.ensures k; value = (to_z-of_z w64 c.in_ok-cents.cents fits ∙ c.in_ok-cents.ensures.amount) k }

@@ -10,8 +10,8 @@ use Rattle.mf_store.specs.declared.known.News.TheVariants.{Catalogue}
 use Rattle.mf_store.proofs.NewsLemmas.{charge_tells}
 use Rattle.mf_store.proofs.store.Store.add_charge.Goals as goal
 
-pub returns : goal.returns
-returns g c =
+pub returns-clause-commits : goal.returns-clause-commits
+returns-clause-commits g c =
     let charge : Charge = record { name = c.args.name; kind = c.args.kind; calc = c.args.calc; value = c.args.value } in
     let known = c.in_ok-counts.counts in
     made_by g.S.Store (AddCharge c.args.name c.args.kind c.args.calc c.args.value) c.args.self.now c.count_catalogue.new.self c.make.new.self (PutCharge c.in_ok-row.row ∷ []) (Catalogue (record { charges = known.charges + 1; products = known.products })) c.make.result c.in_ok-counts.ensures.kept

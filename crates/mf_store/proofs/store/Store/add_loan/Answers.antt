@@ -12,8 +12,8 @@ use Rattle.mf_store.specs.declared.known.News.TheVariants.{OfficeCounts}
 use Rattle.mf_store.proofs.NewsLemmas.{loan_tells}
 use Rattle.mf_store.proofs.store.Store.add_loan.Goals as goal
 
-pub returns : goal.returns
-returns g c =
+pub returns-clause-commits : goal.returns-clause-commits
+returns-clause-commits g c =
     let old = c.args.self.now in
     let first = c.has_office.new.self in
     let mid = c.counts_of.new.self in

@@ -10,8 +10,8 @@ use Rattle.mf_store.specs.declared.known.News.TheVariants.{Catalogue}
 use Rattle.mf_store.proofs.NewsLemmas.{product_tells}
 use Rattle.mf_store.proofs.store.Store.add_product.Goals as goal
 
-pub returns : goal.returns
-returns g c =
+pub returns-clause-commits : goal.returns-clause-commits
+returns-clause-commits g c =
     let offer : Offer = record { members = c.args.members; retired = false } in
     let known = c.in_ok-counts.counts in
     made_by g.S.Store (AddProduct c.args.members) c.args.self.now c.count_catalogue.new.self c.make.new.self (write.AddProduct c.in_ok-row.row ∷ []) (Catalogue (record { charges = known.charges; products = known.products + 1 })) c.make.result c.in_ok-counts.ensures.kept

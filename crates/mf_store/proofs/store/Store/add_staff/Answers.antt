@@ -3,7 +3,7 @@ use Rattle.mf_model.specs.declared.commit.Commit.TheVariants.{AddStaff}
 use Rattle.mf_model.specs.Store.{rows_at}
 use Rattle.mf_model.specs.declared.store.Counts.{Counts}
 use Rattle.mf_model.specs.Tree.{is_there}
-use Rattle.mf_store_records.specs.Numbers.{role_number}
+use Rattle.mf_office.specs.Roles.{role_number}
 use Rattle.mf_store_records.specs.declared.staff.StaffRow.{StaffRow}
 use Rattle.mf_store_records.specs.declared.writes.StoreWrite.TheVariants.{PutStaff}
 use Rattle.mf_store.proofs.CommitLemmas.{made_by, staff_becomes, same_staff}
@@ -12,12 +12,12 @@ use Rattle.mf_store.specs.declared.known.News.TheVariants.{OfficeCounts}
 use Rattle.mf_store.proofs.NewsLemmas.{staff_tells}
 use Rattle.mf_store.proofs.store.Store.add_staff.Goals as goal
 
-pub returns : goal.returns
-returns g c =
+pub returns-clause-commits : goal.returns-clause-commits
+returns-clause-commits g c =
     let old = c.args.self.now in
     let first = c.has_office.new.self in
     let mid = c.counts_of.new.self in
-    let staff : StaffRow = record { office = c.get-office.result; number = c.in_ok-counts.counts.staff + 1; name = c.of_name.result; role = c.number_of_role.result } in
+    let staff : StaffRow = record { office = c.get-office.result; number = c.in_ok-counts.counts.staff + 1; name = c.of_name.result; role = c.number.result } in
     let there : c.in_ok-there.there ≡ true = search rules in
     let known = c.in_ok-counts.counts in
     made_by g.S.Store (AddStaff c.args.office c.args.name c.args.role) old mid c.make.new.self (PutStaff staff ∷ []) (OfficeCounts c.get-office.result (record { staff = known.staff + 1; clients = known.clients; loans = known.loans })) c.make.result (stays_then g.S.Store old first mid c.in_ok-there.ensures.kept c.in_ok-counts.ensures.kept)
@@ -25,8 +25,8 @@ returns g c =
     let here = ap (is_there i.offices) (sym c.get-office.ensures.value) ∙ sym (c.in_ok-there.ensures.value before i s) ∙ there in
     let counts = c.in_ok-counts.ensures.value clean i (c.in_ok-there.ensures.kept.same before i s) in (
       staff_becomes c.args.office c.args.name c.args.role i staff s.sound sound here
-          (same_staff c.get-office.result c.args.office known.staff (length (rows_at c.args.office i).staff) c.number_of_role.result (role_number c.args.role) c.of_name.result c.args.name c.get-office.ensures.value
-          (ap (λ (k : Counts). k.staff) counts ∙ ap (λ x. length (rows_at x i).staff) c.get-office.ensures.value) c.number_of_role.ensures c.of_name.ensures),
+          (same_staff c.get-office.result c.args.office known.staff (length (rows_at c.args.office i).staff) c.number.result (role_number c.args.role) c.of_name.result c.args.name c.get-office.ensures.value
+          (ap (λ (k : Counts). k.staff) counts ∙ ap (λ x. length (rows_at x i).staff) c.get-office.ensures.value) c.number.ensures c.of_name.ensures),
       staff_tells c.get-office.result c.args.office c.args.name c.args.role i known c.get-office.ensures.value here counts,
     ))
     c.make.ensures.premise c.make.ensures.gives_up c.make.ensures.made c.make.ensures.left c.make.ensures.same c.make.ensures.stop

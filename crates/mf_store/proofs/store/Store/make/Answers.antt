@@ -1,4 +1,4 @@
-use Rattle.mf_store.proofs.KeptLemmas.{any_err, known_made, known_unmade, tabled}
+use Rattle.mf_store.proofs.KeptLemmas.{any_err, known_made, known_unmade, shuts_alike, tabled}
 use Rattle.mf_store.proofs.store.Store.make.Goals as goal
 
 pub returns-in_err-write-clause-same : goal.returns-in_err-write-clause-same
@@ -9,3 +9,9 @@ returns-clause-made g c = rw (← c.self.view_is) (λ clean i j s b t. known_mad
 
 pub returns-clause-left : goal.returns-clause-left
 returns-clause-left g c = rw (← c.self.view_is) (λ clean i j s b. c.in_ok-write.ensures.left clean i j (tabled g.S.Store _ i s) b)
+
+pub returns-in_err-write-clause-shuts : goal.returns-in_err-write-clause-shuts
+returns-in_err-write-clause-shuts g c = rw (← c.self.view_is) (shuts_alike g.S.Store c.self.inside.connection c.write.new.connection c.write.ensures.shuts)
+
+pub returns-clause-shuts : goal.returns-clause-shuts
+returns-clause-shuts g c = rw (← c.self.view_is) (shuts_alike g.S.Store c.self.inside.connection c.write.new.connection c.write.ensures.shuts)

@@ -9,8 +9,8 @@ use Rattle.mf_store.specs.declared.known.News.TheVariants.{BusinessDay}
 use Rattle.mf_store.proofs.NewsLemmas.{day_tells}
 use Rattle.mf_store.proofs.store.Store.set_day.Goals as goal
 
-pub returns : goal.returns
-returns g c =
+pub returns-clause-commits : goal.returns-clause-commits
+returns-clause-commits g c =
     let old = c.args.self.now in
     let meta : MetaRow = record { one = 1; schema = 1; day = c.new.result } in
     made_by g.S.Store (SetDay c.args.day) old old c.make.new.self (PutMeta meta ∷ []) (BusinessDay c.args.day) c.make.result (stays_same g.S.Store old) (λ clean i s sound. (day_becomes c.args.day i meta sound refl refl (c.new.ensures ∙ c.in_ok-text.ensures.ok), day_tells c.args.day i))

@@ -11,8 +11,8 @@ use Rattle.mf_store.specs.declared.known.News.TheVariants.{Nothing}
 use Rattle.mf_store.proofs.NewsLemmas.{stage_tells}
 use Rattle.mf_store.proofs.store.Store.set_stage.Goals as goal
 
-pub returns : goal.returns
-returns g c =
+pub returns-clause-commits : goal.returns-clause-commits
+returns-clause-commits g c =
     let office = c.args.loan.office in
     let number = c.args.loan.number in
     made_by g.S.Store (SetStage c.args.loan c.args.stage) c.args.self.now c.find_loan.new.self c.make.new.self (PutLoan c.in_ok-row.row ∷ []) Nothing c.make.result c.in_ok-found.ensures.kept
