@@ -66,11 +66,11 @@ row_paid row = sum row.paid
 abbrev pub total_paid : List Sums → ℕ
 total_paid rows = sum_by row_paid rows
 
-sum-raised : (xs : List ℕ) (p amount : ℕ) → p < length xs → sum (set xs p (get_or xs p 0 + amount)) ≡ sum xs + amount
-sum-raised xs p amount within = let at = sum_by-set (λ (x : ℕ). x) xs p (get_or xs p 0 + amount) 0 within in omega (arith, at)
+sum-plus_at : (xs : List ℕ) (p amount : ℕ) → p < length xs → sum (set xs p (get_or xs p 0 + amount)) ≡ sum xs + amount
+sum-plus_at xs p amount within = let at = sum_by-set (λ (x : ℕ). x) xs p (get_or xs p 0 + amount) 0 within in omega (arith, at)
 
 paid-settle_row : (how : How) (p amount : ℕ) (row : Sums) → p < 4 → IsWhole row → row_paid (settle_row how p amount row) ≡ row_paid row + paid_by how amount
-paid-settle_row Paid p amount row small is = sum-raised row.paid p amount (omega (arith, is.paid))
+paid-settle_row Paid p amount row small is = sum-plus_at row.paid p amount (omega (arith, is.paid))
 paid-settle_row Waived p amount row small is = omega arith
 paid-settle_row WrittenOff p amount row small is = omega arith
 

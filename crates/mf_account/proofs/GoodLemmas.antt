@@ -8,7 +8,7 @@ use Rattle.std.proofs.lemmas.List.Sums.{sum_by-append, sum_by-set}
 use Rattle.mf_alloc.specs.declared.row.Cell.{Cell}
 use Rattle.mf_alloc.specs.declared.row.Share.{Share}
 use Rattle.mf_alloc.specs.Sums.{Sums, open_at, IsRowWithin, AreWithin, IsWhole, AreWhole}
-use Rattle.mf_alloc.specs.Rows.{no_row, row_at, changed, raised, place_in_row, IsPayable, pay_into}
+use Rattle.mf_alloc.specs.Rows.{no_row, row_at, changed, plus_at, place_in_row, IsPayable, pay_into}
 use Rattle.mf_alloc.specs.OrderLaws.{IsOrder}
 use Rattle.mf_alloc.proofs.PaymentLemmas.{shares_payable}
 use Rattle.mf_alloc.proofs.LeftOpen.{IsLine, place_in_row-small}
@@ -62,29 +62,29 @@ whole-with_charge WriteOff entry rows whole = whole
 whole-with_charge Refund entry rows whole = whole
 
 -- one sum raised, read at any place
-read-raised : (sums : List ℕ) (p amount q : ℕ) → p < length sums → (get_or (raised sums p amount) q 0 ≡ get_or sums q 0 + amount) × (q ≡ p) ⊎ (get_or (raised sums p amount) q 0 ≡ get_or sums q 0) × (q ≢ p)
-read-raised sums p amount q within =
+read-plus_at : (sums : List ℕ) (p amount q : ℕ) → p < length sums → (get_or (plus_at sums p amount) q 0 ≡ get_or sums q 0 + amount) × (q ≡ p) ⊎ (get_or (plus_at sums p amount) q 0 ≡ get_or sums q 0) × (q ≢ p)
+read-plus_at sums p amount q within =
     elim (cases_eq q p) [
-      | inl here ↦ inl (ap (λ x. get_or (raised sums p amount) x 0) here ∙ get_or-set_same sums p (get_or sums p 0 + amount) 0 within ∙ ap (λ x. get_or sums x 0 + amount) (sym here), here)
+      | inl here ↦ inl (ap (λ x. get_or (plus_at sums p amount) x 0) here ∙ get_or-set_same sums p (get_or sums p 0 + amount) 0 within ∙ ap (λ x. get_or sums x 0 + amount) (sym here), here)
       | inr other ↦ inr (get_or-set_other sums p q (get_or sums p 0 + amount) 0 other, other)
     ]
 
 within-settle_row : (how : How) (p amount : ℕ) (row : Sums) → p < 4 → IsWhole row → IsRowWithin row → amount ≤ open_at row p → IsRowWithin (settle_row how p amount row)
 within-settle_row Paid p amount row small is within most q less =
     let now = within q less in
-    elim (read-raised row.paid p amount q (omega (arith, is.paid))) [
+    elim (read-plus_at row.paid p amount q (omega (arith, is.paid))) [
       | inl here ↦ let room : amount ≤ open_at row q = subst (λ (x : ℕ). amount ≤ open_at row x) (sym here.1) most in omega (arith, here.0, now, room)
       | inr other ↦ omega (arith, other.0, now)
     ]
 within-settle_row Waived p amount row small is within most q less =
     let now = within q less in
-    elim (read-raised row.waived p amount q (omega (arith, is.waived))) [
+    elim (read-plus_at row.waived p amount q (omega (arith, is.waived))) [
       | inl here ↦ let room : amount ≤ open_at row q = subst (λ (x : ℕ). amount ≤ open_at row x) (sym here.1) most in omega (arith, here.0, now, room)
       | inr other ↦ omega (arith, other.0, now)
     ]
 within-settle_row WrittenOff p amount row small is within most q less =
     let now = within q less in
-    elim (read-raised row.written_off p amount q (omega (arith, is.written_off))) [
+    elim (read-plus_at row.written_off p amount q (omega (arith, is.written_off))) [
       | inl here ↦ let room : amount ≤ open_at row q = subst (λ (x : ℕ). amount ≤ open_at row x) (sym here.1) most in omega (arith, here.0, now, room)
       | inr other ↦ omega (arith, other.0, now)
     ]
@@ -92,7 +92,7 @@ within-settle_row WrittenOff p amount row small is within most q less =
 within-owe_row : (p amount : ℕ) (row : Sums) → p < 4 → IsWhole row → IsRowWithin row → IsRowWithin (owe_row p amount row)
 within-owe_row p amount row small is within q less =
     let now = within q less in
-    elim (read-raised row.owed p amount q (omega (arith, is.owed))) [
+    elim (read-plus_at row.owed p amount q (omega (arith, is.owed))) [
       | inl here ↦ omega (arith, here.0, now)
       | inr other ↦ omega (arith, other.0, now)
     ]
@@ -170,8 +170,8 @@ sum-changed f rows instalment more change grows =
 owed-owe_row : (p amount q : ℕ) (row : Sums) → owed_at q (owe_row p amount row) ≤ owed_at q row + amount
 owed-owe_row p amount q row =
     elim (cases_lt p (length row.owed)) [
-      | inl within ↦ elim (read-raised row.owed p amount q within) [ inl here ↦ omega (arith, here.0) | inr other ↦ omega (arith, other.0) ]
-      | inr past ↦ let same : get_or (raised row.owed p amount) q 0 ≡ get_or row.owed q 0 = ap (λ x. get_or x q 0) (set_past row.owed p (get_or row.owed p 0 + amount) past) in omega (arith, same)
+      | inl within ↦ elim (read-plus_at row.owed p amount q within) [ inl here ↦ omega (arith, here.0) | inr other ↦ omega (arith, other.0) ]
+      | inr past ↦ let same : get_or (plus_at row.owed p amount) q 0 ≡ get_or row.owed q 0 = ap (λ x. get_or x q 0) (set_past row.owed p (get_or row.owed p 0 + amount) past) in omega (arith, same)
     ]
 
 owed-with_charge : (kind : Kind) (entry : Entry) (q : ℕ) (rows : List Sums) → sum_by (owed_at q) (with_charge kind entry rows) ≤ sum_by (owed_at q) rows + entry.amount

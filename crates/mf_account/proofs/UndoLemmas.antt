@@ -4,7 +4,7 @@ use Rattle.mf_alloc.specs.declared.row.Cell.{Cell}
 use Rattle.mf_alloc.specs.Sums.{Sums}
 use Rattle.mf_alloc.specs.declared.row.Portion.TheVariants.{Penalty as PenaltyPart, Fee as FeePart}
 use Rattle.mf_alloc.specs.Rows.{place_in_row}
-use Rattle.mf_alloc.proofs.PaymentLemmas.{changed-back, lowered-raised, unpay-pay}
+use Rattle.mf_alloc.proofs.PaymentLemmas.{changed-back, minus_at-plus_at, unpay-pay}
 use Rattle.mf_account.specs.declared.entry.Entry.{Entry}
 use Rattle.mf_account.specs.declared.entry.Kind.{Kind}
 use Rattle.mf_account.specs.declared.entry.Kind.TheVariants.{Repay, Fee, Penalty, Waive, WriteOff, Refund}
@@ -19,11 +19,11 @@ use Rattle.mf_account.specs.Undo.{unsettle_row, unowe_row, unsettle, without_set
 
 unsettle_row-settle_row : (how : How) (p amount : ℕ) (row : Sums) → unsettle_row how p amount (settle_row how p amount row) ≡ row
 unsettle_row-settle_row Paid p amount row = unpay-pay p amount row
-unsettle_row-settle_row Waived p amount row = ap (λ (sums : List ℕ). record row { waived = sums }) (lowered-raised row.waived p amount)
-unsettle_row-settle_row WrittenOff p amount row = ap (λ (sums : List ℕ). record row { written_off = sums }) (lowered-raised row.written_off p amount)
+unsettle_row-settle_row Waived p amount row = ap (λ (sums : List ℕ). record row { waived = sums }) (minus_at-plus_at row.waived p amount)
+unsettle_row-settle_row WrittenOff p amount row = ap (λ (sums : List ℕ). record row { written_off = sums }) (minus_at-plus_at row.written_off p amount)
 
 unowe_row-owe_row : (p amount : ℕ) (row : Sums) → unowe_row p amount (owe_row p amount row) ≡ row
-unowe_row-owe_row p amount row = ap (λ (sums : List ℕ). record row { owed = sums }) (lowered-raised row.owed p amount)
+unowe_row-owe_row p amount row = ap (λ (sums : List ℕ). record row { owed = sums }) (minus_at-plus_at row.owed p amount)
 
 unsettle-settle : (rows : List Sums) (part : Part) → unsettle (settle rows part) part ≡ rows
 unsettle-settle rows part =

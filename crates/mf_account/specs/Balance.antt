@@ -2,12 +2,21 @@
 use Rattle.std.specs.Prelude.{ℕ, ◌<◌, ◌^◌, List, [], ◌∷◌, sum_by}
 use Rattle.mf_alloc.specs.Sums.{Sums, open_at}
 use Rattle.mf_account.specs.declared.balances.Balances.{Balances}
+use Rattle.mf_account.specs.declared.balances.Column.{Column}
+use Rattle.mf_account.specs.declared.balances.Column.TheVariants.{Owed, Paid, Waived, WrittenOff}
 use Rattle.mf_account.specs.declared.entry.Entry.{Entry}
 use Rattle.mf_account.specs.Kinds.{money_in}
 use Rattle.mf_account.specs.Effect.{State}
 use Rattle.mf_account.specs.Account.{sum_at}
 use Rattle.mf_account.specs.Standing.{standing}
 use Rattle.mf_account.specs.Loan.{Loan, state_of_loan, fee_of_loan}
+
+-- one of a row's sums, by portion
+abbrev pub column_of : Column → Sums → List ℕ
+column_of Owed row = row.owed
+column_of Paid row = row.paid
+column_of Waived row = row.waived
+column_of WrittenOff row = row.written_off
 
 -- the four portions of a sum
 abbrev pub columns_of : (Sums → List ℕ) → List Sums → List ℕ
@@ -20,10 +29,10 @@ open_in p rows = sum_by (λ (row : Sums). open_at row p) rows
 abbrev pub balances_by : ℕ → State → Balances
 balances_by fee state = record {
   disbursement_fee = fee;
-  owed = columns_of (λ row. row.owed) state.rows;
-  paid = columns_of (λ row. row.paid) state.rows;
-  waived = columns_of (λ row. row.waived) state.rows;
-  written_off = columns_of (λ row. row.written_off) state.rows;
+  owed = columns_of (column_of Owed) state.rows;
+  paid = columns_of (column_of Paid) state.rows;
+  waived = columns_of (column_of Waived) state.rows;
+  written_off = columns_of (column_of WrittenOff) state.rows;
   outstanding = open_in 0 state.rows ∷ open_in 1 state.rows ∷ open_in 2 state.rows ∷ open_in 3 state.rows ∷ [];
   overpaid = state.overpaid;
   refunded = state.refunded;

@@ -4,7 +4,7 @@ use Rattle.std.specs.List.{range_with_len}
 use Rattle.mf_alloc.specs.declared.row.Cell.{Cell}
 use Rattle.mf_alloc.specs.declared.row.Portion.TheVariants.{Penalty as PenaltyPart, Fee as FeePart}
 use Rattle.mf_alloc.specs.Sums.{Sums}
-use Rattle.mf_alloc.specs.Rows.{outstanding, changed, raised, place_in_row, pay_row, with_paid}
+use Rattle.mf_alloc.specs.Rows.{outstanding, changed, plus_at, place_in_row, pay_row, with_paid}
 use Rattle.mf_alloc.specs.Payment.{share_at, shares_of, rest_of}
 use Rattle.mf_account.specs.declared.entry.Entry.{Entry}
 use Rattle.mf_account.specs.declared.entry.Kind.{Kind}
@@ -26,11 +26,11 @@ pub record Part : Type 0 where
 -- a sum of a row raised
 abbrev pub settle_row : How → ℕ → ℕ → Sums → Sums
 settle_row Paid p amount row = pay_row p amount row
-settle_row Waived p amount row = record row { waived = raised row.waived p amount }
-settle_row WrittenOff p amount row = record row { written_off = raised row.written_off p amount }
+settle_row Waived p amount row = record row { waived = plus_at row.waived p amount }
+settle_row WrittenOff p amount row = record row { written_off = plus_at row.written_off p amount }
 
 abbrev pub owe_row : ℕ → ℕ → Sums → Sums
-owe_row p amount row = record row { owed = raised row.owed p amount }
+owe_row p amount row = record row { owed = plus_at row.owed p amount }
 
 abbrev pub settle : List Sums → Part → List Sums
 settle rows part = changed rows part.cell.instalment (settle_row part.how (place_in_row part.cell.portion) part.amount)

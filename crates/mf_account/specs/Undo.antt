@@ -2,7 +2,7 @@
 use Rattle.std.specs.Prelude.{ℕ, ◌+◌, ◌-◌, ◌≢◌, List, [], ◌∷◌, sum_by}
 use Rattle.mf_alloc.specs.declared.row.Portion.TheVariants.{Penalty as PenaltyPart, Fee as FeePart}
 use Rattle.mf_alloc.specs.Sums.{Sums}
-use Rattle.mf_alloc.specs.Rows.{changed, lowered, place_in_row, unpay_row}
+use Rattle.mf_alloc.specs.Rows.{changed, minus_at, place_in_row, unpay_row}
 use Rattle.mf_account.specs.declared.entry.Entry.{Entry}
 use Rattle.mf_account.specs.declared.entry.Kind.{Kind}
 use Rattle.mf_account.specs.declared.entry.Kind.TheVariants.{Repay, Fee, Penalty, Waive, WriteOff, Refund}
@@ -14,11 +14,11 @@ use Rattle.mf_account.specs.Account.{Orders}
 
 abbrev pub unsettle_row : How → ℕ → ℕ → Sums → Sums
 unsettle_row Paid p amount row = unpay_row p amount row
-unsettle_row Waived p amount row = record row { waived = lowered row.waived p amount }
-unsettle_row WrittenOff p amount row = record row { written_off = lowered row.written_off p amount }
+unsettle_row Waived p amount row = record row { waived = minus_at row.waived p amount }
+unsettle_row WrittenOff p amount row = record row { written_off = minus_at row.written_off p amount }
 
 abbrev pub unowe_row : ℕ → ℕ → Sums → Sums
-unowe_row p amount row = record row { owed = lowered row.owed p amount }
+unowe_row p amount row = record row { owed = minus_at row.owed p amount }
 
 abbrev pub unsettle : List Sums → Part → List Sums
 unsettle rows part = changed rows part.cell.instalment (unsettle_row part.how (place_in_row part.cell.portion) part.amount)

@@ -1,8 +1,7 @@
 ghost use Rattle.std.specs.Prelude.{◌≡◌, ℕ, ◌<◌, ◌^◌, ◌∷◌, []};
-ghost use Rattle.mf_alloc.specs.Sums.{Sums};
 ghost use Rattle.mf_alloc.specs.Rows.{place_in_row};
 ghost use Rattle.mf_account.specs.Account.{sum_at};
-ghost use Rattle.mf_account.specs.Balance.{columns_of, open_in, balances_by, HasRoom};
+ghost use Rattle.mf_account.specs.Balance.{column_of, columns_of, open_in, balances_by, HasRoom};
 
 use mf_alloc::{Portion, Row};
 
@@ -20,40 +19,47 @@ pub struct Balances {
     pub refunded: u64,
 }
 
-/// What is owed of a portion, by its place in the sums.
-fn owed_at(rows: &[Row], p: usize) -> u64
-    requires small { p < 4 }
-    requires room { sum_at (λ (row : Sums). row.owed) p rows.now < 2 ^ 64 }
-    ensures { result ≡ sum_at (λ (row : Sums). row.owed) p rows.now }
-{
-    rows.iter().map(|row| row.owed[p]).sum()
+/// One of a row's sums.
+#[derive(Clone, Copy, PartialEq, Eq, Debug)]
+pub(crate) enum Column {
+    Owed,
+    Paid,
+    Waived,
+    WrittenOff,
 }
 
-/// What is paid of a portion.
-fn paid_at(rows: &[Row], p: usize) -> u64
-    requires small { p < 4 }
-    requires room { sum_at (λ (row : Sums). row.paid) p rows.now < 2 ^ 64 }
-    ensures { result ≡ sum_at (λ (row : Sums). row.paid) p rows.now }
+/// A row's sum by portion.
+fn sums_of(row: &Row, column: Column) -> [u64; 4]
+    ensures { result ≡ column_of column row.now }
 {
-    rows.iter().map(|row| row.paid[p]).sum()
+    match column {
+        Column::Owed => row.owed,
+        Column::Paid => row.paid,
+        Column::Waived => row.waived,
+        Column::WrittenOff => row.written_off,
+    }
 }
 
-/// What is waived of a portion.
-fn waived_at(rows: &[Row], p: usize) -> u64
+/// A sum of all rows, of a portion by its place.
+fn sum_of_portion(rows: &[Row], column: Column, p: usize) -> u64
     requires small { p < 4 }
-    requires room { sum_at (λ (row : Sums). row.waived) p rows.now < 2 ^ 64 }
-    ensures { result ≡ sum_at (λ (row : Sums). row.waived) p rows.now }
+    requires room { sum_at (column_of column) p rows.now < 2 ^ 64 }
+    ensures { result ≡ sum_at (column_of column) p rows.now }
 {
-    rows.iter().map(|row| row.waived[p]).sum()
+    rows.iter().map(|row| sums_of(row, column)[p]).sum()
 }
 
-/// What is written off of a portion.
-fn written_off_at(rows: &[Row], p: usize) -> u64
-    requires small { p < 4 }
-    requires room { sum_at (λ (row : Sums). row.written_off) p rows.now < 2 ^ 64 }
-    ensures { result ≡ sum_at (λ (row : Sums). row.written_off) p rows.now }
+/// A sum of all rows, by portion.
+pub(crate) fn sum_by_portion(rows: &[Row], column: Column) -> [u64; 4]
+    requires { HasRoom rows.now }
+    ensures { result ≡ columns_of (column_of column) rows.now }
 {
-    rows.iter().map(|row| row.written_off[p]).sum()
+    [
+        sum_of_portion(rows, column, 0),
+        sum_of_portion(rows, column, 1),
+        sum_of_portion(rows, column, 2),
+        sum_of_portion(rows, column, 3),
+    ]
 }
 
 /// What is outstanding of a portion.
@@ -62,58 +68,6 @@ fn outstanding_at(rows: &[Row], portion: Portion) -> u64
     ensures { result ≡ open_in (place_in_row portion) rows.now }
 {
     rows.iter().map(|row| row.outstanding(portion)).sum()
-}
-
-/// What is owed, by portion.
-fn all_owed(rows: &[Row]) -> [u64; 4]
-    requires { HasRoom rows.now }
-    ensures { result ≡ columns_of (λ (row : Sums). row.owed) rows.now }
-{
-    [
-        owed_at(rows, 0),
-        owed_at(rows, 1),
-        owed_at(rows, 2),
-        owed_at(rows, 3),
-    ]
-}
-
-/// What is paid, by portion.
-pub(crate) fn all_paid(rows: &[Row]) -> [u64; 4]
-    requires { HasRoom rows.now }
-    ensures { result ≡ columns_of (λ (row : Sums). row.paid) rows.now }
-{
-    [
-        paid_at(rows, 0),
-        paid_at(rows, 1),
-        paid_at(rows, 2),
-        paid_at(rows, 3),
-    ]
-}
-
-/// What is waived, by portion.
-fn all_waived(rows: &[Row]) -> [u64; 4]
-    requires { HasRoom rows.now }
-    ensures { result ≡ columns_of (λ (row : Sums). row.waived) rows.now }
-{
-    [
-        waived_at(rows, 0),
-        waived_at(rows, 1),
-        waived_at(rows, 2),
-        waived_at(rows, 3),
-    ]
-}
-
-/// What is written off, by portion.
-fn all_written_off(rows: &[Row]) -> [u64; 4]
-    requires { HasRoom rows.now }
-    ensures { result ≡ columns_of (λ (row : Sums). row.written_off) rows.now }
-{
-    [
-        written_off_at(rows, 0),
-        written_off_at(rows, 1),
-        written_off_at(rows, 2),
-        written_off_at(rows, 3),
-    ]
 }
 
 /// What is outstanding, by portion.
@@ -141,10 +95,10 @@ pub(crate) fn book_sums(
 {
     Balances {
         disbursement_fee,
-        owed: all_owed(rows),
-        paid: all_paid(rows),
-        waived: all_waived(rows),
-        written_off: all_written_off(rows),
+        owed: sum_by_portion(rows, Column::Owed),
+        paid: sum_by_portion(rows, Column::Paid),
+        waived: sum_by_portion(rows, Column::Waived),
+        written_off: sum_by_portion(rows, Column::WrittenOff),
         outstanding: all_outstanding(rows),
         overpaid,
         refunded,

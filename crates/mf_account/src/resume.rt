@@ -8,7 +8,7 @@ ghost use Rattle.mf_account.specs.Balance.{HasRoom};
 ghost use Rattle.mf_account.specs.Standing.{entries_at, entry_at, standing};
 ghost use Rattle.mf_account.specs.Loan.{Loan, IsSound, state_of_loan};
 
-use crate::balances::all_paid;
+use crate::balances::{Column, sum_by_portion};
 use crate::effect::money_in;
 use crate::entry::{Entry, Kind};
 use crate::settled::Book;
@@ -34,7 +34,7 @@ fn money_paid(rows: &[Row]) -> u64
     requires room { sum_at (λ (row : Sums). row.paid) 0 rows.now + sum_at (λ (row : Sums). row.paid) 1 rows.now + sum_at (λ (row : Sums). row.paid) 2 rows.now + sum_at (λ (row : Sums). row.paid) 3 rows.now < 2 ^ 64 }
     ensures { result ≡ sum_at (λ (row : Sums). row.paid) 0 rows.now + sum_at (λ (row : Sums). row.paid) 1 rows.now + sum_at (λ (row : Sums). row.paid) 2 rows.now + sum_at (λ (row : Sums). row.paid) 3 rows.now }
 {
-    let paid = all_paid(rows);
+    let paid = sum_by_portion(rows, Column::Paid);
     paid[0] + paid[1] + paid[2] + paid[3]
 }
 

@@ -15,7 +15,7 @@ use Rattle.mf_alloc.specs.declared.row.Portion.{Portion}
 use Rattle.mf_alloc.specs.declared.row.Portion.TheVariants.{Penalty, Fee, Interest, Principal}
 use Rattle.mf_alloc.specs.Sums.{open_at}
 use Rattle.mf_alloc.specs.Order.{standard}
-use Rattle.mf_alloc.specs.Rows.{outstanding, no_row, row_at, raised, lowered, changed, pay_row, unpay_row, pay_into, take_out, with_paid, without_paid, place_in_row, IsCell, IsPayable}
+use Rattle.mf_alloc.specs.Rows.{outstanding, no_row, row_at, plus_at, minus_at, changed, pay_row, unpay_row, pay_into, take_out, with_paid, without_paid, place_in_row, IsCell, IsPayable}
 use Rattle.mf_alloc.specs.OrderLaws.{IsOrder}
 use Rattle.mf_alloc.specs.Payment.{start, share_at, is_some_share, shares_below, total_of, shares_of, rest_of}
 
@@ -51,8 +51,8 @@ shares_below-push order rows amount k so_far all cell paid before more here much
     more ∙ ap (λ x. x ++ share ∷ []) before ∙ sym (shares_below-with order rows amount k share is some)
 
 -- what was raised and then lowered
-pub lowered-raised : (sums : List ℕ) (p amount : ℕ) → lowered (raised sums p amount) p amount ≡ sums
-lowered-raised sums p amount =
+pub minus_at-plus_at : (sums : List ℕ) (p amount : ℕ) → minus_at (plus_at sums p amount) p amount ≡ sums
+minus_at-plus_at sums p amount =
     elim (cases_lt p (length sums)) [
       | inl within ↦
           let read : get_or (set sums p (get_or sums p 0 + amount)) p 0 ≡ get_or sums p 0 + amount = get_or-set_same sums p (get_or sums p 0 + amount) 0 within in
@@ -62,7 +62,7 @@ lowered-raised sums p amount =
     ]
 
 pub unpay-pay : (p amount : ℕ) (row : Row) → unpay_row p amount (pay_row p amount row) ≡ row
-unpay-pay p amount row = ap (λ (sums : List ℕ). record row { paid = sums }) (lowered-raised row.paid p amount)
+unpay-pay p amount row = ap (λ (sums : List ℕ). record row { paid = sums }) (minus_at-plus_at row.paid p amount)
 
 -- a row changed and changed back
 pub changed-back : (rows : List Row) (instalment : ℕ) (there back : Row → Row) → ((row : Row) → back (there row) ≡ row) → changed (changed rows instalment there) instalment back ≡ rows

@@ -31,21 +31,21 @@ abbrev pub outstanding : List Row → Cell → ℕ
 outstanding rows cell = open_at (row_at rows cell.instalment) (place_in_row cell.portion)
 
 -- one sum raised or lowered
-abbrev pub raised : List ℕ → ℕ → ℕ → List ℕ
-raised sums p amount = slice_set sums p (slice_index sums p + amount)
+abbrev pub plus_at : List ℕ → ℕ → ℕ → List ℕ
+plus_at sums p amount = slice_set sums p (slice_index sums p + amount)
 
-abbrev pub lowered : List ℕ → ℕ → ℕ → List ℕ
-lowered sums p amount = slice_set sums p (slice_index sums p - amount)
+abbrev pub minus_at : List ℕ → ℕ → ℕ → List ℕ
+minus_at sums p amount = slice_set sums p (slice_index sums p - amount)
 
 -- one instalment's row changed
 abbrev pub changed : List Row → ℕ → (Row → Row) → List Row
 changed rows instalment change = slice_set rows (instalment - 1) (change (row_at rows instalment))
 
 abbrev pub pay_row : ℕ → ℕ → Row → Row
-pay_row p amount row = record row { paid = raised row.paid p amount }
+pay_row p amount row = record row { paid = plus_at row.paid p amount }
 
 abbrev pub unpay_row : ℕ → ℕ → Row → Row
-unpay_row p amount row = record row { paid = lowered row.paid p amount }
+unpay_row p amount row = record row { paid = minus_at row.paid p amount }
 
 -- a share is paid into its cell, or taken out of it
 abbrev pub pay_into : List Row → Share → List Row

@@ -1,5 +1,5 @@
 ghost use Rattle.std.specs.Prelude.{◌≡◌, ℕ, ◌+◌, ◌*◌, ◌<◌, ◌≤◌, ◌^◌, List, [], ◌∷◌, ◌++◌};
-ghost use Rattle.mf_arrears.specs.Line.{Line, IsLine, Loan, line_of, with_loan, par30_of};
+ghost use Rattle.mf_arrears.specs.Line.{Line, IsLine, Loan, line_of, with_loan, part_of, par30_of};
 
 use crate::ageing::class;
 use mf_base::half_even;
@@ -84,10 +84,20 @@ impl OfficeLine {
     pub fn par30(&self) -> u128
         ensures { result ≡ par30_of self.now }
     {
-        if self.loans == 0 || self.outstanding == 0 {
-            return 0;
-        }
+        let (loans, outstanding) = (self.loans, self.outstanding);
         let risk = self.c31_60 + self.c61_90 + self.over_90;
-        half_even(10000 * risk, self.outstanding)
+        part_at_risk(loans, outstanding, risk)
     }
+}
+
+/// What is at risk of what so many loans have outstanding, in hundredths of a percent; 0 where nothing is outstanding.
+pub(crate) fn part_at_risk(loans: u64, outstanding: u128, risk: u128) -> u128
+    requires most { outstanding ≤ 10 ^ 12 * loans }
+    requires part { risk ≤ outstanding }
+    ensures { result ≡ part_of outstanding risk }
+{
+    if outstanding == 0 {
+        return 0;
+    }
+    half_even(10000 * risk, outstanding)
 }

@@ -4,8 +4,8 @@ ghost use Rattle.mf_base.specs.Texts.{right};
 ghost use Rattle.mf_arrears.specs.Line.{Line, IsLine, par30_of};
 ghost use Rattle.mf_arrears.specs.Report.{columns_of, columns, sums_of, line_text, all_text, total_of, plus as plus_line, report_bytes};
 
-use crate::line::OfficeLine;
-use mf_base::{Fault, half_even, money_text, push_right};
+use crate::line::{OfficeLine, part_at_risk};
+use mf_base::{Fault, money_text, push_right};
 use std::alloc::Global;
 use std::marker::Model;
 
@@ -59,11 +59,9 @@ impl Totals {
     fn par30(&self) -> u128
         ensures { result ≡ par30_of self.now }
     {
-        if self.loans == 0 || self.outstanding == 0 {
-            return 0;
-        }
+        let (loans, outstanding) = (self.loans, self.outstanding);
         let risk = self.c31_60 + self.c61_90 + self.over_90;
-        half_even(10000 * risk, self.outstanding)
+        part_at_risk(loans, outstanding, risk)
     }
 }
 
