@@ -12,7 +12,6 @@ mod request;
 mod store;
 
 pub use commit::Commit;
-pub use laws::{hidden_is_missing, isolation, soundness, tree_of_offices};
 pub use listing::{Listing, LoanList, OfficeList};
 pub use loan::{Loan, LoanLine, Stage};
 pub use names::is_name;

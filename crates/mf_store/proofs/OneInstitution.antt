@@ -3,9 +3,11 @@ use Rattle.std.proofs.Common.{◌≡◌, ◌<◌, ◌+◌, ◌∙◌, ℕ, suc, 
 use Rattle.std.specs.List.{prefix_len}
 use Rattle.std.proofs.lemmas.Bool.Decides.{nat_tests}
 use Rattle.std.proofs.lemmas.List.Sums.{take_while-cons}
+use Rattle.mf_base.specs.Choices.{frequency_number}
 use Rattle.mf_base.specs.DayText.{day_text}
 use Rattle.mf_base.specs.declared.day.Freq.{Freq}
 use Rattle.mf_base.specs.declared.day.Freq.TheVariants.{Weeks, Months}
+use Rattle.mf_catalog.specs.Names.{kind_number, calc_number, method_number, strategy_number}
 use Rattle.mf_catalog.specs.declared.charge.ChargeKind.{ChargeKind}
 use Rattle.mf_catalog.specs.declared.charge.ChargeKind.TheVariants.{Disbursement, Instalment, Overdue, DueDate}
 use Rattle.mf_catalog.specs.declared.charge.Calc.{Calc}
@@ -14,6 +16,7 @@ use Rattle.mf_catalog.specs.declared.terms.Method.{Method}
 use Rattle.mf_catalog.specs.declared.terms.Method.TheVariants as method
 use Rattle.mf_catalog.specs.declared.terms.StrategyName.{StrategyName}
 use Rattle.mf_catalog.specs.declared.terms.StrategyName.TheVariants.{MifosStandard, PrincipalFirst, InterestFirst, DueFirst}
+use Rattle.mf_office.specs.Roles.{role_number}
 use Rattle.mf_office.specs.declared.staff.Role.{Role}
 use Rattle.mf_office.specs.declared.staff.Role.TheVariants.{Teller, Officer, Manager}
 use Rattle.mf_model.specs.Institution.{Institution, Charge, Offer, Office, Rows, Staff, no_rows}
@@ -30,8 +33,7 @@ use Rattle.mf_store_records.specs.declared.clients.ClientRow.{ClientRow}
 use Rattle.mf_store_records.specs.declared.charges.ChargeRow.{ChargeRow}
 use Rattle.mf_store_records.specs.declared.products.ProductRow.{ProductRow}
 use Rattle.mf_store_records.specs.declared.loans.LoanRow.{LoanRow}
-use Rattle.mf_store_records.specs.Numbers.{role_number, kind_number, calc_number, method_number, frequency_number, strategy_number, flag_number}
-use Rattle.mf_store.specs.Flat.{approval_text, office_under, meta_on, staff_in, client_in, charge_as, product_as, loan_in, numbered_from, all_rows, tables_of}
+use Rattle.mf_store.specs.Flat.{flag_number, approval_text, office_under, meta_on, staff_in, client_in, charge_as, product_as, loan_in, numbered_from, all_rows, tables_of}
 use Rattle.mf_store_records.specs.Rows.{Lists}
 
 -- ---- rows in the order of their offices: those of the first office, and those of later ones

@@ -11,7 +11,7 @@ use crate::counts::{Kind, MOST};
 use crate::known::News;
 use crate::store::Store;
 use crate::stored::{flag_from, signed, stored, unsigned};
-use mf_base::{Day, Fault, Freq, Name};
+use mf_base::{Choice, Day, Fault, Freq, Name};
 use mf_catalog::{Calc, ChargeDef, ChargeKind, Method, Product, ProductMembers, StrategyName};
 use mf_model::CatalogueCounts;
 use mf_store_records::{ChargeRow, MetaRow, ProductRow, StoreWrite, Text};

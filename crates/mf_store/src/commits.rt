@@ -11,8 +11,8 @@ ghost use Rattle.mf_model.specs.declared.commit.Commit.TheVariants.{AddOffice, A
 use crate::counts::MOST;
 use crate::known::News;
 use crate::store::Store;
-use mf_base::Fault;
-use mf_model::{Counts, tree_of_offices};
+use mf_base::{Choice, Fault};
+use mf_model::{Counts, laws};
 use mf_office::{Name, OfficeNo, Role};
 use mf_store_records::{ClientRow, OfficeRow, StaffRow, StoreWrite, Text};
 use sqlite::Alter;
@@ -47,7 +47,7 @@ impl<S: Alter> Store<S> {
         ensures shuts { FaultsAloneShut S.Store self.old self.new }
         ensures open { IsClean S.Store self.new → OnOk result (IsOpen S.Store self.new) }
     {
-        tree_of_offices();
+        laws::tree_of_offices();
         let parent = parent.get();
         let taken = self.has_office(number.get())?;
         if taken {

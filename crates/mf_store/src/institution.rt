@@ -6,7 +6,7 @@ ghost use Rattle.mf_model.specs.Institution.{Institution};
 
 use crate::store::Store;
 use crate::stored::stored;
-use mf_base::{Day, Fault};
+use mf_base::{Choice, Day, Fault};
 use mf_catalog::{ChargeDef, Product};
 use mf_model::{CatalogueCounts, Commit, Counts, InstitutionStore, Loan, LoanList, OfficeList};
 use mf_office::{Account, Caller, Name, OfficeNo, Role};

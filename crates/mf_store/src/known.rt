@@ -92,6 +92,13 @@ fn copied(alloc: Global, key: &Key) -> Option<Key>
     }
 }
 
+/// The same product, where there is memory for it.
+fn copied_product(product: &Product) -> Option<Product>
+    ensures { IfSome result (λ copy. copy ≡ product.now) }
+{
+    product.clone().ok()
+}
+
 impl Known {
     /// Nothing is known.
     pub(crate) fn nothing(alloc: Global) -> Result<Known, Fault>
@@ -163,7 +170,7 @@ impl Known {
     {
         match self.products.peek(&number) {
             None => None,
-            Some(product) => product.clone().ok(),
+            Some(product) => copied_product(product),
         }
     }
 
@@ -189,7 +196,7 @@ impl Known {
     pub(crate) fn learn_product(&mut self, number: u32, product: &Product)
         ensures { (i : Institution) → AreTrueOf self.old i → product_in i.catalogue number ≡ Some product.now → AreTrueOf self.new i }
     {
-        let Ok(copy) = product.clone() else {
+        let Some(copy) = copied_product(product) else {
             return;
         };
         let _kept = self.products.put(number, copy);

@@ -11,7 +11,7 @@ ghost use Rattle.mf_store.specs.Flat.{staff_in, client_in, loan_in, numbered_fro
 use crate::loans::loan_from;
 use crate::store::Store;
 use crate::stored::stored;
-use mf_base::Fault;
+use mf_base::{Choice, Fault};
 use mf_model::Loan;
 use mf_office::{Name, OfficeNo, Role};
 use mf_store_records::{ClientRow, LoanRow, StaffRow, read_row};

@@ -17,7 +17,7 @@ use crate::first::first_writes;
 use crate::known::{Known, News};
 use mf_base::{Day, Fault};
 use mf_catalog::Product;
-use mf_model::{CatalogueCounts, Counts, soundness};
+use mf_model::{CatalogueCounts, Counts, laws};
 use mf_office::{Caller, Key, Role};
 use mf_store_records::{
     Listed, StoreWrite, Table, find_row, list_rows, loans_above, offices_within,
@@ -131,7 +131,7 @@ impl<S: Alter> Store<S> {
         ensures open { IfOk result (λ store. IsClean S.Store store → IsOpen S.Store store) }
         ensures gives_up { IfErr result (λ fault. fault ≡ F20) }
     {
-        soundness();
+        laws::soundness();
         let writes = first_writes(alloc, day)?;
         let known = Known::nothing(alloc)?;
         match apply(&mut connection, &writes) {

@@ -11,7 +11,7 @@ ghost use Rattle.mf_store_records.specs.Rows.{office_row};
 
 use crate::store::Store;
 use mf_base::Fault;
-use mf_model::{OfficeList, tree_of_offices};
+use mf_model::{OfficeList, laws};
 use mf_office::{Key, Office, OfficeNo, depth_by_key, in_range};
 use mf_store_records::{OfficeRow, read_row};
 use sqlite::{Alter, Row};
@@ -137,7 +137,7 @@ impl<S: Alter> Store<S> {
         ensures open { IsClean S.Store self.new → IsOpen S.Store self.old → OnOk result (IsOpen S.Store self.new) }
         ensures value { IsClean S.Store self.new → (i : Institution) → StandsFor S.Store self.old i → IfOk result (λ seen. seen ≡ is_some (seen_office to office i)) }
     {
-        tree_of_offices();
+        laws::tree_of_offices();
         let above = self.kept_key(alloc, to.get())?;
         let below = self.kept_key(alloc, office.get())?;
         is_below(alloc, above, below)
@@ -150,7 +150,7 @@ impl<S: Alter> Store<S> {
         ensures open { IsClean S.Store self.new → OnOk result (IsOpen S.Store self.new) }
         ensures value { IsClean S.Store self.new → (i : Institution) → StandsFor S.Store self.old i → IfOk result (λ room. room ≡ is_within 4 (parent_of i.offices) office 1) }
     {
-        tree_of_offices();
+        laws::tree_of_offices();
         depth_by_key();
         let key = self.key(office.get())?;
         Ok(has_room_below(&key))
@@ -163,7 +163,7 @@ impl<S: Alter> Store<S> {
         ensures open { IsClean S.Store self.new → IsOpen S.Store self.old → OnOk result (IsOpen S.Store self.new) }
         ensures value { IsClean S.Store self.new → (i : Institution) → StandsFor S.Store self.old i → IfOk result (λ list. list ≡ map line_of (seen_by to i.offices)) }
     {
-        tree_of_offices();
+        laws::tree_of_offices();
         let found = self.kept_key(alloc, to.get())?;
         let Some(above) = found else {
             return Ok(OfficeList::new(Vec::new(alloc)));

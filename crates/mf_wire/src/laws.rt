@@ -15,7 +15,7 @@ ghost use Rattle.mf_wire.specs.Runs.{RunsOn, texts_of};
 ghost use Rattle.mf_wire.specs.Senders.{IsOneLine};
 
 use mf_base::Fault;
-use mf_model::{InstitutionStore, hidden_is_missing};
+use mf_model::{InstitutionStore, laws};
 
 /// The text of each reply ends with its only line feed. So the bytes that a run writes determine its texts: two lists
 /// of such texts that make the same bytes are the same.
@@ -43,5 +43,5 @@ pub fn hidden_and_missing_read_alike()
         IsUnseen c asked a i → IsUnseen c asked b i → call_of line ≡ sent c (asked_of asked a) → call_of other ≡ sent c (asked_of asked b) →
         shown_line (reply (call_of line) i) ≡ shown_line (reply (call_of other) i) }
 {
-    hidden_is_missing();
+    laws::hidden_is_missing();
 }

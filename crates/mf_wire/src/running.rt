@@ -6,7 +6,7 @@ ghost use Rattle.mf_wire.specs.Streams.{Ends};
 
 use crate::answering::Desk;
 use mf_base::{Cause, StreamFault};
-use mf_model::{InstitutionStore, isolation};
+use mf_model::{InstitutionStore, laws};
 use mf_wire_lines::{Sink, Source, run_lines};
 use mf_wire_requests::Routes;
 use std::alloc::Global;
@@ -41,7 +41,7 @@ pub fn run<S: InstitutionStore, R: Source, W: Sink>(
     }) result }
     ensures memory { IfErr result (λ f. f.cause ≡ cause.Memory → (source.new ≡ source.old) × (sink.new ≡ sink.old)) }
 {
-    isolation();
+    laws::isolation();
     let Ok(routes) = Routes::new(alloc) else {
         return Err(StreamFault {
             answered: 0,
