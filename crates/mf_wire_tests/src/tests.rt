@@ -12,6 +12,7 @@ use mf_desk_books::streams::{BRANCHES, BRANCHES_REPLIES, FIRST, FIRST_REPLIES};
 use mf_wire::{answer_text, run};
 use mf_wire_lines::{WatchedReader, WatchedWriter, fault_text};
 use std::alloc::Global;
+use std::process::Abort;
 use std::test::Fail;
 use streams::{Narrow, Torn};
 
@@ -68,40 +69,30 @@ fn replies(alloc: Global, books: &mut Books, stream: &[u8]) -> Result<(u64, Vec<
     }
 }
 
-fn is_answered(told: &Result<(u16, String), Fault>, status: u16, body: &str) -> bool {
-    match told {
-        Ok(text) => text.0 == status && text.1.as_str() == body,
-        Err(_) => false,
+/// A new institution gives these replies to a stream, and answers so many of its lines.
+fn assert_replies(
+    rt: &impl Abort,
+    alloc: Global,
+    stream: &[u8],
+    answered: u64,
+    expected: &str,
+) -> Result<(), Fail> {
+    let mut books = new_books(alloc)?;
+    let (count, written) = replies(alloc, &mut books, stream)?;
+    assert_eq!(rt; count, answered);
+    assert_eq!(rt; written.as_slice(), expected.as_bytes());
+    Ok(())
+}
+
+#[test]
+fn each_line_gets_its_reply(rt: HostRuntime) -> Result<(), Fail> {
+    for (stream, answered, expected) in [
+        (FIRST.as_bytes(), 8, FIRST_REPLIES),
+        (BRANCHES.as_bytes(), 10, BRANCHES_REPLIES),
+        (MALFORMED, 14, MALFORMED_REPLIES),
+    ] {
+        assert_replies(&rt, rt.alloc(), stream, answered, expected)?;
     }
-}
-
-#[test]
-fn a_client_is_entered_and_read(rt: HostRuntime) -> Result<(), Fail> {
-    let alloc = rt.alloc();
-    let mut books = new_books(alloc)?;
-    let (count, written) = replies(alloc, &mut books, FIRST.as_bytes())?;
-    assert_eq!(rt; count, 8);
-    assert_eq!(rt; written.as_slice(), FIRST_REPLIES.as_bytes());
-    Ok(())
-}
-
-#[test]
-fn branches_see_their_own(rt: HostRuntime) -> Result<(), Fail> {
-    let alloc = rt.alloc();
-    let mut books = new_books(alloc)?;
-    let (count, written) = replies(alloc, &mut books, BRANCHES.as_bytes())?;
-    assert_eq!(rt; count, 10);
-    assert_eq!(rt; written.as_slice(), BRANCHES_REPLIES.as_bytes());
-    Ok(())
-}
-
-#[test]
-fn malformed_lines(rt: HostRuntime) -> Result<(), Fail> {
-    let alloc = rt.alloc();
-    let mut books = new_books(alloc)?;
-    let (count, written) = replies(alloc, &mut books, MALFORMED)?;
-    assert_eq!(rt; count, 14);
-    assert_eq!(rt; written.as_slice(), MALFORMED_REPLIES.as_bytes());
     Ok(())
 }
 
@@ -109,7 +100,6 @@ fn malformed_lines(rt: HostRuntime) -> Result<(), Fail> {
 #[test]
 fn the_longest_line(rt: HostRuntime) -> Result<(), Fail> {
     let alloc = rt.alloc();
-    let mut books = new_books(alloc)?;
     let begin = b"1/1 GET /offices ";
     let mut stream = Vec::new(alloc);
     for length in [65536usize, 65537, 70000] {
@@ -120,10 +110,7 @@ fn the_longest_line(rt: HostRuntime) -> Result<(), Fail> {
         stream.extend_from_slice(b"\r\n")?;
     }
     stream.extend_from_slice(b"1/1 GET /clients/0001-000001")?;
-    let (count, written) = replies(alloc, &mut books, stream.as_slice())?;
-    assert_eq!(rt; count, 4);
-    assert_eq!(rt; written.as_slice(), LONGEST_REPLIES.as_bytes());
-    Ok(())
+    assert_replies(&rt, alloc, stream.as_slice(), 4, LONGEST_REPLIES)
 }
 
 /// The reader fails within the third line: two are answered, and the third is not run.
@@ -147,16 +134,22 @@ fn a_reader_that_fails(rt: HostRuntime) -> Result<(), Fail> {
         sink.into_inner().as_slice(),
         b"201 {\"client\":\"0001-000001\"}\n404 {\"fault\":\"F5\"}\n".as_slice()
     );
-    let third = answer_text(
-        alloc,
-        &mut books,
-        b"1/1",
-        b"GET",
-        b"/clients/0001-000002",
-        b"",
-    );
+    let client = b"/clients/0001-000002";
+    let third = answer_text(alloc, &mut books, b"1/1", b"GET", client, b"");
     assert_eq!(rt; third.err(), Some(Fault::F4));
     Ok(())
+}
+
+/// What a run over the first stream ends with, and the bytes that the writer has taken.
+fn run_into(
+    alloc: Global,
+    books: &mut Books,
+    writer: Narrow,
+) -> (Result<u64, StreamFault>, Vec<u8>) {
+    let mut source = WatchedReader::new(FIRST.as_bytes());
+    let mut sink = WatchedWriter::new(writer);
+    let told = run(alloc, books, &mut source, &mut sink);
+    (told, sink.into_inner().taken)
 }
 
 /// The writer takes ten bytes and then fails: the client stands.
@@ -164,56 +157,29 @@ fn a_reader_that_fails(rt: HostRuntime) -> Result<(), Fail> {
 fn a_writer_that_fails(rt: HostRuntime) -> Result<(), Fail> {
     let alloc = rt.alloc();
     let mut books = new_books(alloc)?;
-    let mut source = WatchedReader::new(FIRST.as_bytes());
-    let mut sink = WatchedWriter::new(Narrow {
-        taken: Vec::new(alloc),
-        step: 100,
-        room: 10,
-    });
-    let told = run(alloc, &mut books, &mut source, &mut sink);
+    let (told, taken) = run_into(alloc, &mut books, Narrow::new(alloc, 100, 10));
     let fault = StreamFault {
         answered: 0,
         cause: Cause::Write,
     };
     assert_eq!(rt; told.err(), Some(fault));
+    assert_eq!(rt; taken.as_slice(), b"201 {\"clie".as_slice());
+    let client = b"/clients/0001-000001";
+    let (status, body) = answer_text(alloc, &mut books, b"1/1", b"GET", client, b"")?;
+    assert_eq!(rt; status, 200);
     assert_eq!(rt;
-        sink.into_inner().taken.as_slice(),
-        b"201 {\"clie".as_slice()
-    );
-    let shown = answer_text(
-        alloc,
-        &mut books,
-        b"1/1",
-        b"GET",
-        b"/clients/0001-000001",
-        b"",
-    );
-    assert!(rt;
-        is_answered(
-            &shown,
-            200,
-            "{\"client\":\"0001-000001\",\"name\":\"Amina\"}"
-        )
+        body.as_str(),
+        "{\"client\":\"0001-000001\",\"name\":\"Amina\"}"
     );
     Ok(())
 }
 
 #[test]
 fn a_writer_of_one_byte_a_call(rt: HostRuntime) -> Result<(), Fail> {
-    let alloc = rt.alloc();
-    let mut books = new_books(alloc)?;
-    let mut source = WatchedReader::new(FIRST.as_bytes());
-    let mut sink = WatchedWriter::new(Narrow {
-        taken: Vec::new(alloc),
-        step: 1,
-        room: 1000000,
-    });
-    let told = run(alloc, &mut books, &mut source, &mut sink);
+    let mut books = new_books(rt.alloc())?;
+    let (told, taken) = run_into(rt.alloc(), &mut books, Narrow::new(rt.alloc(), 1, 1000000));
     assert_eq!(rt; told.ok(), Some(8));
-    assert_eq!(rt;
-        sink.into_inner().taken.as_slice(),
-        FIRST_REPLIES.as_bytes()
-    );
+    assert_eq!(rt; taken.as_slice(), FIRST_REPLIES.as_bytes());
     Ok(())
 }
 

@@ -1,6 +1,6 @@
 //! Bodies at the limits of what is read.
 
-use super::{new_books, replies};
+use super::assert_replies;
 use std::alloc::{AllocError, Global};
 use std::test::Fail;
 
@@ -45,9 +45,6 @@ fn stream(alloc: Global) -> Result<Vec<u8>, AllocError> {
 /// 127 levels and 100 characters are read. One more of either is not, nor is what isn't UTF-8.
 #[test]
 fn limits_of_a_body(rt: HostRuntime) -> Result<(), Fail> {
-    let mut books = new_books(rt.alloc())?;
     let stream = stream(rt.alloc())?;
-    let (_, told) = replies(rt.alloc(), &mut books, stream.as_slice())?;
-    assert_eq!(rt; told.as_slice(), LIMITS_REPLIES.as_bytes());
-    Ok(())
+    assert_replies(&rt, rt.alloc(), stream.as_slice(), 5, LIMITS_REPLIES)
 }

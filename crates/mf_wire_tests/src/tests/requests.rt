@@ -69,76 +69,62 @@ fn a_charge_of_a_product_may_be_null_or_absent(rt: HostRuntime) -> Result<(), Fa
     Ok(())
 }
 
+/// Members and path numbers at their limits and one past them. Requests that have no members read no body. The route is
+/// looked for before the method, and the method before what the path names.
 #[test]
-fn thirteen_months_are_no_step(rt: HostRuntime) -> Result<(), Fail> {
-    let told = refusal(rt.alloc(), "POST", "/products", THIRTEEN_MONTHS)?;
-    assert_eq!(rt; told, Some(Fault::F1));
-    Ok(())
-}
-
-/// Members and path numbers one past their limits.
-#[test]
-fn past_the_limits(rt: HostRuntime) -> Result<(), Fail> {
-    for (method, path, body) in [
-        ("PUT", "/business-day", "{\"day\":\"2100-01-01\"}"),
-        ("PUT", "/business-day", "{\"day\":\"2023-02-29\"}"),
+fn limits_and_routes(rt: HostRuntime) -> Result<(), Fail> {
+    for (method, path, body, expected) in [
+        ("PUT", "/business-day", "{\"day\":\"2099-12-31\"}", None),
         (
-            "POST",
-            "/charges",
-            "{\"name\":\"Visit\",\"kind\":\"overdue\",\"calc\":\"percent-of-amount\",\"value\":10001}",
+            "PUT",
+            "/business-day",
+            "{\"day\":\"2100-01-01\"}",
+            Some(Fault::F1),
         ),
         (
-            "POST",
-            "/loans",
-            "{\"client\":\"0001-000001\",\"product\":1,\"principal\":0,\"periods\":3}",
+            "PUT",
+            "/business-day",
+            "{\"day\":\"2023-02-29\"}",
+            Some(Fault::F1),
         ),
-        ("GET", "/charges/0000000001", ""),
-        ("GET", "/offices/1/loans/1000000", ""),
-        ("POST", "/products", LONGER_LOANS),
-    ] {
-        assert_eq!(rt; refusal(rt.alloc(), method, path, body)?, Some(Fault::F1));
-    }
-    Ok(())
-}
-
-/// The same at their limits. Requests that have no members read no body.
-#[test]
-fn at_the_limits(rt: HostRuntime) -> Result<(), Fail> {
-    for (method, path, body) in [
-        ("PUT", "/business-day", "{\"day\":\"2099-12-31\"}"),
         (
             "POST",
             "/charges",
             "{\"name\":\"Visit\",\"kind\":\"due-date\",\"calc\":\"flat\",\"value\":1000000000000}",
+            None,
+        ),
+        (
+            "POST",
+            "/charges",
+            "{\"name\":\"Visit\",\"kind\":\"overdue\",\"calc\":\"percent-of-amount\",\"value\":10001}",
+            Some(Fault::F1),
         ),
         (
             "POST",
             "/loans",
             "{\"client\":\"0001-000001\",\"product\":0,\"principal\":1,\"periods\":360}",
+            None,
         ),
-        ("POST", "/products/000000001/retire", "no body"),
-        ("POST", "/loans/0001-000001/undo-approval", ""),
-        ("GET", "/offices/1/loans/999999", ""),
-        ("POST", "/products", LONGEST_LOANS),
+        (
+            "POST",
+            "/loans",
+            "{\"client\":\"0001-000001\",\"product\":1,\"principal\":0,\"periods\":3}",
+            Some(Fault::F1),
+        ),
+        ("POST", "/products", LONGEST_LOANS, None),
+        ("POST", "/products", LONGER_LOANS, Some(Fault::F1)),
+        ("POST", "/products", THIRTEEN_MONTHS, Some(Fault::F1)),
+        ("POST", "/products/000000001/retire", "no body", None),
+        ("POST", "/loans/0001-000001/undo-approval", "", None),
+        ("POST", "/loans/1/approve", "", Some(Fault::F1)),
+        ("GET", "/offices/1/loans/999999", "", None),
+        ("GET", "/offices/1/loans/1000000", "", Some(Fault::F1)),
+        ("GET", "/offices/1/loans", "", Some(Fault::F5)),
+        ("GET", "/charges/0000000001", "", Some(Fault::F1)),
+        ("PUT", "/charges/x", "", Some(Fault::F6)),
+        ("GET", "/loans/", "", Some(Fault::F5)),
     ] {
-        assert_eq!(rt; refusal(rt.alloc(), method, path, body)?, None);
+        assert_eq!(rt; refusal(rt.alloc(), method, path, body)?, expected);
     }
-    Ok(())
-}
-
-/// The route is looked for before the method, and the method before what the path names.
-#[test]
-fn routes_and_their_methods(rt: HostRuntime) -> Result<(), Fail> {
-    let alloc = rt.alloc();
-    assert_eq!(rt; refusal(alloc, "PUT", "/charges/x", "")?, Some(Fault::F6));
-    assert_eq!(rt; refusal(alloc, "GET", "/loans/", "")?, Some(Fault::F5));
-    assert_eq!(rt;
-        refusal(alloc, "POST", "/loans/1/approve", "")?,
-        Some(Fault::F1)
-    );
-    assert_eq!(rt;
-        refusal(alloc, "GET", "/offices/1/loans", "")?,
-        Some(Fault::F5)
-    );
     Ok(())
 }

@@ -1,5 +1,6 @@
 //! A reader that fails in mid-stream, and a writer that takes few bytes.
 
+use std::alloc::Global;
 use std::io;
 use std::io::{Read, Write};
 
@@ -29,6 +30,16 @@ pub struct Narrow {
     pub taken: Vec<u8>,
     pub step: usize,
     pub room: usize,
+}
+
+impl Narrow {
+    pub fn new(alloc: Global, step: usize, room: usize) -> Narrow {
+        Narrow {
+            taken: Vec::new(alloc),
+            step,
+            room,
+        }
+    }
 }
 
 impl Write for Narrow {

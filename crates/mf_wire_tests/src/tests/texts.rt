@@ -7,6 +7,7 @@ use mf_model::{Loan, LoanLine, LoanList, LoanReply, Reply, Stage};
 use mf_office::{Account, AccountNo, OfficeNo};
 use mf_wire_replies::{body_text, status};
 use std::alloc::Global;
+use std::process::Abort;
 use std::test::Fail;
 
 const CHARGE: &str =
@@ -33,76 +34,68 @@ fn first_loan() -> Result<Account, Fault> {
     Ok(Account { office, number })
 }
 
-#[test]
-fn a_day_is_shown(rt: HostRuntime) -> Result<(), Fail> {
-    let day = Day::parse(b"2024-01-31").ok_or(Fault::F1)?;
-    let body = body_text(rt.alloc(), &Reply::DayShown(day))?;
-    assert_eq!(rt; body.as_str(), "{\"day\":\"2024-01-31\"}");
+fn assert_text(
+    rt: &impl Abort,
+    alloc: Global,
+    reply: &Reply,
+    number: u16,
+    body: &str,
+) -> Result<(), Fail> {
+    assert_eq!(rt; status(reply), number);
+    assert_eq!(rt; body_text(alloc, reply)?.as_str(), body);
     Ok(())
 }
 
 #[test]
+fn a_day_is_shown(rt: HostRuntime) -> Result<(), Fail> {
+    let day = Day::parse(b"2024-01-31").ok_or(Fault::F1)?;
+    let reply = Reply::DayShown(day);
+    assert_text(&rt, rt.alloc(), &reply, 200, "{\"day\":\"2024-01-31\"}")
+}
+
+#[test]
 fn a_charge_is_shown(rt: HostRuntime) -> Result<(), Fail> {
-    let charge = ChargeDef {
+    let reply = Reply::ChargeShown(ChargeDef {
         number: 1,
         name: name(rt.alloc(), "Visit")?,
         kind: ChargeKind::DueDate,
         calc: Calc::Flat,
         value: 500,
-    };
-    let body = body_text(rt.alloc(), &Reply::ChargeShown(charge))?;
-    assert_eq!(rt; body.as_str(), CHARGE);
-    Ok(())
+    });
+    assert_text(&rt, rt.alloc(), &reply, 200, CHARGE)
 }
 
 #[test]
-fn a_product_is_shown(rt: HostRuntime) -> Result<(), Fail> {
-    let product = Product {
+fn a_product_is_made_and_shown(rt: HostRuntime) -> Result<(), Fail> {
+    let made = Reply::ProductMade(1);
+    assert_text(&rt, rt.alloc(), &made, 201, "{\"product\":1}")?;
+    let shown = Reply::ProductShown(Product {
         number: 1,
         members: members(rt.alloc(), Some(4))?,
         retired: false,
-    };
-    let body = body_text(rt.alloc(), &Reply::ProductShown(product))?;
-    assert_eq!(rt; body.as_str(), PRODUCT);
-    Ok(())
-}
-
-#[test]
-fn a_product_is_made(rt: HostRuntime) -> Result<(), Fail> {
-    let reply = Reply::ProductMade(1);
-    assert_eq!(rt; status(&reply), 201);
-    let body = body_text(rt.alloc(), &reply)?;
-    assert_eq!(rt; body.as_str(), "{\"product\":1}");
-    Ok(())
+    });
+    assert_text(&rt, rt.alloc(), &shown, 200, PRODUCT)
 }
 
 #[test]
 fn a_loan_is_shown_before_disbursement(rt: HostRuntime) -> Result<(), Fail> {
-    let loan = Loan {
+    let shown = LoanReply::Shown(Loan {
         client: AccountNo::new(2).ok_or(Fault::F1)?,
         product: 1,
         principal: 100000,
         periods: 3,
         stage: Stage::Submitted,
-    };
-    let reply = Reply::Loan {
-        loan: first_loan()?,
-        told: LoanReply::Shown(loan),
-    };
-    let body = body_text(rt.alloc(), &reply)?;
-    assert_eq!(rt; body.as_str(), LOAN);
-    Ok(())
-}
-
-#[test]
-fn a_loan_is_rejected(rt: HostRuntime) -> Result<(), Fail> {
-    let reply = Reply::Loan {
-        loan: first_loan()?,
-        told: LoanReply::Status(500),
-    };
-    assert_eq!(rt; status(&reply), 200);
-    let body = body_text(rt.alloc(), &reply)?;
-    assert_eq!(rt; body.as_str(), "{\"loan\":\"0001-000001\",\"status\":500}");
+    });
+    for (told, body) in [
+        (shown, LOAN),
+        (
+            LoanReply::Status(500),
+            "{\"loan\":\"0001-000001\",\"status\":500}",
+        ),
+    ] {
+        let loan = first_loan()?;
+        assert_text(&rt, rt.alloc(), &Reply::Loan { loan, told }, 200, body)?;
+    }
     Ok(())
 }
 
@@ -114,7 +107,5 @@ fn loans_are_listed(rt: HostRuntime) -> Result<(), Fail> {
         status: 100,
     })?;
     let reply = Reply::LoansShown(LoanList::new(loans));
-    let body = body_text(rt.alloc(), &reply)?;
-    assert_eq!(rt; body.as_str(), LOANS);
-    Ok(())
+    assert_text(&rt, rt.alloc(), &reply, 200, LOANS)
 }
