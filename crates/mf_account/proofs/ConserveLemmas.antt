@@ -66,7 +66,7 @@ row_paid row = sum row.paid
 abbrev pub total_paid : List Sums → ℕ
 total_paid rows = sum_by row_paid rows
 
-sum-plus_at : (xs : List ℕ) (p amount : ℕ) → p < length xs → sum (set xs p (get_or xs p 0 + amount)) ≡ sum xs + amount
+pub sum-plus_at : (xs : List ℕ) (p amount : ℕ) → p < length xs → sum (set xs p (get_or xs p 0 + amount)) ≡ sum xs + amount
 sum-plus_at xs p amount within = let at = sum_by-set (λ (x : ℕ). x) xs p (get_or xs p 0 + amount) 0 within in omega (arith, at)
 
 paid-settle_row : (how : How) (p amount : ℕ) (row : Sums) → p < 4 → IsWhole row → row_paid (settle_row how p amount row) ≡ row_paid row + paid_by how amount
@@ -74,7 +74,7 @@ paid-settle_row Paid p amount row small is = sum-plus_at row.paid p amount (omeg
 paid-settle_row Waived p amount row small is = omega arith
 paid-settle_row WrittenOff p amount row small is = omega arith
 
-whole-settled : (rows : List Sums) (part : Part) → AreWhole rows → AreWhole (settle rows part)
+pub whole-settled : (rows : List Sums) (part : Part) → AreWhole rows → AreWhole (settle rows part)
 whole-settled rows part whole = whole-with_settled rows (part ∷ []) whole
 
 paid-with_settled : (rows : List Sums) (parts : List Part) → AreWhole rows → IsSettleable rows parts → total_paid (with_settled rows parts) ≡ total_paid rows + paid_in parts
@@ -91,7 +91,7 @@ paid-with_settled rows (part ∷ parts) whole fits =
     omega (arith, one, own, rest, all)
 
 -- a change that leaves a sum of each row leaves that of all rows
-sum-same : (f : Sums → ℕ) (rows : List Sums) (instalment : ℕ) (change : Sums → Sums) → ((row : Sums) → f (change row) ≡ f row) → sum_by f (changed rows instalment change) ≡ sum_by f rows
+pub sum-same : (f : Sums → ℕ) (rows : List Sums) (instalment : ℕ) (change : Sums → Sums) → ((row : Sums) → f (change row) ≡ f row) → sum_by f (changed rows instalment change) ≡ sum_by f rows
 sum-same f rows instalment change same =
     elim (cases_lt (instalment - 1) (length rows)) [
       | inl within ↦
@@ -150,7 +150,7 @@ held-sound loan sound =
     omega (arith, all, none)
 
 -- four sums, added
-sum-four : (xs : List ℕ) → length xs ≡ 4 → sum xs ≡ get_or xs 0 0 + get_or xs 1 0 + get_or xs 2 0 + get_or xs 3 0
+pub sum-four : (xs : List ℕ) → length xs ≡ 4 → sum xs ≡ get_or xs 0 0 + get_or xs 1 0 + get_or xs 2 0 + get_or xs 3 0
 sum-four [] size = absurd (omega (arith, size))
 sum-four (a ∷ []) size = absurd (omega (arith, size))
 sum-four (a ∷ b ∷ []) size = absurd (omega (arith, size))

@@ -22,3 +22,5 @@ pub mod SealLemmas
 pub mod PenaltyLemmas
 pub mod DueLemmas
 pub mod ClearingLemmas
+pub mod LawfulLemmas
+pub mod ToldLemmas

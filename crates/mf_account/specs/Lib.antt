@@ -1,5 +1,6 @@
 pub mod Kinds
 pub mod Standing
+pub mod Lawful
 pub mod Effect
 pub mod AtOnce
 pub mod Account
@@ -12,3 +13,4 @@ pub mod Balance
 pub mod Undo
 pub mod Rewind
 pub mod ClearingLaw
+pub mod Told

@@ -1,4 +1,4 @@
-ghost use Rattle.std.specs.Prelude.{◌≡◌, ℕ, ◌+◌, ◌-◌, ◌<◌, ◌≤◌, ◌∷◌, [], ◌++◌, IfOk, OnOk, OnErr, IsOkUnless, None, Some, true, false, length, take, insert, sum, slice_index};
+ghost use Rattle.std.specs.Prelude.{◌≡◌, ◌≢◌, ℕ, ◌+◌, ◌-◌, ◌<◌, ◌≤◌, ◌^◌, ◌∷◌, [], ◌++◌, IfOk, IfSome, IsTrue, OnOk, OnErr, IsOkUnless, None, Some, true, false, length, take, insert, sum, slice_index};
 ghost use Rattle.mf_base.specs.declared.fault.Fault.{Fault as FaultNumber};
 ghost use Rattle.mf_base.specs.DayText.{last_entered_day};
 ghost use Rattle.mf_schedule.specs.Fresh.{IsLoanWithinLimits};
@@ -9,10 +9,14 @@ ghost use Rattle.mf_account.specs.Loan.{Loan, IsKept, IsSound, AreEntries, state
 ghost use Rattle.mf_account.specs.Rewind.{IsRedone, state_before, settled_upto};
 ghost use Rattle.mf_account.specs.Balance.{balances_of, repaid};
 ghost use Rattle.mf_account.specs.Refusals.{refusal_of, reversal_refused, is_sealed as is_sealed_by, IsOffered};
+ghost use Rattle.mf_account.specs.Told.{settled_amount, AreRowsSmall, AreNumbered, AreNumberedTo};
 
 use crate::balances::{Balances, book_sums};
 use crate::change::{Change, change_between, unchanged};
 use crate::entry::Entry;
+use crate::lawful::{
+    MOST_ENTRIES, are_days_by, are_entries, can_be_entered, is_loan_within_limits,
+};
 use crate::refusal::{
     admits, is_forbidden, is_out_of_limits, is_out_of_order, is_sealed, reversal, status,
 };
@@ -26,9 +30,6 @@ use mf_catalog::Terms;
 use mf_schedule::{Instalment, disbursement_fee, fresh};
 use std::alloc::Global;
 use std::marker::Model;
-
-/// The most entries that a loan may have.
-const MOST_ENTRIES: usize = 9999;
 
 /// The account of a disbursed loan. It is what its terms, its day of disbursement and its entries make it: the effects
 /// of the standing entries, in order of day and number, on the fresh schedule with nothing paid.
@@ -90,6 +91,31 @@ impl LoanAccount {
             settled,
             change: unchanged(alloc),
         })
+    }
+
+    /// The account of what was read of a loan, or None where that can be no loan's: terms or sums outside the limits, a day
+    /// that can't be entered, or entries that are not those of one loan. Only a want of memory is refused.
+    pub fn of_entries(
+        alloc: Global,
+        terms: Terms,
+        principal: u64,
+        periods: u32,
+        day: Day,
+        entries: Vec<Entry>,
+    ) -> Result<Option<LoanAccount>, Fault>
+        ensures account { IfOk result (λ found. IfSome found (λ account. account ≡ record { loan = record { terms = terms; principal = principal; periods = periods; day = day; entries = entries.items }; change = no_change })) }
+        ensures none { IfOk result (λ found. IsSound (record { terms = terms; principal = principal; periods = periods; day = day; entries = entries.items }) → found ≢ None) }
+        ensures only { IsOkUnless result Fault.F20 }
+    {
+        if is_loan_within_limits(&terms, principal, periods)
+            && can_be_entered(day)
+            && are_entries(&entries, periods, day)
+        {
+            let account = LoanAccount::replay(alloc, terms, principal, periods, day, entries)?;
+            Ok(Some(account))
+        } else {
+            Ok(None)
+        }
     }
 
     /// The account of `replay`, where its rows and settled parts are known. Only a want of memory is refused.
@@ -322,6 +348,22 @@ impl LoanAccount {
         Ok((book, kept, parts))
     }
 
+    /// The number of the entry that comes next.
+    pub fn next_entry(&self) -> u32
+        ensures number { result ≡ length self.now.loan.entries + 1 }
+        ensures sound { IsSound self.now.loan }
+    {
+        self.entries.len() as u32 + 1
+    }
+
+    /// Whether neither the day of disbursement nor that of any entry is after a day.
+    pub fn is_by(&self, day: Day) -> bool
+        ensures not_after { IsTrue result → (self.now.loan.day ≤ day) × ((i : ℕ) → i < length self.now.loan.entries → (entry_at self.now.loan.entries i).day ≤ day) }
+        ensures exact { self.now.loan.day ≤ day → ((i : ℕ) → i < length self.now.loan.entries → (entry_at self.now.loan.entries i).day ≤ day) → IsTrue result }
+    {
+        self.day <= day && are_days_by(&self.entries, day)
+    }
+
     /// The loan's status: 601 where a write-off stands, else 300 where anything is outstanding, else 700 where
     /// something is overpaid, else 600.
     pub fn status(&self) -> u16
@@ -365,9 +407,11 @@ impl LoanAccount {
         )
     }
 
-    /// The instalments as they stand.
+    /// The instalments as they stand, at most 360. What is outstanding in each is below 2^64 cents.
     pub fn rows(&self) -> &[Row]
-        ensures { result.now ≡ (state_of_loan self.now.loan).rows }
+        ensures rows { result.now ≡ (state_of_loan self.now.loan).rows }
+        ensures few { length result.now ≤ 360 }
+        ensures small { AreRowsSmall result.now }
     {
         self.book.rows.as_slice()
     }
@@ -385,6 +429,40 @@ impl LoanAccount {
         ensures { result.now ≡ self.now.loan.entries }
     {
         self.entries.as_slice()
+    }
+
+    /// How many entries there are, at most 9,999. The next one's number is one more.
+    pub fn entry_count(&self) -> u32
+        ensures count { result ≡ length self.now.loan.entries }
+        ensures few { result ≤ 9999 }
+    {
+        self.entries.len() as u32
+    }
+
+    /// The day of disbursement.
+    pub fn day(&self) -> Day
+        ensures { result ≡ self.now.loan.day }
+    {
+        self.day
+    }
+
+    /// Gives the entries back, which are numbered from 1 in their order. It takes no memory.
+    pub fn into_entries(self) -> Vec<Entry>
+        ensures entries { result.items ≡ self.loan.entries }
+        ensures numbers { AreNumbered result.items }
+    {
+        let LoanAccount { entries, .. } = self;
+        entries
+    }
+
+    /// What the standing entries settle, entry by entry in their order. In all it is below 2^64 cents, and each part has
+    /// the number of one of the entries.
+    pub fn settled_parts(&self) -> &[Settled]
+        ensures parts { result.now ≡ settled_of_loan self.now.loan }
+        ensures small { settled_amount result.now < 2 ^ 64 }
+        ensures numbers { AreNumberedTo (length self.now.loan.entries) result.now }
+    {
+        self.settled.as_slice()
     }
 
     /// What an entry settles, with places from 1 in the strategy's order of cells.

@@ -7,6 +7,7 @@ mod balances;
 mod change;
 mod effect;
 mod entry;
+mod lawful;
 pub mod laws;
 mod receipt;
 mod refusal;

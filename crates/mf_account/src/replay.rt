@@ -13,7 +13,7 @@ use mf_schedule::Instalment;
 use std::alloc::Global;
 
 /// Whether an entry comes before another.
-fn is_before(a: &Entry, b: &Entry) -> bool
+pub(crate) fn is_before(a: &Entry, b: &Entry) -> bool
     ensures { result ≡ comes_before a.now b.now }
 {
     a.day < b.day || (a.day == b.day && a.seq < b.seq)
