@@ -1,0 +1,208 @@
+-- Worked rows: 100000 cents at 12 percent for 3 months of equal principal, disbursed on 2024-01-31.
+use Rattle.std.specs.Prelude.{◌≡◌, ℕ, Bool, true, false, List, [], ◌∷◌, None}
+use Rattle.mf_base.specs.Calendar.{day_of}
+use Rattle.mf_base.specs.declared.day.Freq.TheVariants.{Months}
+use Rattle.mf_catalog.specs.declared.terms.Method.TheVariants.{EqualPrincipal}
+use Rattle.mf_catalog.specs.declared.terms.StrategyName.{StrategyName}
+use Rattle.mf_catalog.specs.declared.terms.StrategyName.TheVariants.{MifosStandard, PrincipalFirst}
+use Rattle.mf_alloc.specs.declared.row.Portion.{Portion}
+use Rattle.mf_alloc.specs.declared.row.Portion.TheVariants.{Penalty as PenaltyPart, Fee as FeePart, Interest, Principal}
+use Rattle.mf_alloc.specs.declared.row.Share.{Share}
+use Rattle.mf_account.specs.declared.entry.Entry.{Entry}
+use Rattle.mf_account.specs.declared.entry.Kind.{Kind}
+use Rattle.mf_account.specs.declared.entry.Kind.TheVariants.{Repay, Fee, Penalty, Waive, WriteOff, Refund}
+use Rattle.mf_account.specs.Loan.{Loan}
+use Rattle.mf_statement.specs.declared.lines.EntryLine.{EntryLine}
+use Rattle.mf_statement.specs.declared.lines.InstalmentLine.{InstalmentLine}
+use Rattle.mf_statement.specs.Lines.{instalments_of, entries_of}
+
+-- 2024-01-31, 2024-02-29, 2024-03-31 and 2024-04-30
+abbrev pub january : ℕ
+january = 8796
+
+abbrev pub february : ℕ
+february = 8825
+
+abbrev pub march : ℕ
+march = 8856
+
+abbrev pub april : ℕ
+april = 8886
+
+abbrev pub AreDays : Type 0
+AreDays =
+    (day_of (record { year = 2024; month = 1; day = 31 }) ≡ january)
+    × (day_of (record { year = 2024; month = 2; day = 29 }) ≡ february)
+    × (day_of (record { year = 2024; month = 3; day = 31 }) ≡ march)
+    × (day_of (record { year = 2024; month = 4; day = 30 }) ≡ april)
+
+-- the loan with entries, by a strategy
+abbrev pub loan_by : StrategyName → List Entry → Loan
+loan_by strategy entries = record {
+  terms = record {
+    method = EqualPrincipal;
+    rate = 1200;
+    freq = Months;
+    every = 1;
+    principal_grace = 0;
+    interest_grace = 0;
+    strategy = strategy;
+    disbursement = None;
+    instalment = None;
+    overdue = None;
+  };
+  principal = 100000;
+  periods = 3;
+  day = january;
+  entries = entries;
+}
+
+abbrev pub loan : List Entry → Loan
+loan entries = loan_by MifosStandard entries
+
+abbrev pub entry : ℕ → Kind → ℕ → ℕ → ℕ → Portion → Bool → Entry
+entry seq kind day amount instalment portion reversed = record {
+  seq = seq;
+  kind = kind;
+  day = day;
+  amount = amount;
+  instalment = instalment;
+  portion = portion;
+  receipt = None;
+  staff = record { office = 1; staff = 1 };
+  reversed = reversed;
+}
+
+abbrev pub repayment : ℕ → ℕ → ℕ → Entry
+repayment seq day amount = entry seq Repay day amount 0 Principal false
+
+abbrev pub told : Entry → ℕ → List Share → EntryLine
+told e amount shares = record { entry = e; amount = amount; shares = shares }
+
+abbrev pub share : ℕ → Portion → ℕ → Share
+share instalment portion amount = record { cell = record { instalment = instalment; portion = portion }; amount = amount }
+
+-- an instalment with its penalties, fees, interest and principal
+abbrev pub instalment : ℕ → ℕ → ℕ → ℕ → ℕ → ℕ → ℕ → InstalmentLine
+instalment number due penalties fees interest principal outstanding = record {
+  number = number;
+  due = due;
+  owed = penalties ∷ fees ∷ interest ∷ principal ∷ [];
+  outstanding = outstanding;
+}
+
+-- two repayments, in the order of their days and the other way round
+abbrev pub first : ℕ → Entry
+first seq = repayment seq february 20000
+
+abbrev pub second : ℕ → Entry
+second seq = repayment seq march 50000
+
+abbrev pub first_told : ℕ → EntryLine
+first_told seq = told (first seq) 20000 (share 1 Interest 1000 ∷ share 1 Principal 19000 ∷ [])
+
+abbrev pub second_told : ℕ → EntryLine
+second_told seq =
+    told (second seq) 50000
+    (share 1 Principal 14333 ∷ share 2 Interest 667 ∷ share 2 Principal 33333 ∷ share 3 Interest 333 ∷ share 3 Principal 1334 ∷ [])
+
+abbrev pub AreRepaymentsTold : Type 0
+AreRepaymentsTold =
+    (entries_of (loan (first 1 ∷ [])) ≡ first_told 1 ∷ [])
+    × (entries_of (loan (first 1 ∷ second 2 ∷ [])) ≡ first_told 1 ∷ second_told 2 ∷ [])
+    × (entries_of (loan (second 1 ∷ first 2 ∷ [])) ≡ second_told 1 ∷ first_told 2 ∷ [])
+
+abbrev pub AreInstalmentsTold : Type 0
+AreInstalmentsTold =
+    (instalments_of (loan []) ≡ instalment 1 february 0 0 1000 33333 34333 ∷ instalment 2 march 0 0 667 33333 34000 ∷ instalment 3 april 0 0 333 33334 33667 ∷ [])
+    × (instalments_of (loan (first 1 ∷ second 2 ∷ [])) ≡ instalment 1 february 0 0 1000 33333 0 ∷ instalment 2 march 0 0 667 33333 0 ∷ instalment 3 april 0 0 333 33334 32000 ∷ [])
+
+-- the same two, principal before interest
+abbrev pub IsPrincipalFirstTold : Type 0
+IsPrincipalFirstTold =
+    entries_of (loan_by PrincipalFirst (first 1 ∷ second 2 ∷ []))
+    ≡ told (first 1) 20000 (share 1 Principal 20000 ∷ [])
+    ∷ told (second 2) 50000 (share 1 Principal 13333 ∷ share 1 Interest 1000 ∷ share 2 Principal 33333 ∷ share 2 Interest 667 ∷ share 3 Principal 1667 ∷ [])
+    ∷ []
+
+-- the first of them reversed
+abbrev pub first_reversed : Entry
+first_reversed = entry 1 Repay february 20000 0 Principal true
+
+abbrev pub IsReversalTold : Type 0
+IsReversalTold =
+    entries_of (loan (first_reversed ∷ second 2 ∷ []))
+    ≡ told first_reversed 20000 []
+    ∷ told (second 2) 50000 (share 1 Interest 1000 ∷ share 1 Principal 33333 ∷ share 2 Interest 667 ∷ share 2 Principal 15000 ∷ [])
+    ∷ []
+
+-- a fee of 500 on instalment 2, then a repayment of all with an earlier day
+abbrev pub fee : Entry
+fee = entry 1 Fee march 500 2 FeePart false
+
+abbrev pub all : Entry
+all = repayment 2 february 102500
+
+abbrev pub IsFeeTold : Type 0
+IsFeeTold =
+    (entries_of (loan (fee ∷ all ∷ []))
+    ≡ told fee 500 (share 2 FeePart 500 ∷ [])
+    ∷ told all 102500 (share 1 Interest 1000 ∷ share 1 Principal 33333 ∷ share 2 Interest 667 ∷ share 2 Principal 33333 ∷ share 3 Interest 333 ∷ share 3 Principal 33334 ∷ [])
+    ∷ [])
+    × (instalments_of (loan (fee ∷ [])) ≡ instalment 1 february 0 0 1000 33333 34333 ∷ instalment 2 march 0 500 667 33333 34500 ∷ instalment 3 april 0 0 333 33334 33667 ∷ [])
+
+-- a penalty of 3433 on instalment 1, then a repayment
+abbrev pub penalty : Entry
+penalty = entry 1 Penalty march 3433 1 PenaltyPart false
+
+abbrev pub little : Entry
+little = repayment 2 march 5000
+
+abbrev pub IsPenaltyTold : Type 0
+IsPenaltyTold =
+    (entries_of (loan (penalty ∷ little ∷ []))
+    ≡ told penalty 3433 []
+    ∷ told little 5000 (share 1 PenaltyPart 3433 ∷ share 1 Interest 1000 ∷ share 1 Principal 567 ∷ [])
+    ∷ [])
+    × (instalments_of (loan (penalty ∷ little ∷ [])) ≡ instalment 1 february 3433 0 1000 33333 32766 ∷ instalment 2 march 0 0 667 33333 34000 ∷ instalment 3 april 0 0 333 33334 33667 ∷ [])
+
+-- the interest of instalment 2 waived; then it is paid with an earlier day, and the waiver clears nothing
+abbrev pub waiver : Entry
+waiver = entry 1 Waive march 0 2 Interest false
+
+abbrev pub earlier : Entry
+earlier = repayment 2 february 40000
+
+abbrev pub IsWaiverTold : Type 0
+IsWaiverTold =
+    (entries_of (loan (waiver ∷ [])) ≡ told waiver 667 (share 2 Interest 667 ∷ []) ∷ [])
+    × (entries_of (loan (waiver ∷ earlier ∷ []))
+    ≡ told waiver 0 []
+    ∷ told earlier 40000 (share 1 Interest 1000 ∷ share 1 Principal 33333 ∷ share 2 Interest 667 ∷ share 2 Principal 5000 ∷ [])
+    ∷ [])
+
+-- what is left after the two repayments written off
+abbrev pub write_off : Entry
+write_off = entry 3 WriteOff march 0 0 Principal false
+
+abbrev pub IsWriteOffTold : Type 0
+IsWriteOffTold =
+    entries_of (loan (first 1 ∷ second 2 ∷ write_off ∷ []))
+    ≡ first_told 1 ∷ second_told 2 ∷ told write_off 32000 (share 3 Principal 32000 ∷ []) ∷ []
+
+-- too much repaid and given back, and the refund reversed
+abbrev pub overpayment : Entry
+overpayment = repayment 1 march 110000
+
+abbrev pub overpayment_told : EntryLine
+overpayment_told =
+    told overpayment 110000
+    (share 1 Interest 1000 ∷ share 1 Principal 33333 ∷ share 2 Interest 667 ∷ share 2 Principal 33333 ∷ share 3 Interest 333 ∷ share 3 Principal 33334 ∷ [])
+
+abbrev pub refund : Bool → Entry
+refund reversed = entry 2 Refund march 0 0 Principal reversed
+
+abbrev pub IsRefundTold : Type 0
+IsRefundTold =
+    (entries_of (loan (overpayment ∷ refund false ∷ [])) ≡ overpayment_told ∷ told (refund false) 8000 [] ∷ [])
+    × (entries_of (loan (overpayment ∷ refund true ∷ [])) ≡ overpayment_told ∷ told (refund true) 0 [] ∷ [])

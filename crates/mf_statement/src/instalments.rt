@@ -1,0 +1,58 @@
+ghost use Rattle.std.specs.Prelude.{◌≡◌, ◌≤◌, ◌<◌, ◌^◌, length, IfOk, IsOkUnless};
+ghost use Rattle.mf_alloc.specs.Sums.{row_outstanding};
+ghost use Rattle.mf_account.specs.Told.{IsRowSmall, AreRowsSmall};
+ghost use Rattle.mf_statement.specs.Lines.{instalment_line as line_of, instalments_from, instalments_of};
+
+use crate::lines::{InstalmentLine, InstalmentList};
+use crate::listing::Listing;
+use mf_account::LoanAccount;
+use mf_alloc::{Portion, Row};
+use mf_base::Fault;
+use std::alloc::Global;
+
+/// What is outstanding of an instalment over all portions, in whole cents.
+fn outstanding(row: &Row) -> u64
+    requires { IsRowSmall row.now }
+    ensures { result ≡ row_outstanding row.now }
+{
+    row.outstanding(Portion::Penalty)
+        + row.outstanding(Portion::Fee)
+        + row.outstanding(Portion::Interest)
+        + row.outstanding(Portion::Principal)
+}
+
+/// An instalment as it stands, with its number.
+fn instalment_line(number: u32, row: &Row) -> InstalmentLine
+    requires { IsRowSmall row.now }
+    ensures { result ≡ line_of number row.now }
+{
+    InstalmentLine {
+        number,
+        due: row.due,
+        owed: row.owed,
+        outstanding: outstanding(row),
+    }
+}
+
+/// Instalments as they stand, numbered from 1.
+fn lines_of(alloc: Global, rows: &[Row]) -> Result<Vec<InstalmentLine>, Fault>
+    requires few { length rows.now ≤ 360 }
+    requires small { AreRowsSmall rows.now }
+    ensures lines { IfOk result (λ lines. lines.items ≡ instalments_from 1 rows.now) }
+    ensures only { IsOkUnless result Fault.F20 }
+{
+    let mut lines = Vec::new(alloc);
+    for (place, row) in rows.iter().enumerate() {
+        lines.push(instalment_line(place as u32 + 1, row))?;
+    }
+    Ok(lines)
+}
+
+/// The instalments of an account as they stand, by number. Only a want of memory is refused.
+pub fn instalment_lines(alloc: Global, account: &LoanAccount) -> Result<InstalmentList, Fault>
+    ensures lines { IfOk result (λ lines. lines ≡ instalments_of account.now.loan) }
+    ensures only { IsOkUnless result Fault.F20 }
+{
+    let lines = lines_of(alloc, account.rows())?;
+    Ok(Listing::new(lines))
+}

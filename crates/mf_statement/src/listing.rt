@@ -1,0 +1,53 @@
+use mf_base::Fault;
+use std::marker::Model;
+
+/// Things by number, which contracts see as a list.
+#[derive(Debug, Drop)]
+pub struct Listing<T> {
+    items: Vec<T>,
+}
+
+impl<T> Model for Listing<T> {
+    ghost use Rattle.std.specs.Prelude.{List};
+
+    ghost Value = { List T };
+
+    ghost view = { λ listing. listing.items.items };
+}
+
+impl<T> Listing<T> {
+    ghost use Rattle.std.specs.Prelude.{◌≡◌, ◌++◌, ◌∷◌, [], OnOk, IsOkUnless};
+
+    /// The list of these. It takes no memory.
+    pub fn new(items: Vec<T>) -> Listing<T>
+        ensures { result ≡ items.items }
+    {
+        Listing { items }
+    }
+
+    /// Them.
+    pub fn as_slice(&self) -> &[T]
+        ensures { result.now ≡ self.now }
+    {
+        self.items.as_slice()
+    }
+
+    /// Adds one at the end. Only a want of memory is refused.
+    pub(crate) fn push(&mut self, item: T) -> Result<(), Fault>
+    where
+        T: Drop,
+        ensures added { OnOk result (self.new ≡ self.old ++ item ∷ []) }
+        ensures only { IsOkUnless result Fault.F20 }
+    {
+        self.items.push(item)?;
+        Ok(())
+    }
+
+    /// Gives them back. It takes no memory.
+    pub fn into_items(self) -> Vec<T>
+        ensures { result.items ≡ self }
+    {
+        let Listing { items } = self;
+        items
+    }
+}
