@@ -1,16 +1,19 @@
 -- No reply of the definitions is F20.
-use Rattle.std.proofs.Common.{◌≡◌, ℕ, Bool, true, false, cond, length, Option, Some, None, Result, Ok, Err, sym, subst}
-use Rattle.std.specs.Prelude.{◌&&◌, not, nat_lt}
+use Rattle.std.proofs.Common.{◌≡◌, ℕ, Bool, true, false, cond, length, Option, Some, None, Result, Ok, Err, subst}
+use Rattle.std.specs.Prelude.{◌&&◌, ◌==◌, not, nat_lt, nat_le, is_some}
 use Rattle.mf_base.specs.declared.fault.Fault.{Fault}
-use Rattle.mf_base.specs.declared.fault.Fault.TheVariants.{F3, F20}
+use Rattle.mf_base.specs.declared.fault.Fault.TheVariants.{F3, F8, F9, F10, F11, F14, F18, F20}
 use Rattle.mf_office.specs.declared.caller.Caller.{Caller}
 use Rattle.mf_office.specs.declared.account.Account.{Account}
 use Rattle.mf_office.specs.Tree.{is_within, is_at_or_below}
 use Rattle.mf_catalog.specs.declared.product.Product.{Product}
 use Rattle.mf_catalog.specs.declared.product.ProductMembers.{ProductMembers}
 use Rattle.mf_catalog.specs.Product.{charges_there, is_consistent, allows, lending}
-use Rattle.mf_model.specs.declared.loan.Loan.{Loan}
+use Rattle.mf_account.specs.declared.entry.Entry.{Entry}
+use Rattle.mf_account.specs.Loan.{Loan as Running, state_of_loan, status_of_loan}
+use Rattle.mf_account.specs.Refusals.{is_sealed, admits, is_out_of_order, is_forbidden, is_out_of_limits, refusal_of}
 use Rattle.mf_model.specs.declared.loan.Stage.{Stage}
+use Rattle.mf_model.specs.declared.loan.Stage.TheVariants.{Submitted, Approved, Disbursed, Withdrawn, Rejected}
 use Rattle.mf_model.specs.declared.reply.Reply.{Reply}
 use Rattle.mf_model.specs.declared.reply.LoanReply.{LoanReply}
 use Rattle.mf_model.specs.declared.request.Call.{Call}
@@ -20,17 +23,22 @@ use Rattle.mf_model.specs.declared.request.CatalogueRequest.{CatalogueRequest}
 use Rattle.mf_model.specs.declared.request.CatalogueRequest.TheVariants.{ShowDay, SetDay, AddCharge, ShowCharge, AddProduct, ShowProduct, RetireProduct}
 use Rattle.mf_model.specs.declared.request.OfficeRequest.{OfficeRequest}
 use Rattle.mf_model.specs.declared.request.OfficeRequest.TheVariants.{AddStaff, AddClient, ShowClient, SubmitLoan, ListLoans}
+use Rattle.mf_model.specs.declared.request.LoanStep.{LoanStep}
+use Rattle.mf_model.specs.declared.request.LoanStep.TheVariants.{Approve, Reject, Withdraw, UndoApproval, Disburse}
+use Rattle.mf_model.specs.declared.request.Repayment.{Repayment}
 use Rattle.mf_model.specs.declared.request.LoanRequest.{LoanRequest}
-use Rattle.mf_model.specs.declared.request.LoanRequest.TheVariants.{Show, Take}
+use Rattle.mf_model.specs.declared.request.LoanRequest.TheVariants.{Show, ShowInstalments, ShowEntries, Take, Repay}
 use Rattle.mf_model.specs.declared.request.Request.{Request}
 use Rattle.mf_model.specs.declared.request.Request.TheVariants as request
-use Rattle.mf_model.specs.Institution.{Institution, Catalogue, Office, Rows, Staff, numbered, charge_in, product_in}
+use Rattle.mf_model.specs.Institution.{Institution, Catalogue, Office, Rows, Staff, Ledger, numbered, charge_in, product_in}
 use Rattle.mf_model.specs.Tree.{parent_of, seen_office, is_there}
 use Rattle.mf_model.specs.Outcomes.{next_of, with_value, with_found, where_found, unless_refused}
 use Rattle.mf_model.specs.Catalogue.{on_catalogue, make_product}
-use Rattle.mf_model.specs.Loans.{next_stage, on_loan, of_loan, in_loan, lend}
+use Rattle.mf_model.specs.Stages.{next_stage}
+use Rattle.mf_model.specs.Accounts.{account_in}
+use Rattle.mf_model.specs.Receipts.{Use, uses_from, used_before, repeated}
+use Rattle.mf_model.specs.Loans.{LedgerChange, repayment, unless_fault, enter, repeat_of, unless_known, on_loan, of_loan, in_loan, lend}
 use Rattle.mf_model.specs.Desk.{Plan, on_office, plan, need, meets, Outcome, of_catalogue, of_office, in_office, carried_out, where_permitted, sent_by, staff_at, outcome, reply_in, reply}
-use Rattle.mf_model.proofs.SoundLemmas.{IsResultBy, step_keeps}
 
 -- any refusal but F20
 abbrev IsRuled : Fault → Type 0
@@ -93,21 +101,82 @@ office_ruled (ShowClient client) x k rows = by_found (numbered rows.clients clie
 office_ruled (SubmitLoan asked) x k rows = where_it_is (numbered rows.clients asked.client) _ (λ name. lend_ruled x asked (product_in k asked.product) rows)
 office_ruled (ListLoans after) x k rows = tt
 
-step_ruled : (day : ℕ) (r : Result Stage Fault) → IsResultBy day r → Ruled r
-step_ruled day (Ok stage) h = tt
-step_ruled day (Err fault) h = subst IsRuled (sym h) tt
+step_ruled : (step : LoanStep) (today : ℕ) (stage : Stage) → Ruled (next_stage step today stage)
+step_ruled Approve today Submitted = tt
+step_ruled Approve today (Approved approved) = tt
+step_ruled Approve today (Disbursed approved day) = tt
+step_ruled Approve today Withdrawn = tt
+step_ruled Approve today Rejected = tt
+step_ruled Reject today Submitted = tt
+step_ruled Reject today (Approved approved) = tt
+step_ruled Reject today (Disbursed approved day) = tt
+step_ruled Reject today Withdrawn = tt
+step_ruled Reject today Rejected = tt
+step_ruled Withdraw today Submitted = tt
+step_ruled Withdraw today (Approved approved) = tt
+step_ruled Withdraw today (Disbursed approved day) = tt
+step_ruled Withdraw today Withdrawn = tt
+step_ruled Withdraw today Rejected = tt
+step_ruled UndoApproval today Submitted = tt
+step_ruled UndoApproval today (Approved approved) = tt
+step_ruled UndoApproval today (Disbursed approved day) = tt
+step_ruled UndoApproval today Withdrawn = tt
+step_ruled UndoApproval today Rejected = tt
+step_ruled (Disburse day) today Submitted = tt
+step_ruled (Disburse day) today (Approved approved) = one_of (nat_le approved day && nat_le day today) _ _ tt tt
+step_ruled (Disburse day) today (Disbursed approved on) = tt
+step_ruled (Disburse day) today Withdrawn = tt
+step_ruled (Disburse day) today Rejected = tt
 
-loan_ruled : (asked : LoanRequest) (k : Catalogue) (loan : Loan) → Ruled (on_loan asked k loan)
-loan_ruled Show k loan = tt
-loan_ruled (Take step) k loan = by_value (next_stage step k.day loan.stage) _ (step_ruled k.day (next_stage step k.day loan.stage) (step_keeps step k.day loan.stage))
+-- a refusal, if there is one, that isn't F20
+abbrev IsRuledRefusal : Option Fault → Type 0
+IsRuledRefusal None = Unit {0}
+IsRuledRefusal (Some fault) = IsRuled fault
 
-told_ruled : (account : Account) (rows : Rows) (r : Result (LoanReply × Option Stage) Fault) → Ruled r → Ruled (of_loan account rows r)
+refused_or : (b : Bool) (fault : Fault) (rest : Option Fault) → IsRuled fault → IsRuledRefusal rest → IsRuledRefusal (cond b (Some fault) rest)
+refused_or true fault rest h k = h
+refused_or false fault rest h k = k
+
+refusal_ruled : (a : Running) (e : Entry) (today : ℕ) → IsRuledRefusal (refusal_of a e today)
+refusal_ruled a e today =
+    refused_or (is_sealed a.entries) F11 _ tt
+    (refused_or (not (admits e.kind (status_of_loan a))) F9 _ tt
+    (refused_or (is_out_of_order e.kind a.day today e.day) F10 _ tt
+    (refused_or (is_forbidden e.kind (is_some a.terms.overdue) (state_of_loan a).rows a.entries e today) F14 _ tt
+    (refused_or (is_out_of_limits e.kind e.amount) F8 _ tt
+    (refused_or (nat_le 9999 (length a.entries)) F18 None tt tt)))))
+
+unless_ruled : (refusal : Option Fault) (e : Entry) → IsRuledRefusal refusal → Ruled (unless_fault refusal e)
+unless_ruled None e h = tt
+unless_ruled (Some fault) e h = h
+
+enter_ruled : (make : Running → Entry) (k : Catalogue) (o : Option Running) → Ruled (enter make k o)
+enter_ruled make k None = tt
+enter_ruled make k (Some a) = unless_ruled (refusal_of a (make a) k.day) (make a) (refusal_ruled a (make a) k.day)
+
+repeat_ruled : (r : Result ℕ Fault) → Ruled r → Ruled (repeat_of r)
+repeat_ruled (Err fault) h = h
+repeat_ruled (Ok seq) h = tt
+
+known_ruled : (n : ℕ) (asked : Repayment) (o : Option Use) (next : Result (LoanReply × Option LedgerChange) Fault) → Ruled next → Ruled (unless_known n asked o next)
+known_ruled n asked None next h = h
+known_ruled n asked (Some u) next h =
+    repeat_ruled (repeated n asked.amount asked.day u.by) (one_of ((u.by.loan == n) && ((u.by.amount == asked.amount) && (u.by.day == asked.day))) _ _ tt tt)
+
+loan_ruled : (asked : LoanRequest) (c : Caller) (k : Catalogue) (rows : Rows) (n : ℕ) (l : Ledger) → Ruled (on_loan asked c k rows n l)
+loan_ruled Show c k rows n l = tt
+loan_ruled ShowInstalments c k rows n l = tt
+loan_ruled ShowEntries c k rows n l = tt
+loan_ruled (Take step) c k rows n l = by_value (next_stage step k.day l.loan.stage) _ (step_ruled step k.day l.loan.stage)
+loan_ruled (Repay asked) c k rows n l = known_ruled n asked (used_before asked.receipt (uses_from 1 rows.loans)) _ (enter_ruled (repayment asked c) k (account_in k l))
+
+told_ruled : (account : Account) (rows : Rows) (r : Result (LoanReply × Option LedgerChange) Fault) → Ruled r → Ruled (of_loan account rows r)
 told_ruled account rows (Err fault) h = h
 told_ruled account rows (Ok (told, None)) h = tt
-told_ruled account rows (Ok (told, Some stage)) h = tt
+told_ruled account rows (Ok (told, Some change)) h = tt
 
-in_loan_ruled : (account : Account) (asked : LoanRequest) (k : Catalogue) (rows : Rows) → Ruled (in_loan account (on_loan asked k) rows)
-in_loan_ruled account asked k rows = where_it_is (numbered rows.loans account.number) _ (λ loan. told_ruled account rows (on_loan asked k loan) (loan_ruled asked k loan))
+in_loan_ruled : (account : Account) (asked : LoanRequest) (c : Caller) (k : Catalogue) (rows : Rows) → Ruled (in_loan account (on_loan asked c k rows account.number) rows)
+in_loan_ruled account asked c k rows = where_it_is (numbered rows.loans account.number) _ (λ l. told_ruled account rows (on_loan asked c k rows account.number l) (loan_ruled asked c k rows account.number l))
 
 catalogue_outcome : (r : Result (Reply × Option Catalogue) Fault) → Ruled r → Ruled (of_catalogue r)
 catalogue_outcome (Err fault) h = h
@@ -137,7 +206,7 @@ plan_ruled (request.Unreadable NoRoute) = tt
 plan_ruled (request.Unreadable NoMethod) = tt
 plan_ruled (request.Catalogue asked) = λ c i. catalogue_outcome (on_catalogue asked i.catalogue) (catalogue_ruled asked i.catalogue)
 plan_ruled (request.Office office asked) = λ c i. in_office_ruled office (λ k f. on_office asked office k f.rows) i.catalogue (seen_office c.office office i) (λ f. office_ruled asked office i.catalogue f.rows)
-plan_ruled (request.Loan loan asked) = λ c i. in_office_ruled loan.office (λ k f. in_loan loan (on_loan asked k) f.rows) i.catalogue (seen_office c.office loan.office i) (λ f. in_loan_ruled loan asked i.catalogue f.rows)
+plan_ruled (request.Loan loan asked) = λ c i. in_office_ruled loan.office (λ k f. in_loan loan (on_loan asked c k f.rows loan.number) f.rows) i.catalogue (seen_office c.office loan.office i) (λ f. in_loan_ruled loan asked c i.catalogue f.rows)
 plan_ruled request.SeenOffices = λ c i. tt
 plan_ruled (request.NewOffice number parent name) = λ c i.
     one_of (not (is_there i.offices parent && is_at_or_below (parent_of i.offices) parent c.office)) _ _ tt

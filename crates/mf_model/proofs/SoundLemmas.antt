@@ -1,6 +1,6 @@
 -- An institution stays sound.
-use Rattle.std.proofs.Common.{◌≡◌, ℕ, ◌+◌, ◌≤◌, Bool, true, false, cond, List, [], ◌∷◌, ◌++◌, length, codes, Option, Some, None, Ok, Err, refl, sym, ap, ◌∙◌, subst, arith}
-use Rattle.std.specs.Prelude.{◌==◌, nat_lt, is_some, option_map, Result}
+use Rattle.std.proofs.Common.{◌≡◌, ℕ, ◌+◌, ◌<◌, ◌≤◌, Bool, true, false, cond, List, [], ◌∷◌, ◌++◌, length, codes, Option, Some, None, Ok, Err, refl, sym, ap, ◌∙◌, subst, arith}
+use Rattle.std.specs.Prelude.{◌==◌, ◌&&◌, ◌||◌, nat_lt, nat_le, is_some, option_map, Result}
 use Rattle.std.specs.List.{AllByRecursion}
 use Rattle.std.specs.Str.{is_utf8, chars}
 use lib.Utf8.{encode}
@@ -8,7 +8,7 @@ use Rattle.std.proofs.lemmas.Str.{IsUtf8-from_is_utf8}
 use Rattle.std.proofs.lemmas.Bool.Decides.{nat_tests}
 use Rattle.mf_base.specs.DayText.{last_entered_day}
 use Rattle.mf_base.specs.declared.fault.Fault.{Fault}
-use Rattle.mf_base.specs.declared.fault.Fault.TheVariants.{F4, F7, F8, F9, F17, F18}
+use Rattle.mf_base.specs.declared.fault.Fault.TheVariants.{F4, F7, F8, F10, F17, F18}
 use Rattle.mf_office.specs.declared.staff.Role.{Role}
 use Rattle.mf_office.specs.declared.caller.Caller.{Caller}
 use Rattle.mf_office.specs.declared.account.Account.{Account}
@@ -22,104 +22,155 @@ use Rattle.mf_model.specs.declared.request.CatalogueRequest.TheVariants.{ShowDay
 use Rattle.mf_model.specs.declared.request.OfficeRequest.{OfficeRequest}
 use Rattle.mf_model.specs.declared.request.OfficeRequest.TheVariants.{AddStaff, AddClient, ShowClient, SubmitLoan, ListLoans}
 use Rattle.mf_model.specs.declared.request.LoanRequest.{LoanRequest}
-use Rattle.mf_model.specs.declared.request.LoanRequest.TheVariants.{Show, Take}
+use Rattle.mf_model.specs.declared.request.LoanRequest.TheVariants.{Show, ShowInstalments, ShowEntries, Take, Repay}
 use Rattle.mf_model.specs.declared.request.LoanStep.{LoanStep}
-use Rattle.mf_model.specs.declared.request.LoanStep.TheVariants.{Approve, Reject, Withdraw, UndoApproval}
+use Rattle.mf_model.specs.declared.request.LoanStep.TheVariants.{Approve, Reject, Withdraw, UndoApproval, Disburse}
 use Rattle.mf_model.specs.declared.request.Application.{Application}
+use Rattle.mf_model.specs.declared.request.Repayment.{Repayment}
 use Rattle.mf_model.specs.declared.reply.LoanReply.{LoanReply}
-use Rattle.mf_model.specs.declared.reply.LoanReply.TheVariants.{Shown, Status}
+use Rattle.mf_model.specs.declared.reply.LoanReply.TheVariants.{Shown, Instalments, Entries, Status, Entered, Repeated}
 use Rattle.mf_model.specs.declared.reply.Reply.{Reply}
 use Rattle.mf_model.specs.declared.reply.Reply.TheVariants.{StaffMade, ClientMade, ClientShown, DayShown, DaySet, ChargeMade, ChargeShown, ProductMade, ProductShown, ProductRetired, LoanMade, Loan as LoanTold, LoansShown}
-use Rattle.mf_model.specs.Institution.{Institution, Catalogue, Charge, Offer, Office, Rows, Staff, no_rows, product_of, charge_in, product_in, office_at, with_rows, with_office, new_office, Change, Catalogue_becomes, Rows_become, Office_added, after, after_maybe, newly_made, numbered}
+use Rattle.mf_model.specs.Institution.{Institution, Catalogue, Charge, Offer, Office, Rows, Staff, Ledger, no_rows, product_of, charge_in, product_in, office_at, with_rows, with_office, new_office, Change, Catalogue_becomes, Rows_become, Office_added, after, after_maybe, newly_made, numbered, with_numbered}
 use Rattle.mf_model.specs.Tree.{parent_of, is_there, Fits}
 use Rattle.mf_catalog.specs.declared.charge.ChargeDef.{ChargeDef}
+use Rattle.mf_catalog.specs.declared.terms.Terms.{Terms}
 use Rattle.mf_catalog.specs.declared.product.Product.{Product}
 use Rattle.mf_catalog.specs.declared.product.ProductMembers.{ProductMembers}
+use Rattle.mf_account.specs.declared.entry.Entry.{Entry}
+use Rattle.mf_account.specs.Loan.{Loan as Running, AreEntries, IsSound as IsSoundAccount}
+use Rattle.mf_account.specs.Refusals.{refusal_of, IsOffered}
+use Rattle.mf_account.specs.Standing.{entry_at}
+use Rattle.mf_account.proofs.SoundLemmas.{admitted, sound-entered}
 use Rattle.mf_catalog.specs.Product.{charges_there, is_consistent, allows, lending}
-use Rattle.mf_model.specs.declared.loan.Loan.{Loan}
 use Rattle.mf_model.specs.declared.loan.Stage.{Stage}
-use Rattle.mf_model.specs.declared.loan.Stage.TheVariants.{Submitted, Approved}
+use Rattle.mf_model.specs.declared.loan.Stage.TheVariants.{Submitted, Approved, Disbursed}
 use Rattle.mf_model.specs.Outcomes.{next_of, with_value, with_found, where_found, unless_refused}
 use Rattle.mf_model.specs.Catalogue.{show_day, day_set, set_day, charge_added, add_charge, show_charge, product_added, add_product, show_product, product_retired, retire_product, on_catalogue}
 use Rattle.mf_model.specs.Offices.{staff_added, add_staff, client_added, add_client, show_client}
-use Rattle.mf_model.specs.Loans.{status_of, next_stage, on_loan, loan_staged, of_loan, in_loan, loan_added, new_loan, submit, lines_above, list_loans}
-use Rattle.mf_model.specs.Desk.{Plan, plan, on_office, in_office, of_office, of_catalogue, change_in, sender_effect, outcome}
+use Rattle.mf_model.specs.Stages.{stage_number, disbursed_on, disbursed, next_stage}
+use Rattle.mf_model.specs.Accounts.{terms_in, account_in, statement, instalments_in, entries_in}
+use Rattle.mf_model.specs.Loans.{LedgerChange, staged, entered, repayment, unless_fault, enter, repeat_of, unless_known, on_loan, loan_changed, of_loan, in_loan, loan_added, new_loan, submit, lines_above, list_loans}
+use Rattle.mf_model.specs.Desk.{Plan, plan, on_office, in_office, of_office, of_catalogue, change_in, sender_effect, outcome, staff_at, where_permitted, sent_by}
 use Rattle.mf_model.specs.Run.{Line, next, last}
-use Rattle.mf_model.specs.Sound.{IsName, AreMembers, IsSoundCharge, IsSoundOffer, IsSoundCatalogue, IsSoundLoan, IsStageBy, lends, IsSoundRows, IsSoundOffice, IsSound, IsCatalogueInRange, IsOfficeInRange, IsInRange, AreInRange}
+use Rattle.mf_model.specs.Sound.{IsName, AreMembers, IsSoundCharge, IsSoundOffer, IsSoundCatalogue, IsSoundLoan, IsStageBy, IsEntryBy, AreEntered, AreEntriesBy, is_staff, lends, IsSoundRows, IsSoundOffice, IsSound, IsCatalogueInRange, IsOfficeInRange, IsRepayment, IsLoanInRange, IsInRange, AreInRange}
 use Rattle.mf_model.proofs.Views.{IsTree_after}
 use Rattle.mf_model.proofs.Steps.{known_line}
 use Rattle.mf_model.proofs.Confined.{IsTree_new}
-use Rattle.mf_model.proofs.Growing.{Grows, all_push, all_map, all_with, length_push, length_with, numbered_push, there_push, numbered_with, consistent_grows, charge_stays, offices_grow, lends_by_members}
+use Rattle.mf_model.specs.Receipts.{Use, uses_from, used_before, repeated, AreApart}
+use Rattle.mf_model.proofs.ReceiptLemmas.{KnownStay, known_entered, known_same, uses_with, uses_push, apart_entered}
+use Rattle.mf_model.proofs.StaffLemmas.{KeepsStaff, KeepsStaffOf, staff_with_rows, staff_with_office}
+use Rattle.mf_model.proofs.AccountLemmas.{IsRunning, account_is, account_sound, day_of_stage, entered_at, no_entries, days_by}
+use Rattle.mf_model.proofs.Growing.{Grows, grows_self, StaffGrows, rows_grow, terms_push, terms_with, terms_charge, all_at, all_with_at, all_push, all_map, all_with, length_push, length_with, numbered_push, there_push, numbered_with, consistent_grows, charge_stays, offices_grow, lends_by_members, and_left, and_right}
+
+-- the receipts that were known are
+abbrev pub KeepsUses : Rows → Rows → Type 0
+KeepsUses old new = KnownStay (uses_from 1 old.loans) (uses_from 1 new.loans)
+
+abbrev pub KeepsUsesOf : ℕ → Rows → List Office → Type 0
+KeepsUsesOf x rows fs = (f : Office) → office_at x fs ≡ Some f → KeepsUses f.rows rows
 
 -- what a change must bring
-abbrev pub IsSoundChange : Catalogue → Change → Type 0
-IsSoundChange k (Catalogue_becomes catalogue) = IsSoundCatalogue catalogue × Grows k catalogue
-IsSoundChange k (Rows_become x rows) = IsSoundRows k rows
-IsSoundChange k (Office_added number parent name) = IsNumberUpTo 9999 number × IsName name
+abbrev pub IsSoundChange : Institution → Change → Type 0
+IsSoundChange i (Catalogue_becomes catalogue) = IsSoundCatalogue catalogue × Grows i.catalogue catalogue
+IsSoundChange i (Rows_become x rows) = IsSoundRows i.catalogue (is_staff i.offices) rows × KeepsStaffOf x rows i.offices × KeepsUsesOf x rows i.offices
+IsSoundChange i (Office_added number parent name) = IsNumberUpTo 9999 number × IsName name
 
-each_with_rows : (k : Catalogue) (x : ℕ) (rows : Rows) (fs : List Office) → IsSoundRows k rows → AllByRecursion (IsSoundOffice k) fs → AllByRecursion (IsSoundOffice k) (with_rows x rows fs)
-each_with_rows k x rows [] s a = tt
-each_with_rows k x rows (f ∷ fs) s a = (record { number = a.0.number; name = a.0.name; rows = either (f.number == x) }, each_with_rows k x rows fs s a.1)
+each_with_rows : (k : Catalogue) (s : Caller → Bool) (x : ℕ) (rows : Rows) (fs : List Office) → IsSoundRows k s rows → AllByRecursion (IsSoundOffice k s) fs → AllByRecursion (IsSoundOffice k s) (with_rows x rows fs)
+each_with_rows k s x rows [] r a = tt
+each_with_rows k s x rows (f ∷ fs) r a = (record { number = a.0.number; name = a.0.name; rows = either (f.number == x) }, each_with_rows k s x rows fs r a.1)
   where
-    either : (b : Bool) → IsSoundRows k (cond b rows f.rows)
-    either true = s
+    either : (b : Bool) → IsSoundRows k s (cond b rows f.rows)
+    either true = r
     either false = a.0.rows
 
-each_with_office : (k : Catalogue) (new : Office) (fs : List Office) → IsSoundOffice k new → AllByRecursion (IsSoundOffice k) fs → AllByRecursion (IsSoundOffice k) (with_office new fs)
-each_with_office k new [] s a = (s, tt)
-each_with_office k new (f ∷ fs) s a = either (nat_lt new.number f.number) (each_with_office k new fs s a.1)
+each_with_office : (k : Catalogue) (s : Caller → Bool) (new : Office) (fs : List Office) → IsSoundOffice k s new → AllByRecursion (IsSoundOffice k s) fs → AllByRecursion (IsSoundOffice k s) (with_office new fs)
+each_with_office k s new [] n a = (n, tt)
+each_with_office k s new (f ∷ fs) n a = either (nat_lt new.number f.number) (each_with_office k s new fs n a.1)
   where
-    either : (b : Bool) → AllByRecursion (IsSoundOffice k) (with_office new fs) → AllByRecursion (IsSoundOffice k) (cond b (new ∷ f ∷ fs) (f ∷ with_office new fs))
-    either true rest = (s, a)
+    either : (b : Bool) → AllByRecursion (IsSoundOffice k s) (with_office new fs) → AllByRecursion (IsSoundOffice k s) (cond b (new ∷ f ∷ fs) (f ∷ with_office new fs))
+    either true rest = (n, a)
     either false rest = (a.0, rest)
 
-no_rows_sound : (k : Catalogue) → IsSoundRows k no_rows
-no_rows_sound k = record { staff_limit = omega arith; staff_names = tt; client_limit = omega arith; client_names = tt; loan_limit = omega arith; loans = tt }
+no_rows_sound : (k : Catalogue) (s : Caller → Bool) → IsSoundRows k s no_rows
+no_rows_sound k s = record { staff_limit = omega arith; staff_names = tt; client_limit = omega arith; client_names = tt; loan_limit = omega arith; loans = tt; receipts = tt }
 
-pub sound_after : (change : Change) (i : Institution) → IsSound i → Fits change i.offices → IsSoundChange i.catalogue change → IsSound (after change i)
-sound_after (Catalogue_becomes catalogue) i s fit c = record { catalogue = c.0; tree = IsTree_after (Catalogue_becomes catalogue) i s.tree fit; each = offices_grow i.catalogue catalogue i.offices c.1 s.each }
-sound_after (Rows_become x rows) i s fit c = record { catalogue = s.catalogue; tree = IsTree_after (Rows_become x rows) i s.tree fit; each = each_with_rows i.catalogue x rows i.offices c s.each }
-sound_after (Office_added number parent name) i s fit c = record {
-  catalogue = s.catalogue;
-  tree = IsTree_after (Office_added number parent name) i s.tree fit;
-  each = each_with_office i.catalogue (new_office number parent name) i.offices (record { number = c.0; name = c.1; rows = no_rows_sound i.catalogue }) s.each;
+pub sound_after : (change : Change) (i : Institution) → IsSound i → Fits change i.offices → IsSoundChange i change → IsSound (after change i)
+sound_after (Catalogue_becomes catalogue) i s fit c = record {
+  catalogue = c.0;
+  tree = IsTree_after (Catalogue_becomes catalogue) i s.tree fit;
+  each = offices_grow i.catalogue catalogue (is_staff i.offices) (is_staff i.offices) i.offices c.1 (λ caller h. h) s.each;
 }
+sound_after (Rows_become x rows) i s fit c =
+    let k = i.catalogue in
+    let old = is_staff i.offices in
+    let new = is_staff (with_rows x rows i.offices) in
+    let grows : StaffGrows old new = staff_with_rows x rows i.offices c.1 in
+    record {
+      catalogue = s.catalogue;
+      tree = IsTree_after (Rows_become x rows) i s.tree fit;
+      each = each_with_rows k new x rows i.offices (rows_grow k k old new rows (grows_self k) grows c.0) (offices_grow k k old new i.offices (grows_self k) grows s.each);
+    }
+sound_after (Office_added number parent name) i s fit c =
+    let k = i.catalogue in
+    let added = new_office number parent name in
+    let old = is_staff i.offices in
+    let new = is_staff (with_office added i.offices) in
+    record {
+      catalogue = s.catalogue;
+      tree = IsTree_after (Office_added number parent name) i s.tree fit;
+      each = each_with_office k new added i.offices (record { number = c.0; name = c.1; rows = no_rows_sound k new })
+          (offices_grow k k old new i.offices (grows_self k) (staff_with_office added i.offices fit.free) s.each);
+    }
 
-found_sound : (k : Catalogue) (x : ℕ) (fs : List Office) (f : Office) → AllByRecursion (IsSoundOffice k) fs → office_at x fs ≡ Some f → IsSoundOffice k f
-found_sound k x [] f a e = absurd (cc)
-found_sound k x (g ∷ fs) f a e = either (g.number == x) (found_sound k x fs f a.1) e
+pub found_sound : (k : Catalogue) (s : Caller → Bool) (x : ℕ) (fs : List Office) (f : Office) → AllByRecursion (IsSoundOffice k s) fs → office_at x fs ≡ Some f → IsSoundOffice k s f
+found_sound k s x [] f a e = absurd (cc)
+found_sound k s x (g ∷ fs) f a e = either (g.number == x) (found_sound k s x fs f a.1) e
   where
-    either : (b : Bool) → (office_at x fs ≡ Some f → IsSoundOffice k f) → cond b (Some g) (office_at x fs) ≡ Some f → IsSoundOffice k f
-    either true rest h = let same : g ≡ f = cc in subst (IsSoundOffice k) same a.0
+    either : (b : Bool) → (office_at x fs ≡ Some f → IsSoundOffice k s f) → cond b (Some g) (office_at x fs) ≡ Some f → IsSoundOffice k s f
+    either true rest h = let same : g ≡ f = cc in subst (IsSoundOffice k s) same a.0
     either false rest h = rest h
 
--- an act that keeps the rows of an office sound, under a sound catalogue
-abbrev pub KeepsRows : (Catalogue → Office → Result (Reply × Option Rows) Fault) → Type 0
-KeepsRows act = (k : Catalogue) (f : Office) (reply : Reply) (rows : Rows) → IsSoundRows k f.rows → act k f ≡ Ok (reply, Some rows) → IsSoundRows k rows
+-- rows that are sound, and have each member of staff and each receipt that there was
+abbrev pub AreRowsAfter : Catalogue → (Caller → Bool) → Rows → Rows → Type 0
+AreRowsAfter k s old new = IsSoundRows k s new × KeepsStaff old new × KeepsUses old new
 
-office_sound : (x : ℕ) (act : Catalogue → Office → Result (Reply × Option Rows) Fault) (i : Institution) (change : Change) → IsSound i → KeepsRows act → change_in (in_office x act i.catalogue (office_at x i.offices)) ≡ Some change → IsSoundChange i.catalogue change
+uses_same : (rows : Rows) → KeepsUses rows rows
+uses_same rows = known_same (uses_from 1 rows.loans) (uses_from 1 rows.loans) refl
+
+-- an act that keeps the rows of an office sound, under a sound catalogue
+abbrev pub KeepsRows : Catalogue → (Caller → Bool) → (Catalogue → Office → Result (Reply × Option Rows) Fault) → Type 0
+KeepsRows k s act = (f : Office) (reply : Reply) (rows : Rows) → IsSoundRows k s f.rows → act k f ≡ Ok (reply, Some rows) → AreRowsAfter k s f.rows rows
+
+some_of : {X : Type 0} (x y : X) → Some x ≡ Some y → x ≡ y
+some_of x y h = cc
+
+office_sound : (x : ℕ) (act : Catalogue → Office → Result (Reply × Option Rows) Fault) (i : Institution) (change : Change) → IsSound i → KeepsRows i.catalogue (is_staff i.offices) act → change_in (in_office x act i.catalogue (office_at x i.offices)) ≡ Some change → IsSoundChange i change
 office_sound x act i change s k h = at (office_at x i.offices) refl h
   where
-    become : (f : Office) → IsSoundRows i.catalogue f.rows → (r : Result (Reply × Option Rows) Fault) → act i.catalogue f ≡ r → change_in (of_office x r) ≡ Some change → IsSoundChange i.catalogue change
-    become f s (Err e) is h = absurd (cc)
-    become f s (Ok (reply, None)) is h = absurd (cc)
-    become f s (Ok (reply, Some rows)) is h = let same : Rows_become x rows ≡ change = cc in subst (IsSoundChange i.catalogue) same (k i.catalogue f reply rows s is)
+    become : (f : Office) → office_at x i.offices ≡ Some f → IsSoundRows i.catalogue (is_staff i.offices) f.rows → (r : Result (Reply × Option Rows) Fault) → act i.catalogue f ≡ r → change_in (of_office x r) ≡ Some change → IsSoundChange i change
+    become f there s (Err e) is h = absurd (cc)
+    become f there s (Ok (reply, None)) is h = absurd (cc)
+    become f there s (Ok (reply, Some rows)) is h =
+        let same : Rows_become x rows ≡ change = cc in
+        let made : AreRowsAfter i.catalogue (is_staff i.offices) f.rows rows = k f reply rows s is in
+        subst (IsSoundChange i) same (made.0, (λ g found. subst (λ (y : Office). KeepsStaff y.rows rows) (some_of f g (sym there ∙ found)) made.1), (λ g found. subst (λ (y : Office). KeepsUses y.rows rows) (some_of f g (sym there ∙ found)) made.2))
 
-    at : (f : Option Office) → office_at x i.offices ≡ f → change_in (in_office x act i.catalogue f) ≡ Some change → IsSoundChange i.catalogue change
+    at : (f : Option Office) → office_at x i.offices ≡ f → change_in (in_office x act i.catalogue f) ≡ Some change → IsSoundChange i change
     at None is h = absurd (cc)
-    at (Some f) is h = become f (found_sound i.catalogue x i.offices f s.each is).rows (act i.catalogue f) refl h
+    at (Some f) is h = become f is (found_sound i.catalogue (is_staff i.offices) x i.offices f s.each is).rows (act i.catalogue f) refl h
 
 -- an act that keeps the catalogue sound and lets what was lent stand
 abbrev pub KeepsCatalogue : (Catalogue → Result (Reply × Option Catalogue) Fault) → Type 0
 KeepsCatalogue act = (k : Catalogue) (reply : Reply) (l : Catalogue) → IsSoundCatalogue k → act k ≡ Ok (reply, Some l) → IsSoundCatalogue l × Grows k l
 
-catalogue_sound : (act : Catalogue → Result (Reply × Option Catalogue) Fault) (i : Institution) (change : Change) → IsSound i → KeepsCatalogue act → change_in (of_catalogue (act i.catalogue)) ≡ Some change → IsSoundChange i.catalogue change
+catalogue_sound : (act : Catalogue → Result (Reply × Option Catalogue) Fault) (i : Institution) (change : Change) → IsSound i → KeepsCatalogue act → change_in (of_catalogue (act i.catalogue)) ≡ Some change → IsSoundChange i change
 catalogue_sound act i change s k h = become (act i.catalogue) refl h
   where
-    become : (r : Result (Reply × Option Catalogue) Fault) → act i.catalogue ≡ r → change_in (of_catalogue r) ≡ Some change → IsSoundChange i.catalogue change
+    become : (r : Result (Reply × Option Catalogue) Fault) → act i.catalogue ≡ r → change_in (of_catalogue r) ≡ Some change → IsSoundChange i change
     become (Err e) is h = absurd (cc)
     become (Ok (reply, None)) is h = absurd (cc)
-    become (Ok (reply, Some l)) is h = let same : Catalogue_becomes l ≡ change = cc in subst (IsSoundChange i.catalogue) same (k i.catalogue reply l s.catalogue is)
+    become (Ok (reply, Some l)) is h = let same : Catalogue_becomes l ≡ change = cc in subst (IsSoundChange i) same (k i.catalogue reply l s.catalogue is)
 
 -- how a success comes about
 next_below : (used limit n : ℕ) → next_of used limit ≡ Ok n → nat_lt used limit ≡ true
@@ -170,47 +221,57 @@ not_changed : {R X : Type 0} (reply other : R) (y : X) → success reply None �
 not_changed {R = R} {X = X} reply other y h = let never : None ≡ Some y = ap (λ (r : R × Option X). r.1) h in cc
 
 -- the offices' acts
-staff_sound : (office : ℕ) (name : List ℕ) (role : Role) → IsName name → KeepsRows (λ k f. add_staff office name role f.rows)
-staff_sound office name role n k f reply new s h =
+staff_sound : (office : ℕ) (name : List ℕ) (role : Role) → IsName name → (k : Catalogue) (s : Caller → Bool) → KeepsRows k s (λ k f. add_staff office name role f.rows)
+staff_sound office name role n k staffed f reply new s h =
     let rows = f.rows in
     let made = with_value_ok (next_of (length rows.staff) 9999) (λ (m : ℕ). (StaffMade (record { office = office; staff = m }), Some (staff_added name role rows))) (reply, Some new) h in
-    subst (IsSoundRows k) (changed _ reply (staff_added name role rows) new made.2) (record {
-      staff_limit = length_push rows.staff (record { name = name; role = role }) 9999 (next_below (length rows.staff) 9999 made.0 made.1);
-      staff_names = all_push (λ (t : Staff). IsName t.name) rows.staff (record { name = name; role = role }) s.staff_names n;
-      client_limit = s.client_limit;
-      client_names = s.client_names;
-      loan_limit = s.loan_limit;
-      loans = s.loans;
-    })
+    subst (AreRowsAfter k staffed rows) (changed _ reply (staff_added name role rows) new made.2) (
+      record {
+        staff_limit = length_push rows.staff (record { name = name; role = role }) 9999 (next_below (length rows.staff) 9999 made.0 made.1);
+        staff_names = all_push (λ (t : Staff). IsName t.name) rows.staff (record { name = name; role = role }) s.staff_names n;
+        client_limit = s.client_limit;
+        client_names = s.client_names;
+        loan_limit = s.loan_limit;
+        loans = s.loans;
+        receipts = s.receipts;
+      },
+      there_push rows.staff (record { name = name; role = role }),
+      uses_same rows,
+    )
 
-client_stays : (k : Catalogue) (clients : List (List ℕ)) (name : List ℕ) (l : Loan) → IsSoundLoan k clients l → IsSoundLoan k (clients ++ name ∷ []) l
-client_stays k clients name l s = record { client = there_push clients name l.client s.client; product = s.product; stage = s.stage }
+client_stays : (k : Catalogue) (s : Caller → Bool) (clients : List (List ℕ)) (name : List ℕ) (l : Ledger) → IsSoundLoan k s clients l → IsSoundLoan k s (clients ++ name ∷ []) l
+client_stays k s clients name l i = record { client = there_push clients name l.loan.client i.client; product = i.product; stage = i.stage; entries = i.entries }
 
-client_sound : (office : ℕ) (name : List ℕ) → IsName name → KeepsRows (λ k f. add_client office name f.rows)
-client_sound office name n k f reply new s h =
+client_sound : (office : ℕ) (name : List ℕ) → IsName name → (k : Catalogue) (s : Caller → Bool) → KeepsRows k s (λ k f. add_client office name f.rows)
+client_sound office name n k staffed f reply new s h =
     let rows = f.rows in
     let made = with_value_ok (next_of (length rows.clients) 999999) (λ (m : ℕ). (ClientMade (record { office = office; number = m }), Some (client_added name rows))) (reply, Some new) h in
-    subst (IsSoundRows k) (changed _ reply (client_added name rows) new made.2) (record {
-      staff_limit = s.staff_limit;
-      staff_names = s.staff_names;
-      client_limit = length_push rows.clients name 999999 (next_below (length rows.clients) 999999 made.0 made.1);
-      client_names = all_push IsName rows.clients name s.client_names n;
-      loan_limit = s.loan_limit;
-      loans = all_map (IsSoundLoan k rows.clients) (IsSoundLoan k (rows.clients ++ name ∷ [])) rows.loans (client_stays k rows.clients name) s.loans;
-    })
+    subst (AreRowsAfter k staffed rows) (changed _ reply (client_added name rows) new made.2) (
+      record {
+        staff_limit = s.staff_limit;
+        staff_names = s.staff_names;
+        client_limit = length_push rows.clients name 999999 (next_below (length rows.clients) 999999 made.0 made.1);
+        client_names = all_push IsName rows.clients name s.client_names n;
+        loan_limit = s.loan_limit;
+        loans = all_map (IsSoundLoan k staffed rows.clients) (IsSoundLoan k staffed (rows.clients ++ name ∷ [])) rows.loans (client_stays k staffed rows.clients name) s.loans;
+        receipts = s.receipts;
+      },
+      (λ m there. there),
+      uses_same rows,
+    )
 
-shown_keeps : (office n : ℕ) → KeepsRows (λ k f. show_client office n f.rows)
-shown_keeps office n k f reply new s h =
+shown_keeps : (office n : ℕ) → (k : Catalogue) (s : Caller → Bool) → KeepsRows k s (λ k f. show_client office n f.rows)
+shown_keeps office n k staffed f reply new s h =
     let shown = with_found_ok {B = Reply × Option Rows} (numbered f.rows.clients n) (λ name. (ClientShown (record { office = office; number = n }) name, None)) (reply, Some new) h in
     absurd (not_changed _ reply new shown.1)
 
-list_keeps : (x n : ℕ) → KeepsRows (λ k f. list_loans x n f.rows)
-list_keeps x n k f reply new s h =
-    absurd (let same : success (LoansShown (lines_above x n f.rows.loans)) None ≡ success reply (Some new) = ok_of (success (LoansShown (lines_above x n f.rows.loans)) None) (success reply (Some new)) h in not_changed _ reply new same)
+list_keeps : (x n : ℕ) → (k : Catalogue) (s : Caller → Bool) → KeepsRows k s (λ k f. list_loans x n k f.rows)
+list_keeps x n k staffed f reply new s h =
+    absurd (let same : success (LoansShown (lines_above k x n f.rows.loans)) None ≡ success reply (Some new) = ok_of (success (LoansShown (lines_above k x n f.rows.loans)) None) (success reply (Some new)) h in not_changed _ reply new same)
 
 -- what a loan is lent by stands with it
-submit_sound : (office : ℕ) (asked : Application) → KeepsRows (λ k f. submit office asked k f.rows)
-submit_sound office asked k f reply new s h =
+submit_sound : (office : ℕ) (asked : Application) → (k : Catalogue) (s : Caller → Bool) → KeepsRows k s (λ k f. submit office asked k f.rows)
+submit_sound office asked k staffed f reply new s h =
     let rows = f.rows in
     let there = where_found_ok (numbered rows.clients asked.client) _ (reply, Some new) h in
     let of_product = where_found_ok (product_in k asked.product) _ (reply, Some new) there.2 in
@@ -219,75 +280,204 @@ submit_sound office asked k f reply new s h =
     let made = with_value_ok (next_of (length rows.loans) 999999) (λ (m : ℕ). (LoanMade (record { office = office; number = m }), Some (loan_added (new_loan asked) rows))) (reply, Some new) lent.1 in
     let not_retired = not_cond_ok p.retired (cond (allows p.members asked.principal asked.periods) (Ok tt) (Err F8)) F7 tt lent.0 in
     let allowed = cond_ok (allows p.members asked.principal asked.periods) (Ok tt) F8 tt not_retired in
-    subst (IsSoundRows k) (changed _ reply (loan_added (new_loan asked) rows) new made.2) (record {
-      staff_limit = s.staff_limit;
-      staff_names = s.staff_names;
-      client_limit = s.client_limit;
-      client_names = s.client_names;
-      loan_limit = length_push rows.loans (new_loan asked) 999999 (next_below (length rows.loans) 999999 made.0 made.1);
-      loans = all_push (IsSoundLoan k rows.clients) rows.loans (new_loan asked) s.loans (record {
-        client = ap is_some there.1;
-        product = ap (λ (o : Option Product). lends o asked.principal asked.periods) of_product.1 ∙ allowed.0;
-        stage = tt;
-      });
-    })
+    subst (AreRowsAfter k staffed rows) (changed _ reply (loan_added (new_loan asked) rows) new made.2) (
+      record {
+        staff_limit = s.staff_limit;
+        staff_names = s.staff_names;
+        client_limit = s.client_limit;
+        client_names = s.client_names;
+        loan_limit = length_push rows.loans (record { loan = new_loan asked; entries = [] }) 999999 (next_below (length rows.loans) 999999 made.0 made.1);
+        loans = all_push (IsSoundLoan k staffed rows.clients) rows.loans (record { loan = new_loan asked; entries = [] }) s.loans (record {
+          client = ap is_some there.1;
+          product = ap (λ (o : Option Product). lends o asked.principal asked.periods) of_product.1 ∙ allowed.0;
+          stage = tt;
+          entries = refl;
+        });
+        receipts = subst AreApart (sym (uses_push 1 (new_loan asked) rows.loans)) s.receipts;
+      },
+      (λ m there. there),
+      known_same (uses_from 1 rows.loans) (uses_from 1 (loan_added (new_loan asked) rows).loans) (uses_push 1 (new_loan asked) rows.loans),
+    )
 
-office_keeps : (office : ℕ) (asked : OfficeRequest) → IsOfficeInRange office asked → KeepsRows (λ k f. on_office asked office k f.rows)
+office_keeps : (office : ℕ) (asked : OfficeRequest) → IsOfficeInRange office asked → (k : Catalogue) (s : Caller → Bool) → KeepsRows k s (λ k f. on_office asked office k f.rows)
 office_keeps office (AddStaff name role) r = staff_sound office name role r.1
 office_keeps office (AddClient name) r = client_sound office name r.1
 office_keeps office (ShowClient client) r = shown_keeps office client
 office_keeps office (SubmitLoan asked) r = submit_sound office asked
 office_keeps office (ListLoans after) r = list_keeps office after
 
--- a step is refused by F9 alone, and a stage's day is not after the business day
-abbrev pub IsResultBy : ℕ → Result Stage Fault → Type 0
-IsResultBy today (Err e) = e ≡ F9
-IsResultBy today (Ok stage) = IsStageBy today stage
+-- a step keeps a loan's days in order, and is taken before disbursement
+abbrev IsResultFrom : ℕ → Stage → Result Stage Fault → Type 0
+IsResultFrom today from (Err e) = Unit {0}
+IsResultFrom today from (Ok to) = IsStageBy today to × (disbursed_on from ≡ None)
 
-pub step_keeps : (step : LoanStep) (today : ℕ) (s : Stage) → IsResultBy today (next_stage step today s)
-step_keeps Approve today Submitted = omega arith
-step_keeps Reject today Submitted = tt
-step_keeps Withdraw today Submitted = tt
-step_keeps UndoApproval today (Approved day) = tt
-step_keeps _ today _ = refl
-
-stage_keeps : (asked : LoanRequest) (k : Catalogue) (l : Loan) (told : LoanReply) (stage : Stage) → on_loan asked k l ≡ Ok (told, Some stage) → IsStageBy k.day stage
-stage_keeps Show k l told stage h = absurd (not_changed (Shown l) told stage (ok_of (success (Shown l) None) (success told (Some stage)) h))
-stage_keeps (Take step) k l told stage h = either (next_stage step k.day l.stage) (step_keeps step k.day l.stage) h
+disbursed_keeps : (approved day today : ℕ) → IsResultFrom today (Approved approved) (disbursed approved day today)
+disbursed_keeps approved day today = either (nat_le approved day && nat_le day today) refl
   where
-    either : (r : Result Stage Fault) → IsResultBy k.day r → with_value {B = LoanReply × Option Stage} r (λ stage. (Status (status_of stage), Some stage)) ≡ Ok (told, Some stage) → IsStageBy k.day stage
+    either : (b : Bool) → (nat_le approved day && nat_le day today) ≡ b → IsResultFrom today (Approved approved) (cond b (Ok (Disbursed approved day)) (Err F10))
+    either false h = tt
+    either true h =
+        let first : nat_le approved day ≡ true = and_left (nat_le approved day) (nat_le day today) h in
+        let second : nat_le day today ≡ true = and_right (nat_le approved day) (nat_le day today) h in
+        let early : approved ≤ day = grind (arith, nat_tests) in
+        let late : day ≤ today = grind (arith, nat_tests) in
+        ((early, late), refl)
+
+step_keeps : (step : LoanStep) (today : ℕ) (from : Stage) → IsResultFrom today from (next_stage step today from)
+step_keeps Approve today Submitted = (omega arith, refl)
+step_keeps Reject today Submitted = (tt, refl)
+step_keeps Withdraw today Submitted = (tt, refl)
+step_keeps UndoApproval today (Approved approved) = (tt, refl)
+step_keeps (Disburse day) today (Approved approved) = disbursed_keeps approved day today
+step_keeps _ today _ = tt
+
+none_before : (today : ℕ) (s : Caller → Bool) (periods : ℕ) (d : Option ℕ) (es : List Entry) → d ≡ None → AreEntriesBy today s periods d es → es ≡ []
+none_before today s periods None es h i = i
+none_before today s periods (Some d) es h i = absurd (cc)
+
+none_by : (today : ℕ) (s : Caller → Bool) (periods : ℕ) (d : Option ℕ) (es : List Entry) → es ≡ [] → AreEntriesBy today s periods d es
+none_by today s periods None es h = h
+none_by today s periods (Some day) es h = subst (λ (xs : List Entry). AreEntered today s periods day xs) (sym h) (record { lawful = no_entries periods day; each = tt })
+
+-- what becomes of loan n leaves it sound, each receipt apart, and those known that were
+record KeepsLoan (k : Catalogue) (staffed : Caller → Bool) (rows : Rows) (n : ℕ) (l : Ledger) (change : LedgerChange) : Type 0 where
+  sound : IsSoundLoan k staffed rows.clients (change l)
+  apart : AreApart (uses_from 1 (with_numbered n change rows.loans))
+  known : KnownStay (uses_from 1 rows.loans) (uses_from 1 (with_numbered n change rows.loans))
+
+-- a loan of sound rows
+record IsLoanOf (k : Catalogue) (staffed : Caller → Bool) (rows : Rows) (l : Ledger) : Type 0 where
+  sound : IsSoundLoan k staffed rows.clients l
+  apart : AreApart (uses_from 1 rows.loans)
+
+step_sound : (step : LoanStep) (k : Catalogue) (s : Caller → Bool) (rows : Rows) (n : ℕ) (l : Ledger) (told : LoanReply) (change : LedgerChange) → IsLoanOf k s rows l → with_value {B = LoanReply × Option LedgerChange} (next_stage step k.day l.loan.stage) (λ stage. (Status (stage_number stage), Some (staged stage))) ≡ Ok (told, Some change) → KeepsLoan k s rows n l change
+step_sound step k s rows n l told change was h = either (next_stage step k.day l.loan.stage) (step_keeps step k.day l.loan.stage) h
+  where
+    either : (r : Result Stage Fault) → IsResultFrom k.day l.loan.stage r → with_value {B = LoanReply × Option LedgerChange} r (λ stage. (Status (stage_number stage), Some (staged stage))) ≡ Ok (told, Some change) → KeepsLoan k s rows n l change
     either (Err e) b h = absurd (cc)
-    either (Ok s) b h = subst (IsStageBy k.day) (changed (Status (status_of s)) told s stage (ok_of (success (Status (status_of s)) (Some s)) (success told (Some stage)) h)) b
+    either (Ok stage) b h =
+        let same : staged stage ≡ change = changed (Status (stage_number stage)) told (staged stage) change (ok_of (success (Status (stage_number stage)) (Some (staged stage))) (success told (Some change)) h) in
+        let none : l.entries ≡ [] = none_before k.day s l.loan.periods (disbursed_on l.loan.stage) l.entries b.1 was.sound.entries in
+        let uses = uses_with n 1 (staged stage) rows.loans (λ x. refl) in
+        subst (KeepsLoan k s rows n l) same (record {
+          sound = record {
+            client = was.sound.client;
+            product = was.sound.product;
+            stage = b.0;
+            entries = none_by k.day s l.loan.periods (disbursed_on stage) l.entries none;
+          };
+          apart = subst AreApart (sym uses) was.apart;
+          known = known_same (uses_from 1 rows.loans) (uses_from 1 (with_numbered n (staged stage) rows.loans)) uses;
+        })
 
-staged_sound : (k : Catalogue) (clients : List (List ℕ)) (stage : Stage) (l : Loan) → IsStageBy k.day stage → IsSoundLoan k clients l → IsSoundLoan k clients (record l { stage = stage })
-staged_sound k clients stage l b s = record { client = s.client; product = s.product; stage = b }
+-- an account takes an entry: its loan has it, and is sound
+entered_sound : (k : Catalogue) (s : Caller → Bool) (clients : List (List ℕ)) (l : Ledger) (a : Running) (e : Entry) → IsSoundCatalogue k → IsSoundLoan k s clients l → account_in k l ≡ Some a → IsOffered a e k.day → refusal_of a e k.day ≡ None → IsEntryBy k.day s e → IsSoundLoan k s clients (entered e l)
+entered_sound k s clients l a e c was h offered none by =
+    let is : IsRunning k l a = account_is k l a h in
+    let sound : IsSoundAccount a = account_sound k s clients l a c was h in
+    let taken : IsSoundAccount (record a { entries = a.entries ++ e ∷ [] }) = sound-entered a e k.day sound offered none in
+    let lawful : AreEntries l.loan.periods is.day (l.entries ++ e ∷ []) = subst (λ (x : Running). AreEntries x.periods x.day (x.entries ++ e ∷ [])) (sym is.account_is) taken.entries in
+    let all : AreEntered k.day s l.loan.periods is.day (l.entries ++ e ∷ []) = record {
+      lawful = lawful;
+      each = all_push (IsEntryBy k.day s) l.entries e (entered_at k s clients l is.day is.day_is was).each by;
+    } in
+    record {
+      client = was.client;
+      product = was.product;
+      stage = was.stage;
+      entries = subst (λ d. AreEntriesBy k.day s l.loan.periods d (l.entries ++ e ∷ [])) (sym is.day_is) all;
+    }
 
-staged_rows : (n : ℕ) (stage : Stage) (k : Catalogue) (rows : Rows) → IsStageBy k.day stage → IsSoundRows k rows → IsSoundRows k (loan_staged n stage rows)
-staged_rows n stage k rows b s = record {
-  staff_limit = s.staff_limit;
-  staff_names = s.staff_names;
-  client_limit = s.client_limit;
-  client_names = s.client_names;
-  loan_limit = rw (length_with n (λ (x : Loan). record x { stage = stage }) rows.loans) s.loan_limit;
-  loans = all_with (IsSoundLoan k rows.clients) n (λ (x : Loan). record x { stage = stage }) rows.loans (λ x. staged_sound k rows.clients stage x b) s.loans;
-}
+-- what is asked of an entry that is offered holds of a repayment
+pub repayment_offered : (k : Catalogue) (s : Caller → Bool) (clients : List (List ℕ)) (l : Ledger) (a : Running) (asked : Repayment) (staff : Caller) → IsRepayment asked → IsSoundLoan k s clients l → account_in k l ≡ Some a → IsOffered a (repayment asked staff a) k.day
+repayment_offered k s clients l a asked staff r was h =
+    let is : IsRunning k l a = account_is k l a h in
+    record {
+      next = refl;
+      stands = refl;
+      disbursed = subst (λ (x : Running). x.day ≤ k.day) is.account_is (day_of_stage k.day l.loan.stage is.day is.day_is was.stage);
+      latest = subst (λ (x : Running). (i : ℕ) → i < length x.entries → (entry_at x.entries i).day ≤ k.day) is.account_is (days_by k.day s l.entries (entered_at k s clients l is.day is.day_is was).each);
+      form = (r.0.0, r.0.1, refl, refl);
+    }
 
-loan_keeps : (account : Account) (asked : LoanRequest) → KeepsRows (λ k f. in_loan account (on_loan asked k) f.rows)
-loan_keeps account asked k f reply new s h =
-    let there = where_found_ok (numbered f.rows.loans account.number) _ (reply, Some new) h in
-    become (on_loan asked k there.0) (stage_keeps asked k there.0) there.2
+in_order : (a : Running) (asked : Repayment) (staff : Caller) (today : ℕ) → refusal_of a (repayment asked staff a) today ≡ None → asked.day ≤ today
+in_order a asked staff today h =
+    let is = admitted a (repayment asked staff a) today h in
+    let order : (nat_lt asked.day a.day || nat_lt today asked.day) ≡ false = is.in_order in
+    grind (arith, nat_tests)
+
+-- a repayment that is entered carries no receipt that was used
+unless_known_ok : (n : ℕ) (asked : Repayment) (o : Option Use) (next : Result (LoanReply × Option LedgerChange) Fault) (told : LoanReply) (change : LedgerChange) → unless_known n asked o next ≡ Ok (told, Some change) → (o ≡ None) × (next ≡ Ok (told, Some change))
+unless_known_ok n asked None next told change h = (refl, h)
+unless_known_ok n asked (Some u) next told change h = absurd (never (repeated n asked.amount asked.day u.by) h)
   where
-    become : (r : Result (LoanReply × Option Stage) Fault) → ((told : LoanReply) (stage : Stage) → r ≡ Ok (told, Some stage) → IsStageBy k.day stage) → of_loan account f.rows r ≡ Ok (reply, Some new) → IsSoundRows k new
-    become (Err e) by h = absurd (cc)
-    become (Ok (told, None)) by h = absurd (not_changed (LoanTold account told) reply new (ok_of (success (LoanTold account told) None) (success reply (Some new)) h))
-    become (Ok (told, Some stage)) by h =
-        let staged = loan_staged account.number stage f.rows in
-        let same : staged ≡ new = changed (LoanTold account told) reply staged new (ok_of (success (LoanTold account told) (Some staged)) (success reply (Some new)) h) in
-        subst (IsSoundRows k) same (staged_rows account.number stage k f.rows (by told stage refl) s)
+    never : (r : Result ℕ Fault) → repeat_of r ≡ Ok (told, Some change) → ⊥
+    never (Err e) h = cc
+    never (Ok seq) h = not_changed (Repeated seq) told change (ok_of (success (Repeated seq) None) (success told (Some change)) h)
+
+repay_sound : (asked : Repayment) (c : Caller) (k : Catalogue) (s : Caller → Bool) (rows : Rows) (n : ℕ) (l : Ledger) (told : LoanReply) (change : LedgerChange) → IsSoundCatalogue k → s c ≡ true → IsRepayment asked → IsLoanOf k s rows l → used_before asked.receipt (uses_from 1 rows.loans) ≡ None → enter (repayment asked c) k (account_in k l) ≡ Ok (told, Some change) → KeepsLoan k s rows n l change
+repay_sound asked c k s rows n l told change catalogue there_is r was free h = at (account_in k l) refl h
+  where
+    taken : (a : Running) → account_in k l ≡ Some a → (o : Option Fault) → refusal_of a (repayment asked c a) k.day ≡ o → unless_fault o (repayment asked c a) ≡ Ok (told, Some change) → KeepsLoan k s rows n l change
+    taken a is (Some fault) none h = absurd (cc)
+    taken a is None none h =
+        let e : Entry = repayment asked c a in
+        let same : entered e ≡ change = changed (Entered e.seq) told (entered e) change (ok_of (success (Entered e.seq) (Some (entered e))) (success told (Some change)) h) in
+        let by : IsEntryBy k.day s (repayment asked c a) = record { day = in_order a asked c k.day none; staff = there_is; receipt = r.2 } in
+        subst (KeepsLoan k s rows n l) same (record {
+          sound = entered_sound k s rows.clients l a (repayment asked c a) catalogue was.sound is (repayment_offered k s rows.clients l a asked c r was.sound is) none by;
+          apart = apart_entered n (repayment asked c a) rows.loans free was.apart;
+          known = known_entered n (repayment asked c a) rows.loans free;
+        })
+
+    at : (o : Option Running) → account_in k l ≡ o → enter (repayment asked c) k o ≡ Ok (told, Some change) → KeepsLoan k s rows n l change
+    at None is h = absurd (cc)
+    at (Some a) is h = taken a is (refusal_of a (repayment asked c a) k.day) refl h
+
+not_told : (tell told : LoanReply) (change : LedgerChange) → ok (success tell None) ≡ Ok (success told (Some change)) → ⊥
+not_told tell told change h = not_changed tell told change (ok_of (success tell None) (success told (Some change)) h)
+
+change_sound : (asked : LoanRequest) (c : Caller) (k : Catalogue) (s : Caller → Bool) (rows : Rows) (n : ℕ) (l : Ledger) (told : LoanReply) (change : LedgerChange) → IsSoundCatalogue k → s c ≡ true → IsLoanInRange asked → IsLoanOf k s rows l → on_loan asked c k rows n l ≡ Ok (told, Some change) → KeepsLoan k s rows n l change
+change_sound Show c k s rows n l told change catalogue there r was h = absurd (not_told (Shown (statement k l)) told change h)
+change_sound ShowInstalments c k s rows n l told change catalogue there r was h = absurd (not_told (Instalments (instalments_in k l)) told change h)
+change_sound ShowEntries c k s rows n l told change catalogue there r was h = absurd (not_told (Entries (entries_in k l)) told change h)
+change_sound (Take step) c k s rows n l told change catalogue there r was h = step_sound step k s rows n l told change was h
+change_sound (Repay asked) c k s rows n l told change catalogue there r was h =
+    let fresh = unless_known_ok n asked (used_before asked.receipt (uses_from 1 rows.loans)) (enter (repayment asked c) k (account_in k l)) told change h in
+    repay_sound asked c k s rows n l told change catalogue there r was fresh.0 fresh.1
+
+changed_rows : (n : ℕ) (change : LedgerChange) (k : Catalogue) (staffed : Caller → Bool) (rows : Rows) (l : Ledger) → numbered rows.loans n ≡ Some l → KeepsLoan k staffed rows n l change → IsSoundRows k staffed rows → AreRowsAfter k staffed rows (loan_changed n change rows)
+changed_rows n change k staffed rows l there now s = (
+  record {
+    staff_limit = s.staff_limit;
+    staff_names = s.staff_names;
+    client_limit = s.client_limit;
+    client_names = s.client_names;
+    loan_limit = rw (length_with n change rows.loans) s.loan_limit;
+    loans = all_with_at (IsSoundLoan k staffed rows.clients) n change rows.loans l there now.sound s.loans;
+    receipts = now.apart;
+  },
+  (λ m there. there),
+  now.known,
+)
+
+loan_keeps : (account : Account) (asked : LoanRequest) (c : Caller) → IsLoanInRange asked → (k : Catalogue) (s : Caller → Bool) → IsSoundCatalogue k → s c ≡ true → KeepsRows k s (λ k f. in_loan account (on_loan asked c k f.rows account.number) f.rows)
+loan_keeps account asked c r k staffed catalogue there_is f reply new s h =
+    let there = where_found_ok (numbered f.rows.loans account.number) _ (reply, Some new) h in
+    let was : IsLoanOf k staffed f.rows there.0 = record { sound = all_at (IsSoundLoan k staffed f.rows.clients) f.rows.loans account.number there.0 s.loans there.1; apart = s.receipts } in
+    become there.0 there.1 (on_loan asked c k f.rows account.number there.0) (λ told change. change_sound asked c k staffed f.rows account.number there.0 told change catalogue there_is r was) there.2
+  where
+    become : (l : Ledger) → numbered f.rows.loans account.number ≡ Some l → (o : Result (LoanReply × Option LedgerChange) Fault) → ((told : LoanReply) (change : LedgerChange) → o ≡ Ok (told, Some change) → KeepsLoan k staffed f.rows account.number l change) → of_loan account f.rows o ≡ Ok (reply, Some new) → AreRowsAfter k staffed f.rows new
+    become l is (Err e) by h = absurd (cc)
+    become l is (Ok (told, None)) by h = absurd (not_changed (LoanTold account told) reply new (ok_of (success (LoanTold account told) None) (success reply (Some new)) h))
+    become l is (Ok (told, Some change)) by h =
+        let rows = loan_changed account.number change f.rows in
+        let same : rows ≡ new = changed (LoanTold account told) reply rows new (ok_of (success (LoanTold account told) (Some rows)) (success reply (Some new)) h) in
+        subst (AreRowsAfter k staffed f.rows) same (changed_rows account.number change k staffed f.rows l is (by told change refl) s)
 
 -- the catalogue's acts
-same_lends : (k l : Catalogue) → k.products ≡ l.products → k.day ≤ l.day → Grows k l
-same_lends k l same d = record { day = d; products = λ n principal periods h. ap (λ (ps : List Offer). lends (option_map (product_of n) (numbered ps n)) principal periods) (sym same) ∙ h }
+same_lends : (k l : Catalogue) → k.products ≡ l.products → k.day ≤ l.day → ((n : ℕ) (t : Terms) → terms_in k n ≡ Some t → terms_in l n ≡ Some t) → Grows k l
+same_lends k l same d terms = record { day = d; terms = terms; products = λ n principal periods h. ap (λ (ps : List Offer). lends (option_map (product_of n) (numbered ps n)) principal periods) (sym same) ∙ h }
 
 day_shown_keeps : KeepsCatalogue show_day
 day_shown_keeps k reply l s h = absurd (not_changed (DayShown k.day) reply l (ok_of (success (DayShown k.day) None) (success reply (Some l)) h))
@@ -299,7 +489,7 @@ day_sound day d k reply l s h =
     let same : day_set day k ≡ l = changed (DaySet day) reply (day_set day k) l (ok_of (success (DaySet day) (Some (day_set day k))) (success reply (Some l)) set.1) in
     subst (λ (x : Catalogue). IsSoundCatalogue x × Grows k x) same (
       record { day = d; charge_limit = s.charge_limit; charges = s.charges; product_limit = s.product_limit; products = s.products },
-      same_lends k (day_set day k) refl later,
+      same_lends k (day_set day k) refl later (λ n t given. given),
     )
 
 offer_stays : (k : Catalogue) (c : Charge) (p : Offer) → IsSoundOffer (charge_in k) p → IsSoundOffer (charge_in (charge_added c k)) p
@@ -316,7 +506,7 @@ charge_sound c n k reply l s h =
         product_limit = s.product_limit;
         products = all_map (IsSoundOffer (charge_in k)) (IsSoundOffer (charge_in (charge_added c k))) k.products (offer_stays k c) s.products;
       },
-      same_lends k (charge_added c k) refl (omega arith),
+      same_lends k (charge_added c k) refl (omega arith) (λ n t. terms_charge k c n t s.products),
     )
 
 charge_shown_keeps : (n : ℕ) → KeepsCatalogue (show_charge n)
@@ -349,7 +539,11 @@ product_sound members n k reply l s h =
         product_limit = length_push k.products (record { members = members; retired = false }) 999 (next_below (length k.products) 999 made.0 made.1);
         products = all_push (IsSoundOffer (charge_in k)) k.products (record { members = members; retired = false }) s.products (record { members = n; consistent = consistent.0 });
       },
-      record { day = omega arith; products = λ m principal periods. product_stays k.products (record { members = members; retired = false }) m principal periods },
+      record {
+        day = omega arith;
+        products = λ m principal periods. product_stays k.products (record { members = members; retired = false }) m principal periods;
+        terms = λ m t. terms_push k (record { members = members; retired = false }) m t;
+      },
     )
 
 retired_stays : (charges : ℕ → Option ChargeDef) (p : Offer) → IsSoundOffer charges p → IsSoundOffer charges (record p { retired = true })
@@ -372,6 +566,7 @@ retire_sound n k reply l s h =
       record {
         day = omega arith;
         products = λ m principal periods lent. lends_by_members m m principal periods (numbered (product_retired n k).products m) (numbered k.products m) (numbered_with (λ (p : Offer). p.members) n (λ (p : Offer). record p { retired = true }) k.products (λ p. refl) m) ∙ lent;
+        terms = λ m t. terms_with k (product_retired n k).products m t (numbered_with (λ (p : Offer). p.members) n (λ (p : Offer). record p { retired = true }) k.products (λ p. refl) m);
       },
     )
 
@@ -384,31 +579,40 @@ catalogue_keeps (AddProduct members) r = product_sound members r
 catalogue_keeps (ShowProduct product) r = product_shown_keeps product
 catalogue_keeps (RetireProduct product) r = retire_sound product
 
--- what a request changes is sound, if its members lie in their ranges
-effect_sound : (c : Caller) (request : Request) (i : Institution) (change : Change) → IsSound i → IsInRange request → sender_effect (Some c) (plan request) i ≡ Some change → IsSoundChange i.catalogue change
-effect_sound c (request.Unreadable flaw) i change s r h = absurd (cc)
-effect_sound c (request.Catalogue asked) i change s r h = catalogue_sound (on_catalogue asked) i change s (catalogue_keeps asked r) h
-effect_sound c (request.Office office asked) i change s r h = office_sound office (λ k f. on_office asked office k f.rows) i change s (office_keeps office asked r) h
-effect_sound c (request.Loan loan asked) i change s r h = office_sound loan.office (λ k f. in_loan loan (on_loan asked k) f.rows) i change s (loan_keeps loan asked) h
-effect_sound c request.SeenOffices i change s r h = absurd (cc)
-effect_sound c (request.NewOffice number parent name) i change s r h =
-    let is : Office_added number parent name ≡ change = cc in subst (IsSoundChange i.catalogue) is (r.0, r.2)
+-- what a request of a member of staff changes is sound, if its members lie in their ranges
+effect_sound : (c : Caller) (request : Request) (i : Institution) (change : Change) → is_staff i.offices c ≡ true → IsSound i → IsInRange request → sender_effect (Some c) (plan request) i ≡ Some change → IsSoundChange i change
+effect_sound c (request.Unreadable flaw) i change b s r h = absurd (cc)
+effect_sound c (request.Catalogue asked) i change b s r h = catalogue_sound (on_catalogue asked) i change s (catalogue_keeps asked r) h
+effect_sound c (request.Office office asked) i change b s r h = office_sound office (λ k f. on_office asked office k f.rows) i change s (office_keeps office asked r i.catalogue (is_staff i.offices)) h
+effect_sound c (request.Loan loan asked) i change b s r h = office_sound loan.office (λ k f. in_loan loan (on_loan asked c k f.rows loan.number) f.rows) i change s (loan_keeps loan asked c r.1 i.catalogue (is_staff i.offices) s.catalogue b) h
+effect_sound c request.SeenOffices i change b s r h = absurd (cc)
+effect_sound c (request.NewOffice number parent name) i change b s r h =
+    let is : Office_added number parent name ≡ change = cc in subst (IsSoundChange i) is (r.0, r.2)
 
-by_sound : (caller : Option Caller) (request : Request) (i : Institution) (change : Change) → IsSound i → IsInRange request → sender_effect caller (plan request) i ≡ Some change → IsSoundChange i.catalogue change
-by_sound None request i change s r h = nobody (plan request) h
+-- whoever sends an accepted request is there
+sender_there : (c : Caller) (request : Request) (p : Result Plan Fault) (i : Institution) (change : Change) → change_in (sent_by (Some c) request p i) ≡ Some change → is_staff i.offices c ≡ true
+sender_there c request (Err e) i change h = absurd (cc)
+sender_there c request (Ok p) i change h = there (staff_at i c) h
   where
-    nobody : (p : Result Plan Fault) → sender_effect None p i ≡ Some change → IsSoundChange i.catalogue change
+    there : (o : Option Staff) → change_in (where_permitted c request p o i) ≡ Some change → is_some o ≡ true
+    there None h = absurd (cc)
+    there (Some staff) h = refl
+
+pub by_sound : (caller : Option Caller) (request : Request) (i : Institution) (change : Change) → IsSound i → IsInRange request → change_in (sent_by caller request (plan request) i) ≡ Some change → sender_effect caller (plan request) i ≡ Some change → IsSoundChange i change
+by_sound None request i change s r sent h = nobody (plan request) h
+  where
+    nobody : (p : Result Plan Fault) → sender_effect None p i ≡ Some change → IsSoundChange i change
     nobody (Err e) h = absurd (cc)
     nobody (Ok p) h = absurd (cc)
-by_sound (Some c) request i change s r h = effect_sound c request i change s r h
+by_sound (Some c) request i change s r sent h = effect_sound c request i change (sender_there c request (plan request) i change sent) s r h
 
 -- an accepted request leaves a sound institution
 pub accepted_sound : (call : Call) (i : Institution) (change : Change) → IsSound i → IsInRange call.request → change_in (outcome call i) ≡ Some change → IsSound (after change i)
 accepted_sound call i change s r h =
     let k = known_line call.caller call.request (plan call.request) i change s.tree refl h in
-    sound_after change i s k.fits (by_sound call.caller call.request i change s r k.made_is)
+    sound_after change i s k.fits (by_sound call.caller call.request i change s r h k.made_is)
 
-next_sound : (l : Line) (i : Institution) → IsSound i → IsInRange l.call.request → IsSound (next l i)
+pub next_sound : (l : Line) (i : Institution) → IsSound i → IsInRange l.call.request → IsSound (next l i)
 next_sound l i s r = step l.given_up (change_in (outcome l.call i)) refl
   where
     step : (g : Bool) (c : Option Change) → change_in (outcome l.call i) ≡ c → IsSound (after_maybe (cond g None c) i)
@@ -437,16 +641,16 @@ new_sound day h = record {
     record {
       number = (omega arith, omega arith);
       name = head_office_name;
-      rows = record { staff_limit = omega arith; staff_names = (head_manager_name, tt); client_limit = omega arith; client_names = tt; loan_limit = omega arith; loans = tt };
+      rows = record { staff_limit = omega arith; staff_names = (head_manager_name, tt); client_limit = omega arith; client_names = tt; loan_limit = omega arith; loans = tt; receipts = tt };
     },
     tt,
   );
 }
 
 -- the offices of a sound institution are a tree as the keys of offices know it
-number_sound : (k : Catalogue) (fs : List Office) (x : ℕ) → AllByRecursion (IsSoundOffice k) fs → is_there fs x ≡ true → IsNumberUpTo 9999 x
-number_sound k [] x a h = absurd (cc)
-number_sound k (f ∷ fs) x a h = either (f.number == x) refl (number_sound k fs x a.1) h
+number_sound : (k : Catalogue) (s : Caller → Bool) (fs : List Office) (x : ℕ) → AllByRecursion (IsSoundOffice k s) fs → is_there fs x ≡ true → IsNumberUpTo 9999 x
+number_sound k s [] x a h = absurd (cc)
+number_sound k s (f ∷ fs) x a h = either (f.number == x) refl (number_sound k s fs x a.1) h
   where
     either : (b : Bool) → (f.number == x) ≡ b → (is_there fs x ≡ true → IsNumberUpTo 9999 x) → is_some (cond b (Some f) (office_at x fs)) ≡ true → IsNumberUpTo 9999 x
     either true e rest h = let same : f.number ≡ x = grind (arith, nat_tests) in subst (IsNumberUpTo 9999) same a.0.number
@@ -454,7 +658,7 @@ number_sound k (f ∷ fs) x a h = either (f.number == x) refl (number_sound k fs
 
 pub sound_tree : (i : Institution) → IsSound i → IsTreeOf (is_there i.offices) (parent_of i.offices)
 sound_tree i s = record {
-  numbered = λ x there. number_sound i.catalogue i.offices x s.each there;
+  numbered = λ x there. number_sound i.catalogue (is_staff i.offices) i.offices x s.each there;
   head_there = s.tree.head_there;
   head = s.tree.head;
   parents_there = λ x p there e. s.tree.parents_there x p e;

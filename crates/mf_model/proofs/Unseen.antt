@@ -6,11 +6,10 @@ use Rattle.mf_base.specs.declared.fault.Fault.TheVariants.{F2, F3, F4}
 use Rattle.mf_office.specs.Tree.{is_at_or_below}
 use Rattle.mf_office.specs.declared.caller.Caller.{Caller}
 use Rattle.mf_office.specs.declared.account.Account.{Account}
-use Rattle.mf_model.specs.declared.loan.Loan.{Loan}
 use Rattle.mf_model.specs.declared.reply.Reply.{Reply}
 use Rattle.mf_model.specs.declared.reply.Reply.TheVariants.{ClientShown}
 use Rattle.mf_model.specs.declared.request.LoanRequest.{LoanRequest}
-use Rattle.mf_model.specs.Institution.{Institution, Catalogue, Office, Staff, numbered, office_at, product_in}
+use Rattle.mf_model.specs.Institution.{Institution, Catalogue, Office, Staff, Ledger, numbered, office_at, product_in}
 use Rattle.mf_model.specs.Tree.{parent_of, seen_office}
 use Rattle.mf_model.specs.Outcomes.{with_found, where_found}
 use Rattle.mf_model.specs.Offices.{show_client}
@@ -20,11 +19,11 @@ use Rattle.mf_model.specs.Store.{rows_of}
 use Rattle.mf_model.specs.Unseen.{Asked, Of_loan, Of_client, Loan_to_client, asked_of, is_account_there, IsUnseen, sent}
 
 -- what is done in the office of an account that isn't there
-loan_missing : (a : Account) (asked : LoanRequest) (k : Catalogue) (office : Option Office) → is_some (numbered (rows_of office).loans a.number) ≡ false → in_office a.office (λ catalogue f. in_loan a (on_loan asked catalogue) f.rows) k office ≡ Err F4
-loan_missing a asked k None h = refl
-loan_missing a asked k (Some f) h = at (numbered f.rows.loans a.number) h
+loan_missing : (a : Account) (asked : LoanRequest) (c : Caller) (k : Catalogue) (office : Option Office) → is_some (numbered (rows_of office).loans a.number) ≡ false → in_office a.office (λ catalogue f. in_loan a (on_loan asked c catalogue f.rows a.number) f.rows) k office ≡ Err F4
+loan_missing a asked c k None h = refl
+loan_missing a asked c k (Some f) h = at (numbered f.rows.loans a.number) h
   where
-    at : (loan : Option Loan) → is_some loan ≡ false → of_office a.office (where_found loan (λ l. of_loan a f.rows (on_loan asked k l))) ≡ Err F4
+    at : (loan : Option Ledger) → is_some loan ≡ false → of_office a.office (where_found loan (λ l. of_loan a f.rows (on_loan asked c k f.rows a.number l))) ≡ Err F4
     at None h = refl
     at (Some l) h = absurd (cc)
 
@@ -46,12 +45,12 @@ borrower_missing a product principal periods k (Some f) h = at (numbered f.rows.
 
 -- what becomes of such a request where it may be sent
 abbrev carried : Asked → Account → Caller → Institution → Option Office → Outcome
-carried (Of_loan asked) a c i office = in_office a.office (λ catalogue f. in_loan a (on_loan asked catalogue) f.rows) i.catalogue office
+carried (Of_loan asked) a c i office = in_office a.office (λ catalogue f. in_loan a (on_loan asked c catalogue f.rows a.number) f.rows) i.catalogue office
 carried Of_client a c i office = in_office a.office (λ catalogue f. show_client a.office a.number f.rows) i.catalogue office
 carried (Loan_to_client product principal periods) a c i office = in_office a.office (λ catalogue f. submit a.office (record { client = a.number; product = product; principal = principal; periods = periods }) catalogue f.rows) i.catalogue office
 
 carried_missing : (asked : Asked) (a : Account) (c : Caller) (i : Institution) → is_account_there asked a i ≡ false → carried asked a c i (office_at a.office i.offices) ≡ Err F4
-carried_missing (Of_loan asked) a c i h = loan_missing a asked i.catalogue (office_at a.office i.offices) h
+carried_missing (Of_loan asked) a c i h = loan_missing a asked c i.catalogue (office_at a.office i.offices) h
 carried_missing Of_client a c i h = client_missing a i.catalogue (office_at a.office i.offices) h
 carried_missing (Loan_to_client product principal periods) a c i h = borrower_missing a product principal periods i.catalogue (office_at a.office i.offices) h
 
@@ -76,7 +75,7 @@ refused_for asked a c (Some s) = cond (meets (need (asked_of asked a)) s.role c.
 refused_unseen : (asked : Asked) (a : Account) (c : Caller) (i : Institution) → IsUnseen c asked a i → reply (sent c (asked_of asked a)) i ≡ refused_for asked a c (staff_at i c)
 refused_unseen (Of_loan asked) a c i u = at (staff_at i c)
   where
-    at : (staff : Option Staff) → reply_in (where_permitted c (asked_of (Of_loan asked) a) (On_office a.office (λ caller catalogue f. in_loan a (on_loan asked catalogue) f.rows)) staff i) ≡ refused_for (Of_loan asked) a c staff
+    at : (staff : Option Staff) → reply_in (where_permitted c (asked_of (Of_loan asked) a) (On_office a.office (λ caller catalogue f. in_loan a (on_loan asked caller catalogue f.rows a.number) f.rows)) staff i) ≡ refused_for (Of_loan asked) a c staff
     at None = refl
     at (Some s) = permitted (meets (need (asked_of (Of_loan asked) a)) s.role c.office)
       where

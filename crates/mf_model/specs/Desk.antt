@@ -13,20 +13,20 @@ use Rattle.mf_model.specs.declared.request.CatalogueRequest.{CatalogueRequest}
 use Rattle.mf_model.specs.declared.request.CatalogueRequest.TheVariants.{ShowDay, SetDay, AddCharge, ShowCharge, AddProduct, ShowProduct, RetireProduct}
 use Rattle.mf_model.specs.declared.request.OfficeRequest.{OfficeRequest}
 use Rattle.mf_model.specs.declared.request.OfficeRequest.TheVariants.{AddStaff, AddClient, ShowClient, SubmitLoan, ListLoans}
-use Rattle.mf_model.specs.declared.request.LoanStep.TheVariants.{Approve, Reject, Withdraw, UndoApproval}
+use Rattle.mf_model.specs.declared.request.LoanStep.TheVariants.{Approve, Reject, Withdraw, UndoApproval, Disburse}
 use Rattle.mf_model.specs.declared.request.LoanRequest.{LoanRequest}
-use Rattle.mf_model.specs.declared.request.LoanRequest.TheVariants.{Show, Take}
+use Rattle.mf_model.specs.declared.request.LoanRequest.TheVariants.{Show, ShowInstalments, ShowEntries, Take, Repay}
 use Rattle.mf_model.specs.declared.request.Request.{Request}
 use Rattle.mf_model.specs.declared.request.Request.TheVariants as request
 use Rattle.mf_model.specs.declared.reply.Reply.{Reply}
 use Rattle.mf_model.specs.declared.reply.Reply.TheVariants.{OfficeMade}
-use Rattle.mf_model.specs.Institution.{Institution, Catalogue, Office, Rows, Staff, Change, Catalogue_becomes, Rows_become, Office_added, numbered, office_at}
+use Rattle.mf_model.specs.Institution.{Institution, Catalogue, Office, Rows, Staff, Change, Catalogue_becomes, Rows_become, Office_added, office_at, staff_in}
 use Rattle.mf_model.specs.Tree.{parent_of, seen_office, seen_by, is_there}
 use Rattle.mf_model.specs.Catalogue.{on_catalogue}
 use Rattle.mf_model.specs.Offices.{list_offices, add_staff, add_client, show_client}
 use Rattle.mf_model.specs.Loans.{on_loan, in_loan, submit, list_loans}
 pub use Rattle.mf_model.specs.Offices.{line_of, staff_added, client_added}
-pub use Rattle.mf_model.specs.Loans.{loan_added, loan_staged}
+pub use Rattle.mf_model.specs.Loans.{loan_added, loan_staged, loan_entered}
 
 -- what a request looks at and changes, once its caller may send it: the catalogue; one office, and the catalogue beside it; the offices that the caller sees; or a place for a new office
 pub data Plan : Type 0 where
@@ -47,14 +47,14 @@ on_office (AddStaff name role) office k rows = add_staff office name role rows
 on_office (AddClient name) office k rows = add_client office name rows
 on_office (ShowClient client) office k rows = show_client office client rows
 on_office (SubmitLoan asked) office k rows = submit office asked k rows
-on_office (ListLoans after) office k rows = list_loans office after rows
+on_office (ListLoans after) office k rows = list_loans office after k rows
 
 -- the table of requests. What reads as no request is refused before anything is looked at
 abbrev pub plan : Request → Result Plan Fault
 plan (request.Unreadable flaw) = Err (flaw_fault flaw)
 plan (request.Catalogue asked) = Ok (On_catalogue (on_catalogue asked))
 plan (request.Office office asked) = Ok (On_office office (λ caller catalogue f. on_office asked office catalogue f.rows))
-plan (request.Loan loan asked) = Ok (On_office loan.office (λ caller catalogue f. in_loan loan (on_loan asked catalogue) f.rows))
+plan (request.Loan loan asked) = Ok (On_office loan.office (λ caller catalogue f. in_loan loan (on_loan asked caller catalogue f.rows loan.number) f.rows))
 plan request.SeenOffices = Ok (On_all_seen list_offices)
 plan (request.NewOffice number parent name) = Ok (On_new_office number parent name)
 
@@ -83,10 +83,14 @@ office_need (ListLoans after) = A_teller
 
 abbrev pub loan_need : LoanRequest → Need
 loan_need Show = A_teller
+loan_need ShowInstalments = A_teller
+loan_need ShowEntries = A_teller
 loan_need (Take Approve) = A_manager
 loan_need (Take Reject) = A_manager
 loan_need (Take Withdraw) = An_officer
 loan_need (Take UndoApproval) = A_manager
+loan_need (Take (Disburse day)) = A_manager
+loan_need (Repay repayment) = A_teller
 
 -- the table of roles
 abbrev pub need : Request → Need
@@ -152,7 +156,7 @@ carried_out c (On_new_office number parent name) i = add_office c.office number 
 
 -- the caller's row
 abbrev pub staff_at : Institution → Caller → Option Staff
-staff_at i c = elim (office_at c.office i.offices) [ None ↦ None | Some f ↦ numbered f.rows.staff c.staff ]
+staff_at i c = staff_in i.offices c
 
 -- what comes of a request where its caller is known and may send it
 abbrev pub where_permitted : Caller → Request → Plan → Option Staff → Institution → Outcome

@@ -7,6 +7,8 @@ use Rattle.mf_catalog.specs.declared.product.Product.{Product}
 use Rattle.mf_catalog.specs.declared.product.ProductMembers.{ProductMembers}
 use Rattle.mf_office.specs.declared.staff.Role.{Role}
 use Rattle.mf_office.specs.declared.staff.Role.TheVariants.{Manager}
+use Rattle.mf_office.specs.declared.caller.Caller.{Caller}
+use Rattle.mf_account.specs.declared.entry.Entry.{Entry}
 use Rattle.mf_model.specs.declared.loan.Loan.{Loan}
 
 -- a charge of the catalogue
@@ -33,11 +35,16 @@ pub record Staff : Type 0 where
   pub name : List ℕ
   pub role : Role
 
+-- a loan, and what was entered of it, in the order of the entries' numbers
+pub record Ledger : Type 0 where
+  pub loan : Loan
+  pub entries : List Entry
+
 -- what belongs to one office: its staff, the names of its clients, and its loans
 pub record Rows : Type 0 where
   pub staff : List Staff
   pub clients : List (List ℕ)
-  pub loans : List Loan
+  pub loans : List Ledger
 
 -- an office; the head has no parent
 pub record Office : Type 0 where
@@ -86,6 +93,10 @@ product_in k n = option_map (product_of n) (numbered k.products n)
 abbrev pub office_at : ℕ → List Office → Option Office
 office_at x [] = None
 office_at x (f ∷ fs) = cond (f.number == x) (Some f) (office_at x fs)
+
+-- a member of staff, in whatever office
+abbrev pub staff_in : List Office → Caller → Option Staff
+staff_in fs c = elim (office_at c.office fs) [ None ↦ None | Some f ↦ numbered f.rows.staff c.staff ]
 
 -- the offices, where office x has these rows
 abbrev pub with_rows : ℕ → Rows → List Office → List Office

@@ -1,63 +1,121 @@
--- What is asked of loans: how they are submitted and listed, and how a stage follows another.
-use Rattle.std.specs.Prelude.{ℕ, ◌+◌, List, [], ◌∷◌, ◌++◌, length, take, drop, Option, Some, None, Result, Ok, Err}
+-- What is asked of loans: how they are submitted and listed, what becomes of one loan, and what is told of it.
+use Rattle.std.specs.Prelude.{ℕ, ◌+◌, false, List, [], ◌∷◌, ◌++◌, length, take, drop, Option, Some, None, Result, Ok, Err}
 use Rattle.mf_base.specs.declared.fault.Fault.{Fault}
 use Rattle.mf_base.specs.declared.fault.Fault.TheVariants.{F9}
 use Rattle.mf_catalog.specs.declared.product.Product.{Product}
 use Rattle.mf_catalog.specs.Product.{lending}
 use Rattle.mf_office.specs.declared.account.Account.{Account}
+use Rattle.mf_office.specs.declared.caller.Caller.{Caller}
+use Rattle.mf_alloc.specs.declared.row.Portion.TheVariants.{Principal}
+use Rattle.mf_account.specs.declared.entry.Entry.{Entry}
+use Rattle.mf_account.specs.declared.entry.Kind.TheVariants as kind
+use Rattle.mf_account.specs.Loan.{Loan as Running}
+use Rattle.mf_account.specs.Refusals.{refusal_of}
 use Rattle.mf_model.specs.declared.loan.Stage.{Stage}
-use Rattle.mf_model.specs.declared.loan.Stage.TheVariants.{Submitted, Approved, Withdrawn, Rejected}
+use Rattle.mf_model.specs.declared.loan.Stage.TheVariants.{Submitted}
 use Rattle.mf_model.specs.declared.loan.Loan.{Loan}
 use Rattle.mf_model.specs.declared.loan.LoanLine.{LoanLine}
 use Rattle.mf_model.specs.declared.request.Application.{Application}
+use Rattle.mf_model.specs.declared.request.Repayment.{Repayment}
 use Rattle.mf_model.specs.declared.request.LoanRequest.{LoanRequest}
-use Rattle.mf_model.specs.declared.request.LoanRequest.TheVariants.{Show, Take}
-use Rattle.mf_model.specs.declared.request.LoanStep.{LoanStep}
-use Rattle.mf_model.specs.declared.request.LoanStep.TheVariants.{Approve, Reject, Withdraw, UndoApproval}
+use Rattle.mf_model.specs.declared.request.LoanRequest.TheVariants.{Show, ShowInstalments, ShowEntries, Take, Repay}
 use Rattle.mf_model.specs.declared.reply.LoanReply.{LoanReply}
-use Rattle.mf_model.specs.declared.reply.LoanReply.TheVariants.{Shown, Status}
+use Rattle.mf_model.specs.declared.reply.LoanReply.TheVariants.{Shown, Instalments, Entries, Status, Entered, Repeated}
 use Rattle.mf_model.specs.declared.reply.Reply.{Reply}
 use Rattle.mf_model.specs.declared.reply.Reply.TheVariants as reply
-use Rattle.mf_model.specs.Institution.{Catalogue, Rows, numbered, with_numbered, product_in}
+use Rattle.mf_model.specs.Institution.{Catalogue, Rows, Ledger, numbered, with_numbered, product_in}
 use Rattle.mf_model.specs.Outcomes.{next_of, with_value, where_found, unless_refused}
+use Rattle.mf_model.specs.Stages.{stage_number, next_stage}
+use Rattle.mf_model.specs.Receipts.{Use, uses_from, used_before, repeated}
+use Rattle.mf_model.specs.Accounts.{account_in, status_in, statement, instalments_in, entries_in}
 
--- the number that a loan's status has
-abbrev pub status_of : Stage → ℕ
-status_of Submitted = 100
-status_of (Approved day) = 200
-status_of Withdrawn = 400
-status_of Rejected = 500
+-- what becomes of a loan
+abbrev pub LedgerChange : Type 0
+LedgerChange = Ledger → Ledger
 
--- The stage after a step on a day. An approval keeps its day, and undoing it forgets the day. F9 where the stage doesn't allow the step.
-abbrev pub next_stage : LoanStep → ℕ → Stage → Result Stage Fault
-next_stage Approve day Submitted = Ok (Approved day)
-next_stage Reject day Submitted = Ok Rejected
-next_stage Withdraw day Submitted = Ok Withdrawn
-next_stage UndoApproval day (Approved approved) = Ok Submitted
-next_stage step day stage = Err F9
+-- it has come to a stage
+abbrev pub staged : Stage → LedgerChange
+staged stage l = record l { loan = record l.loan { stage = stage } }
 
--- what a request on a loan is told, and the stage that the loan comes to, if it comes to another
-abbrev pub on_loan : LoanRequest → Catalogue → Loan → Result (LoanReply × Option Stage) Fault
-on_loan Show k loan = Ok (Shown loan, None)
-on_loan (Take step) k loan = with_value (next_stage step k.day loan.stage) (λ stage. (Status (status_of stage), Some stage))
+-- it has one entry more
+abbrev pub entered : Entry → LedgerChange
+entered e l = record l { entries = l.entries ++ e ∷ [] }
+
+-- it has these entries
+abbrev pub with_entries : List Entry → LedgerChange
+with_entries entries l = record l { entries = entries }
+
+-- a repayment, as the next entry of an account
+abbrev pub repayment : Repayment → Caller → Running → Entry
+repayment asked staff a = record {
+  seq = length a.entries + 1;
+  kind = kind.Repay;
+  day = asked.day;
+  amount = asked.amount;
+  instalment = 0;
+  portion = Principal;
+  receipt = asked.receipt;
+  staff = staff;
+  reversed = false;
+}
+
+-- an entry that its account refuses, or the number that it has
+abbrev pub unless_fault : Option Fault → Entry → Result (LoanReply × Option LedgerChange) Fault
+unless_fault (Some fault) e = Err fault
+unless_fault None e = Ok (Entered e.seq, Some (entered e))
+
+-- one entry more, made for the account that there is, where its account does not refuse it; F9 where the loan is not disbursed
+abbrev pub enter : (Running → Entry) → Catalogue → Option Running → Result (LoanReply × Option LedgerChange) Fault
+enter make k None = Err F9
+enter make k (Some a) = unless_fault (refusal_of a (make a) k.day) (make a)
+
+-- an entry that was there; nothing becomes of the loan
+abbrev pub repeat_of : Result ℕ Fault → Result (LoanReply × Option LedgerChange) Fault
+repeat_of (Err e) = Err e
+repeat_of (Ok seq) = Ok (Repeated seq, None)
+
+-- a receipt that is known is answered as it was, or refused
+abbrev pub unless_known : ℕ → Repayment → Option Use → Result (LoanReply × Option LedgerChange) Fault → Result (LoanReply × Option LedgerChange) Fault
+unless_known n asked None next = next
+unless_known n asked (Some u) next = repeat_of (repeated n asked.amount asked.day u.by)
+
+-- A repayment of loan n of an office with these rows. A receipt that the office knows comes first, whatever the loan's stage.
+abbrev pub repay : Repayment → Caller → Catalogue → Rows → ℕ → Ledger → Result (LoanReply × Option LedgerChange) Fault
+repay asked caller k rows n l = unless_known n asked (used_before asked.receipt (uses_from 1 rows.loans)) (enter (repayment asked caller) k (account_in k l))
+
+-- what a request on loan n of an office with these rows is told, and what becomes of the loan
+abbrev pub on_loan : LoanRequest → Caller → Catalogue → Rows → ℕ → Ledger → Result (LoanReply × Option LedgerChange) Fault
+on_loan Show caller k rows n l = Ok (Shown (statement k l), None)
+on_loan ShowInstalments caller k rows n l = Ok (Instalments (instalments_in k l), None)
+on_loan ShowEntries caller k rows n l = Ok (Entries (entries_in k l), None)
+on_loan (Take step) caller k rows n l = with_value (next_stage step k.day l.loan.stage) (λ stage. (Status (stage_number stage), Some (staged stage)))
+on_loan (Repay asked) caller k rows n l = repay asked caller k rows n l
+
+-- the rows where this becomes of a loan
+abbrev pub loan_changed : ℕ → LedgerChange → Rows → Rows
+loan_changed n change rows = record rows { loans = with_numbered n change rows.loans }
 
 -- the rows where a loan has come to a stage
 abbrev pub loan_staged : ℕ → Stage → Rows → Rows
-loan_staged n stage rows = record rows { loans = with_numbered n (λ l. record l { stage = stage }) rows.loans }
+loan_staged n stage rows = loan_changed n (staged stage) rows
+
+-- the rows where a loan has these entries
+abbrev pub loan_entered : ℕ → List Entry → Rows → Rows
+loan_entered n entries rows = loan_changed n (with_entries entries) rows
 
 -- the reply to a request on a loan, and what becomes of the rows of its office
-abbrev pub of_loan : Account → Rows → Result (LoanReply × Option Stage) Fault → Result (Reply × Option Rows) Fault
+abbrev pub of_loan : Account → Rows → Result (LoanReply × Option LedgerChange) Fault → Result (Reply × Option Rows) Fault
 of_loan account rows (Err e) = Err e
 of_loan account rows (Ok (told, None)) = Ok (reply.Loan account told, None)
-of_loan account rows (Ok (told, Some stage)) = Ok (reply.Loan account told, Some (loan_staged account.number stage rows))
+of_loan account rows (Ok (told, Some change)) = Ok (reply.Loan account told, Some (loan_changed account.number change rows))
 
 -- what is done with a loan of an office; F4 where the loan isn't there
-abbrev pub in_loan : Account → (Loan → Result (LoanReply × Option Stage) Fault) → Rows → Result (Reply × Option Rows) Fault
-in_loan account act rows = where_found (numbered rows.loans account.number) (λ loan. of_loan account rows (act loan))
+abbrev pub in_loan : Account → (Ledger → Result (LoanReply × Option LedgerChange) Fault) → Rows → Result (Reply × Option Rows) Fault
+in_loan account act rows = where_found (numbered rows.loans account.number) (λ l. of_loan account rows (act l))
 
--- the rows with one more loan
+-- the rows with one more loan, which has no entries yet
 abbrev pub loan_added : Loan → Rows → Rows
-loan_added loan rows = record rows { loans = rows.loans ++ loan ∷ [] }
+loan_added loan rows = record rows { loans = rows.loans ++ record { loan = loan; entries = [] } ∷ [] }
 
 -- a loan as it is submitted
 abbrev pub new_loan : Application → Loan
@@ -75,15 +133,15 @@ lend office asked product rows = where_found product (λ p. unless_refused (lend
 abbrev pub submit : ℕ → Application → Catalogue → Rows → Result (Reply × Option Rows) Fault
 submit office asked k rows = where_found (numbered rows.clients asked.client) (λ name. lend office asked (product_in k asked.product) rows)
 
--- the loans of an office, numbered from n on
-abbrev pub lines_from : ℕ → ℕ → List Loan → List LoanLine
-lines_from office n [] = []
-lines_from office n (l ∷ ls) = record { loan = record { office = office; number = n }; status = status_of l.stage } ∷ lines_from office (n + 1) ls
+-- the loans of an office, numbered from n on, each with its status of the moment
+abbrev pub lines_from : Catalogue → ℕ → ℕ → List Ledger → List LoanLine
+lines_from k office n [] = []
+lines_from k office n (l ∷ ls) = record { loan = record { office = office; number = n }; status = status_in k l } ∷ lines_from k office (n + 1) ls
 
 -- the first 100 of them with a number above this one
-abbrev pub lines_above : ℕ → ℕ → List Loan → List LoanLine
-lines_above office n loans = take 100 (drop n (lines_from office 1 loans))
+abbrev pub lines_above : Catalogue → ℕ → ℕ → List Ledger → List LoanLine
+lines_above k office n loans = take 100 (drop n (lines_from k office 1 loans))
 
 -- the first 100 loans of an office with a number above n
-abbrev pub list_loans : ℕ → ℕ → Rows → Result (Reply × Option Rows) Fault
-list_loans office n rows = Ok (reply.LoansShown (lines_above office n rows.loans), None)
+abbrev pub list_loans : ℕ → ℕ → Catalogue → Rows → Result (Reply × Option Rows) Fault
+list_loans office n k rows = Ok (reply.LoansShown (lines_above k office n rows.loans), None)

@@ -1,5 +1,5 @@
 -- What every institution that comes about keeps true, and what is asked of the requests that keep it so.
-use Rattle.std.specs.Prelude.{◌≡◌, ℕ, ◌≤◌, Bool, true, false, not, ◌&&◌, List, length, is_some, Option, Some, None, ◌==◌, nat_le}
+use Rattle.std.specs.Prelude.{◌≡◌, ℕ, ◌≤◌, Bool, true, false, not, ◌&&◌, List, [], length, is_some, Option, Some, None, ◌==◌, nat_le, IfSome}
 use Rattle.std.specs.List.{AllByRecursion, list_all}
 use Rattle.std.specs.Str.{IsUtf8, chars}
 use Rattle.mf_base.specs.DayText.{last_entered_day}
@@ -12,16 +12,25 @@ use Rattle.mf_catalog.specs.declared.product.Product.{Product}
 use Rattle.mf_catalog.specs.declared.product.ProductMembers.{ProductMembers}
 use Rattle.mf_catalog.specs.Limits.{greatest_amount, most_periods, greatest_value}
 use Rattle.mf_catalog.specs.Product.{AreMembersWithinLimits, is_consistent, allows}
-use Rattle.mf_model.specs.declared.loan.Loan.{Loan}
+use Rattle.mf_office.specs.declared.caller.Caller.{Caller}
+use Rattle.mf_account.specs.declared.entry.Entry.{Entry}
+use Rattle.mf_account.specs.Loan.{AreEntries}
 use Rattle.mf_model.specs.declared.loan.Stage.{Stage}
-use Rattle.mf_model.specs.declared.loan.Stage.TheVariants.{Submitted, Approved, Withdrawn, Rejected}
+use Rattle.mf_model.specs.declared.loan.Stage.TheVariants.{Submitted, Approved, Disbursed, Withdrawn, Rejected}
 use Rattle.mf_model.specs.declared.request.Request.TheVariants as request
 use Rattle.mf_model.specs.declared.request.CatalogueRequest.{CatalogueRequest}
 use Rattle.mf_model.specs.declared.request.CatalogueRequest.TheVariants.{ShowDay, SetDay, AddCharge, ShowCharge, AddProduct, ShowProduct, RetireProduct}
 use Rattle.mf_model.specs.declared.request.OfficeRequest.{OfficeRequest}
 use Rattle.mf_model.specs.declared.request.OfficeRequest.TheVariants.{AddStaff, AddClient, ShowClient, SubmitLoan, ListLoans}
 use Rattle.mf_model.specs.declared.request.Application.{Application}
-use Rattle.mf_model.specs.Institution.{Institution, Catalogue, Charge, Offer, Staff, Rows, Office, numbered, charge_in, product_in}
+use Rattle.mf_model.specs.declared.request.Repayment.{Repayment}
+use Rattle.mf_model.specs.declared.request.LoanStep.{LoanStep}
+use Rattle.mf_model.specs.declared.request.LoanStep.TheVariants.{Approve, Reject, Withdraw, UndoApproval, Disburse}
+use Rattle.mf_model.specs.declared.request.LoanRequest.{LoanRequest}
+use Rattle.mf_model.specs.declared.request.LoanRequest.TheVariants.{Show, ShowInstalments, ShowEntries, Take, Repay}
+use Rattle.mf_model.specs.Institution.{Institution, Catalogue, Charge, Offer, Staff, Rows, Office, Ledger, staff_in, numbered, charge_in, product_in}
+use Rattle.mf_model.specs.Stages.{disbursed_on}
+use Rattle.mf_model.specs.Receipts.{uses_from, AreApart, IsReceipt}
 use Rattle.mf_model.specs.Tree.{IsTree}
 use Rattle.mf_model.specs.Run.{Line}
 
@@ -68,37 +77,61 @@ abbrev pub lends : Option Product → ℕ → ℕ → Bool
 lends None principal periods = false
 lends (Some p) principal periods = allows p.members principal periods
 
--- a day of approval is not after the business day
+-- there is such a member of staff, in whatever office
+abbrev pub is_staff : List Office → Caller → Bool
+is_staff fs c = is_some (staff_in fs c)
+
+-- the day of approval is not after that of disbursement, and neither is after the business day
 abbrev pub IsStageBy : ℕ → Stage → Type 0
 IsStageBy today Submitted = Unit {0}
 IsStageBy today (Approved day) = day ≤ today
+IsStageBy today (Disbursed approved day) = (approved ≤ day) × (day ≤ today)
 IsStageBy today Withdrawn = Unit {0}
 IsStageBy today Rejected = Unit {0}
 
--- a loan's client is there, and its product is there and allows its principal and periods, retired or not
-pub record IsSoundLoan (k : Catalogue) (clients : List (List ℕ)) (l : Loan) : Type 0 where
-  pub client : is_some (numbered clients l.client) ≡ true
-  pub product : lends (product_in k l.product) l.principal l.periods ≡ true
-  pub stage : IsStageBy k.day l.stage
+-- an entry's day is not after the business day, it was entered by somebody who is there, and its receipt is one
+pub record IsEntryBy (today : ℕ) (staffed : Caller → Bool) (e : Entry) : Type 0 where
+  pub day : e.day ≤ today
+  pub staff : staffed e.staff ≡ true
+  pub receipt : IfSome e.receipt IsReceipt
 
--- an office has no more rows than the limits allow, each name is one, and each loan is sound
-pub record IsSoundRows (k : Catalogue) (rows : Rows) : Type 0 where
+-- the entries of a loan of so many periods that is disbursed on a day: its account can be worked out from them
+pub record AreEntered (today : ℕ) (staffed : Caller → Bool) (periods day : ℕ) (entries : List Entry) : Type 0 where
+  pub lawful : AreEntries periods day entries
+  pub each : AllByRecursion (IsEntryBy today staffed) entries
+
+-- a loan has entries only once it is disbursed
+abbrev pub AreEntriesBy : ℕ → (Caller → Bool) → ℕ → Option ℕ → List Entry → Type 0
+AreEntriesBy today staffed periods None entries = entries ≡ []
+AreEntriesBy today staffed periods (Some day) entries = AreEntered today staffed periods day entries
+
+-- a loan's client is there, its product is there and allows its principal and periods, retired or not, its days are in order, and so are its entries
+pub record IsSoundLoan (k : Catalogue) (staffed : Caller → Bool) (clients : List (List ℕ)) (l : Ledger) : Type 0 where
+  pub client : is_some (numbered clients l.loan.client) ≡ true
+  pub product : lends (product_in k l.loan.product) l.loan.principal l.loan.periods ≡ true
+  pub stage : IsStageBy k.day l.loan.stage
+  pub entries : AreEntriesBy k.day staffed l.loan.periods (disbursed_on l.loan.stage) l.entries
+
+-- an office has no more rows than the limits allow, each name is one, each loan is sound, and no receipt stands twice
+pub record IsSoundRows (k : Catalogue) (staffed : Caller → Bool) (rows : Rows) : Type 0 where
   pub staff_limit : length rows.staff ≤ 9999
   pub staff_names : AllByRecursion (λ (s : Staff). IsName s.name) rows.staff
   pub client_limit : length rows.clients ≤ 999999
   pub client_names : AllByRecursion IsName rows.clients
   pub loan_limit : length rows.loans ≤ 999999
-  pub loans : AllByRecursion (IsSoundLoan k rows.clients) rows.loans
+  pub loans : AllByRecursion (IsSoundLoan k staffed rows.clients) rows.loans
+  pub receipts : AreApart (uses_from 1 rows.loans)
 
-pub record IsSoundOffice (k : Catalogue) (f : Office) : Type 0 where
+pub record IsSoundOffice (k : Catalogue) (staffed : Caller → Bool) (f : Office) : Type 0 where
   pub number : IsNumberUpTo 9999 f.number
   pub name : IsName f.name
-  pub rows : IsSoundRows k f.rows
+  pub rows : IsSoundRows k staffed f.rows
 
+-- an office is sound among all offices, since staff of others enter into its loans too
 pub record IsSound (i : Institution) : Type 0 where
   pub catalogue : IsSoundCatalogue i.catalogue
   pub tree : IsTree i.offices
-  pub each : AllByRecursion (IsSoundOffice i.catalogue) i.offices
+  pub each : AllByRecursion (IsSoundOffice i.catalogue (is_staff i.offices)) i.offices
 
 -- an account's numbers
 abbrev pub IsAccount : Account → Type 0
@@ -124,11 +157,28 @@ IsOfficeInRange office (ShowClient client) = IsNumberUpTo 9999 office × IsNumbe
 IsOfficeInRange office (SubmitLoan asked) = IsNumberUpTo 9999 office × IsApplication asked
 IsOfficeInRange office (ListLoans after) = (office ≤ 999999999) × (after ≤ 999999)
 
+abbrev pub IsStepInRange : LoanStep → Type 0
+IsStepInRange (Disburse day) = day ≤ last_entered_day
+IsStepInRange Approve = Unit {0}
+IsStepInRange Reject = Unit {0}
+IsStepInRange Withdraw = Unit {0}
+IsStepInRange UndoApproval = Unit {0}
+
+abbrev pub IsRepayment : Repayment → Type 0
+IsRepayment asked = ((1 ≤ asked.amount) × (asked.amount ≤ greatest_amount)) × (asked.day ≤ last_entered_day) × IfSome asked.receipt IsReceipt
+
+abbrev pub IsLoanInRange : LoanRequest → Type 0
+IsLoanInRange Show = Unit {0}
+IsLoanInRange ShowInstalments = Unit {0}
+IsLoanInRange ShowEntries = Unit {0}
+IsLoanInRange (Take step) = IsStepInRange step
+IsLoanInRange (Repay asked) = IsRepayment asked
+
 abbrev pub IsInRange : Request → Type 0
 IsInRange (request.Unreadable flaw) = Unit {0}
 IsInRange (request.Catalogue asked) = IsCatalogueInRange asked
 IsInRange (request.Office office asked) = IsOfficeInRange office asked
-IsInRange (request.Loan loan asked) = IsAccount loan
+IsInRange (request.Loan loan asked) = IsAccount loan × IsLoanInRange asked
 IsInRange request.SeenOffices = Unit {0}
 IsInRange (request.NewOffice number parent name) = IsNumberUpTo 9999 number × IsNumberUpTo 9999 parent × IsName name
 

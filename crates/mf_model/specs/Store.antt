@@ -6,15 +6,20 @@ use Rattle.mf_office.specs.declared.staff.Role.{Role}
 use Rattle.mf_office.specs.declared.caller.Caller.{Caller}
 use Rattle.mf_office.specs.declared.account.Account.{Account}
 use Rattle.mf_model.specs.declared.commit.Commit.{Commit}
-use Rattle.mf_model.specs.declared.commit.Commit.TheVariants.{AddOffice, AddStaff, AddClient, SetDay, AddCharge, AddProduct, RetireProduct, AddLoan, SetStage}
+use Rattle.mf_model.specs.declared.commit.Commit.TheVariants.{AddOffice, AddStaff, AddClient, SetDay, AddCharge, AddProduct, RetireProduct, AddLoan, SetStage, Enter}
 use Rattle.mf_model.specs.declared.loan.Loan.{Loan}
 use Rattle.mf_model.specs.declared.loan.LoanLine.{LoanLine}
 use Rattle.mf_model.specs.declared.store.CatalogueCounts.{CatalogueCounts}
 use Rattle.mf_model.specs.declared.store.Counts.{Counts}
-use Rattle.mf_model.specs.Institution.{Institution, Office, Rows, Staff, Change, Catalogue_becomes, Rows_become, Office_added, after, office_at, no_rows, numbered}
+use Rattle.mf_account.specs.Loan.{Loan as Running}
+use Rattle.mf_account.specs.Change.{Account as Replayed, no_change}
+use Rattle.mf_model.specs.Institution.{Institution, Catalogue, Office, Rows, Staff, Ledger, Change, Catalogue_becomes, Rows_become, Office_added, after, office_at, no_rows, numbered}
 use Rattle.mf_model.specs.Catalogue.{day_set, charge_added, product_added, product_retired}
 use Rattle.mf_model.specs.Offices.{staff_added, client_added}
-use Rattle.mf_model.specs.Loans.{loan_added, loan_staged, lines_above}
+use Rattle.mf_model.specs.declared.loan.ReceiptUse.{ReceiptUse}
+use Rattle.mf_model.specs.Accounts.{account_in}
+use Rattle.mf_model.specs.Receipts.{Use, uses_from, used}
+use Rattle.mf_model.specs.Loans.{loan_added, loan_staged, loan_entered, lines_above}
 use Rattle.mf_model.specs.Desk.{staff_at, outcome, change_in}
 use Rattle.mf_model.specs.Run.{Line, next}
 use Rattle.mf_model.specs.Sound.{IsSound}
@@ -43,13 +48,38 @@ catalogue_counts i = record { charges = length i.catalogue.charges; products = l
 abbrev pub client_at : Account → Institution → Option (List ℕ)
 client_at client i = numbered (rows_at client.office i).clients client.number
 
+-- a loan of an office, with its entries
+abbrev pub ledger_at : Account → Institution → Option Ledger
+ledger_at loan i = numbered (rows_at loan.office i).loans loan.number
+
 -- a loan of an office
 abbrev pub loan_at : Account → Institution → Option Loan
-loan_at loan i = numbered (rows_at loan.office i).loans loan.number
+loan_at loan i = option_map (λ (l : Ledger). l.loan) (ledger_at loan i)
+
+-- the account of a loan that is there
+abbrev pub account_of : Catalogue → Option Ledger → Option Running
+account_of k None = None
+account_of k (Some l) = account_in k l
+
+-- an account that was replayed, and has not changed since
+abbrev pub replayed : Running → Replayed
+replayed a = record { loan = a; change = no_change }
+
+-- the account of a loan; none where it is not there or not disbursed
+abbrev pub account_at : Account → Institution → Option Replayed
+account_at loan i = option_map replayed (account_of i.catalogue (ledger_at loan i))
+
+-- where a receipt was used in an office
+abbrev pub use_at : ℕ → List ℕ → Institution → Option Use
+use_at x receipt i = used receipt (uses_from 1 (rows_at x i).loans)
+
+-- the entry that carries a receipt of an office
+abbrev pub receipt_at : ℕ → List ℕ → Institution → Option ReceiptUse
+receipt_at x receipt i = option_map (λ (u : Use). u.by) (use_at x receipt i)
 
 -- the first 100 loans of office x with a number above n
 abbrev pub loans_at : ℕ → ℕ → Institution → List LoanLine
-loans_at x n i = lines_above x n (rows_at x i).loans
+loans_at x n i = lines_above i.catalogue x n (rows_at x i).loans
 
 -- the change that a commit is
 abbrev pub change_of : Commit → Institution → Change
@@ -62,6 +92,7 @@ change_of (AddProduct members) i = Catalogue_becomes (product_added members i.ca
 change_of (RetireProduct product) i = Catalogue_becomes (product_retired product i.catalogue)
 change_of (AddLoan office loan) i = Rows_become office (loan_added loan (rows_at office i))
 change_of (SetStage loan stage) i = Rows_become loan.office (loan_staged loan.number stage (rows_at loan.office i))
+change_of (Enter loan account) i = Rows_become loan.office (loan_entered loan.number account.loan.entries (rows_at loan.office i))
 
 -- the institution after a commit
 abbrev pub committed : Commit → Institution → Institution

@@ -10,7 +10,7 @@ use Rattle.mf_model.specs.declared.request.Request.{Request}
 use Rattle.mf_model.specs.declared.request.Request.TheVariants.{Office, Loan}
 use Rattle.mf_model.specs.Institution.{Institution}
 use Rattle.mf_model.specs.Tree.{parent_of}
-use Rattle.mf_model.specs.Store.{client_at, loan_at}
+use Rattle.mf_model.specs.Store.{client_at, ledger_at}
 
 -- what is asked of an account: something of a loan; a client's name; or a loan to a client, of so much of a product for so many periods
 pub data Asked : Type 0 where
@@ -27,7 +27,7 @@ asked_of (Loan_to_client product principal periods) account =
 
 -- the account is there: a loan where a loan is asked for, else a client
 abbrev pub is_account_there : Asked → Account → Institution → Bool
-is_account_there (Of_loan asked) account i = is_some (loan_at account i)
+is_account_there (Of_loan asked) account i = is_some (ledger_at account i)
 is_account_there Of_client account i = is_some (client_at account i)
 is_account_there (Loan_to_client product principal periods) account i = is_some (client_at account i)
 

@@ -14,9 +14,8 @@ use Rattle.mf_model.specs.declared.request.LoanStep.{LoanStep}
 use Rattle.mf_model.specs.declared.request.LoanStep.TheVariants.{Approve, Reject, Withdraw, UndoApproval}
 use Rattle.mf_model.specs.declared.request.Request.TheVariants.{Unreadable, Catalogue, Office, Loan, SeenOffices, NewOffice}
 use Rattle.mf_office.specs.declared.office.Office.{Office as OfficeLine}
-use Rattle.mf_model.specs.declared.loan.Loan.{Loan as LoanHeader}
-use Rattle.mf_model.specs.declared.loan.Stage.{Stage}
-use Rattle.mf_model.specs.declared.loan.Stage.TheVariants.{Submitted, Approved}
+use Rattle.mf_model.specs.declared.loan.Statement.{Statement}
+use Rattle.mf_model.specs.Accounts.{no_balances}
 use Rattle.mf_model.specs.declared.reply.Reply.{Reply}
 use Rattle.mf_model.specs.declared.reply.Reply.TheVariants.{OfficeMade, Offices, StaffMade, ClientMade, ClientShown, DayShown, DaySet, ChargeMade, ChargeShown, ProductMade, ProductShown, ProductRetired, LoanMade, Loan as LoanTold, LoansShown}
 use Rattle.mf_model.specs.declared.reply.LoanReply.TheVariants.{Shown, Status}
@@ -162,9 +161,9 @@ catalogue_day =
     ∷ row (staff 1 1) (Unreadable NoRoute) (Err F5)
     ∷ []
 
--- a loan of 1000.00 over three periods to client 1, at some stage
-abbrev pub loan_at_stage : Stage → LoanHeader
-loan_at_stage stage = record { client = 1; product = 1; principal = 100000; periods = 3; stage = stage }
+-- a loan of 1000.00 over three periods to client 1, before it is disbursed
+abbrev pub loan_at_status : ℕ → Statement
+loan_at_status status = record { client = 1; product = 1; principal = 100000; periods = 3; day = None; status = status; balances = no_balances }
 
 -- an application for such a loan, in office 2
 abbrev pub submit_in_two : Request
@@ -188,7 +187,7 @@ deciding =
     ∷ row (staff 2 1) submit_in_two (Ok (LoanMade (account 2 1)))
     ∷ row (staff 2 1) submit_in_two (Ok (LoanMade (account 2 2)))
     ∷ row (staff 2 1) submit_in_two (Ok (LoanMade (account 2 3)))
-    ∷ row (staff 2 1) (Loan (account 2 1) Show) (Ok (LoanTold (account 2 1) (Shown (loan_at_stage Submitted))))
+    ∷ row (staff 2 1) (Loan (account 2 1) Show) (Ok (LoanTold (account 2 1) (Shown (loan_at_status 100))))
     ∷ row (staff 2 1) (of_loan 2 1 Approve) (Err F3)
     ∷ row (staff 2 1) (of_loan 2 1 Withdraw) (Ok (LoanTold (account 2 1) (Status 400)))
     ∷ row (staff 2 1) (of_loan 2 1 Withdraw) (Err F9)
@@ -196,7 +195,7 @@ deciding =
     ∷ row (staff 1 1) (of_loan 2 2 Reject) (Err F9)
     ∷ row (staff 1 1) (of_loan 2 2 UndoApproval) (Err F9)
     ∷ row (staff 1 1) (of_loan 2 3 Approve) (Ok (LoanTold (account 2 3) (Status 200)))
-    ∷ row (staff 2 1) (Loan (account 2 3) Show) (Ok (LoanTold (account 2 3) (Shown (loan_at_stage (Approved 8766)))))
+    ∷ row (staff 2 1) (Loan (account 2 3) Show) (Ok (LoanTold (account 2 3) (Shown (loan_at_status 200))))
     ∷ row (staff 20 1) (Loan (account 2 3) Show) (Err F4)
     ∷ row (staff 20 1) (Loan (account 2 4) Show) (Err F4)
     ∷ row (staff 20 1) (Loan (account 20 1) Show) (Err F4)

@@ -1,4 +1,5 @@
 use crate::loan::{Loan, Stage};
+use mf_account::LoanAccount;
 use mf_base::Day;
 use mf_catalog::{Calc, ChargeKind, ProductMembers};
 use mf_office::{Account, Name, OfficeNo, Role};
@@ -51,5 +52,10 @@ pub enum Commit {
     SetStage {
         loan: Account,
         stage: Stage,
+    },
+    /// A loan that is disbursed has the entries of this account.
+    Enter {
+        loan: Account,
+        account: LoanAccount,
     },
 }

@@ -3,17 +3,26 @@
 ghost use Rattle.std.specs.Prelude.{◌≡◌, ◌≢◌, ◌≤◌, ℕ, List, [], ◌∷◌, ◌++◌, Some, Err, map, true};
 ghost use Rattle.mf_office.specs.declared.account.Account.{Account};
 ghost use Rattle.mf_office.specs.declared.caller.Caller.{Caller};
-ghost use Rattle.mf_model.specs.Institution.{Institution, Catalogue, Rows, Staff, Change, Catalogue_becomes, Rows_become, Office_added, after, office_at, newly_made};
+ghost use Rattle.mf_model.specs.Institution.{Institution, Catalogue, Rows, Staff, Ledger, Change, Catalogue_becomes, Rows_become, Office_added, after, office_at, newly_made};
 ghost use Rattle.mf_model.specs.Tree.{IsTree, view, is_there, parent_of};
 ghost use Rattle.mf_model.specs.Desk.{effect, outcome, change_in, meets, need, reply, staff_at};
 ghost use Rattle.mf_model.specs.Unseen.{Asked, IsUnseen, asked_of, sent};
 ghost use Rattle.mf_model.specs.Sound.{IsSound, IsInRange, AreInRange};
 ghost use Rattle.mf_model.specs.WorkedRows.{first_day, branches, chain, lending, first_of_2024, catalogue_day, deciding};
+ghost use Rattle.mf_model.specs.WorkedAccounts.{january, repaying, scheduled, back_dated, overpaying, principal_first, out_of_order, disbursing, receipts};
 ghost use Rattle.mf_base.specs.DayText.{last_entered_day};
 ghost use Rattle.mf_office.specs.Tree.{IsTreeOf};
 ghost use Rattle.mf_model.specs.declared.request.Call.{Call};
 ghost use Rattle.mf_model.specs.Run.{Line, ViewIsPlay, RepliesArePlay, OwnRepliesArePlay, Alike, NoneGivenUp, from_office, from_caller, given_up, told, answer, answers, last, next, touching, play_replies};
-ghost use Rattle.mf_model.specs.Store.{left_by, left_after};
+ghost use Rattle.mf_model.specs.Store.{left_by, left_after, ledger_at, account_of, use_at};
+ghost use Rattle.mf_model.specs.declared.request.Repayment.{Repayment};
+ghost use Rattle.mf_model.specs.declared.request.LoanRequest.TheVariants.{Repay};
+ghost use Rattle.mf_model.specs.Receipts.{Use, used, uses_from, repeated};
+ghost use Rattle.mf_model.specs.Loans.{on_loan, repeat_of};
+ghost use Rattle.mf_catalog.specs.declared.terms.Terms.{Terms};
+ghost use Rattle.mf_account.specs.Loan.{Loan as Running, IsSound as IsSoundAccount};
+ghost use Rattle.mf_model.specs.Stages.{disbursed_on};
+ghost use Rattle.mf_model.specs.Accounts.{terms_in, account_in, status_in};
 
 use mf_base::Fault;
 
@@ -121,6 +130,35 @@ pub fn soundness()
     ensures tree { (i : Institution) (lines : List Line) → IsTree i.offices → IsTree (last lines i).offices }
 {}
 
+/// Over whole runs a product gives the terms that it gave, retired or not, and a loan with its entries has the account
+/// that it had.
+pub fn what_was_lent_stands()
+    ensures terms { (i : Institution) (lines : List Line) → IsSound i → AreInRange lines → (product : ℕ) (terms : Terms) →
+        terms_in i.catalogue product ≡ Some terms → terms_in (last lines i).catalogue product ≡ Some terms }
+    ensures account { (i : Institution) (lines : List Line) → IsSound i → AreInRange lines → (ledger : Ledger) (account : Running) →
+        account_in i.catalogue ledger ≡ Some account → account_in (last lines i).catalogue ledger ≡ Some account }
+{}
+
+/// In a sound institution each loan that is disbursed has an account, with what its replay asks for. It begins at
+/// status 300.
+pub fn accounts_can_be_replayed()
+    ensures there { (i : Institution) (loan : Account) (ledger : Ledger) (day : ℕ) → IsSound i → ledger_at loan i ≡ Some ledger →
+        disbursed_on ledger.loan.stage ≡ Some day → (account : Running) × (account_of i.catalogue (ledger_at loan i) ≡ Some account) }
+    ensures sound { (i : Institution) (loan : Account) (account : Running) → IsSound i → account_of i.catalogue (ledger_at loan i) ≡ Some account → IsSoundAccount account }
+    ensures first { (i : Institution) (loan : Account) (ledger : Ledger) (day : ℕ) → IsSound i → ledger_at loan i ≡ Some ledger →
+        disbursed_on ledger.loan.stage ≡ Some day → ledger.entries ≡ [] → status_in i.catalogue ledger ≡ 300 }
+{}
+
+/// A receipt that an office knows stands for the same entry ever after. A repayment that is sent with it again is
+/// answered with that entry's number, or refused with F15, and changes nothing.
+pub fn receipts_stay_known()
+    ensures known { (i : Institution) (lines : List Line) → IsSound i → AreInRange lines → (office : ℕ) (receipt : List ℕ) (u : Use) →
+        use_at office receipt i ≡ Some u → use_at office receipt (last lines i) ≡ Some u }
+    ensures again { (asked : Repayment) (caller : Caller) (k : Catalogue) (rows : Rows) (n : ℕ) (ledger : Ledger) (receipt : List ℕ) (u : Use) →
+        asked.receipt ≡ Some receipt → used receipt (uses_from 1 rows.loans) ≡ Some u →
+        on_loan (Repay asked) caller k rows n ledger ≡ repeat_of (repeated n asked.amount asked.day u.by) }
+{}
+
 /// What a new institution answers, worked out line by line.
 pub fn worked_rows()
     ensures first_day { (day : ℕ) → answers (map (λ row. row.0) first_day) (newly_made day) ≡ map (λ row. row.1) first_day }
@@ -129,6 +167,18 @@ pub fn worked_rows()
     ensures lending { (day : ℕ) → answers (map (λ row. row.0) lending) (newly_made day) ≡ map (λ row. row.1) lending }
     ensures catalogue_day { answers (map (λ row. row.0) catalogue_day) (newly_made first_of_2024) ≡ map (λ row. row.1) catalogue_day }
     ensures deciding { answers (map (λ row. row.0) deciding) (newly_made first_of_2024) ≡ map (λ row. row.1) deciding }
+{}
+
+/// What is told of a disbursed loan, worked out line by line.
+pub fn worked_accounts()
+    ensures repaying { answers (map (λ row. row.0) repaying) (newly_made january) ≡ map (λ row. row.1) repaying }
+    ensures scheduled { answers (map (λ row. row.0) scheduled) (newly_made january) ≡ map (λ row. row.1) scheduled }
+    ensures back_dated { answers (map (λ row. row.0) back_dated) (newly_made january) ≡ map (λ row. row.1) back_dated }
+    ensures overpaying { answers (map (λ row. row.0) overpaying) (newly_made january) ≡ map (λ row. row.1) overpaying }
+    ensures principal_first { answers (map (λ row. row.0) principal_first) (newly_made january) ≡ map (λ row. row.1) principal_first }
+    ensures out_of_order { answers (map (λ row. row.0) out_of_order) (newly_made january) ≡ map (λ row. row.1) out_of_order }
+    ensures disbursing { answers (map (λ row. row.0) disbursing) (newly_made january) ≡ map (λ row. row.1) disbursing }
+    ensures receipts { answers (map (λ row. row.0) receipts) (newly_made january) ≡ map (λ row. row.1) receipts }
 {}
 
 /// The offices of a sound institution are a tree as the keys of offices know it.

@@ -12,11 +12,12 @@ mod request;
 mod store;
 
 pub use commit::Commit;
-pub use listing::{Listing, LoanList, OfficeList};
-pub use loan::{Loan, LoanLine, Stage};
+pub use listing::{LoanList, OfficeList};
+pub use loan::{Loan, LoanLine, ReceiptUse, Stage, Statement};
 pub use names::is_name;
 pub use reply::{LoanReply, Reply};
 pub use request::{
-    Application, Call, CatalogueRequest, Flaw, LoanRequest, LoanStep, OfficeRequest, Request,
+    Application, Call, CatalogueRequest, Flaw, LoanRequest, LoanStep, OfficeRequest, Repayment,
+    Request,
 };
 pub use store::{CatalogueCounts, Counts, InstitutionStore};

@@ -1,6 +1,7 @@
 ghost use Rattle.std.specs.Prelude.{◌≡◌};
-ghost use Rattle.mf_model.specs.Loans.{status_of};
+ghost use Rattle.mf_model.specs.Stages.{stage_number};
 
+use mf_account::Balances;
 use mf_base::Day;
 use mf_office::{Account, AccountNo};
 
@@ -11,6 +12,8 @@ pub enum Stage {
     Submitted,
     /// Approved on this business day.
     Approved(Day),
+    /// Disbursed on a day, after it was approved on another or on the same.
+    Disbursed { approved: Day, day: Day },
     /// Withdrawn by the client.
     Withdrawn,
     /// Rejected.
@@ -18,13 +21,15 @@ pub enum Stage {
 }
 
 impl Stage {
-    /// The loan's status number: 100 submitted, 200 approved, 400 withdrawn, 500 rejected.
+    /// The stage's number: 100 submitted, 200 approved, 300 disbursed, 400 withdrawn, 500 rejected. It is the loan's
+    /// status until it is disbursed; then its account says more.
     pub fn status(self) -> u16
-        ensures { result ≡ status_of self }
+        ensures { result ≡ stage_number self }
     {
         match self {
             Stage::Submitted => 100,
             Stage::Approved(_) => 200,
+            Stage::Disbursed { .. } => 300,
             Stage::Withdrawn => 400,
             Stage::Rejected => 500,
         }
@@ -44,6 +49,38 @@ pub struct Loan {
     pub periods: u32,
     /// How far it has come.
     pub stage: Stage,
+}
+
+/// A loan as it is shown.
+#[derive(Clone, Copy, Debug)]
+pub struct Statement {
+    /// The number of its client, within the same office.
+    pub client: AccountNo,
+    /// The number of its product.
+    pub product: u32,
+    /// What is lent, in cents.
+    pub principal: u64,
+    /// The number of instalments.
+    pub periods: u32,
+    /// The day of its disbursement.
+    pub day: Option<Day>,
+    /// Its status number.
+    pub status: u16,
+    /// Its sums; all are 0 before it is disbursed.
+    pub balances: Balances,
+}
+
+/// The entry that carries a receipt.
+#[derive(Clone, Copy, Debug)]
+pub struct ReceiptUse {
+    /// The number of its loan, within the office that the receipt belongs to.
+    pub loan: AccountNo,
+    /// Its number within the loan.
+    pub seq: u32,
+    /// The day that it counts from.
+    pub day: Day,
+    /// What was repaid, in cents.
+    pub amount: u64,
 }
 
 /// A loan in a list of loans.

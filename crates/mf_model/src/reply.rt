@@ -1,16 +1,25 @@
 use crate::listing::{LoanList, OfficeList};
-use crate::loan::Loan;
+use crate::loan::Statement;
 use mf_base::Day;
 use mf_catalog::{ChargeDef, Product};
 use mf_office::{Account, Caller, Name, OfficeNo};
+use mf_statement::{EntryList, InstalmentList};
 
 /// What is told of one loan.
-#[derive(Clone, Copy, Debug)]
+#[derive(Debug, Drop)]
 pub enum LoanReply {
-    /// The loan, before it is disbursed.
-    Shown(Loan),
+    /// The loan as it stands.
+    Shown(Statement),
+    /// Its instalments, by number.
+    Instalments(InstalmentList),
+    /// Its entries, by number.
+    Entries(EntryList),
     /// The status number that it has come to.
     Status(u16),
+    /// A new entry of it, by its number.
+    Entered(u32),
+    /// An entry that was there, by its number: its receipt was sent again.
+    Repeated(u32),
 }
 
 /// What a request is told where it succeeds.

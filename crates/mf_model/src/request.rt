@@ -3,6 +3,7 @@
 ghost use Rattle.std.specs.Prelude.{◌≡◌};
 ghost use Rattle.mf_model.specs.Desk.{flaw_fault};
 
+use mf_account::Receipt;
 use mf_base::{Day, Fault};
 use mf_catalog::{Calc, ChargeKind, ProductMembers};
 use mf_office::{Account, AccountNo, Caller, Name, OfficeNo, Role};
@@ -91,7 +92,7 @@ pub enum OfficeRequest {
 }
 
 /// A step of a loan to another stage.
-#[derive(Clone, Copy, PartialEq, Eq, Debug)]
+#[derive(Clone, Copy, Debug)]
 pub enum LoanStep {
     /// A submitted loan is approved.
     Approve,
@@ -101,15 +102,31 @@ pub enum LoanStep {
     Withdraw,
     /// An approved loan is pending again.
     UndoApproval,
+    /// An approved loan is paid out, on a day.
+    Disburse(Day),
+}
+
+/// What is paid back, in cents, on a day, with a receipt where there is one.
+#[derive(Debug, Drop)]
+pub struct Repayment {
+    pub amount: u64,
+    pub day: Day,
+    pub receipt: Option<Receipt>,
 }
 
 /// What is asked of one loan.
-#[derive(Clone, Copy, Debug)]
+#[derive(Debug, Drop)]
 pub enum LoanRequest {
-    /// The loan.
+    /// The loan as it stands.
     Show,
+    /// Its instalments.
+    ShowInstalments,
+    /// Its entries.
+    ShowEntries,
     /// A step to another stage.
     Take(LoanStep),
+    /// A repayment.
+    Repay(Repayment),
 }
 
 /// What is asked. Each route is one variant, here or within the part that it looks at.

@@ -1,6 +1,7 @@
 use crate::commit::Commit;
 use crate::listing::{LoanList, OfficeList};
-use crate::loan::Loan;
+use crate::loan::{Loan, ReceiptUse};
+use mf_account::{LoanAccount, Receipt};
 use mf_base::{Day, Fault};
 use mf_catalog::{ChargeDef, Product};
 use mf_office::{Account, Caller, Name, OfficeNo, Role};
@@ -32,7 +33,7 @@ pub trait InstitutionStore {
     ghost use Rattle.mf_model.specs.Tree.{parent_of, seen_by, seen_office, is_there};
     ghost use Rattle.mf_model.specs.Desk.{line_of};
     ghost use Rattle.mf_model.specs.Sound.{IsSound};
-    ghost use Rattle.mf_model.specs.Store.{Reads, Commits, role_of, counts_at, client_at, catalogue_counts, loan_at, loans_at};
+    ghost use Rattle.mf_model.specs.Store.{Reads, Commits, role_of, counts_at, client_at, catalogue_counts, loan_at, account_at, receipt_at, loans_at};
 
     /// The store stands for this institution.
     ghost stands: { Self → Institution → Type 0 };
@@ -86,6 +87,19 @@ pub trait InstitutionStore {
     /// A loan, or None where there is no such loan.
     fn loan(&mut self, alloc: Global, loan: Account) -> Result<Option<Loan>, Fault>
         ensures { Reads stands clean leaves (loan_at loan) self.old self.new result };
+
+    /// The account of a loan, or None where there is no such loan or it is not disbursed.
+    fn account(&mut self, alloc: Global, loan: Account) -> Result<Option<LoanAccount>, Fault>
+        ensures { Reads stands clean leaves (account_at loan) self.old self.new result };
+
+    /// The entry that carries a receipt of an office, or None where none does.
+    fn receipt(
+        &mut self,
+        alloc: Global,
+        office: OfficeNo,
+        receipt: &Receipt,
+    ) -> Result<Option<ReceiptUse>, Fault>
+        ensures { Reads stands clean leaves (receipt_at office receipt.now) self.old self.new result };
 
     /// The first 100 loans of an office whose number is above one, by number; none where the office isn't there.
     fn loans(&mut self, alloc: Global, office: OfficeNo, after: u32) -> Result<LoanList, Fault>

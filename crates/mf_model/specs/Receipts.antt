@@ -1,0 +1,59 @@
+-- The receipts of an office: those of the entries that carry one.
+use Rattle.std.specs.Prelude.{◌≡◌, ◌≢◌, ℕ, ◌+◌, ◌≤◌, ◌&&◌, ◌==◌, Bool, true, cond, nat_le, List, [], ◌∷◌, ◌++◌, length, Option, Some, None, Result, Ok, Err}
+use Rattle.std.specs.List.{find, AllByRecursion, list_all}
+use Rattle.std.specs.Str.{bytes_eq}
+use Rattle.mf_base.specs.declared.fault.Fault.{Fault}
+use Rattle.mf_base.specs.declared.fault.Fault.TheVariants.{F15}
+use Rattle.mf_account.specs.declared.entry.Entry.{Entry}
+use Rattle.mf_model.specs.declared.loan.ReceiptUse.{ReceiptUse}
+use Rattle.mf_model.specs.Institution.{Ledger}
+
+-- a receipt, and the entry that carries it
+pub record Use : Type 0 where
+  pub receipt : List ℕ
+  pub by : ReceiptUse
+
+abbrev pub use_by : ℕ → Entry → ReceiptUse
+use_by loan e = record { loan = loan; seq = e.seq; day = e.day; amount = e.amount }
+
+abbrev pub use_of : Option (List ℕ) → ℕ → Entry → List Use
+use_of None loan entry = []
+use_of (Some receipt) loan entry = record { receipt = receipt; by = use_by loan entry } ∷ []
+
+-- the receipts of the entries of a loan
+abbrev pub uses_in : ℕ → List Entry → List Use
+uses_in loan [] = []
+uses_in loan (e ∷ es) = use_of e.receipt loan e ++ uses_in loan es
+
+-- those of loans that are numbered from n on
+abbrev pub uses_from : ℕ → List Ledger → List Use
+uses_from n [] = []
+uses_from n (l ∷ ls) = uses_in n l.entries ++ uses_from (n + 1) ls
+
+-- where a receipt was used
+abbrev pub used : List ℕ → List Use → Option Use
+used receipt us = find (λ (u : Use). bytes_eq u.receipt receipt) us
+
+-- where the receipt of an entry was used, if it has one
+abbrev pub used_before : Option (List ℕ) → List Use → Option Use
+used_before None us = None
+used_before (Some receipt) us = used receipt us
+
+-- the number of the entry that carries a used receipt, where the loan, the amount and the day are the same; else F15
+abbrev pub repeated : ℕ → ℕ → ℕ → ReceiptUse → Result ℕ Fault
+repeated loan amount day by = cond ((by.loan == loan) && ((by.amount == amount) && (by.day == day))) (Ok by.seq) (Err F15)
+
+-- no receipt stands twice
+abbrev pub AreApart : List Use → Type 0
+AreApart [] = Unit {0}
+AreApart (u ∷ us) = AllByRecursion (λ (v : Use). u.receipt ≢ v.receipt) us × AreApart us
+
+-- printable ASCII without space
+abbrev pub is_printable : ℕ → Bool
+is_printable c = nat_le 33 c && nat_le c 126
+
+-- a receipt is a text of 1 to 40 such characters
+pub record IsReceipt (receipt : List ℕ) : Type 0 where
+  pub some : 1 ≤ length receipt
+  pub most : length receipt ≤ 40
+  pub printable : list_all is_printable receipt ≡ true

@@ -1,0 +1,34 @@
+-- How a loan comes from one stage to the next.
+use Rattle.std.specs.Prelude.{ℕ, cond, ◌&&◌, nat_le, Option, Some, None, Result, Ok, Err}
+use Rattle.mf_base.specs.declared.fault.Fault.{Fault}
+use Rattle.mf_base.specs.declared.fault.Fault.TheVariants.{F9, F10}
+use Rattle.mf_model.specs.declared.loan.Stage.{Stage}
+use Rattle.mf_model.specs.declared.loan.Stage.TheVariants.{Submitted, Approved, Disbursed, Withdrawn, Rejected}
+use Rattle.mf_model.specs.declared.request.LoanStep.{LoanStep}
+use Rattle.mf_model.specs.declared.request.LoanStep.TheVariants.{Approve, Reject, Withdraw, UndoApproval, Disburse}
+
+-- the number that a stage has
+abbrev pub stage_number : Stage → ℕ
+stage_number Submitted = 100
+stage_number (Approved day) = 200
+stage_number (Disbursed approved day) = 300
+stage_number Withdrawn = 400
+stage_number Rejected = 500
+
+-- the day of disbursement
+abbrev pub disbursed_on : Stage → Option ℕ
+disbursed_on (Disbursed approved day) = Some day
+disbursed_on _ = None
+
+-- disbursed on a day from that of approval to the business day, both included; else F10
+abbrev pub disbursed : ℕ → ℕ → ℕ → Result Stage Fault
+disbursed approved day today = cond (nat_le approved day && nat_le day today) (Ok (Disbursed approved day)) (Err F10)
+
+-- The stage after a step on a business day. An approval keeps its day, and undoing it forgets the day. F9 where the stage doesn't allow the step.
+abbrev pub next_stage : LoanStep → ℕ → Stage → Result Stage Fault
+next_stage Approve today Submitted = Ok (Approved today)
+next_stage Reject today Submitted = Ok Rejected
+next_stage Withdraw today Submitted = Ok Withdrawn
+next_stage UndoApproval today (Approved approved) = Ok Submitted
+next_stage (Disburse day) today (Approved approved) = disbursed approved day today
+next_stage step today stage = Err F9
