@@ -1,5 +1,5 @@
 -- What each plain INSERT means under the schema, and what it does to its table.
-use Rattle.std.proofs.Common.{◌≡◌, ℕ, ℤ, List, [], ◌∷◌, codes, refl, inl, inr, ◌∙◌, is_eq, Ok, true}
+use Rattle.std.proofs.Common.{◌≡◌, ℕ, ℤ, List, [], ◌∷◌, codes, refl, inl, inr, ◌∙◌, is_eq, Ok}
 use Rattle.sqlite.specs.declared.types.Value.TheVariants.{Null, Int}
 use Rattle.sqlite.specs.Term.{lit, col}
 use Rattle.sqlite.specs.Source.TheVariants.{Values}
@@ -14,18 +14,21 @@ use Rattle.sqlite_catalog.specs.Listing.{IsSound}
 use Rattle.sqlite_value.specs.Keys.{first_key}
 use Rattle.mf_store_tables.specs.Keep.{Keeps, put_item}
 use Rattle.mf_store_tables.specs.Tables.{index_on}
+use Rattle.mf_store_records.proofs.TextLemmas.{equals_text_back}
 use Rattle.mf_store_tables.proofs.CompareLemmas.{equals_back, and_true, key_step, each_kept, null_kept, text_kept}
 use Rattle.mf_store_tables.proofs.KeptLemmas.{Spares}
 use Rattle.mf_store_tables.proofs.InsertLemmas.{inserts_kept}
-use Rattle.mf_store_records.specs.Tables.{schema, offices, staff, clients, charges, products, loans}
-use Rattle.mf_store_records.specs.Rows.{by_office, office_row, by_staff, staff_row, by_client, client_row, by_charge, charge_row, by_product, product_row, by_loan, loan_row}
+use Rattle.mf_store_records.specs.Tables.{schema, offices, staff, clients, charges, products, loans, entries, receipts}
+use Rattle.mf_store_records.specs.Rows.{by_office, office_row, by_staff, staff_row, by_client, client_row, by_charge, charge_row, by_product, product_row, by_loan, loan_row, by_entry, entry_row, by_receipt, receipt_row}
 use Rattle.mf_store_records.specs.declared.offices.OfficeRow.{OfficeRow}
 use Rattle.mf_store_records.specs.declared.staff.StaffRow.{StaffRow}
 use Rattle.mf_store_records.specs.declared.clients.ClientRow.{ClientRow}
 use Rattle.mf_store_records.specs.declared.charges.ChargeRow.{ChargeRow}
 use Rattle.mf_store_records.specs.declared.products.ProductRow.{ProductRow}
 use Rattle.mf_store_records.specs.declared.loans.LoanRow.{LoanRow}
-use Rattle.mf_store_records.proofs.TableLemmas.{by_office_total, by_staff_total, by_client_total, by_charge_total, by_product_total, by_loan_total}
+use Rattle.mf_store_records.specs.declared.entries.EntryRow.{EntryRow}
+use Rattle.mf_store_records.specs.declared.receipts.ReceiptRow.{ReceiptRow}
+use Rattle.mf_store_records.proofs.TableLemmas.{by_office_total, by_staff_total, by_client_total, by_charge_total, by_product_total, by_loan_total, by_entry_total, by_receipt_total}
 
 -- ---- offices
 
@@ -176,3 +179,53 @@ pub adds_loan : (x : LoanRow) (old new : State) (count : ℕ) (items : List Loan
     → (new.now.schema ≡ schema) × Keeps loan_row by_loan (new.now.trees 13) (put_item by_loan x items) × Spares schema 13 old.now.trees new.now.trees × IsSound schema new.now.trees
 adds_loan x old new count items has k h =
     inserts_kept loan_row by_loan by_loan_total schema 6 loans refl (λ keys olds news. refl) refl insert_loan insert_loan_plain _ 10 loan_key insert_loan_is (inr (inr (inr (inr (inr (inr (inr (inl refl)))))))) refl _ x refl (λ v. each_kept loans v (loan_row x) (refl, (refl, (refl, (refl, (refl, (refl, (refl, (text_kept x.approved, (text_kept x.disbursed, tt)))))))))) (loan_agree x) old new count items has k h
+
+-- ---- entries
+
+abbrev pub insert_entry : List ℕ
+insert_entry = codes "INSERT INTO entries VALUES (?1, ?2, ?3, ?4, ?5, ?6, ?7, ?8, ?9, ?10, ?11)"
+
+pub insert_entry_is : command_of (understood schema insert_entry) ≡ Insert 7 (Values (lit Null ∷ col 0 0 ∷ col 0 1 ∷ col 0 2 ∷ col 0 3 ∷ col 0 4 ∷ col 0 5 ∷ col 0 6 ∷ col 0 7 ∷ col 0 8 ∷ col 0 9 ∷ col 0 10 ∷ []) 12)
+unfolding understood everything
+insert_entry_is = refl
+
+pub insert_entry_plain : IsPlain (understood schema insert_entry)
+unfolding understood everything
+insert_entry_plain = (refl, refl)
+
+abbrev entry_key : Index
+entry_key = index_on 15 16 (codes "sqlite_autoindex_entries_1") (1 ∷ 2 ∷ 3 ∷ [])
+
+entry_agree : (x : EntryRow) (id i : ℤ) (y : EntryRow) → agree entry_key.order entry_key.columns (Int i ∷ entry_row y) entry_key.columns (Int id ∷ entry_row x) ≡ is_eq (by_entry x y)
+unfolding first_key
+entry_agree x id i y = (key_step _ _ _ _ (equals_back y.office x.office) (key_step _ _ _ _ (equals_back y.loan x.loan) (and_true _ ∙ equals_back y.seq x.seq)))
+
+pub adds_entry : (x : EntryRow) (old new : State) (count : ℕ) (items : List EntryRow) → old.now.schema ≡ schema → Keeps entry_row by_entry (old.now.trees 15) items → Executes insert_entry (entry_row x) old new (Ok count)
+    → (new.now.schema ≡ schema) × Keeps entry_row by_entry (new.now.trees 15) (put_item by_entry x items) × Spares schema 15 old.now.trees new.now.trees × IsSound schema new.now.trees
+adds_entry x old new count items has k h =
+    inserts_kept entry_row by_entry by_entry_total schema 7 entries refl (λ keys olds news. refl) refl insert_entry insert_entry_plain _ 12 entry_key insert_entry_is (inr (inr (inr (inr (inr (inr (inr (inr (inl refl))))))))) refl _ x refl (λ v. each_kept entries v (entry_row x) (refl, (refl, (refl, (refl, (refl, (refl, (refl, (refl, (text_kept x.receipt, (refl, (refl, tt)))))))))))) (entry_agree x) old new count items has k h
+
+-- ---- receipts
+
+abbrev pub insert_receipt : List ℕ
+insert_receipt = codes "INSERT INTO receipts VALUES (?1, ?2, ?3, ?4)"
+
+pub insert_receipt_is : command_of (understood schema insert_receipt) ≡ Insert 8 (Values (lit Null ∷ col 0 0 ∷ col 0 1 ∷ col 0 2 ∷ col 0 3 ∷ []) 5)
+unfolding understood everything
+insert_receipt_is = refl
+
+pub insert_receipt_plain : IsPlain (understood schema insert_receipt)
+unfolding understood everything
+insert_receipt_plain = (refl, refl)
+
+abbrev receipt_key : Index
+receipt_key = index_on 17 18 (codes "sqlite_autoindex_receipts_1") (1 ∷ 2 ∷ [])
+
+receipt_agree : (x : ReceiptRow) (id i : ℤ) (y : ReceiptRow) → agree receipt_key.order receipt_key.columns (Int i ∷ receipt_row y) receipt_key.columns (Int id ∷ receipt_row x) ≡ is_eq (by_receipt x y)
+unfolding first_key
+receipt_agree x id i y = (key_step _ _ _ _ (equals_back y.office x.office) (and_true _ ∙ equals_text_back y.receipt x.receipt))
+
+pub adds_receipt : (x : ReceiptRow) (old new : State) (count : ℕ) (items : List ReceiptRow) → old.now.schema ≡ schema → Keeps receipt_row by_receipt (old.now.trees 17) items → Executes insert_receipt (receipt_row x) old new (Ok count)
+    → (new.now.schema ≡ schema) × Keeps receipt_row by_receipt (new.now.trees 17) (put_item by_receipt x items) × Spares schema 17 old.now.trees new.now.trees × IsSound schema new.now.trees
+adds_receipt x old new count items has k h =
+    inserts_kept receipt_row by_receipt by_receipt_total schema 8 receipts refl (λ keys olds news. refl) refl insert_receipt insert_receipt_plain _ 5 receipt_key insert_receipt_is (inr (inr (inr (inr (inr (inr (inr (inr (inr (inl refl)))))))))) refl _ x refl (λ v. each_kept receipts v (receipt_row x) (refl, (refl, (refl, (refl, tt))))) (receipt_agree x) old new count items has k h

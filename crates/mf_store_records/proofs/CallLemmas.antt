@@ -1,5 +1,5 @@
 -- What a query and the calls made of it come to.
-use Rattle.std.proofs.Common.{◌≡◌, ℕ, inl, inr, Bool, List, Option, None, Some, Result, Ok, Err, ◌<◌, ◌≤◌, IfOk, OnOk, IsTrue, refl, sym, ap, ◌∙◌, subst, arith, map, filter, find, slice_get}
+use Rattle.std.proofs.Common.{◌≡◌, ℕ, inl, inr, Bool, List, Option, None, Some, Result, Ok, Err, ◌≤◌, IfOk, OnOk, IsTrue, refl, sym, ◌∙◌, subst, arith, map, filter, find, slice_get}
 use denote.Ref.{Bor}
 use Rattle.std.specs.Option.{option_copied}
 use Rattle.sqlite.specs.declared.types.Value.TheVariants.{Null, Text}

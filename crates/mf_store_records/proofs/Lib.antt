@@ -4,3 +4,5 @@ pub mod AddLemmas
 pub mod ReadLemmas
 pub mod PutLemmas
 pub mod CallLemmas
+pub mod TextLemmas
+pub mod ReceiptLemmas

@@ -11,7 +11,7 @@ use Rattle.mf_store_tables.proofs.KeepLemmas.{keeps_none}
 use Rattle.mf_store_tables.proofs.KeptLemmas.{Spares}
 use Rattle.mf_store_tables.proofs.MakeLemmas.{makes_one}
 use Rattle.mf_store_records.specs.Tables.{schema}
-use Rattle.mf_store_records.specs.Rows.{Lists, no_rows, meta_row, office_row, staff_row, client_row, charge_row, product_row, loan_row, by_meta, by_office, by_staff, by_client, by_charge, by_product, by_loan, put_meta, put_office, put_staff, put_client, put_charge, put_product, put_loan}
+use Rattle.mf_store_records.specs.Rows.{Lists, no_rows, meta_row, office_row, staff_row, client_row, charge_row, product_row, loan_row, entry_row, receipt_row, by_meta, by_office, by_staff, by_client, by_charge, by_product, by_loan, by_entry, by_receipt, put_meta, put_office, put_staff, put_client, put_charge, put_product, put_loan, put_entry, put_receipt}
 use Rattle.mf_store_records.specs.declared.meta.MetaRow.{MetaRow}
 use Rattle.mf_store_records.specs.declared.offices.OfficeRow.{OfficeRow}
 use Rattle.mf_store_records.specs.declared.staff.StaffRow.{StaffRow}
@@ -19,10 +19,12 @@ use Rattle.mf_store_records.specs.declared.clients.ClientRow.{ClientRow}
 use Rattle.mf_store_records.specs.declared.charges.ChargeRow.{ChargeRow}
 use Rattle.mf_store_records.specs.declared.products.ProductRow.{ProductRow}
 use Rattle.mf_store_records.specs.declared.loans.LoanRow.{LoanRow}
+use Rattle.mf_store_records.specs.declared.entries.EntryRow.{EntryRow}
+use Rattle.mf_store_records.specs.declared.receipts.ReceiptRow.{ReceiptRow}
 use Rattle.mf_store_records.specs.Writes.{changed, schema_of, Holds, Making, Putting}
-use Rattle.mf_store_records.proofs.Texts.{create_meta, create_offices, create_staff, create_clients, create_charges, create_products, create_loans, defines_meta, defines_offices, defines_staff, defines_clients, defines_charges, defines_products, defines_loans, made_is, upsert_meta, upsert_product, upsert_loan}
-use Rattle.mf_store_records.proofs.AddLemmas.{insert_office, insert_staff, insert_client, insert_charge, insert_product, insert_loan, adds_office, adds_staff, adds_client, adds_charge, adds_product, adds_loan}
-use Rattle.mf_store_records.proofs.TableLemmas.{by_meta_total, by_office_total, by_staff_total, by_client_total, by_charge_total, by_product_total, by_loan_total, puts_meta, puts_product, puts_loan}
+use Rattle.mf_store_records.proofs.Texts.{create_meta, create_offices, create_staff, create_clients, create_charges, create_products, create_loans, create_entries, create_receipts, defines_meta, defines_offices, defines_staff, defines_clients, defines_charges, defines_products, defines_loans, defines_entries, defines_receipts, made_is, upsert_meta, upsert_product, upsert_loan}
+use Rattle.mf_store_records.proofs.AddLemmas.{insert_office, insert_staff, insert_client, insert_charge, insert_product, insert_loan, insert_entry, insert_receipt, adds_office, adds_staff, adds_client, adds_charge, adds_product, adds_loan, adds_entry, adds_receipt}
+use Rattle.mf_store_records.proofs.TableLemmas.{by_meta_total, by_office_total, by_staff_total, by_client_total, by_charge_total, by_product_total, by_loan_total, by_entry_total, by_receipt_total, puts_meta, puts_product, puts_loan}
 
 abbrev pub StandsAs : Database → Option Lists → Type 0
 StandsAs = Serves schema_of Holds
@@ -48,6 +50,8 @@ putting_meta x old new ran = record { mode = ran.mode; was_open = ran.was_open; 
             charges = subst (λ t. Keeps charge_row by_charge t m.charges) (sym (spared.1.1.1.1.0 (λ e. absurd (omega arith)))) s.holds.charges;
             products = subst (λ t. Keeps product_row by_product t m.products) (sym (spared.1.1.1.1.1.0 (λ e. absurd (omega arith)))) s.holds.products;
             loans = subst (λ t. Keeps loan_row by_loan t m.loans) (sym (spared.1.1.1.1.1.1.0 (λ e. absurd (omega arith)))) s.holds.loans;
+            entries = subst (λ t. Keeps entry_row by_entry t m.entries) (sym (spared.1.1.1.1.1.1.1.0 (λ e. absurd (omega arith)))) s.holds.entries;
+            receipts = subst (λ t. Keeps receipt_row by_receipt t m.receipts) (sym (spared.1.1.1.1.1.1.1.1.0 (λ e. absurd (omega arith)))) s.holds.receipts;
           };
         }
 
@@ -69,6 +73,8 @@ putting_office x old new ran = record { mode = ran.mode; was_open = ran.was_open
             charges = subst (λ t. Keeps charge_row by_charge t m.charges) (sym (spared.1.1.1.1.0 (λ e. absurd (omega arith)))) s.holds.charges;
             products = subst (λ t. Keeps product_row by_product t m.products) (sym (spared.1.1.1.1.1.0 (λ e. absurd (omega arith)))) s.holds.products;
             loans = subst (λ t. Keeps loan_row by_loan t m.loans) (sym (spared.1.1.1.1.1.1.0 (λ e. absurd (omega arith)))) s.holds.loans;
+            entries = subst (λ t. Keeps entry_row by_entry t m.entries) (sym (spared.1.1.1.1.1.1.1.0 (λ e. absurd (omega arith)))) s.holds.entries;
+            receipts = subst (λ t. Keeps receipt_row by_receipt t m.receipts) (sym (spared.1.1.1.1.1.1.1.1.0 (λ e. absurd (omega arith)))) s.holds.receipts;
           };
         }
 
@@ -90,6 +96,8 @@ putting_staff x old new ran = record { mode = ran.mode; was_open = ran.was_open;
             charges = subst (λ t. Keeps charge_row by_charge t m.charges) (sym (spared.1.1.1.1.0 (λ e. absurd (omega arith)))) s.holds.charges;
             products = subst (λ t. Keeps product_row by_product t m.products) (sym (spared.1.1.1.1.1.0 (λ e. absurd (omega arith)))) s.holds.products;
             loans = subst (λ t. Keeps loan_row by_loan t m.loans) (sym (spared.1.1.1.1.1.1.0 (λ e. absurd (omega arith)))) s.holds.loans;
+            entries = subst (λ t. Keeps entry_row by_entry t m.entries) (sym (spared.1.1.1.1.1.1.1.0 (λ e. absurd (omega arith)))) s.holds.entries;
+            receipts = subst (λ t. Keeps receipt_row by_receipt t m.receipts) (sym (spared.1.1.1.1.1.1.1.1.0 (λ e. absurd (omega arith)))) s.holds.receipts;
           };
         }
 
@@ -111,6 +119,8 @@ putting_client x old new ran = record { mode = ran.mode; was_open = ran.was_open
             charges = subst (λ t. Keeps charge_row by_charge t m.charges) (sym (spared.1.1.1.1.0 (λ e. absurd (omega arith)))) s.holds.charges;
             products = subst (λ t. Keeps product_row by_product t m.products) (sym (spared.1.1.1.1.1.0 (λ e. absurd (omega arith)))) s.holds.products;
             loans = subst (λ t. Keeps loan_row by_loan t m.loans) (sym (spared.1.1.1.1.1.1.0 (λ e. absurd (omega arith)))) s.holds.loans;
+            entries = subst (λ t. Keeps entry_row by_entry t m.entries) (sym (spared.1.1.1.1.1.1.1.0 (λ e. absurd (omega arith)))) s.holds.entries;
+            receipts = subst (λ t. Keeps receipt_row by_receipt t m.receipts) (sym (spared.1.1.1.1.1.1.1.1.0 (λ e. absurd (omega arith)))) s.holds.receipts;
           };
         }
 
@@ -132,6 +142,8 @@ putting_charge x old new ran = record { mode = ran.mode; was_open = ran.was_open
             charges = did.1;
             products = subst (λ t. Keeps product_row by_product t m.products) (sym (spared.1.1.1.1.1.0 (λ e. absurd (omega arith)))) s.holds.products;
             loans = subst (λ t. Keeps loan_row by_loan t m.loans) (sym (spared.1.1.1.1.1.1.0 (λ e. absurd (omega arith)))) s.holds.loans;
+            entries = subst (λ t. Keeps entry_row by_entry t m.entries) (sym (spared.1.1.1.1.1.1.1.0 (λ e. absurd (omega arith)))) s.holds.entries;
+            receipts = subst (λ t. Keeps receipt_row by_receipt t m.receipts) (sym (spared.1.1.1.1.1.1.1.1.0 (λ e. absurd (omega arith)))) s.holds.receipts;
           };
         }
 
@@ -158,6 +170,8 @@ product_written sql puts x old new ran = record { mode = ran.mode; was_open = ra
             charges = subst (λ t. Keeps charge_row by_charge t m.charges) (sym (spared.1.1.1.1.0 (λ e. absurd (omega arith)))) s.holds.charges;
             products = did.1;
             loans = subst (λ t. Keeps loan_row by_loan t m.loans) (sym (spared.1.1.1.1.1.1.0 (λ e. absurd (omega arith)))) s.holds.loans;
+            entries = subst (λ t. Keeps entry_row by_entry t m.entries) (sym (spared.1.1.1.1.1.1.1.0 (λ e. absurd (omega arith)))) s.holds.entries;
+            receipts = subst (λ t. Keeps receipt_row by_receipt t m.receipts) (sym (spared.1.1.1.1.1.1.1.1.0 (λ e. absurd (omega arith)))) s.holds.receipts;
           };
         }
 
@@ -190,6 +204,8 @@ loan_written sql puts x old new ran = record { mode = ran.mode; was_open = ran.w
             charges = subst (λ t. Keeps charge_row by_charge t m.charges) (sym (spared.1.1.1.1.0 (λ e. absurd (omega arith)))) s.holds.charges;
             products = subst (λ t. Keeps product_row by_product t m.products) (sym (spared.1.1.1.1.1.0 (λ e. absurd (omega arith)))) s.holds.products;
             loans = did.1;
+            entries = subst (λ t. Keeps entry_row by_entry t m.entries) (sym (spared.1.1.1.1.1.1.1.0 (λ e. absurd (omega arith)))) s.holds.entries;
+            receipts = subst (λ t. Keeps receipt_row by_receipt t m.receipts) (sym (spared.1.1.1.1.1.1.1.1.0 (λ e. absurd (omega arith)))) s.holds.receipts;
           };
         }
 
@@ -198,6 +214,52 @@ putting_loan = loan_written upsert_loan puts_loan
 
 pub adding_loan : (x : LoanRow) (old new : State) → Ran insert_loan (loan_row x) old new → Putting (put_loan x) old new
 adding_loan = loan_written insert_loan adds_loan
+
+pub putting_entry : (x : EntryRow) (old new : State) → Ran insert_entry (entry_row x) old new → Putting (put_entry x) old new
+putting_entry x old new ran = record { mode = ran.mode; was_open = ran.was_open; turns = turns }
+  where
+    turns : (lists : Option Lists) → StandsAs old.now lists → IsSome lists → StandsAs new.now (changed (put_entry x) lists)
+    turns None s there = nothing_there there
+    turns (Some m) s there =
+        let did = adds_entry x old new ran.count m.entries s.schema_is s.holds.entries ran.ran in
+        let spared = did.2 in record {
+          schema_is = did.0;
+          holds = record {
+            sound = did.3;
+            meta = subst (λ t. Keeps meta_row by_meta t m.meta) (sym (spared.0 (λ e. absurd (omega arith)))) s.holds.meta;
+            offices = subst (λ t. Keeps office_row by_office t m.offices) (sym (spared.1.0 (λ e. absurd (omega arith)))) s.holds.offices;
+            staff = subst (λ t. Keeps staff_row by_staff t m.staff) (sym (spared.1.1.0 (λ e. absurd (omega arith)))) s.holds.staff;
+            clients = subst (λ t. Keeps client_row by_client t m.clients) (sym (spared.1.1.1.0 (λ e. absurd (omega arith)))) s.holds.clients;
+            charges = subst (λ t. Keeps charge_row by_charge t m.charges) (sym (spared.1.1.1.1.0 (λ e. absurd (omega arith)))) s.holds.charges;
+            products = subst (λ t. Keeps product_row by_product t m.products) (sym (spared.1.1.1.1.1.0 (λ e. absurd (omega arith)))) s.holds.products;
+            loans = subst (λ t. Keeps loan_row by_loan t m.loans) (sym (spared.1.1.1.1.1.1.0 (λ e. absurd (omega arith)))) s.holds.loans;
+            entries = did.1;
+            receipts = subst (λ t. Keeps receipt_row by_receipt t m.receipts) (sym (spared.1.1.1.1.1.1.1.1.0 (λ e. absurd (omega arith)))) s.holds.receipts;
+          };
+        }
+
+pub putting_receipt : (x : ReceiptRow) (old new : State) → Ran insert_receipt (receipt_row x) old new → Putting (put_receipt x) old new
+putting_receipt x old new ran = record { mode = ran.mode; was_open = ran.was_open; turns = turns }
+  where
+    turns : (lists : Option Lists) → StandsAs old.now lists → IsSome lists → StandsAs new.now (changed (put_receipt x) lists)
+    turns None s there = nothing_there there
+    turns (Some m) s there =
+        let did = adds_receipt x old new ran.count m.receipts s.schema_is s.holds.receipts ran.ran in
+        let spared = did.2 in record {
+          schema_is = did.0;
+          holds = record {
+            sound = did.3;
+            meta = subst (λ t. Keeps meta_row by_meta t m.meta) (sym (spared.0 (λ e. absurd (omega arith)))) s.holds.meta;
+            offices = subst (λ t. Keeps office_row by_office t m.offices) (sym (spared.1.0 (λ e. absurd (omega arith)))) s.holds.offices;
+            staff = subst (λ t. Keeps staff_row by_staff t m.staff) (sym (spared.1.1.0 (λ e. absurd (omega arith)))) s.holds.staff;
+            clients = subst (λ t. Keeps client_row by_client t m.clients) (sym (spared.1.1.1.0 (λ e. absurd (omega arith)))) s.holds.clients;
+            charges = subst (λ t. Keeps charge_row by_charge t m.charges) (sym (spared.1.1.1.1.0 (λ e. absurd (omega arith)))) s.holds.charges;
+            products = subst (λ t. Keeps product_row by_product t m.products) (sym (spared.1.1.1.1.1.0 (λ e. absurd (omega arith)))) s.holds.products;
+            loans = subst (λ t. Keeps loan_row by_loan t m.loans) (sym (spared.1.1.1.1.1.1.0 (λ e. absurd (omega arith)))) s.holds.loans;
+            entries = subst (λ t. Keeps entry_row by_entry t m.entries) (sym (spared.1.1.1.1.1.1.1.0 (λ e. absurd (omega arith)))) s.holds.entries;
+            receipts = did.1;
+          };
+        }
 
 -- ---- the tables made
 
@@ -216,13 +278,15 @@ stands_empty db e = record {
     charges = subst (λ t. Keeps charge_row by_charge t []) (sym e.empty.1.1.1.1.0) (keeps_none by_charge by_charge_total charge_row);
     products = subst (λ t. Keeps product_row by_product t []) (sym e.empty.1.1.1.1.1.0) (keeps_none by_product by_product_total product_row);
     loans = subst (λ t. Keeps loan_row by_loan t []) (sym e.empty.1.1.1.1.1.1.0) (keeps_none by_loan by_loan_total loan_row);
+    entries = subst (λ t. Keeps entry_row by_entry t []) (sym e.empty.1.1.1.1.1.1.1.0) (keeps_none by_entry by_entry_total entry_row);
+    receipts = subst (λ t. Keeps receipt_row by_receipt t []) (sym e.empty.1.1.1.1.1.1.1.1.0) (keeps_none by_receipt by_receipt_total receipt_row);
   };
 }
 
-pub making : (a b c d e f g h : State) → Ran create_meta [] a b → Ran create_offices [] b c → Ran create_staff [] c d → Ran create_clients [] d e → Ran create_charges [] e f → Ran create_products [] f g → Ran create_loans [] g h → Making a h
-making a b c d e f g h one two three four five six seven = record { mode = seven.mode; was_open = one.was_open; turns = turns }
+pub making : (a b c d e f g h i j : State) → Ran create_meta [] a b → Ran create_offices [] b c → Ran create_staff [] c d → Ran create_clients [] d e → Ran create_charges [] e f → Ran create_products [] f g → Ran create_loans [] g h → Ran create_entries [] h i → Ran create_receipts [] i j → Making a j
+making a b c d e f g h i j one two three four five six seven eight nine = record { mode = nine.mode; was_open = one.was_open; turns = turns }
   where
-    turns : (lists : Option Lists) → StandsAs a.now lists → lists ≡ None → StandsAs h.now (Some no_rows)
+    turns : (lists : Option Lists) → StandsAs a.now lists → lists ≡ None → StandsAs j.now (Some no_rows)
     turns lists s none =
         let first = empty_at_first a.now (subst (StandsAs a.now) none s) in
         let has_meta = makes_one _ _ create_meta a b one.count defines_meta first one.ran in
@@ -232,4 +296,6 @@ making a b c d e f g h one two three four five six seven = record { mode = seven
         let has_charges = makes_one _ _ create_charges e f five.count defines_charges has_clients five.ran in
         let has_products = makes_one _ _ create_products f g six.count defines_products has_charges six.ran in
         let has_loans = makes_one _ _ create_loans g h seven.count defines_loans has_products seven.ran in
-        stands_empty h.now (subst (λ s. IsEmpty s h.now) made_is has_loans)
+        let has_entries = makes_one _ _ create_entries h i eight.count defines_entries has_loans eight.ran in
+        let has_receipts = makes_one _ _ create_receipts i j nine.count defines_receipts has_entries nine.ran in
+        stands_empty j.now (subst (λ s. IsEmpty s j.now) made_is has_receipts)

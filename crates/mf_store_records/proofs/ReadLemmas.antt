@@ -16,7 +16,7 @@ use Rattle.mf_store_tables.specs.Scan.{eq, by, scan}
 use Rattle.mf_store_tables.proofs.CompareLemmas.{equals_back, and_true, key_step, int_cmp-pos, at_least_text, below_text, above_number}
 use Rattle.mf_store_tables.proofs.ShownLemmas.{shown_kept, shown_first_kept}
 use Rattle.mf_store_records.specs.Tables.{schema}
-use Rattle.mf_store_records.specs.Rows.{by_meta, meta_row, by_office, office_row, by_staff, staff_row, by_client, client_row, by_charge, charge_row, by_product, product_row, by_loan, loan_row, is_meta, is_office, is_staff, is_client, is_charge, is_product, is_loan, is_staff_of, is_client_of, is_loan_of, is_loan_above, is_in_range}
+use Rattle.mf_store_records.specs.Rows.{by_meta, meta_row, by_office, office_row, by_staff, staff_row, by_client, client_row, by_charge, charge_row, by_product, product_row, by_loan, loan_row, by_entry, entry_row, by_receipt, receipt_row, is_meta, is_office, is_staff, is_client, is_charge, is_product, is_loan, is_entry, is_receipt, is_staff_of, is_client_of, is_loan_of, is_entry_of, is_loan_above, is_in_range}
 use Rattle.mf_store_records.specs.declared.meta.MetaRow.{MetaRow}
 use Rattle.mf_store_records.specs.declared.offices.OfficeRow.{OfficeRow}
 use Rattle.mf_store_records.specs.declared.staff.StaffRow.{StaffRow}
@@ -24,7 +24,11 @@ use Rattle.mf_store_records.specs.declared.clients.ClientRow.{ClientRow}
 use Rattle.mf_store_records.specs.declared.charges.ChargeRow.{ChargeRow}
 use Rattle.mf_store_records.specs.declared.products.ProductRow.{ProductRow}
 use Rattle.mf_store_records.specs.declared.loans.LoanRow.{LoanRow}
-use Rattle.mf_store_records.proofs.Texts.{find_meta, find_meta_is, find_meta_plain, find_meta_listed, find_office, find_office_is, find_office_plain, find_office_listed, find_staff, find_staff_is, find_staff_plain, find_staff_listed, staff_of_office, staff_of_office_is, staff_of_office_plain, staff_of_office_listed, clients_of_office, clients_of_office_is, clients_of_office_plain, clients_of_office_listed, find_client, find_client_is, find_client_plain, find_client_listed, offices_in, offices_in_is, offices_in_plain, offices_in_listed, find_charge, find_charge_is, find_charge_plain, find_charge_listed, find_product, find_product_is, find_product_plain, find_product_listed, find_loan, find_loan_is, find_loan_plain, find_loan_listed, loans_of_office, loans_of_office_is, loans_of_office_plain, loans_of_office_listed, loans_above, loans_above_is, loans_above_plain, loans_above_listed}
+use Rattle.mf_store_records.specs.declared.entries.EntryRow.{EntryRow}
+use Rattle.mf_store_records.specs.declared.receipts.ReceiptRow.{ReceiptRow}
+use Rattle.mf_store_records.proofs.TextLemmas.{equals_text_back}
+use Rattle.sqlite_value.proofs.OrderLemmas.{value_cmp-Text}
+use Rattle.mf_store_records.proofs.Texts.{find_receipt, find_receipt_is, find_receipt_plain, find_receipt_listed, find_meta, find_meta_is, find_meta_plain, find_meta_listed, find_office, find_office_is, find_office_plain, find_office_listed, find_staff, find_staff_is, find_staff_plain, find_staff_listed, staff_of_office, staff_of_office_is, staff_of_office_plain, staff_of_office_listed, clients_of_office, clients_of_office_is, clients_of_office_plain, clients_of_office_listed, find_client, find_client_is, find_client_plain, find_client_listed, offices_in, offices_in_is, offices_in_plain, offices_in_listed, find_charge, find_charge_is, find_charge_plain, find_charge_listed, find_product, find_product_is, find_product_plain, find_product_listed, find_loan, find_loan_is, find_loan_plain, find_loan_listed, loans_of_office, loans_of_office_is, loans_of_office_plain, loans_of_office_listed, loans_above, loans_above_is, loans_above_plain, loans_above_listed, find_entry, find_entry_is, find_entry_plain, find_entry_listed, entries_of_loan, entries_of_loan_is, entries_of_loan_plain, entries_of_loan_listed}
 
 -- ---- meta
 
@@ -130,3 +134,31 @@ loans_of_office_shows office db rows items has k =
 pub loans_above_shows : (office after : ℕ) (db : Database) (rows : List Row) (items : List LoanRow) → db.schema ≡ schema → Keeps loan_row by_loan (db.trees 13) items → Answers loans_above (Int (pos office) ∷ Int (pos after) ∷ []) db rows → rows ≡ take 100 (map loan_row (filter (is_loan_above office after) items))
 loans_above_shows office after db rows items has k =
     shown_first_kept loan_row by_loan schema 13 100 loans_above loans_above_plain loans_above_listed (eq (col 1 1) (col 0 0) ∷ op2 (Compare Gt Binary) (col 1 2) (col 0 1) ∷ []) _ _ _ loans_above_is _ (is_loan_above office after) (λ id y. ap₂ ◌&&◌ (equals_back y.office office) (and_true _ ∙ above_number y.number after)) loan_key loan_row (λ id y. refl) (loan_ranks (eq (col 1 1) (col 0 0) ∷ op2 (Compare Gt Binary) (col 1 2) (col 0 1) ∷ [])) (λ t. refl) db items rows has k
+
+-- ---- entries
+
+abbrev entry_key : EntryRow → Row
+entry_key x = Int (pos x.office) ∷ Int (pos x.loan) ∷ Int (pos x.seq) ∷ []
+
+entry_ranks : (tests : List Term) (a b : EntryRow) → output_cmp (scan 15 tests (col 1 1 ∷ col 1 2 ∷ col 1 3 ∷ col 1 4 ∷ col 1 5 ∷ col 1 6 ∷ col 1 7 ∷ col 1 8 ∷ col 1 9 ∷ col 1 10 ∷ col 1 11 ∷ []) (by (col 1 1) ∷ by (col 1 2) ∷ by (col 1 3) ∷ [])) (entry_key a, entry_row a) (entry_key b, entry_row b) ≡ by_entry a b
+entry_ranks tests a b = ap₂ ordering_then (int_cmp-pos a.office b.office) (ap₂ ordering_then (int_cmp-pos a.loan b.loan) (then-Equal _ ∙ int_cmp-pos a.seq b.seq))
+
+pub find_entry_shows : (office loan seq : ℕ) (db : Database) (rows : List Row) (items : List EntryRow) → db.schema ≡ schema → Keeps entry_row by_entry (db.trees 15) items → Answers find_entry (Int (pos office) ∷ Int (pos loan) ∷ Int (pos seq) ∷ []) db rows → rows ≡ map entry_row (filter (is_entry office loan seq) items)
+find_entry_shows office loan seq db rows items has k =
+    shown_kept entry_row by_entry schema 15 find_entry find_entry_plain find_entry_listed (eq (col 1 1) (col 0 0) ∷ eq (col 1 2) (col 0 1) ∷ eq (col 1 3) (col 0 2) ∷ []) _ _ _ find_entry_is _ (is_entry office loan seq) (λ id y. (key_step _ _ _ _ (equals_back y.office office) (key_step _ _ _ _ (equals_back y.loan loan) (and_true _ ∙ equals_back y.seq seq)))) entry_key entry_row (λ id y. refl) (entry_ranks (eq (col 1 1) (col 0 0) ∷ eq (col 1 2) (col 0 1) ∷ eq (col 1 3) (col 0 2) ∷ [])) (λ t. refl) db items rows has k
+
+pub entries_of_loan_shows : (office loan : ℕ) (db : Database) (rows : List Row) (items : List EntryRow) → db.schema ≡ schema → Keeps entry_row by_entry (db.trees 15) items → Answers entries_of_loan (Int (pos office) ∷ Int (pos loan) ∷ []) db rows → rows ≡ map entry_row (filter (is_entry_of office loan) items)
+entries_of_loan_shows office loan db rows items has k =
+    shown_kept entry_row by_entry schema 15 entries_of_loan entries_of_loan_plain entries_of_loan_listed (eq (col 1 1) (col 0 0) ∷ eq (col 1 2) (col 0 1) ∷ []) _ _ _ entries_of_loan_is _ (is_entry_of office loan) (λ id y. (key_step _ _ _ _ (equals_back y.office office) (and_true _ ∙ equals_back y.loan loan))) entry_key entry_row (λ id y. refl) (entry_ranks (eq (col 1 1) (col 0 0) ∷ eq (col 1 2) (col 0 1) ∷ [])) (λ t. refl) db items rows has k
+
+-- ---- receipts
+
+abbrev receipt_key : ReceiptRow → Row
+receipt_key x = Int (pos x.office) ∷ Text x.receipt ∷ []
+
+receipt_ranks : (tests : List Term) (a b : ReceiptRow) → output_cmp (scan 17 tests (col 1 1 ∷ col 1 2 ∷ col 1 3 ∷ col 1 4 ∷ []) (by (col 1 1) ∷ by (col 1 2) ∷ [])) (receipt_key a, receipt_row a) (receipt_key b, receipt_row b) ≡ by_receipt a b
+receipt_ranks tests a b = ap₂ ordering_then (int_cmp-pos a.office b.office) (then-Equal _ ∙ value_cmp-Text a.receipt b.receipt)
+
+pub find_receipt_shows : (office : ℕ) (receipt : List ℕ) (db : Database) (rows : List Row) (items : List ReceiptRow) → db.schema ≡ schema → Keeps receipt_row by_receipt (db.trees 17) items → Answers find_receipt (Int (pos office) ∷ Text receipt ∷ []) db rows → rows ≡ map receipt_row (filter (is_receipt office receipt) items)
+find_receipt_shows office receipt db rows items has k =
+    shown_kept receipt_row by_receipt schema 17 find_receipt find_receipt_plain find_receipt_listed (eq (col 1 1) (col 0 0) ∷ eq (col 1 2) (col 0 1) ∷ []) _ _ _ find_receipt_is _ (is_receipt office receipt) (λ id y. (key_step _ _ _ _ (equals_back y.office office) (and_true _ ∙ equals_text_back y.receipt receipt))) receipt_key receipt_row (λ id y. refl) (receipt_ranks (eq (col 1 1) (col 0 0) ∷ eq (col 1 2) (col 0 1) ∷ [])) (λ t. refl) db items rows has k

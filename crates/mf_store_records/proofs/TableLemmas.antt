@@ -1,7 +1,7 @@
 -- What each upsert does to its table.
 use Rattle.std.proofs.Common.{◌≡◌, ℕ, ℤ, List, [], ◌∷◌, Some, refl, ◌∙◌, is_eq, Ok}
 use Rattle.std.specs.Cmp.{IsTotalOrder}
-use Rattle.std.proofs.lemmas.Cmp.{on_total, then_total, nat_cmp_total}
+use Rattle.std.proofs.lemmas.Cmp.{on_total, then_total, nat_cmp_total, nat_list_cmp_total}
 use Rattle.sqlite.specs.declared.types.Value.TheVariants.{Int}
 use Rattle.sqlite.specs.State.{State, Executes}
 use Rattle.sqlite_catalog.specs.Listing.{IsSound}
@@ -11,8 +11,8 @@ use Rattle.mf_store_tables.specs.Keep.{Keeps, put_item}
 use Rattle.mf_store_tables.proofs.CompareLemmas.{equals_back, and_true, or_false, both_equal, number_same, key_step, also, each_kept, null_kept, text_kept}
 use Rattle.mf_store_tables.proofs.KeptLemmas.{Spares}
 use Rattle.mf_store_tables.proofs.UpsertLemmas.{upserts_kept}
-use Rattle.mf_store_records.specs.Tables.{schema, meta, offices, staff, clients, charges, products, loans}
-use Rattle.mf_store_records.specs.Rows.{by_meta, meta_row, by_office, office_row, by_staff, staff_row, by_client, client_row, by_charge, charge_row, by_product, product_row, by_loan, loan_row}
+use Rattle.mf_store_records.specs.Tables.{schema, meta, products, loans}
+use Rattle.mf_store_records.specs.Rows.{by_meta, meta_row, by_office, by_staff, by_client, by_charge, by_product, product_row, by_loan, loan_row, by_entry, by_receipt}
 use Rattle.mf_store_records.specs.declared.meta.MetaRow.{MetaRow}
 use Rattle.mf_store_records.specs.declared.offices.OfficeRow.{OfficeRow}
 use Rattle.mf_store_records.specs.declared.staff.StaffRow.{StaffRow}
@@ -20,6 +20,8 @@ use Rattle.mf_store_records.specs.declared.clients.ClientRow.{ClientRow}
 use Rattle.mf_store_records.specs.declared.charges.ChargeRow.{ChargeRow}
 use Rattle.mf_store_records.specs.declared.products.ProductRow.{ProductRow}
 use Rattle.mf_store_records.specs.declared.loans.LoanRow.{LoanRow}
+use Rattle.mf_store_records.specs.declared.entries.EntryRow.{EntryRow}
+use Rattle.mf_store_records.specs.declared.receipts.ReceiptRow.{ReceiptRow}
 use Rattle.mf_store_records.proofs.Texts.{upsert_meta, upsert_meta_is, upsert_meta_plain, upsert_product, upsert_product_is, upsert_product_plain, upsert_loan, upsert_loan_is, upsert_loan_plain}
 
 -- ---- meta
@@ -86,3 +88,13 @@ pub puts_loan : (x : LoanRow) (old new : State) (count : ℕ) (items : List Loan
 puts_loan x old new count items has k h =
     upserts_kept loan_row by_loan by_loan_total schema 6 loans refl (λ keys olds news. refl) refl upsert_loan upsert_loan_plain _ 10 (1 ∷ 2 ∷ []) 9 _ upsert_loan_is _ x refl (λ v. each_kept loans v (loan_row x) (refl, (refl, (refl, (refl, (refl, (refl, (refl, (text_kept x.approved, (text_kept x.disbursed, tt)))))))))) (loan_clash x) (λ v vs. refl)
     (λ id i y tied. let k0 = both_equal _ _ tied in also refl (also refl (also (number_same _ _ k0.0) (also (number_same _ _ k0.1) (refl))))) (λ t. refl) old new count items has k h
+
+-- ---- entries
+
+pub by_entry_total : IsTotalOrder by_entry
+by_entry_total = then_total (on_total (λ (x : EntryRow). x.office) nat_cmp_total) (then_total (on_total (λ (x : EntryRow). x.loan) nat_cmp_total) (on_total (λ (x : EntryRow). x.seq) nat_cmp_total))
+
+-- ---- receipts
+
+pub by_receipt_total : IsTotalOrder by_receipt
+by_receipt_total = then_total (on_total (λ (x : ReceiptRow). x.office) nat_cmp_total) (on_total (λ (x : ReceiptRow). x.receipt) nat_list_cmp_total)

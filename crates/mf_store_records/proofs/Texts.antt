@@ -15,7 +15,7 @@ use Rattle.sqlite.proofs.Callers.{IsPlain, command_of}
 use Rattle.mf_store_tables.specs.Scan.{eq, by, scan, cut_at}
 use Rattle.mf_store_tables.specs.Tables.{no_schema}
 use Rattle.mf_store_tables.specs.Making.{Defines}
-use Rattle.mf_store_records.specs.Tables.{schema, meta, offices, staff, clients, charges, products, loans}
+use Rattle.mf_store_records.specs.Tables.{schema, meta, offices, staff, clients, charges, products, loans, entries, receipts}
 
 -- ---- meta
 
@@ -293,6 +293,69 @@ pub loans_above_listed : reads_listing schema loans_above ≡ false
 unfolding understood everything
 loans_above_listed = refl
 
-pub made_is : created (created (created (created (created (created (created no_schema (record meta { tree = 0 })) (record offices { tree = 0 })) (record staff { tree = 0 })) (record clients { tree = 0 })) (record charges { tree = 0 })) (record products { tree = 0 })) (record loans { tree = 0 }) ≡ schema
+-- ---- entries
+
+abbrev pub create_entries : List ℕ
+create_entries = codes "CREATE TABLE entries (office INTEGER NOT NULL, loan INTEGER NOT NULL, seq INTEGER NOT NULL, kind INTEGER NOT NULL, day TEXT NOT NULL, amount INTEGER NOT NULL, instalment INTEGER NOT NULL, portion INTEGER NOT NULL, receipt TEXT, staff TEXT NOT NULL, reversed INTEGER NOT NULL, PRIMARY KEY (office, loan, seq)) STRICT"
+
+pub defines_entries : Defines (created (created (created (created (created (created (created no_schema (record meta { tree = 0 })) (record offices { tree = 0 })) (record staff { tree = 0 })) (record clients { tree = 0 })) (record charges { tree = 0 })) (record products { tree = 0 })) (record loans { tree = 0 })) create_entries (record entries { tree = 0 })
+unfolding understood everything
+defines_entries = record { command = refl; plain = (refl, refl); table_is = refl; uncounted = refl }
+
+abbrev pub find_entry : List ℕ
+find_entry = codes "SELECT office, loan, seq, kind, day, amount, instalment, portion, receipt, staff, reversed FROM entries WHERE office = ?1 AND loan = ?2 AND seq = ?3 ORDER BY office, loan, seq"
+
+pub find_entry_is : command_of (understood schema find_entry) ≡ Select (record { lets = []; body = scan 15 (eq (col 1 1) (col 0 0) ∷ eq (col 1 2) (col 0 1) ∷ eq (col 1 3) (col 0 2) ∷ []) (col 1 1 ∷ col 1 2 ∷ col 1 3 ∷ col 1 4 ∷ col 1 5 ∷ col 1 6 ∷ col 1 7 ∷ col 1 8 ∷ col 1 9 ∷ col 1 10 ∷ col 1 11 ∷ []) (by (col 1 1) ∷ by (col 1 2) ∷ by (col 1 3) ∷ []) }) (codes "office" ∷ codes "loan" ∷ codes "seq" ∷ codes "kind" ∷ codes "day" ∷ codes "amount" ∷ codes "instalment" ∷ codes "portion" ∷ codes "receipt" ∷ codes "staff" ∷ codes "reversed" ∷ [])
+unfolding understood everything
+find_entry_is = refl
+
+pub find_entry_plain : IsPlain (understood schema find_entry)
+unfolding understood everything
+find_entry_plain = (refl, refl)
+
+pub find_entry_listed : reads_listing schema find_entry ≡ false
+unfolding understood everything
+find_entry_listed = refl
+
+abbrev pub entries_of_loan : List ℕ
+entries_of_loan = codes "SELECT office, loan, seq, kind, day, amount, instalment, portion, receipt, staff, reversed FROM entries WHERE office = ?1 AND loan = ?2 ORDER BY office, loan, seq"
+
+pub entries_of_loan_is : command_of (understood schema entries_of_loan) ≡ Select (record { lets = []; body = scan 15 (eq (col 1 1) (col 0 0) ∷ eq (col 1 2) (col 0 1) ∷ []) (col 1 1 ∷ col 1 2 ∷ col 1 3 ∷ col 1 4 ∷ col 1 5 ∷ col 1 6 ∷ col 1 7 ∷ col 1 8 ∷ col 1 9 ∷ col 1 10 ∷ col 1 11 ∷ []) (by (col 1 1) ∷ by (col 1 2) ∷ by (col 1 3) ∷ []) }) (codes "office" ∷ codes "loan" ∷ codes "seq" ∷ codes "kind" ∷ codes "day" ∷ codes "amount" ∷ codes "instalment" ∷ codes "portion" ∷ codes "receipt" ∷ codes "staff" ∷ codes "reversed" ∷ [])
+unfolding understood everything
+entries_of_loan_is = refl
+
+pub entries_of_loan_plain : IsPlain (understood schema entries_of_loan)
+unfolding understood everything
+entries_of_loan_plain = (refl, refl)
+
+pub entries_of_loan_listed : reads_listing schema entries_of_loan ≡ false
+unfolding understood everything
+entries_of_loan_listed = refl
+
+-- ---- receipts
+
+abbrev pub create_receipts : List ℕ
+create_receipts = codes "CREATE TABLE receipts (office INTEGER NOT NULL, receipt TEXT NOT NULL, loan INTEGER NOT NULL, seq INTEGER NOT NULL, PRIMARY KEY (office, receipt)) STRICT"
+
+pub defines_receipts : Defines (created (created (created (created (created (created (created (created no_schema (record meta { tree = 0 })) (record offices { tree = 0 })) (record staff { tree = 0 })) (record clients { tree = 0 })) (record charges { tree = 0 })) (record products { tree = 0 })) (record loans { tree = 0 })) (record entries { tree = 0 })) create_receipts (record receipts { tree = 0 })
+unfolding understood everything
+defines_receipts = record { command = refl; plain = (refl, refl); table_is = refl; uncounted = refl }
+
+abbrev pub find_receipt : List ℕ
+find_receipt = codes "SELECT office, receipt, loan, seq FROM receipts WHERE office = ?1 AND receipt = ?2 ORDER BY office, receipt"
+
+pub find_receipt_is : command_of (understood schema find_receipt) ≡ Select (record { lets = []; body = scan 17 (eq (col 1 1) (col 0 0) ∷ eq (col 1 2) (col 0 1) ∷ []) (col 1 1 ∷ col 1 2 ∷ col 1 3 ∷ col 1 4 ∷ []) (by (col 1 1) ∷ by (col 1 2) ∷ []) }) (codes "office" ∷ codes "receipt" ∷ codes "loan" ∷ codes "seq" ∷ [])
+unfolding understood everything
+find_receipt_is = refl
+
+pub find_receipt_plain : IsPlain (understood schema find_receipt)
+unfolding understood everything
+find_receipt_plain = (refl, refl)
+
+pub find_receipt_listed : reads_listing schema find_receipt ≡ false
+unfolding understood everything
+find_receipt_listed = refl
+
+pub made_is : created (created (created (created (created (created (created (created (created no_schema (record meta { tree = 0 })) (record offices { tree = 0 })) (record staff { tree = 0 })) (record clients { tree = 0 })) (record charges { tree = 0 })) (record products { tree = 0 })) (record loans { tree = 0 })) (record entries { tree = 0 })) (record receipts { tree = 0 }) ≡ schema
 unfolding understood everything
 made_is = refl

@@ -1,10 +1,12 @@
 -- The rows of the tables, each table's as a list in the order of its key; and which of them the queries look for.
-use Rattle.std.specs.Prelude.{ℕ, ℤ, pos, Bool, ◌&&◌, List, [], ◌∷◌, Option}
+use Rattle.std.specs.Prelude.{◌≡◌, ℕ, pos, Bool, true, false, cond, ◌&&◌, List, [], ◌∷◌}
+use Rattle.std.specs.List.{AllByRecursion}
 use Rattle.std.specs.declared.cmp.Ordering.{Ordering}
 use Rattle.std.specs.Ordering.{nat_cmp, ordering_then, is_eq, is_lt, is_ge, is_gt}
 use Rattle.std.specs.Cmp.Lexicographic.{slice_cmp}
 use Rattle.sqlite.specs.declared.types.Value.TheVariants.{Int, Text as Words}
 use Rattle.sqlite.specs.Order.{Row}
+use Rattle.sqlite_trees.specs.Tree.{IsAscending}
 use Rattle.mf_store_tables.specs.Values.{or_null, or_text}
 use Rattle.mf_store_tables.specs.Keep.{put_item}
 use Rattle.mf_store_records.specs.declared.meta.MetaRow.{MetaRow}
@@ -14,6 +16,8 @@ use Rattle.mf_store_records.specs.declared.clients.ClientRow.{ClientRow}
 use Rattle.mf_store_records.specs.declared.charges.ChargeRow.{ChargeRow}
 use Rattle.mf_store_records.specs.declared.products.ProductRow.{ProductRow}
 use Rattle.mf_store_records.specs.declared.loans.LoanRow.{LoanRow}
+use Rattle.mf_store_records.specs.declared.entries.EntryRow.{EntryRow}
+use Rattle.mf_store_records.specs.declared.receipts.ReceiptRow.{ReceiptRow}
 
 abbrev pub by_meta : MetaRow → MetaRow → Ordering
 by_meta a b = nat_cmp a.one b.one
@@ -97,6 +101,46 @@ is_loan_of office x = is_eq (nat_cmp office x.office)
 abbrev pub is_loan_above : ℕ → ℕ → LoanRow → Bool
 is_loan_above office after x = is_eq (nat_cmp office x.office) && is_gt (nat_cmp x.number after)
 
+abbrev pub by_entry : EntryRow → EntryRow → Ordering
+by_entry a b = ordering_then (nat_cmp a.office b.office) (ordering_then (nat_cmp a.loan b.loan) (nat_cmp a.seq b.seq))
+
+abbrev pub entry_row : EntryRow → Row
+entry_row x = Int (pos x.office) ∷ Int (pos x.loan) ∷ Int (pos x.seq) ∷ Int (pos x.kind) ∷ Words x.day ∷ Int x.amount ∷ Int (pos x.instalment) ∷ Int (pos x.portion) ∷ or_text x.receipt ∷ Words x.staff ∷ Int (pos x.reversed) ∷ []
+
+abbrev pub is_entry : ℕ → ℕ → ℕ → EntryRow → Bool
+is_entry office loan seq x = is_eq (ordering_then (nat_cmp office x.office) (ordering_then (nat_cmp loan x.loan) (nat_cmp seq x.seq)))
+
+-- the rows of one loan
+abbrev pub is_entry_of : ℕ → ℕ → EntryRow → Bool
+is_entry_of office loan x = is_eq (ordering_then (nat_cmp office x.office) (nat_cmp loan x.loan))
+
+-- ---- receipts, by office and then by the bytes of the receipt
+abbrev pub by_receipt : ReceiptRow → ReceiptRow → Ordering
+by_receipt a b = ordering_then (nat_cmp a.office b.office) (slice_cmp nat_cmp a.receipt b.receipt)
+
+abbrev pub receipt_row : ReceiptRow → Row
+receipt_row x = Int (pos x.office) ∷ Words x.receipt ∷ Int (pos x.loan) ∷ Int (pos x.seq) ∷ []
+
+abbrev pub is_receipt : ℕ → List ℕ → ReceiptRow → Bool
+is_receipt office receipt x = is_eq (ordering_then (nat_cmp office x.office) (slice_cmp nat_cmp receipt x.receipt))
+
+-- a receipt comes before another: by office, and in one office by its bytes
+abbrev pub is_receipt_before : ReceiptRow → ReceiptRow → Bool
+is_receipt_before a b = is_lt (by_receipt a b)
+
+-- each receipt comes before those that follow it
+abbrev pub AreReceiptsInOrder : List ReceiptRow → Type 0
+AreReceiptsInOrder = IsAscending (λ a b. is_receipt_before a b ≡ true)
+
+-- no receipt has the office and the text of this one
+abbrev pub IsNewReceipt : ReceiptRow → List ReceiptRow → Type 0
+IsNewReceipt x = AllByRecursion (λ y. is_receipt x.office x.receipt y ≡ false)
+
+-- one receipt more, before the first that it comes before
+abbrev pub with_receipt : ReceiptRow → List ReceiptRow → List ReceiptRow
+with_receipt x [] = x ∷ []
+with_receipt x (y ∷ ys) = cond (is_receipt_before x y) (x ∷ y ∷ ys) (y ∷ with_receipt x ys)
+
 pub record Lists : Type 0 where
   pub meta : List MetaRow
   pub offices : List OfficeRow
@@ -105,9 +149,11 @@ pub record Lists : Type 0 where
   pub charges : List ChargeRow
   pub products : List ProductRow
   pub loans : List LoanRow
+  pub entries : List EntryRow
+  pub receipts : List ReceiptRow
 
 abbrev pub no_rows : Lists
-no_rows = record { meta = []; offices = []; staff = []; clients = []; charges = []; products = []; loans = [] }
+no_rows = record { meta = []; offices = []; staff = []; clients = []; charges = []; products = []; loans = []; entries = []; receipts = [] }
 
 abbrev pub put_meta : MetaRow → Lists → Lists
 put_meta x lists = record lists { meta = put_item by_meta x lists.meta }
@@ -129,3 +175,9 @@ put_product x lists = record lists { products = put_item by_product x lists.prod
 
 abbrev pub put_loan : LoanRow → Lists → Lists
 put_loan x lists = record lists { loans = put_item by_loan x lists.loans }
+
+abbrev pub put_entry : EntryRow → Lists → Lists
+put_entry x lists = record lists { entries = put_item by_entry x lists.entries }
+
+abbrev pub put_receipt : ReceiptRow → Lists → Lists
+put_receipt x lists = record lists { receipts = put_item by_receipt x lists.receipts }

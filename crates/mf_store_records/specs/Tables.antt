@@ -25,9 +25,15 @@ products = table_of 11 (codes "products") (int (codes "number") ∷ text (codes 
 abbrev pub loans : Table
 loans = table_of 13 (codes "loans") (int (codes "office") ∷ int (codes "number") ∷ int (codes "client") ∷ int (codes "product") ∷ int (codes "principal") ∷ int (codes "periods") ∷ int (codes "stage") ∷ maybe_text (codes "approved") ∷ maybe_text (codes "disbursed") ∷ []) (1 ∷ 2 ∷ [])
 
+abbrev pub entries : Table
+entries = table_of 15 (codes "entries") (int (codes "office") ∷ int (codes "loan") ∷ int (codes "seq") ∷ int (codes "kind") ∷ text (codes "day") ∷ int (codes "amount") ∷ int (codes "instalment") ∷ int (codes "portion") ∷ maybe_text (codes "receipt") ∷ text (codes "staff") ∷ int (codes "reversed") ∷ []) (1 ∷ 2 ∷ 3 ∷ [])
+
+abbrev pub receipts : Table
+receipts = table_of 17 (codes "receipts") (int (codes "office") ∷ text (codes "receipt") ∷ int (codes "loan") ∷ int (codes "seq") ∷ []) (1 ∷ 2 ∷ [])
+
 abbrev pub schema : Schema
 schema = record {
-  tables = meta ∷ offices ∷ staff ∷ clients ∷ charges ∷ products ∷ loans ∷ [];
-  indexes = index_on 0 1 (codes "sqlite_autoindex_meta_1") (1 ∷ []) ∷ index_on 2 3 (codes "sqlite_autoindex_offices_1") (3 ∷ []) ∷ index_on 2 4 (codes "sqlite_autoindex_offices_2") (1 ∷ []) ∷ index_on 5 6 (codes "sqlite_autoindex_staff_1") (1 ∷ 2 ∷ []) ∷ index_on 7 8 (codes "sqlite_autoindex_clients_1") (1 ∷ 2 ∷ []) ∷ index_on 9 10 (codes "sqlite_autoindex_charges_1") (1 ∷ []) ∷ index_on 11 12 (codes "sqlite_autoindex_products_1") (1 ∷ []) ∷ index_on 13 14 (codes "sqlite_autoindex_loans_1") (1 ∷ 2 ∷ []) ∷ [];
+  tables = meta ∷ offices ∷ staff ∷ clients ∷ charges ∷ products ∷ loans ∷ entries ∷ receipts ∷ [];
+  indexes = index_on 0 1 (codes "sqlite_autoindex_meta_1") (1 ∷ []) ∷ index_on 2 3 (codes "sqlite_autoindex_offices_1") (3 ∷ []) ∷ index_on 2 4 (codes "sqlite_autoindex_offices_2") (1 ∷ []) ∷ index_on 5 6 (codes "sqlite_autoindex_staff_1") (1 ∷ 2 ∷ []) ∷ index_on 7 8 (codes "sqlite_autoindex_clients_1") (1 ∷ 2 ∷ []) ∷ index_on 9 10 (codes "sqlite_autoindex_charges_1") (1 ∷ []) ∷ index_on 11 12 (codes "sqlite_autoindex_products_1") (1 ∷ []) ∷ index_on 13 14 (codes "sqlite_autoindex_loans_1") (1 ∷ 2 ∷ []) ∷ index_on 15 16 (codes "sqlite_autoindex_entries_1") (1 ∷ 2 ∷ 3 ∷ []) ∷ index_on 17 18 (codes "sqlite_autoindex_receipts_1") (1 ∷ 2 ∷ []) ∷ [];
   views = [];
 }

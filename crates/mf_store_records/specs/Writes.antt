@@ -8,16 +8,9 @@ use Rattle.sqlite.specs.State.{State}
 use Rattle.mf_store_tables.specs.Tables.{no_schema}
 use Rattle.mf_store_tables.specs.Writes.{Serves, Steps}
 use Rattle.mf_store_records.specs.Tables.{schema}
-use Rattle.mf_store_records.specs.Rows.{Lists, no_rows, meta_row, office_row, staff_row, client_row, charge_row, product_row, loan_row, by_meta, by_office, by_staff, by_client, by_charge, by_product, by_loan, put_meta, put_office, put_staff, put_client, put_charge, put_product, put_loan}
-use Rattle.mf_store_records.specs.declared.meta.MetaRow.{MetaRow}
-use Rattle.mf_store_records.specs.declared.offices.OfficeRow.{OfficeRow}
-use Rattle.mf_store_records.specs.declared.staff.StaffRow.{StaffRow}
-use Rattle.mf_store_records.specs.declared.clients.ClientRow.{ClientRow}
-use Rattle.mf_store_records.specs.declared.charges.ChargeRow.{ChargeRow}
-use Rattle.mf_store_records.specs.declared.products.ProductRow.{ProductRow}
-use Rattle.mf_store_records.specs.declared.loans.LoanRow.{LoanRow}
+use Rattle.mf_store_records.specs.Rows.{Lists, no_rows, meta_row, office_row, staff_row, client_row, charge_row, product_row, loan_row, entry_row, receipt_row, by_meta, by_office, by_staff, by_client, by_charge, by_product, by_loan, by_entry, by_receipt, put_meta, put_office, put_staff, put_client, put_charge, put_product, put_loan, put_entry, put_receipt}
 use Rattle.mf_store_records.specs.declared.writes.StoreWrite.{StoreWrite}
-use Rattle.mf_store_records.specs.declared.writes.StoreWrite.TheVariants.{MakeTables, PutMeta, PutOffice, PutStaff, PutClient, PutCharge, AddProduct, PutProduct, AddLoan, PutLoan}
+use Rattle.mf_store_records.specs.declared.writes.StoreWrite.TheVariants.{MakeTables, PutMeta, PutOffice, PutStaff, PutClient, PutCharge, AddProduct, PutProduct, AddLoan, PutLoan, AddEntry, AddReceipt}
 
 -- the trees list the schema and obey it, and keep these lists
 pub record HoldsLists (trees : Trees) (lists : Lists) : Type 0 where
@@ -29,6 +22,8 @@ pub record HoldsLists (trees : Trees) (lists : Lists) : Type 0 where
   pub charges : Keeps charge_row by_charge (trees 9) lists.charges
   pub products : Keeps product_row by_product (trees 11) lists.products
   pub loans : Keeps loan_row by_loan (trees 13) lists.loans
+  pub entries : Keeps entry_row by_entry (trees 15) lists.entries
+  pub receipts : Keeps receipt_row by_receipt (trees 17) lists.receipts
 
 abbrev pub schema_of : Option Lists → Schema
 schema_of None = no_schema
@@ -53,6 +48,8 @@ after (AddProduct x) lists = changed (put_product x) lists
 after (PutProduct x) lists = changed (put_product x) lists
 after (AddLoan x) lists = changed (put_loan x) lists
 after (PutLoan x) lists = changed (put_loan x) lists
+after (AddEntry x) lists = changed (put_entry x) lists
+after (AddReceipt x) lists = changed (put_receipt x) lists
 
 -- tables are made where there is none, and rows are put where there are
 abbrev pub Fits : StoreWrite → Option Lists → Type 0

@@ -5,10 +5,12 @@
 
 mod charges;
 mod clients;
+mod entries;
 mod loans;
 mod meta;
 mod offices;
 mod products;
+mod receipts;
 mod staff;
 mod table;
 mod text;
@@ -16,10 +18,12 @@ mod writes;
 
 pub use charges::ChargeRow;
 pub use clients::ClientRow;
+pub use entries::EntryRow;
 pub use loans::{LoanRow, loans_above};
 pub use meta::MetaRow;
 pub use offices::{OfficeRow, offices_within};
 pub use products::ProductRow;
+pub use receipts::{ReceiptRow, find_receipt};
 pub use staff::StaffRow;
 pub use table::{Columns, Listed, Table, find_row, list_rows, read_row};
 pub use text::Text;

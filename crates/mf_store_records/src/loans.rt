@@ -22,7 +22,7 @@ pub struct LoanRow {
     /// Cents.
     pub principal: i64,
     pub periods: u32,
-    /// The status number: 100, 200, 400 or 500.
+    /// The status number: 100, 200, 300, 400 or 500.
     pub stage: u32,
     /// The day of its approval, as YYYY-MM-DD.
     pub approved: Option<Text>,

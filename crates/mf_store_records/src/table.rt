@@ -16,6 +16,7 @@ ghost use Rattle.mf_store_records.specs.Rows.{Lists};
 ghost use Rattle.mf_store_records.specs.Writes.{schema_of, Holds, Putting};
 ghost use Rattle.mf_store_records.specs.Calls.{IsUnchanged, IsKeeping, Shows};
 
+use crate::text::Text;
 use mf_base::Fault;
 use mf_store_tables::query;
 use sqlite::{Alter, Connection, Error, Row, Transaction, params};
@@ -55,6 +56,28 @@ impl Columns for (u32, u32) {
 
     fn ask<S: Alter>(self, connection: &mut Connection<S>, sql: &str) -> Result<Vec<Row>, Fault> {
         ask(connection, sql, params![self.0, self.1])
+    }
+}
+
+impl Columns for (u32, Text) {
+    ghost use Rattle.std.specs.Prelude.{pos, [], ◌∷◌};
+    ghost use Rattle.sqlite.specs.declared.types.Value.TheVariants.{Int, Text as Words};
+
+    ghost values = { λ key. Int (pos key.0) ∷ Words key.1 ∷ [] };
+
+    fn ask<S: Alter>(self, connection: &mut Connection<S>, sql: &str) -> Result<Vec<Row>, Fault> {
+        ask(connection, sql, params![self.0, &self.1])
+    }
+}
+
+impl Columns for (u32, u32, u32) {
+    ghost use Rattle.std.specs.Prelude.{pos, [], ◌∷◌};
+    ghost use Rattle.sqlite.specs.declared.types.Value.TheVariants.{Int};
+
+    ghost values = { λ key. Int (pos key.0) ∷ Int (pos key.1) ∷ Int (pos key.2) ∷ [] };
+
+    fn ask<S: Alter>(self, connection: &mut Connection<S>, sql: &str) -> Result<Vec<Row>, Fault> {
+        ask(connection, sql, params![self.0, self.1, self.2])
     }
 }
 
@@ -163,7 +186,7 @@ pub fn read_row<T: Table>(row: &Row) -> Result<T, Fault>
 }
 
 /// The first row, if there is one.
-fn first<T: Table>(rows: &[Row]) -> Result<Option<T>, Fault>
+pub(crate) fn first<T: Table>(rows: &[Row]) -> Result<Option<T>, Fault>
     ensures row { IfOk result (λ x. (rs : List T) → rows.now ≡ map T.stored rs → x ≡ slice_get rs 0) }
     ensures gives_up { IfErr result (λ fault. fault ≡ F20) }
 {

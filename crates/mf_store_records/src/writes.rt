@@ -9,17 +9,20 @@ ghost use Rattle.mf_store_records.specs.Writes.{schema_of, Holds, Making};
 
 use crate::charges::ChargeRow;
 use crate::clients::ClientRow;
+use crate::entries::EntryRow;
 use crate::loans::LoanRow;
 use crate::meta::MetaRow;
 use crate::offices::OfficeRow;
 use crate::products::ProductRow;
+use crate::receipts::ReceiptRow;
 use crate::staff::StaffRow;
 use crate::table::{Added, Changed};
 use mf_store_tables::{Write, run};
 use sqlite::{Alter, Error, Transaction};
 
 /// What a commit is made of: the tables made, or one row put by its key. An office, a member of staff, a client and a
-/// charge are written once, when they are new; a product and a loan are added when they are new, and put when they change.
+/// charge are written once, when they are new; a product and a loan are added when they are new, and put when they change; an
+/// entry and a receipt are added when they are new.
 #[derive(Debug, Drop)]
 pub enum StoreWrite {
     MakeTables,
@@ -32,6 +35,8 @@ pub enum StoreWrite {
     PutProduct(ProductRow),
     AddLoan(LoanRow),
     PutLoan(LoanRow),
+    AddEntry(EntryRow),
+    AddReceipt(ReceiptRow),
 }
 
 fn make_tables<S: Alter>(tx: &mut Transaction<'_, S>) -> Result<(), Error>
@@ -75,6 +80,16 @@ fn make_tables<S: Alter>(tx: &mut Transaction<'_, S>) -> Result<(), Error>
         tx,
         "CREATE TABLE loans (office INTEGER NOT NULL, number INTEGER NOT NULL, client INTEGER NOT NULL, product INTEGER NOT NULL, principal INTEGER NOT NULL, periods INTEGER NOT NULL, stage INTEGER NOT NULL, approved TEXT, disbursed TEXT, PRIMARY KEY (office, number)) STRICT",
         &[],
+    )?;
+    run(
+        tx,
+        "CREATE TABLE entries (office INTEGER NOT NULL, loan INTEGER NOT NULL, seq INTEGER NOT NULL, kind INTEGER NOT NULL, day TEXT NOT NULL, amount INTEGER NOT NULL, instalment INTEGER NOT NULL, portion INTEGER NOT NULL, receipt TEXT, staff TEXT NOT NULL, reversed INTEGER NOT NULL, PRIMARY KEY (office, loan, seq)) STRICT",
+        &[],
+    )?;
+    run(
+        tx,
+        "CREATE TABLE receipts (office INTEGER NOT NULL, receipt TEXT NOT NULL, loan INTEGER NOT NULL, seq INTEGER NOT NULL, PRIMARY KEY (office, receipt)) STRICT",
+        &[],
     )
 }
 
@@ -105,6 +120,8 @@ impl Write for StoreWrite {
             StoreWrite::PutProduct(product) => product.upsert(tx),
             StoreWrite::AddLoan(loan) => loan.insert(tx),
             StoreWrite::PutLoan(loan) => loan.upsert(tx),
+            StoreWrite::AddEntry(entry) => entry.insert(tx),
+            StoreWrite::AddReceipt(receipt) => receipt.insert(tx),
         }
     }
 }

@@ -1,0 +1,103 @@
+ghost use Rattle.mf_store_records.specs.Rows.{entry_row, put_entry, is_entry, is_entry_of};
+
+use crate::table::{Added, Listed, Table};
+use crate::text::Text;
+use mf_store_tables::run;
+use sqlite::{Alter, Error, Row, Transaction, params};
+
+/// A row of the table entries.
+#[derive(Debug, Drop)]
+pub struct EntryRow {
+    pub office: u32,
+    /// The loan's number within the office.
+    pub loan: u32,
+    /// The entry's number within the loan, from 1.
+    pub seq: u32,
+    /// 1 a repayment, 2 a fee, 3 a penalty, 4 a waiver, 5 a write-off, 6 a refund.
+    pub kind: u32,
+    /// As YYYY-MM-DD: of a repayment the day that it names, of the other kinds the business day on which it was entered.
+    pub day: Text,
+    /// Cents; 0 for a waiver, a write-off and a refund.
+    pub amount: i64,
+    /// The instalment that a fee, a penalty or a waiver is for; else 0.
+    pub instalment: u32,
+    /// 1 penalties, 2 fees, 3 interest, 4 principal: what a waiver clears; 1 for a penalty, 2 for a fee, else 4.
+    pub portion: u32,
+    /// Only a repayment may have one.
+    pub receipt: Option<Text>,
+    /// Who entered it, as office and number: 2/1.
+    pub staff: Text,
+    /// 1 where it is reversed, else 0.
+    pub reversed: u32,
+}
+
+impl Table for EntryRow {
+    type Key = (u32, u32, u32);
+
+    ghost stored = { entry_row };
+
+    ghost list = { λ lists. lists.entries };
+
+    ghost put = { put_entry };
+
+    ghost is_at = { λ key. is_entry key.0 key.1 key.2 };
+
+    fn read(row: &Row) -> Result<EntryRow, Error> {
+        Ok(EntryRow {
+            office: row.get(0)?,
+            loan: row.get(1)?,
+            seq: row.get(2)?,
+            kind: row.get(3)?,
+            day: row.get(4)?,
+            amount: row.get(5)?,
+            instalment: row.get(6)?,
+            portion: row.get(7)?,
+            receipt: row.get(8)?,
+            staff: row.get(9)?,
+            reversed: row.get(10)?,
+        })
+    }
+
+    fn execute<S: Alter>(&self, tx: &mut Transaction<'_, S>, sql: &str) -> Result<(), Error> {
+        run(
+            tx,
+            sql,
+            params![
+                self.office,
+                self.loan,
+                self.seq,
+                self.kind,
+                &self.day,
+                &self.amount,
+                self.instalment,
+                self.portion,
+                self.receipt.as_ref(),
+                &self.staff,
+                self.reversed
+            ],
+        )
+    }
+
+    fn find_text() -> &'static str {
+        "SELECT office, loan, seq, kind, day, amount, instalment, portion, receipt, staff, reversed FROM entries WHERE office = ?1 AND loan = ?2 AND seq = ?3 ORDER BY office, loan, seq"
+    }
+}
+
+impl Added for EntryRow {
+    fn insert<S: Alter>(&self, tx: &mut Transaction<'_, S>) -> Result<(), Error> {
+        self.execute(
+            tx,
+            "INSERT INTO entries VALUES (?1, ?2, ?3, ?4, ?5, ?6, ?7, ?8, ?9, ?10, ?11)",
+        )
+    }
+}
+
+impl Listed for EntryRow {
+    type Part = (u32, u32);
+
+    ghost is_in = { λ loan. is_entry_of loan.0 loan.1 };
+
+    fn list_text() -> &'static str {
+        "SELECT office, loan, seq, kind, day, amount, instalment, portion, receipt, staff, reversed FROM entries WHERE office = ?1 AND loan = ?2 ORDER BY office, loan, seq"
+    }
+}
