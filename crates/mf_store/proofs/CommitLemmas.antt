@@ -1,5 +1,5 @@
 -- Commits in the words of the institution: from the writes to the change.
-use Rattle.std.proofs.Common.{◌≡◌, ◌<◌, ◌+◌, ℕ, zero, suc, inr, Bool, true, false, cond, List, [], ◌∷◌, map, length, Option, None, Some, Result, Ok, Err, IfErr, OnOk, OnErr, refl, sym, ap, ◌∙◌, arith, ◌==◌, nat_lt, true≢false, Less, Greater, nat_cmp, string_bytes}
+use Rattle.std.proofs.Common.{◌≡◌, ◌<◌, ◌+◌, ℕ, zero, suc, inr, Bool, true, false, cond, List, [], ◌∷◌, map, length, Option, None, Some, Result, Ok, Err, IfErr, OnOk, OnErr, refl, sym, ap, ◌∙◌, arith, ◌==◌, nat_lt, true≢false, Less, Greater, nat_cmp}
 use Rattle.std.specs.Option.{is_some, option_map}
 use Rattle.std.specs.List.{AllByRecursion}
 use Rattle.std.proofs.lemmas.Bool.Decides.{nat_tests}
@@ -23,14 +23,18 @@ use Rattle.mf_store_records.specs.declared.offices.OfficeRow.{OfficeRow}
 use Rattle.mf_store_records.specs.declared.staff.StaffRow.{StaffRow}
 use Rattle.mf_store_records.specs.declared.clients.ClientRow.{ClientRow}
 use Rattle.mf_store_records.specs.declared.loans.LoanRow.{LoanRow}
-use Rattle.mf_store.specs.Flat.{tables_of, office_under, key_at, staff_in, client_in, loan_in}
+use Rattle.mf_store_records.specs.declared.entries.EntryRow.{EntryRow}
+use Rattle.mf_store_records.specs.declared.receipts.ReceiptRow.{ReceiptRow}
+use Rattle.mf_store.specs.Flat.{tables_of, office_under, key_at, staff_in, client_in, loan_in, loans_of}
 use Rattle.mf_store_records.specs.declared.writes.StoreWrite.{StoreWrite}
 use Rattle.mf_store_records.specs.declared.writes.StoreWrite.TheVariants.{PutOffice, PutStaff, PutClient}
 use Rattle.mf_store.specs.Facts.{Kept}
 use Rattle.mf_store.specs.Learning.{Tells}
 use Rattle.mf_store.specs.declared.known.News.{News}
 use Rattle.mf_store.specs.Stands.{StandsFor, IsClean, Leaves, Stays, Becomes}
+use Rattle.mf_store.proofs.EntryLemmas.{same_entries_of, no_entries_in}
 use Rattle.mf_store.proofs.FlatLemmas.{put_row_of, same_rows_of, no_rows_of, put_first, put_past}
+use Rattle.mf_store.proofs.ReceiptRowLemmas.{same_receipts_of, no_receipts_in}
 
 -- ---- from the calls to the commit
 
@@ -79,9 +83,9 @@ module _ {S : Type 0} (g : Ghosts S) (commit : Commit) where
   }
 
 -- the rows of the offices, where the catalogue's are as they were
-pub same_lists : (i : Institution) {o p : List OfficeRow} {s t : List StaffRow} {c d : List ClientRow} {l m : List LoanRow} → o ≡ p → s ≡ t → c ≡ d → l ≡ m
-    → ◌≡◌ {A = Lists} (record (tables_of i) { offices = o; staff = s; clients = c; loans = l }) (record (tables_of i) { offices = p; staff = t; clients = d; loans = m })
-same_lists i a b e h = λ k. record (tables_of i) { offices = a k; staff = b k; clients = e k; loans = h k }
+pub same_lists : (i : Institution) {o p : List OfficeRow} {s t : List StaffRow} {c d : List ClientRow} {l m : List LoanRow} {e f : List EntryRow} {q r : List ReceiptRow} → o ≡ p → s ≡ t → c ≡ d → l ≡ m → e ≡ f → q ≡ r
+    → ◌≡◌ {A = Lists} (record (tables_of i) { offices = o; staff = s; clients = c; loans = l; entries = e; receipts = q }) (record (tables_of i) { offices = p; staff = t; clients = d; loans = m; entries = f; receipts = r })
+same_lists i a b e h j u = λ k. record (tables_of i) { offices = a k; staff = b k; clients = e k; loans = h k; entries = j k; receipts = u k }
 
 -- ---- one more row of an office
 
@@ -103,7 +107,8 @@ client_becomes x name i c before sound there is = record {
   fits = (refl, tt);
   is = ap Some (same_lists i (offices-with_rows x new i.offices) (same_rows_of staff_in (λ rows. rows.staff) refl by_staff (λ x n y m a b. refl) x new i.offices before.tree.ascending refl)
       (ap (λ r. put_item by_client r (tables_of i).clients) is ∙ put_row_of client_in (λ rows. rows.clients) refl by_client (λ x n y m a b. refl) x name new i.offices before.tree.ascending there refl)
-      (same_rows_of loan_in (λ rows. rows.loans) refl by_loan (λ x n y m a b. refl) x new i.offices before.tree.ascending refl));
+      (same_rows_of loan_in loans_of refl by_loan (λ x n y m a b. refl) x new i.offices before.tree.ascending refl)
+      (same_entries_of x new i.offices before.tree.ascending (λ y n. refl)) (same_receipts_of x new i.offices before.tree.ascending refl));
 }
   where
     new : Rows
@@ -117,7 +122,8 @@ staff_becomes x name role i s before sound there is = record {
   is = ap Some (same_lists i (offices-with_rows x new i.offices)
       (ap (λ r. put_item by_staff r (tables_of i).staff) is ∙ put_row_of staff_in (λ rows. rows.staff) refl by_staff (λ x n y m a b. refl) x (record { name = name; role = role }) new i.offices before.tree.ascending there refl)
       (same_rows_of client_in (λ rows. rows.clients) refl by_client (λ x n y m a b. refl) x new i.offices before.tree.ascending refl)
-      (same_rows_of loan_in (λ rows. rows.loans) refl by_loan (λ x n y m a b. refl) x new i.offices before.tree.ascending refl));
+      (same_rows_of loan_in loans_of refl by_loan (λ x n y m a b. refl) x new i.offices before.tree.ascending refl)
+      (same_entries_of x new i.offices before.tree.ascending (λ y n. refl)) (same_receipts_of x new i.offices before.tree.ascending refl));
 }
   where
     new : Rows
@@ -229,7 +235,7 @@ office_becomes x parent name key i o before sound trees free there key_is is = r
   sound = sound;
   fits = (refl, tt);
   is = ap Some (same_lists i (ap (λ r. put_item by_office r (map (office_under ps) fs)) (is ∙ row_is) ∙ ap (put_item by_office (office_under qs new)) (under_alike ps qs fs (all_there fs fs (λ f. key_of qs f.number ≡ key_of ps f.number) before.tree.ascending (λ f here. kept_key f.number here)))
-      ∙ office_put qs new fs before.tree.ascending free) (no_rows_of staff_in (λ rows. rows.staff) refl by_staff (λ x n y m a b. refl) new fs refl) (no_rows_of client_in (λ rows. rows.clients) refl by_client (λ x n y m a b. refl) new fs refl) (no_rows_of loan_in (λ rows. rows.loans) refl by_loan (λ x n y m a b. refl) new fs refl));
+      ∙ office_put qs new fs before.tree.ascending free) (no_rows_of staff_in (λ rows. rows.staff) refl by_staff (λ x n y m a b. refl) new fs refl) (no_rows_of client_in (λ rows. rows.clients) refl by_client (λ x n y m a b. refl) new fs refl) (no_rows_of loan_in loans_of refl by_loan (λ x n y m a b. refl) new fs refl) (no_entries_in new fs refl) (no_receipts_in new fs refl));
 }
   where
     fs : List Office

@@ -1,5 +1,5 @@
 -- A new institution's writes, and what stands after them.
-use Rattle.std.proofs.Common.{◌≡◌, ℕ, None, Some, List, [], ◌∷◌, codes, refl, sym, subst, arith, string_bytes}
+use Rattle.std.proofs.Common.{◌≡◌, ℕ, None, Some, List, [], ◌∷◌, codes, refl, sym, subst, arith}
 use Rattle.sqlite.specs.State.{State}
 use Rattle.sqlite.specs.Held.{Held, state}
 use Rattle.sqlite.specs.Steps.{IsEmpty}
@@ -36,6 +36,8 @@ begins writes day m o s is one schema text number parent key head office staff m
     charges = [];
     products = [];
     loans = [];
+    entries = [];
+    receipts = [];
   });
 })
 

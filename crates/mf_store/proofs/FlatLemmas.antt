@@ -71,7 +71,7 @@ greater x y n m h = grind (arith, nat_tests)
 later : (x n m : ℕ) → m < n → ordering_then (nat_cmp x x) (nat_cmp n m) ≡ Greater
 later x n m h = grind (arith, nat_tests)
 
-with_numbered_later : {A : Type 0} (d : ℕ) (change : A → A) (b : A) (xs : List A) → with_numbered (suc (suc d)) change (b ∷ xs) ≡ b ∷ with_numbered (suc d) change xs
+pub with_numbered_later : {A : Type 0} (d : ℕ) (change : A → A) (b : A) (xs : List A) → with_numbered (suc (suc d)) change (b ∷ xs) ≡ b ∷ with_numbered (suc d) change xs
 with_numbered_later d change b xs =
     let later : (suc (suc d) == 1) ≡ false = grind (arith, nat_tests) in
     let place : suc (suc d) - 1 ≡ suc d = omega arith in

@@ -1,9 +1,14 @@
 pub mod FlatLemmas
+pub mod EntryLemmas
+pub mod SortedLemmas
+pub mod ReceiptRowLemmas
 pub mod StandLemmas
 pub mod KeptLemmas
 pub mod LookLemmas
 pub mod CommitLemmas
 pub mod NewsLemmas
+pub mod EnteredLemmas
+pub mod UseLemmas
 pub mod FirstLemmas
 pub mod VisibleLemmas
 pub mod OfficeRowsLemmas

@@ -3,12 +3,12 @@ use Rattle.std.proofs.Common.{◌≡◌, ◌<◌, ◌≤◌, ◌+◌, ◌-◌, �
 use Rattle.std.specs.Option.{option_map, is_some}
 use Rattle.std.specs.List.{AllByRecursion}
 use Rattle.std.proofs.lemmas.Bool.Decides.{nat_tests}
+use Rattle.mf_office.specs.declared.caller.Caller.{Caller}
 use Rattle.mf_model.specs.Institution.{Institution, Catalogue, Office, office_at, numbered}
-use Rattle.mf_model.specs.Sound.{IsSound, IsSoundOffice, IsSoundRows}
+use Rattle.mf_model.specs.Sound.{IsSound, IsSoundOffice, IsSoundRows, is_staff as is_staff_in}
 use Rattle.mf_model.specs.Store.{rows_of}
-use Rattle.mf_model.specs.Tree.{parent_of}
 use Rattle.mf_store_records.specs.Rows.{is_office, is_staff, is_client, is_charge, is_product, is_loan}
-use Rattle.mf_store.specs.Flat.{office_under, staff_in, client_in, charge_as, product_as, loan_in, tables_of, office_row_at, staff_row_at, client_row_at, charge_row_at, product_row_at, loan_row_at}
+use Rattle.mf_store.specs.Flat.{office_under, staff_in, client_in, charge_as, product_as, loan_in, loans_of, tables_of, staff_row_at, client_row_at, charge_row_at, product_row_at, loan_row_at}
 use Rattle.mf_store.specs.Counts.{count_of}
 use Rattle.mf_store.specs.declared.counts.Kind.{Kind}
 use Rattle.mf_store.specs.declared.counts.Kind.TheVariants.{Staff, Clients, Loans, Charges, Products}
@@ -30,7 +30,7 @@ pub client_by_key : (x number : ℕ) (i : Institution) → IsSound i → find (i
 client_by_key x number i sound = find_row client_in (λ rows. rows.clients) refl is_client (λ x k y m a. refl) x number i.offices sound.tree.ascending
 
 pub loan_by_key : (x number : ℕ) (i : Institution) → IsSound i → find (is_loan x number) (tables_of i).loans ≡ loan_row_at x number i
-loan_by_key x number i sound = find_row loan_in (λ rows. rows.loans) refl is_loan (λ x k y m a. refl) x number i.offices sound.tree.ascending
+loan_by_key x number i sound = find_row loan_in loans_of refl is_loan (λ x k y m a. refl) x number i.offices sound.tree.ascending
 
 pub charge_by_key : (number : ℕ) (i : Institution) → find (is_charge number) (tables_of i).charges ≡ charge_row_at number i
 charge_by_key number i = find_listed charge_as is_charge (λ k m a. refl) number i.catalogue.charges
@@ -58,17 +58,17 @@ mapped_some g a (Some b) e = ap is_some e
 
 -- ---- there are no more than the limits allow
 
-pub office_sound : (k : Catalogue) (x : ℕ) (fs : List Office) → AllByRecursion (IsSoundOffice k) fs → IsSoundRows k (rows_of (office_at x fs))
-office_sound k x [] all = record { staff_limit = omega arith; staff_names = tt; client_limit = omega arith; client_names = tt; loan_limit = omega arith; loans = tt }
-office_sound k x (f ∷ fs) all = go (f.number == x) (office_sound k x fs all.1)
+pub office_sound : (k : Catalogue) (s : Caller → Bool) (x : ℕ) (fs : List Office) → AllByRecursion (IsSoundOffice k s) fs → IsSoundRows k s (rows_of (office_at x fs))
+office_sound k s x [] all = record { staff_limit = omega arith; staff_names = tt; client_limit = omega arith; client_names = tt; loan_limit = omega arith; loans = tt; receipts = tt }
+office_sound k s x (f ∷ fs) all = go (f.number == x) (office_sound k s x fs all.1)
   where
-    go : (b : Bool) → IsSoundRows k (rows_of (office_at x fs)) → IsSoundRows k (rows_of (cond b (Some f) (office_at x fs)))
+    go : (b : Bool) → IsSoundRows k s (rows_of (office_at x fs)) → IsSoundRows k s (rows_of (cond b (Some f) (office_at x fs)))
     go true more = all.0.rows
     go false more = more
 
 pub count_limit : (kind : Kind) (i : Institution) → IsSound i → count_of kind i ≤ 999999
-count_limit (Staff x) i sound = let most = (office_sound i.catalogue x i.offices sound.each).staff_limit in omega arith
-count_limit (Clients x) i sound = (office_sound i.catalogue x i.offices sound.each).client_limit
-count_limit (Loans x) i sound = (office_sound i.catalogue x i.offices sound.each).loan_limit
+count_limit (Staff x) i sound = let most = (office_sound i.catalogue (is_staff_in i.offices) x i.offices sound.each).staff_limit in omega arith
+count_limit (Clients x) i sound = (office_sound i.catalogue (is_staff_in i.offices) x i.offices sound.each).client_limit
+count_limit (Loans x) i sound = (office_sound i.catalogue (is_staff_in i.offices) x i.offices sound.each).loan_limit
 count_limit Charges i sound = let most = sound.catalogue.charge_limit in omega arith
 count_limit Products i sound = let most = sound.catalogue.product_limit in omega arith

@@ -12,9 +12,11 @@ use Rattle.mf_model.specs.declared.loan.Loan.{Loan}
 use Rattle.mf_model.specs.declared.loan.Stage.{Stage}
 use Rattle.mf_model.specs.declared.store.Counts.{Counts}
 use Rattle.mf_model.specs.declared.store.CatalogueCounts.{CatalogueCounts}
-use Rattle.mf_model.specs.declared.commit.Commit.TheVariants.{AddOffice, AddStaff, AddClient, SetDay, AddCharge, AddProduct, RetireProduct, AddLoan, SetStage}
+use Rattle.mf_model.specs.declared.commit.Commit.TheVariants.{AddOffice, AddStaff, AddClient, SetDay, AddCharge, AddProduct, RetireProduct, AddLoan, SetStage, Enter}
 use Rattle.mf_model.specs.Institution.{Institution, Charge, Offer, Office, Rows, Staff, numbered, product_of, office_at, with_rows, with_office, new_office, after, Rows_become}
-use Rattle.mf_model.specs.Desk.{staff_added, client_added, loan_added, loan_staged}
+use Rattle.mf_model.specs.Desk.{staff_added, client_added, loan_added, loan_staged, loan_entered}
+use Rattle.mf_account.specs.Change.{Account as Replayed}
+use Rattle.mf_model.specs.Loans.{staged, with_entries}
 use Rattle.mf_model.specs.Store.{committed, rows_of, rows_at, counts_at, catalogue_counts, role_of}
 use Rattle.mf_model.specs.Sound.{IsSound}
 use Rattle.mf_model.specs.Tree.{is_there, parent_of}
@@ -35,7 +37,7 @@ counts_in rows = record { staff = length rows.staff; clients = length rows.clien
 one_more : {A : Type 0} (xs : List A) (x : A) → length xs + 1 ≡ length (xs ++ x ∷ [])
 one_more xs x = grind (arith, length-append xs (x ∷ []))
 
-own_rows : (x : ℕ) (new : Rows) (fs : List Office) → is_there fs x ≡ true → rows_of (office_at x (with_rows x new fs)) ≡ new
+pub own_rows : (x : ℕ) (new : Rows) (fs : List Office) → is_there fs x ≡ true → rows_of (office_at x (with_rows x new fs)) ≡ new
 own_rows x new [] there = absurd (true≢false (sym there))
 own_rows x new (f ∷ fs) there = go (f.number == x) there (λ h. own_rows x new fs h)
   where
@@ -155,14 +157,21 @@ loan_tells a x l i k e there is =
     let was = is ∙ ap (λ y. counts_at y i) e in
     rows_tell a x (loan_added l (rows_at x i)) _ i e there
     ((λ t. record { staff = (was t).staff; clients = (was t).clients; loans = (was t).loans + 1 })
-    ∙ (λ t. record { staff = length (rows_at x i).staff; clients = length (rows_at x i).clients; loans = one_more (rows_at x i).loans l t }))
+    ∙ (λ t. record { staff = length (rows_at x i).staff; clients = length (rows_at x i).clients; loans = one_more (rows_at x i).loans (record { loan = l; entries = [] }) t }))
     (λ n s h. h)
 
 pub stage_tells : (account : Account) (stage : Stage) (i : Institution) → Tells Nothing i (committed (SetStage account stage) i)
 stage_tells account stage i =
     let rows = rows_at account.office i in
     rows_tell_nothing account.office (loan_staged account.number stage rows) i
-    (λ t. record { staff = length rows.staff; clients = length rows.clients; loans = length_with account.number (λ (l : Loan). record l { stage = stage }) rows.loans t })
+    (λ t. record { staff = length rows.staff; clients = length rows.clients; loans = length_with account.number (staged stage) rows.loans t })
+    (λ n s h. h)
+
+pub entry_tells : (loan : Account) (account : Replayed) (i : Institution) → Tells Nothing i (committed (Enter loan account) i)
+entry_tells loan account i =
+    let rows = rows_at loan.office i in
+    rows_tell_nothing loan.office (loan_entered loan.number account.loan.entries rows) i
+    (λ t. record { staff = length rows.staff; clients = length rows.clients; loans = length_with loan.number (with_entries account.loan.entries) rows.loans t })
     (λ n s h. h)
 
 new_rows : (new : Office) (fs : List Office) → office_at new.number fs ≡ None → rows_of (office_at new.number (with_office new fs)) ≡ new.rows

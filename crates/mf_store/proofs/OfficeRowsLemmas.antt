@@ -1,18 +1,17 @@
 -- The rows of one office: those that the queries show, and what is read of them.
-use Rattle.std.proofs.Common.{◌≡◌, ◌<◌, ◌≤◌, ◌+◌, ℕ, zero, suc, pos, Bool, true, false, cond, List, [], ◌∷◌, ◌++◌, map, filter, length, take, get_or, Some, refl, sym, ap, ap₂, ◌∙◌, subst, arith, is_eq, nat_cmp, ◌==◌, string_bytes}
+use Rattle.std.proofs.Common.{◌≡◌, ◌<◌, ◌≤◌, ◌+◌, ℕ, zero, suc, Bool, true, false, cond, List, [], ◌∷◌, ◌++◌, map, filter, length, take, get_or, Some, refl, sym, ap, ap₂, ◌∙◌, subst, arith, is_eq, nat_cmp, ◌==◌}
 use Rattle.std.proofs.lemmas.Bool.Decides.{nat_tests}
 use Rattle.std.proofs.lemmas.List.{take_more}
 use Rattle.std.proofs.lemmas.List.Elements.{filter-append}
-use Rattle.sqlite.specs.declared.types.Value.TheVariants.{Int}
 use Rattle.sqlite.specs.Order.{Row}
 use Rattle.mf_office.specs.declared.staff.Role.{Role}
 use Rattle.mf_model.specs.Institution.{Institution, Office, Rows, Staff, office_at, no_rows}
 use Rattle.mf_model.specs.Sound.{IsSound}
 use Rattle.mf_model.specs.Store.{rows_of, rows_at}
 use Rattle.mf_model.specs.Tree.{Above, Ascending}
-use Rattle.mf_store_records.specs.Rows.{staff_row, client_row, loan_row, is_staff_of, is_client_of, is_loan_of}
+use Rattle.mf_store_records.specs.Rows.{staff_row, client_row, is_staff_of, is_client_of}
 use Rattle.mf_store_records.specs.declared.staff.StaffRow.{StaffRow}
-use Rattle.mf_store.specs.Flat.{numbered_from, all_rows, staff_in, client_in, loan_in, tables_of}
+use Rattle.mf_store.specs.Flat.{numbered_from, all_rows, staff_in, client_in, tables_of}
 
 -- ---- one office's rows among all
 
@@ -57,9 +56,6 @@ staff_shown x i sound = ap (map staff_row) (rows_in_office staff_in (λ rows. ro
 
 pub clients_shown : (x : ℕ) (i : Institution) → IsSound i → map client_row (filter (is_client_of x) (tables_of i).clients) ≡ numbered_from (λ m name. client_row (client_in x m name)) 1 (rows_at x i).clients
 clients_shown x i sound = ap (map client_row) (rows_in_office client_in (λ rows. rows.clients) refl is_client_of (λ x y m a. refl) x i.offices sound.tree.ascending) ∙ map_numbered client_row (client_in x) 1 (rows_at x i).clients
-
-pub loans_shown : (x : ℕ) (i : Institution) → IsSound i → map loan_row (filter (is_loan_of x) (tables_of i).loans) ≡ numbered_from (λ m l. loan_row (loan_in x m l)) 1 (rows_at x i).loans
-loans_shown x i sound = ap (map loan_row) (rows_in_office loan_in (λ rows. rows.loans) refl is_loan_of (λ x y m a. refl) x i.offices sound.tree.ascending) ∙ map_numbered loan_row (loan_in x) 1 (rows_at x i).loans
 
 -- ---- rows that are read in turn
 

@@ -1,6 +1,6 @@
 -- A sound institution is the only one with its rows: each value is read back off its row, and an office's rows are those that stand first.
-use Rattle.std.proofs.Common.{◌≡◌, ◌<◌, ◌+◌, ◌∙◌, ℕ, suc, pos, Bool, true, false, cond, List, [], ◌∷◌, ◌++◌, map, take, drop, Option, refl, sym, ap, arith, ◌==◌}
-use Rattle.std.specs.List.{prefix_len}
+use Rattle.std.proofs.Common.{◌≡◌, ◌<◌, ◌+◌, ◌∙◌, ℕ, suc, pos, Bool, true, false, cond, List, [], ◌∷◌, ◌++◌, map, take, drop, Option, Some, refl, sym, ap, subst, arith, ◌==◌, true≢false}
+use Rattle.std.specs.List.{AllByRecursion, prefix_len}
 use Rattle.std.proofs.lemmas.Bool.Decides.{nat_tests}
 use Rattle.std.proofs.lemmas.List.Sums.{take_while-cons}
 use Rattle.mf_base.specs.Choices.{frequency_number}
@@ -19,13 +19,19 @@ use Rattle.mf_catalog.specs.declared.terms.StrategyName.TheVariants.{MifosStanda
 use Rattle.mf_office.specs.Roles.{role_number}
 use Rattle.mf_office.specs.declared.staff.Role.{Role}
 use Rattle.mf_office.specs.declared.staff.Role.TheVariants.{Teller, Officer, Manager}
-use Rattle.mf_model.specs.Institution.{Institution, Charge, Offer, Office, Rows, Staff, no_rows}
-use Rattle.mf_model.specs.Loans.{status_of}
+use Rattle.mf_account.specs.declared.entry.Entry.{Entry}
+use Rattle.mf_account.specs.declared.entry.Kind.{Kind}
+use Rattle.mf_account.specs.declared.entry.Kind.TheVariants.{Repay, Fee, Penalty, Waive, WriteOff, Refund}
+use Rattle.mf_alloc.specs.declared.row.Portion.{Portion}
+use Rattle.mf_alloc.specs.declared.row.Portion.TheVariants as portion
+use Rattle.mf_office.specs.Texts.{IsCaller}
+use Rattle.mf_office.specs.Written.{caller_text}
+use Rattle.mf_office.specs.declared.caller.Caller.{Caller}
+use Rattle.mf_office.proofs.ReadLemmas.{caller_of-text}
+use Rattle.mf_model.specs.Institution.{Institution, Charge, Ledger, Offer, Office, Rows, Staff, no_rows}
 use Rattle.mf_model.specs.Sound.{IsSound}
 use Rattle.mf_model.specs.Tree.{Above, Ascending, parent_of}
 use Rattle.mf_model.specs.declared.loan.Loan.{Loan}
-use Rattle.mf_model.specs.declared.loan.Stage.{Stage}
-use Rattle.mf_model.specs.declared.loan.Stage.TheVariants.{Submitted, Approved, Withdrawn, Rejected}
 use Rattle.mf_store_records.specs.declared.meta.MetaRow.{MetaRow}
 use Rattle.mf_store_records.specs.declared.offices.OfficeRow.{OfficeRow}
 use Rattle.mf_store_records.specs.declared.staff.StaffRow.{StaffRow}
@@ -33,7 +39,11 @@ use Rattle.mf_store_records.specs.declared.clients.ClientRow.{ClientRow}
 use Rattle.mf_store_records.specs.declared.charges.ChargeRow.{ChargeRow}
 use Rattle.mf_store_records.specs.declared.products.ProductRow.{ProductRow}
 use Rattle.mf_store_records.specs.declared.loans.LoanRow.{LoanRow}
-use Rattle.mf_store.specs.Flat.{flag_number, approval_text, office_under, meta_on, staff_in, client_in, charge_as, product_as, loan_in, numbered_from, all_rows, tables_of}
+use Rattle.mf_store_records.specs.declared.entries.EntryRow.{EntryRow}
+use Rattle.mf_store.specs.Flat.{flag_number, entry_kind_number, portion_number, office_under, meta_on, staff_in, client_in, charge_as, product_as, loan_in, loans_of, entry_in, numbered_from, all_rows, rows_of_loans, entry_rows, tables_of}
+use Rattle.mf_store.proofs.EnteredLemmas.{HaveCallers, AreCalled, all_called}
+use Rattle.mf_store.proofs.EntryLemmas.{all_map, all_loans, all_offices}
+use Rattle.mf_store.proofs.LoanLemmas.{loan_of, stage_is}
 use Rattle.mf_store_records.specs.Rows.{Lists}
 
 -- ---- rows in the order of their offices: those of the first office, and those of later ones
@@ -265,44 +275,128 @@ offices_same (f ∷ fs) (g ∷ gs) h s c l =
     let more_loans : map (λ (f : Office). f.rows.loans) fs ≡ map (λ (f : Office). f.rows.loans) gs = cc in
     λ t. record { number = (head t).number; parent = (head t).parent; name = (head t).name; rows = record { staff = staff t; clients = clients t; loans = loans t } } ∷ offices_same fs gs heads more_staff more_clients more_loans t
 
+-- ---- entries
+
+abbrev entry_kind_at : ℕ → Kind
+entry_kind_at n = cond (n == 1) Repay (cond (n == 2) Fee (cond (n == 3) Penalty (cond (n == 4) Waive (cond (n == 5) WriteOff Refund))))
+
+entry_kind_read : (x : Kind) → entry_kind_at (entry_kind_number x) ≡ x
+entry_kind_read Repay = refl
+entry_kind_read Fee = refl
+entry_kind_read Penalty = refl
+entry_kind_read Waive = refl
+entry_kind_read WriteOff = refl
+entry_kind_read Refund = refl
+
+pub entry_kind_same : (a b : Kind) → entry_kind_number a ≡ entry_kind_number b → a ≡ b
+entry_kind_same a b e = sym (entry_kind_read a) ∙ ap entry_kind_at e ∙ entry_kind_read b
+
+abbrev portion_at : ℕ → Portion
+portion_at n = cond (n == 1) portion.Penalty (cond (n == 2) portion.Fee (cond (n == 3) portion.Interest portion.Principal))
+
+portion_read : (x : Portion) → portion_at (portion_number x) ≡ x
+portion_read portion.Penalty = refl
+portion_read portion.Fee = refl
+portion_read portion.Interest = refl
+portion_read portion.Principal = refl
+
+pub portion_same : (a b : Portion) → portion_number a ≡ portion_number b → a ≡ b
+portion_same a b e = sym (portion_read a) ∙ ap portion_at e ∙ portion_read b
+
+caller_same : (a b : Caller) → IsCaller a → IsCaller b → caller_text a.office a.staff ≡ caller_text b.office b.staff → a ≡ b
+caller_same a b p q e = let one : Some a ≡ Some b = sym (caller_of-text (caller_text b.office b.staff) a p (sym e)) ∙ caller_of-text (caller_text b.office b.staff) b q refl in cc
+
+-- the first rows have a property and the others have it not
+split_same : {R : Type 0} (p : R → Bool) (xs ys us vs : List R) → AllByRecursion (λ r. p r ≡ true) xs → AllByRecursion (λ r. p r ≡ false) ys → AllByRecursion (λ r. p r ≡ true) us → AllByRecursion (λ r. p r ≡ false) vs → xs ++ ys ≡ us ++ vs → (xs ≡ us) × (ys ≡ vs)
+split_same p [] ys [] vs a b c d e = (refl, e)
+split_same p [] [] (u ∷ us) vs a b c d e = absurd (let k : [] ≡ u ∷ (us ++ vs) = e in cc)
+split_same p [] (y ∷ ys) (u ∷ us) vs a b c d e = absurd (true≢false (sym c.0 ∙ ap p (let k : y ∷ ys ≡ u ∷ (us ++ vs) = e in let same : u ≡ y = cc in same) ∙ b.0))
+split_same p (x ∷ xs) ys [] [] a b c d e = absurd (let k : x ∷ (xs ++ ys) ≡ [] = e in cc)
+split_same p (x ∷ xs) ys [] (v ∷ vs) a b c d e = absurd (true≢false (sym a.0 ∙ ap p (let k : x ∷ (xs ++ ys) ≡ v ∷ vs = e in let same : x ≡ v = cc in same) ∙ d.0))
+split_same p (x ∷ xs) ys (u ∷ us) vs a b c d e =
+    let k : x ∷ (xs ++ ys) ≡ u ∷ (us ++ vs) = e in
+    let first : x ≡ u = cc in
+    let rest : xs ++ ys ≡ us ++ vs = cc in
+    let more = split_same p xs ys us vs a.1 b c.1 d rest in
+    ((λ t. first t ∷ more.0 t), more.1)
+
+-- rows of this loan, and of this office
+abbrev of_loan : ℕ → EntryRow → Bool
+of_loan n r = r.loan == n
+
+abbrev of_office : ℕ → EntryRow → Bool
+of_office x r = r.office == x
+
+at_self : (n : ℕ) → (n == n) ≡ true
+at_self n = grind (arith, nat_tests)
+
+above_self : (n m : ℕ) → n < m → (m == n) ≡ false
+above_self n m h = grind (arith, nat_tests)
+
 module _ (apart : (d e : ℕ) → day_text d ≡ day_text e → d ≡ e) where
-  abbrev day_of_stage : Stage → ℕ
-  day_of_stage Submitted = 0
-  day_of_stage (Approved d) = d
-  day_of_stage Withdrawn = 0
-  day_of_stage Rejected = 0
-
-  abbrev stage_at : ℕ → ℕ → Stage
-  stage_at n d = cond (n == 100) Submitted (cond (n == 200) (Approved d) (cond (n == 400) Withdrawn Rejected))
-
-  stage_read : (s : Stage) → stage_at (status_of s) (day_of_stage s) ≡ s
-  stage_read Submitted = refl
-  stage_read (Approved d) = refl
-  stage_read Withdrawn = refl
-  stage_read Rejected = refl
-
-  day_same : (a b : Stage) → approval_text a ≡ approval_text b → day_of_stage a ≡ day_of_stage b
-  day_same Submitted Submitted h = refl
-  day_same Submitted (Approved e) h = absurd (cc)
-  day_same Submitted Withdrawn h = refl
-  day_same Submitted Rejected h = refl
-  day_same (Approved d) Submitted h = absurd (cc)
-  day_same (Approved d) (Approved e) h = apart d e (let same : day_text d ≡ day_text e = cc in same)
-  day_same (Approved d) Withdrawn h = absurd (cc)
-  day_same (Approved d) Rejected h = absurd (cc)
-  day_same Withdrawn Submitted h = refl
-  day_same Withdrawn (Approved e) h = absurd (cc)
-  day_same Withdrawn Withdrawn h = refl
-  day_same Withdrawn Rejected h = refl
-  day_same Rejected Submitted h = refl
-  day_same Rejected (Approved e) h = absurd (cc)
-  day_same Rejected Withdrawn h = refl
-  day_same Rejected Rejected h = refl
-
   loan_same : (x n : ℕ) (a b : Loan) → loan_in x n a ≡ loan_in x n b → a ≡ b
   loan_same x n a b e =
-      let stage : a.stage ≡ b.stage = sym (stage_read a.stage) ∙ (λ t. stage_at (e t).stage (day_same a.stage b.stage (ap (λ (r : LoanRow). r.approved) e) t)) ∙ stage_read b.stage in
+      let stage : a.stage ≡ b.stage = stage_is apart a.stage b.stage (ap (λ (r : LoanRow). r.stage) e) (ap (λ (r : LoanRow). r.approved) e) (ap (λ (r : LoanRow). r.disbursed) e) in
       λ t. record { client = (e t).client; product = (e t).product; principal = pos_same a.principal b.principal (ap (λ (r : LoanRow). r.principal) e) t; periods = (e t).periods; stage = stage t }
+
+  entry_same : (x n : ℕ) (a b : Entry) → IsCaller a.staff → IsCaller b.staff → entry_in x n a ≡ entry_in x n b → a ≡ b
+  entry_same x n a b p q e = λ t. record {
+    seq = (e t).seq;
+    kind = entry_kind_same a.kind b.kind (ap (λ (r : EntryRow). r.kind) e) t;
+    day = apart a.day b.day (ap (λ (r : EntryRow). r.day) e) t;
+    amount = pos_same a.amount b.amount (ap (λ (r : EntryRow). r.amount) e) t;
+    instalment = (e t).instalment;
+    portion = portion_same a.portion b.portion (ap (λ (r : EntryRow). r.portion) e) t;
+    receipt = (e t).receipt;
+    staff = caller_same a.staff b.staff p q (ap (λ (r : EntryRow). r.staff) e) t;
+    reversed = flag_same a.reversed b.reversed (ap (λ (r : EntryRow). r.reversed) e) t;
+  }
+
+  entries_same : (x n : ℕ) (ds bs : List Entry) → HaveCallers ds → HaveCallers bs → map (entry_in x n) ds ≡ map (entry_in x n) bs → ds ≡ bs
+  entries_same x n [] [] p q e = refl
+  entries_same x n [] (b ∷ bs) p q e = absurd (cc)
+  entries_same x n (a ∷ ds) [] p q e = absurd (cc)
+  entries_same x n (a ∷ ds) (b ∷ bs) p q e =
+      let k : entry_in x n a ∷ map (entry_in x n) ds ≡ entry_in x n b ∷ map (entry_in x n) bs = e in
+      let first : entry_in x n a ≡ entry_in x n b = cc in
+      let rest : map (entry_in x n) ds ≡ map (entry_in x n) bs = cc in
+      λ t. entry_same x n a b p.0 q.0 first t ∷ entries_same x n ds bs p.1 q.1 rest t
+
+  ledgers_same : (x n : ℕ) (ls ks : List Ledger) → AreCalled ls → AreCalled ks → map loan_of ls ≡ map loan_of ks → rows_of_loans x n ls ≡ rows_of_loans x n ks → ls ≡ ks
+  ledgers_same x n [] [] p q h e = refl
+  ledgers_same x n [] (k ∷ ks) p q h e = absurd (cc)
+  ledgers_same x n (l ∷ ls) [] p q h e = absurd (cc)
+  ledgers_same x n (l ∷ ls) (k ∷ ks) p q h e =
+      let heads : l.loan ∷ map loan_of ls ≡ k.loan ∷ map loan_of ks = h in
+      let loan : l.loan ≡ k.loan = cc in
+      let loans : map loan_of ls ≡ map loan_of ks = cc in
+      let own = λ (es : List Entry). all_map (λ r. of_loan n r ≡ true) (entry_in x n) es (λ a. at_self n) in
+      let others = λ (js : List Ledger). all_loans (λ r. of_loan n r ≡ false) x (n + 1) js (λ m a low. above_self n m (omega (arith, low))) in
+      let parts = split_same (of_loan n) (map (entry_in x n) l.entries) (rows_of_loans x (n + 1) ls) (map (entry_in x n) k.entries) (rows_of_loans x (n + 1) ks) (own l.entries) (others ls) (own k.entries) (others ks) e in
+      let entries = entries_same x n l.entries k.entries p.0 q.0 parts.0 in
+      let more = ledgers_same x (n + 1) ls ks p.1 q.1 loans parts.1 in
+      λ t. record { loan = loan t; entries = entries t } ∷ more t
+
+  all_ledgers_same : (fs gs : List Office) → map bare fs ≡ map bare gs → Ascending fs → Ascending gs → AllByRecursion (λ (f : Office). AreCalled f.rows.loans) fs → AllByRecursion (λ (f : Office). AreCalled f.rows.loans) gs
+      → map (λ (f : Office). loans_of f.rows) fs ≡ map (λ (f : Office). loans_of f.rows) gs → entry_rows fs ≡ entry_rows gs → map (λ (f : Office). f.rows.loans) fs ≡ map (λ (f : Office). f.rows.loans) gs
+  all_ledgers_same [] [] h up vp p q l e = refl
+  all_ledgers_same [] (g ∷ gs) h up vp p q l e = absurd (cc)
+  all_ledgers_same (f ∷ fs) [] h up vp p q l e = absurd (cc)
+  all_ledgers_same (f ∷ fs) (g ∷ gs) h up vp p q l e =
+      let head : bare f ≡ bare g = cc in
+      let heads : map bare fs ≡ map bare gs = cc in
+      let number : f.number ≡ g.number = ap (λ (o : Office). o.number) head in
+      let loans : loans_of f.rows ≡ loans_of g.rows = cc in
+      let more_loans : map (λ (f : Office). loans_of f.rows) fs ≡ map (λ (f : Office). loans_of f.rows) gs = cc in
+      let x = f.number in
+      let rows : rows_of_loans x 1 f.rows.loans ++ entry_rows fs ≡ rows_of_loans x 1 g.rows.loans ++ entry_rows gs = e ∙ (λ t. rows_of_loans (sym number t) 1 g.rows.loans ++ entry_rows gs) in
+      let own = λ (js : List Ledger). all_loans (λ r. of_office x r ≡ true) x 1 js (λ m a low. at_self x) in
+      let parts = split_same (of_office x) (rows_of_loans x 1 f.rows.loans) (entry_rows fs) (rows_of_loans x 1 g.rows.loans) (entry_rows gs)
+      (own f.rows.loans) (all_offices (λ r. of_office x r ≡ false) x fs up.0 (λ y m a low. above_self x y low))
+      (own g.rows.loans) (all_offices (λ r. of_office x r ≡ false) x gs (subst (λ n. Above n gs) (sym number) vp.0) (λ y m a low. above_self x y low)) rows in
+      let first = ledgers_same x 1 f.rows.loans g.rows.loans p.0 q.0 loans parts.0 in
+      let others = all_ledgers_same fs gs heads up.1 vp.1 p.1 q.1 more_loans parts.1 in
+      λ t. first t ∷ others t
 
   pub one_institution : (i j : Institution) → IsSound i → IsSound j → tables_of i ≡ tables_of j → i ≡ j
   one_institution i j s r e =
@@ -314,6 +408,7 @@ module _ (apart : (d e : ℕ) → day_text d ≡ day_text e → d ≡ e) where
       let products = numbered_same product_as product_same 1 i.catalogue.products j.catalogue.products (ap (λ (l : Lists). l.products) e) in
       let staff = all_same staff_in (λ rows. rows.staff) (λ (r : StaffRow). r.office) (λ x n a. refl) staff_same i.offices j.offices heads s.tree.ascending r.tree.ascending (ap (λ (l : Lists). l.staff) e) in
       let clients = all_same client_in (λ rows. rows.clients) (λ (r : ClientRow). r.office) (λ x n a. refl) client_same i.offices j.offices heads s.tree.ascending r.tree.ascending (ap (λ (l : Lists). l.clients) e) in
-      let loans = all_same loan_in (λ rows. rows.loans) (λ (r : LoanRow). r.office) (λ x n a. refl) loan_same i.offices j.offices heads s.tree.ascending r.tree.ascending (ap (λ (l : Lists). l.loans) e) in
+      let alone = all_same loan_in loans_of (λ (r : LoanRow). r.office) (λ x n a. refl) loan_same i.offices j.offices heads s.tree.ascending r.tree.ascending (ap (λ (l : Lists). l.loans) e) in
+      let loans = all_ledgers_same i.offices j.offices heads s.tree.ascending r.tree.ascending (all_called i s) (all_called j r) alone (ap (λ (l : Lists). l.entries) e) in
       let offices = offices_same i.offices j.offices heads staff clients loans in
       λ t. record { catalogue = record { day = day t; charges = charges t; products = products t }; offices = offices t }

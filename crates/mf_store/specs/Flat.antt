@@ -1,19 +1,28 @@
 -- The rows of an institution: one list a table, each in the order of its key.
-use Rattle.std.specs.Prelude.{ℕ, pos, Bool, true, false, ◌+◌, List, [], ◌∷◌, ◌++◌, map, option_map, Option, Some, None, nat_le}
+use Rattle.std.specs.Prelude.{◌≡◌, ℕ, pos, Bool, true, false, ◌+◌, List, [], ◌∷◌, ◌++◌, map, option_map, Option, Some, None, nat_le}
+use Rattle.mf_account.specs.declared.entry.Entry.{Entry}
+use Rattle.mf_account.specs.declared.entry.Kind.{Kind}
+use Rattle.mf_account.specs.declared.entry.Kind.TheVariants.{Repay, Fee, Penalty, Waive, WriteOff, Refund}
+use Rattle.mf_alloc.specs.declared.row.Portion.{Portion}
+use Rattle.mf_alloc.specs.declared.row.Portion.TheVariants as portion
 use Rattle.mf_base.specs.Choices.{frequency_number}
 use Rattle.mf_base.specs.DayText.{day_text}
 use Rattle.mf_catalog.specs.Names.{kind_number, calc_number, method_number, strategy_number}
+use Rattle.mf_office.specs.declared.account.Account.{Account}
 use Rattle.mf_office.specs.Keys.{key_of, key_depth, raised, is_in_range}
 use Rattle.mf_office.specs.Roles.{role_number}
-use Rattle.mf_model.specs.Institution.{Institution, Charge, Offer, Office, Rows, Staff, office_at, numbered}
-use Rattle.mf_model.specs.Loans.{status_of}
+use Rattle.mf_office.specs.Written.{caller_text}
+use Rattle.mf_model.specs.Accounts.{status_in}
+use Rattle.mf_model.specs.Institution.{Institution, Catalogue, Charge, Ledger, Offer, Office, Rows, Staff, office_at, numbered}
+use Rattle.mf_model.specs.Stages.{stage_number, disbursed_on}
 use Rattle.mf_model.specs.declared.loan.Loan.{Loan}
 use Rattle.mf_model.specs.declared.loan.LoanLine.{LoanLine}
 use Rattle.mf_model.specs.declared.loan.Stage.{Stage}
-use Rattle.mf_model.specs.declared.loan.Stage.TheVariants.{Submitted, Approved, Withdrawn, Rejected}
+use Rattle.mf_model.specs.declared.loan.Stage.TheVariants.{Submitted, Approved, Disbursed, Withdrawn, Rejected}
 use Rattle.mf_model.specs.Store.{rows_at}
 use Rattle.mf_model.specs.Tree.{parent_of}
 use Rattle.mf_store_records.specs.Rows.{Lists}
+use Rattle.mf_store.specs.ReceiptRows.{receipt_rows}
 use Rattle.mf_store_records.specs.declared.meta.MetaRow.{MetaRow}
 use Rattle.mf_store_records.specs.declared.offices.OfficeRow.{OfficeRow}
 use Rattle.mf_store_records.specs.declared.staff.StaffRow.{StaffRow}
@@ -21,6 +30,7 @@ use Rattle.mf_store_records.specs.declared.clients.ClientRow.{ClientRow}
 use Rattle.mf_store_records.specs.declared.charges.ChargeRow.{ChargeRow}
 use Rattle.mf_store_records.specs.declared.products.ProductRow.{ProductRow}
 use Rattle.mf_store_records.specs.declared.loans.LoanRow.{LoanRow}
+use Rattle.mf_store_records.specs.declared.entries.EntryRow.{EntryRow}
 
 -- the number of the schema that these tables are
 abbrev pub schema_number : ℕ
@@ -31,12 +41,33 @@ abbrev pub flag_number : Bool → ℕ
 flag_number false = 0
 flag_number true = 1
 
--- the text of the day on which a loan was approved, where it stands approved
+-- the text of the day on which a loan was approved, where it stands approved or is disbursed
 abbrev pub approval_text : Stage → Option (List ℕ)
 approval_text Submitted = None
 approval_text (Approved day) = Some (day_text day)
+approval_text (Disbursed approved day) = Some (day_text approved)
 approval_text Withdrawn = None
 approval_text Rejected = None
+
+-- the text of the day on which a loan was disbursed
+abbrev pub disbursal_text : Stage → Option (List ℕ)
+disbursal_text stage = option_map day_text (disbursed_on stage)
+
+-- the number by which a kind of entry is kept
+abbrev pub entry_kind_number : Kind → ℕ
+entry_kind_number Repay = 1
+entry_kind_number Fee = 2
+entry_kind_number Penalty = 3
+entry_kind_number Waive = 4
+entry_kind_number WriteOff = 5
+entry_kind_number Refund = 6
+
+-- the number by which a portion of an instalment is kept
+abbrev pub portion_number : Portion → ℕ
+portion_number portion.Penalty = 1
+portion_number portion.Fee = 2
+portion_number portion.Interest = 3
+portion_number portion.Principal = 4
 
 abbrev pub meta_on : ℕ → MetaRow
 meta_on day = record { one = 1; schema = schema_number; day = day_text day }
@@ -81,11 +112,31 @@ product_as number p = record {
 
 -- the row of a loan: office, number
 abbrev pub loan_in : ℕ → ℕ → Loan → LoanRow
-loan_in office number l = record { office = office; number = number; client = l.client; product = l.product; principal = pos l.principal; periods = l.periods; stage = status_of l.stage; approved = approval_text l.stage; disbursed = None }
+loan_in office number l = record { office = office; number = number; client = l.client; product = l.product; principal = pos l.principal; periods = l.periods; stage = stage_number l.stage; approved = approval_text l.stage; disbursed = disbursal_text l.stage }
+
+-- the row of an entry: office, loan
+abbrev pub entry_in : ℕ → ℕ → Entry → EntryRow
+entry_in office loan e = record {
+  office = office;
+  loan = loan;
+  seq = e.seq;
+  kind = entry_kind_number e.kind;
+  day = day_text e.day;
+  amount = pos e.amount;
+  instalment = e.instalment;
+  portion = portion_number e.portion;
+  receipt = e.receipt;
+  staff = caller_text e.staff.office e.staff.staff;
+  reversed = flag_number e.reversed;
+}
 
 -- a loan in a list of loans: office, number
-abbrev pub line_in : ℕ → ℕ → Loan → LoanLine
-line_in office number l = record { loan = record { office = office; number = number }; status = status_of l.stage }
+abbrev pub line_in : Catalogue → ℕ → ℕ → Ledger → LoanLine
+line_in k office number l = record { loan = record { office = office; number = number }; status = status_in k l }
+
+-- the loans of an office, without their entries
+abbrev pub loans_of : Rows → List Loan
+loans_of rows = map (λ (l : Ledger). l.loan) rows.loans
 
 -- rows numbered by their places, the first with this number
 abbrev pub numbered_from : {A R : Type 0} → (ℕ → A → R) → ℕ → List A → List R
@@ -97,6 +148,16 @@ abbrev pub all_rows : {A R : Type 0} → (ℕ → ℕ → A → R) → (Rows →
 all_rows make of [] = []
 all_rows make of (f ∷ fs) = numbered_from (make f.number) 1 (of f.rows) ++ all_rows make of fs
 
+-- the rows of the entries of an office's loans, loan by loan, the first with this number
+abbrev pub rows_of_loans : ℕ → ℕ → List Ledger → List EntryRow
+rows_of_loans office n [] = []
+rows_of_loans office n (l ∷ ls) = map (entry_in office n) l.entries ++ rows_of_loans office (n + 1) ls
+
+-- the rows of all entries, office by office
+abbrev pub entry_rows : List Office → List EntryRow
+entry_rows [] = []
+entry_rows (f ∷ fs) = rows_of_loans f.number 1 f.rows.loans ++ entry_rows fs
+
 -- what the tables hold of an institution
 abbrev pub tables_of : Institution → Lists
 tables_of i = record {
@@ -106,7 +167,9 @@ tables_of i = record {
   clients = all_rows client_in (λ rows. rows.clients) i.offices;
   charges = numbered_from charge_as 1 i.catalogue.charges;
   products = numbered_from product_as 1 i.catalogue.products;
-  loans = all_rows loan_in (λ rows. rows.loans) i.offices;
+  loans = all_rows loan_in loans_of i.offices;
+  entries = entry_rows i.offices;
+  receipts = receipt_rows i.offices;
 }
 
 -- the row of an office that is there
@@ -131,7 +194,20 @@ product_row_at number i = option_map (product_as number) (numbered i.catalogue.p
 
 -- the row of a loan that is there
 abbrev pub loan_row_at : ℕ → ℕ → Institution → Option LoanRow
-loan_row_at x number i = option_map (loan_in x number) (numbered (rows_at x i).loans number)
+loan_row_at x number i = option_map (loan_in x number) (numbered (loans_of (rows_at x i)) number)
+
+-- the entries of a loan that is there
+abbrev pub entries_of : Option Ledger → List Entry
+entries_of None = []
+entries_of (Some l) = l.entries
+
+-- a row is that of the last of these entries, and the loan is there and has all the others
+pub record IsNextRow (loan : Account) (entries : List Entry) (found : Option Ledger) (row : EntryRow) : Type 0 where
+  pub ledger : Ledger
+  pub last : Entry
+  pub there : found ≡ Some ledger
+  pub one_more : entries ≡ ledger.entries ++ last ∷ []
+  pub row_is : row ≡ entry_in loan.office loan.number last
 
 -- the hierarchy text of an office that is there
 abbrev pub key_at : ℕ → Institution → Option (List ℕ)

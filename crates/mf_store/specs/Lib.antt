@@ -1,3 +1,4 @@
+pub mod ReceiptRows
 pub mod Flat
 pub mod Counts
 pub mod Facts

@@ -6,9 +6,12 @@ ghost use Rattle.mf_model.specs.Institution.{Institution};
 
 use crate::store::Store;
 use crate::stored::stored;
+use mf_account::{LoanAccount, Receipt};
 use mf_base::{Choice, Day, Fault};
 use mf_catalog::{ChargeDef, Product};
-use mf_model::{CatalogueCounts, Commit, Counts, InstitutionStore, Loan, LoanList, OfficeList};
+use mf_model::{
+    CatalogueCounts, Commit, Counts, InstitutionStore, Loan, LoanList, OfficeList, ReceiptUse,
+};
 use mf_office::{Account, Caller, Name, OfficeNo, Role};
 use sqlite::Alter;
 use std::alloc::Global;
@@ -129,6 +132,19 @@ impl<S: Alter> InstitutionStore for Store<S> {
         self.loan_at(loan)
     }
 
+    fn account(&mut self, alloc: Global, loan: Account) -> Result<Option<LoanAccount>, Fault> {
+        self.account_of(alloc, loan)
+    }
+
+    fn receipt(
+        &mut self,
+        alloc: Global,
+        office: OfficeNo,
+        receipt: &Receipt,
+    ) -> Result<Option<ReceiptUse>, Fault> {
+        self.receipt_use(alloc, office, receipt)
+    }
+
     fn loans(&mut self, alloc: Global, office: OfficeNo, after: u32) -> Result<LoanList, Fault> {
         self.loans_above(alloc, office, after)
     }
@@ -157,6 +173,7 @@ impl<S: Alter> InstitutionStore for Store<S> {
             Commit::RetireProduct { product } => self.retire_product(product),
             Commit::AddLoan { office, loan } => self.add_loan(alloc, office, loan),
             Commit::SetStage { loan, stage } => self.set_stage(alloc, loan, stage),
+            Commit::Enter { loan, account } => self.enter(alloc, loan, account),
         }
     }
 

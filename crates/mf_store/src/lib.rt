@@ -4,9 +4,11 @@
 //! stop leaves. Every want of memory and every fault of the store is F20.
 #![tactic(auto)]
 
+mod accounts;
 mod catalogue;
 mod commits;
 mod counts;
+mod entries;
 mod first;
 mod institution;
 mod known;
@@ -14,10 +16,11 @@ mod laws;
 mod loans;
 mod office_rows;
 mod reads;
+mod receipts;
 mod store;
 mod stored;
 mod visible;
 
 pub use laws::one_institution;
-pub use office_rows::{OfficeRows, StaffMember};
+pub use office_rows::{Ledger, OfficeRows, StaffMember};
 pub use store::Store;

@@ -1,59 +1,90 @@
-//! Loans: by number, in lists, and the commits that change them.
+//! Loans as they were submitted, with their stages: by number, and the commits that change them.
 
-ghost use Rattle.std.specs.Prelude.{◌≡◌, ℕ, List, ◌∷◌, map, OnOk, IfOk, IfErr};
+ghost use Rattle.std.specs.Prelude.{◌≡◌, ℕ, Option, option_map, Some, OnOk, IfOk, IfErr};
 ghost use Rattle.mf_base.specs.declared.fault.Fault.TheVariants.{F20};
 ghost use Rattle.mf_model.specs.Institution.{Institution};
-ghost use Rattle.mf_model.specs.Loans.{status_of};
-ghost use Rattle.mf_model.specs.Store.{Commits, loan_at, loans_at};
+ghost use Rattle.mf_base.specs.DayText.{day_text};
+ghost use Rattle.mf_model.specs.Stages.{stage_number};
+ghost use Rattle.mf_model.specs.Store.{Commits, loan_at};
 ghost use Rattle.mf_model.specs.declared.commit.Commit.TheVariants.{AddLoan, SetStage};
 ghost use Rattle.mf_model.specs.declared.loan.Loan.{Loan as ModelLoan};
 ghost use Rattle.mf_model.specs.declared.loan.Stage.{Stage as ModelStage};
-ghost use Rattle.mf_store.specs.Flat.{loan_in, approval_text, line_in};
-ghost use Rattle.mf_store_records.specs.Rows.{loan_row as loan_stored};
+ghost use Rattle.mf_store.specs.Flat.{loan_in, approval_text, disbursal_text};
 
 use crate::counts::MOST;
 use crate::known::News;
 use crate::store::Store;
 use crate::stored::{signed, unsigned};
-use crate::visible::office_number;
 use mf_base::{Day, Fault, texts_of_days};
-use mf_model::{Counts, Loan, LoanLine, LoanList, Stage};
+use mf_model::{Counts, Loan, Stage};
 use mf_office::{Account, AccountNo, OfficeNo};
-use mf_store_records::{LoanRow, StoreWrite, Text, read_row};
-use sqlite::{Alter, Row};
+use mf_store_records::{LoanRow, StoreWrite, Text};
+use sqlite::Alter;
 use std::alloc::Global;
 
-/// The text of the day on which a loan was approved, where it stands approved.
+/// The text of a day.
+pub(crate) fn text_of_day(alloc: Global, day: Day) -> Result<Text, Fault>
+    ensures text { IfOk result (λ text. text ≡ day_text day) }
+    ensures gives_up { IfErr result (λ fault. fault ≡ F20) }
+{
+    Ok(Text::new(day.text(alloc)?))
+}
+
+/// The day of a text.
+pub(crate) fn day_from(text: &Text) -> Result<Day, Fault>
+    ensures day { IfOk result (λ day. (n : ℕ) → text.now ≡ day_text n → day ≡ n) }
+    ensures gives_up { IfErr result (λ fault. fault ≡ F20) }
+{
+    texts_of_days();
+    match Day::read(text.as_str().as_bytes()) {
+        Some(day) => Ok(day),
+        None => Err(Fault::F20),
+    }
+}
+
+/// The text of the day on which a loan was approved, where it stands approved or is disbursed.
 fn approval(alloc: Global, stage: Stage) -> Result<Option<Text>, Fault>
     ensures text { IfOk result (λ text. text ≡ approval_text stage) }
     ensures gives_up { IfErr result (λ fault. fault ≡ F20) }
 {
     match stage {
-        Stage::Approved(day) => Ok(Some(Text::new(day.text(alloc)?))),
+        Stage::Approved(day) => Ok(Some(text_of_day(alloc, day)?)),
+        Stage::Disbursed { approved, .. } => Ok(Some(text_of_day(alloc, approved)?)),
         _ => Ok(None),
     }
 }
 
-/// The stage that a status number and a day of approval stand for.
-fn stage_from(status: u32, approved: Option<Text>) -> Result<Stage, Fault>
-    ensures stage { IfOk result (λ stage. (s : ModelStage) → status_of s ≡ status → approval_text s ≡ approved → stage ≡ s) }
+/// The text of the day on which a loan was disbursed.
+fn disbursal(alloc: Global, stage: Stage) -> Result<Option<Text>, Fault>
+    ensures text { IfOk result (λ text. text ≡ disbursal_text stage) }
     ensures gives_up { IfErr result (λ fault. fault ≡ F20) }
 {
-    texts_of_days();
-    match (status, approved) {
-        (100, None) => Ok(Stage::Submitted),
-        (200, Some(text)) => match Day::read(text.as_str().as_bytes()) {
-            Some(day) => Ok(Stage::Approved(day)),
-            None => Err(Fault::F20),
-        },
-        (400, None) => Ok(Stage::Withdrawn),
-        (500, None) => Ok(Stage::Rejected),
+    match stage {
+        Stage::Disbursed { day, .. } => Ok(Some(text_of_day(alloc, day)?)),
+        _ => Ok(None),
+    }
+}
+
+/// The stage that a number and the days of approval and disbursement stand for.
+fn stage_from(number: u32, approved: Option<Text>, disbursed: Option<Text>) -> Result<Stage, Fault>
+    ensures stage { IfOk result (λ stage. (s : ModelStage) → stage_number s ≡ number → approval_text s ≡ approved → disbursal_text s ≡ disbursed → stage ≡ s) }
+    ensures gives_up { IfErr result (λ fault. fault ≡ F20) }
+{
+    match (number, approved, disbursed) {
+        (100, None, None) => Ok(Stage::Submitted),
+        (200, Some(approved), None) => Ok(Stage::Approved(day_from(&approved)?)),
+        (300, Some(approved), Some(disbursed)) => Ok(Stage::Disbursed {
+            approved: day_from(&approved)?,
+            day: day_from(&disbursed)?,
+        }),
+        (400, None, None) => Ok(Stage::Withdrawn),
+        (500, None, None) => Ok(Stage::Rejected),
         _ => Err(Fault::F20),
     }
 }
 
 /// The number of a client or a loan, as each number in the tables is.
-fn account_number(number: u32) -> Result<AccountNo, Fault>
+pub(crate) fn account_number(number: u32) -> Result<AccountNo, Fault>
     ensures number { IfOk result (λ n. n ≡ number) }
     ensures gives_up { IfErr result (λ fault. fault ≡ F20) }
 {
@@ -70,7 +101,7 @@ pub(crate) fn loan_from(row: LoanRow) -> Result<Loan, Fault>
 {
     let client = account_number(row.client)?;
     let principal = unsigned(row.principal)?;
-    let stage = stage_from(row.stage, row.approved)?;
+    let stage = stage_from(row.stage, row.approved, row.disbursed)?;
     Ok(Loan {
         client,
         product: row.product,
@@ -87,6 +118,7 @@ fn loan_row(alloc: Global, office: u32, number: u32, loan: Loan) -> Result<LoanR
 {
     let principal = signed(loan.principal)?;
     let approved = approval(alloc, loan.stage)?;
+    let disbursed = disbursal(alloc, loan.stage)?;
     Ok(LoanRow {
         office,
         number,
@@ -96,7 +128,7 @@ fn loan_row(alloc: Global, office: u32, number: u32, loan: Loan) -> Result<LoanR
         periods: loan.periods,
         stage: loan.stage.status() as u32,
         approved,
-        disbursed: None,
+        disbursed,
     })
 }
 
@@ -107,6 +139,7 @@ fn staged(alloc: Global, row: &LoanRow, stage: &Stage) -> Result<LoanRow, Fault>
 {
     let status = stage.status() as u32;
     let approved = approval(alloc, *stage)?;
+    let disbursed = disbursal(alloc, *stage)?;
     Ok(LoanRow {
         office: row.office,
         number: row.number,
@@ -116,46 +149,8 @@ fn staged(alloc: Global, row: &LoanRow, stage: &Stage) -> Result<LoanRow, Fault>
         periods: row.periods,
         stage: status,
         approved,
-        disbursed: None,
+        disbursed,
     })
-}
-
-/// The status that a row's stage is.
-fn status_from(number: u32) -> Result<u16, Fault>
-    ensures status { IfOk result (λ status. status ≡ number) }
-    ensures gives_up { IfErr result (λ fault. fault ≡ F20) }
-{
-    match u16::try_from(number) {
-        Ok(status) => Ok(status),
-        Err(_) => Err(Fault::F20),
-    }
-}
-
-/// The line of a row, in a list of loans.
-fn line_from(row: &Row) -> Result<LoanLine, Fault>
-    ensures line { IfOk result (λ line. (office number : ℕ) (l : ModelLoan) → row.now ≡ loan_stored (loan_in office number l) → line ≡ line_in office number l) }
-    ensures gives_up { IfErr result (λ fault. fault ≡ F20) }
-{
-    let found = read_row::<LoanRow>(row)?;
-    let office = office_number(found.office)?;
-    let number = account_number(found.number)?;
-    let status = status_from(found.stage)?;
-    Ok(LoanLine {
-        loan: Account { office, number },
-        status,
-    })
-}
-
-/// The lines of the rows, in order.
-fn lines_from(alloc: Global, rows: &[Row]) -> Result<LoanList, Fault>
-    ensures lines { IfOk result (λ list. (office : ℕ) (ls : List (ℕ × ModelLoan)) → rows.now ≡ map (λ l. loan_stored (loan_in office l.0 l.1)) ls → list ≡ map (λ l. line_in office l.0 l.1) ls) }
-    ensures gives_up { IfErr result (λ fault. fault ≡ F20) }
-{
-    let mut lines = Vec::new(alloc);
-    for row in rows {
-        lines.push(line_from(row)?)?;
-    }
-    Ok(LoanList::new(lines))
 }
 
 impl<S: Alter> Store<S> {
@@ -173,22 +168,6 @@ impl<S: Alter> Store<S> {
         };
         let found = loan_from(row)?;
         Ok(Some(found))
-    }
-
-    /// The first 100 loans of an office whose number is above one, by number: one query, over the range of their keys.
-    pub fn loans_above(
-        &mut self,
-        alloc: Global,
-        office: OfficeNo,
-        after: u32,
-    ) -> Result<LoanList, Fault>
-        ensures kept { Stays S.Store self.old self.new }
-        ensures gives_up { IfErr result (λ fault. fault ≡ F20) }
-        ensures open { IsClean S.Store self.new → OnOk result (IsOpen S.Store self.new) }
-        ensures value { IsClean S.Store self.new → (i : Institution) → StandsFor S.Store self.old i → IfOk result (λ list. list ≡ loans_at office after i) }
-    {
-        let rows = self.rows_above(office.get(), after)?;
-        lines_from(alloc, &rows)
     }
 
     /// Adds a loan of an office that is there, under the next number.

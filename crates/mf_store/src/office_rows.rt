@@ -1,19 +1,21 @@
 //! The rows of one office, whole: one query a kind, over the range of the office's keys.
 
-ghost use Rattle.std.specs.Prelude.{◌≡◌, ℕ, List, OnOk, IfOk, IfErr};
+ghost use Rattle.std.specs.Prelude.{◌≡◌, ℕ, List, map, Some, OnOk, IfOk, IfErr};
+ghost use Rattle.std.specs.List.{AllByRecursion};
 ghost use Rattle.mf_base.specs.declared.fault.Fault.TheVariants.{F20};
-ghost use Rattle.mf_model.specs.Institution.{Institution, Staff};
-ghost use Rattle.mf_model.specs.Store.{rows_at};
-ghost use Rattle.mf_model.specs.declared.loan.Loan.{Loan as ModelLoan};
+ghost use Rattle.mf_model.specs.Institution.{Institution, Ledger as ModelLedger, Staff};
+ghost use Rattle.mf_model.specs.Store.{rows_at, ledger_at};
 ghost use Rattle.mf_store_records.specs.Rows.{staff_row, client_row, loan_row};
 ghost use Rattle.mf_store.specs.Flat.{staff_in, client_in, loan_in, numbered_from};
 
-use crate::loans::loan_from;
+use crate::loans::{account_number, loan_from};
 use crate::store::Store;
 use crate::stored::stored;
+use crate::visible::office_number;
+use mf_account::Entry;
 use mf_base::{Choice, Fault};
 use mf_model::Loan;
-use mf_office::{Name, OfficeNo, Role};
+use mf_office::{Account, Name, OfficeNo, Role};
 use mf_store_records::{ClientRow, LoanRow, StaffRow, read_row};
 use sqlite::{Alter, Row};
 use std::alloc::Global;
@@ -34,12 +36,27 @@ impl Model for StaffMember {
     ghost view = { λ member. record { name = member.name; role = member.role } };
 }
 
+/// A loan, and what was entered of it, in the order of the entries' numbers.
+#[derive(Debug, Drop)]
+pub struct Ledger {
+    pub loan: Loan,
+    pub entries: Vec<Entry>,
+}
+
+impl Model for Ledger {
+    ghost use Rattle.mf_model.specs.Institution.{Ledger};
+
+    ghost Value = { Ledger };
+
+    ghost view = { λ ledger. record { loan = ledger.loan; entries = ledger.entries.items } };
+}
+
 /// What belongs to one office: its staff, its clients' names and its loans, each by number from 1.
 #[derive(Debug, Drop)]
 pub struct OfficeRows {
     staff: Vec<StaffMember>,
     clients: Vec<Name>,
-    loans: Vec<Loan>,
+    loans: Vec<Ledger>,
 }
 
 impl Model for OfficeRows {
@@ -66,7 +83,7 @@ impl OfficeRows {
     }
 
     /// The loans: number 1 first.
-    pub fn loans(&self) -> &[Loan]
+    pub fn loans(&self) -> &[Ledger]
         ensures { result.now ≡ self.now.loans }
     {
         self.loans.as_slice()
@@ -119,41 +136,6 @@ fn names_from(alloc: Global, rows: &[Row]) -> Result<Vec<Name>, Fault>
     Ok(names)
 }
 
-/// The loan of a row.
-fn loan_in_row(row: &Row) -> Result<Loan, Fault>
-    ensures loan { IfOk result (λ found. (office number : ℕ) (l : ModelLoan) → row.now ≡ loan_row (loan_in office number l) → found ≡ l) }
-    ensures gives_up { IfErr result (λ fault. fault ≡ F20) }
-{
-    let found = read_row::<LoanRow>(row)?;
-    loan_from(found)
-}
-
-/// The loans of the rows, in order.
-fn loans_from(alloc: Global, rows: &[Row]) -> Result<Vec<Loan>, Fault>
-    ensures loans { IfOk result (λ list. (office : ℕ) (loans : List ModelLoan) → rows.now ≡ numbered_from (λ number l. loan_row (loan_in office number l)) 1 loans → list.items ≡ loans) }
-    ensures gives_up { IfErr result (λ fault. fault ≡ F20) }
-{
-    let mut loans = Vec::new(alloc);
-    for row in rows {
-        let loan = loan_in_row(row)?;
-        let Loan {
-            client,
-            product,
-            principal,
-            periods,
-            stage,
-        } = loan;
-        loans.push(Loan {
-            client,
-            product,
-            principal,
-            periods,
-            stage,
-        })?;
-    }
-    Ok(loans)
-}
-
 impl<S: Alter> Store<S> {
     ghost use Rattle.mf_store.specs.Stands.{StandsFor, IsClean, Stays, IsOpen};
 
@@ -179,15 +161,46 @@ impl<S: Alter> Store<S> {
         names_from(alloc, &rows)
     }
 
-    /// The loans of an office, by number.
-    fn loans_of(&mut self, alloc: Global, office: u32) -> Result<Vec<Loan>, Fault>
+    /// The loan of a row, with its entries.
+    fn ledger_of(&mut self, alloc: Global, row: &Row) -> Result<Ledger, Fault>
+        ensures kept { Stays S.Store self.old self.new }
+        ensures gives_up { IfErr result (λ fault. fault ≡ F20) }
+        ensures open { IsClean S.Store self.new → IsOpen S.Store self.old → OnOk result (IsOpen S.Store self.new) }
+        ensures value { IsClean S.Store self.new → (i : Institution) → StandsFor S.Store self.old i → (office number : ℕ) (l : ModelLedger) → row.now ≡ loan_row (loan_in office number l.loan) → ledger_at (record { office = office; number = number }) i ≡ Some l → IfOk result (λ ledger. ledger ≡ l) }
+    {
+        let found = read_row::<LoanRow>(row)?;
+        let office = office_number(found.office)?;
+        let number = account_number(found.number)?;
+        let loan = loan_from(found)?;
+        let entries = self.entries_at(alloc, Account { office, number })?;
+        Ok(Ledger { loan, entries })
+    }
+
+    /// The loans of rows, with their entries, in order.
+    fn ledgers_of(&mut self, alloc: Global, rows: &[Row]) -> Result<Vec<Ledger>, Fault>
+        ensures kept { Stays S.Store self.old self.new }
+        ensures gives_up { IfErr result (λ fault. fault ≡ F20) }
+        ensures open { IsClean S.Store self.new → IsOpen S.Store self.old → OnOk result (IsOpen S.Store self.new) }
+        ensures value { IsClean S.Store self.new → (i : Institution) → StandsFor S.Store self.old i → (office : ℕ) (ls : List (ℕ × ModelLedger)) → AllByRecursion (λ l. ledger_at (record { office = office; number = l.0 }) i ≡ Some l.1) ls
+            → rows.now ≡ map (λ l. loan_row (loan_in office l.0 l.1.loan)) ls → IfOk result (λ list. list.items ≡ map (λ l. l.1) ls) }
+    {
+        let mut ledgers = Vec::new(alloc);
+        for row in rows {
+            let ledger = self.ledger_of(alloc, row)?;
+            ledgers.push(ledger)?;
+        }
+        Ok(ledgers)
+    }
+
+    /// The loans of an office, with their entries, by number.
+    fn ledgers_at(&mut self, alloc: Global, office: u32) -> Result<Vec<Ledger>, Fault>
         ensures kept { Stays S.Store self.old self.new }
         ensures gives_up { IfErr result (λ fault. fault ≡ F20) }
         ensures open { IsClean S.Store self.new → OnOk result (IsOpen S.Store self.new) }
         ensures value { IsClean S.Store self.new → (i : Institution) → StandsFor S.Store self.old i → IfOk result (λ list. list.items ≡ (rows_at office i).loans) }
     {
         let rows = self.list::<LoanRow>(office)?;
-        loans_from(alloc, &rows)
+        self.ledgers_of(alloc, &rows)
     }
 
     /// The rows of an office, none where it isn't there.
@@ -200,7 +213,7 @@ impl<S: Alter> Store<S> {
         let office = office.get();
         let staff = self.staff_at(alloc, office)?;
         let clients = self.clients_at(alloc, office)?;
-        let loans = self.loans_of(alloc, office)?;
+        let loans = self.ledgers_at(alloc, office)?;
         Ok(OfficeRows {
             staff,
             clients,

@@ -1,4 +1,4 @@
-use Rattle.std.proofs.Common.{None, ◌∙◌, rules}
+use Rattle.std.proofs.Common.{◌∙◌, rules}
 use Rattle.std.proofs.lemmas.Int.{to_z-of_z}
 use mir.Syntax.{w64}
 use mir.Val.{SFits}
@@ -16,5 +16,5 @@ returns-clause-row c =
       periods = c.args.loan.periods;
       stage = c.status.ensures k;
       approved = c.in_ok-approved.ensures.text k;
-      disbursed = None;
+      disbursed = c.in_ok-disbursed.ensures.text k;
     }

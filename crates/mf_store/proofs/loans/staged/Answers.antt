@@ -1,4 +1,4 @@
-use Rattle.std.proofs.Common.{None, ap, ◌∙◌, rules}
+use Rattle.std.proofs.Common.{ap, ◌∙◌, rules}
 use Rattle.std.proofs.lemmas.Int.{to_z-of_z}
 use mir.Syntax.{w64}
 use mir.Val.{SFits}
@@ -17,5 +17,5 @@ returns-clause-row c office number l are =
       periods = ap (λ (r : LoanRow). r.periods) are k;
       stage = c.status-status.ensures k;
       approved = c.in_ok-approved.ensures.text k;
-      disbursed = None;
+      disbursed = c.in_ok-disbursed.ensures.text k;
     }

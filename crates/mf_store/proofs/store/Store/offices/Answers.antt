@@ -1,4 +1,4 @@
-use Rattle.std.proofs.Common.{◌≡◌, ℕ, Option, None, List, map, sym, ap, ◌∙◌, string_bytes, rules}
+use Rattle.std.proofs.Common.{◌≡◌, ℕ, Option, None, List, map, sym, ap, ◌∙◌, rules}
 use Rattle.mf_model.specs.Institution.{Office}
 use Rattle.mf_model.specs.Tree.{parent_of, seen_by}
 use Rattle.mf_model.specs.Desk.{line_of}

@@ -1,0 +1,175 @@
+-- What soundness says of entries: who entered them, and their numbers.
+use Rattle.std.proofs.Common.{◌≡◌, ◌<◌, ◌+◌, ℕ, zero, suc, Bool, true, List, [], ◌∷◌, ◌++◌, map, filter, length, slice_get, Option, None, Some, refl, sym, ap, ◌∙◌, subst, arith, true≢false}
+use Rattle.std.specs.List.{AllByRecursion}
+use Rattle.std.specs.Option.{is_some, option_map}
+use Rattle.mf_account.specs.declared.entry.Entry.{Entry}
+use Rattle.mf_account.specs.Change.{Account as Replayed}
+use Rattle.mf_account.specs.Standing.{entry_at}
+use Rattle.mf_office.specs.Numbers.{IsNumberUpTo}
+use Rattle.mf_office.specs.Texts.{IsCaller}
+use Rattle.mf_office.specs.declared.account.Account.{Account}
+use Rattle.mf_office.specs.declared.caller.Caller.{Caller}
+use Rattle.mf_model.specs.declared.commit.Commit.TheVariants.{Enter}
+use Rattle.mf_model.specs.Institution.{Institution, Catalogue, Ledger, Office, Rows, Staff, numbered, office_at, with_numbered, with_rows}
+use Rattle.mf_model.specs.Loans.{with_entries, loan_entered}
+use Rattle.mf_model.specs.Receipts.{uses_from, AreApart}
+use Rattle.mf_model.specs.Sound.{IsSound, IsSoundLoan, IsSoundOffice, IsSoundRows, IsEntryBy, AreEntriesBy, is_staff}
+use Rattle.mf_model.specs.Stages.{disbursed_on}
+use Rattle.mf_model.specs.Store.{committed, rows_of, rows_at}
+use Rattle.mf_model.specs.Tree.{is_there}
+use Rattle.mf_model.proofs.Growing.{all_map, all_at}
+use Rattle.mf_model.proofs.SoundLemmas.{found_sound}
+use Rattle.mf_model.specs.declared.loan.Loan.{Loan}
+use Rattle.mf_store_records.specs.Rows.{entry_row, is_entry_of}
+use Rattle.mf_store_records.specs.declared.entries.EntryRow.{EntryRow}
+use Rattle.mf_store_records.specs.declared.loans.LoanRow.{LoanRow}
+use Rattle.mf_store.specs.Flat.{tables_of, entries_of, loans_of, loan_in, entry_in, loan_row_at, IsNextRow}
+use Rattle.mf_store.proofs.CommitLemmas.{number_at}
+use Rattle.mf_store.proofs.EntryLemmas.{AreEarlier, entries_shown}
+use Rattle.mf_store.proofs.LoanLemmas.{loan_of, numbered_loan}
+use Rattle.mf_store.proofs.FlatLemmas.{numbered-suc, with_numbered_later}
+use Rattle.mf_store.proofs.LookLemmas.{has_number, office_sound}
+use Rattle.mf_store.proofs.NewsLemmas.{own_rows}
+
+-- ---- who entered them
+
+-- each was entered by a member of staff of an office, by number
+abbrev pub HaveCallers : List Entry → Type 0
+HaveCallers entries = AllByRecursion (λ (e : Entry). IsCaller e.staff) entries
+
+abbrev staff_found : Option Office → ℕ → Option Staff
+staff_found o n = elim o [ None ↦ None | Some f ↦ numbered f.rows.staff n ]
+
+staff_are_callers : (k : Catalogue) (s : Caller → Bool) (fs : List Office) → AllByRecursion (IsSoundOffice k s) fs → (c : Caller) → is_staff fs c ≡ true → IsCaller c
+staff_are_callers k s fs all c there = go (office_at c.office fs) refl there
+  where
+    go : (o : Option Office) → office_at c.office fs ≡ o → is_some (staff_found o c.staff) ≡ true → IsCaller c
+    go None e h = absurd (true≢false (sym h))
+    go (Some f) e h =
+        let sound : IsSoundOffice k s f = found_sound k s c.office fs f all e in
+        let place = (has_number f.rows.staff c.staff).0 h in
+        let some = place.0 in
+        let last = place.1 in
+        let most = sound.rows.staff_limit in
+        (subst (IsNumberUpTo 9999) (number_at c.office fs f e) sound.number, (some, omega (arith, last, most)))
+
+entered_callers : (today : ℕ) (s : Caller → Bool) (n : ℕ) (o : Option ℕ) (es : List Entry) → ((c : Caller) → s c ≡ true → IsCaller c) → AreEntriesBy today s n o es → HaveCallers es
+entered_callers today s n None es staffed are = subst HaveCallers (sym are) tt
+entered_callers today s n (Some day) es staffed are = all_map (IsEntryBy today s) (λ (e : Entry). IsCaller e.staff) es (λ e by. staffed e.staff by.staff) are.each
+
+-- each of these loans has such entries
+abbrev pub AreCalled : List Ledger → Type 0
+AreCalled ls = AllByRecursion (λ (l : Ledger). HaveCallers l.entries) ls
+
+rows_called : (k : Catalogue) (s : Caller → Bool) (rows : Rows) → ((c : Caller) → s c ≡ true → IsCaller c) → IsSoundRows k s rows → AreCalled rows.loans
+rows_called k s rows staffed sound =
+    all_map (IsSoundLoan k s rows.clients) (λ (l : Ledger). HaveCallers l.entries) rows.loans (λ l is. entered_callers k.day s l.loan.periods (disbursed_on l.loan.stage) l.entries staffed is.entries) sound.loans
+
+pub all_called : (i : Institution) → IsSound i → AllByRecursion (λ (f : Office). AreCalled f.rows.loans) i.offices
+all_called i sound =
+    let s = is_staff i.offices in
+    all_map (IsSoundOffice i.catalogue s) (λ (f : Office). AreCalled f.rows.loans) i.offices (λ f is. rows_called i.catalogue s f.rows (staff_are_callers i.catalogue s i.offices sound.each) is.rows) sound.each
+
+-- the entries of one loan
+pub loan_called : (x n : ℕ) (i : Institution) → IsSound i → HaveCallers (entries_of (numbered (rows_at x i).loans n))
+loan_called x n i sound = go (numbered (rows_at x i).loans n) refl
+  where
+    s : Caller → Bool
+    s = is_staff i.offices
+
+    go : (o : Option Ledger) → numbered (rows_at x i).loans n ≡ o → HaveCallers (entries_of o)
+    go None e = tt
+    go (Some l) e = all_at (λ (l : Ledger). HaveCallers l.entries) (rows_at x i).loans n l (rows_called i.catalogue s (rows_at x i) (staff_are_callers i.catalogue s i.offices sound.each) (office_sound i.catalogue s x i.offices sound.each)) e
+
+-- ---- their numbers
+
+changed_at : (change : Ledger → Ledger) (l : Ledger) (d : ℕ) (ls : List Ledger) → slice_get ls d ≡ Some l → slice_get (with_numbered (suc d) change ls) d ≡ Some (change l)
+changed_at change l d [] at = absurd (let k : None ≡ Some l = at in cc)
+changed_at change l zero (b ∷ ls) at = let k : Some b ≡ Some l = at in let is : b ≡ l = cc in ap (λ a. Some (change a)) is
+changed_at change l (suc d) (b ∷ ls) at = ap (λ xs. slice_get xs (suc d)) (with_numbered_later d change b ls) ∙ changed_at change l d ls at
+
+changed_numbered : (change : Ledger → Ledger) (l : Ledger) (n : ℕ) (ls : List Ledger) → numbered ls n ≡ Some l → numbered (with_numbered n change ls) n ≡ Some (change l)
+changed_numbered change l zero ls at = absurd (let k : None ≡ Some l = at in cc)
+changed_numbered change l (suc d) ls at = numbered-suc (with_numbered (suc d) change ls) d ∙ changed_at change l d ls (sym (numbered-suc ls d) ∙ at)
+
+-- numbered from n + 1 on
+abbrev AreNumbered : ℕ → List Entry → Type 0
+AreNumbered n es = (i : ℕ) → i < length es → (entry_at es i).seq ≡ n + i + 1
+
+last_number : (n : ℕ) (es : List Entry) (e : Entry) → AreNumbered n (es ++ e ∷ []) → e.seq ≡ n + length es + 1
+last_number n [] e h = h 0 (omega arith)
+last_number n (d ∷ es) e h = let last = last_number (n + 1) es e (λ i below. let next = h (suc i) (omega (arith, below)) in omega (arith, next)) in omega (arith, last)
+
+earlier : (n : ℕ) (es : List Entry) (e : Entry) → AreNumbered n (es ++ e ∷ []) → AreEarlier e.seq es
+earlier n [] e h = tt
+earlier n (d ∷ es) e h =
+    let first = h 0 (omega arith) in
+    let last = last_number n (d ∷ es) e h in
+    (omega (arith, first, last), earlier (n + 1) es e (λ i below. let next = h (suc i) (omega (arith, below)) in omega (arith, next)))
+
+none_before : (es : List Entry) (e : Entry) → es ++ e ∷ [] ≡ [] → (P : Type 0) → P
+none_before [] e h P = absurd (let k : e ∷ [] ≡ [] = h in cc)
+none_before (d ∷ es) e h P = absurd (let k : d ∷ (es ++ e ∷ []) ≡ [] = h in cc)
+
+entered_earlier : (today : ℕ) (s : Caller → Bool) (n : ℕ) (o : Option ℕ) (es : List Entry) (e : Entry) → AreEntriesBy today s n o (es ++ e ∷ []) → AreEarlier e.seq es
+entered_earlier today s n None es e are = none_before es e are _
+entered_earlier today s n (Some day) es e are = earlier 0 es e (λ i below. let number = are.lawful.numbers i below in omega (arith, number))
+
+there_of : (x n : ℕ) (l : Ledger) (fs : List Office) → numbered (rows_of (office_at x fs)).loans n ≡ Some l → is_there fs x ≡ true
+there_of x n l fs at = go (office_at x fs) at
+  where
+    nothing : (n : ℕ) → numbered [] n ≡ Some l → (P : Type 0) → P
+    nothing zero h P = absurd (let k : None ≡ Some l = h in cc)
+    nothing (suc d) h P = absurd (let k : None ≡ Some l = sym (numbered-suc [] d) ∙ h in cc)
+
+    go : (o : Option Office) → numbered (rows_of o).loans n ≡ Some l → is_some o ≡ true
+    go None h = nothing n h _
+    go (Some f) h = refl
+
+-- where a loan with one entry more is sound, that entry has the greatest number
+pub entry_last : (loan : Account) (account : Replayed) (e : Entry) (l : Ledger) (i : Institution) → IsSound (committed (Enter loan account) i) → numbered (rows_at loan.office i).loans loan.number ≡ Some l → account.loan.entries ≡ l.entries ++ e ∷ [] → AreEarlier e.seq l.entries
+entry_last loan account e l i sound there are =
+    let x = loan.office in
+    let new = loan_entered loan.number account.loan.entries (rows_at x i) in
+    let fs = with_rows x new i.offices in
+    let s = is_staff fs in
+    let rows : IsSoundRows i.catalogue s new = subst (IsSoundRows i.catalogue s) (own_rows x new i.offices (there_of x loan.number l i.offices there)) (office_sound i.catalogue s x fs sound.each) in
+    let is : IsSoundLoan i.catalogue s new.clients (with_entries account.loan.entries l) =
+    all_at (IsSoundLoan i.catalogue s new.clients) new.loans loan.number (with_entries account.loan.entries l) rows.loans (changed_numbered (with_entries account.loan.entries) l loan.number (rows_at x i).loans there) in
+    entered_earlier i.catalogue.day s l.loan.periods (disbursed_on l.loan.stage) l.entries e (subst (AreEntriesBy i.catalogue.day s l.loan.periods (disbursed_on l.loan.stage)) are is.entries)
+
+-- where an office with one entry more is sound, no receipt stands twice in it
+pub entry_apart : (loan : Account) (account : Replayed) (l : Ledger) (i : Institution) → IsSound (committed (Enter loan account) i) → numbered (rows_at loan.office i).loans loan.number ≡ Some l → AreApart (uses_from 1 (loan_entered loan.number account.loan.entries (rows_at loan.office i)).loans)
+entry_apart loan account l i sound there =
+    let x = loan.office in
+    let new = loan_entered loan.number account.loan.entries (rows_at x i) in
+    let fs = with_rows x new i.offices in
+    let s = is_staff fs in
+    let rows : IsSoundRows i.catalogue s new = subst (IsSoundRows i.catalogue s) (own_rows x new i.offices (there_of x loan.number l i.offices there)) (office_sound i.catalogue s x fs sound.each) in
+    rows.receipts
+
+-- ---- what the tables show of one loan
+
+map_map : {A B C : Type 0} (g : B → C) (f : A → B) (xs : List A) → map g (map f xs) ≡ map (λ x. g (f x)) xs
+map_map g f [] = refl
+map_map g f (x ∷ xs) = ap (λ l. g (f x) ∷ l) (map_map g f xs)
+
+pub loan_entries_shown : (x n : ℕ) (i : Institution) → IsSound i → map entry_row (filter (is_entry_of x n) (tables_of i).entries) ≡ map (λ (e : Entry). entry_row (entry_in x n e)) (entries_of (numbered (rows_at x i).loans n))
+loan_entries_shown x n i sound = ap (map entry_row) (entries_shown x n i.offices sound.tree.ascending) ∙ map_map entry_row (entry_in x n) (entries_of (numbered (rows_at x i).loans n))
+
+-- a loan's row is found where the loan is there
+pub loan_there : (x n : ℕ) (i : Institution) (found : Option LoanRow) → found ≡ loan_row_at x n i → is_some found ≡ is_some (numbered (rows_at x i).loans n)
+loan_there x n i found is = ap is_some is ∙ go (numbered (loans_of (rows_at x i)) n) ∙ ap is_some (numbered_loan (rows_at x i).loans n) ∙ back (numbered (rows_at x i).loans n)
+  where
+    go : (o : Option Loan) → is_some (option_map (loan_in x n) o) ≡ is_some o
+    go None = refl
+    go (Some l) = refl
+
+    back : (o : Option Ledger) → is_some (option_map loan_of o) ≡ is_some o
+    back None = refl
+    back (Some l) = refl
+
+-- the row of one entry more
+pub next_row : (loan : Account) (entries before : List Entry) (found : Option Ledger) (last : Entry) (row : EntryRow) → is_some found ≡ true → before ≡ entries_of found → entries ≡ before ++ last ∷ [] → row ≡ entry_in loan.office loan.number last → IsNextRow loan entries found row
+next_row loan entries before None last row there is are row_is = absurd (true≢false (sym there))
+next_row loan entries before (Some l) last row there is are row_is = record { ledger = l; last = last; there = refl; one_more = are ∙ ap (λ es. es ++ last ∷ []) is; row_is = row_is }

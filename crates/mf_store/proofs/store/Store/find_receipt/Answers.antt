@@ -1,0 +1,7 @@
+use Rattle.std.proofs.Common.{◌∙◌}
+use Rattle.mf_store.proofs.ReceiptRowLemmas.{receipt_found}
+use Rattle.mf_store.proofs.StandLemmas.{weaker_if_ok}
+use Rattle.mf_store.proofs.store.Store.find_receipt.Goals as goal
+
+pub returns-clause-value : goal.returns-clause-value
+returns-clause-value g c clean i s = weaker_if_ok c.find.result _ _ (λ x is. is ∙ receipt_found c.args.office c.args.receipt i s.sound) (c.find.ensures.row clean i s)

@@ -1,0 +1,274 @@
+//! The accounts of loans: each is replayed from the loan's row, its product's terms and its entries.
+
+ghost use Rattle.std.specs.Prelude.{◌≡◌, ℕ, List, [], ◌∷◌, ◌++◌, map, is_some, Some, OnOk, IfOk, IfErr};
+ghost use Rattle.std.specs.List.{AllByRecursion};
+ghost use Rattle.mf_base.specs.declared.fault.Fault.TheVariants.{F20};
+ghost use Rattle.mf_account.specs.declared.entry.Entry.{Entry as ModelEntry};
+ghost use Rattle.mf_catalog.specs.Product.{charge_of};
+ghost use Rattle.mf_model.specs.Accounts.{terms_in, status_in};
+ghost use Rattle.mf_model.specs.Institution.{Institution, Ledger as ModelLedger, charge_in};
+ghost use Rattle.mf_model.specs.Stages.{disbursed_on};
+ghost use Rattle.mf_model.specs.Store.{Commits, loan_at, ledger_at, account_at, loans_at};
+ghost use Rattle.mf_model.specs.declared.commit.Commit.TheVariants.{Enter};
+ghost use Rattle.mf_store.specs.Flat.{loan_in, line_in, entry_in, entries_of, IsNextRow};
+ghost use Rattle.mf_store_records.specs.Rows.{loan_row as loan_stored};
+
+use crate::entries::{entries_from, entry_row, one_more};
+use crate::known::News;
+use crate::loans::{account_number, loan_from};
+use crate::receipts::writes_of;
+use crate::store::Store;
+use crate::stored::stored;
+use crate::visible::office_number;
+use mf_account::{Entry, LoanAccount};
+use mf_base::{Day, Fault};
+use mf_catalog::{ChargeDef, Terms};
+use mf_model::{Loan, LoanLine, LoanList, Stage};
+use mf_office::{Account, OfficeNo};
+use mf_store_records::{EntryRow, LoanRow, read_row};
+use sqlite::{Alter, Row};
+use std::alloc::Global;
+
+/// The day on which a loan was disbursed.
+fn disbursal_day(loan: &Loan) -> Option<Day>
+    ensures { result ≡ disbursed_on loan.now.stage }
+{
+    match loan.stage {
+        Stage::Disbursed { day, .. } => Some(day),
+        _ => None,
+    }
+}
+
+/// The row of the last entry of a loan's account, where all before it are these; else F20.
+fn last_row(
+    alloc: Global,
+    office: u32,
+    loan: u32,
+    account: &LoanAccount,
+    before: &[Entry],
+) -> Result<EntryRow, Fault>
+    ensures row { IfOk result (λ row. (last : ModelEntry) × (account.now.loan.entries ≡ before.now ++ last ∷ []) × (row ≡ entry_in office loan last)) }
+    ensures gives_up { IfErr result (λ fault. fault ≡ F20) }
+{
+    let Some(last) = one_more(account.entries(), before) else {
+        return Err(Fault::F20);
+    };
+    entry_row(alloc, office, loan, last)
+}
+
+impl<S: Alter> Store<S> {
+    ghost use Rattle.mf_store.specs.Stands.{StandsFor, IsClean, Leaves, Stays, IsOpen, FaultsAloneShut};
+
+    /// Whether a loan is there.
+    fn has_loan(&mut self, loan: Account) -> Result<bool, Fault>
+        ensures kept { Stays S.Store self.old self.new }
+        ensures gives_up { IfErr result (λ fault. fault ≡ F20) }
+        ensures open { IsClean S.Store self.new → OnOk result (IsOpen S.Store self.new) }
+        ensures value { IsClean S.Store self.new → (i : Institution) → StandsFor S.Store self.old i → IfOk result (λ there. there ≡ is_some (ledger_at loan i)) }
+    {
+        let found = self.find_loan(loan.office.get(), loan.number.get())?;
+        Ok(found.is_some())
+    }
+
+    /// The entries of a loan, by number; none where it isn't there.
+    pub(crate) fn entries_at(&mut self, alloc: Global, loan: Account) -> Result<Vec<Entry>, Fault>
+        ensures kept { Stays S.Store self.old self.new }
+        ensures gives_up { IfErr result (λ fault. fault ≡ F20) }
+        ensures open { IsClean S.Store self.new → OnOk result (IsOpen S.Store self.new) }
+        ensures value { IsClean S.Store self.new → (i : Institution) → StandsFor S.Store self.old i → IfOk result (λ list. list.items ≡ entries_of (ledger_at loan i)) }
+    {
+        let rows = self.list::<EntryRow>((loan.office.get(), loan.number.get()))?;
+        entries_from(alloc, &rows)
+    }
+
+    /// The charge that a product names, if it names one.
+    fn named_charge(&mut self, number: Option<u32>) -> Result<Option<ChargeDef>, Fault>
+        ensures kept { Stays S.Store self.old self.new }
+        ensures gives_up { IfErr result (λ fault. fault ≡ F20) }
+        ensures open { IsClean S.Store self.new → IsOpen S.Store self.old → OnOk result (IsOpen S.Store self.new) }
+        ensures value { IsClean S.Store self.new → (i : Institution) → StandsFor S.Store self.old i → IfOk result (λ charge. charge ≡ charge_of (charge_in i.catalogue) number) }
+    {
+        match number {
+            None => Ok(None),
+            Some(number) => self.charge_at(number),
+        }
+    }
+
+    /// The terms that a product gives its loans, or None where there is no such product.
+    fn terms_of(&mut self, product: u32) -> Result<Option<Terms>, Fault>
+        ensures kept { Stays S.Store self.old self.new }
+        ensures gives_up { IfErr result (λ fault. fault ≡ F20) }
+        ensures open { IsClean S.Store self.new → IsOpen S.Store self.old → OnOk result (IsOpen S.Store self.new) }
+        ensures value { IsClean S.Store self.new → (i : Institution) → StandsFor S.Store self.old i → IfOk result (λ terms. terms ≡ terms_in i.catalogue product) }
+    {
+        let Some(product) = self.product_at(product)? else {
+            return Ok(None);
+        };
+        let members = product.members;
+        let disbursement = self.named_charge(members.disbursement_charge)?;
+        let instalment = self.named_charge(members.instalment_charge)?;
+        let overdue = self.named_charge(members.overdue_charge)?;
+        Ok(Some(Terms {
+            method: members.method,
+            rate: members.rate,
+            freq: members.freq,
+            every: members.every,
+            principal_grace: members.principal_grace,
+            interest_grace: members.interest_grace,
+            strategy: members.strategy,
+            disbursement,
+            instalment,
+            overdue,
+        }))
+    }
+
+    /// The account of a loan that is there and was disbursed on this day.
+    fn replay(
+        &mut self,
+        alloc: Global,
+        account: Account,
+        loan: &Loan,
+        day: Day,
+    ) -> Result<LoanAccount, Fault>
+        ensures kept { Stays S.Store self.old self.new }
+        ensures gives_up { IfErr result (λ fault. fault ≡ F20) }
+        ensures open { IsClean S.Store self.new → OnOk result (IsOpen S.Store self.new) }
+        ensures value { IsClean S.Store self.new → (i : Institution) → StandsFor S.Store self.old i → loan_at account i ≡ Some loan.now → disbursed_on loan.now.stage ≡ Some day → IfOk result (λ replayed. account_at account i ≡ Some replayed) }
+    {
+        let entries = self.entries_at(alloc, account)?;
+        let named = self.terms_of(loan.product)?;
+        let terms = stored(named)?;
+        let found = LoanAccount::of_entries(
+            alloc,
+            terms,
+            loan.principal,
+            loan.periods,
+            day,
+            entries,
+        )?;
+        stored(found)
+    }
+
+    /// The account of a loan, or None where there is no such loan or it is not disbursed.
+    pub fn account_of(
+        &mut self,
+        alloc: Global,
+        account: Account,
+    ) -> Result<Option<LoanAccount>, Fault>
+        ensures kept { Stays S.Store self.old self.new }
+        ensures gives_up { IfErr result (λ fault. fault ≡ F20) }
+        ensures open { IsClean S.Store self.new → OnOk result (IsOpen S.Store self.new) }
+        ensures value { IsClean S.Store self.new → (i : Institution) → StandsFor S.Store self.old i → IfOk result (λ found. found ≡ account_at account i) }
+    {
+        let Account { office, number } = account;
+        let Some(loan) = self.loan_at(Account { office, number })? else {
+            return Ok(None);
+        };
+        let Some(day) = disbursal_day(&loan) else {
+            return Ok(None);
+        };
+        let replayed = self.replay(alloc, Account { office, number }, &loan, day)?;
+        Ok(Some(replayed))
+    }
+
+    /// The status of a loan that is there: its stage's number, or what its account says.
+    fn status_of(&mut self, alloc: Global, account: Account, loan: &Loan) -> Result<u16, Fault>
+        ensures kept { Stays S.Store self.old self.new }
+        ensures gives_up { IfErr result (λ fault. fault ≡ F20) }
+        ensures open { IsClean S.Store self.new → IsOpen S.Store self.old → OnOk result (IsOpen S.Store self.new) }
+        ensures value { IsClean S.Store self.new → (i : Institution) → StandsFor S.Store self.old i → (l : ModelLedger) → ledger_at account i ≡ Some l → l.loan ≡ loan.now → IfOk result (λ status. status ≡ status_in i.catalogue l) }
+    {
+        match disbursal_day(loan) {
+            None => Ok(loan.stage.status()),
+            Some(day) => {
+                let replayed = self.replay(alloc, account, loan, day)?;
+                Ok(replayed.status())
+            }
+        }
+    }
+
+    /// The line of a loan's row, in a list of loans.
+    fn line_of(&mut self, alloc: Global, row: &Row) -> Result<LoanLine, Fault>
+        ensures kept { Stays S.Store self.old self.new }
+        ensures gives_up { IfErr result (λ fault. fault ≡ F20) }
+        ensures open { IsClean S.Store self.new → IsOpen S.Store self.old → OnOk result (IsOpen S.Store self.new) }
+        ensures value { IsClean S.Store self.new → (i : Institution) → StandsFor S.Store self.old i → (office number : ℕ) (l : ModelLedger) → row.now ≡ loan_stored (loan_in office number l.loan) → ledger_at (record { office = office; number = number }) i ≡ Some l → IfOk result (λ line. line ≡ line_in i.catalogue office number l) }
+    {
+        let found = read_row::<LoanRow>(row)?;
+        let office = office_number(found.office)?;
+        let number = account_number(found.number)?;
+        let loan = loan_from(found)?;
+        let status = self.status_of(alloc, Account { office, number }, &loan)?;
+        Ok(LoanLine {
+            loan: Account { office, number },
+            status,
+        })
+    }
+
+    /// The lines of rows of loans, in order.
+    fn lines_of(&mut self, alloc: Global, rows: &[Row]) -> Result<LoanList, Fault>
+        ensures kept { Stays S.Store self.old self.new }
+        ensures gives_up { IfErr result (λ fault. fault ≡ F20) }
+        ensures open { IsClean S.Store self.new → IsOpen S.Store self.old → OnOk result (IsOpen S.Store self.new) }
+        ensures value { IsClean S.Store self.new → (i : Institution) → StandsFor S.Store self.old i → (office : ℕ) (ls : List (ℕ × ModelLedger)) → AllByRecursion (λ l. ledger_at (record { office = office; number = l.0 }) i ≡ Some l.1) ls
+            → rows.now ≡ map (λ l. loan_stored (loan_in office l.0 l.1.loan)) ls → IfOk result (λ list. list ≡ map (λ l. line_in i.catalogue office l.0 l.1) ls) }
+    {
+        let mut lines = Vec::new(alloc);
+        for row in rows {
+            let line = self.line_of(alloc, row)?;
+            lines.push(line)?;
+        }
+        Ok(LoanList::new(lines))
+    }
+
+    /// The first 100 loans of an office whose number is above one, by number: one query over the range of their keys,
+    /// and each disbursed one's account.
+    pub fn loans_above(
+        &mut self,
+        alloc: Global,
+        office: OfficeNo,
+        after: u32,
+    ) -> Result<LoanList, Fault>
+        ensures kept { Stays S.Store self.old self.new }
+        ensures gives_up { IfErr result (λ fault. fault ≡ F20) }
+        ensures open { IsClean S.Store self.new → OnOk result (IsOpen S.Store self.new) }
+        ensures value { IsClean S.Store self.new → (i : Institution) → StandsFor S.Store self.old i → IfOk result (λ list. list ≡ loans_at office after i) }
+    {
+        let rows = self.rows_above(office.get(), after)?;
+        self.lines_of(alloc, &rows)
+    }
+
+    /// The row of the last entry of a loan's account, where the loan is there and has all the others and no more; else
+    /// F20.
+    fn next_row(
+        &mut self,
+        alloc: Global,
+        loan: Account,
+        account: &LoanAccount,
+    ) -> Result<EntryRow, Fault>
+        ensures kept { Stays S.Store self.old self.new }
+        ensures gives_up { IfErr result (λ fault. fault ≡ F20) }
+        ensures open { IsClean S.Store self.new → OnOk result (IsOpen S.Store self.new) }
+        ensures value { IsClean S.Store self.new → (i : Institution) → StandsFor S.Store self.old i → IfOk result (λ row. IsNextRow loan account.now.loan.entries (ledger_at loan i) row) }
+    {
+        let Account { office, number } = loan;
+        let there = self.has_loan(Account { office, number })?;
+        if !there {
+            return Err(Fault::F20);
+        }
+        let before = self.entries_at(alloc, Account { office, number })?;
+        last_row(alloc, office.get(), number.get(), account, &before)
+    }
+
+    /// Adds the last entry of a loan's account to a loan that has all the others and no more; where it hasn't, the call
+    /// gives up.
+    pub fn enter(&mut self, alloc: Global, loan: Account, account: LoanAccount) -> Result<(), Fault>
+        ensures commits { Commits (StandsFor S.Store) (IsClean S.Store) (Leaves S.Store) (Enter loan account) self.old self.new result }
+        ensures shuts { FaultsAloneShut S.Store self.old self.new }
+        ensures open { IsClean S.Store self.new → OnOk result (IsOpen S.Store self.new) }
+    {
+        let row = self.next_row(alloc, loan, &account)?;
+        let writes = writes_of(alloc, row)?;
+        self.make(&writes, News::Nothing)
+    }
+}

@@ -1,0 +1,237 @@
+//! What a loan's rows of entries stand for, and the row that an entry is kept by.
+
+ghost use Rattle.std.specs.Prelude.{◌≡◌, ℕ, List, [], ◌∷◌, ◌++◌, map, take, length, IfOk, IfErr, IfSome, IsTrue};
+ghost use Rattle.std.specs.List.{AllByRecursion};
+ghost use Rattle.mf_base.specs.declared.fault.Fault.TheVariants.{F20};
+ghost use Rattle.mf_office.specs.Texts.{IsCaller};
+ghost use Rattle.mf_office.specs.Written.{caller_text};
+ghost use Rattle.mf_office.specs.declared.caller.Caller.{Caller as ModelCaller};
+ghost use Rattle.mf_account.specs.declared.entry.Entry.{Entry as ModelEntry};
+ghost use Rattle.mf_store_records.specs.Rows.{entry_row as entry_stored};
+ghost use Rattle.mf_store.specs.Flat.{entry_in, entry_kind_number, portion_number, flag_number};
+
+use crate::loans::{day_from, text_of_day};
+use crate::stored::{flag_from, signed, unsigned};
+use mf_account::{Entry, Kind, Receipt};
+use mf_alloc::Portion;
+use mf_base::Fault;
+use mf_office::Caller;
+use mf_store_records::{EntryRow, Text, read_row};
+use sqlite::Row;
+use std::alloc::Global;
+
+/// The number by which a kind is kept.
+fn kind_number(kind: Kind) -> u32
+    ensures { result ≡ entry_kind_number kind }
+{
+    match kind {
+        Kind::Repay => 1,
+        Kind::Fee => 2,
+        Kind::Penalty => 3,
+        Kind::Waive => 4,
+        Kind::WriteOff => 5,
+        Kind::Refund => 6,
+    }
+}
+
+/// The kind of a number.
+fn kind_from(number: u32) -> Result<Kind, Fault>
+    ensures kind { IfOk result (λ kind. entry_kind_number kind ≡ number) }
+    ensures gives_up { IfErr result (λ fault. fault ≡ F20) }
+{
+    match number {
+        1 => Ok(Kind::Repay),
+        2 => Ok(Kind::Fee),
+        3 => Ok(Kind::Penalty),
+        4 => Ok(Kind::Waive),
+        5 => Ok(Kind::WriteOff),
+        6 => Ok(Kind::Refund),
+        _ => Err(Fault::F20),
+    }
+}
+
+/// The number by which a portion is kept.
+fn number_of_portion(portion: Portion) -> u32
+    ensures { result ≡ portion_number portion }
+{
+    match portion {
+        Portion::Penalty => 1,
+        Portion::Fee => 2,
+        Portion::Interest => 3,
+        Portion::Principal => 4,
+    }
+}
+
+/// The portion of a number.
+fn portion_from(number: u32) -> Result<Portion, Fault>
+    ensures portion { IfOk result (λ portion. portion_number portion ≡ number) }
+    ensures gives_up { IfErr result (λ fault. fault ≡ F20) }
+{
+    match number {
+        1 => Ok(Portion::Penalty),
+        2 => Ok(Portion::Fee),
+        3 => Ok(Portion::Interest),
+        4 => Ok(Portion::Principal),
+        _ => Err(Fault::F20),
+    }
+}
+
+/// The receipt that a text is, where there is one.
+fn receipt_from(text: Option<Text>) -> Option<Receipt>
+    ensures { result ≡ text }
+{
+    match text {
+        None => None,
+        Some(text) => Some(Receipt::new(text.into_string())),
+    }
+}
+
+/// The text of a receipt, where there is one.
+fn receipt_text(alloc: Global, receipt: &Option<Receipt>) -> Result<Option<Text>, Fault>
+    ensures text { IfOk result (λ text. text ≡ receipt.now) }
+    ensures gives_up { IfErr result (λ fault. fault ≡ F20) }
+{
+    match receipt {
+        None => Ok(None),
+        Some(receipt) => {
+            let text = String::from_str(alloc, receipt.as_str())?;
+            Ok(Some(Text::new(text)))
+        }
+    }
+}
+
+/// The member of staff whose text this is.
+fn caller_from(text: &Text) -> Result<Caller, Fault>
+    ensures caller { IfOk result (λ caller. (c : ModelCaller) → IsCaller c → text.now ≡ caller_text c.office c.staff → caller ≡ c) }
+    ensures gives_up { IfErr result (λ fault. fault ≡ F20) }
+{
+    match Caller::parse(text.as_str().as_bytes()) {
+        Some(caller) => Ok(caller),
+        None => Err(Fault::F20),
+    }
+}
+
+/// The entry of a row.
+fn entry_from(row: EntryRow) -> Result<Entry, Fault>
+    ensures entry { IfOk result (λ entry. (office loan : ℕ) (e : ModelEntry) → IsCaller e.staff → row ≡ entry_in office loan e → entry ≡ e) }
+    ensures gives_up { IfErr result (λ fault. fault ≡ F20) }
+{
+    let kind = kind_from(row.kind)?;
+    let day = day_from(&row.day)?;
+    let amount = unsigned(row.amount)?;
+    let portion = portion_from(row.portion)?;
+    let staff = caller_from(&row.staff)?;
+    let reversed = flag_from(row.reversed)?;
+    Ok(Entry {
+        seq: row.seq,
+        kind,
+        day,
+        amount,
+        instalment: row.instalment,
+        portion,
+        receipt: receipt_from(row.receipt),
+        staff,
+        reversed,
+    })
+}
+
+/// The entry of a row as the tables give it.
+fn entry_in_row(row: &Row) -> Result<Entry, Fault>
+    ensures entry { IfOk result (λ entry. (office loan : ℕ) (e : ModelEntry) → IsCaller e.staff → row.now ≡ entry_stored (entry_in office loan e) → entry ≡ e) }
+    ensures gives_up { IfErr result (λ fault. fault ≡ F20) }
+{
+    let found = read_row::<EntryRow>(row)?;
+    entry_from(found)
+}
+
+/// The entries of the rows, in order.
+pub(crate) fn entries_from(alloc: Global, rows: &[Row]) -> Result<Vec<Entry>, Fault>
+    ensures entries { IfOk result (λ list. (office loan : ℕ) (es : List ModelEntry) → AllByRecursion (λ e. IsCaller e.staff) es → rows.now ≡ map (λ e. entry_stored (entry_in office loan e)) es → list.items ≡ es) }
+    ensures gives_up { IfErr result (λ fault. fault ≡ F20) }
+{
+    let mut entries = Vec::new(alloc);
+    for row in rows {
+        entries.push(entry_in_row(row)?)?;
+    }
+    Ok(entries)
+}
+
+/// The row of an entry.
+pub(crate) fn entry_row(
+    alloc: Global,
+    office: u32,
+    loan: u32,
+    entry: &Entry,
+) -> Result<EntryRow, Fault>
+    ensures row { IfOk result (λ row. row ≡ entry_in office loan entry.now) }
+    ensures gives_up { IfErr result (λ fault. fault ≡ F20) }
+{
+    let day = text_of_day(alloc, entry.day)?;
+    let amount = signed(entry.amount)?;
+    let receipt = receipt_text(alloc, &entry.receipt)?;
+    let staff = entry.staff.text(alloc)?;
+    Ok(EntryRow {
+        office,
+        loan,
+        seq: entry.seq,
+        kind: kind_number(entry.kind),
+        day,
+        amount,
+        instalment: entry.instalment,
+        portion: number_of_portion(entry.portion),
+        receipt,
+        staff: Text::new(staff),
+        reversed: entry.reversed as u32,
+    })
+}
+
+/// Whether two receipts are the same, or both are wanting.
+fn is_same_receipt(one: &Option<Receipt>, other: &Option<Receipt>) -> bool
+    ensures { IsTrue result → one.now ≡ other.now }
+{
+    match (one, other) {
+        (None, None) => true,
+        (Some(one), Some(other)) => one.as_str() == other.as_str(),
+        _ => false,
+    }
+}
+
+/// Whether two entries are the same.
+fn is_same(one: &Entry, other: &Entry) -> bool
+    ensures { IsTrue result → one.now ≡ other.now }
+{
+    one.seq == other.seq
+        && one.kind == other.kind
+        && one.day == other.day
+        && one.amount == other.amount
+        && one.instalment == other.instalment
+        && one.portion == other.portion
+        && is_same_receipt(&one.receipt, &other.receipt)
+        && one.staff == other.staff
+        && one.reversed == other.reversed
+}
+
+/// Whether a list begins with the other one.
+fn begins_with(entries: &[Entry], first: &[Entry]) -> bool
+    ensures { IsTrue result → first.now ≡ take (length first.now) entries.now }
+{
+    if entries.len() < first.len() {
+        return false;
+    }
+    for k in 0..first.len() {
+        if !is_same(&first[k], &entries[k]) {
+            return false;
+        }
+    }
+    true
+}
+
+/// The last entry, where all before it are these.
+pub(crate) fn one_more<'a>(entries: &'a [Entry], before: &[Entry]) -> Option<&'a Entry>
+    ensures { IfSome result (λ last. entries.now ≡ before.now ++ last.now ∷ []) }
+{
+    if entries.len() != before.len() + 1 || !begins_with(entries, before) {
+        return None;
+    }
+    Some(&entries[before.len()])
+}
