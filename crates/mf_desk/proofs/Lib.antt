@@ -1,3 +1,4 @@
 pub mod Decisions
 pub mod AnswerLemmas
 pub mod ChargeLemmas
+pub mod LoanLemmas

@@ -1,22 +1,24 @@
 -- What the desk does with a request, in the words of the institution that its store stands for.
 use Rattle.std.specs.Prelude.{◌≡◌, ℕ, ◌⊎◌, true, false, cond, is_some, List, option_map, Option, Some, None, Result, Ok, Err, IfOk, IfErr, OnOk, OnErr}
 use Rattle.mf_base.specs.declared.fault.Fault.{Fault}
-use Rattle.mf_base.specs.declared.fault.Fault.TheVariants.{F4, F20}
+use Rattle.mf_base.specs.declared.fault.Fault.TheVariants.{F4, F9, F20}
 use Rattle.mf_office.specs.declared.account.Account.{Account}
 use Rattle.mf_office.specs.declared.caller.Caller.{Caller}
+use Rattle.mf_account.specs.Change.{Account as Replayed}
 use Rattle.mf_model.specs.declared.request.Call.{Call}
-use Rattle.mf_model.specs.declared.request.LoanRequest.{LoanRequest}
 use Rattle.mf_model.specs.declared.request.Request.{Request}
 use Rattle.mf_model.specs.declared.loan.Loan.{Loan}
-use Rattle.mf_model.specs.declared.loan.Stage.{Stage}
 use Rattle.mf_model.specs.declared.reply.LoanReply.{LoanReply}
 use Rattle.mf_model.specs.declared.reply.Reply.{Reply}
 use Rattle.mf_desk.specs.declared.decision.Decision.{Decision}
-use Rattle.mf_model.specs.Institution.{Institution, Catalogue, Rows, after_maybe}
-use Rattle.mf_model.specs.Loans.{on_loan}
+use Rattle.mf_model.specs.Institution.{Institution, Catalogue, Rows, Ledger, after_maybe}
+use Rattle.mf_model.specs.Loans.{on_loan, LedgerChange, in_loan}
 use Rattle.mf_model.specs.Desk.{Plan, plan, Outcome, carried_out, outcome, change_in, of_catalogue, of_office}
 use Rattle.mf_model.specs.Tree.{seen_office}
-use Rattle.mf_model.specs.Store.{rows_at, client_at, loan_at, change_of, left_by}
+use Rattle.mf_model.specs.Outcomes.{where_found}
+use Rattle.mf_model.specs.declared.loan.ReceiptUse.{ReceiptUse}
+use Rattle.mf_model.specs.declared.request.LoanRequest.{LoanRequest}
+use Rattle.mf_model.specs.Store.{receipt_at, rows_at, client_at, loan_at, account_at, change_of, left_by}
 
 -- what becomes of a plan, or of what reads as no request
 abbrev pub plan_outcome : Result Plan Fault → Caller → Institution → Outcome
@@ -60,13 +62,31 @@ if_there (Some x) = Ok x
 abbrev pub client_there : Account → Institution → Result (Unit {0}) Fault
 client_there client i = cond (is_some (client_at client i)) (Ok tt) (Err F4)
 
--- a loan of an office that o sees
-abbrev pub seen_loan : ℕ → Account → Institution → Result Loan Fault
-seen_loan o loan i = cond (is_some (seen_office o loan.office i)) (if_there (loan_at loan i)) (Err F4)
+-- a loan, as it was submitted; F4 where it isn't there
+abbrev pub loan_there : Account → Institution → Result Loan Fault
+loan_there loan i = if_there (loan_at loan i)
 
--- what a loan that was found is told and comes to
-abbrev pub loan_outcome : LoanRequest → Loan → Institution → Result (LoanReply × Option Stage) Fault
-loan_outcome asked loan i = on_loan asked i.catalogue loan
+-- an account that there is; F9 where there is none
+abbrev pub if_disbursed : Option Replayed → Result Replayed Fault
+if_disbursed None = Err F9
+if_disbursed (Some a) = Ok a
+
+-- the account of a loan; F4 where the loan isn't there, F9 where it isn't disbursed
+abbrev pub account_there : Account → Institution → Result Replayed Fault
+account_there loan i = where_found (loan_at loan i) (λ found. if_disbursed (account_at loan i))
+
+-- what a request on a loan comes to, where its office is seen
+abbrev pub loan_outcome : Account → LoanRequest → Caller → Institution → Outcome
+loan_outcome loan asked c i = in_rows loan.office (λ k rows. in_loan loan (on_loan asked c k rows loan.number) rows) i
+
+-- the entry that carries a receipt of office x, where one is named
+abbrev pub use_named : ℕ → Option (List ℕ) → Institution → Result (Option ReceiptUse) Fault
+use_named x None i = Ok None
+use_named x (Some receipt) i = Ok (receipt_at x receipt i)
+
+-- what becomes of a loan and of the rows of its office
+abbrev pub in_ledger : Account → (Catalogue → Ledger → Result (LoanReply × Option LedgerChange) Fault) → Institution → Outcome
+in_ledger loan act i = in_rows loan.office (λ k rows. in_loan loan (act k) rows) i
 
 module _ {S : Type 0} (stands : S → Institution → Type 0) (clean : S → Type 0) (leaves : S → List Institution → Type 0) where
   -- A decision reads the store and changes nothing. It is the outcome, its refusal the outcome's, and it may give up.

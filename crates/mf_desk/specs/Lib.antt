@@ -1,2 +1,3 @@
 pub mod Answers
 pub mod Charges
+pub mod Statements

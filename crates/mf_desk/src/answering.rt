@@ -21,6 +21,7 @@ fn decide<S: InstitutionStore>(
     caller: Caller,
     request: Request,
 ) -> Result<Decision, Fault>
+    requires in_range { IsInRange request }
     ensures decides { Decides S.stands S.clean S.leaves (outcome (call_of caller request)) store.old store.new result }
     ensures refusal { IfErr result (λ f. f ≢ Fault.F19) }
 {

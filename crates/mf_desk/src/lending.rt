@@ -94,7 +94,7 @@ pub fn list_loans<S: InstitutionStore>(
     office: OfficeNo,
     after: u32,
 ) -> Result<Decision, Fault>
-    ensures decides { Decides S.stands S.clean S.leaves (in_rows office (λ k rows. list_loans office after rows)) store.old store.new result }
+    ensures decides { Decides S.stands S.clean S.leaves (in_rows office (λ k rows. list_loans office after k rows)) store.old store.new result }
     ensures refusal { IfErr result (λ f. f ≢ Fault.F19) }
 {
     let loans = store.loans(alloc, office, after)?;

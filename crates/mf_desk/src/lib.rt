@@ -4,6 +4,7 @@
 mod answering;
 mod catalogue;
 mod decision;
+mod entering;
 mod lending;
 mod loans;
 mod numbers;
@@ -12,6 +13,8 @@ mod products;
 mod roles;
 mod routes;
 mod sight;
+mod stages;
+mod statements;
 
 pub use answering::answer;
 pub use mf_model::{Call, OfficeList, Reply, Request};

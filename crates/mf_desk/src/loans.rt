@@ -1,86 +1,80 @@
-//! What is asked of one loan, up to its approval.
+//! What is asked of one loan.
 
 ghost use Rattle.std.specs.Prelude.{◌≡◌, ◌≢◌, IfErr};
+ghost use Rattle.mf_office.specs.declared.caller.Caller.{Caller as AnyCaller};
 ghost use Rattle.mf_model.specs.declared.request.LoanRequest.TheVariants.{Take};
 ghost use Rattle.mf_model.specs.declared.request.Request.TheVariants as request;
-ghost use Rattle.mf_model.specs.Loans.{next_stage, status_of};
-ghost use Rattle.mf_desk.specs.Answers.{Asks, Decides, request_outcome, seen_loan, loan_outcome};
+ghost use Rattle.mf_model.specs.Sound.{IsLoanInRange};
+ghost use Rattle.mf_desk.specs.Answers.{Asks, Decides, request_outcome, loan_there, loan_outcome};
 
 use crate::decision::Decision;
+use crate::entering::repay;
 use crate::sight::check_sight;
-use mf_base::{Day, Fault};
-use mf_model::{Commit, InstitutionStore, Loan, LoanReply, LoanRequest, LoanStep, Reply, Stage};
-use mf_office::{Account, Caller, OfficeNo};
+use crate::stages::{next_stage, status_number};
+use crate::statements::{show_entries, show_instalments, show_loan};
+use mf_base::Fault;
+use mf_model::{Commit, InstitutionStore, Loan, LoanReply, LoanRequest, LoanStep, Reply};
+use mf_office::{Account, Caller};
 use std::alloc::Global;
 
-/// The stage after a step on a day; F9 where the stage doesn't allow the step.
-fn next_stage(step: LoanStep, day: Day, stage: Stage) -> Result<Stage, Fault>
-    ensures value { result ≡ next_stage step day stage }
-    ensures refusal { IfErr result (λ f. f ≡ Fault.F9) }
-{
-    match (step, stage) {
-        (LoanStep::Approve, Stage::Submitted) => Ok(Stage::Approved(day)),
-        (LoanStep::Reject, Stage::Submitted) => Ok(Stage::Rejected),
-        (LoanStep::Withdraw, Stage::Submitted) => Ok(Stage::Withdrawn),
-        (LoanStep::UndoApproval, Stage::Approved(_)) => Ok(Stage::Submitted),
-        _ => Err(Fault::F9),
-    }
-}
-
-/// A loan of an office that the caller sees; F4 where there is none.
-fn find_loan<S: InstitutionStore>(
+/// A loan as it was submitted, and how far it has come; F4 where there is none.
+pub fn find_loan<S: InstitutionStore>(
     alloc: Global,
     store: &mut S,
-    to: OfficeNo,
     loan: Account,
 ) -> Result<Loan, Fault>
-    ensures asks { Asks S.stands S.clean S.leaves (seen_loan to loan) store.old store.new result }
+    ensures asks { Asks S.stands S.clean S.leaves (loan_there loan) store.old store.new result }
     ensures refusal { IfErr result (λ f. f ≢ Fault.F19) }
 {
-    let Account { office, number } = loan;
-    check_sight(alloc, store, to, office)?;
-    match store.loan(alloc, Account { office, number })? {
+    match store.loan(alloc, loan)? {
         Some(found) => Ok(found),
         None => Err(Fault::F4),
     }
 }
 
-/// The status number of a stage.
-fn status_number(stage: &Stage) -> u16
-    ensures { result ≡ status_of stage.now }
-{
-    stage.status()
-}
-
-/// A step of a loan on the business day: its status number, and the stage that it comes to.
+/// A step of a loan on the business day.
 fn take_step<S: InstitutionStore>(
     alloc: Global,
     store: &mut S,
-    loan: Loan,
+    loan: Account,
     step: LoanStep,
-) -> Result<(LoanReply, Option<Stage>), Fault>
-    ensures asks { Asks S.stands S.clean S.leaves (loan_outcome (Take step) loan) store.old store.new result }
+) -> Result<Decision, Fault>
+    ensures decides { (c : AnyCaller) → Decides S.stands S.clean S.leaves (loan_outcome loan (Take step) c) store.old store.new result }
     ensures refusal { IfErr result (λ f. f ≢ Fault.F19) }
 {
-    let day = store.business_day(alloc)?;
-    let stage = next_stage(step, day, loan.stage)?;
+    let Account { office, number } = loan;
+    let found = find_loan(alloc, store, Account { office, number })?;
+    let today = store.business_day(alloc)?;
+    let stage = next_stage(&step, today, &found.stage)?;
     let told = LoanReply::Status(status_number(&stage));
-    Ok((told, Some(stage)))
+    let loan = Account { office, number };
+    Ok(Decision::change(
+        Commit::SetStage { loan, stage },
+        Reply::Loan {
+            loan: Account { office, number },
+            told,
+        },
+    ))
 }
 
-/// What is told of a loan, and the stage that it comes to, if it comes to another.
+/// Decides a request on one loan of an office that the caller sees.
 fn act_on_loan<S: InstitutionStore>(
     alloc: Global,
     store: &mut S,
-    loan: Loan,
+    caller: Caller,
+    loan: Account,
     asked: LoanRequest,
-) -> Result<(LoanReply, Option<Stage>), Fault>
-    ensures asks { Asks S.stands S.clean S.leaves (loan_outcome asked loan) store.old store.new result }
+) -> Result<Decision, Fault>
+    requires in_range { IsLoanInRange asked }
+    ensures decides { Decides S.stands S.clean S.leaves (loan_outcome loan asked caller) store.old store.new result }
     ensures refusal { IfErr result (λ f. f ≢ Fault.F19) }
 {
     match asked {
-        LoanRequest::Show => Ok((LoanReply::Shown(loan), None)),
+        LoanRequest::Show => show_loan(alloc, store, loan),
+        LoanRequest::ShowInstalments => show_instalments(alloc, store, loan),
+        LoanRequest::ShowEntries => show_entries(alloc, store, loan),
         LoanRequest::Take(step) => take_step(alloc, store, loan, step),
+        LoanRequest::Repay(repayment) => repay(alloc, store, caller, loan, repayment),
     }
 }
 
@@ -92,23 +86,11 @@ pub fn on_loan<S: InstitutionStore>(
     loan: Account,
     asked: LoanRequest,
 ) -> Result<Decision, Fault>
+    requires in_range { IsLoanInRange asked }
     ensures decides { Decides S.stands S.clean S.leaves (request_outcome caller (request.Loan loan asked)) store.old store.new result }
     ensures refusal { IfErr result (λ f. f ≢ Fault.F19) }
 {
     let Account { office, number } = loan;
-    let found = find_loan(alloc, store, caller.office, Account { office, number })?;
-    let (told, stage) = act_on_loan(alloc, store, found, asked)?;
-    Ok(Decision {
-        reply: Reply::Loan {
-            loan: Account { office, number },
-            told,
-        },
-        commit: match stage {
-            Some(stage) => Some(Commit::SetStage {
-                loan: Account { office, number },
-                stage,
-            }),
-            None => None,
-        },
-    })
+    check_sight(alloc, store, caller.office, office)?;
+    act_on_loan(alloc, store, caller, Account { office, number }, asked)
 }

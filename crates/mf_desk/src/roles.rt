@@ -29,11 +29,17 @@ pub fn may_send(request: &Request, role: Role, office: OfficeNo) -> bool
             OfficeRequest::AddStaff { .. } => is_manager,
         },
         Request::Loan { asked, .. } => match asked {
-            LoanRequest::Show => true,
-            LoanRequest::Take(LoanStep::Withdraw) => is_officer,
-            LoanRequest::Take(LoanStep::Approve | LoanStep::Reject | LoanStep::UndoApproval) => {
-                is_manager
-            }
+            LoanRequest::Show
+            | LoanRequest::ShowInstalments
+            | LoanRequest::ShowEntries
+            | LoanRequest::Repay(_) => true,
+            LoanRequest::Take(step) => match step {
+                LoanStep::Withdraw => is_officer,
+                LoanStep::Approve
+                | LoanStep::Reject
+                | LoanStep::UndoApproval
+                | LoanStep::Disburse(_) => is_manager,
+            },
         },
     }
 }

@@ -1,6 +1,7 @@
 //! What becomes of each request that its caller may send.
 
 ghost use Rattle.std.specs.Prelude.{◌≢◌, IfErr};
+ghost use Rattle.mf_model.specs.Sound.{IsInRange};
 ghost use Rattle.mf_desk.specs.Answers.{Decides, request_outcome};
 
 use crate::catalogue::on_catalogue;
@@ -19,6 +20,7 @@ pub fn act<S: InstitutionStore>(
     caller: Caller,
     request: Request,
 ) -> Result<Decision, Fault>
+    requires in_range { IsInRange request }
     ensures decides { Decides S.stands S.clean S.leaves (request_outcome caller request) store.old store.new result }
     ensures refusal { IfErr result (λ f. f ≢ Fault.F19) }
 {

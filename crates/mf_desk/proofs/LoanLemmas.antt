@@ -1,0 +1,218 @@
+-- What was found of a loan, and what is decided of it.
+use Rattle.std.proofs.Common.{◌≡◌, ℕ, Bool, true, false, cond, List, [], ◌∷◌, ◌++◌, length, Option, Some, None, Ok, Err, inl, inr, refl, sym, ap, ◌∙◌}
+use Rattle.std.specs.Prelude.{Result, ◌⊎◌, not, nat_le, is_some, option_map}
+use Rattle.mf_base.specs.declared.fault.Fault.{Fault}
+use Rattle.mf_base.specs.declared.fault.Fault.TheVariants.{F4, F19, F20}
+use Rattle.mf_office.specs.declared.caller.Caller.{Caller}
+use Rattle.mf_office.specs.declared.account.Account.{Account}
+use Rattle.mf_office.specs.Tree.{is_at_or_below}
+use Rattle.mf_account.specs.declared.entry.Entry.{Entry}
+use Rattle.mf_account.specs.Loan.{Loan as Running, state_of_loan, status_of_loan}
+use Rattle.mf_account.specs.Refusals.{is_sealed, admits, is_out_of_order, is_forbidden, is_out_of_limits, refusal_of}
+use Rattle.mf_account.specs.Change.{Account as Replayed}
+use Rattle.mf_model.specs.declared.request.LoanRequest.{LoanRequest}
+use Rattle.mf_model.specs.declared.request.Request.TheVariants as request
+use Rattle.mf_model.specs.declared.loan.Loan.{Loan}
+use Rattle.mf_model.specs.declared.commit.Commit.TheVariants.{Enter}
+use Rattle.mf_model.specs.declared.reply.LoanReply.{LoanReply}
+use Rattle.mf_model.specs.declared.reply.LoanReply.TheVariants.{Entered}
+use Rattle.mf_model.specs.declared.reply.Reply.TheVariants as reply
+use Rattle.mf_model.specs.Institution.{Institution, Catalogue, Office, Rows, Ledger, Rows_become, office_at, numbered}
+use Rattle.mf_model.specs.Tree.{parent_of}
+use Rattle.mf_model.specs.Outcomes.{where_found}
+use Rattle.mf_model.specs.Accounts.{account_in}
+use Rattle.mf_model.specs.Receipts.{Use, uses_from, used_before, repeated}
+use Rattle.mf_model.specs.declared.loan.ReceiptUse.{ReceiptUse}
+use Rattle.mf_model.specs.declared.request.Repayment.{Repayment}
+use Rattle.mf_model.specs.declared.request.LoanRequest.TheVariants.{Repay}
+use Rattle.mf_model.specs.Loans.{LedgerChange, entered, with_entries, unless_fault, enter, on_loan, loan_changed, loan_entered, of_loan, in_loan, repayment, repeat_of, unless_known}
+use Rattle.mf_model.specs.Desk.{Outcome, of_office, in_office}
+use Rattle.mf_model.specs.Store.{Reads, rows_of, rows_at, ledger_at, account_of, account_at, replayed}
+use Rattle.mf_model.proofs.Growing.{with_same_at}
+use Rattle.mf_model.proofs.AccountLemmas.{account_is}
+use Rattle.mf_desk.specs.declared.decision.Decision.{Decision}
+use Rattle.mf_desk.specs.Answers.{Asks, Decides, decision_outcome, request_outcome, sight, if_there, if_disbursed, loan_there, account_there, use_named, loan_outcome, in_ledger}
+use Rattle.mf_desk.specs.Statements.{of_replayed}
+use Rattle.mf_desk.proofs.Decisions.{Learns, learns, learns_both, learned_refuses}
+
+abbrev where_seen : Option Office → Result (Unit {0}) Fault
+where_seen office = cond (is_some office) (Ok tt) (Err F4)
+
+abbrev allowed : Result (Unit {0}) Fault
+allowed = Ok tt
+
+-- a loan that the caller sees
+pub loan_seen : (c : Caller) (loan : Account) (asked : LoanRequest) (i : Institution) → sight c.office loan.office i ≡ Ok tt → request_outcome c (request.Loan loan asked) i ≡ loan_outcome loan asked c i
+loan_seen c loan asked i h = seen (is_at_or_below (parent_of i.offices) loan.office c.office) (office_at loan.office i.offices) h
+  where
+    seen : (b : Bool) (office : Option Office) → where_seen (cond b office None) ≡ allowed → in_office loan.office (λ k f. in_loan loan (on_loan asked c k f.rows loan.number) f.rows) i.catalogue (cond b office None) ≡ of_office loan.office (in_loan loan (on_loan asked c i.catalogue (rows_of office) loan.number) (rows_of office))
+    seen false office h = absurd (cc)
+    seen true None h = absurd (cc)
+    seen true (Some f) h = refl
+
+-- a loan that was found, with its entries
+pub record IsFound (loan : Account) (found : Loan) (i : Institution) : Type 0 where
+  pub ledger : Ledger
+  pub ledger_is : ledger_at loan i ≡ Some ledger
+  pub loan_is : ledger.loan ≡ found
+
+pub is_found : (loan : Account) (found : Loan) (i : Institution) → loan_there loan i ≡ Ok found → IsFound loan found i
+is_found loan found i h = at (ledger_at loan i) refl h
+  where
+    at : (o : Option Ledger) → ledger_at loan i ≡ o → if_there (option_map (λ (l : Ledger). l.loan) o) ≡ Ok found → IsFound loan found i
+    at None e h = absurd (cc)
+    at (Some l) e h = record { ledger = l; ledger_is = e; loan_is = cc }
+
+-- what is done with it
+pub in_found : (loan : Account) (found : Loan) (act : Catalogue → Ledger → Result (LoanReply × Option LedgerChange) Fault) (i : Institution) (f : IsFound loan found i) → in_ledger loan act i ≡ of_office loan.office (of_loan loan (rows_at loan.office i) (act i.catalogue f.ledger))
+in_found loan found act i f = ap (λ (o : Option Ledger). of_office loan.office (where_found o (λ l. of_loan loan (rows_at loan.office i) (act i.catalogue l)))) f.ledger_is
+
+-- its account
+pub account_found : (loan : Account) (found : Loan) (r : Option Replayed) (i : Institution) (f : IsFound loan found i) → r ≡ account_at loan i → account_in i.catalogue f.ledger ≡ of_replayed r
+account_found loan found r i f h = sym (ap of_replayed (h ∙ ap (λ (o : Option Ledger). option_map replayed (account_of i.catalogue o)) f.ledger_is) ∙ same (account_in i.catalogue f.ledger))
+  where
+    same : (o : Option Running) → of_replayed (option_map replayed o) ≡ o
+    same None = refl
+    same (Some a) = refl
+
+-- a disbursed loan that was found, with its account
+pub record IsAccountOf (loan : Account) (a : Running) (i : Institution) : Type 0 where
+  pub ledger : Ledger
+  pub ledger_is : ledger_at loan i ≡ Some ledger
+  pub account_is : account_in i.catalogue ledger ≡ Some a
+
+pub is_account_of : (loan : Account) (a : Replayed) (i : Institution) → account_there loan i ≡ Ok a → IsAccountOf loan a.loan i
+is_account_of loan a i h = at (ledger_at loan i) refl h
+  where
+    running : (l : Ledger) (o : Option Running) → account_in i.catalogue l ≡ o → ledger_at loan i ≡ Some l → if_disbursed (option_map replayed o) ≡ Ok a → IsAccountOf loan a.loan i
+    running l None is e h = absurd (cc)
+    running l (Some r) is e h = let same : replayed r ≡ a = cc in record { ledger = l; ledger_is = e; account_is = is ∙ ap (λ (x : Replayed). Some x.loan) same }
+
+    at : (o : Option Ledger) → ledger_at loan i ≡ o → where_found (option_map (λ (l : Ledger). l.loan) o) (λ found. if_disbursed (option_map replayed (account_of i.catalogue o))) ≡ Ok a → IsAccountOf loan a.loan i
+    at None e h = absurd (cc)
+    at (Some l) e h = running l (account_in i.catalogue l) refl e h
+
+-- what is entered into its account
+abbrev entering : Account → (Running → Entry) → Institution → Outcome
+entering loan make i = in_ledger loan (λ k l. enter make k (account_in k l)) i
+
+pub entering_found : (loan : Account) (make : Running → Entry) (a : Running) (i : Institution) → IsAccountOf loan a i → entering loan make i ≡ of_office loan.office (of_loan loan (rows_at loan.office i) (unless_fault (refusal_of a (make a) i.catalogue.day) (make a)))
+entering_found loan make a i f =
+    ap (λ (o : Option Ledger). of_office loan.office (where_found o (λ l. of_loan loan (rows_at loan.office i) (enter make i.catalogue (account_in i.catalogue l))))) f.ledger_is
+    ∙ ap (λ (o : Option Running). of_office loan.office (of_loan loan (rows_at loan.office i) (enter make i.catalogue o))) f.account_is
+
+-- the loan isn't there, or not disbursed
+pub entering_missing : (loan : Account) (make : Running → Entry) (fault : Fault) (i : Institution) → account_there loan i ≡ Err fault → entering loan make i ≡ Err fault
+entering_missing loan make fault i h = at (ledger_at loan i) h
+  where
+    running : (o : Option Running) → if_disbursed (option_map replayed o) ≡ Err fault → of_office loan.office (of_loan loan (rows_at loan.office i) (enter make i.catalogue o)) ≡ Err fault
+    running None h = cc
+    running (Some a) h = absurd (cc)
+
+    at : (o : Option Ledger) → where_found (option_map (λ (l : Ledger). l.loan) o) (λ found. if_disbursed (option_map replayed (account_of i.catalogue o))) ≡ Err fault → of_office loan.office (where_found o (λ l. of_loan loan (rows_at loan.office i) (enter make i.catalogue (account_in i.catalogue l)))) ≡ Err fault
+    at None h = cc
+    at (Some l) h = running (account_in i.catalogue l) h
+
+-- its account refuses the entry
+pub entering_refused : (loan : Account) (make : Running → Entry) (a : Replayed) (today : ℕ) (fault : Fault) (i : Institution) → account_there loan i ≡ Ok a → today ≡ i.catalogue.day → refusal_of a.loan (make a.loan) today ≡ Some fault → entering loan make i ≡ Err fault
+entering_refused loan make a today fault i h day refused =
+    entering_found loan make a.loan i (is_account_of loan a i h)
+    ∙ ap (λ (o : Option Fault). of_office loan.office (of_loan loan (rows_at loan.office i) (unless_fault o (make a.loan)))) (ap (refusal_of a.loan (make a.loan)) (sym day) ∙ refused)
+
+-- an account with one entry more is committed as that entry
+commit_is : (loan : Account) (a : Running) (e : Entry) (i : Institution) → IsAccountOf loan a i → loan_changed loan.number (entered e) (rows_at loan.office i) ≡ loan_entered loan.number (a.entries ++ e ∷ []) (rows_at loan.office i)
+commit_is loan a e i f =
+    let same : a.entries ≡ f.ledger.entries = ap (λ (x : Running). x.entries) (sym (account_is i.catalogue f.ledger a f.account_is).account_is) in
+    ap (λ (ls : List Ledger). record (rows_at loan.office i) { loans = ls })
+    (with_same_at loan.number (entered e) (with_entries (a.entries ++ e ∷ [])) (rows_at loan.office i).loans f.ledger f.ledger_is (ap (λ es. with_entries (es ++ e ∷ []) f.ledger) (sym same)))
+
+-- its account takes the entry
+pub entering_accepted : (loan : Account) (make : Running → Entry) (a new : Replayed) (today : ℕ) (i : Institution) → account_there loan i ≡ Ok a → today ≡ i.catalogue.day → refusal_of a.loan (make a.loan) today ≡ None → new.loan.entries ≡ a.loan.entries ++ make a.loan ∷ []
+    → entering loan make i ≡ decision_outcome (record { reply = reply.Loan loan (Entered (make a.loan).seq); commit = Some (Enter loan new) }) i
+entering_accepted loan make a new today i h day accepted entries =
+    let f = is_account_of loan a i h in
+    let e = make a.loan in
+    entering_found loan make a.loan i f
+    ∙ ap (λ (o : Option Fault). of_office loan.office (of_loan loan (rows_at loan.office i) (unless_fault o e))) (ap (refusal_of a.loan e) (sym day) ∙ accepted)
+    ∙ ap (λ (rows : Rows). Ok (reply.Loan loan (Entered e.seq), Some (Rows_become loan.office rows))) (commit_is loan a.loan e i f ∙ ap (λ es. loan_entered loan.number es (rows_at loan.office i)) (sym entries))
+
+-- a repayment whose receipt is known, or not
+abbrev pub when_used : ℕ → Repayment → Option ReceiptUse → Result (LoanReply × Option LedgerChange) Fault → Result (LoanReply × Option LedgerChange) Fault
+when_used n asked None next = next
+when_used n asked (Some used) next = repeat_of (repeated n asked.amount asked.day used)
+
+known_is : (n : ℕ) (asked : Repayment) (o : Option Use) (r : Option ReceiptUse) (next : Result (LoanReply × Option LedgerChange) Fault) → option_map (λ (u : Use). u.by) o ≡ r → unless_known n asked o next ≡ when_used n asked r next
+known_is n asked None r next h = ap (λ x. when_used n asked x next) h
+known_is n asked (Some u) r next h = ap (λ x. when_used n asked x next) h
+
+named_is : (x : ℕ) (receipt : Option (List ℕ)) (r : Option ReceiptUse) (i : Institution) → use_named x receipt i ≡ Ok r → option_map (λ (u : Use). u.by) (used_before receipt (uses_from 1 (rows_at x i).loans)) ≡ r
+named_is x None r i h = cc
+named_is x (Some receipt) r i h = cc
+
+pub repay_is : (c : Caller) (loan : Account) (asked : Repayment) (r : Option ReceiptUse) (i : Institution) → use_named loan.office asked.receipt i ≡ Ok r → loan_outcome loan (Repay asked) c i ≡ in_ledger loan (λ k l. when_used loan.number asked r (enter (repayment asked c) k (account_in k l))) i
+repay_is c loan asked r i h = at (numbered (rows_at loan.office i).loans loan.number)
+  where
+    at : (o : Option Ledger) → of_office loan.office (where_found o (λ l. of_loan loan (rows_at loan.office i) (on_loan (Repay asked) c i.catalogue (rows_at loan.office i) loan.number l)))
+        ≡ of_office loan.office (where_found o (λ l. of_loan loan (rows_at loan.office i) (when_used loan.number asked r (enter (repayment asked c) i.catalogue (account_in i.catalogue l)))))
+    at None = refl
+    at (Some l) = ap (λ x. of_office loan.office (of_loan loan (rows_at loan.office i) x)) (known_is loan.number asked (used_before asked.receipt (uses_from 1 (rows_at loan.office i).loans)) r (enter (repayment asked c) i.catalogue (account_in i.catalogue l)) (named_is loan.office asked.receipt r i h))
+
+-- no account refuses with F19
+pub never_unfit : (a : Running) (e : Entry) (today : ℕ) → refusal_of a e today ≡ Some F19 → ⊥
+never_unfit a e today h =
+    one_of (is_sealed a.entries) _ _ (λ h. cc)
+    (one_of (not (admits e.kind (status_of_loan a))) _ _ (λ h. cc)
+    (one_of (is_out_of_order e.kind a.day today e.day) _ _ (λ h. cc)
+    (one_of (is_forbidden e.kind (is_some a.terms.overdue) (state_of_loan a).rows a.entries e today) _ _ (λ h. cc)
+    (one_of (is_out_of_limits e.kind e.amount) _ _ (λ h. cc)
+    (one_of (nat_le 9999 (length a.entries)) _ _ (λ h. cc) (λ h. cc)))))) h
+  where
+    one_of : (b : Bool) (x y : Option Fault) → (x ≡ Some F19 → ⊥) → (y ≡ Some F19 → ⊥) → cond b x y ≡ Some F19 → ⊥
+    one_of true x y p q h = p h
+    one_of false x y p q h = q h
+
+module _ {S : Type 0} (stands : S → Institution → Type 0) (clean : S → Type 0) (leaves : S → List Institution → Type 0) where
+  pub learns_value : {R : Type 0} (value : Institution → R) (old new : S) (r : R) → Reads stands clean leaves value old new (Ok r) → Learns stands clean leaves (λ i. r ≡ value i) old new
+  learns_value value old new r read = record { premise = read.premise; same = read.same; holds = read.value_is; stop = read.stop }
+
+  -- what is decided after some readings
+  pub learned_tells : (Holds : Institution → Type 0) (told : Institution → Outcome) (old new : S) (d : Decision) → Learns stands clean leaves Holds old new → ((i : Institution) → Holds i → told i ≡ decision_outcome d i) → Decides stands clean leaves told old new (Ok d)
+  learned_tells Holds told old new d l leads = record {
+    premise = l.premise;
+    same = l.same;
+    decides = λ k i s. leads i (l.holds k i s);
+    refuses = λ k i s. tt;
+    stop = l.stop;
+  }
+
+  -- what is told of a loan that was found, with its account
+  pub told_of_found : (loan : Account) (found : Loan) (r : Option Replayed) (act : Catalogue → Ledger → Result (LoanReply × Option LedgerChange) Fault) (old mid new : S) (d : Decision) → Asks stands clean leaves (loan_there loan) old mid (Ok found) → Reads stands clean leaves (account_at loan) mid new (Ok r)
+      → ((i : Institution) (l : Ledger) → l.loan ≡ found → account_in i.catalogue l ≡ of_replayed r → of_office loan.office (of_loan loan (rows_at loan.office i) (act i.catalogue l)) ≡ decision_outcome d i)
+      → Decides stands clean leaves (in_ledger loan act) old new (Ok d)
+  told_of_found loan found r act old mid new d ask read leads =
+      learned_tells (λ i. (loan_there loan i ≡ Ok found) × (r ≡ account_at loan i)) (in_ledger loan act) old new d
+      (learns_both stands clean leaves (λ i. loan_there loan i ≡ Ok found) (λ i. r ≡ account_at loan i) old mid new
+      (learns stands clean leaves (loan_there loan) old mid found ask) (learns_value (account_at loan) mid new r read))
+      (λ i h. let f = is_found loan found i h.0 in in_found loan found act i f ∙ leads i f.ledger f.loan_is (account_found loan found r i f h.1))
+
+  -- what is entered into the account of a loan
+  abbrev Known : Account → Replayed → ℕ → Institution → Type 0
+  Known loan a today i = (account_there loan i ≡ Ok a) × (today ≡ i.catalogue.day)
+
+  known : (loan : Account) (a : Replayed) (today : ℕ) (old mid new : S) → Asks stands clean leaves (account_there loan) old mid (Ok a) → Reads stands clean leaves (λ i. i.catalogue.day) mid new (Ok today) → Learns stands clean leaves (Known loan a today) old new
+  known loan a today old mid new ask read =
+      learns_both stands clean leaves (λ i. account_there loan i ≡ Ok a) (λ i. today ≡ i.catalogue.day) old mid new
+      (learns stands clean leaves (account_there loan) old mid a ask) (learns_value (λ i. i.catalogue.day) mid new today read)
+
+  pub then_entered : (loan : Account) (make : Running → Entry) (a after : Replayed) (today : ℕ) (old mid new : S) → Asks stands clean leaves (account_there loan) old mid (Ok a) → Reads stands clean leaves (λ i. i.catalogue.day) mid new (Ok today)
+      → refusal_of a.loan (make a.loan) today ≡ None → after.loan.entries ≡ a.loan.entries ++ make a.loan ∷ []
+      → Decides stands clean leaves (in_ledger loan (λ k l. enter make k (account_in k l))) old new (Ok (record { reply = reply.Loan loan (Entered (make a.loan).seq); commit = Some (Enter loan after) }))
+  then_entered loan make a after today old mid new ask read accepted entries =
+      learned_tells (Known loan a today) (entering loan make) old new _ (known loan a today old mid new ask read) (λ i h. entering_accepted loan make a after today i h.0 h.1 accepted entries)
+
+  pub then_refused : (loan : Account) (make : Running → Entry) (a : Replayed) (today : ℕ) (fault : Fault) (old mid new : S) → Asks stands clean leaves (account_there loan) old mid (Ok a) → Reads stands clean leaves (λ i. i.catalogue.day) mid new (Ok today)
+      → (fault ≡ F20) ⊎ (refusal_of a.loan (make a.loan) today ≡ Some fault)
+      → Decides stands clean leaves (in_ledger loan (λ k l. enter make k (account_in k l))) old new (Err fault)
+  then_refused loan make a today fault old mid new ask read refused =
+      learned_refuses stands clean leaves (Known loan a today) (entering loan make) old new fault (known loan a today old mid new ask read)
+      (λ i h. elim refused [ inl given_up ↦ inl given_up | inr is ↦ inr (entering_refused loan make a today fault i h.0 h.1 is) ])
