@@ -1,3 +1,4 @@
+pub mod AccountTexts
 pub mod Catalogue
 pub mod Json
 pub mod LoanTexts

@@ -13,7 +13,7 @@ use Rattle.mf_wire_replies.specs.declared.showing.Body.{Body}
 use Rattle.mf_wire_replies.specs.declared.showing.Body.TheVariants.{Value, Text}
 use Rattle.mf_wire_replies.specs.Catalogue.{charge_data, product_data}
 use Rattle.mf_wire_replies.specs.Json.{whole, whole_or_null}
-use Rattle.mf_wire_replies.specs.LoanTexts.{account_data, told_data, lines_data}
+use Rattle.mf_wire_replies.specs.LoanTexts.{account_data, told_data, told_status, lines_data}
 use Rattle.mf_wire_lines.specs.Replies.{reply_line, fault_line}
 
 -- an office as GET /offices lists it
@@ -53,7 +53,7 @@ reply_status (ProductMade product) = 201
 reply_status (ProductShown product) = 200
 reply_status (ProductRetired product) = 200
 reply_status (LoanMade loan) = 201
-reply_status (Loan loan told) = 200
+reply_status (Loan loan told) = told_status told
 reply_status (LoansShown lines) = 200
 
 -- the body of a success: compact JSON

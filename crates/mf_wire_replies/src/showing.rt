@@ -6,12 +6,13 @@ ghost use Rattle.mf_model.specs.declared.reply.Reply.TheVariants.{OfficeMade, Of
 ghost use Rattle.mf_wire_lines.specs.Replies.{reply_line};
 ghost use Rattle.mf_wire_replies.specs.Shown.{IsBodyOf, office_data, reply_data, reply_status, reply_body};
 
+mod account;
 mod catalogue;
 mod loans;
 mod members;
 
 use catalogue::{charge_made, charge_shown, day_value, product_shown, product_value};
-use loans::{loan_made, loan_text, loans_shown};
+use loans::{loan_made, loan_told, loans_shown, told_status};
 use mf_base::Fault;
 use mf_model::Reply;
 use mf_office::{Account, Caller, Name, Office, OfficeNo};
@@ -106,7 +107,7 @@ fn reply_body(alloc: Global, reply: &Reply) -> Result<Body, Fault>
         }
         Reply::ProductShown(product) => Ok(Body::Value(product_shown(alloc, product)?)),
         Reply::LoanMade(loan) => Ok(Body::Value(loan_made(alloc, *loan)?)),
-        Reply::Loan { loan, told } => Ok(Body::Text(loan_text(alloc, *loan, told)?)),
+        Reply::Loan { loan, told } => loan_told(alloc, *loan, told),
         Reply::LoansShown(lines) => Ok(Body::Value(loans_shown(alloc, lines.as_slice())?)),
     }
 }
@@ -152,8 +153,8 @@ pub fn status(reply: &Reply) -> u16
         | Reply::ChargeShown(_)
         | Reply::ProductShown(_)
         | Reply::ProductRetired(_)
-        | Reply::Loan { .. }
         | Reply::LoansShown(_) => 200,
+        Reply::Loan { told, .. } => told_status(told),
     }
 }
 

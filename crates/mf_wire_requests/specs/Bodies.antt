@@ -1,5 +1,5 @@
 -- What a body says, as JSON.
-use Rattle.std.specs.Prelude.{◌≡◌, ◌⊎◌, ℕ, ◌+◌, Bool, ◌&&◌, cond, List, length, nat_le, Option, Some, None, is_some, option_map, option_and_then, Result, MatchResult}
+use Rattle.std.specs.Prelude.{◌≡◌, ◌⊎◌, ℕ, ◌+◌, Bool, true, ◌&&◌, cond, List, length, nat_le, Option, Some, None, is_some, option_map, option_and_then, Result, MatchResult}
 use Rattle.std.specs.List.{list_all, find, range_with_len}
 use Rattle.std.specs.Str.{is_utf8, chars, bytes_eq}
 use Rattle.serde_json.specs.Data.{Data}
@@ -12,6 +12,7 @@ use Rattle.mf_office.specs.Numbers.{number_up_to}
 use Rattle.mf_office.specs.Texts.{account_of}
 use Rattle.mf_office.specs.declared.account.Account.{Account}
 use Rattle.mf_model.specs.Sound.{is_plain}
+use Rattle.mf_model.specs.Receipts.{is_printable}
 
 -- the JSON whose text the bytes are
 abbrev pub json_of : List ℕ → Option Data
@@ -53,6 +54,19 @@ optional_number greatest (Some d) = cond (is_some (as_null d)) (Some None) (opti
 -- a member that may be absent or null, and else is a whole number up to a greatest
 abbrev pub optional_number_at : ℕ → List ℕ → Data → Option (Option ℕ)
 optional_number_at greatest name d = optional_number greatest (get name d)
+
+-- a receipt has 1 to 40 printable characters of ASCII, no space among them
+abbrev pub is_receipt : List ℕ → Bool
+is_receipt text = nat_le 1 (length text) && nat_le (length text) 40 && list_all is_printable text
+
+-- no receipt where there is none or where it is null, and else the text of one
+abbrev pub optional_receipt : Option Data → Option (Option (List ℕ))
+optional_receipt None = Some None
+optional_receipt (Some d) = cond (is_some (as_null d)) (Some None) (option_map (λ text. Some text) (option_and_then (λ text. cond (is_receipt text) (Some text) None) (as_str d)))
+
+-- a member that may be absent or null, and else is a receipt
+abbrev pub optional_receipt_at : List ℕ → Data → Option (Option (List ℕ))
+optional_receipt_at name d = optional_receipt (get name d)
 
 -- a member that is an account's text
 abbrev pub account_at : List ℕ → Data → Option Account

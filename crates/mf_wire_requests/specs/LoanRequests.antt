@@ -1,12 +1,17 @@
 -- What requests on loans ask.
-use Rattle.std.specs.Prelude.{codes, Option, option_map, option_and_then}
+use Rattle.std.specs.Prelude.{ℕ, List, codes, cond, Option, Some, None, option_map, option_and_then}
 use Rattle.serde_json.specs.Data.{Data}
 use Rattle.mf_catalog.specs.Limits.{greatest_amount, most_periods}
 use Rattle.mf_model.specs.declared.request.OfficeRequest.TheVariants.{SubmitLoan, ListLoans}
+use Rattle.mf_model.specs.declared.request.LoanRequest.{LoanRequest}
+use Rattle.mf_model.specs.declared.request.LoanRequest.TheVariants.{Show, ShowInstalments, ShowEntries, Take, Repay}
+use Rattle.mf_model.specs.declared.request.LoanStep.TheVariants.{Approve, Reject, Withdraw, UndoApproval, Disburse}
 use Rattle.mf_model.specs.declared.request.Request.{Request}
-use Rattle.mf_model.specs.declared.request.Request.TheVariants.{Office}
-use Rattle.mf_wire_requests.specs.Bodies.{within, number_at, account_at}
-use Rattle.mf_wire_requests.specs.PathParts.{PathParts, number_in}
+use Rattle.mf_model.specs.declared.request.Request.TheVariants.{Office, Loan}
+use Rattle.mf_wire_requests.specs.declared.routes.LoanEndpoint.{LoanEndpoint}
+use Rattle.mf_wire_requests.specs.declared.routes.LoanEndpoint.TheVariants as endpoint
+use Rattle.mf_wire_requests.specs.Bodies.{json_of, within, number_at, account_at, day_at, optional_receipt_at}
+use Rattle.mf_wire_requests.specs.PathParts.{PathParts, number_in, account_in}
 
 -- a new loan, by the members client, product, principal and periods
 abbrev pub new_loan : Data → Option Request
@@ -25,3 +30,32 @@ loans_at parts =
     option_and_then (λ office.
     option_map (λ after. Office office (ListLoans after)) (option_and_then (within 0 999999) (number_in (codes "after") parts)))
     (number_in (codes "office") parts)
+
+-- a disbursement, by the member day
+abbrev pub disbursement : Data → Option LoanRequest
+disbursement d = option_map (λ day. Take (Disburse day)) (day_at (codes "day") d)
+
+-- a repayment, by the members amount, day and receipt
+abbrev pub repayment : Data → Option LoanRequest
+repayment d =
+    option_and_then (λ amount.
+    option_and_then (λ day.
+    option_map (λ receipt. Repay (record { amount = amount; day = day; receipt = receipt })) (optional_receipt_at (codes "receipt") d))
+    (day_at (codes "day") d))
+    (number_at 1 greatest_amount (codes "amount") d)
+
+-- what is asked of a loan, by the members of the body where it has some
+abbrev pub loan_request : LoanEndpoint → List ℕ → Option LoanRequest
+loan_request endpoint.Show body = Some Show
+loan_request endpoint.ShowInstalments body = Some ShowInstalments
+loan_request endpoint.ShowEntries body = Some ShowEntries
+loan_request endpoint.Approve body = Some (Take Approve)
+loan_request endpoint.Reject body = Some (Take Reject)
+loan_request endpoint.Withdraw body = Some (Take Withdraw)
+loan_request endpoint.UndoApproval body = Some (Take UndoApproval)
+loan_request endpoint.Disburse body = option_and_then disbursement (json_of body)
+loan_request endpoint.Repay body = option_and_then repayment (json_of body)
+
+-- what is asked of the loan that a path names
+abbrev pub loan_at : LoanEndpoint → PathParts → List ℕ → Option Request
+loan_at endpoint parts body = option_and_then (λ loan. option_map (λ asked. Loan loan asked) (loan_request endpoint body)) (account_in (codes "loan") parts)

@@ -3,27 +3,25 @@ use Rattle.std.specs.Prelude.{ℕ, ◌&&◌, cond, List, codes, is_some, nat_le,
 use Rattle.std.specs.Str.{bytes_eq}
 use Rattle.mf_office.specs.Texts.{caller_of}
 use Rattle.mf_model.specs.declared.request.CatalogueRequest.TheVariants as catalogue
-use Rattle.mf_model.specs.declared.request.LoanRequest.{LoanRequest}
-use Rattle.mf_model.specs.declared.request.LoanRequest.TheVariants.{Show, Take}
 use Rattle.mf_model.specs.declared.request.Flaw.TheVariants.{Malformed, NoRoute, NoMethod}
 use Rattle.mf_model.specs.declared.request.Request.{Request}
-use Rattle.mf_model.specs.declared.request.Request.TheVariants.{Unreadable, Catalogue, Loan, SeenOffices}
+use Rattle.mf_model.specs.declared.request.Request.TheVariants.{Unreadable, Catalogue, SeenOffices}
 use Rattle.mf_model.specs.declared.request.Call.{Call}
 use Rattle.mf_wire_requests.specs.declared.routes.Endpoint.{Endpoint}
-use Rattle.mf_wire_requests.specs.declared.routes.Endpoint.TheVariants.{ShowDay, SetDay, AddCharge, ShowCharge, AddProduct, ShowProduct, RetireProduct, ListOffices, AddOffice, AddStaff, AddClient, ShowClient, SubmitLoan, ListLoans, ShowLoan, TakeStep}
+use Rattle.mf_wire_requests.specs.declared.routes.Endpoint.TheVariants.{ShowDay, SetDay, AddCharge, ShowCharge, AddProduct, ShowProduct, RetireProduct, ListOffices, AddOffice, AddStaff, AddClient, ShowClient, SubmitLoan, ListLoans, OnLoan}
 use Rattle.mf_wire_requests.specs.declared.routes.Methods.{Methods}
 use Rattle.mf_wire_requests.specs.declared.routes.Methods.TheVariants.{Get, Post, GetAndPost, GetAndPut}
 use Rattle.mf_wire_requests.specs.declared.request.Method.{Method}
 use Rattle.mf_wire_requests.specs.declared.request.Method.TheVariants as method
 use Rattle.mf_wire_requests.specs.RequestLine.{Parts, parts_of, split_space, is_token}
-use Rattle.mf_wire_requests.specs.PathParts.{PathParts, number_in, account_in}
+use Rattle.mf_wire_requests.specs.PathParts.{PathParts, number_in}
 use Rattle.matchit.specs.Router.{RouteOf}
 use Rattle.mf_wire_requests.specs.Routes.{route_at, parts_on}
 use Rattle.mf_wire_requests.specs.Bodies.{json_of}
 use Rattle.mf_wire_requests.specs.OfficeRequests.{new_office, new_staff, new_client, client_at}
 use Rattle.mf_wire_requests.specs.CatalogueRequests.{later_day, new_charge}
 use Rattle.mf_wire_requests.specs.ProductRequests.{new_product}
-use Rattle.mf_wire_requests.specs.LoanRequests.{new_loan, loans_at}
+use Rattle.mf_wire_requests.specs.LoanRequests.{new_loan, loans_at, loan_at}
 
 -- a method by its text, which is in capitals
 abbrev pub method_of : List ℕ → Method
@@ -38,10 +36,6 @@ endpoint_of (GetAndPost get post) method.Post = Some post
 endpoint_of (GetAndPut get put) method.Get = Some get
 endpoint_of (GetAndPut get put) method.Put = Some put
 endpoint_of _ _ = None
-
--- what is asked of the loan that a path names
-abbrev pub loan_at : LoanRequest → PathParts → Option Request
-loan_at asked parts = option_map (λ loan. Loan loan asked) (account_in (codes "loan") parts)
 
 -- what an endpoint asks, by the parameters of the path and the members of the body
 abbrev pub request_at : Endpoint → PathParts → List ℕ → Option Request
@@ -59,8 +53,7 @@ request_at AddClient parts body = option_and_then new_client (json_of body)
 request_at ShowClient parts body = client_at parts
 request_at SubmitLoan parts body = option_and_then new_loan (json_of body)
 request_at ListLoans parts body = loans_at parts
-request_at ShowLoan parts body = loan_at Show parts
-request_at (TakeStep step) parts body = loan_at (Take step) parts
+request_at (OnLoan endpoint) parts body = loan_at endpoint parts body
 
 abbrev pub or_malformed : Option Request → Request
 or_malformed None = Unreadable Malformed

@@ -12,8 +12,8 @@ use Rattle.matchit.specs.Router.{RouteOf, route_from, nearest}
 use Rattle.matchit.specs.Seek.{first}
 use Rattle.matchit.specs.declared.error.InsertError.{InsertError}
 use Rattle.matchit.specs.declared.router.Match.{Match}
-use Rattle.mf_model.specs.declared.request.LoanStep.TheVariants.{Approve, Reject, Withdraw, UndoApproval}
-use Rattle.mf_wire_requests.specs.declared.routes.Endpoint.TheVariants.{ShowDay, SetDay, AddCharge, ShowCharge, AddProduct, ShowProduct, RetireProduct, ListOffices, AddOffice, AddStaff, AddClient, ShowClient, SubmitLoan, ListLoans, ShowLoan, TakeStep}
+use Rattle.mf_wire_requests.specs.declared.routes.Endpoint.TheVariants.{ShowDay, SetDay, AddCharge, ShowCharge, AddProduct, ShowProduct, RetireProduct, ListOffices, AddOffice, AddStaff, AddClient, ShowClient, SubmitLoan, ListLoans, OnLoan}
+use Rattle.mf_wire_requests.specs.declared.routes.LoanEndpoint.TheVariants.{Show, ShowInstalments, ShowEntries, Approve, Reject, Withdraw, UndoApproval, Disburse, Repay}
 use Rattle.mf_wire_requests.specs.declared.routes.Methods.{Methods}
 use Rattle.mf_wire_requests.specs.declared.routes.Methods.TheVariants.{Get, Post, GetAndPost, GetAndPut}
 use Rattle.mf_wire_requests.specs.PathParts.{PathParts}
@@ -57,11 +57,15 @@ desk_table =
     ∷ (codes "/clients", Post AddClient)
     ∷ (codes "/clients/{client}", Get ShowClient)
     ∷ (codes "/loans", Post SubmitLoan)
-    ∷ (codes "/loans/{loan}", Get ShowLoan)
-    ∷ (codes "/loans/{loan}/approve", Post (TakeStep Approve))
-    ∷ (codes "/loans/{loan}/reject", Post (TakeStep Reject))
-    ∷ (codes "/loans/{loan}/withdraw", Post (TakeStep Withdraw))
-    ∷ (codes "/loans/{loan}/undo-approval", Post (TakeStep UndoApproval))
+    ∷ (codes "/loans/{loan}", Get (OnLoan Show))
+    ∷ (codes "/loans/{loan}/schedule", Get (OnLoan ShowInstalments))
+    ∷ (codes "/loans/{loan}/entries", Get (OnLoan ShowEntries))
+    ∷ (codes "/loans/{loan}/approve", Post (OnLoan Approve))
+    ∷ (codes "/loans/{loan}/reject", Post (OnLoan Reject))
+    ∷ (codes "/loans/{loan}/withdraw", Post (OnLoan Withdraw))
+    ∷ (codes "/loans/{loan}/undo-approval", Post (OnLoan UndoApproval))
+    ∷ (codes "/loans/{loan}/disburse", Post (OnLoan Disburse))
+    ∷ (codes "/loans/{loan}/repayments", Post (OnLoan Repay))
     ∷ (codes "/offices/{office}/loans/{after}", Get ListLoans)
     ∷ []
 

@@ -19,7 +19,7 @@ mod products;
 use crate::routes::{Endpoint, Methods, Routes};
 use matchit::Params;
 use mf_base::Fault;
-use mf_model::{CatalogueRequest, Flaw, LoanRequest, Request};
+use mf_model::{CatalogueRequest, Flaw, Request};
 use std::alloc::Global;
 
 /// The methods that some route has. Other tokens are the method of no route.
@@ -90,8 +90,7 @@ fn request_at(
         Endpoint::ShowClient => offices::show_client(params),
         Endpoint::SubmitLoan => loans::new_loan(alloc, body),
         Endpoint::ListLoans => loans::list_loans(params),
-        Endpoint::ShowLoan => loans::on_loan(params, LoanRequest::Show),
-        Endpoint::TakeStep(step) => loans::on_loan(params, LoanRequest::Take(step)),
+        Endpoint::OnLoan(endpoint) => loans::on_loan(alloc, endpoint, params, body),
     }
 }
 

@@ -4,8 +4,21 @@ ghost use Rattle.matchit.specs.declared.error.InsertError.TheVariants.{OutOfMemo
 ghost use Rattle.mf_wire_requests.specs.Routes.{with_route, takes_route, takes_table, routes_of, desk_routes, matched_route, route_at};
 
 use matchit::{InsertError, Match, Router};
-use mf_model::LoanStep;
 use std::alloc::Global;
+
+/// What a method of a path asks of the loan that the path names.
+#[derive(Clone, Copy, PartialEq, Eq, Debug)]
+pub enum LoanEndpoint {
+    Show,
+    ShowInstalments,
+    ShowEntries,
+    Approve,
+    Reject,
+    Withdraw,
+    UndoApproval,
+    Disburse,
+    Repay,
+}
 
 /// What a method of a path asks.
 #[derive(Clone, Copy, PartialEq, Eq, Debug)]
@@ -24,8 +37,7 @@ pub enum Endpoint {
     ShowClient,
     SubmitLoan,
     ListLoans,
-    ShowLoan,
-    TakeStep(LoanStep),
+    OnLoan(LoanEndpoint),
 }
 
 /// The methods of a path, each with what it asks.
@@ -38,7 +50,7 @@ pub enum Methods {
 }
 
 /// The paths, as `matchit` writes them, with their methods.
-pub const ROUTES: [(&str, Methods); 17] = [
+pub const ROUTES: [(&str, Methods); 21] = [
     (
         "/offices",
         Methods::GetAndPost(Endpoint::ListOffices, Endpoint::AddOffice),
@@ -59,22 +71,41 @@ pub const ROUTES: [(&str, Methods); 17] = [
     ("/clients", Methods::Post(Endpoint::AddClient)),
     ("/clients/{client}", Methods::Get(Endpoint::ShowClient)),
     ("/loans", Methods::Post(Endpoint::SubmitLoan)),
-    ("/loans/{loan}", Methods::Get(Endpoint::ShowLoan)),
+    (
+        "/loans/{loan}",
+        Methods::Get(Endpoint::OnLoan(LoanEndpoint::Show)),
+    ),
+    (
+        "/loans/{loan}/schedule",
+        Methods::Get(Endpoint::OnLoan(LoanEndpoint::ShowInstalments)),
+    ),
+    (
+        "/loans/{loan}/entries",
+        Methods::Get(Endpoint::OnLoan(LoanEndpoint::ShowEntries)),
+    ),
     (
         "/loans/{loan}/approve",
-        Methods::Post(Endpoint::TakeStep(LoanStep::Approve)),
+        Methods::Post(Endpoint::OnLoan(LoanEndpoint::Approve)),
     ),
     (
         "/loans/{loan}/reject",
-        Methods::Post(Endpoint::TakeStep(LoanStep::Reject)),
+        Methods::Post(Endpoint::OnLoan(LoanEndpoint::Reject)),
     ),
     (
         "/loans/{loan}/withdraw",
-        Methods::Post(Endpoint::TakeStep(LoanStep::Withdraw)),
+        Methods::Post(Endpoint::OnLoan(LoanEndpoint::Withdraw)),
     ),
     (
         "/loans/{loan}/undo-approval",
-        Methods::Post(Endpoint::TakeStep(LoanStep::UndoApproval)),
+        Methods::Post(Endpoint::OnLoan(LoanEndpoint::UndoApproval)),
+    ),
+    (
+        "/loans/{loan}/disburse",
+        Methods::Post(Endpoint::OnLoan(LoanEndpoint::Disburse)),
+    ),
+    (
+        "/loans/{loan}/repayments",
+        Methods::Post(Endpoint::OnLoan(LoanEndpoint::Repay)),
     ),
     (
         "/offices/{office}/loans/{after}",

@@ -3,23 +3,13 @@ ghost use Rattle.std.specs.Prelude.{◌≡◌, IfOk, IfErr};
 ghost use Rattle.serde_json.specs.View.{view, members_view};
 ghost use Rattle.mf_model.specs.declared.reply.Reply.TheVariants.{DayShown, ChargeMade, ProductMade};
 ghost use Rattle.mf_wire_replies.specs.Shown.{reply_data};
-ghost use Rattle.mf_wire_replies.specs.Json.{whole_or_null as whole_or_null_of};
 ghost use Rattle.mf_wire_replies.specs.Catalogue.{charge_data, product_end as product_end_of, product_rest as product_rest_of, product_data};
 
-use super::members::{put_text, put_value, put_whole};
+use super::members::{put_text, put_value, put_whole, whole_or_null};
 use mf_base::{Choice, Day, Fault};
 use mf_catalog::{ChargeDef, Product};
 use serde_json::{Map, Value, json};
 use std::alloc::{AllocError, Global};
-
-fn whole_or_null(alloc: Global, number: Option<u32>) -> Result<Value, AllocError>
-    ensures { IfOk result (λ v. view v ≡ whole_or_null_of number) }
-{
-    match number {
-        Some(number) => json!(in alloc; number),
-        None => Ok(Value::Null),
-    }
-}
 
 /// The business day, shown or set.
 pub fn day_value(alloc: Global, day: Day) -> Result<Value, Fault>

@@ -3,12 +3,15 @@ ghost use Rattle.std.specs.Prelude.{◌≡◌, ℕ, List, true, IfOk, IfErr, map
 ghost use Rattle.json.specs.Print.{quoted};
 ghost use Rattle.serde_json.specs.View.{view};
 ghost use Rattle.serde_json.specs.Written.{compact_text, members_text};
-ghost use Rattle.mf_model.specs.declared.reply.Reply.TheVariants.{LoanMade};
-ghost use Rattle.mf_wire_replies.specs.Shown.{reply_data};
-ghost use Rattle.mf_wire_replies.specs.LoanTexts.{loan_end as loan_end_of, loan_rest as loan_rest_of, loan_by_texts, loan_data, status_data, told_data, line_data, lines_data};
+ghost use Rattle.mf_model.specs.declared.reply.Reply.TheVariants.{LoanMade, Loan as LoanTold};
+ghost use Rattle.mf_wire_replies.specs.Shown.{reply_data, IsBodyOf};
+ghost use Rattle.mf_wire_replies.specs.LoanTexts.{loan_end as loan_end_of, loan_rest as loan_rest_of, loan_by_texts, loan_data, sums_data, day_or_null, status_data, entered_data, told_status, line_data, lines_data};
 
-use mf_base::Fault;
-use mf_model::{Loan, LoanLine, LoanReply};
+use super::Body;
+use super::account::{entries_value, instalments_value};
+use mf_alloc::Portion;
+use mf_base::{Day, Fault};
+use mf_model::{LoanLine, LoanReply, Statement};
 use mf_office::Account;
 use serde_json::{Value, json};
 use std::alloc::{AllocError, Global};
@@ -33,16 +36,6 @@ fn status_value(alloc: Global, loan: Account, status: u16) -> Result<Value, Faul
     Ok(value)
 }
 
-/// The text of a loan and its status number.
-fn status_text(alloc: Global, loan: Account, status: u16) -> Result<String, Fault>
-    ensures ok { IfOk result (λ s. string_bytes s ≡ compact_text (status_data loan status)) }
-    ensures err { IfErr result (λ f. f ≡ Fault.F20) }
-{
-    let value = status_value(alloc, loan, status)?;
-    let text = value.to_string(alloc)?;
-    Ok(text)
-}
-
 /// A text as JSON, in quotes.
 fn quoted_text(alloc: Global, text: &str) -> Result<String, AllocError>
     ensures { IfOk result (λ s. string_bytes s ≡ quoted text.now) }
@@ -51,53 +44,77 @@ fn quoted_text(alloc: Global, text: &str) -> Result<String, AllocError>
     value.to_string(alloc)
 }
 
-/// Sums by portion, of a loan that has none yet.
-const NO_SUMS: &str = r#"{"fees":0,"interest":0,"penalties":0,"principal":0}"#;
+/// Sums by portion as JSON, in whole cents.
+fn sums_text(alloc: Global, sums: &[u64; 4]) -> Result<String, AllocError>
+    ensures { IfOk result (λ s. string_bytes s ≡ compact_text (sums_data sums.now)) }
+{
+    let fees = sums[Portion::Fee.index()];
+    let interest = sums[Portion::Interest.index()];
+    let penalties = sums[Portion::Penalty.index()];
+    let principal = sums[Portion::Principal.index()];
+    format!(in alloc;
+        r#"{{"fees":{fees},"interest":{interest},"penalties":{penalties},"principal":{principal}}}"#
+    )
+}
 
 /// A loan's members from `product` on, and the closing bracket.
-fn loan_end(alloc: Global, loan: &Loan, status: u16) -> Result<String, AllocError>
-    ensures { IfOk result (λ s. string_bytes s ≡ members_text true (loan_end_of loan.now status)) }
+fn loan_end(alloc: Global, loan: &Statement) -> Result<String, AllocError>
+    ensures { IfOk result (λ s. string_bytes s ≡ members_text true (loan_end_of loan.now)) }
 {
     let product = loan.product;
+    let status = loan.status;
+    let refunded = loan.balances.refunded;
+    let waived = sums_text(alloc, &loan.balances.waived)?;
+    let written_off = sums_text(alloc, &loan.balances.written_off)?;
     format!(in alloc;
-        r#","product":{product},"refunded":0,"status":{status},"waived":{NO_SUMS},"written_off":{NO_SUMS}}}"#
+        r#","product":{product},"refunded":{refunded},"status":{status},"waived":{waived},"written_off":{written_off}}}"#
     )
 }
 
 /// A loan's members from `outstanding` on, and the closing bracket, by the text of the last of them.
-fn loan_rest(alloc: Global, loan: &Loan, status: u16) -> Result<String, AllocError>
-    ensures { IfOk result (λ s. string_bytes s ≡ members_text true (loan_rest_of loan.now status)) }
+fn loan_rest(alloc: Global, loan: &Statement) -> Result<String, AllocError>
+    ensures { IfOk result (λ s. string_bytes s ≡ members_text true (loan_rest_of loan.now)) }
 {
-    let Loan {
-        principal,
-        periods,
-        ..
-    } = loan;
-    let end = loan_end(alloc, loan, status)?;
+    let principal = loan.principal;
+    let periods = loan.periods;
+    let overpaid = loan.balances.overpaid;
+    let outstanding = sums_text(alloc, &loan.balances.outstanding)?;
+    let paid = sums_text(alloc, &loan.balances.paid)?;
+    let end = loan_end(alloc, loan)?;
     format!(in alloc;
-        r#","outstanding":{NO_SUMS},"overpaid":0,"paid":{NO_SUMS},"periods":{periods},"principal":{principal}{end}"#
+        r#","outstanding":{outstanding},"overpaid":{overpaid},"paid":{paid},"periods":{periods},"principal":{principal}{end}"#
     )
+}
+
+/// A day as JSON, in quotes, or null where there is none.
+fn day_text(alloc: Global, day: Option<Day>) -> Result<String, Fault>
+    ensures ok { IfOk result (λ s. string_bytes s ≡ compact_text (day_or_null day)) }
+    ensures err { IfErr result (λ f. f ≡ Fault.F20) }
+{
+    let text = match day {
+        Some(day) => quoted_text(alloc, day.text(alloc)?.as_str())?,
+        None => String::from_str(alloc, "null")?,
+    };
+    Ok(text)
 }
 
 /// The body of a loan whose account and whose client's are written so in JSON. It is written at once: a value of JSON would
 /// take a map for each of its five objects.
-fn loan_body(
-    alloc: Global,
-    client: &str,
-    account: &str,
-    loan: &Loan,
-    status: u16,
-) -> Result<String, AllocError>
-    ensures { IfOk result (λ s. (c a : List ℕ) → client.now ≡ quoted c → account.now ≡ quoted a → string_bytes s ≡ compact_text (loan_by_texts c a loan.now status)) }
+fn loan_body(alloc: Global, client: &str, account: &str, loan: &Statement) -> Result<String, Fault>
+    ensures ok { IfOk result (λ s. (c a : List ℕ) → client.now ≡ quoted c → account.now ≡ quoted a → string_bytes s ≡ compact_text (loan_by_texts c a loan.now)) }
+    ensures err { IfErr result (λ f. f ≡ Fault.F20) }
 {
-    let rest = loan_rest(alloc, loan, status)?;
-    format!(in alloc;
-        r#"{{"client":{client},"day":null,"disbursement_fee":0,"loan":{account}{rest}"#
-    )
+    let fee = loan.balances.disbursement_fee;
+    let day = day_text(alloc, loan.day)?;
+    let rest = loan_rest(alloc, loan)?;
+    let body = format!(in alloc;
+        r#"{{"client":{client},"day":{day},"disbursement_fee":{fee},"loan":{account}{rest}"#
+    )?;
+    Ok(body)
 }
 
-/// A loan before it is disbursed: all its sums are 0.
-fn shown_text(alloc: Global, account: Account, loan: &Loan) -> Result<String, Fault>
+/// The body of a loan as it stands.
+fn shown_text(alloc: Global, account: Account, loan: &Statement) -> Result<String, Fault>
     ensures ok { IfOk result (λ s. string_bytes s ≡ compact_text (loan_data account loan.now)) }
     ensures err { IfErr result (λ f. f ≡ Fault.F20) }
 {
@@ -110,19 +127,46 @@ fn shown_text(alloc: Global, account: Account, loan: &Loan) -> Result<String, Fa
     let client = quoted_text(alloc, client.as_str())?;
     let account = Account { office, number }.text(alloc)?;
     let account = quoted_text(alloc, account.as_str())?;
-    let status = loan.stage.status();
-    let body = loan_body(alloc, client.as_str(), account.as_str(), loan, status)?;
-    Ok(body)
+    loan_body(alloc, client.as_str(), account.as_str(), loan)
 }
 
-/// The text of what is told of a loan.
-pub fn loan_text(alloc: Global, loan: Account, told: &LoanReply) -> Result<String, Fault>
-    ensures ok { IfOk result (λ s. string_bytes s ≡ compact_text (told_data loan told.now)) }
+/// The number of a new entry.
+fn entered_value(alloc: Global, entry: u32) -> Result<Value, AllocError>
+    ensures { IfOk result (λ v. view v ≡ entered_data entry) }
+{
+    json!(in alloc; {"entry": entry})
+}
+
+/// What is told of a loan.
+pub fn loan_told(alloc: Global, loan: Account, told: &LoanReply) -> Result<Body, Fault>
+    ensures ok { IfOk result (IsBodyOf (LoanTold loan told.now)) }
     ensures err { IfErr result (λ f. f ≡ Fault.F20) }
 {
     match told {
-        LoanReply::Shown(shown) => shown_text(alloc, loan, shown),
-        LoanReply::Status(status) => status_text(alloc, loan, *status),
+        LoanReply::Shown(shown) => Ok(Body::Text(shown_text(alloc, loan, shown)?)),
+        LoanReply::Instalments(lines) => Ok(Body::Value(instalments_value(
+            alloc,
+            lines.as_slice(),
+        )?)),
+        LoanReply::Entries(lines) => Ok(Body::Value(entries_value(alloc, lines.as_slice())?)),
+        LoanReply::Status(status) => Ok(Body::Value(status_value(alloc, loan, *status)?)),
+        LoanReply::Entered(entry) | LoanReply::Repeated(entry) => {
+            Ok(Body::Value(entered_value(alloc, *entry)?))
+        }
+    }
+}
+
+/// The HTTP status of what is told of a loan.
+pub fn told_status(told: &LoanReply) -> u16
+    ensures { result ≡ told_status told.now }
+{
+    match told {
+        LoanReply::Shown(_)
+        | LoanReply::Instalments(_)
+        | LoanReply::Entries(_)
+        | LoanReply::Status(_)
+        | LoanReply::Repeated(_) => 200,
+        LoanReply::Entered(_) => 201,
     }
 }
 
