@@ -4,24 +4,16 @@
 ghost use Rattle.std.specs.Prelude.{◌≡◌, IfOk, IfErr};
 ghost use Rattle.mf_office.specs.Numbers.{IsNumberUpTo};
 
+use crate::row::Row;
+use mf_account::{LoanAccount, Receipt};
 use mf_base::{Day, Fault};
-use mf_catalog::{ChargeDef, Product, ProductMembers};
+use mf_catalog::{ChargeDef, Product, ProductMembers, Terms};
 use mf_model::{
-    CatalogueCounts, Commit, Counts, InstitutionStore, Loan, LoanLine, LoanList, OfficeList, Stage,
+    CatalogueCounts, Commit, Counts, InstitutionStore, Loan, LoanLine, LoanList, OfficeList,
+    ReceiptUse, Stage,
 };
 use mf_office::{Account, AccountNo, Caller, Name, Office, OfficeNo, Role};
 use std::alloc::Global;
-
-/// A loan, with its stage in two parts.
-#[derive(Drop)]
-struct Row {
-    client: AccountNo,
-    product: u32,
-    principal: u64,
-    periods: u32,
-    status: u16,
-    approved: Option<Day>,
-}
 
 #[derive(Drop)]
 struct Branch {
@@ -225,55 +217,74 @@ impl Books {
         let Some(found) = branch.loans.get_mut(place as usize) else {
             return;
         };
-        let (status, approved) = parts_of(stage);
-        found.status = status;
-        found.approved = approved;
+        found.set_stage(stage);
     }
-}
 
-/// A stage's status number, and the day of its approval.
-fn parts_of(stage: Stage) -> (u16, Option<Day>) {
-    let approved = match stage {
-        Stage::Approved(day) => Some(day),
-        _ => None,
-    };
-    (stage.status(), approved)
-}
-
-fn row_of(loan: Loan) -> Row {
-    let Loan {
-        client,
-        product,
-        principal,
-        periods,
-        stage,
-    } = loan;
-    let (status, approved) = parts_of(stage);
-    Row {
-        client,
-        product,
-        principal,
-        periods,
-        status,
-        approved,
+    fn enter(&mut self, loan: Account, account: LoanAccount) {
+        let at = self.place(loan.office);
+        let place = loan.number.get() - 1;
+        let Some(branch) = self.branches.get_mut(at) else {
+            return;
+        };
+        let Some(found) = branch.loans.get_mut(place as usize) else {
+            return;
+        };
+        found.enter(account);
     }
-}
 
-fn loan_of(row: &Row) -> Loan {
-    let stage = match row.approved {
-        Some(day) => Stage::Approved(day),
-        None => match row.status {
-            400 => Stage::Withdrawn,
-            500 => Stage::Rejected,
-            _ => Stage::Submitted,
-        },
-    };
-    Loan {
-        client: row.client,
-        product: row.product,
-        principal: row.principal,
-        periods: row.periods,
-        stage,
+    fn find_loan(&self, loan: Account) -> Option<&Row> {
+        let branch = self.find(loan.office)?;
+        let place = loan.number.get() - 1;
+        branch.loans.get(place as usize)
+    }
+
+    fn find_receipt(&self, office: OfficeNo, receipt: &Receipt) -> Option<ReceiptUse> {
+        let branch = self.find(office)?;
+        let mut number: u32 = 0;
+        for row in &branch.loans {
+            number = number.wrapping_add(1);
+            if let Some(loan) = AccountNo::new(number) {
+                if let Some(used) = row.receipt_use(loan, receipt) {
+                    return Some(used);
+                }
+            }
+        }
+        None
+    }
+
+    /// A copy of the charge that is named, if one is.
+    fn named(&self, number: Option<u32>) -> Result<Option<ChargeDef>, Fault>
+        ensures { IfErr result (λ fault. fault ≡ Fault.F20) }
+    {
+        let Some(number) = number else {
+            return Ok(None);
+        };
+        match self.charges.iter().find(|charge| charge.number == number) {
+            Some(charge) => Ok(Some(charge.clone()?)),
+            None => Ok(None),
+        }
+    }
+
+    /// The terms of a product; F20 where it isn't there.
+    fn terms(&self, product: u32) -> Result<Terms, Fault>
+        ensures { IfErr result (λ fault. fault ≡ Fault.F20) }
+    {
+        let Some(product) = self.products.iter().find(|other| other.number == product) else {
+            return Err(Fault::F20);
+        };
+        let members = &product.members;
+        Ok(Terms {
+            method: members.method,
+            rate: members.rate,
+            freq: members.freq,
+            every: members.every,
+            principal_grace: members.principal_grace,
+            interest_grace: members.interest_grace,
+            strategy: members.strategy,
+            disbursement: self.named(members.disbursement_charge)?,
+            instalment: self.named(members.instalment_charge)?,
+            overdue: self.named(members.overdue_charge)?,
+        })
     }
 }
 
@@ -403,14 +414,29 @@ impl InstitutionStore for Books {
 
     fn loan(&mut self, _alloc: Global, loan: Account) -> Result<Option<Loan>, Fault> {
         self.count_call()?;
-        let Some(branch) = self.find(loan.office) else {
-            return Ok(None);
-        };
-        let place = loan.number.get() - 1;
-        match branch.loans.get(place as usize) {
-            Some(row) => Ok(Some(loan_of(row))),
+        match self.find_loan(loan) {
+            Some(row) => Ok(Some(row.loan())),
             None => Ok(None),
         }
+    }
+
+    fn account(&mut self, alloc: Global, loan: Account) -> Result<Option<LoanAccount>, Fault> {
+        self.count_call()?;
+        let Some(row) = self.find_loan(loan) else {
+            return Ok(None);
+        };
+        let terms = self.terms(row.product)?;
+        row.account(alloc, terms)
+    }
+
+    fn receipt(
+        &mut self,
+        _alloc: Global,
+        office: OfficeNo,
+        receipt: &Receipt,
+    ) -> Result<Option<ReceiptUse>, Fault> {
+        self.count_call()?;
+        Ok(self.find_receipt(office, receipt))
     }
 
     fn loans(&mut self, alloc: Global, office: OfficeNo, after: u32) -> Result<LoanList, Fault> {
@@ -429,7 +455,7 @@ impl InstitutionStore for Books {
                             office,
                             number: next,
                         },
-                        status: loan.status,
+                        status: loan.status(alloc, self.terms(loan.product)?)?,
                     })?;
                 }
             }
@@ -493,9 +519,13 @@ impl InstitutionStore for Books {
                 self.retire(product);
                 Ok(())
             }
-            Commit::AddLoan { office, loan } => self.add_loan(office, row_of(loan)),
+            Commit::AddLoan { office, loan } => self.add_loan(office, Row::new(alloc, loan)),
             Commit::SetStage { loan, stage } => {
                 self.set_stage(loan, stage);
+                Ok(())
+            }
+            Commit::Enter { loan, account } => {
+                self.enter(loan, account);
                 Ok(())
             }
         }

@@ -4,6 +4,7 @@
 mod double;
 mod lines;
 mod product;
+mod row;
 pub mod streams;
 
 pub use double::{Books, name, office_no};

@@ -2,13 +2,15 @@
 
 mod requests;
 
+use mf_account::Balances;
 use mf_base::Fault;
 use mf_desk::answer;
 use mf_desk_books::Books;
-use mf_model::LoanStep::*;
-use mf_model::{Flaw, LoanList, LoanReply, Reply};
+use mf_model::{Flaw, LoanList, LoanReply, Reply, Statement};
 use mf_office::{Account, Caller, Office, Role};
+use mf_statement::{EntryLine, EntryList, InstalmentList};
 use requests::Asked::{self, *};
+use requests::Step::*;
 use requests::{day, request};
 use std::alloc::Global;
 use std::process::Abort;
@@ -42,6 +44,80 @@ fn at_status(alloc: Global, loan: Account, status: u16) -> Result<String, Fault>
     Ok(format!(in alloc; "{loan} {status}")?)
 }
 
+/// Four sums in the order of `Portion`: penalties, fees, interest, principal.
+fn sums(alloc: Global, name: &str, sums: &[u64; 4]) -> Result<String, Fault> {
+    let [penalties, fees, interest, principal] = *sums;
+    Ok(format!(in alloc; " {name} {penalties} {fees} {interest} {principal}")?)
+}
+
+fn balances(alloc: Global, told: &Balances) -> Result<String, Fault> {
+    let outstanding = sums(alloc, "outstanding", &told.outstanding)?;
+    let paid = sums(alloc, "paid", &told.paid)?;
+    let overpaid = told.overpaid;
+    Ok(format!(in alloc; "{outstanding}{paid} overpaid {overpaid}")?)
+}
+
+fn statement(alloc: Global, loan: Account, told: &Statement) -> Result<String, Fault> {
+    let mut text = at_status(alloc, loan, told.status)?;
+    if let Some(day) = told.day {
+        let day = day.text(alloc)?;
+        let since = format!(in alloc; " since {day}")?;
+        text.push_str(since.as_str())?;
+    }
+    let sums = balances(alloc, &told.balances)?;
+    text.push_str(sums.as_str())?;
+    Ok(text)
+}
+
+fn instalments(alloc: Global, lines: &InstalmentList) -> Result<String, Fault> {
+    let mut text = String::from_str(alloc, "instalments")?;
+    for line in lines.as_slice() {
+        let number = line.number;
+        let due = line.due.text(alloc)?;
+        let owed = sums(alloc, "owed", &line.owed)?;
+        let outstanding = line.outstanding;
+        let line = format!(in alloc; "; {number} by {due}{owed} left {outstanding}")?;
+        text.push_str(line.as_str())?;
+    }
+    Ok(text)
+}
+
+fn entry(alloc: Global, line: &EntryLine) -> Result<String, Fault> {
+    let seq = line.entry.seq;
+    let day = line.entry.day.text(alloc)?;
+    let staff = line.entry.staff.text(alloc)?;
+    let amount = line.amount;
+    let mut text = format!(in alloc; "; {seq} of {amount} on {day} by {staff}:")?;
+    for share in line.shares.as_slice() {
+        let instalment = share.cell.instalment;
+        let portion = share.cell.portion;
+        let amount = share.amount;
+        let share = format!(in alloc; " {instalment} {portion:?} {amount}")?;
+        text.push_str(share.as_str())?;
+    }
+    Ok(text)
+}
+
+fn entries(alloc: Global, lines: &EntryList) -> Result<String, Fault> {
+    let mut text = String::from_str(alloc, "entries")?;
+    for line in lines.as_slice() {
+        let line = entry(alloc, line)?;
+        text.push_str(line.as_str())?;
+    }
+    Ok(text)
+}
+
+/// What is told of one loan in a few words.
+fn loan_text(alloc: Global, loan: Account, told: &LoanReply) -> Result<String, Fault> {
+    match told {
+        LoanReply::Shown(told) => statement(alloc, loan, told),
+        LoanReply::Instalments(lines) => instalments(alloc, lines),
+        LoanReply::Entries(lines) => entries(alloc, lines),
+        LoanReply::Status(status) => at_status(alloc, loan, *status),
+        LoanReply::Entered(seq) | LoanReply::Repeated(seq) => numbered(alloc, *seq, "entry"),
+    }
+}
+
 fn numbered(alloc: Global, number: u32, name: &str) -> Result<String, Fault> {
     Ok(format!(in alloc; "{number} {name}")?)
 }
@@ -58,14 +134,7 @@ fn shown_later(alloc: Global, reply: &Reply) -> Result<String, Fault> {
         }
         Reply::ProductRetired(number) => numbered(alloc, *number, "retired"),
         Reply::LoanMade(loan) => loan.text(alloc),
-        Reply::Loan {
-            loan,
-            told: LoanReply::Shown(shown),
-        } => at_status(alloc, *loan, shown.stage.status()),
-        Reply::Loan {
-            loan,
-            told: LoanReply::Status(status),
-        } => at_status(alloc, *loan, *status),
+        Reply::Loan { loan, told } => loan_text(alloc, *loan, told),
         Reply::LoansShown(loans) => loan_lines(alloc, loans),
         _ => Ok(String::from_str(alloc, "another")?),
     }
@@ -142,6 +211,20 @@ const LOAN: [Asked; 3] = [
     AddClient(1, "Amina"),
     SubmitLoan(1, 100000, 3),
 ];
+
+/// The same loan, disbursed on the day of its submission; two months later.
+const LENT: [Asked; 6] = [
+    AddProduct(None),
+    AddClient(1, "Amina"),
+    SubmitLoan(1, 100000, 3),
+    Take(Approve),
+    Disburse("2024-01-31"),
+    SetDay("2024-03-31"),
+];
+
+/// That loan after 20000 cents of 2024-02-29 and 50000 of 2024-03-31.
+const REPAID: &str =
+    "0001-000001 300 since 2024-01-31 outstanding 0 0 0 32000 paid 0 0 2000 68000 overpaid 0";
 
 #[test]
 fn a_client_is_entered_and_read(rt: HostRuntime) -> Result<(), Fail> {
@@ -228,4 +311,101 @@ fn the_day_goes_forward(rt: HostRuntime) -> Result<(), Fail> {
         ("1/1", SetDay("2024-03-31"), "2024-03-31"),
     ];
     assert_told(&rt, rt.alloc(), &[], &rows)
+}
+
+#[test]
+fn money_is_paid_back(rt: HostRuntime) -> Result<(), Fail> {
+    let instalments =
+        "instalments; 1 by 2024-02-29 owed 0 0 1000 33333 left 0; 2 by 2024-03-31 owed 0 0 667 33333 left 0; 3 by 2024-04-30 owed 0 0 333 33334 left 32000";
+    let entries =
+        "entries; 1 of 20000 on 2024-02-29 by 1/1: 1 Interest 1000 1 Principal 19000; 2 of 50000 on 2024-03-31 by 1/1: 1 Principal 14333 2 Interest 667 2 Principal 33333 3 Interest 333 3 Principal 1334";
+    let rows = [
+        ("1/1", Repay(20000, "2024-02-29"), "1 entry"),
+        ("1/1", Repay(50000, "2024-03-31"), "2 entry"),
+        ("1/1", ShowLoan, REPAID),
+        ("1/1", ShowInstalments, instalments),
+        ("1/1", ShowEntries, entries),
+        ("1/1", ListLoans, "loans 0001-000001 300"),
+    ];
+    assert_told(&rt, rt.alloc(), &LENT, &rows)
+}
+
+#[test]
+fn an_earlier_repayment_may_be_entered_later(rt: HostRuntime) -> Result<(), Fail> {
+    let rows = [
+        ("1/1", Repay(50000, "2024-03-31"), "1 entry"),
+        ("1/1", Repay(20000, "2024-02-29"), "2 entry"),
+        ("1/1", ShowLoan, REPAID),
+    ];
+    assert_told(&rt, rt.alloc(), &LENT, &rows)
+}
+
+#[test]
+fn more_than_is_owed_is_overpaid(rt: HostRuntime) -> Result<(), Fail> {
+    let overpaid =
+        "0001-000001 700 since 2024-01-31 outstanding 0 0 0 0 paid 0 0 2000 100000 overpaid 8000";
+    let rows = [
+        ("1/1", Repay(110000, "2024-03-31"), "1 entry"),
+        ("1/1", ShowLoan, overpaid),
+        ("1/1", ListLoans, "loans 0001-000001 700"),
+        ("1/1", Repay(1, "2024-03-31"), "F9"),
+    ];
+    assert_told(&rt, rt.alloc(), &LENT, &rows)
+}
+
+#[test]
+fn repayments_lie_between_disbursement_and_the_business_day(rt: HostRuntime) -> Result<(), Fail> {
+    let rows = [
+        ("1/1", Repay(20000, "2024-01-30"), "F10"),
+        ("1/1", Repay(20000, "2024-04-01"), "F10"),
+        ("1/1", ShowEntries, "entries"),
+        ("1/1", Repay(1000, "2024-01-31"), "1 entry"),
+        ("1/1", Repay(1000, "2024-03-31"), "2 entry"),
+    ];
+    assert_told(&rt, rt.alloc(), &LENT, &rows)
+}
+
+#[test]
+fn disbursement_lies_between_approval_and_the_business_day(rt: HostRuntime) -> Result<(), Fail> {
+    let rows = [
+        ("1/1", Disburse("2024-02-01"), "F9"),
+        ("1/1", Take(Approve), "0001-000001 200"),
+        ("1/1", SetDay("2024-02-29"), "2024-02-29"),
+        ("1/1", Disburse("2024-01-30"), "F10"),
+        ("1/1", Disburse("2024-03-01"), "F10"),
+        ("1/1", Disburse("2024-02-29"), "0001-000001 300"),
+        ("1/1", Disburse("2024-02-29"), "F9"),
+        ("1/1", Take(UndoApproval), "F9"),
+    ];
+    assert_told(&rt, rt.alloc(), &LOAN, &rows)
+}
+
+#[test]
+fn nothing_is_paid_back_before_disbursement(rt: HostRuntime) -> Result<(), Fail> {
+    let pending = "0001-000001 100 outstanding 0 0 0 0 paid 0 0 0 0 overpaid 0";
+    let rows = [
+        ("1/1", Repay(20000, "2024-01-31"), "F9"),
+        ("1/1", Repay(20000, "2024-02-01"), "F9"),
+        ("1/1", ShowLoan, pending),
+        ("1/1", ShowInstalments, "instalments"),
+        ("1/1", ShowEntries, "entries"),
+    ];
+    assert_told(&rt, rt.alloc(), &LOAN, &rows)
+}
+
+#[test]
+fn tellers_take_money_and_pay_none_out(rt: HostRuntime) -> Result<(), Fail> {
+    let rows = [
+        ("1/1", AddStaff(1, "Tom", Role::Teller), "1/2"),
+        ("1/1", AddStaff(1, "Olu", Role::Officer), "1/3"),
+        ("1/2", Disburse("2024-01-31"), "F3"),
+        ("1/3", Disburse("2024-01-31"), "F3"),
+        ("1/2", Repay(20000, "2024-02-29"), "1 entry"),
+        (
+            "1/2",
+            ShowEntries,
+            "entries; 1 of 20000 on 2024-02-29 by 1/2: 1 Interest 1000 1 Principal 19000",
+        ),
+    ];
+    assert_told(&rt, rt.alloc(), &LENT, &rows)
 }

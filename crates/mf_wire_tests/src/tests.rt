@@ -1,5 +1,6 @@
 //! Streams of request lines, run over an institution in vectors. Of that store nothing is proved but that it is safe.
 
+mod accounts;
 mod limits;
 mod refused;
 mod requests;

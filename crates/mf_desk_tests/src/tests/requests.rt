@@ -2,16 +2,25 @@
 
 ghost use Rattle.std.specs.Prelude.{◌≤◌, IfOk};
 ghost use Rattle.mf_base.specs.DayText.{last_entered_day};
-ghost use Rattle.mf_model.specs.Sound.{IsInRange, IsName};
+ghost use Rattle.mf_model.specs.Sound.{IsInRange, IsLoanInRange, IsName};
 
 use mf_base::{Day, Fault};
 use mf_catalog::{Calc, ChargeKind};
 use mf_desk_books::{members, name, office_no};
 use mf_model::{
-    Application, CatalogueRequest, Flaw, LoanRequest, LoanStep, OfficeRequest, Request, is_name,
+    Application, CatalogueRequest, Flaw, LoanRequest, LoanStep, OfficeRequest, Repayment, Request,
+    is_name,
 };
 use mf_office::{Account, AccountNo, Name, Role};
 use std::alloc::Global;
+
+/// A step of a loan that names no day, so that a row of constants can hold it.
+#[derive(Clone, Copy, Debug)]
+pub(crate) enum Step {
+    Approve,
+    Withdraw,
+    UndoApproval,
+}
 
 /// A request. Loans are those of office 1 and of its client 1.
 #[derive(Clone, Copy, Debug)]
@@ -34,7 +43,14 @@ pub(crate) enum Asked {
     SubmitLoan(u32, u64, u32),
     ListLoans,
     /// A step of the first loan.
-    Take(LoanStep),
+    Take(Step),
+    /// The first loan is disbursed on a day.
+    Disburse(&'static str),
+    /// So many cents are paid back on a day.
+    Repay(u64, &'static str),
+    ShowLoan,
+    ShowInstalments,
+    ShowEntries,
 }
 
 pub(crate) fn day(text: &str) -> Result<Day, Fault>
@@ -140,7 +156,9 @@ fn submit_loan(product: u32, principal: u64, periods: u32) -> Result<Request, Fa
     })
 }
 
-fn take(step: LoanStep) -> Result<Request, Fault>
+/// A request on the first loan.
+fn on_loan(asked: LoanRequest) -> Result<Request, Fault>
+    requires { IsLoanInRange asked }
     ensures { IfOk result IsInRange }
 {
     let office = office_no(1)?;
@@ -148,8 +166,39 @@ fn take(step: LoanStep) -> Result<Request, Fault>
     let _number = number.get();
     Ok(Request::Loan {
         loan: Account { office, number },
-        asked: LoanRequest::Take(step),
+        asked,
     })
+}
+
+fn take(step: Step) -> Result<Request, Fault>
+    ensures { IfOk result IsInRange }
+{
+    on_loan(LoanRequest::Take(match step {
+        Step::Approve => LoanStep::Approve,
+        Step::Withdraw => LoanStep::Withdraw,
+        Step::UndoApproval => LoanStep::UndoApproval,
+    }))
+}
+
+fn disburse(text: &str) -> Result<Request, Fault>
+    ensures { IfOk result IsInRange }
+{
+    let day = day(text)?;
+    on_loan(LoanRequest::Take(LoanStep::Disburse(day)))
+}
+
+fn repay(amount: u64, text: &str) -> Result<Request, Fault>
+    ensures { IfOk result IsInRange }
+{
+    let day = day(text)?;
+    if amount < 1 || amount > 1000000 {
+        return Err(Fault::F1);
+    }
+    on_loan(LoanRequest::Repay(Repayment {
+        amount,
+        day,
+        receipt: None,
+    }))
 }
 
 /// The request as the desk takes it; F1 where a member is out of its range.
@@ -175,5 +224,10 @@ pub(crate) fn request(alloc: Global, asked: Asked) -> Result<Request, Fault>
             asked: OfficeRequest::ListLoans { after: 0 },
         }),
         Asked::Take(step) => take(step),
+        Asked::Disburse(day) => disburse(day),
+        Asked::Repay(amount, day) => repay(amount, day),
+        Asked::ShowLoan => on_loan(LoanRequest::Show),
+        Asked::ShowInstalments => on_loan(LoanRequest::ShowInstalments),
+        Asked::ShowEntries => on_loan(LoanRequest::ShowEntries),
     }
 }

@@ -7,6 +7,7 @@ mod orders;
 mod payments;
 mod reversals;
 mod seals;
+mod statements;
 mod undoing;
 
 use mf_base::Fault;

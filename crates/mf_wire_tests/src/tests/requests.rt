@@ -1,7 +1,7 @@
 //! Requests as they are read, at the limits of their members.
 
-use mf_base::Fault;
-use mf_model::{CatalogueRequest, Request};
+use mf_base::{Day, Fault};
+use mf_model::{CatalogueRequest, LoanRequest, Request};
 use mf_wire_requests::{Routes, read_request};
 use std::alloc::Global;
 use std::test::Fail;
@@ -117,6 +117,17 @@ fn limits_and_routes(rt: HostRuntime) -> Result<(), Fail> {
         ("POST", "/products/000000001/retire", "no body", None),
         ("POST", "/loans/0001-000001/undo-approval", "", None),
         ("POST", "/loans/1/approve", "", Some(Fault::F1)),
+        (
+            "POST",
+            "/loans/0001-000001/disburse",
+            "{\"day\":\"2024-01-31\"}",
+            None,
+        ),
+        ("POST", "/loans/0001-000001/disburse", "{}", Some(Fault::F1)),
+        ("GET", "/loans/0001-000001/disburse", "", Some(Fault::F6)),
+        ("GET", "/loans/0001-000001/schedule", "no body", None),
+        ("GET", "/loans/0001-000001/entries", "no body", None),
+        ("GET", "/loans/1/entries", "", Some(Fault::F1)),
         ("GET", "/offices/1/loans/999999", "", None),
         ("GET", "/offices/1/loans/1000000", "", Some(Fault::F1)),
         ("GET", "/offices/1/loans", "", Some(Fault::F5)),
@@ -125,6 +136,94 @@ fn limits_and_routes(rt: HostRuntime) -> Result<(), Fail> {
         ("GET", "/loans/", "", Some(Fault::F5)),
     ] {
         assert_eq!(rt; refusal(rt.alloc(), method, path, body)?, expected);
+    }
+    Ok(())
+}
+
+/// The cents and the day of a repayment, where its body is read.
+fn repaid(alloc: Global, body: &str) -> Result<Option<(u64, Day)>, Fail> {
+    let Ok(routes) = Routes::new(alloc) else {
+        return Err(Fail::from("no routes"));
+    };
+    let path = b"/loans/0001-000001/repayments";
+    let Ok(request) = read_request(alloc, &routes, b"POST", path, body.as_bytes()) else {
+        return Ok(None);
+    };
+    match &request {
+        Request::Loan {
+            asked: LoanRequest::Repay(repayment),
+            ..
+        } => Ok(Some((repayment.amount, repayment.day))),
+        _ => Err(Fail::from("no repayment")),
+    }
+}
+
+/// Repayments at the limits of their amount and day.
+#[test]
+fn repayments(rt: HostRuntime) -> Result<(), Fail> {
+    let day = Day::parse(b"2024-02-29").ok_or(Fault::F1)?;
+    let last = Day::parse(b"2099-12-31").ok_or(Fault::F1)?;
+    for (body, expected) in [
+        (
+            "{\"amount\":1000000000000,\"day\":\"2024-02-29\"}",
+            Some((1_000_000_000_000, day)),
+        ),
+        (
+            "{\"amount\":1,\"day\":\"2099-12-31\",\"receipt\":null}",
+            Some((1, last)),
+        ),
+        ("{\"amount\":0,\"day\":\"2024-02-29\"}", None),
+        ("{\"amount\":1000000000001,\"day\":\"2024-02-29\"}", None),
+        ("{\"amount\":1,\"day\":\"2100-01-01\"}", None),
+        ("{\"amount\":1,\"day\":null}", None),
+    ] {
+        assert_eq!(rt; repaid(rt.alloc(), body)?, expected);
+    }
+    Ok(())
+}
+
+/// The receipt of a repayment whose member `receipt` is this; None where the line reads as no request.
+fn receipt_read(alloc: Global, member: &str) -> Result<Option<String>, Fail> {
+    let body = format!(in alloc; "{{\"amount\":1,\"day\":\"2024-02-29\",\"receipt\":{member}}}")?;
+    let Ok(routes) = Routes::new(alloc) else {
+        return Err(Fail::from("no routes"));
+    };
+    let path = b"/loans/0001-000001/repayments";
+    let Ok(request) = read_request(alloc, &routes, b"POST", path, body.as_bytes()) else {
+        return Ok(None);
+    };
+    match &request {
+        Request::Loan {
+            asked: LoanRequest::Repay(repayment),
+            ..
+        } => match &repayment.receipt {
+            None => Ok(Some(String::from_str(alloc, "none")?)),
+            Some(receipt) => Ok(Some(String::from_str(alloc, receipt.as_str())?)),
+        },
+        _ => Err(Fail::from("no repayment")),
+    }
+}
+
+/// A receipt is 1 to 40 printable characters of ASCII without space, or null.
+#[test]
+fn receipts(rt: HostRuntime) -> Result<(), Fail> {
+    for (member, expected) in [
+        ("null", Some("none")),
+        ("\"R-1\"", Some("R-1")),
+        ("\"!~\"", Some("!~")),
+        (
+            "\"1234567890123456789012345678901234567890\"",
+            Some("1234567890123456789012345678901234567890"),
+        ),
+        ("\"12345678901234567890123456789012345678901\"", None),
+        ("\"\"", None),
+        ("\"R 1\"", None),
+        ("\"\\u007f\"", None),
+        ("\"\u{e9}\"", None),
+        ("0", None),
+    ] {
+        let read = receipt_read(rt.alloc(), member)?;
+        assert_eq!(rt; read.as_ref().map(|text| text.as_str()), expected);
     }
     Ok(())
 }

@@ -1,9 +1,9 @@
-//! The texts of replies of the catalogue and of loans.
+//! The texts of replies of the catalogue, of lists of loans, and what the tests of texts share.
 
 use mf_base::{Day, Fault};
 use mf_catalog::{Calc, ChargeDef, ChargeKind, Product};
 use mf_desk_books::{members, name};
-use mf_model::{Loan, LoanLine, LoanList, LoanReply, Reply, Stage};
+use mf_model::{LoanLine, LoanList, Reply};
 use mf_office::{Account, AccountNo, OfficeNo};
 use mf_wire_replies::{body_text, status};
 use std::alloc::Global;
@@ -19,22 +19,17 @@ const PRODUCT: &str =
 \"min_periods\":1,\"min_principal\":1,\"name\":\"P\",\"overdue_charge\":null,\"principal_grace\":0,\"product\":1,\
 \"rate\":1200,\"retired\":false,\"strategy\":\"mifos-standard-strategy\"}";
 
-const LOAN: &str =
-    "{\"client\":\"0001-000002\",\"day\":null,\"disbursement_fee\":0,\"loan\":\"0001-000001\",\
-\"outstanding\":{\"fees\":0,\"interest\":0,\"penalties\":0,\"principal\":0},\"overpaid\":0,\
-\"paid\":{\"fees\":0,\"interest\":0,\"penalties\":0,\"principal\":0},\"periods\":3,\"principal\":100000,\"product\":1,\
-\"refunded\":0,\"status\":100,\"waived\":{\"fees\":0,\"interest\":0,\"penalties\":0,\"principal\":0},\
-\"written_off\":{\"fees\":0,\"interest\":0,\"penalties\":0,\"principal\":0}}";
-
 const LOANS: &str = "{\"loans\":[{\"loan\":\"0001-000001\",\"status\":100}]}";
 
-fn first_loan() -> Result<Account, Fault> {
+/// The loan 0001-000001.
+pub fn first_loan() -> Result<Account, Fault> {
     let office = OfficeNo::new(1).ok_or(Fault::F1)?;
     let number = AccountNo::new(1).ok_or(Fault::F1)?;
     Ok(Account { office, number })
 }
 
-fn assert_text(
+/// A reply has this status and this body.
+pub fn assert_text(
     rt: &impl Abort,
     alloc: Global,
     reply: &Reply,
@@ -75,28 +70,6 @@ fn a_product_is_made_and_shown(rt: HostRuntime) -> Result<(), Fail> {
         retired: false,
     });
     assert_text(&rt, rt.alloc(), &shown, 200, PRODUCT)
-}
-
-#[test]
-fn a_loan_is_shown_before_disbursement(rt: HostRuntime) -> Result<(), Fail> {
-    let shown = LoanReply::Shown(Loan {
-        client: AccountNo::new(2).ok_or(Fault::F1)?,
-        product: 1,
-        principal: 100000,
-        periods: 3,
-        stage: Stage::Submitted,
-    });
-    for (told, body) in [
-        (shown, LOAN),
-        (
-            LoanReply::Status(500),
-            "{\"loan\":\"0001-000001\",\"status\":500}",
-        ),
-    ] {
-        let loan = first_loan()?;
-        assert_text(&rt, rt.alloc(), &Reply::Loan { loan, told }, 200, body)?;
-    }
-    Ok(())
 }
 
 #[test]

@@ -1,6 +1,7 @@
 //! Streams of request lines over the store that the program runs on.
 
 mod branches;
+mod paid;
 mod refused;
 mod rows;
 mod sent;

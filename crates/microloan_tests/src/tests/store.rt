@@ -75,7 +75,7 @@ fn text_of_rows(alloc: Global, rows: &OfficeRows) -> Result<String, Fault> {
         write!(text, "{name};")?;
     }
     for loan in rows.loans() {
-        let (principal, status) = (loan.principal, loan.stage.status());
+        let (principal, status) = (loan.loan.principal, loan.loan.stage.status());
         write!(text, "{principal} {status};")?;
     }
     Ok(text)

@@ -180,6 +180,12 @@ impl OpenLoan {
         disbursed(alloc, terms(strategy, charge))
     }
 
+    /// Gives the account.
+    pub fn into_account(self) -> LoanAccount {
+        let OpenLoan { account, .. } = self;
+        account
+    }
+
     /// Takes steps, and gives what is told: by a refused one the number of its refusal, by one that reads what it reads.
     pub fn told(&mut self, alloc: Global, steps: &[Step]) -> Result<String, Fault> {
         let mut text = String::new(alloc);

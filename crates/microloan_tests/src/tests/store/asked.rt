@@ -24,6 +24,8 @@ pub(crate) enum Ask {
     Charge { number: u32 },
     Product { number: u32 },
     Loan { number: u32 },
+    /// The status of a loan's account, how many entries it has, and what is paid of its interest and its principal.
+    Account { number: u32 },
     LoansAfter { number: u32 },
 }
 
@@ -183,6 +185,23 @@ fn tell_loan<S: InstitutionStore>(
     Ok(())
 }
 
+fn tell_account<S: InstitutionStore>(
+    alloc: Global,
+    store: &mut S,
+    number: u32,
+    text: &mut String,
+) -> Result<(), Fault> {
+    match &store.account(alloc, account(1, number)?)? {
+        None => text.push_str("none;")?,
+        Some(account) => {
+            let (status, entries) = (account.status(), account.entry_count());
+            let [_, _, interest, principal] = account.balances().paid;
+            write!(text, "{status} {entries} {interest} {principal};")?;
+        }
+    }
+    Ok(())
+}
+
 fn tell_loans<S: InstitutionStore>(
     alloc: Global,
     store: &mut S,
@@ -215,6 +234,7 @@ fn tell<S: InstitutionStore>(
         Ask::Charge { number } => tell_charge(alloc, store, number, text),
         Ask::Product { number } => tell_product(alloc, store, number, text),
         Ask::Loan { number } => tell_loan(alloc, store, number, text),
+        Ask::Account { number } => tell_account(alloc, store, number, text),
         Ask::LoansAfter { number } => tell_loans(alloc, store, number, text),
     }
 }

@@ -86,6 +86,40 @@ fn an_approval_is_undone(rt: HostRuntime) -> Result<(), Fail> {
     Ok(())
 }
 
+/// An approval is not forgotten when the loan is paid out, and each loan has its own entries. The first instalment of this
+/// product has no principal and no interest, and its strategy takes interest first.
+#[test]
+fn a_loan_is_paid_out_and_repaid(rt: HostRuntime) -> Result<(), Fail> {
+    let writes = [
+        CLIENT,
+        Write::Charge,
+        Write::Product,
+        FIRST_LOAN,
+        SECOND_LOAN,
+        Write::Approval { loan: 1 },
+        Write::Disbursal { loan: 1 },
+        Write::Approval { loan: 2 },
+        Write::Disbursal { loan: 2 },
+        Write::Repayment { loan: 2 },
+        Write::Repayment { loan: 2 },
+        Write::Repayment { loan: 1 },
+        Write::Repayment { loan: 2 },
+    ];
+    let asks = [
+        Ask::Loan { number: 1 },
+        Ask::Account { number: 1 },
+        Ask::Account { number: 2 },
+        Ask::Account { number: 3 },
+        Ask::LoansAfter { number: 0 },
+    ];
+    let told = told_after(rt.alloc(), &writes, &asks)?;
+    assert_eq!(rt;
+        told.as_str(),
+        "150000 12 300;300 1 2000 0;300 3 4800 1200;none;1 300;2 300;"
+    );
+    Ok(())
+}
+
 #[test]
 fn loans_are_listed(rt: HostRuntime) -> Result<(), Fail> {
     let writes = [

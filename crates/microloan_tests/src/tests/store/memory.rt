@@ -67,37 +67,46 @@ const BRANCHES: [Step; 5] = [
     },
 ];
 
-const OF_LOANS: [Ask; 3] = [
+const OF_LOANS: [Ask; 4] = [
     Ask::Catalogue,
     Ask::Counts { at: 1 },
     Ask::LoansAfter { number: 0 },
+    Ask::Account { number: 1 },
 ];
 
-const NO_LOANS: &str = "0 0;1 0 0;";
+const NO_LOANS: &str = "0 0;1 0 0;none;";
 
-const LOANS: [Step; 5] = [
+const LOANS: [Step; 7] = [
     Step {
         write: Write::Client {
             at: 1,
             name: "Amina",
         },
-        after: "0 0;1 1 0;",
+        after: "0 0;1 1 0;none;",
     },
     Step {
         write: Write::Charge,
-        after: "1 0;1 1 0;",
+        after: "1 0;1 1 0;none;",
     },
     Step {
         write: Write::Product,
-        after: "1 1;1 1 0;",
+        after: "1 1;1 1 0;none;",
     },
     Step {
         write: Write::Loan { principal: 150_000 },
-        after: "1 1;1 1 1;1 100;",
+        after: "1 1;1 1 1;1 100;none;",
     },
     Step {
-        write: Write::Rejection { loan: 1 },
-        after: "1 1;1 1 1;1 500;",
+        write: Write::Approval { loan: 1 },
+        after: "1 1;1 1 1;1 200;none;",
+    },
+    Step {
+        write: Write::Disbursal { loan: 1 },
+        after: "1 1;1 1 1;1 300;300 0 0 0;",
+    },
+    Step {
+        write: Write::Repayment { loan: 1 },
+        after: "1 1;1 1 1;1 300;300 1 2000 0;",
     },
 ];
 

@@ -1,6 +1,8 @@
 //! Changes of an institution, in few words each.
 
-use super::{account, account_no, name, office};
+use super::{account, account_no, caller, name, office};
+use mf_account::{Entry, Kind, LoanAccount};
+use mf_alloc::Portion;
 use mf_base::{Day, Fault, Freq};
 use mf_catalog::{Calc, ChargeKind, Method, ProductMembers, StrategyName};
 use mf_model::{Commit, InstitutionStore, Loan, Stage};
@@ -43,6 +45,14 @@ pub(crate) enum Write {
         loan: u32,
     },
     Rejection {
+        loan: u32,
+    },
+    /// A disbursement of an approved loan on the first business day.
+    Disbursal {
+        loan: u32,
+    },
+    /// A repayment of 2000 cents on that day.
+    Repayment {
         loan: u32,
     },
 }
@@ -171,6 +181,46 @@ fn approve<S: InstitutionStore>(alloc: Global, store: &mut S, loan: u32) -> Resu
     set_stage(alloc, store, loan, Stage::Approved(day("2024-01-01")?))
 }
 
+fn disburse<S: InstitutionStore>(alloc: Global, store: &mut S, loan: u32) -> Result<(), Fault> {
+    let stage = Stage::Disbursed {
+        approved: day("2024-01-01")?,
+        day: day("2024-01-01")?,
+    };
+    set_stage(alloc, store, loan, stage)
+}
+
+/// The account with a repayment of 2000 cents.
+fn repaid(alloc: Global, account: LoanAccount, today: Day) -> Result<LoanAccount, Fault> {
+    let mut account = account;
+    if !account.is_by(today) {
+        return Err(Fault::F10);
+    }
+    let entry = Entry {
+        seq: account.next_entry(),
+        kind: Kind::Repay,
+        day: today,
+        amount: 2000,
+        instalment: 0,
+        portion: Portion::Principal,
+        receipt: None,
+        staff: caller(1, 1)?,
+        reversed: false,
+    };
+    account.enter(alloc, entry, today)?;
+    Ok(account)
+}
+
+fn repay<S: InstitutionStore>(alloc: Global, store: &mut S, loan: u32) -> Result<(), Fault> {
+    let Some(before) = store.account(alloc, account(1, loan)?)? else {
+        return Err(Fault::F9);
+    };
+    let commit = Commit::Enter {
+        loan: account(1, loan)?,
+        account: repaid(alloc, before, day("2024-01-01")?)?,
+    };
+    store.commit(alloc, commit)
+}
+
 pub(crate) fn make<S: InstitutionStore>(
     alloc: Global,
     store: &mut S,
@@ -192,6 +242,8 @@ pub(crate) fn make<S: InstitutionStore>(
         Write::Approval { loan } => approve(alloc, store, loan),
         Write::Undoing { loan } => set_stage(alloc, store, loan, Stage::Submitted),
         Write::Rejection { loan } => set_stage(alloc, store, loan, Stage::Rejected),
+        Write::Disbursal { loan } => disburse(alloc, store, loan),
+        Write::Repayment { loan } => repay(alloc, store, loan),
     }
 }
 
