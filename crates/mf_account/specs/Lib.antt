@@ -7,6 +7,7 @@ pub mod Account
 pub mod Applicable
 pub mod Loan
 pub mod Change
+pub mod Charges
 pub mod Refusals
 pub mod StandingLaw
 pub mod Balance

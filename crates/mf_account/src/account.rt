@@ -1,9 +1,11 @@
 ghost use Rattle.std.specs.Prelude.{◌≡◌, ◌≢◌, ℕ, ◌+◌, ◌-◌, ◌<◌, ◌≤◌, ◌^◌, ◌∷◌, [], ◌++◌, IfOk, IfSome, IsTrue, OnOk, OnErr, IsOkUnless, None, Some, true, false, length, take, insert, sum, slice_index};
 ghost use Rattle.mf_base.specs.declared.fault.Fault.{Fault as FaultNumber};
 ghost use Rattle.mf_base.specs.DayText.{last_entered_day};
+ghost use Rattle.mf_catalog.specs.Limits.{IsChargeWithinLimits};
 ghost use Rattle.mf_schedule.specs.Fresh.{IsLoanWithinLimits};
 ghost use Rattle.mf_account.specs.Standing.{entry_at, standing, placed, with_mark};
 ghost use Rattle.mf_account.specs.Account.{shares_in};
+ghost use Rattle.mf_account.specs.Charges.{fee_amount as fee_amount_of, fee_instalment as fee_instalment_of, fee_refused, penalty_amount as penalty_amount_of};
 ghost use Rattle.mf_account.specs.Change.{Account, IsChange, no_change, settled_in};
 ghost use Rattle.mf_account.specs.Loan.{Loan, IsKept, IsSound, AreEntries, state_of_loan, settled_of_loan, status_of_loan};
 ghost use Rattle.mf_account.specs.Rewind.{IsRedone, state_before, settled_upto};
@@ -13,9 +15,11 @@ ghost use Rattle.mf_account.specs.Told.{settled_amount, AreRowsSmall, AreNumbere
 
 use crate::balances::{Balances, book_sums};
 use crate::change::{Change, change_between, unchanged};
-use crate::entry::Entry;
+use crate::charges::{fee, instalment_due, penalty};
+use crate::entry::{Entry, Kind};
 use crate::lawful::{
-    MOST_ENTRIES, are_days_by, are_entries, can_be_entered, is_loan_within_limits,
+    MOST_ENTRIES, are_days_by, are_entries, can_be_entered, is_charge_within_limits,
+    is_loan_within_limits,
 };
 use crate::refusal::{
     admits, is_forbidden, is_out_of_limits, is_out_of_order, is_sealed, reversal, status,
@@ -26,7 +30,7 @@ use crate::rewind::rewind_to;
 use crate::settled::{Book, Settled, put_behind, put_in};
 use mf_alloc::{Row, Share};
 use mf_base::{Day, Fault};
-use mf_catalog::Terms;
+use mf_catalog::{ChargeDef, Terms};
 use mf_schedule::{Instalment, disbursement_fee, fresh};
 use std::alloc::Global;
 use std::marker::Model;
@@ -354,6 +358,50 @@ impl LoanAccount {
         ensures sound { IsSound self.now.loan }
     {
         self.entries.len() as u32 + 1
+    }
+
+    /// Why a fee that is due on a day is refused before it is worked out, if it is: F11 where the loan is sealed, F9 for a
+    /// status that takes no fee, F10 where the day is before disbursement. It takes no memory.
+    pub fn fee_refusal(&self, due: Day) -> Option<Fault>
+        ensures { result ≡ fee_refused self.now.loan due }
+    {
+        if self.is_sealed() {
+            Some(Fault::F11)
+        } else if !admits(Kind::Fee, self.status()) {
+            Some(Fault::F9)
+        } else if due < self.day {
+            Some(Fault::F10)
+        } else {
+            None
+        }
+    }
+
+    /// The number of the instalment that a fee due on a day is laid on: the first that is due then or later, else the last.
+    pub fn fee_instalment(&self, due: Day) -> u32
+        ensures { result ≡ fee_instalment_of self.now.loan due }
+    {
+        instalment_due(&self.schedule, due)
+    }
+
+    /// What a charge comes to as a fee, in cents: on the principal and on the interest of the fresh schedule; 0 where it is
+    /// no due-date charge. None where its value is outside the limits of charges, as none is that was entered.
+    pub fn fee_amount(&self, charge: &ChargeDef) -> Option<u64>
+        ensures value { IfSome result (λ amount. amount ≡ fee_amount_of self.now.loan charge.now) }
+        ensures some { IsChargeWithinLimits charge.now → result ≢ None }
+    {
+        if !is_charge_within_limits(charge) {
+            return None;
+        }
+        Some(fee(charge, self.principal, &self.schedule))
+    }
+
+    /// What the product's overdue charge comes to on an instalment as it was scheduled, in cents; 0 where there is no such
+    /// charge or no such instalment.
+    pub fn penalty_amount(&self, instalment: u32) -> u64
+        requires { 1 ≤ instalment }
+        ensures { result ≡ penalty_amount_of self.now.loan instalment }
+    {
+        penalty(&self.terms.overdue, &self.schedule, instalment)
     }
 
     /// Whether neither the day of disbursement nor that of any entry is after a day.

@@ -20,7 +20,7 @@ use mf_catalog::{
 pub(crate) const MOST_ENTRIES: usize = 9999;
 
 /// Whether a charge's value lies within the limits.
-fn is_charge_within_limits(charge: &ChargeDef) -> bool
+pub(crate) fn is_charge_within_limits(charge: &ChargeDef) -> bool
     ensures within { IsTrue result → IsChargeWithinLimits charge.now }
     ensures exact { IsChargeWithinLimits charge.now → IsTrue result }
 {

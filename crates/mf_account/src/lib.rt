@@ -5,6 +5,7 @@ mod account;
 mod apply;
 mod balances;
 mod change;
+mod charges;
 mod effect;
 mod entry;
 mod lawful;
