@@ -1,24 +1,35 @@
 -- The receipts of an office, when its loans change.
-use Rattle.std.proofs.Common.{◌≡◌, ◌≢◌, ℕ, ◌+◌, ◌-◌, Bool, true, false, cond, List, [], ◌∷◌, ◌++◌, Option, Some, None, inl, inr, refl, sym, ap, ◌∙◌, subst, append_assoc}
+use Rattle.std.proofs.Common.{◌≡◌, ◌≢◌, ℕ, zero, suc, ◌+◌, ◌-◌, Bool, true, false, cond, List, [], ◌∷◌, ◌++◌, Option, Some, None, inl, inr, refl, sym, ap, ◌∙◌, subst, append_assoc}
 use Rattle.std.specs.Prelude.{◌⊎◌, ◌==◌}
 use Rattle.std.specs.List.{AllByRecursion}
 use Rattle.std.specs.Str.{bytes_eq}
 use Rattle.std.proofs.lemmas.List.{append-nil}
 use Rattle.std.proofs.lemmas.Slice.Eq.{bytes_eq-Decides}
 use Rattle.mf_account.specs.declared.entry.Entry.{Entry}
+use Rattle.mf_account.specs.Standing.{with_mark}
 use Rattle.mf_model.specs.declared.loan.Loan.{Loan}
 use Rattle.mf_model.specs.Institution.{Ledger, with_numbered}
 use Rattle.mf_model.specs.Receipts.{Use, use_by, use_of, uses_in, uses_from, used, used_before, AreApart}
 use Rattle.mf_model.specs.Loans.{entered}
 
--- a change that leaves the entries leaves the receipts
-pub uses_with : (n m : ℕ) (change : Ledger → Ledger) (ls : List Ledger) → ((l : Ledger) → (change l).entries ≡ l.entries) → uses_from m (with_numbered n change ls) ≡ uses_from m ls
+-- a change that leaves the receipts of each loan leaves those of all
+pub uses_with : (n m : ℕ) (change : Ledger → Ledger) (ls : List Ledger) → ((l : Ledger) (k : ℕ) → uses_in k (change l).entries ≡ uses_in k l.entries) → uses_from m (with_numbered n change ls) ≡ uses_from m ls
 uses_with n m change [] same = refl
 uses_with n m change (l ∷ ls) same = either (n == 1) (uses_with (n - 1) (m + 1) change ls same)
   where
     either : (b : Bool) → uses_from (m + 1) (with_numbered (n - 1) change ls) ≡ uses_from (m + 1) ls → uses_from m (cond b (change l ∷ ls) (l ∷ with_numbered (n - 1) change ls)) ≡ uses_from m (l ∷ ls)
-    either true rest = ap (λ es. uses_in m es ++ uses_from (m + 1) ls) (same l)
+    either true rest = ap (λ us. us ++ uses_from (m + 1) ls) (same l m)
     either false rest = ap (λ us. uses_in m l.entries ++ us) rest
+
+-- a reversed entry carries its receipt still
+use_marked : (receipt : Option (List ℕ)) (m : ℕ) (e : Entry) → use_of receipt m (record e { reversed = true }) ≡ use_of receipt m e
+use_marked None m e = refl
+use_marked (Some r) m e = refl
+
+pub uses_marked : (m at : ℕ) (es : List Entry) → uses_in m (with_mark es at true) ≡ uses_in m es
+uses_marked m at [] = refl
+uses_marked m zero (e ∷ es) = ap (λ us. us ++ uses_in m es) (use_marked e.receipt m e)
+uses_marked m (suc at) (e ∷ es) = ap (λ us. use_of e.receipt m e ++ us) (uses_marked m at es)
 
 -- a new loan has none
 pub uses_push : (m : ℕ) (loan : Loan) (ls : List Ledger) → uses_from m (ls ++ record { loan = loan; entries = [] } ∷ []) ≡ uses_from m ls

@@ -1,8 +1,8 @@
 -- No reply of the definitions is F20.
-use Rattle.std.proofs.Common.{◌≡◌, ℕ, Bool, true, false, cond, length, Option, Some, None, Result, Ok, Err, subst}
+use Rattle.std.proofs.Common.{◌≡◌, ℕ, ◌-◌, Bool, true, false, cond, List, length, Option, Some, None, Result, Ok, Err, subst}
 use Rattle.std.specs.Prelude.{◌&&◌, ◌==◌, not, nat_lt, nat_le, is_some}
 use Rattle.mf_base.specs.declared.fault.Fault.{Fault}
-use Rattle.mf_base.specs.declared.fault.Fault.TheVariants.{F3, F8, F9, F10, F11, F14, F18, F20}
+use Rattle.mf_base.specs.declared.fault.Fault.TheVariants.{F3, F8, F9, F10, F11, F12, F13, F14, F18, F20}
 use Rattle.mf_office.specs.declared.caller.Caller.{Caller}
 use Rattle.mf_office.specs.declared.account.Account.{Account}
 use Rattle.mf_office.specs.Tree.{is_within, is_at_or_below}
@@ -11,7 +11,10 @@ use Rattle.mf_catalog.specs.declared.product.ProductMembers.{ProductMembers}
 use Rattle.mf_catalog.specs.Product.{charges_there, is_consistent, allows, lending}
 use Rattle.mf_account.specs.declared.entry.Entry.{Entry}
 use Rattle.mf_account.specs.Loan.{Loan as Running, state_of_loan, status_of_loan}
-use Rattle.mf_account.specs.Refusals.{is_sealed, admits, is_out_of_order, is_forbidden, is_out_of_limits, refusal_of}
+use Rattle.mf_account.specs.declared.entry.Kind.TheVariants.{Fee}
+use Rattle.mf_account.specs.Kinds.{is_seal}
+use Rattle.mf_account.specs.Standing.{entry_at}
+use Rattle.mf_account.specs.Refusals.{is_sealed, admits, is_out_of_order, is_there as is_there_among, is_forbidden, is_out_of_limits, refusal_of, reversal_refused}
 use Rattle.mf_model.specs.declared.loan.Stage.{Stage}
 use Rattle.mf_model.specs.declared.loan.Stage.TheVariants.{Submitted, Approved, Disbursed, Withdrawn, Rejected}
 use Rattle.mf_model.specs.declared.reply.Reply.{Reply}
@@ -27,7 +30,7 @@ use Rattle.mf_model.specs.declared.request.LoanStep.{LoanStep}
 use Rattle.mf_model.specs.declared.request.LoanStep.TheVariants.{Approve, Reject, Withdraw, UndoApproval, Disburse}
 use Rattle.mf_model.specs.declared.request.Repayment.{Repayment}
 use Rattle.mf_model.specs.declared.request.LoanRequest.{LoanRequest}
-use Rattle.mf_model.specs.declared.request.LoanRequest.TheVariants.{Show, ShowInstalments, ShowEntries, Take, Repay}
+use Rattle.mf_model.specs.declared.request.LoanRequest.TheVariants.{Show, ShowInstalments, ShowEntries, Take, Repay, ChargeFee, Post, Reverse}
 use Rattle.mf_model.specs.declared.request.Request.{Request}
 use Rattle.mf_model.specs.declared.request.Request.TheVariants as request
 use Rattle.mf_model.specs.Institution.{Institution, Catalogue, Office, Rows, Staff, Ledger, numbered, charge_in, product_in}
@@ -37,7 +40,7 @@ use Rattle.mf_model.specs.Catalogue.{on_catalogue, make_product}
 use Rattle.mf_model.specs.Stages.{next_stage}
 use Rattle.mf_model.specs.Accounts.{account_in}
 use Rattle.mf_model.specs.Receipts.{Use, uses_from, used_before, repeated}
-use Rattle.mf_model.specs.Loans.{LedgerChange, repayment, unless_fault, enter, repeat_of, unless_known, on_loan, of_loan, in_loan, lend}
+use Rattle.mf_model.specs.Loans.{LedgerChange, repayment, fee, posting, unless_fault, fault_or, none_first, fee_first, enter, reverse, repeat_of, unless_known, on_loan, of_loan, in_loan, lend}
 use Rattle.mf_model.specs.Desk.{Plan, on_office, plan, need, meets, Outcome, of_catalogue, of_office, in_office, carried_out, where_permitted, sent_by, staff_at, outcome, reply_in, reply}
 
 -- any refusal but F20
@@ -146,13 +149,30 @@ refusal_ruled a e today =
     (refused_or (is_out_of_limits e.kind e.amount) F8 _ tt
     (refused_or (nat_le 9999 (length a.entries)) F18 None tt tt)))))
 
-unless_ruled : (refusal : Option Fault) (e : Entry) → IsRuledRefusal refusal → Ruled (unless_fault refusal e)
-unless_ruled None e h = tt
-unless_ruled (Some fault) e h = h
+fee_ruled : (due : ℕ) (a : Running) → IsRuledRefusal (fee_first due a)
+fee_ruled due a = refused_or (is_sealed a.entries) F11 _ tt (refused_or (not (admits Fee (status_of_loan a))) F9 _ tt (refused_or (nat_lt due a.day) F10 None tt tt))
 
-enter_ruled : (make : Running → Entry) (k : Catalogue) (o : Option Running) → Ruled (enter make k o)
-enter_ruled make k None = tt
-enter_ruled make k (Some a) = unless_ruled (refusal_of a (make a) k.day) (make a) (refusal_ruled a (make a) k.day)
+reversal_ruled : (es : List Entry) (seq : ℕ) → IsRuledRefusal (reversal_refused es seq)
+reversal_ruled es seq =
+    refused_or (not (is_there_among (length es) seq)) F12 _ tt
+    (refused_or (entry_at es (seq - 1)).reversed F13 _ tt
+    (refused_or (is_sealed es && not (is_seal (entry_at es (seq - 1)).kind)) F11 None tt tt))
+
+unless_ruled : (refusal : Option Fault) (told : LoanReply) (change : LedgerChange) → IsRuledRefusal refusal → Ruled (unless_fault refusal told change)
+unless_ruled None told change h = tt
+unless_ruled (Some fault) told change h = h
+
+first_ruled : (first next : Option Fault) → IsRuledRefusal first → IsRuledRefusal next → IsRuledRefusal (fault_or first next)
+first_ruled None next h k = k
+first_ruled (Some fault) next h k = h
+
+enter_ruled : (first : Running → Option Fault) (make : ℕ → Running → Entry) (k : Catalogue) (o : Option Running) → ((a : Running) → IsRuledRefusal (first a)) → Ruled (enter first make k o)
+enter_ruled first make k None h = tt
+enter_ruled first make k (Some a) h = unless_ruled (fault_or (first a) (refusal_of a (make k.day a) k.day)) _ _ (first_ruled (first a) _ (h a) (refusal_ruled a (make k.day a) k.day))
+
+reverse_ruled : (seq : ℕ) (o : Option Running) → Ruled (reverse seq o)
+reverse_ruled seq None = tt
+reverse_ruled seq (Some a) = unless_ruled (reversal_refused a.entries seq) _ _ (reversal_ruled a.entries seq)
 
 repeat_ruled : (r : Result ℕ Fault) → Ruled r → Ruled (repeat_of r)
 repeat_ruled (Err fault) h = h
@@ -168,7 +188,10 @@ loan_ruled Show c k rows n l = tt
 loan_ruled ShowInstalments c k rows n l = tt
 loan_ruled ShowEntries c k rows n l = tt
 loan_ruled (Take step) c k rows n l = by_value (next_stage step k.day l.loan.stage) _ (step_ruled step k.day l.loan.stage)
-loan_ruled (Repay asked) c k rows n l = known_ruled n asked (used_before asked.receipt (uses_from 1 rows.loans)) _ (enter_ruled (repayment asked c) k (account_in k l))
+loan_ruled (Repay asked) c k rows n l = known_ruled n asked (used_before asked.receipt (uses_from 1 rows.loans)) _ (enter_ruled none_first (λ today. repayment asked c) k (account_in k l) (λ a. tt))
+loan_ruled (ChargeFee charge due) c k rows n l = where_it_is (charge_in k charge) _ (λ d. enter_ruled (fee_first due) (fee d due c) k (account_in k l) (fee_ruled due))
+loan_ruled (Post asked) c k rows n l = enter_ruled none_first (posting asked c) k (account_in k l) (λ a. tt)
+loan_ruled (Reverse seq) c k rows n l = reverse_ruled seq (account_in k l)
 
 told_ruled : (account : Account) (rows : Rows) (r : Result (LoanReply × Option LedgerChange) Fault) → Ruled r → Ruled (of_loan account rows r)
 told_ruled account rows (Err fault) h = h

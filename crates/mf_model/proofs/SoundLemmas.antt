@@ -1,6 +1,6 @@
 -- An institution stays sound.
-use Rattle.std.proofs.Common.{◌≡◌, ℕ, ◌+◌, ◌<◌, ◌≤◌, Bool, true, false, cond, List, [], ◌∷◌, ◌++◌, length, codes, Option, Some, None, Ok, Err, refl, sym, ap, ◌∙◌, subst, arith}
-use Rattle.std.specs.Prelude.{◌==◌, ◌&&◌, ◌||◌, nat_lt, nat_le, is_some, option_map, Result}
+use Rattle.std.proofs.Common.{◌≡◌, ◌≢◌, ℕ, zero, suc, ◌+◌, ◌-◌, ◌<◌, ◌≤◌, Bool, true, false, cond, List, [], ◌∷◌, ◌++◌, length, codes, Option, Some, None, Ok, Err, refl, sym, ap, ◌∙◌, subst, arith}
+use Rattle.std.specs.Prelude.{◌==◌, ◌&&◌, ◌||◌, not, nat_lt, nat_le, is_some, option_map, Result}
 use Rattle.std.specs.List.{AllByRecursion}
 use Rattle.std.specs.Str.{is_utf8, chars}
 use lib.Utf8.{encode}
@@ -8,7 +8,7 @@ use Rattle.std.proofs.lemmas.Str.{IsUtf8-from_is_utf8}
 use Rattle.std.proofs.lemmas.Bool.Decides.{nat_tests}
 use Rattle.mf_base.specs.DayText.{last_entered_day}
 use Rattle.mf_base.specs.declared.fault.Fault.{Fault}
-use Rattle.mf_base.specs.declared.fault.Fault.TheVariants.{F4, F7, F8, F10, F17, F18}
+use Rattle.mf_base.specs.declared.fault.Fault.TheVariants.{F4, F7, F8, F10, F11, F12, F13, F17, F18}
 use Rattle.mf_office.specs.declared.staff.Role.{Role}
 use Rattle.mf_office.specs.declared.caller.Caller.{Caller}
 use Rattle.mf_office.specs.declared.account.Account.{Account}
@@ -22,13 +22,18 @@ use Rattle.mf_model.specs.declared.request.CatalogueRequest.TheVariants.{ShowDay
 use Rattle.mf_model.specs.declared.request.OfficeRequest.{OfficeRequest}
 use Rattle.mf_model.specs.declared.request.OfficeRequest.TheVariants.{AddStaff, AddClient, ShowClient, SubmitLoan, ListLoans}
 use Rattle.mf_model.specs.declared.request.LoanRequest.{LoanRequest}
-use Rattle.mf_model.specs.declared.request.LoanRequest.TheVariants.{Show, ShowInstalments, ShowEntries, Take, Repay}
+use Rattle.mf_model.specs.declared.request.LoanRequest.TheVariants.{Show, ShowInstalments, ShowEntries, Take, Repay, ChargeFee, Post, Reverse}
+use Rattle.mf_model.specs.declared.waivable.Waivable.{Waivable}
+use Rattle.mf_model.specs.declared.waivable.Waivable.TheVariants.{Penalties, Fees, Interest}
+use Rattle.mf_model.specs.Waivable.{portion_of}
+use Rattle.mf_model.specs.declared.request.Posting.{Posting}
+use Rattle.mf_model.specs.declared.request.Posting.TheVariants.{Penalty, Waiver, WriteOff, Refund}
 use Rattle.mf_model.specs.declared.request.LoanStep.{LoanStep}
 use Rattle.mf_model.specs.declared.request.LoanStep.TheVariants.{Approve, Reject, Withdraw, UndoApproval, Disburse}
 use Rattle.mf_model.specs.declared.request.Application.{Application}
 use Rattle.mf_model.specs.declared.request.Repayment.{Repayment}
 use Rattle.mf_model.specs.declared.reply.LoanReply.{LoanReply}
-use Rattle.mf_model.specs.declared.reply.LoanReply.TheVariants.{Shown, Instalments, Entries, Status, Entered, Repeated}
+use Rattle.mf_model.specs.declared.reply.LoanReply.TheVariants.{Shown, Instalments, Entries, Status, Entered, Repeated, Reversed}
 use Rattle.mf_model.specs.declared.reply.Reply.{Reply}
 use Rattle.mf_model.specs.declared.reply.Reply.TheVariants.{StaffMade, ClientMade, ClientShown, DayShown, DaySet, ChargeMade, ChargeShown, ProductMade, ProductShown, ProductRetired, LoanMade, Loan as LoanTold, LoansShown}
 use Rattle.mf_model.specs.Institution.{Institution, Catalogue, Charge, Offer, Office, Rows, Staff, Ledger, no_rows, product_of, charge_in, product_in, office_at, with_rows, with_office, new_office, Change, Catalogue_becomes, Rows_become, Office_added, after, after_maybe, newly_made, numbered, with_numbered}
@@ -37,11 +42,13 @@ use Rattle.mf_catalog.specs.declared.charge.ChargeDef.{ChargeDef}
 use Rattle.mf_catalog.specs.declared.terms.Terms.{Terms}
 use Rattle.mf_catalog.specs.declared.product.Product.{Product}
 use Rattle.mf_catalog.specs.declared.product.ProductMembers.{ProductMembers}
+use Rattle.mf_alloc.specs.declared.row.Portion.TheVariants.{Principal}
 use Rattle.mf_account.specs.declared.entry.Entry.{Entry}
 use Rattle.mf_account.specs.Loan.{Loan as Running, AreEntries, IsSound as IsSoundAccount}
-use Rattle.mf_account.specs.Refusals.{refusal_of, IsOffered}
-use Rattle.mf_account.specs.Standing.{entry_at}
-use Rattle.mf_account.proofs.SoundLemmas.{admitted, sound-entered}
+use Rattle.mf_account.specs.Kinds.{is_seal}
+use Rattle.mf_account.specs.Refusals.{refusal_of, reversal_refused, is_sealed, is_there as is_there_among, HasForm, IsOffered}
+use Rattle.mf_account.specs.Standing.{entry_at, with_mark}
+use Rattle.mf_account.proofs.SoundLemmas.{admitted, sound-entered, sound-reversed}
 use Rattle.mf_catalog.specs.Product.{charges_there, is_consistent, allows, lending}
 use Rattle.mf_model.specs.declared.loan.Stage.{Stage}
 use Rattle.mf_model.specs.declared.loan.Stage.TheVariants.{Submitted, Approved, Disbursed}
@@ -50,7 +57,7 @@ use Rattle.mf_model.specs.Catalogue.{show_day, day_set, set_day, charge_added, a
 use Rattle.mf_model.specs.Offices.{staff_added, add_staff, client_added, add_client, show_client}
 use Rattle.mf_model.specs.Stages.{stage_number, disbursed_on, disbursed, next_stage}
 use Rattle.mf_model.specs.Accounts.{terms_in, account_in, statement, instalments_in, entries_in}
-use Rattle.mf_model.specs.Loans.{LedgerChange, staged, entered, repayment, unless_fault, enter, repeat_of, unless_known, on_loan, loan_changed, of_loan, in_loan, loan_added, new_loan, submit, lines_above, list_loans}
+use Rattle.mf_model.specs.Loans.{LedgerChange, staged, entered, reversed, repayment, fee, posting, unless_fault, fault_or, none_first, fee_first, enter, reverse, repeat_of, unless_known, on_loan, loan_changed, of_loan, in_loan, loan_added, new_loan, submit, lines_above, list_loans}
 use Rattle.mf_model.specs.Desk.{Plan, plan, on_office, in_office, of_office, of_catalogue, change_in, sender_effect, outcome, staff_at, where_permitted, sent_by}
 use Rattle.mf_model.specs.Run.{Line, next, last}
 use Rattle.mf_model.specs.Sound.{IsName, AreMembers, IsSoundCharge, IsSoundOffer, IsSoundCatalogue, IsSoundLoan, IsStageBy, IsEntryBy, AreEntered, AreEntriesBy, is_staff, lends, IsSoundRows, IsSoundOffice, IsSound, IsCatalogueInRange, IsOfficeInRange, IsRepayment, IsLoanInRange, IsInRange, AreInRange}
@@ -58,7 +65,7 @@ use Rattle.mf_model.proofs.Views.{IsTree_after}
 use Rattle.mf_model.proofs.Steps.{known_line}
 use Rattle.mf_model.proofs.Confined.{IsTree_new}
 use Rattle.mf_model.specs.Receipts.{Use, uses_from, used_before, repeated, AreApart}
-use Rattle.mf_model.proofs.ReceiptLemmas.{KnownStay, known_entered, known_same, uses_with, uses_push, apart_entered}
+use Rattle.mf_model.proofs.ReceiptLemmas.{KnownStay, known_entered, known_same, uses_with, uses_marked, uses_push, apart_entered}
 use Rattle.mf_model.proofs.StaffLemmas.{KeepsStaff, KeepsStaffOf, staff_with_rows, staff_with_office}
 use Rattle.mf_model.proofs.AccountLemmas.{IsRunning, account_is, account_sound, day_of_stage, entered_at, no_entries, days_by}
 use Rattle.mf_model.proofs.Growing.{Grows, grows_self, StaffGrows, rows_grow, terms_push, terms_with, terms_charge, all_at, all_with_at, all_push, all_map, all_with, length_push, length_with, numbered_push, there_push, numbered_with, consistent_grows, charge_stays, offices_grow, lends_by_members, and_left, and_right}
@@ -358,7 +365,7 @@ step_sound step k s rows n l told change was h = either (next_stage step k.day l
     either (Ok stage) b h =
         let same : staged stage ≡ change = changed (Status (stage_number stage)) told (staged stage) change (ok_of (success (Status (stage_number stage)) (Some (staged stage))) (success told (Some change)) h) in
         let none : l.entries ≡ [] = none_before k.day s l.loan.periods (disbursed_on l.loan.stage) l.entries b.1 was.sound.entries in
-        let uses = uses_with n 1 (staged stage) rows.loans (λ x. refl) in
+        let uses = uses_with n 1 (staged stage) rows.loans (λ x m. refl) in
         subst (KeepsLoan k s rows n l) same (record {
           sound = record {
             client = was.sound.client;
@@ -388,23 +395,82 @@ entered_sound k s clients l a e c was h offered none by =
       entries = subst (λ d. AreEntriesBy k.day s l.loan.periods d (l.entries ++ e ∷ [])) (sym is.day_is) all;
     }
 
--- what is asked of an entry that is offered holds of a repayment
-pub repayment_offered : (k : Catalogue) (s : Caller → Bool) (clients : List (List ℕ)) (l : Ledger) (a : Running) (asked : Repayment) (staff : Caller) → IsRepayment asked → IsSoundLoan k s clients l → account_in k l ≡ Some a → IsOffered a (repayment asked staff a) k.day
-repayment_offered k s clients l a asked staff r was h =
+-- what is asked of an entry that is offered holds of the next one of an account, where its columns are its kind's
+next_offered : (k : Catalogue) (s : Caller → Bool) (clients : List (List ℕ)) (l : Ledger) (a : Running) (e : Entry) → e.seq ≡ length a.entries + 1 → e.reversed ≡ false → HasForm e.kind k.day e → IsSoundLoan k s clients l → account_in k l ≡ Some a → IsOffered a e k.day
+next_offered k s clients l a e next stands form was h =
     let is : IsRunning k l a = account_is k l a h in
     record {
-      next = refl;
-      stands = refl;
+      next = next;
+      stands = stands;
       disbursed = subst (λ (x : Running). x.day ≤ k.day) is.account_is (day_of_stage k.day l.loan.stage is.day is.day_is was.stage);
       latest = subst (λ (x : Running). (i : ℕ) → i < length x.entries → (entry_at x.entries i).day ≤ k.day) is.account_is (days_by k.day s l.entries (entered_at k s clients l is.day is.day_is was).each);
-      form = (r.0.0, r.0.1, refl, refl);
+      form = form;
     }
+
+pub repayment_offered : (k : Catalogue) (s : Caller → Bool) (clients : List (List ℕ)) (l : Ledger) (a : Running) (asked : Repayment) (staff : Caller) → IsRepayment asked → IsSoundLoan k s clients l → account_in k l ≡ Some a → IsOffered a (repayment asked staff a) k.day
+repayment_offered k s clients l a asked staff r = next_offered k s clients l a (repayment asked staff a) refl refl (r.0.0, r.0.1, refl, refl)
+
+never_principal : (p : Waivable) → portion_of p ≢ Principal
+never_principal Penalties = λ is. cc
+never_principal Fees = λ is. cc
+never_principal Interest = λ is. cc
+
+-- a posting is the next entry, stands, and has its kind's columns
+pub record IsNext (a : Running) (today : ℕ) (e : Entry) : Type 0 where
+  pub next : e.seq ≡ length a.entries + 1
+  pub stands : e.reversed ≡ false
+  pub form : HasForm e.kind today e
+
+pub posting_is_next : (asked : Posting) (staff : Caller) (today : ℕ) (a : Running) → IsNext a today (posting asked staff today a)
+posting_is_next (Penalty instalment) staff today a = record { next = refl; stands = refl; form = (refl, refl, refl) }
+posting_is_next (Waiver instalment portion) staff today a = record { next = refl; stands = refl; form = (refl, refl, never_principal portion, refl) }
+posting_is_next WriteOff staff today a = record { next = refl; stands = refl; form = (refl, refl, refl, refl, refl) }
+posting_is_next Refund staff today a = record { next = refl; stands = refl; form = (refl, refl, refl, refl, refl) }
+
+-- a posting counts from the business day, and carries no receipt
+posting_by : (asked : Posting) (staff : Caller) (today : ℕ) (s : Caller → Bool) (a : Running) → s staff ≡ true → IsEntryBy today s (posting asked staff today a) × ((posting asked staff today a).receipt ≡ None)
+posting_by (Penalty instalment) staff today s a there = (record { day = omega arith; staff = there; receipt = tt }, refl)
+posting_by (Waiver instalment portion) staff today s a there = (record { day = omega arith; staff = there; receipt = tt }, refl)
+posting_by WriteOff staff today s a there = (record { day = omega arith; staff = there; receipt = tt }, refl)
+posting_by Refund staff today s a there = (record { day = omega arith; staff = there; receipt = tt }, refl)
 
 in_order : (a : Running) (asked : Repayment) (staff : Caller) (today : ℕ) → refusal_of a (repayment asked staff a) today ≡ None → asked.day ≤ today
 in_order a asked staff today h =
     let is = admitted a (repayment asked staff a) today h in
     let order : (nat_lt asked.day a.day || nat_lt today asked.day) ≡ false = is.in_order in
     grind (arith, nat_tests)
+
+-- an entry that its account may take
+record IsMade (k : Catalogue) (s : Caller → Bool) (rows : Rows) (a : Running) (e : Entry) : Type 0 where
+  offered : IsOffered a e k.day
+  by : IsEntryBy k.day s e
+  free : used_before e.receipt (uses_from 1 rows.loans) ≡ None
+
+-- nothing refuses it
+none_refused : (first next : Option Fault) → fault_or first next ≡ None → next ≡ None
+none_refused None next h = h
+none_refused (Some fault) next h = absurd (cc)
+
+unless_fault_ok : (refusal : Option Fault) (tell told : LoanReply) (becomes change : LedgerChange) → unless_fault refusal tell becomes ≡ Ok (told, Some change) → (refusal ≡ None) × (becomes ≡ change)
+unless_fault_ok (Some fault) tell told becomes change h = absurd (cc)
+unless_fault_ok None tell told becomes change h = (refl, changed tell told becomes change (ok_of (success tell (Some becomes)) (success told (Some change)) h))
+
+-- an entry that is made leaves its loan sound
+enter_sound : (first : Running → Option Fault) (make : ℕ → Running → Entry) (k : Catalogue) (s : Caller → Bool) (rows : Rows) (n : ℕ) (l : Ledger) (told : LoanReply) (change : LedgerChange) → IsSoundCatalogue k → IsLoanOf k s rows l → ((a : Running) → account_in k l ≡ Some a → refusal_of a (make k.day a) k.day ≡ None → IsMade k s rows a (make k.day a)) → enter first make k (account_in k l) ≡ Ok (told, Some change) → KeepsLoan k s rows n l change
+enter_sound first make k s rows n l told change catalogue was made h = at (account_in k l) refl h
+  where
+    at : (o : Option Running) → account_in k l ≡ o → enter first make k o ≡ Ok (told, Some change) → KeepsLoan k s rows n l change
+    at None is h = absurd (cc)
+    at (Some a) is h =
+        let e : Entry = make k.day a in
+        let taken = unless_fault_ok (fault_or (first a) (refusal_of a (make k.day a) k.day)) (Entered (make k.day a).seq) told (entered (make k.day a)) change h in
+        let none : refusal_of a (make k.day a) k.day ≡ None = none_refused (first a) (refusal_of a (make k.day a) k.day) taken.0 in
+        let m : IsMade k s rows a (make k.day a) = made a is none in
+        subst (KeepsLoan k s rows n l) taken.1 (record {
+          sound = entered_sound k s rows.clients l a (make k.day a) catalogue was.sound is m.offered none m.by;
+          apart = apart_entered n (make k.day a) rows.loans m.free was.apart;
+          known = known_entered n (make k.day a) rows.loans m.free;
+        })
 
 -- a repayment that is entered carries no receipt that was used
 unless_known_ok : (n : ℕ) (asked : Repayment) (o : Option Use) (next : Result (LoanReply × Option LedgerChange) Fault) (told : LoanReply) (change : LedgerChange) → unless_known n asked o next ≡ Ok (told, Some change) → (o ≡ None) × (next ≡ Ok (told, Some change))
@@ -415,24 +481,88 @@ unless_known_ok n asked (Some u) next told change h = absurd (never (repeated n 
     never (Err e) h = cc
     never (Ok seq) h = not_changed (Repeated seq) told change (ok_of (success (Repeated seq) None) (success told (Some change)) h)
 
-repay_sound : (asked : Repayment) (c : Caller) (k : Catalogue) (s : Caller → Bool) (rows : Rows) (n : ℕ) (l : Ledger) (told : LoanReply) (change : LedgerChange) → IsSoundCatalogue k → s c ≡ true → IsRepayment asked → IsLoanOf k s rows l → used_before asked.receipt (uses_from 1 rows.loans) ≡ None → enter (repayment asked c) k (account_in k l) ≡ Ok (told, Some change) → KeepsLoan k s rows n l change
-repay_sound asked c k s rows n l told change catalogue there_is r was free h = at (account_in k l) refl h
-  where
-    taken : (a : Running) → account_in k l ≡ Some a → (o : Option Fault) → refusal_of a (repayment asked c a) k.day ≡ o → unless_fault o (repayment asked c a) ≡ Ok (told, Some change) → KeepsLoan k s rows n l change
-    taken a is (Some fault) none h = absurd (cc)
-    taken a is None none h =
-        let e : Entry = repayment asked c a in
-        let same : entered e ≡ change = changed (Entered e.seq) told (entered e) change (ok_of (success (Entered e.seq) (Some (entered e))) (success told (Some change)) h) in
-        let by : IsEntryBy k.day s (repayment asked c a) = record { day = in_order a asked c k.day none; staff = there_is; receipt = r.2 } in
-        subst (KeepsLoan k s rows n l) same (record {
-          sound = entered_sound k s rows.clients l a (repayment asked c a) catalogue was.sound is (repayment_offered k s rows.clients l a asked c r was.sound is) none by;
-          apart = apart_entered n (repayment asked c a) rows.loans free was.apart;
-          known = known_entered n (repayment asked c a) rows.loans free;
-        })
+repayment_made : (asked : Repayment) (c : Caller) (k : Catalogue) (s : Caller → Bool) (rows : Rows) (l : Ledger) (a : Running) → s c ≡ true → IsRepayment asked → IsLoanOf k s rows l → used_before asked.receipt (uses_from 1 rows.loans) ≡ None → account_in k l ≡ Some a → refusal_of a (repayment asked c a) k.day ≡ None → IsMade k s rows a (repayment asked c a)
+repayment_made asked c k s rows l a there r was free is none = record {
+  offered = repayment_offered k s rows.clients l a asked c r was.sound is;
+  by = record { day = in_order a asked c k.day none; staff = there; receipt = r.2 };
+  free = free;
+}
 
-    at : (o : Option Running) → account_in k l ≡ o → enter (repayment asked c) k o ≡ Ok (told, Some change) → KeepsLoan k s rows n l change
+fee_made : (charge : ChargeDef) (due : ℕ) (c : Caller) (k : Catalogue) (s : Caller → Bool) (rows : Rows) (l : Ledger) (a : Running) → s c ≡ true → IsLoanOf k s rows l → account_in k l ≡ Some a → IsMade k s rows a (fee charge due c k.day a)
+fee_made charge due c k s rows l a there was is = record {
+  offered = next_offered k s rows.clients l a (fee charge due c k.day a) refl refl (refl, refl, refl) was.sound is;
+  by = record { day = omega arith; staff = there; receipt = tt };
+  free = refl;
+}
+
+posting_made : (asked : Posting) (c : Caller) (k : Catalogue) (s : Caller → Bool) (rows : Rows) (l : Ledger) (a : Running) → s c ≡ true → IsLoanOf k s rows l → account_in k l ≡ Some a → IsMade k s rows a (posting asked c k.day a)
+posting_made asked c k s rows l a there was is =
+    let by = posting_by asked c k.day s a there in
+    let n = posting_is_next asked c k.day a in
+    record {
+      offered = next_offered k s rows.clients l a (posting asked c k.day a) n.next n.stands n.form was.sound is;
+      by = by.0;
+      free = ap (λ receipt. used_before receipt (uses_from 1 rows.loans)) by.1;
+    }
+
+-- a reversed entry leaves the others as they are
+all_marked : (P : Entry → Type 0) → ((e : Entry) → P e → P (record e { reversed = true })) → (at : ℕ) (es : List Entry) → AllByRecursion P es → AllByRecursion P (with_mark es at true)
+all_marked P keeps at [] all = tt
+all_marked P keeps zero (e ∷ es) all = (keeps e all.0, all.1)
+all_marked P keeps (suc at) (e ∷ es) all = (all.0, all_marked P keeps at es all.1)
+
+entry_by_marked : (today : ℕ) (s : Caller → Bool) (e : Entry) → IsEntryBy today s e → IsEntryBy today s (record e { reversed = true })
+entry_by_marked today s e by = record { day = by.day; staff = by.staff; receipt = by.receipt }
+
+-- an entry that may be reversed is there
+there_among : (n seq : ℕ) → is_there_among n seq ≡ true → seq - 1 < n
+there_among n seq h =
+    let first : nat_le 1 seq ≡ true = and_left (nat_le 1 seq) (nat_le seq n) h in
+    let last : nat_le seq n ≡ true = and_right (nat_le 1 seq) (nat_le seq n) h in
+    let some : 1 ≤ seq = grind (arith, nat_tests) in
+    let most : seq ≤ n = grind (arith, nat_tests) in
+    omega (arith, some, most)
+
+reversible : (es : List Entry) (seq : ℕ) → reversal_refused es seq ≡ None → seq - 1 < length es
+reversible es seq h = either (is_there_among (length es) seq) refl h
+  where
+    either : (b : Bool) → is_there_among (length es) seq ≡ b → cond (not b) (Some F12) (cond (entry_at es (seq - 1)).reversed (Some F13) (cond (is_sealed es && not (is_seal (entry_at es (seq - 1)).kind)) (Some F11) None)) ≡ None → seq - 1 < length es
+    either false is h = absurd (cc)
+    either true is h = there_among (length es) seq is
+
+-- a reversal leaves its loan sound
+reversed_sound : (seq : ℕ) (k : Catalogue) (s : Caller → Bool) (clients : List (List ℕ)) (l : Ledger) (a : Running) → IsSoundCatalogue k → IsSoundLoan k s clients l → account_in k l ≡ Some a → reversal_refused a.entries seq ≡ None → IsSoundLoan k s clients (reversed seq l)
+reversed_sound seq k s clients l a c was h none =
+    let is : IsRunning k l a = account_is k l a h in
+    let sound : IsSoundAccount a = account_sound k s clients l a c was h in
+    let without : IsSoundAccount (record a { entries = with_mark a.entries (seq - 1) true }) = sound-reversed a (seq - 1) sound (reversible a.entries seq none) in
+    let lawful : AreEntries l.loan.periods is.day (with_mark l.entries (seq - 1) true) = subst (λ (x : Running). AreEntries x.periods x.day (with_mark x.entries (seq - 1) true)) (sym is.account_is) without.entries in
+    let all : AreEntered k.day s l.loan.periods is.day (with_mark l.entries (seq - 1) true) = record {
+      lawful = lawful;
+      each = all_marked (IsEntryBy k.day s) (entry_by_marked k.day s) (seq - 1) l.entries (entered_at k s clients l is.day is.day_is was).each;
+    } in
+    record {
+      client = was.client;
+      product = was.product;
+      stage = was.stage;
+      entries = subst (λ d. AreEntriesBy k.day s l.loan.periods d (with_mark l.entries (seq - 1) true)) (sym is.day_is) all;
+    }
+
+reverse_sound : (seq : ℕ) (k : Catalogue) (s : Caller → Bool) (rows : Rows) (n : ℕ) (l : Ledger) (told : LoanReply) (change : LedgerChange) → IsSoundCatalogue k → IsLoanOf k s rows l → reverse seq (account_in k l) ≡ Ok (told, Some change) → KeepsLoan k s rows n l change
+reverse_sound seq k s rows n l told change catalogue was h = at (account_in k l) refl h
+  where
+    uses : uses_from 1 (with_numbered n (reversed seq) rows.loans) ≡ uses_from 1 rows.loans
+    uses = uses_with n 1 (reversed seq) rows.loans (λ x m. uses_marked m (seq - 1) x.entries)
+
+    at : (o : Option Running) → account_in k l ≡ o → reverse seq o ≡ Ok (told, Some change) → KeepsLoan k s rows n l change
     at None is h = absurd (cc)
-    at (Some a) is h = taken a is (refusal_of a (repayment asked c a) k.day) refl h
+    at (Some a) is h =
+        let taken = unless_fault_ok (reversal_refused a.entries seq) (Reversed seq) told (reversed seq) change h in
+        subst (KeepsLoan k s rows n l) taken.1 (record {
+          sound = reversed_sound seq k s rows.clients l a catalogue was.sound is taken.0;
+          apart = subst AreApart (sym uses) was.apart;
+          known = known_same (uses_from 1 rows.loans) (uses_from 1 (with_numbered n (reversed seq) rows.loans)) uses;
+        })
 
 not_told : (tell told : LoanReply) (change : LedgerChange) → ok (success tell None) ≡ Ok (success told (Some change)) → ⊥
 not_told tell told change h = not_changed tell told change (ok_of (success tell None) (success told (Some change)) h)
@@ -443,8 +573,14 @@ change_sound ShowInstalments c k s rows n l told change catalogue there r was h 
 change_sound ShowEntries c k s rows n l told change catalogue there r was h = absurd (not_told (Entries (entries_in k l)) told change h)
 change_sound (Take step) c k s rows n l told change catalogue there r was h = step_sound step k s rows n l told change was h
 change_sound (Repay asked) c k s rows n l told change catalogue there r was h =
-    let fresh = unless_known_ok n asked (used_before asked.receipt (uses_from 1 rows.loans)) (enter (repayment asked c) k (account_in k l)) told change h in
-    repay_sound asked c k s rows n l told change catalogue there r was fresh.0 fresh.1
+    let fresh = unless_known_ok n asked (used_before asked.receipt (uses_from 1 rows.loans)) (enter none_first (λ today. repayment asked c) k (account_in k l)) told change h in
+    enter_sound none_first (λ today. repayment asked c) k s rows n l told change catalogue was (λ a is none. repayment_made asked c k s rows l a there r was fresh.0 is none) fresh.1
+change_sound (ChargeFee charge due) c k s rows n l told change catalogue there r was h =
+    let found = where_found_ok (charge_in k charge) _ (told, Some change) h in
+    enter_sound (fee_first due) (fee found.0 due c) k s rows n l told change catalogue was (λ a is none. fee_made found.0 due c k s rows l a there was is) found.2
+change_sound (Post asked) c k s rows n l told change catalogue there r was h =
+    enter_sound none_first (posting asked c) k s rows n l told change catalogue was (λ a is none. posting_made asked c k s rows l a there was is) h
+change_sound (Reverse seq) c k s rows n l told change catalogue there r was h = reverse_sound seq k s rows n l told change catalogue was h
 
 changed_rows : (n : ℕ) (change : LedgerChange) (k : Catalogue) (staffed : Caller → Bool) (rows : Rows) (l : Ledger) → numbered rows.loans n ≡ Some l → KeepsLoan k staffed rows n l change → IsSoundRows k staffed rows → AreRowsAfter k staffed rows (loan_changed n change rows)
 changed_rows n change k staffed rows l there now s = (

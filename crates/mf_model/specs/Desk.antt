@@ -15,7 +15,8 @@ use Rattle.mf_model.specs.declared.request.OfficeRequest.{OfficeRequest}
 use Rattle.mf_model.specs.declared.request.OfficeRequest.TheVariants.{AddStaff, AddClient, ShowClient, SubmitLoan, ListLoans}
 use Rattle.mf_model.specs.declared.request.LoanStep.TheVariants.{Approve, Reject, Withdraw, UndoApproval, Disburse}
 use Rattle.mf_model.specs.declared.request.LoanRequest.{LoanRequest}
-use Rattle.mf_model.specs.declared.request.LoanRequest.TheVariants.{Show, ShowInstalments, ShowEntries, Take, Repay}
+use Rattle.mf_model.specs.declared.request.LoanRequest.TheVariants.{Show, ShowInstalments, ShowEntries, Take, Repay, ChargeFee, Post, Reverse}
+use Rattle.mf_model.specs.declared.request.Posting.TheVariants.{Penalty, Waiver, WriteOff, Refund}
 use Rattle.mf_model.specs.declared.request.Request.{Request}
 use Rattle.mf_model.specs.declared.request.Request.TheVariants as request
 use Rattle.mf_model.specs.declared.reply.Reply.{Reply}
@@ -91,6 +92,12 @@ loan_need (Take Withdraw) = An_officer
 loan_need (Take UndoApproval) = A_manager
 loan_need (Take (Disburse day)) = A_manager
 loan_need (Repay repayment) = A_teller
+loan_need (ChargeFee charge due) = An_officer
+loan_need (Post (Penalty instalment)) = An_officer
+loan_need (Post (Waiver instalment portion)) = A_manager
+loan_need (Post WriteOff) = A_manager
+loan_need (Post Refund) = A_manager
+loan_need (Reverse entry) = A_manager
 
 -- the table of roles
 abbrev pub need : Request → Need

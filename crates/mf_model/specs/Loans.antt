@@ -1,16 +1,16 @@
 -- What is asked of loans: how they are submitted and listed, what becomes of one loan, and what is told of it.
-use Rattle.std.specs.Prelude.{ℕ, ◌+◌, false, List, [], ◌∷◌, ◌++◌, length, take, drop, Option, Some, None, Result, Ok, Err}
+use Rattle.std.specs.Prelude.{ℕ, ◌+◌, ◌-◌, true, List, [], ◌∷◌, ◌++◌, length, take, drop, Option, Some, None, Result, Ok, Err}
 use Rattle.mf_base.specs.declared.fault.Fault.{Fault}
 use Rattle.mf_base.specs.declared.fault.Fault.TheVariants.{F9}
 use Rattle.mf_catalog.specs.declared.product.Product.{Product}
 use Rattle.mf_catalog.specs.Product.{lending}
 use Rattle.mf_office.specs.declared.account.Account.{Account}
 use Rattle.mf_office.specs.declared.caller.Caller.{Caller}
-use Rattle.mf_alloc.specs.declared.row.Portion.TheVariants.{Principal}
 use Rattle.mf_account.specs.declared.entry.Entry.{Entry}
-use Rattle.mf_account.specs.declared.entry.Kind.TheVariants as kind
 use Rattle.mf_account.specs.Loan.{Loan as Running}
-use Rattle.mf_account.specs.Refusals.{refusal_of}
+use Rattle.mf_account.specs.Standing.{with_mark}
+use Rattle.mf_account.specs.Refusals.{refusal_of, reversal_refused}
+use Rattle.mf_account.specs.Charges.{fee_refused}
 use Rattle.mf_model.specs.declared.loan.Stage.{Stage}
 use Rattle.mf_model.specs.declared.loan.Stage.TheVariants.{Submitted}
 use Rattle.mf_model.specs.declared.loan.Loan.{Loan}
@@ -18,15 +18,16 @@ use Rattle.mf_model.specs.declared.loan.LoanLine.{LoanLine}
 use Rattle.mf_model.specs.declared.request.Application.{Application}
 use Rattle.mf_model.specs.declared.request.Repayment.{Repayment}
 use Rattle.mf_model.specs.declared.request.LoanRequest.{LoanRequest}
-use Rattle.mf_model.specs.declared.request.LoanRequest.TheVariants.{Show, ShowInstalments, ShowEntries, Take, Repay}
+use Rattle.mf_model.specs.declared.request.LoanRequest.TheVariants.{Show, ShowInstalments, ShowEntries, Take, Repay, ChargeFee, Post, Reverse}
 use Rattle.mf_model.specs.declared.reply.LoanReply.{LoanReply}
-use Rattle.mf_model.specs.declared.reply.LoanReply.TheVariants.{Shown, Instalments, Entries, Status, Entered, Repeated}
+use Rattle.mf_model.specs.declared.reply.LoanReply.TheVariants.{Shown, Instalments, Entries, Status, Entered, Repeated, Reversed}
 use Rattle.mf_model.specs.declared.reply.Reply.{Reply}
 use Rattle.mf_model.specs.declared.reply.Reply.TheVariants as reply
-use Rattle.mf_model.specs.Institution.{Catalogue, Rows, Ledger, numbered, with_numbered, product_in}
+use Rattle.mf_model.specs.Institution.{Catalogue, Rows, Ledger, numbered, with_numbered, charge_in, product_in}
 use Rattle.mf_model.specs.Outcomes.{next_of, with_value, where_found, unless_refused}
 use Rattle.mf_model.specs.Stages.{stage_number, next_stage}
 use Rattle.mf_model.specs.Receipts.{Use, uses_from, used_before, repeated}
+pub use Rattle.mf_model.specs.Postings.{repayment, fee, posting}
 use Rattle.mf_model.specs.Accounts.{account_in, status_in, statement, instalments_in, entries_in}
 
 -- what becomes of a loan
@@ -45,29 +46,37 @@ entered e l = record l { entries = l.entries ++ e ∷ [] }
 abbrev pub with_entries : List Entry → LedgerChange
 with_entries entries l = record l { entries = entries }
 
--- a repayment, as the next entry of an account
-abbrev pub repayment : Repayment → Caller → Running → Entry
-repayment asked staff a = record {
-  seq = length a.entries + 1;
-  kind = kind.Repay;
-  day = asked.day;
-  amount = asked.amount;
-  instalment = 0;
-  portion = Principal;
-  receipt = asked.receipt;
-  staff = staff;
-  reversed = false;
-}
+-- an entry counts no more
+abbrev pub reversed : ℕ → LedgerChange
+reversed seq l = record l { entries = with_mark l.entries (seq - 1) true }
 
--- an entry that its account refuses, or the number that it has
-abbrev pub unless_fault : Option Fault → Entry → Result (LoanReply × Option LedgerChange) Fault
-unless_fault (Some fault) e = Err fault
-unless_fault None e = Ok (Entered e.seq, Some (entered e))
+-- a refusal, or what is told and what becomes of the loan
+abbrev pub unless_fault : Option Fault → LoanReply → LedgerChange → Result (LoanReply × Option LedgerChange) Fault
+unless_fault (Some fault) told change = Err fault
+unless_fault None told change = Ok (told, Some change)
 
--- one entry more, made for the account that there is, where its account does not refuse it; F9 where the loan is not disbursed
-abbrev pub enter : (Running → Entry) → Catalogue → Option Running → Result (LoanReply × Option LedgerChange) Fault
-enter make k None = Err F9
-enter make k (Some a) = unless_fault (refusal_of a (make a) k.day) (make a)
+-- the first refusal, or the second where there is none
+abbrev pub fault_or : Option Fault → Option Fault → Option Fault
+fault_or (Some fault) next = Some fault
+fault_or None next = next
+
+-- One entry more, made on the business day for the account that there is. F9 where the loan is not disbursed, then what refuses it beforehand, then what its account refuses.
+abbrev pub enter : (Running → Option Fault) → (ℕ → Running → Entry) → Catalogue → Option Running → Result (LoanReply × Option LedgerChange) Fault
+enter first make k None = Err F9
+enter first make k (Some a) = let e = make k.day a in unless_fault (fault_or (first a) (refusal_of a e k.day)) (Entered e.seq) (entered e)
+
+-- nothing refuses an entry before its account does
+abbrev pub none_first : Running → Option Fault
+none_first a = None
+
+-- a fee may fall due too early
+abbrev pub fee_first : ℕ → Running → Option Fault
+fee_first due a = fee_refused a due
+
+-- an entry counts no more, where its account lets it go; F9 where the loan is not disbursed
+abbrev pub reverse : ℕ → Option Running → Result (LoanReply × Option LedgerChange) Fault
+reverse seq None = Err F9
+reverse seq (Some a) = unless_fault (reversal_refused a.entries seq) (Reversed seq) (reversed seq)
 
 -- an entry that was there; nothing becomes of the loan
 abbrev pub repeat_of : Result ℕ Fault → Result (LoanReply × Option LedgerChange) Fault
@@ -81,7 +90,7 @@ unless_known n asked (Some u) next = repeat_of (repeated n asked.amount asked.da
 
 -- A repayment of loan n of an office with these rows. A receipt that the office knows comes first, whatever the loan's stage.
 abbrev pub repay : Repayment → Caller → Catalogue → Rows → ℕ → Ledger → Result (LoanReply × Option LedgerChange) Fault
-repay asked caller k rows n l = unless_known n asked (used_before asked.receipt (uses_from 1 rows.loans)) (enter (repayment asked caller) k (account_in k l))
+repay asked caller k rows n l = unless_known n asked (used_before asked.receipt (uses_from 1 rows.loans)) (enter none_first (λ today. repayment asked caller) k (account_in k l))
 
 -- what a request on loan n of an office with these rows is told, and what becomes of the loan
 abbrev pub on_loan : LoanRequest → Caller → Catalogue → Rows → ℕ → Ledger → Result (LoanReply × Option LedgerChange) Fault
@@ -90,6 +99,9 @@ on_loan ShowInstalments caller k rows n l = Ok (Instalments (instalments_in k l)
 on_loan ShowEntries caller k rows n l = Ok (Entries (entries_in k l), None)
 on_loan (Take step) caller k rows n l = with_value (next_stage step k.day l.loan.stage) (λ stage. (Status (stage_number stage), Some (staged stage)))
 on_loan (Repay asked) caller k rows n l = repay asked caller k rows n l
+on_loan (ChargeFee charge due) caller k rows n l = where_found (charge_in k charge) (λ c. enter (fee_first due) (fee c due caller) k (account_in k l))
+on_loan (Post asked) caller k rows n l = enter none_first (posting asked caller) k (account_in k l)
+on_loan (Reverse seq) caller k rows n l = reverse seq (account_in k l)
 
 -- the rows where this becomes of a loan
 abbrev pub loan_changed : ℕ → LedgerChange → Rows → Rows

@@ -27,7 +27,9 @@ use Rattle.mf_model.specs.declared.request.Repayment.{Repayment}
 use Rattle.mf_model.specs.declared.request.LoanStep.{LoanStep}
 use Rattle.mf_model.specs.declared.request.LoanStep.TheVariants.{Approve, Reject, Withdraw, UndoApproval, Disburse}
 use Rattle.mf_model.specs.declared.request.LoanRequest.{LoanRequest}
-use Rattle.mf_model.specs.declared.request.LoanRequest.TheVariants.{Show, ShowInstalments, ShowEntries, Take, Repay}
+use Rattle.mf_model.specs.declared.request.LoanRequest.TheVariants.{Show, ShowInstalments, ShowEntries, Take, Repay, ChargeFee, Post, Reverse}
+use Rattle.mf_model.specs.declared.request.Posting.{Posting}
+use Rattle.mf_model.specs.declared.request.Posting.TheVariants.{Penalty, Waiver, WriteOff, Refund}
 use Rattle.mf_model.specs.Institution.{Institution, Catalogue, Charge, Offer, Staff, Rows, Office, Ledger, staff_in, numbered, charge_in, product_in}
 use Rattle.mf_model.specs.Stages.{disbursed_on}
 use Rattle.mf_model.specs.Receipts.{uses_from, AreApart, IsReceipt}
@@ -167,12 +169,22 @@ IsStepInRange UndoApproval = Unit {0}
 abbrev pub IsRepayment : Repayment → Type 0
 IsRepayment asked = ((1 ≤ asked.amount) × (asked.amount ≤ greatest_amount)) × (asked.day ≤ last_entered_day) × IfSome asked.receipt IsReceipt
 
+-- an instalment is named by a number from 1 on
+abbrev pub IsPostingInRange : Posting → Type 0
+IsPostingInRange (Penalty instalment) = (1 ≤ instalment) × (instalment ≤ 999999999)
+IsPostingInRange (Waiver instalment portion) = (1 ≤ instalment) × (instalment ≤ 999999999)
+IsPostingInRange WriteOff = Unit {0}
+IsPostingInRange Refund = Unit {0}
+
 abbrev pub IsLoanInRange : LoanRequest → Type 0
 IsLoanInRange Show = Unit {0}
 IsLoanInRange ShowInstalments = Unit {0}
 IsLoanInRange ShowEntries = Unit {0}
 IsLoanInRange (Take step) = IsStepInRange step
 IsLoanInRange (Repay asked) = IsRepayment asked
+IsLoanInRange (ChargeFee charge due) = (charge ≤ 999999999) × (due ≤ last_entered_day)
+IsLoanInRange (Post asked) = IsPostingInRange asked
+IsLoanInRange (Reverse entry) = entry ≤ 999999999
 
 abbrev pub IsInRange : Request → Type 0
 IsInRange (request.Unreadable flaw) = Unit {0}

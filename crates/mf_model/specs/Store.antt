@@ -6,7 +6,7 @@ use Rattle.mf_office.specs.declared.staff.Role.{Role}
 use Rattle.mf_office.specs.declared.caller.Caller.{Caller}
 use Rattle.mf_office.specs.declared.account.Account.{Account}
 use Rattle.mf_model.specs.declared.commit.Commit.{Commit}
-use Rattle.mf_model.specs.declared.commit.Commit.TheVariants.{AddOffice, AddStaff, AddClient, SetDay, AddCharge, AddProduct, RetireProduct, AddLoan, SetStage, Enter}
+use Rattle.mf_model.specs.declared.commit.Commit.TheVariants.{AddOffice, AddStaff, AddClient, SetDay, AddCharge, AddProduct, RetireProduct, AddLoan, SetStage, Enter, Reverse}
 use Rattle.mf_model.specs.declared.loan.Loan.{Loan}
 use Rattle.mf_model.specs.declared.loan.LoanLine.{LoanLine}
 use Rattle.mf_model.specs.declared.store.CatalogueCounts.{CatalogueCounts}
@@ -93,6 +93,7 @@ change_of (RetireProduct product) i = Catalogue_becomes (product_retired product
 change_of (AddLoan office loan) i = Rows_become office (loan_added loan (rows_at office i))
 change_of (SetStage loan stage) i = Rows_become loan.office (loan_staged loan.number stage (rows_at loan.office i))
 change_of (Enter loan account) i = Rows_become loan.office (loan_entered loan.number account.loan.entries (rows_at loan.office i))
+change_of (Reverse loan seq account) i = Rows_become loan.office (loan_entered loan.number account.loan.entries (rows_at loan.office i))
 
 -- the institution after a commit
 abbrev pub committed : Commit → Institution → Institution

@@ -53,9 +53,15 @@ pub enum Commit {
         loan: Account,
         stage: Stage,
     },
-    /// A loan that is disbursed has the entries of this account.
+    /// A loan that is disbursed has one entry more; these are its entries then.
     Enter {
         loan: Account,
+        account: LoanAccount,
+    },
+    /// An entry of a loan that is disbursed is reversed; these are its entries then.
+    Reverse {
+        loan: Account,
+        seq: u32,
         account: LoanAccount,
     },
 }

@@ -10,6 +10,7 @@ ghost use Rattle.mf_model.specs.Unseen.{Asked, IsUnseen, asked_of, sent};
 ghost use Rattle.mf_model.specs.Sound.{IsSound, IsInRange, AreInRange};
 ghost use Rattle.mf_model.specs.WorkedRows.{first_day, branches, chain, lending, first_of_2024, catalogue_day, deciding};
 ghost use Rattle.mf_model.specs.WorkedAccounts.{january, repaying, scheduled, back_dated, overpaying, principal_first, out_of_order, disbursing, receipts};
+ghost use Rattle.mf_model.specs.WorkedEntries.{fee_paid_before, fees_by_day, waiving, penalties_first, principal_before, interest_before, penalty_taken_back, reversing, refunding, writing_off, receipt_of_a_reversed_entry};
 ghost use Rattle.mf_base.specs.DayText.{last_entered_day};
 ghost use Rattle.mf_office.specs.Tree.{IsTreeOf};
 ghost use Rattle.mf_model.specs.declared.request.Call.{Call};
@@ -179,6 +180,21 @@ pub fn worked_accounts()
     ensures out_of_order { answers (map (λ row. row.0) out_of_order) (newly_made january) ≡ map (λ row. row.1) out_of_order }
     ensures disbursing { answers (map (λ row. row.0) disbursing) (newly_made january) ≡ map (λ row. row.1) disbursing }
     ensures receipts { answers (map (λ row. row.0) receipts) (newly_made january) ≡ map (λ row. row.1) receipts }
+{}
+
+/// What is answered of loans with fees, penalties, waivers, write-offs, refunds and reversals, worked out line by line.
+pub fn worked_entries()
+    ensures fee_paid_before { answers (map (λ row. row.0) fee_paid_before) (newly_made january) ≡ map (λ row. row.1) fee_paid_before }
+    ensures fees_by_day { answers (map (λ row. row.0) fees_by_day) (newly_made january) ≡ map (λ row. row.1) fees_by_day }
+    ensures waiving { answers (map (λ row. row.0) waiving) (newly_made january) ≡ map (λ row. row.1) waiving }
+    ensures penalties_first { answers (map (λ row. row.0) penalties_first) (newly_made january) ≡ map (λ row. row.1) penalties_first }
+    ensures principal_before { answers (map (λ row. row.0) principal_before) (newly_made january) ≡ map (λ row. row.1) principal_before }
+    ensures interest_before { answers (map (λ row. row.0) interest_before) (newly_made january) ≡ map (λ row. row.1) interest_before }
+    ensures penalty_taken_back { answers (map (λ row. row.0) penalty_taken_back) (newly_made january) ≡ map (λ row. row.1) penalty_taken_back }
+    ensures reversing { answers (map (λ row. row.0) reversing) (newly_made january) ≡ map (λ row. row.1) reversing }
+    ensures refunding { answers (map (λ row. row.0) refunding) (newly_made january) ≡ map (λ row. row.1) refunding }
+    ensures writing_off { answers (map (λ row. row.0) writing_off) (newly_made january) ≡ map (λ row. row.1) writing_off }
+    ensures receipt_of_a_reversed_entry { answers (map (λ row. row.0) receipt_of_a_reversed_entry) (newly_made january) ≡ map (λ row. row.1) receipt_of_a_reversed_entry }
 {}
 
 /// The offices of a sound institution are a tree as the keys of offices know it.

@@ -10,6 +10,7 @@ mod names;
 mod reply;
 mod request;
 mod store;
+mod waivable;
 
 pub use commit::Commit;
 pub use listing::{LoanList, OfficeList};
@@ -17,7 +18,8 @@ pub use loan::{Loan, LoanLine, ReceiptUse, Stage, Statement};
 pub use names::is_name;
 pub use reply::{LoanReply, Reply};
 pub use request::{
-    Application, Call, CatalogueRequest, Flaw, LoanRequest, LoanStep, OfficeRequest, Repayment,
-    Request,
+    Application, Call, CatalogueRequest, Flaw, LoanRequest, LoanStep, OfficeRequest, Posting,
+    Repayment, Request,
 };
 pub use store::{CatalogueCounts, Counts, InstitutionStore};
+pub use waivable::Waivable;

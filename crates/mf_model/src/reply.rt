@@ -20,6 +20,8 @@ pub enum LoanReply {
     Entered(u32),
     /// An entry that was there, by its number: its receipt was sent again.
     Repeated(u32),
+    /// An entry that counts no more, by its number.
+    Reversed(u32),
 }
 
 /// What a request is told where it succeeds.

@@ -3,6 +3,7 @@
 ghost use Rattle.std.specs.Prelude.{◌≡◌};
 ghost use Rattle.mf_model.specs.Desk.{flaw_fault};
 
+use crate::waivable::Waivable;
 use mf_account::Receipt;
 use mf_base::{Day, Fault};
 use mf_catalog::{Calc, ChargeKind, ProductMembers};
@@ -114,6 +115,19 @@ pub struct Repayment {
     pub receipt: Option<Receipt>,
 }
 
+/// What staff enter of a loan beside repayments and fees; it counts from the business day.
+#[derive(Clone, Copy, Debug)]
+pub enum Posting {
+    /// The product's overdue charge on an instalment.
+    Penalty { instalment: u32 },
+    /// What is outstanding in one portion of an instalment is waived.
+    Waiver { instalment: u32, portion: Waivable },
+    /// All that is outstanding is written off.
+    WriteOff,
+    /// What is overpaid is given back.
+    Refund,
+}
+
 /// What is asked of one loan.
 #[derive(Debug, Drop)]
 pub enum LoanRequest {
@@ -127,6 +141,12 @@ pub enum LoanRequest {
     Take(LoanStep),
     /// A repayment.
     Repay(Repayment),
+    /// A fee by a charge of the catalogue, on the first instalment that is due on a day or after it, else on the last.
+    ChargeFee { charge: u32, due: Day },
+    /// An entry that counts from the business day.
+    Post(Posting),
+    /// An entry, by its number, counts no more.
+    Reverse { entry: u32 },
 }
 
 /// What is asked. Each route is one variant, here or within the part that it looks at.

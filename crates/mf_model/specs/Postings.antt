@@ -1,0 +1,54 @@
+-- The entries that staff make of a loan: each is the next of its account, and stands.
+use Rattle.std.specs.Prelude.{ℕ, ◌+◌, false, length, None}
+use Rattle.mf_catalog.specs.declared.charge.ChargeDef.{ChargeDef}
+use Rattle.mf_office.specs.declared.caller.Caller.{Caller}
+use Rattle.mf_alloc.specs.declared.row.Portion.{Portion}
+use Rattle.mf_alloc.specs.declared.row.Portion.TheVariants.{Penalty as PenaltyPart, Fee as FeePart, Principal}
+use Rattle.mf_account.specs.declared.entry.Entry.{Entry}
+use Rattle.mf_account.specs.declared.entry.Kind.{Kind}
+use Rattle.mf_account.specs.declared.entry.Kind.TheVariants as kind
+use Rattle.mf_account.specs.Loan.{Loan as Running}
+use Rattle.mf_account.specs.Charges.{fee_amount, fee_instalment, penalty_amount}
+use Rattle.mf_model.specs.declared.request.Posting.{Posting}
+use Rattle.mf_model.specs.declared.request.Posting.TheVariants.{Penalty, Waiver, WriteOff, Refund}
+use Rattle.mf_model.specs.declared.request.Repayment.{Repayment}
+use Rattle.mf_model.specs.Waivable.{portion_of}
+
+-- a repayment counts from the day that it names
+abbrev pub repayment : Repayment → Caller → Running → Entry
+repayment asked staff a = record {
+  seq = length a.entries + 1;
+  kind = kind.Repay;
+  day = asked.day;
+  amount = asked.amount;
+  instalment = 0;
+  portion = Principal;
+  receipt = asked.receipt;
+  staff = staff;
+  reversed = false;
+}
+
+-- every other entry counts from the business day, and has no receipt
+abbrev pub dated : Kind → ℕ → ℕ → Portion → Caller → ℕ → Running → Entry
+dated kind amount instalment portion staff today a = record {
+  seq = length a.entries + 1;
+  kind = kind;
+  day = today;
+  amount = amount;
+  instalment = instalment;
+  portion = portion;
+  receipt = None;
+  staff = staff;
+  reversed = false;
+}
+
+-- a fee by a charge, which falls due on a day
+abbrev pub fee : ChargeDef → ℕ → Caller → ℕ → Running → Entry
+fee charge due staff today a = dated kind.Fee (fee_amount a charge) (fee_instalment a due) FeePart staff today a
+
+-- a penalty, a waiver, a write-off or a refund; what the last three clear is read off the account
+abbrev pub posting : Posting → Caller → ℕ → Running → Entry
+posting (Penalty instalment) staff today a = dated kind.Penalty (penalty_amount a instalment) instalment PenaltyPart staff today a
+posting (Waiver instalment portion) staff today a = dated kind.Waive 0 instalment (portion_of portion) staff today a
+posting WriteOff staff today a = dated kind.WriteOff 0 0 Principal staff today a
+posting Refund staff today a = dated kind.Refund 0 0 Principal staff today a
