@@ -22,9 +22,9 @@ use Rattle.mf_store_records.specs.declared.loans.LoanRow.{LoanRow}
 use Rattle.mf_store_records.specs.declared.entries.EntryRow.{EntryRow}
 use Rattle.mf_store_records.specs.declared.receipts.ReceiptRow.{ReceiptRow}
 use Rattle.mf_store_records.specs.Writes.{changed, schema_of, Holds, Making, Putting}
-use Rattle.mf_store_records.proofs.Texts.{create_meta, create_offices, create_staff, create_clients, create_charges, create_products, create_loans, create_entries, create_receipts, defines_meta, defines_offices, defines_staff, defines_clients, defines_charges, defines_products, defines_loans, defines_entries, defines_receipts, made_is, upsert_meta, upsert_product, upsert_loan}
+use Rattle.mf_store_records.proofs.Texts.{create_meta, create_offices, create_staff, create_clients, create_charges, create_products, create_loans, create_entries, create_receipts, defines_meta, defines_offices, defines_staff, defines_clients, defines_charges, defines_products, defines_loans, defines_entries, defines_receipts, made_is, upsert_meta, upsert_product, upsert_loan, upsert_entry}
 use Rattle.mf_store_records.proofs.AddLemmas.{insert_office, insert_staff, insert_client, insert_charge, insert_product, insert_loan, insert_entry, insert_receipt, adds_office, adds_staff, adds_client, adds_charge, adds_product, adds_loan, adds_entry, adds_receipt}
-use Rattle.mf_store_records.proofs.TableLemmas.{by_meta_total, by_office_total, by_staff_total, by_client_total, by_charge_total, by_product_total, by_loan_total, by_entry_total, by_receipt_total, puts_meta, puts_product, puts_loan}
+use Rattle.mf_store_records.proofs.TableLemmas.{by_meta_total, by_office_total, by_staff_total, by_client_total, by_charge_total, by_product_total, by_loan_total, by_entry_total, by_receipt_total, puts_meta, puts_product, puts_loan, puts_entry}
 
 abbrev pub StandsAs : Database → Option Lists → Type 0
 StandsAs = Serves schema_of Holds
@@ -215,13 +215,18 @@ putting_loan = loan_written upsert_loan puts_loan
 pub adding_loan : (x : LoanRow) (old new : State) → Ran insert_loan (loan_row x) old new → Putting (put_loan x) old new
 adding_loan = loan_written insert_loan adds_loan
 
-pub putting_entry : (x : EntryRow) (old new : State) → Ran insert_entry (entry_row x) old new → Putting (put_entry x) old new
-putting_entry x old new ran = record { mode = ran.mode; was_open = ran.was_open; turns = turns }
+-- what a text makes of its own table and of the others
+abbrev Puts_entry : List ℕ → Type 1
+Puts_entry sql = (x : EntryRow) (old new : State) (count : ℕ) (items : List EntryRow) → old.now.schema ≡ schema → Keeps entry_row by_entry (old.now.trees 15) items → Executes sql (entry_row x) old new (Ok count)
+    → (new.now.schema ≡ schema) × Keeps entry_row by_entry (new.now.trees 15) (put_item by_entry x items) × Spares schema 15 old.now.trees new.now.trees × IsSound schema new.now.trees
+
+entry_written : (sql : List ℕ) → Puts_entry sql → (x : EntryRow) (old new : State) → Ran sql (entry_row x) old new → Putting (put_entry x) old new
+entry_written sql puts x old new ran = record { mode = ran.mode; was_open = ran.was_open; turns = turns }
   where
     turns : (lists : Option Lists) → StandsAs old.now lists → IsSome lists → StandsAs new.now (changed (put_entry x) lists)
     turns None s there = nothing_there there
     turns (Some m) s there =
-        let did = adds_entry x old new ran.count m.entries s.schema_is s.holds.entries ran.ran in
+        let did = puts x old new ran.count m.entries s.schema_is s.holds.entries ran.ran in
         let spared = did.2 in record {
           schema_is = did.0;
           holds = record {
@@ -237,6 +242,12 @@ putting_entry x old new ran = record { mode = ran.mode; was_open = ran.was_open;
             receipts = subst (λ t. Keeps receipt_row by_receipt t m.receipts) (sym (spared.1.1.1.1.1.1.1.1.0 (λ e. absurd (omega arith)))) s.holds.receipts;
           };
         }
+
+pub putting_entry : (x : EntryRow) (old new : State) → Ran upsert_entry (entry_row x) old new → Putting (put_entry x) old new
+putting_entry = entry_written upsert_entry puts_entry
+
+pub adding_entry : (x : EntryRow) (old new : State) → Ran insert_entry (entry_row x) old new → Putting (put_entry x) old new
+adding_entry = entry_written insert_entry adds_entry
 
 pub putting_receipt : (x : ReceiptRow) (old new : State) → Ran insert_receipt (receipt_row x) old new → Putting (put_receipt x) old new
 putting_receipt x old new ran = record { mode = ran.mode; was_open = ran.was_open; turns = turns }

@@ -11,8 +11,8 @@ use Rattle.mf_store_tables.specs.Keep.{Keeps, put_item}
 use Rattle.mf_store_tables.proofs.CompareLemmas.{equals_back, and_true, or_false, both_equal, number_same, key_step, also, each_kept, null_kept, text_kept}
 use Rattle.mf_store_tables.proofs.KeptLemmas.{Spares}
 use Rattle.mf_store_tables.proofs.UpsertLemmas.{upserts_kept}
-use Rattle.mf_store_records.specs.Tables.{schema, meta, products, loans}
-use Rattle.mf_store_records.specs.Rows.{by_meta, meta_row, by_office, by_staff, by_client, by_charge, by_product, product_row, by_loan, loan_row, by_entry, by_receipt}
+use Rattle.mf_store_records.specs.Tables.{schema, meta, products, loans, entries}
+use Rattle.mf_store_records.specs.Rows.{by_meta, meta_row, by_office, by_staff, by_client, by_charge, by_product, product_row, by_loan, loan_row, by_entry, entry_row, by_receipt}
 use Rattle.mf_store_records.specs.declared.meta.MetaRow.{MetaRow}
 use Rattle.mf_store_records.specs.declared.offices.OfficeRow.{OfficeRow}
 use Rattle.mf_store_records.specs.declared.staff.StaffRow.{StaffRow}
@@ -22,7 +22,7 @@ use Rattle.mf_store_records.specs.declared.products.ProductRow.{ProductRow}
 use Rattle.mf_store_records.specs.declared.loans.LoanRow.{LoanRow}
 use Rattle.mf_store_records.specs.declared.entries.EntryRow.{EntryRow}
 use Rattle.mf_store_records.specs.declared.receipts.ReceiptRow.{ReceiptRow}
-use Rattle.mf_store_records.proofs.Texts.{upsert_meta, upsert_meta_is, upsert_meta_plain, upsert_product, upsert_product_is, upsert_product_plain, upsert_loan, upsert_loan_is, upsert_loan_plain}
+use Rattle.mf_store_records.proofs.Texts.{upsert_meta, upsert_meta_is, upsert_meta_plain, upsert_product, upsert_product_is, upsert_product_plain, upsert_loan, upsert_loan_is, upsert_loan_plain, upsert_entry, upsert_entry_is, upsert_entry_plain}
 
 -- ---- meta
 
@@ -93,6 +93,16 @@ puts_loan x old new count items has k h =
 
 pub by_entry_total : IsTotalOrder by_entry
 by_entry_total = then_total (on_total (λ (x : EntryRow). x.office) nat_cmp_total) (then_total (on_total (λ (x : EntryRow). x.loan) nat_cmp_total) (on_total (λ (x : EntryRow). x.seq) nat_cmp_total))
+
+entry_clash : (x : EntryRow) (id i : ℤ) (y : EntryRow) → conflicts (Some (1 ∷ 2 ∷ 3 ∷ [])) schema.indexes entries (Int id ∷ entry_row x) (Int i ∷ entry_row y) ≡ is_eq (by_entry x y)
+unfolding first_key
+entry_clash x id i y = or_false _ ∙ (key_step _ _ _ _ (equals_back y.office x.office) (key_step _ _ _ _ (equals_back y.loan x.loan) (and_true _ ∙ equals_back y.seq x.seq)))
+
+pub puts_entry : (x : EntryRow) (old new : State) (count : ℕ) (items : List EntryRow) → old.now.schema ≡ schema → Keeps entry_row by_entry (old.now.trees 15) items → Executes upsert_entry (entry_row x) old new (Ok count)
+    → (new.now.schema ≡ schema) × Keeps entry_row by_entry (new.now.trees 15) (put_item by_entry x items) × Spares schema 15 old.now.trees new.now.trees × IsSound schema new.now.trees
+puts_entry x old new count items has k h =
+    upserts_kept entry_row by_entry by_entry_total schema 7 entries refl (λ keys olds news. refl) refl upsert_entry upsert_entry_plain _ 12 (1 ∷ 2 ∷ 3 ∷ []) 11 _ upsert_entry_is _ x refl (λ v. each_kept entries v (entry_row x) (refl, (refl, (refl, (refl, (refl, (refl, (refl, (refl, (text_kept x.receipt, (refl, (refl, tt)))))))))))) (entry_clash x) (λ v vs. refl)
+    (λ id i y tied. let k0 = both_equal _ _ tied in let k1 = both_equal _ _ k0.1 in also refl (also refl (also (number_same _ _ k0.0) (also (number_same _ _ k1.0) (also (number_same _ _ k1.1) (refl)))))) (λ t. refl) old new count items has k h
 
 -- ---- receipts
 

@@ -302,6 +302,17 @@ pub defines_entries : Defines (created (created (created (created (created (crea
 unfolding understood everything
 defines_entries = record { command = refl; plain = (refl, refl); table_is = refl; uncounted = refl }
 
+abbrev pub upsert_entry : List ℕ
+upsert_entry = codes "INSERT INTO entries VALUES (?1, ?2, ?3, ?4, ?5, ?6, ?7, ?8, ?9, ?10, ?11) ON CONFLICT (office, loan, seq) DO UPDATE SET kind = excluded.kind, day = excluded.day, amount = excluded.amount, instalment = excluded.instalment, portion = excluded.portion, receipt = excluded.receipt, staff = excluded.staff, reversed = excluded.reversed"
+
+pub upsert_entry_is : command_of (understood schema upsert_entry) ≡ InsertOr 7 Abort (Values (lit Null ∷ col 0 0 ∷ col 0 1 ∷ col 0 2 ∷ col 0 3 ∷ col 0 4 ∷ col 0 5 ∷ col 0 6 ∷ col 0 7 ∷ col 0 8 ∷ col 0 9 ∷ col 0 10 ∷ []) 12) (record { target = Some (1 ∷ 2 ∷ 3 ∷ []); update = Some (record { lets = []; body = scan 15 (eq (col 1 0) (col 0 11) ∷ []) (col 1 0 ∷ col 1 0 ∷ col 1 1 ∷ col 1 2 ∷ col 1 3 ∷ col 0 16 ∷ col 0 17 ∷ col 0 18 ∷ col 0 19 ∷ col 0 20 ∷ col 0 21 ∷ col 0 22 ∷ col 0 23 ∷ []) [] }) } ∷ [])
+unfolding understood everything
+upsert_entry_is = refl
+
+pub upsert_entry_plain : IsPlain (understood schema upsert_entry)
+unfolding understood everything
+upsert_entry_plain = (refl, refl)
+
 abbrev pub find_entry : List ℕ
 find_entry = codes "SELECT office, loan, seq, kind, day, amount, instalment, portion, receipt, staff, reversed FROM entries WHERE office = ?1 AND loan = ?2 AND seq = ?3 ORDER BY office, loan, seq"
 

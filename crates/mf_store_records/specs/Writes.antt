@@ -10,7 +10,7 @@ use Rattle.mf_store_tables.specs.Writes.{Serves, Steps}
 use Rattle.mf_store_records.specs.Tables.{schema}
 use Rattle.mf_store_records.specs.Rows.{Lists, no_rows, meta_row, office_row, staff_row, client_row, charge_row, product_row, loan_row, entry_row, receipt_row, by_meta, by_office, by_staff, by_client, by_charge, by_product, by_loan, by_entry, by_receipt, put_meta, put_office, put_staff, put_client, put_charge, put_product, put_loan, put_entry, put_receipt}
 use Rattle.mf_store_records.specs.declared.writes.StoreWrite.{StoreWrite}
-use Rattle.mf_store_records.specs.declared.writes.StoreWrite.TheVariants.{MakeTables, PutMeta, PutOffice, PutStaff, PutClient, PutCharge, AddProduct, PutProduct, AddLoan, PutLoan, AddEntry, AddReceipt}
+use Rattle.mf_store_records.specs.declared.writes.StoreWrite.TheVariants.{MakeTables, PutMeta, PutOffice, PutStaff, PutClient, PutCharge, AddProduct, PutProduct, AddLoan, PutLoan, AddEntry, ChangeEntry, AddReceipt}
 
 -- the trees list the schema and obey it, and keep these lists
 pub record HoldsLists (trees : Trees) (lists : Lists) : Type 0 where
@@ -49,6 +49,7 @@ after (PutProduct x) lists = changed (put_product x) lists
 after (AddLoan x) lists = changed (put_loan x) lists
 after (PutLoan x) lists = changed (put_loan x) lists
 after (AddEntry x) lists = changed (put_entry x) lists
+after (ChangeEntry x) lists = changed (put_entry x) lists
 after (AddReceipt x) lists = changed (put_receipt x) lists
 
 -- tables are made where there is none, and rows are put where there are

@@ -1,6 +1,6 @@
 ghost use Rattle.mf_store_records.specs.Rows.{entry_row, put_entry, is_entry, is_entry_of};
 
-use crate::table::{Added, Listed, Table};
+use crate::table::{Added, Changed, Listed, Table};
 use crate::text::Text;
 use mf_store_tables::run;
 use sqlite::{Alter, Error, Row, Transaction, params};
@@ -88,6 +88,15 @@ impl Added for EntryRow {
         self.execute(
             tx,
             "INSERT INTO entries VALUES (?1, ?2, ?3, ?4, ?5, ?6, ?7, ?8, ?9, ?10, ?11)",
+        )
+    }
+}
+
+impl Changed for EntryRow {
+    fn upsert<S: Alter>(&self, tx: &mut Transaction<'_, S>) -> Result<(), Error> {
+        self.execute(
+            tx,
+            "INSERT INTO entries VALUES (?1, ?2, ?3, ?4, ?5, ?6, ?7, ?8, ?9, ?10, ?11) ON CONFLICT (office, loan, seq) DO UPDATE SET kind = excluded.kind, day = excluded.day, amount = excluded.amount, instalment = excluded.instalment, portion = excluded.portion, receipt = excluded.receipt, staff = excluded.staff, reversed = excluded.reversed",
         )
     }
 }

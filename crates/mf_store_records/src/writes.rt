@@ -22,7 +22,7 @@ use sqlite::{Alter, Error, Transaction};
 
 /// What a commit is made of: the tables made, or one row put by its key. An office, a member of staff, a client and a
 /// charge are written once, when they are new; a product and a loan are added when they are new, and put when they change; an
-/// entry and a receipt are added when they are new.
+/// entry is added when it is new, and changed when it is reversed; a receipt is added when it is new.
 #[derive(Debug, Drop)]
 pub enum StoreWrite {
     MakeTables,
@@ -36,6 +36,7 @@ pub enum StoreWrite {
     AddLoan(LoanRow),
     PutLoan(LoanRow),
     AddEntry(EntryRow),
+    ChangeEntry(EntryRow),
     AddReceipt(ReceiptRow),
 }
 
@@ -121,6 +122,7 @@ impl Write for StoreWrite {
             StoreWrite::AddLoan(loan) => loan.insert(tx),
             StoreWrite::PutLoan(loan) => loan.upsert(tx),
             StoreWrite::AddEntry(entry) => entry.insert(tx),
+            StoreWrite::ChangeEntry(entry) => entry.upsert(tx),
             StoreWrite::AddReceipt(receipt) => receipt.insert(tx),
         }
     }
