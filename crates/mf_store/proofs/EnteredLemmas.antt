@@ -1,10 +1,9 @@
 -- What soundness says of entries: who entered them, and their numbers.
-use Rattle.std.proofs.Common.{◌≡◌, ◌<◌, ◌+◌, ℕ, zero, suc, Bool, true, List, [], ◌∷◌, ◌++◌, map, filter, length, slice_get, Option, None, Some, refl, sym, ap, ◌∙◌, subst, arith, true≢false}
+use Rattle.std.proofs.Common.{◌≡◌, ◌+◌, ℕ, zero, suc, Bool, true, List, [], ◌∷◌, ◌++◌, map, filter, length, slice_get, Option, None, Some, refl, sym, ap, ◌∙◌, subst, arith, true≢false}
 use Rattle.std.specs.List.{AllByRecursion}
 use Rattle.std.specs.Option.{is_some, option_map}
 use Rattle.mf_account.specs.declared.entry.Entry.{Entry}
 use Rattle.mf_account.specs.Change.{Account as Replayed}
-use Rattle.mf_account.specs.Standing.{entry_at}
 use Rattle.mf_office.specs.Numbers.{IsNumberUpTo}
 use Rattle.mf_office.specs.Texts.{IsCaller}
 use Rattle.mf_office.specs.declared.account.Account.{Account}
@@ -21,11 +20,10 @@ use Rattle.mf_model.proofs.Growing.{all_map, all_at}
 use Rattle.mf_model.proofs.SoundLemmas.{found_sound}
 use Rattle.mf_model.specs.declared.loan.Loan.{Loan}
 use Rattle.mf_store_records.specs.Rows.{entry_row, is_entry_of}
-use Rattle.mf_store_records.specs.declared.entries.EntryRow.{EntryRow}
 use Rattle.mf_store_records.specs.declared.loans.LoanRow.{LoanRow}
-use Rattle.mf_store.specs.Flat.{tables_of, entries_of, loans_of, loan_in, entry_in, loan_row_at, IsNextRow}
+use Rattle.mf_store.specs.Flat.{tables_of, entries_of, loans_of, loan_in, entry_in, loan_row_at}
 use Rattle.mf_store.proofs.CommitLemmas.{number_at}
-use Rattle.mf_store.proofs.EntryLemmas.{AreEarlier, entries_shown}
+use Rattle.mf_store.proofs.EntryLemmas.{AreEarlier, AreNumbered, later_numbered, entries_shown}
 use Rattle.mf_store.proofs.LoanLemmas.{loan_of, numbered_loan}
 use Rattle.mf_store.proofs.FlatLemmas.{numbered-suc, with_numbered_later}
 use Rattle.mf_store.proofs.LookLemmas.{has_number, office_sound}
@@ -92,20 +90,27 @@ changed_numbered : (change : Ledger → Ledger) (l : Ledger) (n : ℕ) (ls : Lis
 changed_numbered change l zero ls at = absurd (let k : None ≡ Some l = at in cc)
 changed_numbered change l (suc d) ls at = numbered-suc (with_numbered (suc d) change ls) d ∙ changed_at change l d ls (sym (numbered-suc ls d) ∙ at)
 
--- numbered from n + 1 on
-abbrev AreNumbered : ℕ → List Entry → Type 0
-AreNumbered n es = (i : ℕ) → i < length es → (entry_at es i).seq ≡ n + i + 1
+entries_numbered : (today : ℕ) (s : Caller → Bool) (n : ℕ) (o : Option ℕ) (es : List Entry) → AreEntriesBy today s n o es → AreNumbered 0 es
+entries_numbered today s n None es are = subst (AreNumbered 0) (sym are) (λ i below. absurd (omega (arith, below)))
+entries_numbered today s n (Some day) es are = λ i below. let number = are.lawful.numbers i below in omega (arith, number)
+
+-- those of a loan are numbered from 1 on
+pub loan_numbered : (x n : ℕ) (l : Ledger) (i : Institution) → IsSound i → numbered (rows_at x i).loans n ≡ Some l → AreNumbered 0 l.entries
+loan_numbered x n l i sound there =
+    let s = is_staff i.offices in
+    let is = all_at (IsSoundLoan i.catalogue s (rows_at x i).clients) (rows_at x i).loans n l (office_sound i.catalogue s x i.offices sound.each).loans there in
+    entries_numbered i.catalogue.day s l.loan.periods (disbursed_on l.loan.stage) l.entries is.entries
 
 last_number : (n : ℕ) (es : List Entry) (e : Entry) → AreNumbered n (es ++ e ∷ []) → e.seq ≡ n + length es + 1
 last_number n [] e h = h 0 (omega arith)
-last_number n (d ∷ es) e h = let last = last_number (n + 1) es e (λ i below. let next = h (suc i) (omega (arith, below)) in omega (arith, next)) in omega (arith, last)
+last_number n (d ∷ es) e h = let last = last_number (n + 1) es e (later_numbered n d (es ++ e ∷ []) h) in omega (arith, last)
 
 earlier : (n : ℕ) (es : List Entry) (e : Entry) → AreNumbered n (es ++ e ∷ []) → AreEarlier e.seq es
 earlier n [] e h = tt
 earlier n (d ∷ es) e h =
     let first = h 0 (omega arith) in
     let last = last_number n (d ∷ es) e h in
-    (omega (arith, first, last), earlier (n + 1) es e (λ i below. let next = h (suc i) (omega (arith, below)) in omega (arith, next)))
+    (omega (arith, first, last), earlier (n + 1) es e (later_numbered n d (es ++ e ∷ []) h))
 
 none_before : (es : List Entry) (e : Entry) → es ++ e ∷ [] ≡ [] → (P : Type 0) → P
 none_before [] e h P = absurd (let k : e ∷ [] ≡ [] = h in cc)
@@ -169,7 +174,7 @@ loan_there x n i found is = ap is_some is ∙ go (numbered (loans_of (rows_at x 
     back None = refl
     back (Some l) = refl
 
--- the row of one entry more
-pub next_row : (loan : Account) (entries before : List Entry) (found : Option Ledger) (last : Entry) (row : EntryRow) → is_some found ≡ true → before ≡ entries_of found → entries ≡ before ++ last ∷ [] → row ≡ entry_in loan.office loan.number last → IsNextRow loan entries found row
-next_row loan entries before None last row there is are row_is = absurd (true≢false (sym there))
-next_row loan entries before (Some l) last row there is are row_is = record { ledger = l; last = last; there = refl; one_more = are ∙ ap (λ es. es ++ last ∷ []) is; row_is = row_is }
+-- the entries of a loan that is there
+pub entries_found : (found : Option Ledger) (entries : List Entry) → is_some found ≡ true → entries ≡ entries_of found → (l : Ledger) × (found ≡ Some l) × (entries ≡ l.entries)
+entries_found None entries there is = absurd (true≢false (sym there))
+entries_found (Some l) entries there is = (l, refl, is)

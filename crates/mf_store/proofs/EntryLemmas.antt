@@ -1,12 +1,13 @@
 -- The rows of entries, loan by loan within each office: those of one loan, and one row put.
-use Rattle.std.proofs.Common.{◌≡◌, ◌<◌, ◌≤◌, ◌+◌, ◌-◌, ℕ, zero, suc, Bool, true, false, cond, List, [], ◌∷◌, ◌++◌, map, filter, slice_get, Option, None, Some, refl, sym, ap, ap₂, ◌∙◌, subst, arith, Ordering, Less, Greater, is_eq, nat_cmp, ◌==◌, nat_lt}
+use Rattle.std.proofs.Common.{◌≡◌, ◌<◌, ◌≤◌, ◌+◌, ◌-◌, ℕ, zero, suc, Bool, true, false, cond, List, [], ◌∷◌, ◌++◌, map, filter, length, take, drop, slice_get, Option, None, Some, refl, sym, ap, ap₂, ◌∙◌, subst, arith, Ordering, Less, Equal, Greater, is_eq, nat_cmp, ◌==◌, nat_lt}
 use Rattle.std.specs.List.{AllByRecursion}
 use Rattle.std.specs.Option.{is_some}
 use Rattle.std.specs.Ordering.{ordering_then}
 use Rattle.std.proofs.lemmas.Bool.Decides.{nat_tests}
-use Rattle.std.proofs.lemmas.List.{map-append}
+use Rattle.std.proofs.lemmas.List.{map-append, length-drop}
 use Rattle.std.proofs.lemmas.List.Elements.{filter-append}
 use Rattle.mf_account.specs.declared.entry.Entry.{Entry}
+use Rattle.mf_account.specs.Standing.{entry_at, with_mark}
 use Rattle.mf_store_tables.specs.Keep.{put_item}
 use Rattle.mf_model.specs.declared.loan.Loan.{Loan}
 use Rattle.mf_model.specs.declared.loan.Stage.{Stage}
@@ -16,8 +17,9 @@ use Rattle.mf_model.specs.Store.{rows_of}
 use Rattle.mf_model.specs.Tree.{Above, Ascending}
 use Rattle.mf_store_records.specs.Rows.{by_entry, is_entry_of}
 use Rattle.mf_store_records.specs.declared.entries.EntryRow.{EntryRow}
-use Rattle.mf_store.specs.Flat.{entry_in, rows_of_loans, entry_rows, entries_of}
-use Rattle.mf_store.proofs.FlatLemmas.{put_past, put_first, with_rows-above, below, numbered-suc, with_numbered_later}
+use Rattle.mf_store.specs.Flat.{entry_in, rows_of_loans, entry_rows, entries_of, reversed_entry}
+use Rattle.mf_store.proofs.OfficeRowsLemmas.{take_whole}
+use Rattle.mf_store.proofs.FlatLemmas.{put_past, put_first, put_over, with_rows-above, below, numbered-suc, with_numbered_later}
 
 -- ---- all of a list
 
@@ -133,50 +135,111 @@ after_loan x n s m t h = grind (arith, nat_tests)
 before_loan : (x n s m t : ℕ) → n < m → ordering_then (nat_cmp x x) (ordering_then (nat_cmp n m) (nat_cmp s t)) ≡ Less
 before_loan x n s m t h = grind (arith, nat_tests)
 
-after_entry : (x n s m t : ℕ) → m ≡ n → t < s → ordering_then (nat_cmp x x) (ordering_then (nat_cmp n m) (nat_cmp s t)) ≡ Greater
-after_entry x n s m t e h = grind (arith, nat_tests)
+after_entry : (x n s t : ℕ) → t < s → ordering_then (nat_cmp x x) (ordering_then (nat_cmp n n) (nat_cmp s t)) ≡ Greater
+after_entry x n s t h = grind (arith, nat_tests)
+
+before_entry : (x n s t : ℕ) → s < t → ordering_then (nat_cmp x x) (ordering_then (nat_cmp n n) (nat_cmp s t)) ≡ Less
+before_entry x n s t h = grind (arith, nat_tests)
+
+same_entry : (x n s : ℕ) → ordering_then (nat_cmp x x) (ordering_then (nat_cmp n n) (nat_cmp s s)) ≡ Equal
+same_entry x n s = grind (arith, nat_tests)
+
+-- a row put makes these entries of a loan, whose rows come before the others
+abbrev pub PutsEntry : ℕ → ℕ → Entry → List Entry → List Entry → Type 0
+PutsEntry x n e old new = (ys : List EntryRow) → AllByRecursion (λ r. by_entry (entry_in x n e) r ≡ Less) ys → put_item by_entry (entry_in x n e) (map (entry_in x n) old ++ ys) ≡ map (entry_in x n) new ++ ys
 
 -- each of these entries has a smaller number
 abbrev pub AreEarlier : ℕ → List Entry → Type 0
 AreEarlier seq entries = AllByRecursion (λ (e : Entry). e.seq < seq) entries
 
-earlier_rows : (x n m : ℕ) (e : Entry) (es : List Entry) → m ≡ n → AreEarlier e.seq es → AllByRecursion (λ r. by_entry (entry_in x n e) r ≡ Greater) (map (entry_in x m) es)
-earlier_rows x n m e [] same a = tt
-earlier_rows x n m e (d ∷ es) same a = (after_entry x n e.seq m d.seq same a.0, earlier_rows x n m e es same a.1)
+earlier_rows : (x n : ℕ) (e : Entry) (es : List Entry) → AreEarlier e.seq es → AllByRecursion (λ r. by_entry (entry_in x n e) r ≡ Greater) (map (entry_in x n) es)
+earlier_rows x n e [] a = tt
+earlier_rows x n e (d ∷ es) a = (after_entry x n e.seq d.seq a.0, earlier_rows x n e es a.1)
 
-put_at_place : (x n m d : ℕ) (e : Entry) (es : List Entry) (l : Ledger) (ls : List Ledger) (ys : List EntryRow) → n ≡ m + d → slice_get ls d ≡ Some l → es ≡ l.entries ++ e ∷ [] → AreEarlier e.seq l.entries → AllByRecursion (λ r. by_entry (entry_in x n e) r ≡ Less) ys
+-- one more entry
+pub puts_last : (x n : ℕ) (e : Entry) (es : List Entry) → AreEarlier e.seq es → PutsEntry x n e es (es ++ e ∷ [])
+puts_last x n e es early ys late =
+    put_past_all by_entry (entry_in x n e) (map (entry_in x n) es) ys (earlier_rows x n e es early) ∙ ap (λ r. map (entry_in x n) es ++ r) (put_first by_entry (entry_in x n e) ys late)
+    ∙ sym (append_twice (map (entry_in x n) es) (entry_in x n e ∷ []) ys) ∙ ap (λ r. r ++ ys) (sym (map-append (entry_in x n) es (e ∷ [])))
+
+-- numbered from n + 1 on
+abbrev pub AreNumbered : ℕ → List Entry → Type 0
+AreNumbered n es = (i : ℕ) → i < length es → (entry_at es i).seq ≡ n + i + 1
+
+pub later_numbered : (n : ℕ) (e : Entry) (es : List Entry) → AreNumbered n (e ∷ es) → AreNumbered (n + 1) es
+later_numbered n e es are = λ i below. let next = are (suc i) (omega (arith, below)) in omega (arith, next)
+
+later_rows : (x n m : ℕ) (e : Entry) (es : List Entry) → e.seq ≤ m → AreNumbered m es → AllByRecursion (λ r. by_entry (entry_in x n e) r ≡ Less) (map (entry_in x n) es)
+later_rows x n m e [] low are = tt
+later_rows x n m e (d ∷ es) low are = let first = are 0 (omega arith) in (before_entry x n e.seq d.seq (omega (arith, first, low)), later_rows x n (m + 1) e es (omega (arith, low)) (later_numbered m d es are))
+
+-- one of them reversed
+pub puts_reversed : (x n m k : ℕ) (es : List Entry) → AreNumbered m es → k < length es → PutsEntry x n (reversed_entry (entry_at es k)) es (with_mark es k true)
+puts_reversed x n m k [] are low ys late = absurd (omega (arith, low))
+puts_reversed x n m zero (e ∷ es) are low ys late =
+    let first = are 0 (omega arith) in
+    put_over by_entry (entry_in x n (reversed_entry e)) (entry_in x n e) (map (entry_in x n) es ++ ys) (same_entry x n e.seq)
+    (all_append (λ r. by_entry (entry_in x n (reversed_entry e)) r ≡ Less) (map (entry_in x n) es) ys (later_rows x n (m + 1) (reversed_entry e) es (omega (arith, first)) (later_numbered m e es are)) late)
+puts_reversed x n m (suc k) (e ∷ es) are low ys late =
+    let first = are 0 (omega arith) in
+    let this = are (suc k) low in
+    put_past by_entry (entry_in x n (reversed_entry (entry_at es k))) (entry_in x n e) (map (entry_in x n) es ++ ys) (after_entry x n (entry_at es k).seq e.seq (omega (arith, first, this)))
+    ∙ ap (λ rows. entry_in x n e ∷ rows) (puts_reversed x n (m + 1) k es (later_numbered m e es are) (omega (arith, low)) ys late)
+
+-- the entries from a place on
+abbrev from : ℕ → List Entry → List Entry
+from n es = take (length es - n) (drop n es)
+
+from_is : (n : ℕ) (es : List Entry) → from n es ≡ drop n es
+from_is n es = take_whole (length es - n) (drop n es) (let long = length-drop n es in omega (arith, long))
+
+one_apart : (es bs : List Entry) (k : ℕ) → k < length bs → length es ≡ length bs → entry_at es k ≡ reversed_entry (entry_at bs k) → take k bs ≡ take (length (take k bs)) es → drop (suc k) bs ≡ drop (suc k) es → es ≡ with_mark bs k true
+one_apart es [] k low long this first rest = absurd (omega (arith, low))
+one_apart [] (b ∷ bs) k low long this first rest = absurd (omega (arith, long))
+one_apart (e ∷ es) (b ∷ bs) zero low long this first rest = λ t. this t ∷ sym rest t
+one_apart (e ∷ es) (b ∷ bs) (suc k) low long this first rest =
+    let both : b ∷ take k bs ≡ e ∷ take (length (take k bs)) es = first in
+    let head : e ≡ b = cc in
+    let tail : take k bs ≡ take (length (take k bs)) es = cc in
+    λ t. head t ∷ one_apart es bs k (omega (arith, low)) (omega (arith, long)) this tail rest t
+
+-- the entry at a place is reversed, and all before it and all after it are the same
+pub reversed_at : (es bs : List Entry) (k : ℕ) → k < length bs → length es ≡ length bs → entry_at es k ≡ reversed_entry (entry_at bs k) → take k bs ≡ take (length (take k bs)) es → from (k + 1) bs ≡ take (length (from (k + 1) bs)) (from (k + 1) es) → es ≡ with_mark bs k true
+reversed_at es bs k low long this first rest =
+    let same : drop (k + 1) bs ≡ take (length (drop (k + 1) bs)) (drop (k + 1) es) = sym (from_is (k + 1) bs) ∙ rest ∙ (λ t. take (length (from_is (k + 1) bs t)) (from_is (k + 1) es t)) in
+    let many = length-drop (k + 1) bs in
+    let more = length-drop (k + 1) es in
+    let next : k + 1 ≡ suc k = omega arith in
+    one_apart es bs k low long this first (subst (λ n. drop n bs ≡ drop n es) next (same ∙ take_whole (length (drop (k + 1) bs)) (drop (k + 1) es) (omega (arith, many, more, long))))
+
+put_at_place : (x n m d : ℕ) (e : Entry) (es : List Entry) (l : Ledger) (ls : List Ledger) (ys : List EntryRow) → n ≡ m + d → slice_get ls d ≡ Some l → PutsEntry x n e l.entries es → AllByRecursion (λ r. by_entry (entry_in x n e) r ≡ Less) ys
     → put_item by_entry (entry_in x n e) (rows_of_loans x m ls ++ ys) ≡ rows_of_loans x m (with_numbered (suc d) (with_entries es) ls) ++ ys
-put_at_place x n m d e es l [] ys is at are early late = absurd (let k : None ≡ Some l = at in cc)
-put_at_place x n m zero e es l (k ∷ ls) ys is at are early late =
+put_at_place x n m d e es l [] ys is at puts late = absurd (let k : None ≡ Some l = at in cc)
+put_at_place x n m zero e es l (k ∷ ls) ys is at puts late =
     let found : Some k ≡ Some l = at in
     let this : k ≡ l = cc in
     let same : m ≡ n = omega (arith, is) in
-    let own : l.entries ≡ k.entries = ap (λ (h : Ledger). h.entries) (sym this) in
     let rest = rows_of_loans x (m + 1) ls ++ ys in
-    let whole : map (entry_in x m) es ≡ map (entry_in x m) k.entries ++ entry_in x n e ∷ [] =
-    ap (map (entry_in x m)) (are ∙ ap (λ xs. xs ++ e ∷ []) own) ∙ map-append (entry_in x m) k.entries (e ∷ []) ∙ ap (λ i. map (entry_in x m) k.entries ++ entry_in x i e ∷ []) same in
     ap (put_item by_entry (entry_in x n e)) (append_twice (map (entry_in x m) k.entries) (rows_of_loans x (m + 1) ls) ys)
-    ∙ put_past_all by_entry (entry_in x n e) (map (entry_in x m) k.entries) rest (earlier_rows x n m e k.entries same (subst (AreEarlier e.seq) own early))
-    ∙ ap (λ r. map (entry_in x m) k.entries ++ r) (put_first by_entry (entry_in x n e) rest
-    (all_append (λ r. by_entry (entry_in x n e) r ≡ Less) (rows_of_loans x (m + 1) ls) ys (all_loans (λ r. by_entry (entry_in x n e) r ≡ Less) x (m + 1) ls (λ i a low. before_loan x n e.seq i a.seq (omega (arith, low, same)))) late))
-    ∙ sym (append_twice (map (entry_in x m) k.entries) (entry_in x n e ∷ []) rest)
-    ∙ ap (λ r. r ++ rest) (sym whole) ∙ sym (append_twice (map (entry_in x m) es) (rows_of_loans x (m + 1) ls) ys)
-put_at_place x n m (suc d) e es l (k ∷ ls) ys is at are early late =
+    ∙ (λ t. put_item by_entry (entry_in x n e) (map (entry_in x (same t)) (this t).entries ++ rest))
+    ∙ puts rest (all_append (λ r. by_entry (entry_in x n e) r ≡ Less) (rows_of_loans x (m + 1) ls) ys (all_loans (λ r. by_entry (entry_in x n e) r ≡ Less) x (m + 1) ls (λ i a low. before_loan x n e.seq i a.seq (omega (arith, low, same)))) late)
+    ∙ ap (λ i. map (entry_in x i) es ++ rest) (sym same) ∙ sym (append_twice (map (entry_in x m) es) (rows_of_loans x (m + 1) ls) ys)
+put_at_place x n m (suc d) e es l (k ∷ ls) ys is at puts late =
     ap (put_item by_entry (entry_in x n e)) (append_twice (map (entry_in x m) k.entries) (rows_of_loans x (m + 1) ls) ys)
     ∙ put_past_all by_entry (entry_in x n e) (map (entry_in x m) k.entries) (rows_of_loans x (m + 1) ls ++ ys) (all_map (λ r. by_entry (entry_in x n e) r ≡ Greater) (entry_in x m) k.entries (λ a. after_loan x n e.seq m a.seq (omega (arith, is))))
-    ∙ ap (λ r. map (entry_in x m) k.entries ++ r) (put_at_place x n (m + 1) d e es l ls ys (omega (arith, is)) at are early late)
+    ∙ ap (λ r. map (entry_in x m) k.entries ++ r) (put_at_place x n (m + 1) d e es l ls ys (omega (arith, is)) at puts late)
     ∙ sym (append_twice (map (entry_in x m) k.entries) (rows_of_loans x (m + 1) (with_numbered (suc d) (with_entries es) ls)) ys)
     ∙ ap (λ xs. rows_of_loans x m xs ++ ys) (sym (with_numbered_later d (with_entries es) k ls))
 
 none_numbered : (n : ℕ) (l : Ledger) → numbered [] (suc n) ≡ Some l → (P : Type 0) → P
 none_numbered n l h P = absurd (let k : None ≡ Some l = sym (numbered-suc [] n) ∙ h in cc)
 
--- one more row of a loan, after those that it has
-pub entry_put : (x n : ℕ) (e : Entry) (es : List Entry) (l : Ledger) (new : Rows) (fs : List Office) → Ascending fs → numbered (rows_of (office_at x fs)).loans n ≡ Some l → new.loans ≡ with_numbered n (with_entries es) (rows_of (office_at x fs)).loans → es ≡ l.entries ++ e ∷ [] → AreEarlier e.seq l.entries
+-- a row put, when one loan of an office has other entries
+pub entry_put : (x n : ℕ) (e : Entry) (es : List Entry) (l : Ledger) (new : Rows) (fs : List Office) → Ascending fs → numbered (rows_of (office_at x fs)).loans n ≡ Some l → new.loans ≡ with_numbered n (with_entries es) (rows_of (office_at x fs)).loans → PutsEntry x n e l.entries es
     → put_item by_entry (entry_in x n e) (entry_rows fs) ≡ entry_rows (with_rows x new fs)
-entry_put x zero e es l new fs up at is are early = absurd (let k : None ≡ Some l = at in cc)
-entry_put x (suc n) e es l new [] up at is are early = none_numbered n l at _
-entry_put x (suc n) e es l new (f ∷ fs) up at is are early = go (f.number == x) refl at is (λ h k. entry_put x (suc n) e es l new fs up.1 h k are early)
+entry_put x zero e es l new fs up at is puts = absurd (let k : None ≡ Some l = at in cc)
+entry_put x (suc n) e es l new [] up at is puts = none_numbered n l at _
+entry_put x (suc n) e es l new (f ∷ fs) up at is puts = go (f.number == x) refl at is (λ h k. entry_put x (suc n) e es l new fs up.1 h k puts)
   where
     r : EntryRow
     r = entry_in x (suc n) e
@@ -188,7 +251,7 @@ entry_put x (suc n) e es l new (f ∷ fs) up at is are early = go (f.number == x
         let same : f.number ≡ x = grind (arith, nat_tests) in
         let above : Above x fs = subst (λ k. Above k fs) same up.0 in
         subst (λ y. put_item by_entry r (rows_of_loans y 1 f.rows.loans ++ entry_rows fs) ≡ rows_of_loans y 1 new.loans ++ entry_rows (with_rows x new fs)) (sym same)
-        (put_at_place x (suc n) 1 n e es l f.rows.loans (entry_rows fs) (omega arith) (sym (numbered-suc f.rows.loans n) ∙ at) are early
+        (put_at_place x (suc n) 1 n e es l f.rows.loans (entry_rows fs) (omega arith) (sym (numbered-suc f.rows.loans n) ∙ at) puts
         (all_offices (λ a. by_entry r a ≡ Less) x fs above (λ y m a low. before_office x (suc n) e.seq y m a.seq low))
         ∙ ap (λ xs. rows_of_loans x 1 xs ++ entry_rows fs) (sym is) ∙ ap (λ gs. rows_of_loans x 1 new.loans ++ entry_rows gs) (sym (with_rows-above x new fs above)))
     go false b at is more =

@@ -11,11 +11,12 @@ use Rattle.sqlite_keyed.proofs.ListLemmas.{filter-filter}
 use Rattle.mf_account.specs.declared.entry.Entry.{Entry}
 use Rattle.mf_account.specs.Change.{Account as Replayed, no_change}
 use Rattle.mf_account.specs.Loan.{Loan as Running, status_of_loan}
+use Rattle.mf_account.specs.Standing.{entry_at}
 use Rattle.mf_catalog.specs.declared.terms.Terms.{Terms}
 use Rattle.mf_base.specs.DayText.{day_text}
 use Rattle.mf_office.specs.declared.account.Account.{Account}
 use Rattle.mf_store_tables.specs.Keep.{put_item}
-use Rattle.mf_model.specs.declared.commit.Commit.TheVariants.{AddLoan, SetStage, Enter}
+use Rattle.mf_model.specs.declared.commit.Commit.TheVariants.{AddLoan, SetStage, Enter, Reverse}
 use Rattle.mf_model.specs.declared.loan.Loan.{Loan}
 use Rattle.mf_model.specs.declared.loan.LoanLine.{LoanLine}
 use Rattle.mf_model.specs.declared.loan.Stage.{Stage}
@@ -23,24 +24,25 @@ use Rattle.mf_model.specs.declared.loan.Stage.TheVariants.{Submitted, Approved, 
 use Rattle.mf_model.specs.Accounts.{account_in, of_account, running, running_from, status_in, terms_in}
 use Rattle.mf_model.specs.Desk.{loan_added, loan_staged, loan_entered}
 use Rattle.mf_model.specs.Institution.{Institution, Catalogue, Ledger, Rows, numbered, with_numbered, with_rows}
-use Rattle.mf_model.specs.Loans.{staged, with_entries, lines_from, lines_above}
+use Rattle.mf_model.specs.Loans.{staged, reversed, with_entries, lines_from, lines_above}
 use Rattle.mf_model.specs.Receipts.{uses_from, AreApart}
 use Rattle.mf_model.specs.Sound.{IsSound}
 use Rattle.mf_model.specs.Stages.{stage_number, disbursed_on}
 use Rattle.mf_model.specs.Store.{committed, rows_at, ledger_at, loan_at, account_at, account_of, replayed}
 use Rattle.mf_model.specs.Tree.{is_there}
-use Rattle.mf_model.proofs.ReceiptLemmas.{uses_with, uses_push}
+use Rattle.mf_model.proofs.Growing.{with_same_at}
+use Rattle.mf_model.proofs.ReceiptLemmas.{uses_with, uses_marked, uses_push}
 use Rattle.mf_store_records.specs.Rows.{Lists, by_staff, by_client, by_loan, by_entry, loan_row, is_loan_of, is_loan_above}
 use Rattle.mf_store_records.specs.declared.loans.LoanRow.{LoanRow}
 use Rattle.mf_store_records.specs.declared.entries.EntryRow.{EntryRow}
 use Rattle.mf_store_records.specs.declared.receipts.ReceiptRow.{ReceiptRow}
-use Rattle.mf_store.specs.Flat.{tables_of, numbered_from, staff_in, client_in, loan_in, loans_of, entry_in, line_in, approval_text, disbursal_text, entries_of}
+use Rattle.mf_store.specs.Flat.{tables_of, numbered_from, staff_in, client_in, loan_in, loans_of, entry_in, line_in, approval_text, disbursal_text, entries_of, reversed_entry, IsReversal}
 use Rattle.mf_store_records.specs.declared.writes.StoreWrite.TheVariants as write
 use Rattle.mf_store.specs.ReceiptRows.{receipt_rows, receipt_added, entry_added}
 use Rattle.mf_store.specs.Stands.{Becomes}
 use Rattle.mf_store.proofs.CatalogueLemmas.{amount_is}
 use Rattle.mf_store.proofs.CommitLemmas.{same_lists, offices-with_rows}
-use Rattle.mf_store.proofs.EntryLemmas.{AreEarlier, entry_put, same_entries_of, none_more, stage_alone}
+use Rattle.mf_store.proofs.EntryLemmas.{AreEarlier, AreNumbered, PutsEntry, puts_last, puts_reversed, entry_put, same_entries_of, none_more, stage_alone}
 use Rattle.mf_store.proofs.FlatLemmas.{put_row_of, put_over_of, same_rows_of, numbered-suc}
 use Rattle.mf_store.proofs.OfficeRowsLemmas.{rows_in_office, take_whole}
 use Rattle.mf_store.proofs.ReceiptRowLemmas.{same_receipts_of, no_receipt_put, receipt_put}
@@ -155,7 +157,7 @@ staged_becomes account stage l i r before sound there is = record {
       (same_rows_of client_in (λ rows. rows.clients) refl by_client (λ x n y m a b. refl) x new i.offices before.tree.ascending refl)
       (ap (λ r. put_item by_loan r (tables_of i).loans) is
       ∙ put_over_of loan_in loans_of refl by_loan (λ x n y m a b. refl) (λ l. record l { stage = stage }) l x account.number new i.offices before.tree.ascending there (loans_staged account.number stage (rows_at x i).loans))
-      (same_entries_of x new i.offices before.tree.ascending (stage_alone account.number stage (rows_at x i).loans)) (same_receipts_of x new i.offices before.tree.ascending (uses_with account.number 1 (staged stage) (rows_at x i).loans (λ l. refl))));
+      (same_entries_of x new i.offices before.tree.ascending (stage_alone account.number stage (rows_at x i).loans)) (same_receipts_of x new i.offices before.tree.ascending (uses_with account.number 1 (staged stage) (rows_at x i).loans (λ l k. refl))));
 }
   where
     x : ℕ
@@ -179,7 +181,7 @@ module _ (loan : Account) (account : Replayed) (e : Entry) (l : Ledger) (i : Ins
   row_added h = same_lists i (offices-with_rows x new i.offices) (same_rows_of staff_in (λ rows. rows.staff) refl by_staff (λ x n y m a b. refl) x new i.offices before.tree.ascending refl)
       (same_rows_of client_in (λ rows. rows.clients) refl by_client (λ x n y m a b. refl) x new i.offices before.tree.ascending refl)
       (same_rows_of loan_in loans_of refl by_loan (λ x n y m a b. refl) x new i.offices before.tree.ascending (loans_entered loan.number account.loan.entries (rows_at x i).loans))
-      (entry_put x loan.number e account.loan.entries l new i.offices before.tree.ascending there refl are early) h
+      (entry_put x loan.number e account.loan.entries l new i.offices before.tree.ascending there refl (subst (PutsEntry x loan.number e l.entries) (sym are) (puts_last x loan.number e l.entries early))) h
 
   row_becomes : (o : Option (List ℕ)) → e.receipt ≡ o → Becomes (write.AddEntry row ∷ receipt_added row o) i (committed (Enter loan account) i)
   row_becomes None none = record {
@@ -195,6 +197,37 @@ module _ (loan : Account) (account : Replayed) (e : Entry) (l : Ledger) (i : Ins
 
   pub entry_becomes : (r : EntryRow) → r ≡ entry_in loan.office loan.number e → Becomes (entry_added r) i (committed (Enter loan account) i)
   entry_becomes r is = subst (λ s. Becomes (entry_added s) i (committed (Enter loan account) i)) (sym is) (row_becomes e.receipt refl)
+
+-- what a reversal makes of the rows of its office: one entry's own
+module _ (loan : Account) (seq : ℕ) (account : Replayed) (l : Ledger) (i : Institution) (before : IsSound i) (sound : IsSound (committed (Reverse loan seq account) i)) (there : numbered (rows_at loan.office i).loans loan.number ≡ Some l) (numbers : AreNumbered 0 l.entries) (reversal : IsReversal seq l.entries account.loan.entries) where
+  abbrev reversed_rows : Rows
+  reversed_rows = loan_entered loan.number account.loan.entries (rows_at loan.office i)
+
+  abbrev entry : Entry
+  entry = reversed_entry (entry_at l.entries (seq - 1))
+
+  puts : PutsEntry loan.office loan.number entry l.entries account.loan.entries
+  puts =
+      let first = reversal.first in
+      let last = reversal.last in
+      subst (PutsEntry loan.office loan.number entry l.entries) (sym reversal.marked) (puts_reversed loan.office loan.number 0 (seq - 1) l.entries numbers (omega (arith, first, last)))
+
+  -- the receipts are as they were
+  same_uses : uses_from 1 reversed_rows.loans ≡ uses_from 1 (rows_at loan.office i).loans
+  same_uses =
+      let ls = (rows_at loan.office i).loans in
+      ap (uses_from 1) (with_same_at loan.number (with_entries account.loan.entries) (reversed seq) ls l there (ap (λ es. with_entries es l) reversal.marked)) ∙ uses_with loan.number 1 (reversed seq) ls (λ l k. uses_marked k (seq - 1) l.entries)
+
+  pub reversal_becomes : (r : EntryRow) → r ≡ entry_in loan.office loan.number entry → Becomes (write.ChangeEntry r ∷ []) i (committed (Reverse loan seq account) i)
+  reversal_becomes r is = record {
+    sound = sound;
+    fits = (refl, tt);
+    is = ap Some (same_lists i (offices-with_rows loan.office reversed_rows i.offices) (same_rows_of staff_in (λ rows. rows.staff) refl by_staff (λ x n y m a b. refl) loan.office reversed_rows i.offices before.tree.ascending refl)
+        (same_rows_of client_in (λ rows. rows.clients) refl by_client (λ x n y m a b. refl) loan.office reversed_rows i.offices before.tree.ascending refl)
+        (same_rows_of loan_in loans_of refl by_loan (λ x n y m a b. refl) loan.office reversed_rows i.offices before.tree.ascending (loans_entered loan.number account.loan.entries (rows_at loan.office i).loans))
+        (ap (λ r. put_item by_entry r (tables_of i).entries) is ∙ entry_put loan.office loan.number entry account.loan.entries l reversed_rows i.offices before.tree.ascending there refl puts)
+        (same_receipts_of loan.office reversed_rows i.offices before.tree.ascending same_uses));
+  }
 
 -- ---- lists of loans
 

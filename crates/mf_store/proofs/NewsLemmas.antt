@@ -12,7 +12,7 @@ use Rattle.mf_model.specs.declared.loan.Loan.{Loan}
 use Rattle.mf_model.specs.declared.loan.Stage.{Stage}
 use Rattle.mf_model.specs.declared.store.Counts.{Counts}
 use Rattle.mf_model.specs.declared.store.CatalogueCounts.{CatalogueCounts}
-use Rattle.mf_model.specs.declared.commit.Commit.TheVariants.{AddOffice, AddStaff, AddClient, SetDay, AddCharge, AddProduct, RetireProduct, AddLoan, SetStage, Enter}
+use Rattle.mf_model.specs.declared.commit.Commit.TheVariants.{AddOffice, AddStaff, AddClient, SetDay, AddCharge, AddProduct, RetireProduct, AddLoan, SetStage, Enter, Reverse}
 use Rattle.mf_model.specs.Institution.{Institution, Charge, Offer, Office, Rows, Staff, numbered, product_of, office_at, with_rows, with_office, new_office, after, Rows_become}
 use Rattle.mf_model.specs.Desk.{staff_added, client_added, loan_added, loan_staged, loan_entered}
 use Rattle.mf_account.specs.Change.{Account as Replayed}
@@ -173,6 +173,10 @@ entry_tells loan account i =
     rows_tell_nothing loan.office (loan_entered loan.number account.loan.entries rows) i
     (λ t. record { staff = length rows.staff; clients = length rows.clients; loans = length_with loan.number (with_entries account.loan.entries) rows.loans t })
     (λ n s h. h)
+
+-- a reversal changes the same rows
+pub reversal_tells : (loan : Account) (seq : ℕ) (account : Replayed) (i : Institution) → Tells Nothing i (committed (Reverse loan seq account) i)
+reversal_tells loan seq account i = entry_tells loan account i
 
 new_rows : (new : Office) (fs : List Office) → office_at new.number fs ≡ None → rows_of (office_at new.number (with_office new fs)) ≡ new.rows
 new_rows new [] none = grind (arith, nat_tests)

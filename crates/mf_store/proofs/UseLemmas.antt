@@ -1,25 +1,21 @@
 -- The entry that carries a receipt: it is found by the loan and the number that the receipt's row tells.
-use Rattle.std.proofs.Common.{◌≡◌, ◌<◌, ◌+◌, ℕ, zero, suc, Bool, true, false, cond, ◌&&◌, List, [], ◌∷◌, ◌++◌, map, filter, find, length, slice_get, Option, None, Some, refl, sym, ap, ◌∙◌, subst, arith, Ordering, Less, Equal, Greater, is_eq, nat_cmp}
+use Rattle.std.proofs.Common.{◌≡◌, ◌<◌, ◌+◌, ℕ, zero, suc, Bool, true, false, cond, ◌&&◌, List, [], ◌∷◌, ◌++◌, map, filter, find, slice_get, Option, None, Some, refl, sym, ap, ◌∙◌, subst, arith, Ordering, Less, Equal, Greater, is_eq, nat_cmp}
 use Rattle.std.specs.Option.{option_or}
 use Rattle.std.specs.Ordering.{ordering_then}
 use Rattle.std.specs.Str.{bytes_eq}
 use Rattle.std.proofs.lemmas.Bool.Decides.{nat_tests}
 use Rattle.std.proofs.lemmas.List.Folds.{find-append}
 use Rattle.mf_account.specs.declared.entry.Entry.{Entry}
-use Rattle.mf_account.specs.Standing.{entry_at}
-use Rattle.mf_office.specs.declared.caller.Caller.{Caller}
 use Rattle.mf_model.specs.Institution.{Institution, Ledger, numbered}
 use Rattle.mf_model.specs.Receipts.{Use, use_by, use_of, uses_in, uses_from, used}
-use Rattle.mf_model.specs.Sound.{IsSound, IsSoundLoan, AreEntriesBy, is_staff}
-use Rattle.mf_model.specs.Stages.{disbursed_on}
+use Rattle.mf_model.specs.Sound.{IsSound}
 use Rattle.mf_model.specs.Store.{rows_at, use_at}
-use Rattle.mf_model.proofs.Growing.{all_at}
 use Rattle.mf_store_records.specs.Rows.{is_entry, is_entry_of}
 use Rattle.mf_store_records.specs.declared.entries.EntryRow.{EntryRow}
 use Rattle.mf_store.specs.Flat.{entry_in, entries_of, tables_of}
-use Rattle.mf_store.proofs.EntryLemmas.{entries_shown}
+use Rattle.mf_store.proofs.EnteredLemmas.{loan_numbered}
+use Rattle.mf_store.proofs.EntryLemmas.{AreNumbered, later_numbered, entries_shown}
 use Rattle.mf_store.proofs.FlatLemmas.{numbered-suc}
-use Rattle.mf_store.proofs.LookLemmas.{office_sound}
 
 -- ---- an entry by its number
 
@@ -37,10 +33,6 @@ three Equal Less c = refl
 three Equal Equal c = refl
 three Equal Greater c = refl
 three Greater b c = refl
-
--- numbered from n + 1 on
-abbrev AreNumbered : ℕ → List Entry → Type 0
-AreNumbered n es = (i : ℕ) → i < length es → (entry_at es i).seq ≡ n + i + 1
 
 other_number : (s t : ℕ) → t < s → is_eq (nat_cmp s t) ≡ false
 other_number s t h = grind (arith, nat_tests)
@@ -60,7 +52,7 @@ found_at x n m k es e are at = go m k es e.seq are at (number m k es are at)
         let h : Some d ≡ Some e = at in
         let same : d ≡ e = cc in
         ap (λ (y : Entry). y.seq) (sym same) ∙ are 0 (omega arith)
-    number m (suc k) (d ∷ es) are at = let more = number (m + 1) k es (λ i below. let next = are (suc i) (omega (arith, below)) in omega (arith, next)) at in omega (arith, more)
+    number m (suc k) (d ∷ es) are at = let more = number (m + 1) k es (later_numbered m d es are) at in omega (arith, more)
 
     go : (m k : ℕ) (es : List Entry) (s : ℕ) → AreNumbered m es → slice_get es k ≡ Some e → s ≡ m + k + 1 → find (has_seq s) (map (entry_in x n) es) ≡ Some (entry_in x n e)
     go m k [] s are at is = absurd (let h : None ≡ Some e = at in cc)
@@ -72,7 +64,7 @@ found_at x n m k es e are at = go m k es e.seq are at (number m k es are at)
     go m (suc k) (d ∷ es) s are at is =
         let first = are 0 (omega arith) in
         ap (λ b. cond b (Some (entry_in x n d)) (find (has_seq s) (map (entry_in x n) es))) (other_number s d.seq (omega (arith, first, is)))
-        ∙ go (m + 1) k es s (λ i below. let next = are (suc i) (omega (arith, below)) in omega (arith, next)) at (omega (arith, is))
+        ∙ go (m + 1) k es s (later_numbered m d es are) at (omega (arith, is))
 
 -- ---- the entry that carries a used receipt
 
@@ -113,10 +105,6 @@ in_loans r m (l ∷ ls) u h = go (used r (uses_in m l.entries)) refl (sym (find-
         let rest = more h in
         record { place = suc rest.place; ledger = rest.ledger; at = rest.at; inside = subst (λ n. IsIn n rest.ledger.entries u) (let same : m + 1 + rest.place ≡ m + suc rest.place = omega arith in same) rest.inside }
 
-entries_numbered : (today : ℕ) (s : Caller → Bool) (n : ℕ) (o : Option ℕ) (es : List Entry) → AreEntriesBy today s n o es → AreNumbered 0 es
-entries_numbered today s n None es are = subst (AreNumbered 0) (sym are) (λ i below. absurd (omega (arith, below)))
-entries_numbered today s n (Some day) es are = λ i below. let number = are.lawful.numbers i below in omega (arith, number)
-
 -- the entry, and the row that is found under its key
 pub record IsCarrier (x : ℕ) (u : Use) (i : Institution) : Type 0 where
   pub entry : Entry
@@ -131,9 +119,7 @@ carrier x r u i sound at =
     let e = a.inside.entry in
     let next : n ≡ suc a.place = omega arith in
     let there : numbered ls n ≡ Some a.ledger = ap (numbered ls) next ∙ numbered-suc ls a.place ∙ a.at in
-    let s = is_staff i.offices in
-    let is = all_at (IsSoundLoan i.catalogue s (rows_at x i).clients) ls n a.ledger (office_sound i.catalogue s x i.offices sound.each).loans there in
-    let numbers = entries_numbered i.catalogue.day s a.ledger.loan.periods (disbursed_on a.ledger.loan.stage) a.ledger.entries is.entries in
+    let numbers = loan_numbered x n a.ledger i sound there in
     let loan_is : u.by.loan ≡ n = λ k. (a.inside.by_is k).loan in
     let seq_is : u.by.seq ≡ e.seq = λ k. (a.inside.by_is k).seq in
     let row : find (is_entry x n e.seq) (tables_of i).entries ≡ Some (entry_in x n e) =

@@ -1,6 +1,7 @@
 -- The rows of an institution: one list a table, each in the order of its key.
-use Rattle.std.specs.Prelude.{◌≡◌, ℕ, pos, Bool, true, false, ◌+◌, List, [], ◌∷◌, ◌++◌, map, option_map, Option, Some, None, nat_le}
+use Rattle.std.specs.Prelude.{◌≡◌, ◌≤◌, ℕ, pos, Bool, true, false, ◌+◌, ◌-◌, length, List, [], ◌∷◌, ◌++◌, map, option_map, Option, Some, None, nat_le}
 use Rattle.mf_account.specs.declared.entry.Entry.{Entry}
+use Rattle.mf_account.specs.Standing.{entry_at, with_mark}
 use Rattle.mf_account.specs.declared.entry.Kind.{Kind}
 use Rattle.mf_account.specs.declared.entry.Kind.TheVariants.{Repay, Fee, Penalty, Waive, WriteOff, Refund}
 use Rattle.mf_alloc.specs.declared.row.Portion.{Portion}
@@ -208,6 +209,24 @@ pub record IsNextRow (loan : Account) (entries : List Entry) (found : Option Led
   pub there : found ≡ Some ledger
   pub one_more : entries ≡ ledger.entries ++ last ∷ []
   pub row_is : row ≡ entry_in loan.office loan.number last
+
+-- an entry, reversed
+abbrev pub reversed_entry : Entry → Entry
+reversed_entry e = record e { reversed = true }
+
+-- the entry of a number stood before and is reversed, and all others are as before
+pub record IsReversal (seq : ℕ) (before entries : List Entry) : Type 0 where
+  pub first : 1 ≤ seq
+  pub last : seq ≤ length before
+  pub stood : (entry_at before (seq - 1)).reversed ≡ false
+  pub marked : entries ≡ with_mark before (seq - 1) true
+
+-- a row is that of the entry of a number, reversed, and the loan is there and has these entries but for that
+pub record IsReversedRow (loan : Account) (seq : ℕ) (entries : List Entry) (found : Option Ledger) (row : EntryRow) : Type 0 where
+  pub ledger : Ledger
+  pub there : found ≡ Some ledger
+  pub reversal : IsReversal seq ledger.entries entries
+  pub row_is : row ≡ entry_in loan.office loan.number (reversed_entry (entry_at ledger.entries (seq - 1)))
 
 -- the hierarchy text of an office that is there
 abbrev pub key_at : ℕ → Institution → Option (List ℕ)

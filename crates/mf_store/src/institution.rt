@@ -174,6 +174,7 @@ impl<S: Alter> InstitutionStore for Store<S> {
             Commit::AddLoan { office, loan } => self.add_loan(alloc, office, loan),
             Commit::SetStage { loan, stage } => self.set_stage(alloc, loan, stage),
             Commit::Enter { loan, account } => self.enter(alloc, loan, account),
+            Commit::Reverse { loan, seq, account } => self.reverse(alloc, loan, seq, account),
         }
     }
 
