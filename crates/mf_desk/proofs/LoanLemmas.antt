@@ -1,31 +1,33 @@
 -- What was found of a loan, and what is decided of it.
-use Rattle.std.proofs.Common.{◌≡◌, ℕ, Bool, true, false, cond, List, [], ◌∷◌, ◌++◌, length, Option, Some, None, Ok, Err, inl, inr, refl, sym, ap, ◌∙◌}
+use Rattle.std.proofs.Common.{◌≡◌, ◌≢◌, ℕ, ◌-◌, Bool, true, false, cond, List, [], ◌∷◌, ◌++◌, length, Option, Some, None, Ok, Err, inl, inr, refl, sym, ap, ◌∙◌}
 use Rattle.std.specs.Prelude.{Result, ◌⊎◌, not, nat_le, is_some, option_map}
 use Rattle.mf_base.specs.declared.fault.Fault.{Fault}
-use Rattle.mf_base.specs.declared.fault.Fault.TheVariants.{F4, F19, F20}
+use Rattle.mf_base.specs.declared.fault.Fault.TheVariants.{F4, F9, F19, F20}
+use Rattle.mf_catalog.specs.declared.charge.ChargeDef.{ChargeDef}
 use Rattle.mf_office.specs.declared.caller.Caller.{Caller}
 use Rattle.mf_office.specs.declared.account.Account.{Account}
 use Rattle.mf_office.specs.Tree.{is_at_or_below}
 use Rattle.mf_account.specs.declared.entry.Entry.{Entry}
 use Rattle.mf_account.specs.Loan.{Loan as Running, state_of_loan, status_of_loan}
-use Rattle.mf_account.specs.Refusals.{is_sealed, admits, is_out_of_order, is_forbidden, is_out_of_limits, refusal_of}
+use Rattle.mf_account.specs.Refusals.{is_sealed, admits, is_out_of_order, is_forbidden, is_out_of_limits, refusal_of, reversal_refused}
+use Rattle.mf_account.specs.Standing.{with_mark}
 use Rattle.mf_account.specs.Change.{Account as Replayed}
 use Rattle.mf_model.specs.declared.request.LoanRequest.{LoanRequest}
 use Rattle.mf_model.specs.declared.request.Request.TheVariants as request
 use Rattle.mf_model.specs.declared.loan.Loan.{Loan}
-use Rattle.mf_model.specs.declared.commit.Commit.TheVariants.{Enter}
+use Rattle.mf_model.specs.declared.commit.Commit.TheVariants.{Enter, Reverse}
 use Rattle.mf_model.specs.declared.reply.LoanReply.{LoanReply}
-use Rattle.mf_model.specs.declared.reply.LoanReply.TheVariants.{Entered}
+use Rattle.mf_model.specs.declared.reply.LoanReply.TheVariants.{Entered, Reversed}
 use Rattle.mf_model.specs.declared.reply.Reply.TheVariants as reply
-use Rattle.mf_model.specs.Institution.{Institution, Catalogue, Office, Rows, Ledger, Rows_become, office_at, numbered}
+use Rattle.mf_model.specs.Institution.{Institution, Catalogue, Office, Rows, Ledger, Rows_become, charge_in, office_at, numbered}
 use Rattle.mf_model.specs.Tree.{parent_of}
 use Rattle.mf_model.specs.Outcomes.{where_found}
 use Rattle.mf_model.specs.Accounts.{account_in}
 use Rattle.mf_model.specs.Receipts.{Use, uses_from, used_before, repeated}
 use Rattle.mf_model.specs.declared.loan.ReceiptUse.{ReceiptUse}
 use Rattle.mf_model.specs.declared.request.Repayment.{Repayment}
-use Rattle.mf_model.specs.declared.request.LoanRequest.TheVariants.{Repay}
-use Rattle.mf_model.specs.Loans.{LedgerChange, entered, with_entries, unless_fault, enter, on_loan, loan_changed, loan_entered, of_loan, in_loan, repayment, repeat_of, unless_known}
+use Rattle.mf_model.specs.declared.request.LoanRequest.TheVariants.{Repay, ChargeFee}
+use Rattle.mf_model.specs.Loans.{LedgerChange, entered, reversed, with_entries, unless_fault, fault_or, none_first, fee_first, enter, reverse, fee, on_loan, loan_changed, loan_entered, of_loan, in_loan, repayment, repeat_of, unless_known}
 use Rattle.mf_model.specs.Desk.{Outcome, of_office, in_office}
 use Rattle.mf_model.specs.Store.{Reads, rows_of, rows_at, ledger_at, account_of, account_at, replayed}
 use Rattle.mf_model.proofs.Growing.{with_same_at}
@@ -93,48 +95,92 @@ is_account_of loan a i h = at (ledger_at loan i) refl h
     at (Some l) e h = running l (account_in i.catalogue l) refl e h
 
 -- what is entered into its account
-abbrev entering : Account → (Running → Entry) → Institution → Outcome
-entering loan make i = in_ledger loan (λ k l. enter make k (account_in k l)) i
+abbrev entering : Account → (Running → Option Fault) → (ℕ → Running → Entry) → Institution → Outcome
+entering loan first make i = in_ledger loan (λ k l. enter first make k (account_in k l)) i
 
-pub entering_found : (loan : Account) (make : Running → Entry) (a : Running) (i : Institution) → IsAccountOf loan a i → entering loan make i ≡ of_office loan.office (of_loan loan (rows_at loan.office i) (unless_fault (refusal_of a (make a) i.catalogue.day) (make a)))
-entering_found loan make a i f =
-    ap (λ (o : Option Ledger). of_office loan.office (where_found o (λ l. of_loan loan (rows_at loan.office i) (enter make i.catalogue (account_in i.catalogue l))))) f.ledger_is
-    ∙ ap (λ (o : Option Running). of_office loan.office (of_loan loan (rows_at loan.office i) (enter make i.catalogue o))) f.account_is
+-- what refuses an entry on a day, if anything does
+abbrev pub refuses : (Running → Option Fault) → (ℕ → Running → Entry) → Running → ℕ → Option Fault
+refuses first make a today = fault_or (first a) (refusal_of a (make today a) today)
+
+-- what is done with a loan that was found, with its account
+abbrev on_account : Account → (Catalogue → Option Running → Result (LoanReply × Option LedgerChange) Fault) → Institution → Outcome
+on_account loan act i = in_ledger loan (λ k l. act k (account_in k l)) i
+
+pub account_acted : (loan : Account) (act : Catalogue → Option Running → Result (LoanReply × Option LedgerChange) Fault) (a : Running) (i : Institution) → IsAccountOf loan a i → on_account loan act i ≡ of_office loan.office (of_loan loan (rows_at loan.office i) (act i.catalogue (Some a)))
+account_acted loan act a i f =
+    ap (λ (o : Option Ledger). of_office loan.office (where_found o (λ l. of_loan loan (rows_at loan.office i) (act i.catalogue (account_in i.catalogue l))))) f.ledger_is
+    ∙ ap (λ (o : Option Running). of_office loan.office (of_loan loan (rows_at loan.office i) (act i.catalogue o))) f.account_is
 
 -- the loan isn't there, or not disbursed
-pub entering_missing : (loan : Account) (make : Running → Entry) (fault : Fault) (i : Institution) → account_there loan i ≡ Err fault → entering loan make i ≡ Err fault
-entering_missing loan make fault i h = at (ledger_at loan i) h
+pub account_missing : (loan : Account) (act : Catalogue → Option Running → Result (LoanReply × Option LedgerChange) Fault) (fault : Fault) (i : Institution) → act i.catalogue None ≡ Err F9 → account_there loan i ≡ Err fault → on_account loan act i ≡ Err fault
+account_missing loan act fault i undisbursed h = at (ledger_at loan i) h
   where
-    running : (o : Option Running) → if_disbursed (option_map replayed o) ≡ Err fault → of_office loan.office (of_loan loan (rows_at loan.office i) (enter make i.catalogue o)) ≡ Err fault
-    running None h = cc
+    running : (o : Option Running) → if_disbursed (option_map replayed o) ≡ Err fault → of_office loan.office (of_loan loan (rows_at loan.office i) (act i.catalogue o)) ≡ Err fault
+    running None h = ap (λ r. of_office loan.office (of_loan loan (rows_at loan.office i) r)) undisbursed ∙ (let same : F9 ≡ fault = cc in ap Err same)
     running (Some a) h = absurd (cc)
 
-    at : (o : Option Ledger) → where_found (option_map (λ (l : Ledger). l.loan) o) (λ found. if_disbursed (option_map replayed (account_of i.catalogue o))) ≡ Err fault → of_office loan.office (where_found o (λ l. of_loan loan (rows_at loan.office i) (enter make i.catalogue (account_in i.catalogue l)))) ≡ Err fault
+    at : (o : Option Ledger) → where_found (option_map (λ (l : Ledger). l.loan) o) (λ found. if_disbursed (option_map replayed (account_of i.catalogue o))) ≡ Err fault → of_office loan.office (where_found o (λ l. of_loan loan (rows_at loan.office i) (act i.catalogue (account_in i.catalogue l)))) ≡ Err fault
     at None h = cc
     at (Some l) h = running (account_in i.catalogue l) h
 
 -- its account refuses the entry
-pub entering_refused : (loan : Account) (make : Running → Entry) (a : Replayed) (today : ℕ) (fault : Fault) (i : Institution) → account_there loan i ≡ Ok a → today ≡ i.catalogue.day → refusal_of a.loan (make a.loan) today ≡ Some fault → entering loan make i ≡ Err fault
-entering_refused loan make a today fault i h day refused =
-    entering_found loan make a.loan i (is_account_of loan a i h)
-    ∙ ap (λ (o : Option Fault). of_office loan.office (of_loan loan (rows_at loan.office i) (unless_fault o (make a.loan)))) (ap (refusal_of a.loan (make a.loan)) (sym day) ∙ refused)
+pub entering_refused : (loan : Account) (first : Running → Option Fault) (make : ℕ → Running → Entry) (a : Replayed) (today : ℕ) (fault : Fault) (i : Institution) → account_there loan i ≡ Ok a → today ≡ i.catalogue.day → refuses first make a.loan today ≡ Some fault → entering loan first make i ≡ Err fault
+entering_refused loan first make a today fault i h day refused =
+    account_acted loan (enter first make) a.loan i (is_account_of loan a i h)
+    ∙ ap (λ (n : ℕ). of_office loan.office (of_loan loan (rows_at loan.office i) (unless_fault (refuses first make a.loan n) (Entered (make n a.loan).seq) (entered (make n a.loan))))) (sym day)
+    ∙ ap (λ (o : Option Fault). of_office loan.office (of_loan loan (rows_at loan.office i) (unless_fault o (Entered (make today a.loan).seq) (entered (make today a.loan))))) refused
 
--- an account with one entry more is committed as that entry
-commit_is : (loan : Account) (a : Running) (e : Entry) (i : Institution) → IsAccountOf loan a i → loan_changed loan.number (entered e) (rows_at loan.office i) ≡ loan_entered loan.number (a.entries ++ e ∷ []) (rows_at loan.office i)
-commit_is loan a e i f =
-    let same : a.entries ≡ f.ledger.entries = ap (λ (x : Running). x.entries) (sym (account_is i.catalogue f.ledger a f.account_is).account_is) in
+-- what becomes of a loan is committed as the entries that it has then
+commit_is : (loan : Account) (a : Running) (change : LedgerChange) (after : List Entry) (i : Institution) (f : IsAccountOf loan a i) → ((l : Ledger) → l.entries ≡ a.entries → change l ≡ with_entries after l) → loan_changed loan.number change (rows_at loan.office i) ≡ loan_entered loan.number after (rows_at loan.office i)
+commit_is loan a change after i f same =
+    let is : f.ledger.entries ≡ a.entries = ap (λ (x : Running). x.entries) (account_is i.catalogue f.ledger a f.account_is).account_is in
     ap (λ (ls : List Ledger). record (rows_at loan.office i) { loans = ls })
-    (with_same_at loan.number (entered e) (with_entries (a.entries ++ e ∷ [])) (rows_at loan.office i).loans f.ledger f.ledger_is (ap (λ es. with_entries (es ++ e ∷ []) f.ledger) (sym same)))
+    (with_same_at loan.number change (with_entries after) (rows_at loan.office i).loans f.ledger f.ledger_is (same f.ledger is))
 
 -- its account takes the entry
-pub entering_accepted : (loan : Account) (make : Running → Entry) (a new : Replayed) (today : ℕ) (i : Institution) → account_there loan i ≡ Ok a → today ≡ i.catalogue.day → refusal_of a.loan (make a.loan) today ≡ None → new.loan.entries ≡ a.loan.entries ++ make a.loan ∷ []
-    → entering loan make i ≡ decision_outcome (record { reply = reply.Loan loan (Entered (make a.loan).seq); commit = Some (Enter loan new) }) i
-entering_accepted loan make a new today i h day accepted entries =
+pub entering_accepted : (loan : Account) (first : Running → Option Fault) (make : ℕ → Running → Entry) (a new : Replayed) (today : ℕ) (i : Institution) → account_there loan i ≡ Ok a → today ≡ i.catalogue.day → refuses first make a.loan today ≡ None → new.loan.entries ≡ a.loan.entries ++ make today a.loan ∷ []
+    → entering loan first make i ≡ decision_outcome (record { reply = reply.Loan loan (Entered (make today a.loan).seq); commit = Some (Enter loan new) }) i
+entering_accepted loan first make a new today i h day accepted entries =
     let f = is_account_of loan a i h in
-    let e = make a.loan in
-    entering_found loan make a.loan i f
-    ∙ ap (λ (o : Option Fault). of_office loan.office (of_loan loan (rows_at loan.office i) (unless_fault o e))) (ap (refusal_of a.loan e) (sym day) ∙ accepted)
-    ∙ ap (λ (rows : Rows). Ok (reply.Loan loan (Entered e.seq), Some (Rows_become loan.office rows))) (commit_is loan a.loan e i f ∙ ap (λ es. loan_entered loan.number es (rows_at loan.office i)) (sym entries))
+    let e = make today a.loan in
+    let one_more : (l : Ledger) → l.entries ≡ a.loan.entries → entered e l ≡ with_entries new.loan.entries l = λ l is. ap (λ es. with_entries (es ++ e ∷ []) l) is ∙ ap (λ es. with_entries es l) (sym entries) in
+    account_acted loan (enter first make) a.loan i f
+    ∙ ap (λ (n : ℕ). of_office loan.office (of_loan loan (rows_at loan.office i) (unless_fault (refuses first make a.loan n) (Entered (make n a.loan).seq) (entered (make n a.loan))))) (sym day)
+    ∙ ap (λ (o : Option Fault). of_office loan.office (of_loan loan (rows_at loan.office i) (unless_fault o (Entered e.seq) (entered e)))) accepted
+    ∙ ap (λ (rows : Rows). Ok (reply.Loan loan (Entered e.seq), Some (Rows_become loan.office rows))) (commit_is loan a.loan (entered e) new.loan.entries i f one_more)
+
+-- its account keeps the entry
+pub reversing_refused : (loan : Account) (seq : ℕ) (a : Replayed) (fault : Fault) (i : Institution) → account_there loan i ≡ Ok a → reversal_refused a.loan.entries seq ≡ Some fault → on_account loan (λ k. reverse seq) i ≡ Err fault
+reversing_refused loan seq a fault i h refused =
+    account_acted loan (λ k. reverse seq) a.loan i (is_account_of loan a i h)
+    ∙ ap (λ (o : Option Fault). of_office loan.office (of_loan loan (rows_at loan.office i) (unless_fault o (Reversed seq) (reversed seq)))) refused
+
+-- its account lets the entry go
+pub reversing_accepted : (loan : Account) (seq : ℕ) (a new : Replayed) (i : Institution) → account_there loan i ≡ Ok a → reversal_refused a.loan.entries seq ≡ None → new.loan.entries ≡ with_mark a.loan.entries (seq - 1) true
+    → on_account loan (λ k. reverse seq) i ≡ decision_outcome (record { reply = reply.Loan loan (Reversed seq); commit = Some (Reverse loan seq new) }) i
+reversing_accepted loan seq a new i h accepted entries =
+    let f = is_account_of loan a i h in
+    let marked : (l : Ledger) → l.entries ≡ a.loan.entries → reversed seq l ≡ with_entries new.loan.entries l = λ l is. ap (λ es. with_entries (with_mark es (seq - 1) true) l) is ∙ ap (λ es. with_entries es l) (sym entries) in
+    account_acted loan (λ k. reverse seq) a.loan i f
+    ∙ ap (λ (o : Option Fault). of_office loan.office (of_loan loan (rows_at loan.office i) (unless_fault o (Reversed seq) (reversed seq)))) accepted
+    ∙ ap (λ (rows : Rows). Ok (reply.Loan loan (Reversed seq), Some (Rows_become loan.office rows))) (commit_is loan a.loan (reversed seq) new.loan.entries i f marked)
+
+-- a fee by a charge that isn't there, whatever the loan
+pub fee_missing : (c : Caller) (loan : Account) (n due : ℕ) (i : Institution) → None ≡ charge_in i.catalogue n → loan_outcome loan (ChargeFee n due) c i ≡ Err F4
+fee_missing c loan n due i none = at (numbered (rows_at loan.office i).loans loan.number)
+  where
+    at : (o : Option Ledger) → of_office loan.office (where_found o (λ l. of_loan loan (rows_at loan.office i) (on_loan (ChargeFee n due) c i.catalogue (rows_at loan.office i) loan.number l))) ≡ Err F4
+    at None = refl
+    at (Some l) = ap (λ (d : Option ChargeDef). of_office loan.office (of_loan loan (rows_at loan.office i) (where_found d (λ e. enter (fee_first due) (fee e due c) i.catalogue (account_in i.catalogue l))))) (sym none)
+
+-- a fee by one that is
+pub fee_is : (c : Caller) (loan : Account) (n due : ℕ) (charge : ChargeDef) (i : Institution) → Some charge ≡ charge_in i.catalogue n → loan_outcome loan (ChargeFee n due) c i ≡ in_ledger loan (λ k l. enter (fee_first due) (fee charge due c) k (account_in k l)) i
+fee_is c loan n due charge i found = at (numbered (rows_at loan.office i).loans loan.number)
+  where
+    at : (o : Option Ledger) → of_office loan.office (where_found o (λ l. of_loan loan (rows_at loan.office i) (on_loan (ChargeFee n due) c i.catalogue (rows_at loan.office i) loan.number l)))
+        ≡ of_office loan.office (where_found o (λ l. of_loan loan (rows_at loan.office i) (enter (fee_first due) (fee charge due c) i.catalogue (account_in i.catalogue l))))
+    at None = refl
+    at (Some l) = ap (λ (d : Option ChargeDef). of_office loan.office (of_loan loan (rows_at loan.office i) (where_found d (λ e. enter (fee_first due) (fee e due c) i.catalogue (account_in i.catalogue l))))) (sym found)
 
 -- a repayment whose receipt is known, or not
 abbrev pub when_used : ℕ → Repayment → Option ReceiptUse → Result (LoanReply × Option LedgerChange) Fault → Result (LoanReply × Option LedgerChange) Fault
@@ -149,13 +195,13 @@ named_is : (x : ℕ) (receipt : Option (List ℕ)) (r : Option ReceiptUse) (i : 
 named_is x None r i h = cc
 named_is x (Some receipt) r i h = cc
 
-pub repay_is : (c : Caller) (loan : Account) (asked : Repayment) (r : Option ReceiptUse) (i : Institution) → use_named loan.office asked.receipt i ≡ Ok r → loan_outcome loan (Repay asked) c i ≡ in_ledger loan (λ k l. when_used loan.number asked r (enter (repayment asked c) k (account_in k l))) i
+pub repay_is : (c : Caller) (loan : Account) (asked : Repayment) (r : Option ReceiptUse) (i : Institution) → use_named loan.office asked.receipt i ≡ Ok r → loan_outcome loan (Repay asked) c i ≡ in_ledger loan (λ k l. when_used loan.number asked r (enter none_first (λ today. repayment asked c) k (account_in k l))) i
 repay_is c loan asked r i h = at (numbered (rows_at loan.office i).loans loan.number)
   where
     at : (o : Option Ledger) → of_office loan.office (where_found o (λ l. of_loan loan (rows_at loan.office i) (on_loan (Repay asked) c i.catalogue (rows_at loan.office i) loan.number l)))
-        ≡ of_office loan.office (where_found o (λ l. of_loan loan (rows_at loan.office i) (when_used loan.number asked r (enter (repayment asked c) i.catalogue (account_in i.catalogue l)))))
+        ≡ of_office loan.office (where_found o (λ l. of_loan loan (rows_at loan.office i) (when_used loan.number asked r (enter none_first (λ today. repayment asked c) i.catalogue (account_in i.catalogue l)))))
     at None = refl
-    at (Some l) = ap (λ x. of_office loan.office (of_loan loan (rows_at loan.office i) x)) (known_is loan.number asked (used_before asked.receipt (uses_from 1 (rows_at loan.office i).loans)) r (enter (repayment asked c) i.catalogue (account_in i.catalogue l)) (named_is loan.office asked.receipt r i h))
+    at (Some l) = ap (λ x. of_office loan.office (of_loan loan (rows_at loan.office i) x)) (known_is loan.number asked (used_before asked.receipt (uses_from 1 (rows_at loan.office i).loans)) r (enter none_first (λ today. repayment asked c) i.catalogue (account_in i.catalogue l)) (named_is loan.office asked.receipt r i h))
 
 -- no account refuses with F19
 pub never_unfit : (a : Running) (e : Entry) (today : ℕ) → refusal_of a e today ≡ Some F19 → ⊥
@@ -170,6 +216,22 @@ never_unfit a e today h =
     one_of : (b : Bool) (x y : Option Fault) → (x ≡ Some F19 → ⊥) → (y ≡ Some F19 → ⊥) → cond b x y ≡ Some F19 → ⊥
     one_of true x y p q h = p h
     one_of false x y p q h = q h
+
+-- what is known of the refusal of a call on an account by what came of it
+pub taken : {A : Type 0} (x : A) (o : Option Fault) → ((fault : Fault) → o ≡ Some fault → Ok x ≡ Err fault) → o ≡ None
+taken x None h = refl
+taken x (Some fault) h = let never : Ok x ≡ Err fault = h fault refl in absurd (cc)
+
+abbrev refusal : (A : Type 0) → Fault → Result A Fault
+refusal A fault = Err fault
+
+pub refused : {A : Type 0} (f : Fault) (o : Option Fault) → ((fault : Fault) → o ≡ Some fault → refusal A f ≡ refusal A fault) → (o ≡ None → f ≡ F20) → (f ≡ F20) ⊎ (o ≡ Some f)
+refused f None h k = inl (k refl)
+refused {A = A} f (Some fault) h k = let same : refusal A f ≡ refusal A fault = h fault refl in inr (cc)
+
+pub ruled : (fault : Fault) (a : Running) (e : Entry) (today : ℕ) → (fault ≡ F20) ⊎ (refusal_of a e today ≡ Some fault) → fault ≢ F19
+ruled fault a e today (inl given_up) = λ is. absurd (cc)
+ruled fault a e today (inr refused) = λ is. never_unfit a e today (refused ∙ ap Some is)
 
 module _ {S : Type 0} (stands : S → Institution → Type 0) (clean : S → Type 0) (leaves : S → List Institution → Type 0) where
   pub learns_value : {R : Type 0} (value : Institution → R) (old new : S) (r : R) → Reads stands clean leaves value old new (Ok r) → Learns stands clean leaves (λ i. r ≡ value i) old new
@@ -204,15 +266,29 @@ module _ {S : Type 0} (stands : S → Institution → Type 0) (clean : S → Typ
       learns_both stands clean leaves (λ i. account_there loan i ≡ Ok a) (λ i. today ≡ i.catalogue.day) old mid new
       (learns stands clean leaves (account_there loan) old mid a ask) (learns_value (λ i. i.catalogue.day) mid new today read)
 
-  pub then_entered : (loan : Account) (make : Running → Entry) (a after : Replayed) (today : ℕ) (old mid new : S) → Asks stands clean leaves (account_there loan) old mid (Ok a) → Reads stands clean leaves (λ i. i.catalogue.day) mid new (Ok today)
-      → refusal_of a.loan (make a.loan) today ≡ None → after.loan.entries ≡ a.loan.entries ++ make a.loan ∷ []
-      → Decides stands clean leaves (in_ledger loan (λ k l. enter make k (account_in k l))) old new (Ok (record { reply = reply.Loan loan (Entered (make a.loan).seq); commit = Some (Enter loan after) }))
-  then_entered loan make a after today old mid new ask read accepted entries =
-      learned_tells (Known loan a today) (entering loan make) old new _ (known loan a today old mid new ask read) (λ i h. entering_accepted loan make a after today i h.0 h.1 accepted entries)
+  pub then_entered : (loan : Account) (first : Running → Option Fault) (make : ℕ → Running → Entry) (a after : Replayed) (today : ℕ) (old mid new : S) → Asks stands clean leaves (account_there loan) old mid (Ok a) → Reads stands clean leaves (λ i. i.catalogue.day) mid new (Ok today)
+      → refuses first make a.loan today ≡ None → after.loan.entries ≡ a.loan.entries ++ make today a.loan ∷ []
+      → Decides stands clean leaves (in_ledger loan (λ k l. enter first make k (account_in k l))) old new (Ok (record { reply = reply.Loan loan (Entered (make today a.loan).seq); commit = Some (Enter loan after) }))
+  then_entered loan first make a after today old mid new ask read accepted entries =
+      learned_tells (Known loan a today) (entering loan first make) old new _ (known loan a today old mid new ask read) (λ i h. entering_accepted loan first make a after today i h.0 h.1 accepted entries)
 
-  pub then_refused : (loan : Account) (make : Running → Entry) (a : Replayed) (today : ℕ) (fault : Fault) (old mid new : S) → Asks stands clean leaves (account_there loan) old mid (Ok a) → Reads stands clean leaves (λ i. i.catalogue.day) mid new (Ok today)
-      → (fault ≡ F20) ⊎ (refusal_of a.loan (make a.loan) today ≡ Some fault)
-      → Decides stands clean leaves (in_ledger loan (λ k l. enter make k (account_in k l))) old new (Err fault)
-  then_refused loan make a today fault old mid new ask read refused =
-      learned_refuses stands clean leaves (Known loan a today) (entering loan make) old new fault (known loan a today old mid new ask read)
-      (λ i h. elim refused [ inl given_up ↦ inl given_up | inr is ↦ inr (entering_refused loan make a today fault i h.0 h.1 is) ])
+  pub then_refused : (loan : Account) (first : Running → Option Fault) (make : ℕ → Running → Entry) (a : Replayed) (today : ℕ) (fault : Fault) (old mid new : S) → Asks stands clean leaves (account_there loan) old mid (Ok a) → Reads stands clean leaves (λ i. i.catalogue.day) mid new (Ok today)
+      → (fault ≡ F20) ⊎ (refuses first make a.loan today ≡ Some fault)
+      → Decides stands clean leaves (in_ledger loan (λ k l. enter first make k (account_in k l))) old new (Err fault)
+  then_refused loan first make a today fault old mid new ask read refused =
+      learned_refuses stands clean leaves (Known loan a today) (entering loan first make) old new fault (known loan a today old mid new ask read)
+      (λ i h. elim refused [ inl given_up ↦ inl given_up | inr is ↦ inr (entering_refused loan first make a today fault i h.0 h.1 is) ])
+
+  -- what is reversed in the account of a loan
+  pub then_reversed : (loan : Account) (seq : ℕ) (a after : Replayed) (old new : S) → Asks stands clean leaves (account_there loan) old new (Ok a)
+      → reversal_refused a.loan.entries seq ≡ None → after.loan.entries ≡ with_mark a.loan.entries (seq - 1) true
+      → Decides stands clean leaves (in_ledger loan (λ k l. reverse seq (account_in k l))) old new (Ok (record { reply = reply.Loan loan (Reversed seq); commit = Some (Reverse loan seq after) }))
+  then_reversed loan seq a after old new ask accepted entries =
+      learned_tells (λ i. account_there loan i ≡ Ok a) (on_account loan (λ k. reverse seq)) old new _ (learns stands clean leaves (account_there loan) old new a ask) (λ i h. reversing_accepted loan seq a after i h accepted entries)
+
+  pub then_kept : (loan : Account) (seq : ℕ) (a : Replayed) (fault : Fault) (old new : S) → Asks stands clean leaves (account_there loan) old new (Ok a)
+      → (fault ≡ F20) ⊎ (reversal_refused a.loan.entries seq ≡ Some fault)
+      → Decides stands clean leaves (in_ledger loan (λ k l. reverse seq (account_in k l))) old new (Err fault)
+  then_kept loan seq a fault old new ask refused =
+      learned_refuses stands clean leaves (λ i. account_there loan i ≡ Ok a) (on_account loan (λ k. reverse seq)) old new fault (learns stands clean leaves (account_there loan) old new a ask)
+      (λ i h. elim refused [ inl given_up ↦ inl given_up | inr is ↦ inr (reversing_refused loan seq a fault i h is) ])

@@ -4,10 +4,13 @@ ghost use Rattle.std.specs.Prelude.{◌≡◌, ◌≢◌, ◌⊎◌, ℕ, ◌+�
 ghost use Rattle.mf_base.specs.declared.fault.Fault.TheVariants.{F20};
 ghost use Rattle.mf_account.specs.Refusals.{refusal_of, HasForm};
 ghost use Rattle.mf_model.specs.declared.request.LoanRequest.TheVariants.{Repay};
+ghost use Rattle.mf_model.specs.declared.commit.Commit.TheVariants.{Enter};
+ghost use Rattle.mf_model.specs.declared.reply.LoanReply.TheVariants.{Entered};
+ghost use Rattle.mf_model.specs.declared.reply.Reply.TheVariants as reply;
 ghost use Rattle.mf_model.specs.Sound.{IsRepayment};
 ghost use Rattle.mf_model.specs.Accounts.{account_in};
 ghost use Rattle.mf_model.specs.Receipts.{repeated};
-ghost use Rattle.mf_model.specs.Loans.{repayment, enter, repeat_of};
+ghost use Rattle.mf_model.specs.Loans.{repayment, none_first, enter, repeat_of};
 ghost use Rattle.mf_desk.specs.Answers.{Asks, Decides, account_there, use_named, loan_outcome, in_ledger};
 
 use crate::decision::Decision;
@@ -20,7 +23,7 @@ use mf_office::{Account, AccountNo, Caller, OfficeNo};
 use std::alloc::Global;
 
 /// The account of a loan; F4 where the loan isn't there, F9 where it isn't disbursed.
-fn find_account<S: InstitutionStore>(
+pub fn find_account<S: InstitutionStore>(
     alloc: Global,
     store: &mut S,
     loan: Account,
@@ -55,7 +58,7 @@ fn repayment(asked: Repayment, staff: Caller, account: &LoanAccount) -> Entry
 
 /// The account with one entry more. The refusals are those of `LoanAccount::enter`; F20 also where the account is not by
 /// this business day, as none is whose store told both rightly.
-fn entered(
+pub fn entered(
     alloc: Global,
     account: LoanAccount,
     entry: Entry,
@@ -74,6 +77,23 @@ fn entered(
     }
     account.enter(alloc, entry, today)?;
     Ok(account)
+}
+
+/// The last entry of an account is entered, under its number.
+pub fn entering(loan: Account, seq: u32, account: LoanAccount) -> Decision
+    ensures { result ≡ record { reply = reply.Loan loan (Entered seq); commit = Some (Enter loan account) } }
+{
+    let Account { office, number } = loan;
+    Decision::change(
+        Commit::Enter {
+            loan: Account { office, number },
+            account,
+        },
+        Reply::Loan {
+            loan: Account { office, number },
+            told: LoanReply::Entered(seq),
+        },
+    )
 }
 
 /// The entry that carries a receipt of an office, where one is named and known.
@@ -135,7 +155,7 @@ fn enter_repayment<S: InstitutionStore>(
     asked: Repayment,
 ) -> Result<Decision, Fault>
     requires in_range { IsRepayment asked }
-    ensures decides { Decides S.stands S.clean S.leaves (in_ledger loan (λ k l. enter (repayment asked caller) k (account_in k l))) store.old store.new result }
+    ensures decides { Decides S.stands S.clean S.leaves (in_ledger loan (λ k l. enter none_first (λ today. repayment asked caller) k (account_in k l))) store.old store.new result }
     ensures refusal { IfErr result (λ f. f ≢ Fault.F19) }
 {
     let Account { office, number } = loan;
@@ -144,14 +164,7 @@ fn enter_repayment<S: InstitutionStore>(
     let entry = repayment(asked, caller, &account);
     let seq = entry.seq;
     let account = entered(alloc, account, entry, today)?;
-    let loan = Account { office, number };
-    Ok(Decision::change(
-        Commit::Enter { loan, account },
-        Reply::Loan {
-            loan: Account { office, number },
-            told: LoanReply::Entered(seq),
-        },
-    ))
+    Ok(entering(Account { office, number }, seq, account))
 }
 
 /// A repayment of a loan. A receipt that its office knows comes first, whatever the loan's stage.

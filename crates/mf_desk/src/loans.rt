@@ -9,6 +9,8 @@ ghost use Rattle.mf_desk.specs.Answers.{Asks, Decides, request_outcome, loan_the
 
 use crate::decision::Decision;
 use crate::entering::repay;
+use crate::posting::{charge_fee, post};
+use crate::reversing::reverse;
 use crate::sight::check_sight;
 use crate::stages::{next_stage, status_number};
 use crate::statements::{show_entries, show_instalments, show_loan};
@@ -75,6 +77,11 @@ fn act_on_loan<S: InstitutionStore>(
         LoanRequest::ShowEntries => show_entries(alloc, store, loan),
         LoanRequest::Take(step) => take_step(alloc, store, loan, step),
         LoanRequest::Repay(repayment) => repay(alloc, store, caller, loan, repayment),
+        LoanRequest::ChargeFee { charge, due } => {
+            charge_fee(alloc, store, caller, loan, charge, due)
+        }
+        LoanRequest::Post(posting) => post(alloc, store, caller, loan, posting),
+        LoanRequest::Reverse { entry } => reverse(alloc, store, loan, entry),
     }
 }
 

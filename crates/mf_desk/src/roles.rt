@@ -1,7 +1,7 @@
 ghost use Rattle.std.specs.Prelude.{◌≡◌};
 ghost use Rattle.mf_model.specs.Desk.{need, meets};
 
-use mf_model::{CatalogueRequest, LoanRequest, LoanStep, OfficeRequest, Request};
+use mf_model::{CatalogueRequest, LoanRequest, LoanStep, OfficeRequest, Posting, Request};
 use mf_office::{OfficeNo, Role};
 
 /// Whether a member of staff of an office may send this kind of request, by role and office alone.
@@ -40,6 +40,10 @@ pub fn may_send(request: &Request, role: Role, office: OfficeNo) -> bool
                 | LoanStep::UndoApproval
                 | LoanStep::Disburse(_) => is_manager,
             },
+            LoanRequest::ChargeFee { .. } | LoanRequest::Post(Posting::Penalty { .. }) =>
+                is_officer,
+            LoanRequest::Post(Posting::Waiver { .. } | Posting::WriteOff | Posting::Refund)
+            | LoanRequest::Reverse { .. } => is_manager,
         },
     }
 }

@@ -524,7 +524,7 @@ impl InstitutionStore for Books {
                 self.set_stage(loan, stage);
                 Ok(())
             }
-            Commit::Enter { loan, account } => {
+            Commit::Enter { loan, account } | Commit::Reverse { loan, account, .. } => {
                 self.enter(loan, account);
                 Ok(())
             }

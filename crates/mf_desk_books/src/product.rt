@@ -9,8 +9,12 @@ use mf_catalog::{Method, ProductMembers, StrategyName};
 use mf_model::is_name;
 use std::alloc::Global;
 
-/// Equal principal by the month at 12 percent, with such a charge with each instalment.
-pub fn members(alloc: Global, instalment_charge: Option<u32>) -> Result<ProductMembers, Fault>
+/// Equal principal by the month at 12 percent, with such charges with each instalment and on one that is overdue.
+pub fn members(
+    alloc: Global,
+    instalment_charge: Option<u32>,
+    overdue_charge: Option<u32>,
+) -> Result<ProductMembers, Fault>
     ensures { IfOk result AreMembers }
 {
     if !is_name("P") {
@@ -31,6 +35,6 @@ pub fn members(alloc: Global, instalment_charge: Option<u32>) -> Result<ProductM
         strategy: StrategyName::MifosStandard,
         disbursement_charge: None,
         instalment_charge,
-        overdue_charge: None,
+        overdue_charge,
     })
 }

@@ -21,3 +21,9 @@ returns-clause-changes g c =
     let s = g.S.InstitutionStore in
     changes_made s.stands s.clean s.leaves (call_of c.args.caller c.args.request) c.in_ok-reply.field-0 c.in-Some.commit c.args.store.now c.decide.new.store c.commit.new.self c.in_ok-shown.shown
     c.soundness.ensures.accepted g.met.S.InstitutionStore.sound c.requires.in_range c.in-Some.is c.in_ok-reply.ensures.decides c.in_ok-commit-in-Some.ensures
+
+pub returns-in_err-shown-clause-changes : goal.returns-in_err-shown-clause-changes
+returns-in_err-shown-clause-changes g c =
+    let s = g.S.InstitutionStore in
+    let e : c.from_residual-in_err-shown.result ≡ Err c.in_err-shown.field-0.0 = search rules in
+    rw e (refusal_changes_nothing s.stands s.clean s.leaves (call_of c.args.caller c.args.request) c.decide.result c.args.store.now c.decide.new.store c.in_err-shown.field-0.0 g.met.S.InstitutionStore.more c.decide.ensures.decides)

@@ -1,20 +1,14 @@
-use Rattle.std.proofs.Common.{◌≡◌, ◌≢◌, ℕ, ◌∷◌, [], ◌++◌, Err, Some, inl, inr, sym, subst, ap, ◌∙◌, rules}
+use Rattle.std.proofs.Common.{◌≡◌, ◌∷◌, [], ◌++◌, Err, Some, sym, subst, ap, ◌∙◌, rules}
 use Rattle.std.specs.Prelude.{◌⊎◌}
-use Rattle.mf_base.specs.declared.fault.Fault.{Fault}
-use Rattle.mf_base.specs.declared.fault.Fault.TheVariants.{F19, F20}
+use Rattle.mf_base.specs.declared.fault.Fault.TheVariants.{F20}
 use Rattle.mf_account.specs.declared.entry.Entry.{Entry}
-use Rattle.mf_account.specs.Loan.{Loan as Running}
 use Rattle.mf_account.specs.Refusals.{refusal_of}
-use Rattle.mf_model.specs.Loans.{repayment}
+use Rattle.mf_model.specs.Loans.{repayment, none_first}
 use Rattle.mf_model.specs.declared.commit.Commit.TheVariants.{Enter}
 use Rattle.mf_model.specs.declared.reply.LoanReply.TheVariants.{Entered}
 use Rattle.mf_model.specs.declared.reply.Reply.TheVariants as reply
-use Rattle.mf_desk.proofs.LoanLemmas.{then_entered, then_refused, never_unfit}
+use Rattle.mf_desk.proofs.LoanLemmas.{then_entered, then_refused, ruled}
 use Rattle.mf_desk.proofs.entering.enter_repayment.Goals as goal
-
-ruled : (fault : Fault) (a : Running) (e : Entry) (today : ℕ) → (fault ≡ F20) ⊎ (refusal_of a e today ≡ Some fault) → fault ≢ F19
-ruled fault a e today (inl given_up) = λ is. absurd (cc)
-ruled fault a e today (inr refused) = λ is. never_unfit a e today (refused ∙ ap Some is)
 
 pub returns-in_err-account-2-clause-decides : goal.returns-in_err-account-2-clause-decides
 returns-in_err-account-2-clause-decides g c =
@@ -23,7 +17,7 @@ returns-in_err-account-2-clause-decides g c =
     let make = repayment c.args.asked c.args.caller in
     let fault = c.in_err-account-2.field-0.0 in
     let e : c.from_residual-in_err-account-2.result ≡ Err fault = search rules in
-    rw e (then_refused s.stands s.clean s.leaves c.args.loan make account c.in_ok-today.today fault c.args.store.now c.find_account.new.store c.business_day.new.self c.in_ok-account.ensures.asks c.in_ok-today.ensures
+    rw e (then_refused s.stands s.clean s.leaves c.args.loan none_first (λ today. make) account c.in_ok-today.today fault c.args.store.now c.find_account.new.store c.business_day.new.self c.in_ok-account.ensures.asks c.in_ok-today.ensures
     (subst (λ (x : Entry). (fault ≡ F20) ⊎ (refusal_of account.loan x c.in_ok-today.today ≡ Some fault)) c.repayment-entry.ensures c.in_err-account-2.ensures.refused))
 
 pub returns-in_err-account-2-clause-refusal : goal.returns-in_err-account-2-clause-refusal
@@ -38,9 +32,9 @@ returns-clause-decides g c =
     let account = c.in_ok-account.account in
     let make = repayment c.args.asked c.args.caller in
     let after = c.in_ok-account-2.account in
-    let is : c.change.result ≡ record { reply = reply.Loan c.args.loan (Entered (make account.loan).seq); commit = Some (Enter c.args.loan after) } =
-    c.change.ensures ∙ ap (λ (x : Entry). record { reply = reply.Loan c.args.loan (Entered x.seq); commit = Some (Enter c.args.loan after) }) c.repayment-entry.ensures
+    let is : c.entering.result ≡ record { reply = reply.Loan c.args.loan (Entered (make account.loan).seq); commit = Some (Enter c.args.loan after) } =
+    c.entering.ensures ∙ ap (λ (x : Entry). record { reply = reply.Loan c.args.loan (Entered x.seq); commit = Some (Enter c.args.loan after) }) c.repayment-entry.ensures
     in
-    rw is (then_entered s.stands s.clean s.leaves c.args.loan make account after c.in_ok-today.today c.args.store.now c.find_account.new.store c.business_day.new.self c.in_ok-account.ensures.asks c.in_ok-today.ensures
+    rw is (then_entered s.stands s.clean s.leaves c.args.loan none_first (λ today. make) account after c.in_ok-today.today c.args.store.now c.find_account.new.store c.business_day.new.self c.in_ok-account.ensures.asks c.in_ok-today.ensures
     (ap (λ (x : Entry). refusal_of account.loan x c.in_ok-today.today) (sym c.repayment-entry.ensures) ∙ c.in_ok-account-2.ensures.accepted)
     (c.in_ok-account-2.ensures.entries ∙ ap (λ (x : Entry). account.loan.entries ++ x ∷ []) c.repayment-entry.ensures))

@@ -1,0 +1,51 @@
+//! Entries of a loan that count no more.
+
+ghost use Rattle.std.specs.Prelude.{◌≡◌, ◌≢◌, ◌⊎◌, ◌-◌, None, Some, IfOk, IfErr, true};
+ghost use Rattle.mf_base.specs.declared.fault.Fault.TheVariants.{F20};
+ghost use Rattle.mf_office.specs.declared.caller.Caller.{Caller as AnyCaller};
+ghost use Rattle.mf_account.specs.Standing.{with_mark};
+ghost use Rattle.mf_account.specs.Refusals.{reversal_refused};
+ghost use Rattle.mf_model.specs.declared.request.LoanRequest.TheVariants.{Reverse};
+ghost use Rattle.mf_desk.specs.Answers.{Decides, loan_outcome};
+
+use crate::decision::Decision;
+use crate::entering::find_account;
+use mf_account::LoanAccount;
+use mf_base::Fault;
+use mf_model::{Commit, InstitutionStore, LoanReply, Reply};
+use mf_office::Account;
+use std::alloc::Global;
+
+/// The account where an entry counts no more. The refusals are those of `LoanAccount::reverse`.
+fn reversed(alloc: Global, account: LoanAccount, seq: u32) -> Result<LoanAccount, Fault>
+    ensures accepted { IfOk result (λ after. reversal_refused account.loan.entries seq ≡ None) }
+    ensures entries { IfOk result (λ after. after.loan.entries ≡ with_mark account.loan.entries (seq - 1) true) }
+    ensures refused { IfErr result (λ f. (f ≡ F20) ⊎ (reversal_refused account.loan.entries seq ≡ Some f)) }
+{
+    let mut account = account;
+    account.reverse(alloc, seq)?;
+    Ok(account)
+}
+
+/// An entry of a loan counts no more.
+pub fn reverse<S: InstitutionStore>(
+    alloc: Global,
+    store: &mut S,
+    loan: Account,
+    seq: u32,
+) -> Result<Decision, Fault>
+    ensures decides { (c : AnyCaller) → Decides S.stands S.clean S.leaves (loan_outcome loan (Reverse seq) c) store.old store.new result }
+    ensures refusal { IfErr result (λ f. f ≢ Fault.F19) }
+{
+    let Account { office, number } = loan;
+    let account = find_account(alloc, store, Account { office, number })?;
+    let account = reversed(alloc, account, seq)?;
+    let loan = Account { office, number };
+    Ok(Decision::change(
+        Commit::Reverse { loan, seq, account },
+        Reply::Loan {
+            loan: Account { office, number },
+            told: LoanReply::Reversed(seq),
+        },
+    ))
+}
