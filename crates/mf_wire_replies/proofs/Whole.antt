@@ -12,7 +12,7 @@ use Rattle.mf_model.specs.declared.reply.Reply.TheVariants.{OfficeMade, Offices,
 use Rattle.mf_catalog.specs.declared.product.Product.{Product}
 use Rattle.mf_model.specs.declared.loan.LoanLine.{LoanLine}
 use Rattle.mf_model.specs.declared.reply.LoanReply.{LoanReply}
-use Rattle.mf_model.specs.declared.reply.LoanReply.TheVariants.{Shown, Instalments, Entries, Status, Entered, Repeated}
+use Rattle.mf_model.specs.declared.reply.LoanReply.TheVariants.{Shown, Instalments, Entries, Status, Entered, Repeated, Reversed}
 use Rattle.mf_wire_replies.specs.Catalogue.{product_data}
 use Rattle.mf_wire_replies.specs.Json.{whole_or_null, text_or_null}
 use Rattle.mf_wire_replies.specs.AccountTexts.{instalment_data, instalment_for, portion_waived, share_data, entry_data}
@@ -64,6 +64,7 @@ whole_told loan (Entries lines) = ap (λ b. b || false) (whole_entries lines)
 whole_told loan (Status status) = refl
 whole_told loan (Entered entry) = refl
 whole_told loan (Repeated entry) = refl
+whole_told loan (Reversed entry) = refl
 
 whole_loans : (lines : List LoanLine) → items_have_float (items_of (map line_data lines)) ≡ false
 whole_loans [] = refl

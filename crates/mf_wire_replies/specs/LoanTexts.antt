@@ -9,7 +9,7 @@ use Rattle.mf_alloc.specs.declared.row.Portion.TheVariants.{Penalty, Fee, Intere
 use Rattle.mf_model.specs.declared.loan.LoanLine.{LoanLine}
 use Rattle.mf_model.specs.declared.loan.Statement.{Statement}
 use Rattle.mf_model.specs.declared.reply.LoanReply.{LoanReply}
-use Rattle.mf_model.specs.declared.reply.LoanReply.TheVariants.{Shown, Instalments, Entries, Status, Entered, Repeated}
+use Rattle.mf_model.specs.declared.reply.LoanReply.TheVariants.{Shown, Instalments, Entries, Status, Entered, Repeated, Reversed}
 use Rattle.mf_wire_replies.specs.Json.{whole}
 use Rattle.mf_wire_replies.specs.AccountTexts.{sum_of, instalments_data, entries_data}
 
@@ -64,7 +64,7 @@ loan_data account loan = loan_by_texts (account_text account.office loan.client)
 abbrev pub status_data : Account → ℕ → Data
 status_data account status = object (member (codes "loan") (account_data account) (member (codes "status") (whole status) no_members))
 
--- a new entry, by its number
+-- an entry, by its number
 abbrev pub entered_data : ℕ → Data
 entered_data entry = object (member (codes "entry") (whole entry) no_members)
 
@@ -76,8 +76,9 @@ told_data account (Entries lines) = entries_data lines
 told_data account (Status status) = status_data account status
 told_data account (Entered entry) = entered_data entry
 told_data account (Repeated entry) = entered_data entry
+told_data account (Reversed entry) = entered_data entry
 
--- 201 where an entry was made, 200 where something is shown or was there already
+-- 201 where an entry was made, 200 where something is shown, was there already or counts no more
 abbrev pub told_status : LoanReply → ℕ
 told_status (Shown loan) = 200
 told_status (Instalments lines) = 200
@@ -85,6 +86,7 @@ told_status (Entries lines) = 200
 told_status (Status status) = 200
 told_status (Entered entry) = 201
 told_status (Repeated entry) = 200
+told_status (Reversed entry) = 200
 
 -- a loan in a list of loans
 abbrev pub line_data : LoanLine → Data

@@ -1,5 +1,5 @@
 -- What a body says, as JSON.
-use Rattle.std.specs.Prelude.{◌≡◌, ◌⊎◌, ℕ, ◌+◌, Bool, true, ◌&&◌, cond, List, length, nat_le, Option, Some, None, is_some, option_map, option_and_then, Result, MatchResult}
+use Rattle.std.specs.Prelude.{◌≡◌, ◌⊎◌, ℕ, ◌+◌, Bool, ◌&&◌, cond, List, length, nat_le, Option, Some, None, is_some, option_map, option_and_then, Result, MatchResult}
 use Rattle.std.specs.List.{list_all, find, range_with_len}
 use Rattle.std.specs.Str.{is_utf8, chars, bytes_eq}
 use Rattle.serde_json.specs.Data.{Data}

@@ -4,13 +4,15 @@ use Rattle.serde_json.specs.Data.{Data}
 use Rattle.mf_catalog.specs.Limits.{greatest_amount, most_periods}
 use Rattle.mf_model.specs.declared.request.OfficeRequest.TheVariants.{SubmitLoan, ListLoans}
 use Rattle.mf_model.specs.declared.request.LoanRequest.{LoanRequest}
-use Rattle.mf_model.specs.declared.request.LoanRequest.TheVariants.{Show, ShowInstalments, ShowEntries, Take, Repay}
+use Rattle.mf_model.specs.declared.request.LoanRequest.TheVariants.{Show, ShowInstalments, ShowEntries, Take, Repay, ChargeFee, Post, Reverse}
 use Rattle.mf_model.specs.declared.request.LoanStep.TheVariants.{Approve, Reject, Withdraw, UndoApproval, Disburse}
+use Rattle.mf_model.specs.declared.request.Posting.TheVariants.{Penalty, Waiver, WriteOff, Refund}
 use Rattle.mf_model.specs.declared.request.Request.{Request}
 use Rattle.mf_model.specs.declared.request.Request.TheVariants.{Office, Loan}
 use Rattle.mf_wire_requests.specs.declared.routes.LoanEndpoint.{LoanEndpoint}
 use Rattle.mf_wire_requests.specs.declared.routes.LoanEndpoint.TheVariants as endpoint
 use Rattle.mf_wire_requests.specs.Bodies.{json_of, within, number_at, account_at, day_at, optional_receipt_at}
+use Rattle.mf_wire_requests.specs.Named.{waivable_at}
 use Rattle.mf_wire_requests.specs.PathParts.{PathParts, number_in, account_in}
 
 -- a new loan, by the members client, product, principal and periods
@@ -44,18 +46,50 @@ repayment d =
     (day_at (codes "day") d))
     (number_at 1 greatest_amount (codes "amount") d)
 
--- what is asked of a loan, by the members of the body where it has some
-abbrev pub loan_request : LoanEndpoint → List ℕ → Option LoanRequest
-loan_request endpoint.Show body = Some Show
-loan_request endpoint.ShowInstalments body = Some ShowInstalments
-loan_request endpoint.ShowEntries body = Some ShowEntries
-loan_request endpoint.Approve body = Some (Take Approve)
-loan_request endpoint.Reject body = Some (Take Reject)
-loan_request endpoint.Withdraw body = Some (Take Withdraw)
-loan_request endpoint.UndoApproval body = Some (Take UndoApproval)
-loan_request endpoint.Disburse body = option_and_then disbursement (json_of body)
-loan_request endpoint.Repay body = option_and_then repayment (json_of body)
+-- a fee, by the members charge and due
+abbrev pub fee : Data → Option LoanRequest
+fee d =
+    option_and_then (λ charge.
+    option_map (λ due. ChargeFee charge due) (day_at (codes "due") d))
+    (number_at 0 999999999 (codes "charge") d)
+
+-- an instalment, by its number in the member instalment
+abbrev pub instalment_at : Data → Option ℕ
+instalment_at d = number_at 1 999999999 (codes "instalment") d
+
+-- a penalty, by the member instalment
+abbrev pub penalty : Data → Option LoanRequest
+penalty d = option_map (λ instalment. Post (Penalty instalment)) (instalment_at d)
+
+-- a waiver, by the members instalment and portion
+abbrev pub waiver : Data → Option LoanRequest
+waiver d =
+    option_and_then (λ instalment.
+    option_map (λ portion. Post (Waiver instalment portion)) (waivable_at (codes "portion") d))
+    (instalment_at d)
+
+-- a reversal, by the number of an entry, or 0, that the path names
+abbrev pub reversal : PathParts → Option LoanRequest
+reversal parts = option_map (λ entry. Reverse entry) (number_in (codes "entry") parts)
+
+-- what is asked of a loan, by the members of the body where it has some, or by the path
+abbrev pub loan_request : LoanEndpoint → PathParts → List ℕ → Option LoanRequest
+loan_request endpoint.Show parts body = Some Show
+loan_request endpoint.ShowInstalments parts body = Some ShowInstalments
+loan_request endpoint.ShowEntries parts body = Some ShowEntries
+loan_request endpoint.Approve parts body = Some (Take Approve)
+loan_request endpoint.Reject parts body = Some (Take Reject)
+loan_request endpoint.Withdraw parts body = Some (Take Withdraw)
+loan_request endpoint.UndoApproval parts body = Some (Take UndoApproval)
+loan_request endpoint.Disburse parts body = option_and_then disbursement (json_of body)
+loan_request endpoint.Repay parts body = option_and_then repayment (json_of body)
+loan_request endpoint.ChargeFee parts body = option_and_then fee (json_of body)
+loan_request endpoint.ChargePenalty parts body = option_and_then penalty (json_of body)
+loan_request endpoint.Waive parts body = option_and_then waiver (json_of body)
+loan_request endpoint.WriteOff parts body = Some (Post WriteOff)
+loan_request endpoint.Refund parts body = Some (Post Refund)
+loan_request endpoint.Reverse parts body = reversal parts
 
 -- what is asked of the loan that a path names
 abbrev pub loan_at : LoanEndpoint → PathParts → List ℕ → Option Request
-loan_at endpoint parts body = option_and_then (λ loan. option_map (λ asked. Loan loan asked) (loan_request endpoint body)) (account_in (codes "loan") parts)
+loan_at endpoint parts body = option_and_then (λ loan. option_map (λ asked. Loan loan asked) (loan_request endpoint parts body)) (account_in (codes "loan") parts)

@@ -10,6 +10,8 @@ use Rattle.mf_catalog.specs.declared.charge.ChargeKind.{ChargeKind}
 use Rattle.mf_catalog.specs.declared.charge.Calc.{Calc}
 use Rattle.mf_catalog.specs.declared.terms.Method.{Method}
 use Rattle.mf_catalog.specs.declared.terms.StrategyName.{StrategyName}
+use Rattle.mf_model.specs.Waivable.{waivables, waivable_name}
+use Rattle.mf_model.specs.declared.waivable.Waivable.{Waivable}
 use Rattle.mf_wire_requests.specs.Bodies.{text_at}
 
 -- a member that names a choice, among some
@@ -39,3 +41,7 @@ strategy_at = choice_at strategy_name strategies
 -- a member that names a role
 abbrev pub role_at : List ℕ → Data → Option Role
 role_at = choice_at role_name roles
+
+-- a member that names a portion that may be waived
+abbrev pub waivable_at : List ℕ → Data → Option Waivable
+waivable_at = choice_at waivable_name waivables

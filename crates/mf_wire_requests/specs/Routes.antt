@@ -13,7 +13,7 @@ use Rattle.matchit.specs.Seek.{first}
 use Rattle.matchit.specs.declared.error.InsertError.{InsertError}
 use Rattle.matchit.specs.declared.router.Match.{Match}
 use Rattle.mf_wire_requests.specs.declared.routes.Endpoint.TheVariants.{ShowDay, SetDay, AddCharge, ShowCharge, AddProduct, ShowProduct, RetireProduct, ListOffices, AddOffice, AddStaff, AddClient, ShowClient, SubmitLoan, ListLoans, OnLoan}
-use Rattle.mf_wire_requests.specs.declared.routes.LoanEndpoint.TheVariants.{Show, ShowInstalments, ShowEntries, Approve, Reject, Withdraw, UndoApproval, Disburse, Repay}
+use Rattle.mf_wire_requests.specs.declared.routes.LoanEndpoint.TheVariants.{Show, ShowInstalments, ShowEntries, Approve, Reject, Withdraw, UndoApproval, Disburse, Repay, ChargeFee, ChargePenalty, Waive, WriteOff, Refund, Reverse}
 use Rattle.mf_wire_requests.specs.declared.routes.Methods.{Methods}
 use Rattle.mf_wire_requests.specs.declared.routes.Methods.TheVariants.{Get, Post, GetAndPost, GetAndPut}
 use Rattle.mf_wire_requests.specs.PathParts.{PathParts}
@@ -66,6 +66,12 @@ desk_table =
     ∷ (codes "/loans/{loan}/undo-approval", Post (OnLoan UndoApproval))
     ∷ (codes "/loans/{loan}/disburse", Post (OnLoan Disburse))
     ∷ (codes "/loans/{loan}/repayments", Post (OnLoan Repay))
+    ∷ (codes "/loans/{loan}/fees", Post (OnLoan ChargeFee))
+    ∷ (codes "/loans/{loan}/penalties", Post (OnLoan ChargePenalty))
+    ∷ (codes "/loans/{loan}/waivers", Post (OnLoan Waive))
+    ∷ (codes "/loans/{loan}/write-off", Post (OnLoan WriteOff))
+    ∷ (codes "/loans/{loan}/refund", Post (OnLoan Refund))
+    ∷ (codes "/loans/{loan}/entries/{entry}/reverse", Post (OnLoan Reverse))
     ∷ (codes "/offices/{office}/loans/{after}", Get ListLoans)
     ∷ []
 

@@ -18,6 +18,12 @@ pub enum LoanEndpoint {
     UndoApproval,
     Disburse,
     Repay,
+    ChargeFee,
+    ChargePenalty,
+    Waive,
+    WriteOff,
+    Refund,
+    Reverse,
 }
 
 /// What a method of a path asks.
@@ -50,7 +56,7 @@ pub enum Methods {
 }
 
 /// The paths, as `matchit` writes them, with their methods.
-pub const ROUTES: [(&str, Methods); 21] = [
+pub const ROUTES: [(&str, Methods); 27] = [
     (
         "/offices",
         Methods::GetAndPost(Endpoint::ListOffices, Endpoint::AddOffice),
@@ -106,6 +112,30 @@ pub const ROUTES: [(&str, Methods); 21] = [
     (
         "/loans/{loan}/repayments",
         Methods::Post(Endpoint::OnLoan(LoanEndpoint::Repay)),
+    ),
+    (
+        "/loans/{loan}/fees",
+        Methods::Post(Endpoint::OnLoan(LoanEndpoint::ChargeFee)),
+    ),
+    (
+        "/loans/{loan}/penalties",
+        Methods::Post(Endpoint::OnLoan(LoanEndpoint::ChargePenalty)),
+    ),
+    (
+        "/loans/{loan}/waivers",
+        Methods::Post(Endpoint::OnLoan(LoanEndpoint::Waive)),
+    ),
+    (
+        "/loans/{loan}/write-off",
+        Methods::Post(Endpoint::OnLoan(LoanEndpoint::WriteOff)),
+    ),
+    (
+        "/loans/{loan}/refund",
+        Methods::Post(Endpoint::OnLoan(LoanEndpoint::Refund)),
+    ),
+    (
+        "/loans/{loan}/entries/{entry}/reverse",
+        Methods::Post(Endpoint::OnLoan(LoanEndpoint::Reverse)),
     ),
     (
         "/offices/{office}/loans/{after}",

@@ -130,7 +130,7 @@ fn shown_text(alloc: Global, account: Account, loan: &Statement) -> Result<Strin
     loan_body(alloc, client.as_str(), account.as_str(), loan)
 }
 
-/// The number of a new entry.
+/// The number of an entry.
 fn entered_value(alloc: Global, entry: u32) -> Result<Value, AllocError>
     ensures { IfOk result (λ v. view v ≡ entered_data entry) }
 {
@@ -150,7 +150,7 @@ pub fn loan_told(alloc: Global, loan: Account, told: &LoanReply) -> Result<Body,
         )?)),
         LoanReply::Entries(lines) => Ok(Body::Value(entries_value(alloc, lines.as_slice())?)),
         LoanReply::Status(status) => Ok(Body::Value(status_value(alloc, loan, *status)?)),
-        LoanReply::Entered(entry) | LoanReply::Repeated(entry) => {
+        LoanReply::Entered(entry) | LoanReply::Repeated(entry) | LoanReply::Reversed(entry) => {
             Ok(Body::Value(entered_value(alloc, *entry)?))
         }
     }
@@ -165,7 +165,8 @@ pub fn told_status(told: &LoanReply) -> u16
         | LoanReply::Instalments(_)
         | LoanReply::Entries(_)
         | LoanReply::Status(_)
-        | LoanReply::Repeated(_) => 200,
+        | LoanReply::Repeated(_)
+        | LoanReply::Reversed(_) => 200,
         LoanReply::Entered(_) => 201,
     }
 }

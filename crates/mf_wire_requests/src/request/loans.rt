@@ -1,19 +1,24 @@
 // What is asked of loans.
-ghost use Rattle.std.specs.Prelude.{◌≡◌, option_and_then, IfOk};
+ghost use Rattle.std.specs.Prelude.{◌≡◌, ◌≤◌, option_and_then, IfOk, IfSome};
+ghost use Rattle.serde_json.specs.View.{view};
 ghost use Rattle.matchit.specs.Params.{AllText};
 ghost use Rattle.mf_model.specs.Sound.{IsInRange, IsLoanInRange};
 ghost use Rattle.mf_wire_requests.specs.Bodies.{json_of, Gives};
-ghost use Rattle.mf_wire_requests.specs.LoanRequests.{new_loan as loan_asked, disbursement as disbursement_asked, repayment as repayment_asked, loan_request, loan_at, loans_at};
+ghost use Rattle.mf_wire_requests.specs.LoanRequests.{new_loan as loan_asked, disbursement as disbursement_asked, repayment as repayment_asked, fee as fee_asked, instalment_at, penalty as penalty_asked, waiver as waiver_asked, reversal as reversal_asked, loan_request, loan_at, loans_at};
 ghost use Rattle.mf_wire_requests.specs.PathParts.{parts_of_params};
 
 use crate::body::{account, day, json, long_number, number, receipt};
+use crate::named::choice;
 use crate::paths::{account as account_in_path, number as number_in_path};
 use crate::routes::LoanEndpoint;
 use matchit::Params;
 use mf_base::Fault;
 use mf_catalog::{GREATEST_AMOUNT, MOST_PERIODS};
-use mf_model::{Application, LoanRequest, LoanStep, OfficeRequest, Repayment, Request};
+use mf_model::{
+    Application, LoanRequest, LoanStep, OfficeRequest, Posting, Repayment, Request, Waivable,
+};
 use mf_office::Account;
+use serde_json::Value;
 use std::alloc::Global;
 
 pub fn new_loan(alloc: Global, body: &[u8]) -> Result<Request, Fault>
@@ -82,9 +87,81 @@ fn repayment(alloc: Global, body: &[u8]) -> Result<LoanRequest, Fault>
     }))
 }
 
+/// A fee by a charge, for the instalment of a day.
+fn fee(alloc: Global, body: &[u8]) -> Result<LoanRequest, Fault>
+    ensures value { Gives (option_and_then fee_asked (json_of body.now)) result }
+    ensures in_range { IfOk result IsLoanInRange }
+{
+    let body = json(alloc, body)?;
+    let Some(charge) = number(&body, "charge", 0, 999_999_999) else {
+        return Err(Fault::F1);
+    };
+    let Some(due) = day(&body, "due") else {
+        return Err(Fault::F1);
+    };
+    Ok(LoanRequest::ChargeFee { charge, due })
+}
+
+/// The instalment that a body names, by its number.
+fn instalment(body: &Value) -> Option<u32>
+    ensures value { result ≡ instalment_at (view body.now) }
+    ensures least { IfSome result (λ n. 1 ≤ n) }
+    ensures greatest { IfSome result (λ n. n ≤ 999999999) }
+{
+    number(body, "instalment", 1, 999_999_999)
+}
+
+/// The overdue charge on an instalment.
+fn penalty(alloc: Global, body: &[u8]) -> Result<LoanRequest, Fault>
+    ensures value { Gives (option_and_then penalty_asked (json_of body.now)) result }
+    ensures in_range { IfOk result IsLoanInRange }
+{
+    let body = json(alloc, body)?;
+    match instalment(&body) {
+        Some(instalment) => Ok(LoanRequest::Post(Posting::Penalty { instalment })),
+        None => Err(Fault::F1),
+    }
+}
+
+/// A portion of an instalment is waived.
+fn waiver(alloc: Global, body: &[u8]) -> Result<LoanRequest, Fault>
+    ensures value { Gives (option_and_then waiver_asked (json_of body.now)) result }
+    ensures in_range { IfOk result IsLoanInRange }
+{
+    let body = json(alloc, body)?;
+    let Some(instalment) = instalment(&body) else {
+        return Err(Fault::F1);
+    };
+    let Some(portion) = choice::<Waivable>(&body, "portion") else {
+        return Err(Fault::F1);
+    };
+    Ok(LoanRequest::Post(Posting::Waiver {
+        instalment,
+        portion,
+    }))
+}
+
+/// The entry, or 0, that a path names counts no more.
+fn reversal(params: &Params<'_, '_>) -> Result<LoanRequest, Fault>
+    requires { AllText (parts_of_params params.now) }
+    ensures value { Gives (reversal_asked (parts_of_params params.now)) result }
+    ensures in_range { IfOk result IsLoanInRange }
+{
+    match number_in_path(params, "entry") {
+        Some(entry) => Ok(LoanRequest::Reverse { entry }),
+        None => Err(Fault::F1),
+    }
+}
+
 /// What is asked of a loan. The body is read only where it has members.
-fn loan_request(alloc: Global, endpoint: LoanEndpoint, body: &[u8]) -> Result<LoanRequest, Fault>
-    ensures value { Gives (loan_request endpoint body.now) result }
+fn loan_request(
+    alloc: Global,
+    endpoint: LoanEndpoint,
+    params: &Params<'_, '_>,
+    body: &[u8],
+) -> Result<LoanRequest, Fault>
+    requires { AllText (parts_of_params params.now) }
+    ensures value { Gives (loan_request endpoint (parts_of_params params.now) body.now) result }
     ensures in_range { IfOk result IsLoanInRange }
 {
     match endpoint {
@@ -97,6 +174,12 @@ fn loan_request(alloc: Global, endpoint: LoanEndpoint, body: &[u8]) -> Result<Lo
         LoanEndpoint::UndoApproval => Ok(LoanRequest::Take(LoanStep::UndoApproval)),
         LoanEndpoint::Disburse => disbursement(alloc, body),
         LoanEndpoint::Repay => repayment(alloc, body),
+        LoanEndpoint::ChargeFee => fee(alloc, body),
+        LoanEndpoint::ChargePenalty => penalty(alloc, body),
+        LoanEndpoint::Waive => waiver(alloc, body),
+        LoanEndpoint::WriteOff => Ok(LoanRequest::Post(Posting::WriteOff)),
+        LoanEndpoint::Refund => Ok(LoanRequest::Post(Posting::Refund)),
+        LoanEndpoint::Reverse => reversal(params),
     }
 }
 
@@ -114,7 +197,7 @@ pub fn on_loan(
     let Some(loan) = account_in_path(params, "loan") else {
         return Err(Fault::F1);
     };
-    let asked = loan_request(alloc, endpoint, body)?;
+    let asked = loan_request(alloc, endpoint, params, body)?;
     Ok(Request::Loan { loan, asked })
 }
 
