@@ -1,5 +1,6 @@
 //! The desk over an institution in vectors.
 
+mod corrections;
 mod requests;
 
 use mf_account::Balances;
@@ -10,6 +11,7 @@ use mf_model::{Flaw, LoanList, LoanReply, Reply, Statement};
 use mf_office::{Account, Caller, Office, Role};
 use mf_statement::{EntryLine, EntryList, InstalmentList};
 use requests::Asked::{self, *};
+use requests::Charge::*;
 use requests::Step::*;
 use requests::{day, request};
 use std::alloc::Global;
@@ -50,11 +52,29 @@ fn sums(alloc: Global, name: &str, sums: &[u64; 4]) -> Result<String, Fault> {
     Ok(format!(in alloc; " {name} {penalties} {fees} {interest} {principal}")?)
 }
 
+/// Four sums, where one is above 0.
+fn sums_above_none(alloc: Global, name: &str, told: &[u64; 4]) -> Result<String, Fault> {
+    if told.iter().all(|sum| *sum == 0) {
+        return Ok(String::new(alloc));
+    }
+    sums(alloc, name, told)
+}
+
 fn balances(alloc: Global, told: &Balances) -> Result<String, Fault> {
     let outstanding = sums(alloc, "outstanding", &told.outstanding)?;
     let paid = sums(alloc, "paid", &told.paid)?;
+    let waived = sums_above_none(alloc, "waived", &told.waived)?;
+    let written_off = sums_above_none(alloc, "written off", &told.written_off)?;
     let overpaid = told.overpaid;
-    Ok(format!(in alloc; "{outstanding}{paid} overpaid {overpaid}")?)
+    let mut text = format!(in alloc;
+        "{outstanding}{paid}{waived}{written_off} overpaid {overpaid}"
+    )?;
+    if told.refunded > 0 {
+        let refunded = told.refunded;
+        let refunded = format!(in alloc; " refunded {refunded}")?;
+        text.push_str(refunded.as_str())?;
+    }
+    Ok(text)
 }
 
 fn statement(alloc: Global, loan: Account, told: &Statement) -> Result<String, Fault> {
@@ -115,6 +135,7 @@ fn loan_text(alloc: Global, loan: Account, told: &LoanReply) -> Result<String, F
         LoanReply::Entries(lines) => entries(alloc, lines),
         LoanReply::Status(status) => at_status(alloc, loan, *status),
         LoanReply::Entered(seq) | LoanReply::Repeated(seq) => numbered(alloc, *seq, "entry"),
+        LoanReply::Reversed(seq) => numbered(alloc, *seq, "reversed"),
     }
 }
 
@@ -207,14 +228,14 @@ fn assert_told(
 
 /// A product, a client and a submitted loan.
 const LOAN: [Asked; 3] = [
-    AddProduct(None),
+    AddProduct(None, None),
     AddClient(1, "Amina"),
     SubmitLoan(1, 100000, 3),
 ];
 
 /// The same loan, disbursed on the day of its submission; two months later.
 const LENT: [Asked; 6] = [
-    AddProduct(None),
+    AddProduct(None, None),
     AddClient(1, "Amina"),
     SubmitLoan(1, 100000, 3),
     Take(Approve),
@@ -295,11 +316,14 @@ fn a_product_lends_within_its_limits_until_it_is_retired(rt: HostRuntime) -> Res
 }
 
 #[test]
-fn a_product_names_instalment_charges(rt: HostRuntime) -> Result<(), Fail> {
+fn a_product_names_charges_of_their_kinds(rt: HostRuntime) -> Result<(), Fail> {
     let rows = [
-        ("1/1", AddCharge("Visit"), "1 charge"),
-        ("1/1", AddProduct(Some(1)), "F8"),
-        ("1/1", AddProduct(Some(9)), "F4"),
+        ("1/1", AddCharge(Visit), "1 charge"),
+        ("1/1", AddProduct(Some(1), None), "F8"),
+        ("1/1", AddProduct(Some(9), None), "F4"),
+        ("1/1", AddProduct(None, Some(1)), "F8"),
+        ("1/1", AddCharge(Late), "2 charge"),
+        ("1/1", AddProduct(None, Some(2)), "1 product"),
     ];
     assert_told(&rt, rt.alloc(), &[], &rows)
 }

@@ -2,14 +2,14 @@
 
 ghost use Rattle.std.specs.Prelude.{◌≤◌, IfOk};
 ghost use Rattle.mf_base.specs.DayText.{last_entered_day};
-ghost use Rattle.mf_model.specs.Sound.{IsInRange, IsLoanInRange, IsName};
+ghost use Rattle.mf_model.specs.Sound.{IsInRange, IsLoanInRange, IsName, IsPostingInRange};
 
 use mf_base::{Day, Fault};
 use mf_catalog::{Calc, ChargeKind};
 use mf_desk_books::{members, name, office_no};
 use mf_model::{
-    Application, CatalogueRequest, Flaw, LoanRequest, LoanStep, OfficeRequest, Repayment, Request,
-    is_name,
+    Application, CatalogueRequest, Flaw, LoanRequest, LoanStep, OfficeRequest, Posting, Repayment,
+    Request, Waivable, is_name,
 };
 use mf_office::{Account, AccountNo, Name, Role};
 use std::alloc::Global;
@@ -20,6 +20,17 @@ pub(crate) enum Step {
     Approve,
     Withdraw,
     UndoApproval,
+}
+
+/// A charge.
+#[derive(Clone, Copy, Debug)]
+pub(crate) enum Charge {
+    /// 500 cents on a due day.
+    Visit,
+    /// A tenth of an overdue instalment.
+    Late,
+    /// A ten-thousandth of the interest, on a due day.
+    Trifle,
 }
 
 /// A request. Loans are those of office 1 and of its client 1.
@@ -34,10 +45,9 @@ pub(crate) enum Asked {
     /// An office and the client's number.
     ShowClient(u32, u32),
     SetDay(&'static str),
-    /// Of 500 cents on a due day.
-    AddCharge(&'static str),
-    /// With such a charge with each instalment.
-    AddProduct(Option<u32>),
+    AddCharge(Charge),
+    /// With such charges with each instalment and on one that is overdue.
+    AddProduct(Option<u32>, Option<u32>),
     RetireProduct,
     /// A product, a principal and how many periods.
     SubmitLoan(u32, u64, u32),
@@ -48,6 +58,16 @@ pub(crate) enum Asked {
     Disburse(&'static str),
     /// So many cents are paid back on a day.
     Repay(u64, &'static str),
+    /// A charge's number and a due day.
+    ChargeFee(u32, &'static str),
+    /// On an instalment.
+    Penalise(u32),
+    /// Of an instalment.
+    Waive(u32, Waivable),
+    WriteOff,
+    Refund,
+    /// An entry by its number.
+    Reverse(u32),
     ShowLoan,
     ShowInstalments,
     ShowEntries,
@@ -109,21 +129,39 @@ fn show_client(office: u32, number: u32) -> Result<Request, Fault>
     Ok(Request::Office { office, asked })
 }
 
-fn add_charge(alloc: Global, text: &str) -> Result<Request, Fault>
+fn add_charge(alloc: Global, charge: Charge) -> Result<Request, Fault>
     ensures { IfOk result IsInRange }
 {
-    Ok(Request::Catalogue(CatalogueRequest::AddCharge {
-        name: checked_name(alloc, text)?,
-        kind: ChargeKind::DueDate,
-        calc: Calc::Flat,
-        value: 500,
+    Ok(Request::Catalogue(match charge {
+        Charge::Visit => CatalogueRequest::AddCharge {
+            name: checked_name(alloc, "Visit")?,
+            kind: ChargeKind::DueDate,
+            calc: Calc::Flat,
+            value: 500,
+        },
+        Charge::Late => CatalogueRequest::AddCharge {
+            name: checked_name(alloc, "Late")?,
+            kind: ChargeKind::Overdue,
+            calc: Calc::OfBoth,
+            value: 1000,
+        },
+        Charge::Trifle => CatalogueRequest::AddCharge {
+            name: checked_name(alloc, "Trifle")?,
+            kind: ChargeKind::DueDate,
+            calc: Calc::OfInterest,
+            value: 1,
+        },
     }))
 }
 
-fn add_product(alloc: Global, instalment_charge: Option<u32>) -> Result<Request, Fault>
+fn add_product(
+    alloc: Global,
+    instalment_charge: Option<u32>,
+    overdue_charge: Option<u32>,
+) -> Result<Request, Fault>
     ensures { IfOk result IsInRange }
 {
-    let members = members(alloc, instalment_charge)?;
+    let members = members(alloc, instalment_charge, overdue_charge)?;
     Ok(Request::Catalogue(CatalogueRequest::AddProduct { members }))
 }
 
@@ -201,6 +239,53 @@ fn repay(amount: u64, text: &str) -> Result<Request, Fault>
     }))
 }
 
+fn charge_fee(charge: u32, due: &str) -> Result<Request, Fault>
+    ensures { IfOk result IsInRange }
+{
+    let due = day(due)?;
+    if charge > 999999999 {
+        return Err(Fault::F1);
+    }
+    on_loan(LoanRequest::ChargeFee { charge, due })
+}
+
+fn post(posting: Posting) -> Result<Request, Fault>
+    requires { IsPostingInRange posting }
+    ensures { IfOk result IsInRange }
+{
+    on_loan(LoanRequest::Post(posting))
+}
+
+fn penalise(instalment: u32) -> Result<Request, Fault>
+    ensures { IfOk result IsInRange }
+{
+    if instalment < 1 || instalment > 999999999 {
+        return Err(Fault::F1);
+    }
+    post(Posting::Penalty { instalment })
+}
+
+fn waive(instalment: u32, portion: Waivable) -> Result<Request, Fault>
+    ensures { IfOk result IsInRange }
+{
+    if instalment < 1 || instalment > 999999999 {
+        return Err(Fault::F1);
+    }
+    post(Posting::Waiver {
+        instalment,
+        portion,
+    })
+}
+
+fn reverse(entry: u32) -> Result<Request, Fault>
+    ensures { IfOk result IsInRange }
+{
+    if entry > 999999999 {
+        return Err(Fault::F1);
+    }
+    on_loan(LoanRequest::Reverse { entry })
+}
+
 /// The request as the desk takes it; F1 where a member is out of its range.
 pub(crate) fn request(alloc: Global, asked: Asked) -> Result<Request, Fault>
     ensures { IfOk result IsInRange }
@@ -213,8 +298,8 @@ pub(crate) fn request(alloc: Global, asked: Asked) -> Result<Request, Fault>
         Asked::AddClient(office, name) => add_client(alloc, office, name),
         Asked::ShowClient(office, number) => show_client(office, number),
         Asked::SetDay(text) => set_day(text),
-        Asked::AddCharge(name) => add_charge(alloc, name),
-        Asked::AddProduct(charge) => add_product(alloc, charge),
+        Asked::AddCharge(charge) => add_charge(alloc, charge),
+        Asked::AddProduct(instalment, overdue) => add_product(alloc, instalment, overdue),
         Asked::RetireProduct => Ok(Request::Catalogue(CatalogueRequest::RetireProduct {
             product: 1,
         })),
@@ -226,6 +311,12 @@ pub(crate) fn request(alloc: Global, asked: Asked) -> Result<Request, Fault>
         Asked::Take(step) => take(step),
         Asked::Disburse(day) => disburse(day),
         Asked::Repay(amount, day) => repay(amount, day),
+        Asked::ChargeFee(charge, due) => charge_fee(charge, due),
+        Asked::Penalise(instalment) => penalise(instalment),
+        Asked::Waive(instalment, portion) => waive(instalment, portion),
+        Asked::WriteOff => post(Posting::WriteOff),
+        Asked::Refund => post(Posting::Refund),
+        Asked::Reverse(entry) => reverse(entry),
         Asked::ShowLoan => on_loan(LoanRequest::Show),
         Asked::ShowInstalments => on_loan(LoanRequest::ShowInstalments),
         Asked::ShowEntries => on_loan(LoanRequest::ShowEntries),

@@ -108,6 +108,8 @@ fn a_loan_is_shown(rt: HostRuntime) -> Result<(), Fail> {
             "{\"loan\":\"0001-000001\",\"status\":300}",
         ),
         (LoanReply::Entered(1), 201, "{\"entry\":1}"),
+        (LoanReply::Repeated(1), 200, "{\"entry\":1}"),
+        (LoanReply::Reversed(1), 200, "{\"entry\":1}"),
     ] {
         let loan = first_loan()?;
         assert_text(&rt, rt.alloc(), &Reply::Loan { loan, told }, number, body)?;

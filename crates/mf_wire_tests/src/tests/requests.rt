@@ -125,6 +125,8 @@ fn limits_and_routes(rt: HostRuntime) -> Result<(), Fail> {
         ),
         ("POST", "/loans/0001-000001/disburse", "{}", Some(Fault::F1)),
         ("GET", "/loans/0001-000001/disburse", "", Some(Fault::F6)),
+        ("GET", "/loans/0001-000001/write-off", "", Some(Fault::F6)),
+        ("POST", "/loans/1/refund", "", Some(Fault::F1)),
         ("GET", "/loans/0001-000001/schedule", "no body", None),
         ("GET", "/loans/0001-000001/entries", "no body", None),
         ("GET", "/loans/1/entries", "", Some(Fault::F1)),
@@ -136,6 +138,69 @@ fn limits_and_routes(rt: HostRuntime) -> Result<(), Fail> {
         ("GET", "/loans/", "", Some(Fault::F5)),
     ] {
         assert_eq!(rt; refusal(rt.alloc(), method, path, body)?, expected);
+    }
+    Ok(())
+}
+
+/// What is entered of a loan beside repayments, and reversals: members and entry numbers at their limits and past them.
+/// Write-offs, refunds and reversals read no body. The number 0 is read, and is no entry.
+#[test]
+fn other_entries(rt: HostRuntime) -> Result<(), Fail> {
+    for (path, body, expected) in [
+        ("fees", "{\"charge\":0,\"due\":\"2099-12-31\"}", None),
+        (
+            "fees",
+            "{\"charge\":999999999,\"due\":\"2000-01-01\"}",
+            None,
+        ),
+        (
+            "fees",
+            "{\"charge\":1000000000,\"due\":\"2000-01-01\"}",
+            Some(Fault::F1),
+        ),
+        (
+            "fees",
+            "{\"charge\":0,\"due\":\"2100-01-01\"}",
+            Some(Fault::F1),
+        ),
+        ("fees", "{\"charge\":0}", Some(Fault::F1)),
+        ("penalties", "{\"instalment\":1}", None),
+        ("penalties", "{\"instalment\":999999999}", None),
+        ("penalties", "{\"instalment\":0}", Some(Fault::F1)),
+        ("penalties", "{\"instalment\":1000000000}", Some(Fault::F1)),
+        ("penalties", "no body", Some(Fault::F1)),
+        (
+            "waivers",
+            "{\"instalment\":1,\"portion\":\"penalties\"}",
+            None,
+        ),
+        ("waivers", "{\"instalment\":1,\"portion\":\"fees\"}", None),
+        (
+            "waivers",
+            "{\"instalment\":999999999,\"portion\":\"interest\"}",
+            None,
+        ),
+        (
+            "waivers",
+            "{\"instalment\":1,\"portion\":\"principal\"}",
+            Some(Fault::F1),
+        ),
+        (
+            "waivers",
+            "{\"instalment\":0,\"portion\":\"fees\"}",
+            Some(Fault::F1),
+        ),
+        ("waivers", "{\"instalment\":1}", Some(Fault::F1)),
+        ("write-off", "no body", None),
+        ("refund", "no body", None),
+        ("entries/0/reverse", "no body", None),
+        ("entries/999999999/reverse", "", None),
+        ("entries/1000000000/reverse", "", Some(Fault::F1)),
+        ("entries/x/reverse", "", Some(Fault::F1)),
+        ("entries/1", "", Some(Fault::F5)),
+    ] {
+        let path = format!(in rt.alloc(); "/loans/0001-000001/{path}")?;
+        assert_eq!(rt; refusal(rt.alloc(), "POST", path.as_str(), body)?, expected);
     }
     Ok(())
 }

@@ -66,7 +66,7 @@ fn a_product_is_made_and_shown(rt: HostRuntime) -> Result<(), Fail> {
     assert_text(&rt, rt.alloc(), &made, 201, "{\"product\":1}")?;
     let shown = Reply::ProductShown(Product {
         number: 1,
-        members: members(rt.alloc(), Some(4))?,
+        members: members(rt.alloc(), Some(4), None)?,
         retired: false,
     });
     assert_text(&rt, rt.alloc(), &shown, 200, PRODUCT)

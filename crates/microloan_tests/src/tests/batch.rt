@@ -1,6 +1,8 @@
 //! Streams of request lines over the store that the program runs on.
 
 mod branches;
+mod charged;
+mod corrected;
 mod paid;
 mod refused;
 mod rows;

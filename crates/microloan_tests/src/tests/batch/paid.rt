@@ -6,13 +6,13 @@ use std::test::Fail;
 
 /// Lines, and the replies to them.
 #[derive(Clone, Copy)]
-struct Stream {
-    lines: &'static str,
-    replies: &'static str,
+pub struct Stream {
+    pub lines: &'static str,
+    pub replies: &'static str,
 }
 
 /// A client has a loan of 100000 cents at 12 percent for three months, approved on 2024-01-31.
-const APPROVED: Stream = Stream {
+pub const APPROVED: Stream = Stream {
     lines: "1/1 PUT /business-day {\"day\":\"2024-01-31\"}\n\
 1/1 POST /products {\"name\":\"P\",\"method\":\"declining-equal-principal\",\"rate\":1200,\"frequency\":\"months\",\"every\":1,\"principal_grace\":0,\"interest_grace\":0,\"min_principal\":1,\"max_principal\":1000000,\"min_periods\":1,\"max_periods\":12,\"strategy\":\"mifos-standard-strategy\"}\n\
 1/1 POST /clients {\"office\":1,\"name\":\"Amina\"}\n\
@@ -40,7 +40,7 @@ const BEFORE: Stream = Stream {
 };
 
 /// It is paid out on that day, and the business day becomes 2024-03-31.
-const PAID_OUT: Stream = Stream {
+pub const PAID_OUT: Stream = Stream {
     lines: "1/1 POST /loans/0001-000001/disburse {\"day\":\"2024-01-31\"}\n\
 1/1 PUT /business-day {\"day\":\"2024-03-31\"}\n",
     replies: "200 {\"loan\":\"0001-000001\",\"status\":300}\n\
@@ -58,7 +58,7 @@ const OUT_OF_ORDER: Stream = Stream {
 };
 
 /// Two repayments.
-const REPAID: Stream = Stream {
+pub const REPAID: Stream = Stream {
     lines: "1/1 POST /loans/0001-000001/repayments {\"amount\":20000,\"day\":\"2024-02-29\"}\n\
 1/1 POST /loans/0001-000001/repayments {\"amount\":50000,\"day\":\"2024-03-31\"}\n",
     replies: "201 {\"entry\":1}\n\
@@ -242,7 +242,7 @@ const RECEIPTS: Stream = Stream {
 };
 
 /// Whether a new institution gives these replies to these lines, one stream after the other.
-fn are_replies(alloc: Global, streams: &[Stream]) -> Result<bool, Fail> {
+pub fn are_replies(alloc: Global, streams: &[Stream]) -> Result<bool, Fail> {
     let mut lines = String::new(alloc);
     let mut replies = String::new(alloc);
     for stream in streams {

@@ -120,6 +120,33 @@ fn a_loan_is_paid_out_and_repaid(rt: HostRuntime) -> Result<(), Fail> {
     Ok(())
 }
 
+/// A reversed entry stays and counts no more, and the next entry has the next number. The interest of the second and the third
+/// instalment is 4800 cents.
+#[test]
+fn an_entry_is_reversed(rt: HostRuntime) -> Result<(), Fail> {
+    let writes = [
+        CLIENT,
+        Write::Charge,
+        Write::Product,
+        SECOND_LOAN,
+        SECOND_LOAN,
+        Write::Approval { loan: 1 },
+        Write::Disbursal { loan: 1 },
+        Write::Approval { loan: 2 },
+        Write::Disbursal { loan: 2 },
+        Write::Repayment { loan: 1 },
+        Write::Repayment { loan: 2 },
+        Write::Repayment { loan: 2 },
+        Write::Repayment { loan: 2 },
+        Write::Reversal { loan: 2, entry: 2 },
+        Write::Repayment { loan: 2 },
+    ];
+    let asks = [Ask::Account { number: 1 }, Ask::Account { number: 2 }];
+    let told = told_after(rt.alloc(), &writes, &asks)?;
+    assert_eq!(rt; told.as_str(), "300 1 2000 0;300 4 4800 1200;");
+    Ok(())
+}
+
 #[test]
 fn loans_are_listed(rt: HostRuntime) -> Result<(), Fail> {
     let writes = [

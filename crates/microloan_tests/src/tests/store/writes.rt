@@ -55,6 +55,11 @@ pub(crate) enum Write {
     Repayment {
         loan: u32,
     },
+    /// A reversal of an entry.
+    Reversal {
+        loan: u32,
+        entry: u32,
+    },
 }
 
 fn day(text: &str) -> Result<Day, Fault> {
@@ -221,6 +226,24 @@ fn repay<S: InstitutionStore>(alloc: Global, store: &mut S, loan: u32) -> Result
     store.commit(alloc, commit)
 }
 
+fn reverse<S: InstitutionStore>(
+    alloc: Global,
+    store: &mut S,
+    loan: u32,
+    entry: u32,
+) -> Result<(), Fault> {
+    let Some(mut after) = store.account(alloc, account(1, loan)?)? else {
+        return Err(Fault::F9);
+    };
+    after.reverse(alloc, entry)?;
+    let commit = Commit::Reverse {
+        loan: account(1, loan)?,
+        seq: entry,
+        account: after,
+    };
+    store.commit(alloc, commit)
+}
+
 pub(crate) fn make<S: InstitutionStore>(
     alloc: Global,
     store: &mut S,
@@ -244,6 +267,7 @@ pub(crate) fn make<S: InstitutionStore>(
         Write::Rejection { loan } => set_stage(alloc, store, loan, Stage::Rejected),
         Write::Disbursal { loan } => disburse(alloc, store, loan),
         Write::Repayment { loan } => repay(alloc, store, loan),
+        Write::Reversal { loan, entry } => reverse(alloc, store, loan, entry),
     }
 }
 
