@@ -299,7 +299,7 @@ principal-sound loan sound =
 abbrev pub IsClosed : State → Type 0
 IsClosed s = 0 < s.overpaid → (i p : ℕ) → i < length s.rows → p < 4 → open_at (get_or s.rows i no_row) p ≡ 0
 
-whole-acted : (kind : Kind) (order : ℕ → Cell) (entry : Entry) (before : State) → AreWhole before.rows → AreWhole (own_effect kind order entry before).rows
+pub whole-acted : (kind : Kind) (order : ℕ → Cell) (entry : Entry) (before : State) → AreWhole before.rows → AreWhole (own_effect kind order entry before).rows
 whole-acted Repay order entry before whole =
     let shares = shares_of order before.rows entry.amount in
     subst AreWhole (with_settled-paid before.rows shares) (whole-with_settled before.rows (map paid_part shares) whole)
@@ -309,7 +309,7 @@ whole-acted Waive order entry before whole = whole-with_settled before.rows (par
 whole-acted WriteOff order entry before whole = whole-with_settled before.rows (parts_by WriteOff order entry before.rows) whole
 whole-acted Refund order entry before whole = whole
 
-portion-at : (p : ℕ) → p < 4 → place_in_row (standard p) ≡ p
+pub portion-at : (p : ℕ) → p < 4 → place_in_row (standard p) ≡ p
 portion-at zero small = refl
 portion-at (suc zero) small = refl
 portion-at (suc (suc zero)) small = refl

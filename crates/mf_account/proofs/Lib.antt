@@ -22,5 +22,6 @@ pub mod SealLemmas
 pub mod PenaltyLemmas
 pub mod DueLemmas
 pub mod ClearingLemmas
+pub mod ActiveLemmas
 pub mod LawfulLemmas
 pub mod ToldLemmas

@@ -28,7 +28,7 @@ use crate::replay::{apply_all, apply_with, mark_in, place_in, position, replayed
 use crate::resume::resumed_book;
 use crate::rewind::rewind_to;
 use crate::settled::{Book, Settled, put_behind, put_in};
-use mf_alloc::{Row, Share};
+use mf_alloc::{Portion, Row, Share};
 use mf_base::{Day, Fault};
 use mf_catalog::{ChargeDef, Terms};
 use mf_schedule::{Instalment, disbursement_fee, fresh};
@@ -439,6 +439,15 @@ impl LoanAccount {
         ensures whole { (p : ℕ) → p < 4 → slice_index result.paid p + slice_index result.waived p + slice_index result.written_off p + slice_index result.outstanding p ≡ slice_index result.owed p }
     {
         self.sums()
+    }
+
+    /// What is outstanding of the principal, at most 10^12 cents.
+    pub fn principal_left(&self) -> u64
+        ensures value { result ≡ slice_index (balances_of self.now.loan).outstanding 3 }
+        ensures most { result ≤ 10 ^ 12 }
+    {
+        let sums = self.sums();
+        sums.outstanding[Portion::Principal.index()]
     }
 
     /// The sums, as they are kept.

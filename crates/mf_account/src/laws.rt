@@ -1,5 +1,9 @@
 //! Laws of the definitions. Each function does nothing: its contract is the law.
 
+ghost use Rattle.std.specs.Prelude.{◌≡◌, ◌==◌};
+ghost use Rattle.std.specs.List.{list_any};
+ghost use Rattle.mf_alloc.specs.Sums.{is_open};
+ghost use Rattle.mf_account.specs.Loan.{Loan, IsSound, state_of_loan, status_of_loan};
 ghost use Rattle.mf_account.specs.StandingLaw.{StandingIsOne};
 ghost use Rattle.mf_account.specs.ClearingLaw.{WritesOffByCells, WaivesOneCell};
 ghost use Rattle.mf_account.specs.Rewind.{TailsCanBeRewound};
@@ -19,4 +23,10 @@ pub fn tails_can_be_rewound()
 pub fn clearing_goes_by_cells()
     ensures write_off { WritesOffByCells }
     ensures waiver { WaivesOneCell }
+{}
+
+/// A loan has status 300 exactly where something is outstanding in one of its instalments: a write-off that stands is its
+/// last standing entry, and leaves nothing outstanding.
+pub fn active_loans_owe()
+    ensures { (loan : Loan) → IsSound loan → (status_of_loan loan == 300) ≡ list_any is_open (state_of_loan loan).rows }
 {}

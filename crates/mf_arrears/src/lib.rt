@@ -7,4 +7,4 @@ mod report;
 
 pub use ageing::{arrears, class};
 pub use line::{Class, OfficeLine};
-pub use report::report_text;
+pub use report::{Totals, report_text};

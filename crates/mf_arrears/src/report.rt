@@ -1,4 +1,4 @@
-ghost use Rattle.std.specs.Prelude.{◌≡◌, ℕ, ◌+◌, ◌*◌, ◌-◌, ◌≤◌, ◌^◌, ◌++◌, [], OnOk, IfOk, IsOkUnless, string_bytes, sum_by, decimal};
+ghost use Rattle.std.specs.Prelude.{◌≡◌, ℕ, ◌+◌, ◌*◌, ◌-◌, ◌≤◌, ◌^◌, ◌++◌, [], OnOk, IfOk, IsOkUnless, IfSome, None, ◌≢◌, string_bytes, sum_by, decimal};
 ghost use Rattle.mf_base.specs.Money as spec;
 ghost use Rattle.mf_base.specs.Texts.{right};
 ghost use Rattle.mf_arrears.specs.Line.{Line, IsLine, par30_of};
@@ -9,15 +9,18 @@ use mf_base::{Fault, money_text, push_right};
 use std::alloc::Global;
 use std::marker::Model;
 
-/// The sums of several offices' lines.
+/// Totals are of at most so many loans.
+const MOST_LOANS: u64 = 10_000_000_000;
+
+/// The sums of several offices' lines, in cents.
 #[derive(Debug, Drop)]
-struct Totals {
-    loans: u64,
-    outstanding: u128,
-    c1_30: u128,
-    c31_60: u128,
-    c61_90: u128,
-    over_90: u128,
+pub struct Totals {
+    pub loans: u64,
+    pub outstanding: u128,
+    pub c1_30: u128,
+    pub c31_60: u128,
+    pub c61_90: u128,
+    pub over_90: u128,
 }
 
 impl Model for Totals {
@@ -29,6 +32,21 @@ impl Model for Totals {
 }
 
 impl Totals {
+    /// The sums of lines, or None where they have over 10^10 loans.
+    pub fn of(lines: &[OfficeLine]) -> Option<Totals>
+        ensures value { IfSome result (λ totals. totals ≡ total_of lines.now) }
+        ensures some { sum_by (λ (line : Line). line.loans) lines.now ≤ 10 ^ 10 → result ≢ None }
+    {
+        let mut all = Totals::new();
+        for office in lines {
+            if MOST_LOANS < office.loans || MOST_LOANS - office.loans < all.loans {
+                return None;
+            }
+            all.add_line(office);
+        }
+        Some(all)
+    }
+
     fn new() -> Self
         ensures { result ≡ total_of [] }
     {
@@ -55,8 +73,8 @@ impl Totals {
         self.over_90 += line.over_90;
     }
 
-    /// The portfolio at risk over all the lines.
-    fn par30(&self) -> u128
+    /// The portfolio at risk over all the lines, in hundredths of a percent.
+    pub fn par30(&self) -> u128
         ensures { result ≡ par30_of self.now }
     {
         let (loans, outstanding) = (self.loans, self.outstanding);
