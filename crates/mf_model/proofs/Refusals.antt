@@ -231,6 +231,7 @@ plan_ruled (request.Catalogue asked) = λ c i. catalogue_outcome (on_catalogue a
 plan_ruled (request.Office office asked) = λ c i. in_office_ruled office (λ k f. on_office asked office k f.rows) i.catalogue (seen_office c.office office i) (λ f. office_ruled asked office i.catalogue f.rows)
 plan_ruled (request.Loan loan asked) = λ c i. in_office_ruled loan.office (λ k f. in_loan loan (on_loan asked c k f.rows loan.number) f.rows) i.catalogue (seen_office c.office loan.office i) (λ f. in_loan_ruled loan asked c i.catalogue f.rows)
 plan_ruled request.SeenOffices = λ c i. tt
+plan_ruled request.SeenArrears = λ c i. tt
 plan_ruled (request.NewOffice number parent name) = λ c i.
     one_of (not (is_there i.offices parent && is_at_or_below (parent_of i.offices) parent c.office)) _ _ tt
     (one_of (is_there i.offices number) _ _ tt (one_of (is_within 4 (parent_of i.offices) parent 1) _ _ tt tt))

@@ -722,6 +722,7 @@ effect_sound c (request.Catalogue asked) i change b s r h = catalogue_sound (on_
 effect_sound c (request.Office office asked) i change b s r h = office_sound office (λ k f. on_office asked office k f.rows) i change s (office_keeps office asked r i.catalogue (is_staff i.offices)) h
 effect_sound c (request.Loan loan asked) i change b s r h = office_sound loan.office (λ k f. in_loan loan (on_loan asked c k f.rows loan.number) f.rows) i change s (loan_keeps loan asked c r.1 i.catalogue (is_staff i.offices) s.catalogue b) h
 effect_sound c request.SeenOffices i change b s r h = absurd (cc)
+effect_sound c request.SeenArrears i change b s r h = absurd (cc)
 effect_sound c (request.NewOffice number parent name) i change b s r h =
     let is : Office_added number parent name ≡ change = cc in subst (IsSoundChange i) is (r.0, r.2)
 

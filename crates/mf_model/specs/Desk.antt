@@ -24,6 +24,7 @@ use Rattle.mf_model.specs.declared.reply.Reply.TheVariants.{OfficeMade}
 use Rattle.mf_model.specs.Institution.{Institution, Catalogue, Office, Rows, Staff, Change, Catalogue_becomes, Rows_become, Office_added, office_at, staff_in}
 use Rattle.mf_model.specs.Tree.{parent_of, seen_office, seen_by, is_there}
 use Rattle.mf_model.specs.Catalogue.{on_catalogue}
+use Rattle.mf_model.specs.Arrears.{list_arrears}
 use Rattle.mf_model.specs.Offices.{list_offices, add_staff, add_client, show_client}
 use Rattle.mf_model.specs.Loans.{on_loan, in_loan, submit, list_loans}
 pub use Rattle.mf_model.specs.Offices.{line_of, staff_added, client_added}
@@ -57,6 +58,7 @@ plan (request.Catalogue asked) = Ok (On_catalogue (on_catalogue asked))
 plan (request.Office office asked) = Ok (On_office office (λ caller catalogue f. on_office asked office catalogue f.rows))
 plan (request.Loan loan asked) = Ok (On_office loan.office (λ caller catalogue f. in_loan loan (on_loan asked caller catalogue f.rows loan.number) f.rows))
 plan request.SeenOffices = Ok (On_all_seen list_offices)
+plan request.SeenArrears = Ok (On_all_seen list_arrears)
 plan (request.NewOffice number parent name) = Ok (On_new_office number parent name)
 
 -- who may send a request: any staff, officers and managers, managers, or managers of office 1
@@ -106,6 +108,7 @@ need (request.Catalogue asked) = catalogue_need asked
 need (request.Office office asked) = office_need asked
 need (request.Loan loan asked) = loan_need asked
 need request.SeenOffices = A_teller
+need request.SeenArrears = A_teller
 need (request.NewOffice number parent name) = The_head
 
 abbrev pub is_manager : Role → Bool

@@ -192,6 +192,7 @@ IsInRange (request.Catalogue asked) = IsCatalogueInRange asked
 IsInRange (request.Office office asked) = IsOfficeInRange office asked
 IsInRange (request.Loan loan asked) = IsAccount loan × IsLoanInRange asked
 IsInRange request.SeenOffices = Unit {0}
+IsInRange request.SeenArrears = Unit {0}
 IsInRange (request.NewOffice number parent name) = IsNumberUpTo 9999 number × IsNumberUpTo 9999 parent × IsName name
 
 abbrev pub AreInRange : List Line → Type 0

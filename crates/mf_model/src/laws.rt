@@ -11,6 +11,7 @@ ghost use Rattle.mf_model.specs.Sound.{IsSound, IsInRange, AreInRange};
 ghost use Rattle.mf_model.specs.WorkedRows.{first_day, branches, chain, lending, first_of_2024, catalogue_day, deciding};
 ghost use Rattle.mf_model.specs.WorkedAccounts.{january, repaying, scheduled, back_dated, overpaying, principal_first, out_of_order, disbursing, receipts};
 ghost use Rattle.mf_model.specs.WorkedEntries.{fee_paid_before, fees_by_day, waiving, penalties_first, principal_before, interest_before, penalty_taken_back, reversing, refunding, writing_off, receipt_of_a_reversed_entry};
+ghost use Rattle.mf_model.specs.WorkedArrears.{thirty_days, interest_left};
 ghost use Rattle.mf_base.specs.DayText.{last_entered_day};
 ghost use Rattle.mf_office.specs.Tree.{IsTreeOf};
 ghost use Rattle.mf_model.specs.declared.request.Call.{Call};
@@ -195,6 +196,12 @@ pub fn worked_entries()
     ensures refunding { answers (map (λ row. row.0) refunding) (newly_made january) ≡ map (λ row. row.1) refunding }
     ensures writing_off { answers (map (λ row. row.0) writing_off) (newly_made january) ≡ map (λ row. row.1) writing_off }
     ensures receipt_of_a_reversed_entry { answers (map (λ row. row.0) receipt_of_a_reversed_entry) (newly_made january) ≡ map (λ row. row.1) receipt_of_a_reversed_entry }
+{}
+
+/// What the report of arrears says, worked out line by line.
+pub fn worked_arrears()
+    ensures thirty_days { answers (map (λ row. row.0) thirty_days) (newly_made january) ≡ map (λ row. row.1) thirty_days }
+    ensures interest_left { answers (map (λ row. row.0) interest_left) (newly_made january) ≡ map (λ row. row.1) interest_left }
 {}
 
 /// The offices of a sound institution are a tree as the keys of offices know it.

@@ -13,7 +13,7 @@ mod store;
 mod waivable;
 
 pub use commit::Commit;
-pub use listing::{LoanList, OfficeList};
+pub use listing::{ArrearsList, LoanList, OfficeList};
 pub use loan::{Loan, LoanLine, ReceiptUse, Stage, Statement};
 pub use names::is_name;
 pub use reply::{LoanReply, Reply};

@@ -1,4 +1,5 @@
 use crate::loan::LoanLine;
+use mf_arrears::OfficeLine;
 use mf_office::Office;
 use mf_statement::Listing;
 
@@ -7,3 +8,6 @@ pub type OfficeList = Listing<Office>;
 
 /// Loans by number.
 pub type LoanList = Listing<LoanLine>;
+
+/// A line of active loans for each office, by number.
+pub type ArrearsList = Listing<OfficeLine>;

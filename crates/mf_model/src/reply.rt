@@ -1,4 +1,4 @@
-use crate::listing::{LoanList, OfficeList};
+use crate::listing::{ArrearsList, LoanList, OfficeList};
 use crate::loan::Statement;
 use mf_base::Day;
 use mf_catalog::{ChargeDef, Product};
@@ -57,4 +57,6 @@ pub enum Reply {
     Loan { loan: Account, told: LoanReply },
     /// Loans of an office, by number.
     LoansShown(LoanList),
+    /// A line of active loans for each office, by number.
+    ArrearsShown(ArrearsList),
 }

@@ -168,6 +168,8 @@ pub enum Request {
     },
     /// The caller's office and those below it.
     SeenOffices,
+    /// The active loans of the caller's office and of those below it, by days overdue.
+    SeenArrears,
     /// A new office under a parent.
     NewOffice {
         number: OfficeNo,

@@ -1,5 +1,5 @@
 use crate::commit::Commit;
-use crate::listing::{LoanList, OfficeList};
+use crate::listing::{ArrearsList, LoanList, OfficeList};
 use crate::loan::{Loan, ReceiptUse};
 use mf_account::{LoanAccount, Receipt};
 use mf_base::{Day, Fault};
@@ -32,6 +32,7 @@ pub trait InstitutionStore {
     ghost use Rattle.mf_model.specs.Institution.{Institution, charge_in, product_in};
     ghost use Rattle.mf_model.specs.Tree.{parent_of, seen_by, seen_office, is_there};
     ghost use Rattle.mf_model.specs.Desk.{line_of};
+    ghost use Rattle.mf_model.specs.Arrears.{arrears_seen};
     ghost use Rattle.mf_model.specs.Sound.{IsSound};
     ghost use Rattle.mf_model.specs.Store.{Reads, Commits, role_of, counts_at, client_at, catalogue_counts, loan_at, account_at, receipt_at, loans_at};
 
@@ -108,6 +109,10 @@ pub trait InstitutionStore {
     /// The offices at or below one, by number.
     fn visible_offices(&mut self, alloc: Global, to: OfficeNo) -> Result<OfficeList, Fault>
         ensures { Reads stands clean leaves (λ i. map line_of (seen_by to i.offices)) self.old self.new result };
+
+    /// The active loans of each office at or below one, on the business day: a line an office, by number.
+    fn office_lines(&mut self, alloc: Global, to: OfficeNo) -> Result<ArrearsList, Fault>
+        ensures { Reads stands clean leaves (arrears_seen to) self.old self.new result };
 
     /// Makes a change that leaves the institution sound.
     fn commit(&mut self, alloc: Global, commit: Commit) -> Result<(), Fault>
