@@ -12,6 +12,7 @@ pub mod UseLemmas
 pub mod FirstLemmas
 pub mod VisibleLemmas
 pub mod OfficeRowsLemmas
+pub mod ArrearsLemmas
 pub mod CatalogueLemmas
 pub mod LoanLemmas
 pub mod OneInstitution

@@ -4,3 +4,4 @@ pub mod Counts
 pub mod Facts
 pub mod Learning
 pub mod Stands
+pub mod Arrears

@@ -10,7 +10,8 @@ use mf_account::{LoanAccount, Receipt};
 use mf_base::{Choice, Day, Fault};
 use mf_catalog::{ChargeDef, Product};
 use mf_model::{
-    CatalogueCounts, Commit, Counts, InstitutionStore, Loan, LoanList, OfficeList, ReceiptUse,
+    ArrearsList, CatalogueCounts, Commit, Counts, InstitutionStore, Loan, LoanList, OfficeList,
+    ReceiptUse,
 };
 use mf_office::{Account, Caller, Name, OfficeNo, Role};
 use sqlite::Alter;
@@ -151,6 +152,10 @@ impl<S: Alter> InstitutionStore for Store<S> {
 
     fn visible_offices(&mut self, alloc: Global, to: OfficeNo) -> Result<OfficeList, Fault> {
         self.offices(alloc, to)
+    }
+
+    fn office_lines(&mut self, alloc: Global, to: OfficeNo) -> Result<ArrearsList, Fault> {
+        self.lines_below(alloc, to)
     }
 
     fn commit(&mut self, alloc: Global, commit: Commit) -> Result<(), Fault> {

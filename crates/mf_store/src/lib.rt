@@ -5,6 +5,7 @@
 #![tactic(auto)]
 
 mod accounts;
+mod arrears;
 mod catalogue;
 mod commits;
 mod counts;

@@ -1,0 +1,95 @@
+-- Offices' lines of active loans, as they are counted in turn.
+use Rattle.std.proofs.Common.{◌≡◌, ◌<◌, ◌+◌, ℕ, Bool, true, false, cond, ◌==◌, List, [], ◌∷◌, ◌++◌, map, length, take, get_or, slice_get, Option, Some, None, refl, sym, ap, ap₂, ◌∙◌, arith}
+use Rattle.std.specs.List.{AllByRecursion, flat_map}
+use Rattle.std.specs.Option.{option_map}
+use Rattle.std.proofs.lemmas.Bool.Decides.{nat_tests}
+use Rattle.std.proofs.lemmas.Grind.{flat_map-append}
+use Rattle.std.proofs.lemmas.List.{take_more, map-append}
+use Rattle.std.proofs.lemmas.List.Concat.{flat_map-cons}
+use Rattle.std.proofs.lemmas.Option.{slice_get-get_or}
+use Rattle.mf_office.specs.declared.office.Office.{Office as OfficeShown}
+use Rattle.mf_arrears.specs.Line.{Loan as Aged, Line, line_of as line_of_loans}
+use Rattle.mf_model.specs.declared.loan.Stage.TheVariants.{Submitted}
+use Rattle.mf_model.specs.Accounts.{account_in}
+use Rattle.mf_model.specs.Arrears.{active_in, arrears_line, arrears_seen, if_active}
+use Rattle.mf_model.specs.Desk.{line_of}
+use Rattle.mf_model.specs.Institution.{Institution, Catalogue, Office, Ledger, office_at}
+use Rattle.mf_account.specs.Change.{Account as Replayed}
+use Rattle.mf_account.specs.Loan.{Loan as Running}
+use Rattle.mf_model.specs.Store.{rows_of, replayed}
+use Rattle.mf_model.specs.Tree.{kept, seen_by, parent_of, Above, Ascending}
+use Rattle.mf_office.specs.Tree.{is_at_or_below}
+use Rattle.mf_store.specs.Arrears.{line_at}
+
+-- ---- the loans of one office
+
+no_ledger : Ledger
+no_ledger = record { loan = record { client = 0; product = 0; principal = 0; periods = 0; stage = Submitted }; entries = [] }
+
+append_none : {A : Type 0} (xs : List A) → xs ++ [] ≡ xs
+append_none [] = refl
+append_none (x ∷ xs) = ap (λ l. x ∷ l) (append_none xs)
+
+one_more : (k : Catalogue) (ls : List Ledger) (d : ℕ) (found : List Aged) → d < length ls → ((l : Ledger) → slice_get ls d ≡ Some l → found ≡ if_active k.day (account_in k l)) → active_in k (take (d + 1) ls) ≡ active_in k (take d ls) ++ found
+one_more k ls d found low is =
+    ap (flat_map counts) (take_more ls d no_ledger low)
+    ∙ flat_map-append counts (take d ls) (get_or ls d no_ledger ∷ [])
+    ∙ ap (λ xs. flat_map counts (take d ls) ++ xs) (flat_map-cons counts (get_or ls d no_ledger) [] ∙ append_none (counts (get_or ls d no_ledger)) ∙ sym (is (get_or ls d no_ledger) (slice_get-get_or ls d no_ledger low)))
+  where
+    counts : Ledger → List Aged
+    counts l = if_active k.day (account_in k l)
+
+-- what is told of an account that was handed out, and of none
+pub none_told : (today : ℕ) (account : Option Running) → option_map replayed account ≡ None → [] ≡ if_active today account
+none_told today None none = refl
+none_told today (Some a) none = absurd (cc)
+
+pub some_told : (today : ℕ) (found : Replayed) (account : Option Running) → Some found ≡ option_map replayed account → if_active today (Some found.loan) ≡ if_active today account
+some_told today found None is = absurd (cc)
+some_told today found (Some a) is = ap (λ (r : Replayed). if_active today (Some r.loan)) (let same : found ≡ replayed a = cc in same)
+
+-- one more loan is counted
+pub next_line : (k : Catalogue) (office : ℕ) (ls : List Ledger) (d : ℕ) (line new : Line) (found : List Aged) → d < length ls → ((l : Ledger) → slice_get ls d ≡ Some l → found ≡ if_active k.day (account_in k l))
+    → ((x : ℕ) (loans : List Aged) → line ≡ line_of_loans x loans → new ≡ line_of_loans x (loans ++ found)) → line ≡ line_of_loans office (active_in k (take d ls)) → new ≡ line_of_loans office (active_in k (take (d + 1) ls))
+next_line k office ls d line new found low is added before = added office (active_in k (take d ls)) before ∙ ap (line_of_loans office) (sym (one_more k ls d found low is))
+
+-- ---- office by office
+
+-- one more office is added up
+pub mapped_office : {L : Type 0} (line : OfficeShown → L) (offices : List OfficeShown) (n : ℕ) (item : OfficeShown) (x : L) (xs ys : List L) → n < length offices → item ≡ get_or offices n item → ys ≡ xs ++ x ∷ [] → x ≡ line item → xs ≡ map line (take n offices) → ys ≡ map line (take (n + 1) offices)
+mapped_office line offices n item x xs ys low is more here before =
+    more ∙ ap₂ ◌++◌ before (ap (λ y. y ∷ []) (here ∙ ap line is)) ∙ sym (ap (map line) (take_more offices n item low) ∙ map-append line (take n offices) (get_or offices n item ∷ []))
+
+-- each office is found by its number
+abbrev IsFoundIn : List Office → Office → Type 0
+IsFoundIn fs g = office_at g.number fs ≡ Some g
+
+found_past : (f : Office) (fs gs : List Office) → Above f.number gs → AllByRecursion (IsFoundIn fs) gs → AllByRecursion (IsFoundIn (f ∷ fs)) gs
+found_past f fs [] up all = tt
+found_past f fs (g ∷ gs) up all = (
+  (let low : f.number < g.number = up.0 in let apart : (f.number == g.number) ≡ false = grind (arith, nat_tests) in ap (λ b. cond b (Some f) (office_at g.number fs)) apart ∙ all.0),
+  found_past f fs gs up.1 all.1,
+)
+
+found_there : (fs : List Office) → Ascending fs → AllByRecursion (IsFoundIn fs) fs
+found_there [] up = tt
+found_there (f ∷ fs) up = (
+  (let own : (f.number == f.number) ≡ true = grind (arith, nat_tests) in ap (λ b. cond b (Some f) (office_at f.number fs)) own),
+  found_past f fs fs up.0 (found_there fs up.1),
+)
+
+lines_kept : (i : Institution) (p : ℕ → Bool) (gs : List Office) → AllByRecursion (IsFoundIn i.offices) gs → map (line_at i) (map line_of (kept p gs)) ≡ map (arrears_line i.catalogue) (kept p gs)
+lines_kept i p [] all = refl
+lines_kept i p (g ∷ gs) all = go (p g.number) (lines_kept i p gs all.1)
+  where
+    here : line_at i (line_of g) ≡ arrears_line i.catalogue g
+    here = ap (λ o. line_of_loans g.number (active_in i.catalogue (rows_of o).loans)) all.0
+
+    go : (b : Bool) → map (line_at i) (map line_of (kept p gs)) ≡ map (arrears_line i.catalogue) (kept p gs)
+        → map (line_at i) (map line_of (cond b (g ∷ kept p gs) (kept p gs))) ≡ map (arrears_line i.catalogue) (cond b (g ∷ kept p gs) (kept p gs))
+    go true more = ap₂ ◌∷◌ here more
+    go false more = more
+
+-- the lines of the offices that are seen, as these are shown, are the arrears that are seen
+pub lines_seen : (to : ℕ) (i : Institution) → Ascending i.offices → map (line_at i) (map line_of (seen_by to i.offices)) ≡ arrears_seen to i
+lines_seen to i up = lines_kept i (λ x. is_at_or_below (parent_of i.offices) x to) i.offices (found_there i.offices up)
