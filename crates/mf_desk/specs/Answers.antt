@@ -1,7 +1,7 @@
 -- What the desk does with a request, in the words of the institution that its store stands for.
 use Rattle.std.specs.Prelude.{◌≡◌, ℕ, ◌⊎◌, true, false, cond, is_some, List, option_map, Option, Some, None, Result, Ok, Err, IfOk, IfErr, OnOk, OnErr}
 use Rattle.mf_base.specs.declared.fault.Fault.{Fault}
-use Rattle.mf_base.specs.declared.fault.Fault.TheVariants.{F4, F9, F20}
+use Rattle.mf_base.specs.declared.fault.Fault.TheVariants.{F2, F4, F9, F20}
 use Rattle.mf_office.specs.declared.account.Account.{Account}
 use Rattle.mf_office.specs.declared.caller.Caller.{Caller}
 use Rattle.mf_account.specs.Change.{Account as Replayed}
@@ -11,9 +11,11 @@ use Rattle.mf_model.specs.declared.loan.Loan.{Loan}
 use Rattle.mf_model.specs.declared.reply.LoanReply.{LoanReply}
 use Rattle.mf_model.specs.declared.reply.Reply.{Reply}
 use Rattle.mf_desk.specs.declared.decision.Decision.{Decision}
+use Rattle.mf_arrears.specs.Line.{Line}
+use Rattle.mf_model.specs.Arrears.{arrears_seen}
 use Rattle.mf_model.specs.Institution.{Institution, Catalogue, Rows, Ledger, after_maybe}
 use Rattle.mf_model.specs.Loans.{on_loan, LedgerChange, in_loan}
-use Rattle.mf_model.specs.Desk.{Plan, plan, Outcome, carried_out, outcome, change_in, of_catalogue, of_office}
+use Rattle.mf_model.specs.Desk.{Plan, plan, Outcome, carried_out, outcome, change_in, of_catalogue, of_office, staff_at}
 use Rattle.mf_model.specs.Tree.{seen_office}
 use Rattle.mf_model.specs.Outcomes.{where_found}
 use Rattle.mf_model.specs.declared.loan.ReceiptUse.{ReceiptUse}
@@ -87,6 +89,10 @@ use_named x (Some receipt) i = Ok (receipt_at x receipt i)
 -- what becomes of a loan and of the rows of its office
 abbrev pub in_ledger : Account → (Catalogue → Ledger → Result (LoanReply × Option LedgerChange) Fault) → Institution → Outcome
 in_ledger loan act i = in_rows loan.office (λ k rows. in_loan loan (act k) rows) i
+
+-- the arrears that a caller sees; F2 where there is no such member of staff
+abbrev pub arrears_told : Caller → Institution → Result (List Line) Fault
+arrears_told c i = cond (is_some (staff_at i c)) (Ok (arrears_seen c.office i)) (Err F2)
 
 module _ {S : Type 0} (stands : S → Institution → Type 0) (clean : S → Type 0) (leaves : S → List Institution → Type 0) where
   -- A decision reads the store and changes nothing. It is the outcome, its refusal the outcome's, and it may give up.

@@ -2,6 +2,7 @@
 #![tactic(auto)]
 
 mod answering;
+mod arrears;
 mod catalogue;
 mod decision;
 mod entering;
@@ -19,4 +20,5 @@ mod stages;
 mod statements;
 
 pub use answering::answer;
+pub use arrears::arrears_lines;
 pub use mf_model::{Call, OfficeList, Reply, Request};

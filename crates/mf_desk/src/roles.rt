@@ -12,7 +12,7 @@ pub fn may_send(request: &Request, role: Role, office: OfficeNo) -> bool
     let is_manager = matches!(role, Role::Manager);
     let is_head = is_manager && office.get() == 1;
     match request {
-        Request::Unreadable(_) | Request::SeenOffices => true,
+        Request::Unreadable(_) | Request::SeenOffices | Request::SeenArrears => true,
         Request::NewOffice { .. } => is_head,
         Request::Catalogue(asked) => match asked {
             CatalogueRequest::ShowDay

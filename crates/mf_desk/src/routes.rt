@@ -4,6 +4,7 @@ ghost use Rattle.std.specs.Prelude.{◌≢◌, IfErr};
 ghost use Rattle.mf_model.specs.Sound.{IsInRange};
 ghost use Rattle.mf_desk.specs.Answers.{Decides, request_outcome};
 
+use crate::arrears::list_arrears;
 use crate::catalogue::on_catalogue;
 use crate::decision::Decision;
 use crate::loans::on_loan;
@@ -30,6 +31,7 @@ pub fn act<S: InstitutionStore>(
         Request::Office { office, asked } => in_office(alloc, store, caller, office, asked),
         Request::Loan { loan, asked } => on_loan(alloc, store, caller, loan, asked),
         Request::SeenOffices => list_offices(alloc, store, caller),
+        Request::SeenArrears => list_arrears(alloc, store, caller),
         Request::NewOffice {
             number,
             parent,
