@@ -5,16 +5,18 @@ use Rattle.serde_json.specs.Written.{has_float, items_have_float}
 use Rattle.mf_office.specs.declared.account.Account.{Account}
 use Rattle.mf_office.specs.declared.office.Office.{Office}
 use Rattle.mf_alloc.specs.declared.row.Share.{Share}
+use Rattle.mf_arrears.specs.Line.{Line}
 use Rattle.mf_statement.specs.declared.lines.EntryLine.{EntryLine}
 use Rattle.mf_statement.specs.declared.lines.InstalmentLine.{InstalmentLine}
 use Rattle.mf_model.specs.declared.reply.Reply.{Reply}
-use Rattle.mf_model.specs.declared.reply.Reply.TheVariants.{OfficeMade, Offices, StaffMade, ClientMade, ClientShown, DayShown, DaySet, ChargeMade, ChargeShown, ProductMade, ProductShown, ProductRetired, LoanMade, Loan, LoansShown}
+use Rattle.mf_model.specs.declared.reply.Reply.TheVariants.{OfficeMade, Offices, StaffMade, ClientMade, ClientShown, DayShown, DaySet, ChargeMade, ChargeShown, ProductMade, ProductShown, ProductRetired, LoanMade, Loan, LoansShown, ArrearsShown}
 use Rattle.mf_catalog.specs.declared.product.Product.{Product}
 use Rattle.mf_model.specs.declared.loan.LoanLine.{LoanLine}
 use Rattle.mf_model.specs.declared.reply.LoanReply.{LoanReply}
 use Rattle.mf_model.specs.declared.reply.LoanReply.TheVariants.{Shown, Instalments, Entries, Status, Entered, Repeated, Reversed}
 use Rattle.mf_wire_replies.specs.Catalogue.{product_data}
 use Rattle.mf_wire_replies.specs.Json.{whole_or_null, text_or_null}
+use Rattle.mf_wire_replies.specs.ArrearsTexts.{line_data as arrears_line}
 use Rattle.mf_wire_replies.specs.AccountTexts.{instalment_data, instalment_for, portion_waived, share_data, entry_data}
 use Rattle.mf_wire_replies.specs.LoanTexts.{day_or_null, told_data, line_data}
 use Rattle.mf_wire_replies.specs.Shown.{office_data, reply_data}
@@ -70,6 +72,10 @@ whole_loans : (lines : List LoanLine) → items_have_float (items_of (map line_d
 whole_loans [] = refl
 whole_loans (line ∷ lines) = whole_loans lines
 
+whole_arrears : (lines : List Line) → items_have_float (items_of (map arrears_line lines)) ≡ false
+whole_arrears [] = refl
+whole_arrears (line ∷ lines) = whole_arrears lines
+
 pub whole_reply : (reply : Reply) → has_float (reply_data reply) ≡ false
 whole_reply (OfficeMade office) = refl
 whole_reply (Offices lines) = ap (λ b. b || false) (whole_offices lines)
@@ -86,3 +92,4 @@ whole_reply (ProductRetired product) = refl
 whole_reply (LoanMade loan) = refl
 whole_reply (Loan loan told) = whole_told loan told
 whole_reply (LoansShown lines) = ap (λ b. b || false) (whole_loans lines)
+whole_reply (ArrearsShown lines) = ap (λ b. b || false) (whole_arrears lines)

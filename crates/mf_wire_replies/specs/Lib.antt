@@ -1,4 +1,5 @@
 pub mod AccountTexts
+pub mod ArrearsTexts
 pub mod Catalogue
 pub mod Json
 pub mod LoanTexts

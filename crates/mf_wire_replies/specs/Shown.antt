@@ -8,9 +8,10 @@ use Rattle.mf_base.specs.declared.fault.Fault.{Fault}
 use Rattle.mf_office.specs.Written.{caller_text, account_text}
 use Rattle.mf_office.specs.declared.office.Office.{Office}
 use Rattle.mf_model.specs.declared.reply.Reply.{Reply}
-use Rattle.mf_model.specs.declared.reply.Reply.TheVariants.{OfficeMade, Offices, StaffMade, ClientMade, ClientShown, DayShown, DaySet, ChargeMade, ChargeShown, ProductMade, ProductShown, ProductRetired, LoanMade, Loan, LoansShown}
+use Rattle.mf_model.specs.declared.reply.Reply.TheVariants.{OfficeMade, Offices, StaffMade, ClientMade, ClientShown, DayShown, DaySet, ChargeMade, ChargeShown, ProductMade, ProductShown, ProductRetired, LoanMade, Loan, LoansShown, ArrearsShown}
 use Rattle.mf_wire_replies.specs.declared.showing.Body.{Body}
 use Rattle.mf_wire_replies.specs.declared.showing.Body.TheVariants.{Value, Text}
+use Rattle.mf_wire_replies.specs.ArrearsTexts.{arrears_data}
 use Rattle.mf_wire_replies.specs.Catalogue.{charge_data, product_data}
 use Rattle.mf_wire_replies.specs.Json.{whole, whole_or_null}
 use Rattle.mf_wire_replies.specs.LoanTexts.{account_data, told_data, told_status, lines_data}
@@ -37,6 +38,7 @@ reply_data (ProductRetired product) = object (member (codes "product") (whole pr
 reply_data (LoanMade loan) = object (member (codes "loan") (account_data loan) no_members)
 reply_data (Loan loan told) = told_data loan told
 reply_data (LoansShown lines) = lines_data lines
+reply_data (ArrearsShown lines) = arrears_data lines
 
 -- 201 where something was made, 200 where something is shown
 abbrev pub reply_status : Reply → ℕ
@@ -55,6 +57,7 @@ reply_status (ProductRetired product) = 200
 reply_status (LoanMade loan) = 201
 reply_status (Loan loan told) = told_status told
 reply_status (LoansShown lines) = 200
+reply_status (ArrearsShown lines) = 200
 
 -- the body of a success: compact JSON
 abbrev pub reply_body : Reply → List ℕ

@@ -7,10 +7,12 @@ ghost use Rattle.mf_wire_lines.specs.Replies.{reply_line};
 ghost use Rattle.mf_wire_replies.specs.Shown.{IsBodyOf, office_data, reply_data, reply_status, reply_body};
 
 mod account;
+mod arrears;
 mod catalogue;
 mod loans;
 mod members;
 
+use arrears::arrears_shown;
 use catalogue::{charge_made, charge_shown, day_value, product_shown, product_value};
 use loans::{loan_made, loan_told, loans_shown, told_status};
 use mf_base::Fault;
@@ -109,6 +111,7 @@ fn reply_body(alloc: Global, reply: &Reply) -> Result<Body, Fault>
         Reply::LoanMade(loan) => Ok(Body::Value(loan_made(alloc, *loan)?)),
         Reply::Loan { loan, told } => loan_told(alloc, *loan, told),
         Reply::LoansShown(lines) => Ok(Body::Value(loans_shown(alloc, lines.as_slice())?)),
+        Reply::ArrearsShown(lines) => Ok(Body::Value(arrears_shown(alloc, lines.as_slice())?)),
     }
 }
 
@@ -153,7 +156,8 @@ pub fn status(reply: &Reply) -> u16
         | Reply::ChargeShown(_)
         | Reply::ProductShown(_)
         | Reply::ProductRetired(_)
-        | Reply::LoansShown(_) => 200,
+        | Reply::LoansShown(_)
+        | Reply::ArrearsShown(_) => 200,
         Reply::Loan { told, .. } => told_status(told),
     }
 }

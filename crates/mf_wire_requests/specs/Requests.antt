@@ -5,10 +5,10 @@ use Rattle.mf_office.specs.Texts.{caller_of}
 use Rattle.mf_model.specs.declared.request.CatalogueRequest.TheVariants as catalogue
 use Rattle.mf_model.specs.declared.request.Flaw.TheVariants.{Malformed, NoRoute, NoMethod}
 use Rattle.mf_model.specs.declared.request.Request.{Request}
-use Rattle.mf_model.specs.declared.request.Request.TheVariants.{Unreadable, Catalogue, SeenOffices}
+use Rattle.mf_model.specs.declared.request.Request.TheVariants.{Unreadable, Catalogue, SeenOffices, SeenArrears}
 use Rattle.mf_model.specs.declared.request.Call.{Call}
 use Rattle.mf_wire_requests.specs.declared.routes.Endpoint.{Endpoint}
-use Rattle.mf_wire_requests.specs.declared.routes.Endpoint.TheVariants.{ShowDay, SetDay, AddCharge, ShowCharge, AddProduct, ShowProduct, RetireProduct, ListOffices, AddOffice, AddStaff, AddClient, ShowClient, SubmitLoan, ListLoans, OnLoan}
+use Rattle.mf_wire_requests.specs.declared.routes.Endpoint.TheVariants.{ShowDay, SetDay, AddCharge, ShowCharge, AddProduct, ShowProduct, RetireProduct, ListOffices, AddOffice, AddStaff, AddClient, ShowClient, SubmitLoan, ListLoans, ShowArrears, OnLoan}
 use Rattle.mf_wire_requests.specs.declared.routes.Methods.{Methods}
 use Rattle.mf_wire_requests.specs.declared.routes.Methods.TheVariants.{Get, Post, GetAndPost, GetAndPut}
 use Rattle.mf_wire_requests.specs.declared.request.Method.{Method}
@@ -53,6 +53,7 @@ request_at AddClient parts body = option_and_then new_client (json_of body)
 request_at ShowClient parts body = client_at parts
 request_at SubmitLoan parts body = option_and_then new_loan (json_of body)
 request_at ListLoans parts body = loans_at parts
+request_at ShowArrears parts body = Some SeenArrears
 request_at (OnLoan endpoint) parts body = loan_at endpoint parts body
 
 abbrev pub or_malformed : Option Request → Request

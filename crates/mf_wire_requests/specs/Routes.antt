@@ -12,7 +12,7 @@ use Rattle.matchit.specs.Router.{RouteOf, route_from, nearest}
 use Rattle.matchit.specs.Seek.{first}
 use Rattle.matchit.specs.declared.error.InsertError.{InsertError}
 use Rattle.matchit.specs.declared.router.Match.{Match}
-use Rattle.mf_wire_requests.specs.declared.routes.Endpoint.TheVariants.{ShowDay, SetDay, AddCharge, ShowCharge, AddProduct, ShowProduct, RetireProduct, ListOffices, AddOffice, AddStaff, AddClient, ShowClient, SubmitLoan, ListLoans, OnLoan}
+use Rattle.mf_wire_requests.specs.declared.routes.Endpoint.TheVariants.{ShowDay, SetDay, AddCharge, ShowCharge, AddProduct, ShowProduct, RetireProduct, ListOffices, AddOffice, AddStaff, AddClient, ShowClient, SubmitLoan, ListLoans, ShowArrears, OnLoan}
 use Rattle.mf_wire_requests.specs.declared.routes.LoanEndpoint.TheVariants.{Show, ShowInstalments, ShowEntries, Approve, Reject, Withdraw, UndoApproval, Disburse, Repay, ChargeFee, ChargePenalty, Waive, WriteOff, Refund, Reverse}
 use Rattle.mf_wire_requests.specs.declared.routes.Methods.{Methods}
 use Rattle.mf_wire_requests.specs.declared.routes.Methods.TheVariants.{Get, Post, GetAndPost, GetAndPut}
@@ -73,6 +73,7 @@ desk_table =
     ∷ (codes "/loans/{loan}/refund", Post (OnLoan Refund))
     ∷ (codes "/loans/{loan}/entries/{entry}/reverse", Post (OnLoan Reverse))
     ∷ (codes "/offices/{office}/loans/{after}", Get ListLoans)
+    ∷ (codes "/reports/arrears", Get ShowArrears)
     ∷ []
 
 -- the routes of the desk

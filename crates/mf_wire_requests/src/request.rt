@@ -90,6 +90,7 @@ fn request_at(
         Endpoint::ShowClient => offices::show_client(params),
         Endpoint::SubmitLoan => loans::new_loan(alloc, body),
         Endpoint::ListLoans => loans::list_loans(params),
+        Endpoint::ShowArrears => Ok(Request::SeenArrears),
         Endpoint::OnLoan(endpoint) => loans::on_loan(alloc, endpoint, params, body),
     }
 }

@@ -43,6 +43,7 @@ pub enum Endpoint {
     ShowClient,
     SubmitLoan,
     ListLoans,
+    ShowArrears,
     OnLoan(LoanEndpoint),
 }
 
@@ -56,7 +57,7 @@ pub enum Methods {
 }
 
 /// The paths, as `matchit` writes them, with their methods.
-pub const ROUTES: [(&str, Methods); 27] = [
+pub const ROUTES: [(&str, Methods); 28] = [
     (
         "/offices",
         Methods::GetAndPost(Endpoint::ListOffices, Endpoint::AddOffice),
@@ -141,6 +142,7 @@ pub const ROUTES: [(&str, Methods); 27] = [
         "/offices/{office}/loans/{after}",
         Methods::Get(Endpoint::ListLoans),
     ),
+    ("/reports/arrears", Methods::Get(Endpoint::ShowArrears)),
 ];
 
 fn add(router: &mut Router<Methods>, route: &(&'static str, Methods)) -> Result<(), InsertError>
