@@ -1,0 +1,19 @@
+-- A receipt's bytes are text.
+use Rattle.std.proofs.Common.{◌≡◌, ℕ, ◌<◌, zero, suc, true, List, [], ◌∷◌, arith}
+use Rattle.std.specs.List.{list_all}
+use Rattle.std.specs.Str.{IsAscii, IsUtf8}
+use Rattle.std.proofs.lemmas.Str.{IsUtf8-from_ascii}
+use Rattle.std.proofs.lemmas.Bool.Decides.{nat_tests}
+use Rattle.mf_sheet_lines.specs.Fields.{is_printable, is_receipt}
+use Rattle.mf_sheet_lines.proofs.Tests.{both}
+
+below_128 : (byte : ℕ) → is_printable byte ≡ true → byte < 128
+below_128 byte printable = grind (arith, nat_tests)
+
+ascii : (bytes : List ℕ) → list_all is_printable bytes ≡ true → IsAscii bytes
+ascii [] printable i = omega arith
+ascii (b ∷ bytes) printable zero = below_128 b (both _ _ printable).0
+ascii (b ∷ bytes) printable (suc i) = ascii bytes (both _ _ printable).1 i
+
+pub receipt_is_text : (text : List ℕ) → is_receipt text ≡ true → IsUtf8 text
+receipt_is_text text is = IsUtf8-from_ascii text (ascii text (both _ _ is).1)

@@ -1,0 +1,65 @@
+-- What a line of a sheet asks for.
+use Rattle.std.specs.Prelude.{ℕ, ◌&&◌, Bool, false, codes, List, [], ◌∷◌, Option, Some, None, option_and_then, ◌≡◌, ◌≤◌, true}
+use Rattle.std.specs.Option.{option_map, option_map_or}
+use Rattle.std.specs.Str.{str_eq_ignore_ascii_case}
+use Rattle.mf_base.specs.DayText.{last_entered_day}
+use Rattle.mf_base.specs.Money.{money_limit}
+use Rattle.mf_office.specs.Texts.{account_of, IsAccount}
+use Rattle.mf_sheet_lines.specs.declared.line.SheetLine.{SheetLine}
+use Rattle.mf_sheet_lines.specs.declared.line.SheetLine.TheVariants.{Repay, Bad}
+use Rattle.mf_sheet_lines.specs.declared.line.SheetRepayment.{SheetRepayment}
+use Rattle.mf_sheet_lines.specs.Fields.{is_receipt, trimmed, receipt_of, day_written, amount_of}
+
+-- the fields of a line, by their columns
+pub record Columns : Type 0 where
+  pub receipt : List ℕ
+  pub loan : List ℕ
+  pub date : List ℕ
+  pub amount : List ℕ
+
+-- the fields of a record that has four
+abbrev pub columns_of : List (List ℕ) → Option Columns
+columns_of (receipt ∷ loan ∷ date ∷ amount ∷ []) = Some (record { receipt = receipt; loan = loan; date = date; amount = amount })
+columns_of _ = None
+
+-- the repayment that four texts write
+abbrev pub repayment_of : List ℕ → List ℕ → List ℕ → List ℕ → Option SheetRepayment
+repayment_of receipt loan date amount =
+    option_and_then (λ r. option_and_then (λ l. option_and_then (λ d. option_map
+    (λ a. record { receipt = r; loan = l; day = d; amount = a })
+    (amount_of amount)) (day_written date)) (account_of loan)) (receipt_of receipt)
+
+-- the repayment that four fields write; spaces and tabs round a field don't count
+abbrev pub repayment_in : Columns → Option SheetRepayment
+repayment_in c = repayment_of (trimmed c.receipt) (trimmed c.loan) (trimmed c.date) (trimmed c.amount)
+
+-- what a line asks for: a repayment, where there are four fields and each is as it should be
+abbrev pub asked : Option SheetRepayment → SheetLine
+asked None = Bad
+asked (Some repayment) = Repay repayment
+
+abbrev pub line_of : List (List ℕ) → SheetLine
+line_of fields = asked (option_and_then repayment_in (columns_of fields))
+
+-- the ranges of what a repayment says
+pub record IsRepaymentInRange (r : SheetRepayment) : Type 0 where
+  pub receipt : is_receipt r.receipt ≡ true
+  pub loan : IsAccount r.loan
+  pub day : r.day ≤ last_entered_day
+  pub least : 1 ≤ r.amount
+  pub most : r.amount ≤ money_limit
+
+abbrev pub IsLineInRange : SheetLine → Type 0
+IsLineInRange Bad = Unit {0}
+IsLineInRange (Repay r) = IsRepaymentInRange r
+
+-- the field is this name, in any case of ASCII
+abbrev pub is_name : List ℕ → List ℕ → Bool
+is_name name field = str_eq_ignore_ascii_case (trimmed field) name
+
+abbrev pub are_names : Columns → Bool
+are_names c = is_name (codes "receipt") c.receipt && is_name (codes "loan") c.loan && is_name (codes "date") c.date && is_name (codes "amount") c.amount
+
+-- the fields are the names of the columns
+abbrev pub names_columns : List (List ℕ) → Bool
+names_columns fields = option_map_or are_names (columns_of fields) false

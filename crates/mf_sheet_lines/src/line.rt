@@ -1,0 +1,106 @@
+// A line of a sheet, and what it asks for.
+ghost use Rattle.std.specs.Prelude.{◌≡◌, ◌==◌, ◌≤◌, ℕ, List, Some, None, IfOk, IfErr, IfSome, codes, cond, length, map, option_map};
+ghost use Rattle.csv.specs.Records.{fields_of};
+ghost use Rattle.mf_sheet_lines.specs.Lines.{columns_of, line_of, IsLineInRange, is_name as is_name_of, names_columns as names_the_columns};
+
+use crate::fields::{amount, day, receipt, trimmed};
+use csv::ByteRecord;
+use mf_account::Receipt;
+use mf_base::{Day, Fault};
+use mf_office::Account;
+use std::alloc::Global;
+
+/// A repayment that a line of a sheet asks for.
+#[derive(Debug, Drop)]
+pub struct SheetRepayment {
+    /// Its receipt, which each line of a sheet has.
+    pub receipt: Receipt,
+    /// The loan that is paid back.
+    pub loan: Account,
+    /// The day on which it was paid.
+    pub day: Day,
+    /// The amount, in cents.
+    pub amount: u64,
+}
+
+/// What a line of a sheet asks for.
+#[derive(Debug, Drop)]
+pub enum SheetLine {
+    /// A repayment.
+    Repay(SheetRepayment),
+    /// Nothing: the line has not four fields, or one of them is not as it should be.
+    Bad,
+}
+
+/// The fields of a line, by their columns, as they stand.
+#[derive(Clone, Copy)]
+struct Fields<'a> {
+    receipt: &'a [u8],
+    loan: &'a [u8],
+    date: &'a [u8],
+    amount: &'a [u8],
+}
+
+/// The fields of a record that has four.
+fn four_fields(row: &ByteRecord) -> Option<Fields<'_>>
+    ensures { option_map (λ f. record { receipt = f.receipt.now; loan = f.loan.now; date = f.date.now; amount = f.amount.now }) result ≡ columns_of (fields_of row.now) }
+{
+    if row.len() != 4 {
+        return None;
+    }
+    Some(Fields {
+        receipt: row.get(0)?,
+        loan: row.get(1)?,
+        date: row.get(2)?,
+        amount: row.get(3)?,
+    })
+}
+
+fn is_name(name: &[u8], field: &[u8]) -> bool
+    ensures { result ≡ is_name_of name.now field.now }
+{
+    trimmed(field).eq_ignore_ascii_case(name)
+}
+
+/// Whether a record names the columns of a sheet, in any case of ASCII.
+pub fn names_columns(row: &ByteRecord) -> bool
+    ensures { result ≡ names_the_columns (fields_of row.now) }
+{
+    let Some(fields) = four_fields(row) else {
+        return false;
+    };
+    is_name(b"receipt", fields.receipt)
+        && is_name(b"loan", fields.loan)
+        && is_name(b"date", fields.date)
+        && is_name(b"amount", fields.amount)
+}
+
+/// What a record asks for. The error is want of memory, `Fault::F20`.
+pub fn read_line(alloc: Global, row: &ByteRecord) -> Result<SheetLine, Fault>
+    ensures ok { IfOk result (λ line. line ≡ line_of (fields_of row.now)) }
+    ensures in_range { IfOk result IsLineInRange }
+    ensures err { IfErr result (λ fault. fault ≡ Fault.F20) }
+{
+    let Some(fields) = four_fields(row) else {
+        return Ok(SheetLine::Bad);
+    };
+    let Some(receipt) = receipt(trimmed(fields.receipt)) else {
+        return Ok(SheetLine::Bad);
+    };
+    let Some(loan) = Account::parse(trimmed(fields.loan)) else {
+        return Ok(SheetLine::Bad);
+    };
+    let Some(day) = day(trimmed(fields.date)) else {
+        return Ok(SheetLine::Bad);
+    };
+    let Some(amount) = amount(trimmed(fields.amount)) else {
+        return Ok(SheetLine::Bad);
+    };
+    let receipt = Receipt::new(String::from_str(alloc, receipt)?);
+    Ok(SheetLine::Repay(SheetRepayment {
+        receipt,
+        loan,
+        day,
+        amount,
+    }))
+}
