@@ -6,11 +6,12 @@ ghost use Rattle.mf_office.specs.Numbers.{IsNumberUpTo};
 
 use crate::row::Row;
 use mf_account::{LoanAccount, Receipt};
+use mf_arrears::OfficeLine;
 use mf_base::{Day, Fault};
 use mf_catalog::{ChargeDef, Product, ProductMembers, Terms};
 use mf_model::{
-    CatalogueCounts, Commit, Counts, InstitutionStore, Loan, LoanLine, LoanList, OfficeList,
-    ReceiptUse, Stage,
+    ArrearsList, CatalogueCounts, Commit, Counts, InstitutionStore, Loan, LoanLine, LoanList,
+    OfficeList, ReceiptUse, Stage,
 };
 use mf_office::{Account, AccountNo, Caller, Name, Office, OfficeNo, Role};
 use std::alloc::Global;
@@ -252,6 +253,17 @@ impl Books {
         None
     }
 
+    /// The line of a branch's active loans, on the business day.
+    fn arrears_line(&self, alloc: Global, branch: &Branch) -> Result<OfficeLine, Fault>
+        ensures { IfErr result (λ fault. fault ≡ Fault.F20) }
+    {
+        let mut line = OfficeLine::new(branch.office.number);
+        for loan in &branch.loans {
+            loan.age(alloc, self.terms(loan.product)?, self.day, &mut line)?;
+        }
+        Ok(line)
+    }
+
     /// A copy of the charge that is named, if one is.
     fn named(&self, number: Option<u32>) -> Result<Option<ChargeDef>, Fault>
         ensures { IfErr result (λ fault. fault ≡ Fault.F20) }
@@ -476,6 +488,17 @@ impl InstitutionStore for Books {
             }
         }
         Ok(OfficeList::new(offices))
+    }
+
+    fn office_lines(&mut self, alloc: Global, to: OfficeNo) -> Result<ArrearsList, Fault> {
+        self.count_call()?;
+        let mut lines = Vec::new(alloc);
+        for branch in &self.branches {
+            if self.is_within(5, branch.office.number, to) {
+                lines.push(self.arrears_line(alloc, branch)?)?;
+            }
+        }
+        Ok(ArrearsList::new(lines))
     }
 
     fn commit(&mut self, alloc: Global, commit: Commit) -> Result<(), Fault> {

@@ -3,6 +3,7 @@
 ghost use Rattle.std.specs.Prelude.{◌≡◌, IfErr};
 
 use mf_account::{Entry, LoanAccount, Receipt};
+use mf_arrears::{OfficeLine, arrears};
 use mf_base::{Day, Fault};
 use mf_catalog::Terms;
 use mf_model::{Loan, ReceiptUse, Stage};
@@ -21,6 +22,9 @@ pub(crate) struct Row {
     disbursed: Option<Day>,
     entries: Vec<Entry>,
 }
+
+/// An office has at most so many loans.
+const MOST_LOANS: u64 = 999_999;
 
 /// The days of a stage: of approval, and of disbursement.
 fn days_of(stage: &Stage) -> (Option<Day>, Option<Day>) {
@@ -168,5 +172,28 @@ impl Row {
             None => Ok(self.status),
             Some(account) => Ok(account.status()),
         }
+    }
+
+    /// Adds it to its office's line where its account is active; F20 where the line has as many as an office has at most.
+    pub(crate) fn age(
+        &self,
+        alloc: Global,
+        terms: Terms,
+        today: Day,
+        line: &mut OfficeLine,
+    ) -> Result<(), Fault>
+        ensures { IfErr result (λ fault. fault ≡ Fault.F20) }
+    {
+        let Some(account) = self.account(alloc, terms)? else {
+            return Ok(());
+        };
+        if account.status() != 300 {
+            return Ok(());
+        }
+        if line.loans >= MOST_LOANS {
+            return Err(Fault::F20);
+        }
+        line.add(account.principal_left(), arrears(account.rows(), today));
+        Ok(())
     }
 }

@@ -1,5 +1,6 @@
 //! The desk over an institution in vectors.
 
+mod arrears;
 mod corrections;
 mod requests;
 
@@ -7,7 +8,7 @@ use mf_account::Balances;
 use mf_base::Fault;
 use mf_desk::answer;
 use mf_desk_books::Books;
-use mf_model::{Flaw, LoanList, LoanReply, Reply, Statement};
+use mf_model::{ArrearsList, Flaw, LoanList, LoanReply, Reply, Statement};
 use mf_office::{Account, Caller, Office, Role};
 use mf_statement::{EntryLine, EntryList, InstalmentList};
 use requests::Asked::{self, *};
@@ -36,6 +37,20 @@ fn loan_lines(alloc: Global, loans: &LoanList) -> Result<String, Fault> {
         let loan = line.loan.text(alloc)?;
         let status = line.status;
         let line = format!(in alloc; " {loan} {status}")?;
+        text.push_str(line.as_str())?;
+    }
+    Ok(text)
+}
+
+/// Each office with its active loans, their outstanding principal and that of each class.
+fn arrears_text(alloc: Global, lines: &ArrearsList) -> Result<String, Fault> {
+    let mut text = String::from_str(alloc, "arrears")?;
+    for line in lines.as_slice() {
+        let (office, loans, sum) = (line.office.get(), line.loans, line.outstanding);
+        let (to_30, to_60, to_90, over_90) = (line.c1_30, line.c31_60, line.c61_90, line.over_90);
+        let line = format!(in alloc;
+            "; {office} has {loans} of {sum}: {to_30} {to_60} {to_90} {over_90}"
+        )?;
         text.push_str(line.as_str())?;
     }
     Ok(text)
@@ -157,6 +172,7 @@ fn shown_later(alloc: Global, reply: &Reply) -> Result<String, Fault> {
         Reply::LoanMade(loan) => loan.text(alloc),
         Reply::Loan { loan, told } => loan_text(alloc, *loan, told),
         Reply::LoansShown(loans) => loan_lines(alloc, loans),
+        Reply::ArrearsShown(lines) => arrears_text(alloc, lines),
         _ => Ok(String::from_str(alloc, "another")?),
     }
 }

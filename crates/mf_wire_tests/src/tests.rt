@@ -1,6 +1,7 @@
 //! Streams of request lines, run over an institution in vectors. Of that store nothing is proved but that it is safe.
 
 mod accounts;
+mod arrears;
 mod limits;
 mod refused;
 mod requests;

@@ -5,7 +5,7 @@ ghost use Rattle.mf_base.specs.DayText.{last_entered_day};
 ghost use Rattle.mf_model.specs.Sound.{IsInRange, IsLoanInRange, IsName, IsPostingInRange};
 
 use mf_base::{Day, Fault};
-use mf_catalog::{Calc, ChargeKind};
+use mf_catalog::{Calc, ChargeKind, StrategyName};
 use mf_desk_books::{members, name, office_no};
 use mf_model::{
     Application, CatalogueRequest, Flaw, LoanRequest, LoanStep, OfficeRequest, Posting, Repayment,
@@ -33,11 +33,12 @@ pub(crate) enum Charge {
     Trifle,
 }
 
-/// A request. Loans are those of office 1 and of its client 1.
+/// A request. Loans are those of office 1 and of its client 1, where no office is named.
 #[derive(Clone, Copy, Debug)]
 pub(crate) enum Asked {
     Unreadable(Flaw),
     SeenOffices,
+    SeenArrears,
     /// A number, the parent's and a name.
     NewOffice(u32, u32, &'static str),
     AddStaff(u32, &'static str, Role),
@@ -48,16 +49,26 @@ pub(crate) enum Asked {
     AddCharge(Charge),
     /// With such charges with each instalment and on one that is overdue.
     AddProduct(Option<u32>, Option<u32>),
+    /// Without charges; a repayment fills an instalment's principal first.
+    AddPrincipalFirst,
     RetireProduct,
     /// A product, a principal and how many periods.
     SubmitLoan(u32, u64, u32),
+    /// The first product lends 100000 cents for 3 periods to the first client of an office.
+    SubmitIn(u32),
     ListLoans,
     /// A step of the first loan.
     Take(Step),
+    /// An office's first loan is approved.
+    ApproveIn(u32),
     /// The first loan is disbursed on a day.
     Disburse(&'static str),
+    /// An office's first loan is disbursed on a day.
+    DisburseIn(u32, &'static str),
     /// So many cents are paid back on a day.
     Repay(u64, &'static str),
+    /// So many cents of an office's first loan are paid back on a day.
+    RepayIn(u32, u64, &'static str),
     /// A charge's number and a due day.
     ChargeFee(u32, &'static str),
     /// On an instalment.
@@ -165,6 +176,14 @@ fn add_product(
     Ok(Request::Catalogue(CatalogueRequest::AddProduct { members }))
 }
 
+fn add_principal_first(alloc: Global) -> Result<Request, Fault>
+    ensures { IfOk result IsInRange }
+{
+    let mut members = members(alloc, None, None)?;
+    members.strategy = StrategyName::PrincipalFirst;
+    Ok(Request::Catalogue(CatalogueRequest::AddProduct { members }))
+}
+
 fn set_day(text: &str) -> Result<Request, Fault>
     ensures { IfOk result IsInRange }
 {
@@ -172,9 +191,10 @@ fn set_day(text: &str) -> Result<Request, Fault>
     Ok(Request::Catalogue(CatalogueRequest::SetDay { day }))
 }
 
-fn submit_loan(product: u32, principal: u64, periods: u32) -> Result<Request, Fault>
+fn submit_loan(office: u32, product: u32, principal: u64, periods: u32) -> Result<Request, Fault>
     ensures { IfOk result IsInRange }
 {
+    let office = office_no(office)?.get();
     let is_product = product < 1000;
     let is_principal = 1 <= principal && principal <= 1000001;
     let are_periods = 1 <= periods && periods <= 13;
@@ -184,7 +204,7 @@ fn submit_loan(product: u32, principal: u64, periods: u32) -> Result<Request, Fa
     let client = AccountNo::new(1).ok_or(Fault::F1)?;
     let _number = client.get();
     Ok(Request::Office {
-        office: 1,
+        office,
         asked: OfficeRequest::SubmitLoan(Application {
             client,
             product,
@@ -194,12 +214,12 @@ fn submit_loan(product: u32, principal: u64, periods: u32) -> Result<Request, Fa
     })
 }
 
-/// A request on the first loan.
-fn on_loan(asked: LoanRequest) -> Result<Request, Fault>
+/// A request on an office's first loan.
+fn on_loan_in(office: u32, asked: LoanRequest) -> Result<Request, Fault>
     requires { IsLoanInRange asked }
     ensures { IfOk result IsInRange }
 {
-    let office = office_no(1)?;
+    let office = office_no(office)?;
     let number = AccountNo::new(1).ok_or(Fault::F1)?;
     let _number = number.get();
     Ok(Request::Loan {
@@ -208,35 +228,45 @@ fn on_loan(asked: LoanRequest) -> Result<Request, Fault>
     })
 }
 
-fn take(step: Step) -> Result<Request, Fault>
+/// A request on the first loan.
+fn on_loan(asked: LoanRequest) -> Result<Request, Fault>
+    requires { IsLoanInRange asked }
     ensures { IfOk result IsInRange }
 {
-    on_loan(LoanRequest::Take(match step {
+    on_loan_in(1, asked)
+}
+
+fn take(office: u32, step: Step) -> Result<Request, Fault>
+    ensures { IfOk result IsInRange }
+{
+    let step = match step {
         Step::Approve => LoanStep::Approve,
         Step::Withdraw => LoanStep::Withdraw,
         Step::UndoApproval => LoanStep::UndoApproval,
-    }))
+    };
+    on_loan_in(office, LoanRequest::Take(step))
 }
 
-fn disburse(text: &str) -> Result<Request, Fault>
+fn disburse(office: u32, text: &str) -> Result<Request, Fault>
     ensures { IfOk result IsInRange }
 {
     let day = day(text)?;
-    on_loan(LoanRequest::Take(LoanStep::Disburse(day)))
+    on_loan_in(office, LoanRequest::Take(LoanStep::Disburse(day)))
 }
 
-fn repay(amount: u64, text: &str) -> Result<Request, Fault>
+fn repay(office: u32, amount: u64, text: &str) -> Result<Request, Fault>
     ensures { IfOk result IsInRange }
 {
     let day = day(text)?;
     if amount < 1 || amount > 1000000 {
         return Err(Fault::F1);
     }
-    on_loan(LoanRequest::Repay(Repayment {
+    let asked = Repayment {
         amount,
         day,
         receipt: None,
-    }))
+    };
+    on_loan_in(office, LoanRequest::Repay(asked))
 }
 
 fn charge_fee(charge: u32, due: &str) -> Result<Request, Fault>
@@ -286,31 +316,17 @@ fn reverse(entry: u32) -> Result<Request, Fault>
     on_loan(LoanRequest::Reverse { entry })
 }
 
-/// The request as the desk takes it; F1 where a member is out of its range.
-pub(crate) fn request(alloc: Global, asked: Asked) -> Result<Request, Fault>
+/// A request on a loan; F1 where it is another.
+fn loan_request(asked: Asked) -> Result<Request, Fault>
     ensures { IfOk result IsInRange }
 {
     match asked {
-        Asked::Unreadable(flaw) => Ok(Request::Unreadable(flaw)),
-        Asked::SeenOffices => Ok(Request::SeenOffices),
-        Asked::NewOffice(number, parent, name) => new_office(alloc, number, parent, name),
-        Asked::AddStaff(office, name, role) => add_staff(alloc, office, name, role),
-        Asked::AddClient(office, name) => add_client(alloc, office, name),
-        Asked::ShowClient(office, number) => show_client(office, number),
-        Asked::SetDay(text) => set_day(text),
-        Asked::AddCharge(charge) => add_charge(alloc, charge),
-        Asked::AddProduct(instalment, overdue) => add_product(alloc, instalment, overdue),
-        Asked::RetireProduct => Ok(Request::Catalogue(CatalogueRequest::RetireProduct {
-            product: 1,
-        })),
-        Asked::SubmitLoan(product, principal, periods) => submit_loan(product, principal, periods),
-        Asked::ListLoans => Ok(Request::Office {
-            office: 1,
-            asked: OfficeRequest::ListLoans { after: 0 },
-        }),
-        Asked::Take(step) => take(step),
-        Asked::Disburse(day) => disburse(day),
-        Asked::Repay(amount, day) => repay(amount, day),
+        Asked::Take(step) => take(1, step),
+        Asked::ApproveIn(office) => take(office, Step::Approve),
+        Asked::Disburse(day) => disburse(1, day),
+        Asked::DisburseIn(office, day) => disburse(office, day),
+        Asked::Repay(amount, day) => repay(1, amount, day),
+        Asked::RepayIn(office, amount, day) => repay(office, amount, day),
         Asked::ChargeFee(charge, due) => charge_fee(charge, due),
         Asked::Penalise(instalment) => penalise(instalment),
         Asked::Waive(instalment, portion) => waive(instalment, portion),
@@ -320,5 +336,37 @@ pub(crate) fn request(alloc: Global, asked: Asked) -> Result<Request, Fault>
         Asked::ShowLoan => on_loan(LoanRequest::Show),
         Asked::ShowInstalments => on_loan(LoanRequest::ShowInstalments),
         Asked::ShowEntries => on_loan(LoanRequest::ShowEntries),
+        _ => Err(Fault::F1),
+    }
+}
+
+/// The request as the desk takes it; F1 where a member is out of its range.
+pub(crate) fn request(alloc: Global, asked: Asked) -> Result<Request, Fault>
+    ensures { IfOk result IsInRange }
+{
+    match asked {
+        Asked::Unreadable(flaw) => Ok(Request::Unreadable(flaw)),
+        Asked::SeenOffices => Ok(Request::SeenOffices),
+        Asked::SeenArrears => Ok(Request::SeenArrears),
+        Asked::NewOffice(number, parent, name) => new_office(alloc, number, parent, name),
+        Asked::AddStaff(office, name, role) => add_staff(alloc, office, name, role),
+        Asked::AddClient(office, name) => add_client(alloc, office, name),
+        Asked::ShowClient(office, number) => show_client(office, number),
+        Asked::SetDay(text) => set_day(text),
+        Asked::AddCharge(charge) => add_charge(alloc, charge),
+        Asked::AddProduct(instalment, overdue) => add_product(alloc, instalment, overdue),
+        Asked::AddPrincipalFirst => add_principal_first(alloc),
+        Asked::RetireProduct => Ok(Request::Catalogue(CatalogueRequest::RetireProduct {
+            product: 1,
+        })),
+        Asked::SubmitLoan(product, principal, periods) => {
+            submit_loan(1, product, principal, periods)
+        }
+        Asked::SubmitIn(office) => submit_loan(office, 1, 100000, 3),
+        Asked::ListLoans => Ok(Request::Office {
+            office: 1,
+            asked: OfficeRequest::ListLoans { after: 0 },
+        }),
+        on_loan => loan_request(on_loan),
     }
 }

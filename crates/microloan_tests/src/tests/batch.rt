@@ -1,5 +1,6 @@
 //! Streams of request lines over the store that the program runs on.
 
+mod arrears;
 mod branches;
 mod charged;
 mod corrected;

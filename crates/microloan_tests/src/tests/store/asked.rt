@@ -27,6 +27,8 @@ pub(crate) enum Ask {
     /// The status of a loan's account, how many entries it has, and what is paid of its interest and its principal.
     Account { number: u32 },
     LoansAfter { number: u32 },
+    /// The active loans of each office at or below one, their outstanding principal and that of each class.
+    Arrears { to: u32 },
 }
 
 fn tell_role<S: InstitutionStore>(
@@ -216,6 +218,24 @@ fn tell_loans<S: InstitutionStore>(
     Ok(())
 }
 
+fn tell_arrears<S: InstitutionStore>(
+    alloc: Global,
+    store: &mut S,
+    to: u32,
+    text: &mut String,
+) -> Result<(), Fault> {
+    let lines = store.office_lines(alloc, office(to)?)?;
+    for line in lines.as_slice() {
+        let (office, loans, sum) = (line.office.get(), line.loans, line.outstanding);
+        let (to_30, to_60, to_90, over_90) = (line.c1_30, line.c31_60, line.c61_90, line.over_90);
+        write!(
+            text,
+            "{office}:{loans} {sum} {to_30} {to_60} {to_90} {over_90};"
+        )?;
+    }
+    Ok(())
+}
+
 fn tell<S: InstitutionStore>(
     alloc: Global,
     store: &mut S,
@@ -236,6 +256,7 @@ fn tell<S: InstitutionStore>(
         Ask::Loan { number } => tell_loan(alloc, store, number, text),
         Ask::Account { number } => tell_account(alloc, store, number, text),
         Ask::LoansAfter { number } => tell_loans(alloc, store, number, text),
+        Ask::Arrears { to } => tell_arrears(alloc, store, to, text),
     }
 }
 

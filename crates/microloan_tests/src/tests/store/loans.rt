@@ -147,6 +147,45 @@ fn an_entry_is_reversed(rt: HostRuntime) -> Result<(), Fail> {
     Ok(())
 }
 
+/// The second and the third instalment are due on 2024-03-01 and on 2024-04-01; three repayments close the second of the second
+/// loan, and 1200 cents of principal are paid besides.
+#[test]
+fn active_loans_are_aged(rt: HostRuntime) -> Result<(), Fail> {
+    let writes = [
+        Write::Office {
+            number: 2,
+            parent: 1,
+            name: "North",
+        },
+        CLIENT,
+        Write::Charge,
+        Write::Product,
+        FIRST_LOAN,
+        SECOND_LOAN,
+        SECOND_LOAN,
+        Write::Approval { loan: 1 },
+        Write::Disbursal { loan: 1 },
+        Write::Approval { loan: 2 },
+        Write::Disbursal { loan: 2 },
+        Write::Approval { loan: 3 },
+        Write::Repayment { loan: 2 },
+        Write::Repayment { loan: 2 },
+        Write::Repayment { loan: 2 },
+        Write::Day("2024-04-30"),
+    ];
+    let asks = [
+        Ask::Arrears { to: 1 },
+        Ask::Arrears { to: 2 },
+        Ask::Arrears { to: 3 },
+    ];
+    let told = told_after(rt.alloc(), &writes, &asks)?;
+    assert_eq!(rt;
+        told.as_str(),
+        "1:2 228800 78800 150000 0 0;2:0 0 0 0 0 0;2:0 0 0 0 0 0;"
+    );
+    Ok(())
+}
+
 #[test]
 fn loans_are_listed(rt: HostRuntime) -> Result<(), Fail> {
     let writes = [

@@ -67,46 +67,56 @@ const BRANCHES: [Step; 5] = [
     },
 ];
 
-const OF_LOANS: [Ask; 4] = [
+const OF_LOANS: [Ask; 5] = [
     Ask::Catalogue,
     Ask::Counts { at: 1 },
     Ask::LoansAfter { number: 0 },
     Ask::Account { number: 1 },
+    Ask::Arrears { to: 1 },
 ];
 
-const NO_LOANS: &str = "0 0;1 0 0;none;";
+const NO_LOANS: &str = "0 0;1 0 0;none;1:0 0 0 0 0 0;";
 
-const LOANS: [Step; 7] = [
+/// On the last day the second instalment, the first with anything owed, is 60 days overdue.
+const LOANS: [Step; 9] = [
     Step {
         write: Write::Client {
             at: 1,
             name: "Amina",
         },
-        after: "0 0;1 1 0;none;",
+        after: "0 0;1 1 0;none;1:0 0 0 0 0 0;",
     },
     Step {
         write: Write::Charge,
-        after: "1 0;1 1 0;none;",
+        after: "1 0;1 1 0;none;1:0 0 0 0 0 0;",
     },
     Step {
         write: Write::Product,
-        after: "1 1;1 1 0;none;",
+        after: "1 1;1 1 0;none;1:0 0 0 0 0 0;",
     },
     Step {
         write: Write::Loan { principal: 150_000 },
-        after: "1 1;1 1 1;1 100;none;",
+        after: "1 1;1 1 1;1 100;none;1:0 0 0 0 0 0;",
     },
     Step {
         write: Write::Approval { loan: 1 },
-        after: "1 1;1 1 1;1 200;none;",
+        after: "1 1;1 1 1;1 200;none;1:0 0 0 0 0 0;",
     },
     Step {
         write: Write::Disbursal { loan: 1 },
-        after: "1 1;1 1 1;1 300;300 0 0 0;",
+        after: "1 1;1 1 1;1 300;300 0 0 0;1:1 150000 0 0 0 0;",
     },
     Step {
         write: Write::Repayment { loan: 1 },
-        after: "1 1;1 1 1;1 300;300 1 2000 0;",
+        after: "1 1;1 1 1;1 300;300 1 2000 0;1:1 150000 0 0 0 0;",
+    },
+    Step {
+        write: Write::Reversal { loan: 1, entry: 1 },
+        after: "1 1;1 1 1;1 300;300 1 0 0;1:1 150000 0 0 0 0;",
+    },
+    Step {
+        write: Write::Day("2024-04-30"),
+        after: "1 1;1 1 1;1 300;300 1 0 0;1:1 150000 0 150000 0 0;",
     },
 ];
 
