@@ -1,6 +1,6 @@
 -- What is decided is shown, and then made.
 use Rattle.std.proofs.Common.{◌≡◌, true, false, List, ◌∷◌, Option, Some, None, Ok, Err, sym, ap, ◌∙◌, subst}
-use Rattle.std.specs.Prelude.{Result, IfOk, IfErr, ◌⊎◌, option_map}
+use Rattle.std.specs.Prelude.{Result, IfOk, IfErr, IfSome, ◌⊎◌, option_map}
 use Rattle.mf_base.specs.declared.fault.Fault.{Fault}
 use Rattle.mf_base.specs.declared.fault.Fault.TheVariants.{F20}
 use Rattle.mf_model.specs.declared.request.Call.{Call}
@@ -10,7 +10,7 @@ use Rattle.mf_desk.specs.declared.decision.Decision.{Decision}
 use Rattle.mf_model.specs.Institution.{Institution, Change, after, after_maybe}
 use Rattle.mf_model.specs.Desk.{outcome, reply_in, change_in, reply}
 use Rattle.mf_model.specs.Sound.{IsSound, IsInRange}
-use Rattle.mf_model.specs.Store.{Commits, change_of, left_by}
+use Rattle.mf_model.specs.Store.{Commits, IsAdmitted, IsHanded, change_of, left_by}
 use Rattle.mf_desk.specs.Answers.{Decides, Tells, Changes, decision_outcome}
 
 -- an accepted request leaves a sound institution
@@ -22,6 +22,12 @@ no_change call d i e h = ap change_in h ∙ ap (option_map (λ (c : Commit). cha
 
 its_change : (call : Call) (d : Decision) (commit : Commit) (i : Institution) → d.commit ≡ Some commit → outcome call i ≡ decision_outcome d i → change_in (outcome call i) ≡ Some (change_of commit i)
 its_change call d commit i e h = ap change_in h ∙ ap (option_map (λ (c : Commit). change_of c i)) e
+
+admitted : (call : Call) (d : Decision) (commit : Commit) (i : Institution) → KeepsSound → IsSound i → IsInRange call.request → d.commit ≡ Some commit → change_in (outcome call i) ≡ Some (change_of commit i) → IfSome d.commit (λ c. IsHanded c i) → IsAdmitted commit i
+admitted call d commit i keeps sound r e change handed = record {
+  sound = keeps call i (change_of commit i) sound r change;
+  handed = subst (λ (o : Option Commit). IfSome o (λ c. IsHanded c i)) e handed;
+}
 
 module _ {S : Type 0} (stands : S → Institution → Type 0) (clean : S → Type 0) (leaves : S → List Institution → Type 0) where
   -- the reply is the one that was decided
@@ -59,7 +65,7 @@ module _ {S : Type 0} (stands : S → Institution → Type 0) (clean : S → Typ
   pub changes_made : {T : Type 0} (call : Call) (d : Decision) (commit : Commit) (old mid new : S) (t : T) → KeepsSound → ((store : S) (i : Institution) → stands store i → IsSound i) → IsInRange call.request → d.commit ≡ Some commit → Decides stands clean leaves (outcome call) old mid (Ok d) → Commits stands clean leaves commit mid new (Ok tt) → Changes stands clean leaves call old new (Ok t)
   changes_made call d commit old mid new t keeps sound r e decides commits =
       let change = λ (k : clean mid) (i : Institution) (s : stands old i). its_change call d commit i e (decides.decides k i s) in
-      let kept = λ (k : clean mid) (i : Institution) (s : stands old i). keeps call i (change_of commit i) (sound old i s) r (change k i s) in
+      let kept = λ (k : clean mid) (i : Institution) (s : stands old i). admitted call d commit i keeps (sound old i s) r e (change k i s) (decides.handed k i s) in
       record {
         premise = λ k. decides.premise (commits.premise k);
         made = λ k i s. subst (λ (c : Option Change). stands new (after_maybe c i)) (sym (change (commits.premise k) i s)) (commits.made k i (decides.same (commits.premise k) i s) (kept (commits.premise k) i s));
@@ -72,7 +78,7 @@ module _ {S : Type 0} (stands : S → Institution → Type 0) (clean : S → Typ
   pub changes_given_up : {T : Type 0} (call : Call) (d : Decision) (commit : Commit) (old mid new : S) (fault : Fault) → KeepsSound → ((store : S) (i : Institution) → stands store i → IsSound i) → IsInRange call.request → d.commit ≡ Some commit → Decides stands clean leaves (outcome call) old mid (Ok d) → Commits stands clean leaves commit mid new (Err fault) → Changes stands clean leaves {T = T} call old new (Err fault)
   changes_given_up call d commit old mid new fault keeps sound r e decides commits =
       let change = λ (k : clean mid) (i : Institution) (s : stands old i). its_change call d commit i e (decides.decides k i s) in
-      let kept = λ (k : clean mid) (i : Institution) (s : stands old i). keeps call i (change_of commit i) (sound old i s) r (change k i s) in
+      let kept = λ (k : clean mid) (i : Institution) (s : stands old i). admitted call d commit i keeps (sound old i s) r e (change k i s) (decides.handed k i s) in
       record {
         premise = λ k. decides.premise (commits.premise k);
         made = λ k i s. tt;

@@ -174,6 +174,7 @@ module _ {S : Type 0} (stands : S → Institution → Type 0) (clean : S → Typ
     same = λ k i s. ro.same k i (rm.same (ro.premise k) i (rd.same (rm.premise (ro.premise k)) i s));
     decides = λ k i s. tt;
     refuses = λ k i s. elim (ro.refuses k i (rm.same (ro.premise k) i (rd.same (rm.premise (ro.premise k)) i s))) [ inl f ↦ inl f | inr e ↦ inr (told_missing p i fault e) ];
+    handed = λ k i s. tt;
     stop = λ k is l. ro.stop k is (rm.stop (ro.premise k) is (rd.stop (rm.premise (ro.premise k)) is l));
   }
 

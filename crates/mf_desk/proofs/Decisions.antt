@@ -22,6 +22,7 @@ module _ {S : Type 0} (stands : S → Institution → Type 0) (clean : S → Typ
     same = λ k i s. d.same k i (read.same (d.premise k) i s);
     decides = λ k i s. subst (λ (o : Outcome). IfOk result (λ x. o ≡ decision_outcome x i)) (sym (leads i (read.value_is (d.premise k) i s))) (d.decides k i (read.same (d.premise k) i s));
     refuses = λ k i s. subst (λ (o : Outcome). IfErr result (λ fault. (fault ≡ F20) ⊎ (o ≡ Err fault))) (sym (leads i (read.value_is (d.premise k) i s))) (d.refuses k i (read.same (d.premise k) i s));
+    handed = λ k i s. d.handed k i (read.same (d.premise k) i s);
     stop = λ k is l. d.stop k is (read.stop (d.premise k) is l);
   }
 
@@ -32,6 +33,7 @@ module _ {S : Type 0} (stands : S → Institution → Type 0) (clean : S → Typ
     same = read.same;
     decides = λ k i s. tt;
     refuses = λ k i s. inr (leads i (read.value_is k i s));
+    handed = λ k i s. tt;
     stop = read.stop;
   }
 
@@ -42,6 +44,7 @@ module _ {S : Type 0} (stands : S → Institution → Type 0) (clean : S → Typ
     same = λ k i s. s;
     decides = λ k i s. tt;
     refuses = λ k i s. inr (leads i s);
+    handed = λ k i s. tt;
     stop = λ k is l. l;
   }
 
@@ -70,6 +73,7 @@ module _ {S : Type 0} (stands : S → Institution → Type 0) (clean : S → Typ
     same = λ k i s. d.same k i (l.same (d.premise k) i s);
     decides = λ k i s. subst (λ (o : Outcome). IfOk result (λ x. o ≡ decision_outcome x i)) (sym (leads i (l.holds (d.premise k) i s))) (d.decides k i (l.same (d.premise k) i s));
     refuses = λ k i s. subst (λ (o : Outcome). IfErr result (λ fault. (fault ≡ F20) ⊎ (o ≡ Err fault))) (sym (leads i (l.holds (d.premise k) i s))) (d.refuses k i (l.same (d.premise k) i s));
+    handed = λ k i s. d.handed k i (l.same (d.premise k) i s);
     stop = λ k is x. d.stop k is (l.stop (d.premise k) is x);
   }
 
@@ -80,6 +84,7 @@ module _ {S : Type 0} (stands : S → Institution → Type 0) (clean : S → Typ
     same = l.same;
     decides = λ k i s. tt;
     refuses = λ k i s. leads i (l.holds k i s);
+    handed = λ k i s. tt;
     stop = l.stop;
   }
 

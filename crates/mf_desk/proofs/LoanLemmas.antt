@@ -1,6 +1,6 @@
 -- What was found of a loan, and what is decided of it.
-use Rattle.std.proofs.Common.{◌≡◌, ◌≢◌, ℕ, ◌-◌, Bool, true, false, cond, List, [], ◌∷◌, ◌++◌, length, Option, Some, None, Ok, Err, inl, inr, refl, sym, ap, ◌∙◌}
-use Rattle.std.specs.Prelude.{Result, ◌⊎◌, not, nat_le, is_some, option_map}
+use Rattle.std.proofs.Common.{◌≡◌, ◌≢◌, ℕ, ◌-◌, Bool, true, false, cond, List, [], ◌∷◌, ◌++◌, length, Option, Some, None, Ok, Err, inl, inr, refl, sym, ap, ◌∙◌, subst}
+use Rattle.std.specs.Prelude.{Result, ◌⊎◌, not, nat_le, is_some, option_map, IfSome}
 use Rattle.mf_base.specs.declared.fault.Fault.{Fault}
 use Rattle.mf_base.specs.declared.fault.Fault.TheVariants.{F4, F9, F19, F20}
 use Rattle.mf_catalog.specs.declared.charge.ChargeDef.{ChargeDef}
@@ -11,10 +11,11 @@ use Rattle.mf_account.specs.declared.entry.Entry.{Entry}
 use Rattle.mf_account.specs.Loan.{Loan as Running, state_of_loan, status_of_loan}
 use Rattle.mf_account.specs.Refusals.{is_sealed, admits, is_out_of_order, is_forbidden, is_out_of_limits, refusal_of, reversal_refused}
 use Rattle.mf_account.specs.Standing.{with_mark}
-use Rattle.mf_account.specs.Change.{Account as Replayed}
+use Rattle.mf_account.specs.Change.{Account as Replayed, IsChange}
 use Rattle.mf_model.specs.declared.request.LoanRequest.{LoanRequest}
 use Rattle.mf_model.specs.declared.request.Request.TheVariants as request
 use Rattle.mf_model.specs.declared.loan.Loan.{Loan}
+use Rattle.mf_model.specs.declared.commit.Commit.{Commit}
 use Rattle.mf_model.specs.declared.commit.Commit.TheVariants.{Enter, Reverse}
 use Rattle.mf_model.specs.declared.reply.LoanReply.{LoanReply}
 use Rattle.mf_model.specs.declared.reply.LoanReply.TheVariants.{Entered, Reversed}
@@ -29,7 +30,7 @@ use Rattle.mf_model.specs.declared.request.Repayment.{Repayment}
 use Rattle.mf_model.specs.declared.request.LoanRequest.TheVariants.{Repay, ChargeFee}
 use Rattle.mf_model.specs.Loans.{LedgerChange, entered, reversed, with_entries, unless_fault, fault_or, none_first, fee_first, enter, reverse, fee, on_loan, loan_changed, loan_entered, of_loan, in_loan, repayment, repeat_of, unless_known}
 use Rattle.mf_model.specs.Desk.{Outcome, of_office, in_office}
-use Rattle.mf_model.specs.Store.{Reads, rows_of, rows_at, ledger_at, account_of, account_at, replayed}
+use Rattle.mf_model.specs.Store.{Reads, rows_of, rows_at, ledger_at, account_of, account_at, replayed, IsHanded, IsHandedOn, OneMore, OneReversed}
 use Rattle.mf_model.proofs.Growing.{with_same_at}
 use Rattle.mf_model.proofs.AccountLemmas.{account_is}
 use Rattle.mf_desk.specs.declared.decision.Decision.{Decision}
@@ -165,6 +166,18 @@ reversing_accepted loan seq a new i h accepted entries =
     ∙ ap (λ (o : Option Fault). of_office loan.office (of_loan loan (rows_at loan.office i) (unless_fault o (Reversed seq) (reversed seq)))) accepted
     ∙ ap (λ (rows : Rows). Ok (reply.Loan loan (Reversed seq), Some (Rows_become loan.office rows))) (commit_is loan a.loan (reversed seq) new.loan.entries i f marked)
 
+-- the account is handed on with other entries
+handed_on : (loan : Account) (becomes : List Entry → List Entry → Type 0) (a new : Replayed) (entries : List Entry) (i : Institution) → account_there loan i ≡ Ok a → new.loan ≡ record a.loan { entries = entries } → becomes a.loan.entries new.loan.entries → IsChange a.loan new.loan new.change → IsHandedOn loan becomes new i
+handed_on loan becomes a new entries i h is became change =
+    let f = is_account_of loan a i h in
+    record {
+      before = a.loan;
+      there = ap (account_of i.catalogue) f.ledger_is ∙ f.account_is;
+      entries = became;
+      others = is ∙ ap (λ (es : List Entry). record a.loan { entries = es }) (sym (ap (λ (x : Running). x.entries) is));
+      change = change;
+    }
+
 -- a fee by a charge that isn't there, whatever the loan
 pub fee_missing : (c : Caller) (loan : Account) (n due : ℕ) (i : Institution) → None ≡ charge_in i.catalogue n → loan_outcome loan (ChargeFee n due) c i ≡ Err F4
 fee_missing c loan n due i none = at (numbered (rows_at loan.office i).loans loan.number)
@@ -238,24 +251,27 @@ module _ {S : Type 0} (stands : S → Institution → Type 0) (clean : S → Typ
   learns_value value old new r read = record { premise = read.premise; same = read.same; holds = read.value_is; stop = read.stop }
 
   -- what is decided after some readings
-  pub learned_tells : (Holds : Institution → Type 0) (told : Institution → Outcome) (old new : S) (d : Decision) → Learns stands clean leaves Holds old new → ((i : Institution) → Holds i → told i ≡ decision_outcome d i) → Decides stands clean leaves told old new (Ok d)
-  learned_tells Holds told old new d l leads = record {
+  pub learned_tells : (Holds : Institution → Type 0) (told : Institution → Outcome) (old new : S) (d : Decision) → Learns stands clean leaves Holds old new → ((i : Institution) → Holds i → told i ≡ decision_outcome d i) → ((i : Institution) → Holds i → IfSome d.commit (λ c. IsHanded c i))
+      → Decides stands clean leaves told old new (Ok d)
+  learned_tells Holds told old new d l leads handed = record {
     premise = l.premise;
     same = l.same;
     decides = λ k i s. leads i (l.holds k i s);
     refuses = λ k i s. tt;
+    handed = λ k i s. handed i (l.holds k i s);
     stop = l.stop;
   }
 
   -- what is told of a loan that was found, with its account
   pub told_of_found : (loan : Account) (found : Loan) (r : Option Replayed) (act : Catalogue → Ledger → Result (LoanReply × Option LedgerChange) Fault) (old mid new : S) (d : Decision) → Asks stands clean leaves (loan_there loan) old mid (Ok found) → Reads stands clean leaves (account_at loan) mid new (Ok r)
       → ((i : Institution) (l : Ledger) → l.loan ≡ found → account_in i.catalogue l ≡ of_replayed r → of_office loan.office (of_loan loan (rows_at loan.office i) (act i.catalogue l)) ≡ decision_outcome d i)
-      → Decides stands clean leaves (in_ledger loan act) old new (Ok d)
-  told_of_found loan found r act old mid new d ask read leads =
+      → d.commit ≡ None → Decides stands clean leaves (in_ledger loan act) old new (Ok d)
+  told_of_found loan found r act old mid new d ask read leads shown =
       learned_tells (λ i. (loan_there loan i ≡ Ok found) × (r ≡ account_at loan i)) (in_ledger loan act) old new d
       (learns_both stands clean leaves (λ i. loan_there loan i ≡ Ok found) (λ i. r ≡ account_at loan i) old mid new
       (learns stands clean leaves (loan_there loan) old mid found ask) (learns_value (account_at loan) mid new r read))
       (λ i h. let f = is_found loan found i h.0 in in_found loan found act i f ∙ leads i f.ledger f.loan_is (account_found loan found r i f h.1))
+      (λ i h. subst (λ (o : Option Commit). IfSome o (λ c. IsHanded c i)) (sym shown) tt)
 
   -- what is entered into the account of a loan
   abbrev Known : Account → Replayed → ℕ → Institution → Type 0
@@ -267,10 +283,12 @@ module _ {S : Type 0} (stands : S → Institution → Type 0) (clean : S → Typ
       (learns stands clean leaves (account_there loan) old mid a ask) (learns_value (λ i. i.catalogue.day) mid new today read)
 
   pub then_entered : (loan : Account) (first : Running → Option Fault) (make : ℕ → Running → Entry) (a after : Replayed) (today : ℕ) (old mid new : S) → Asks stands clean leaves (account_there loan) old mid (Ok a) → Reads stands clean leaves (λ i. i.catalogue.day) mid new (Ok today)
-      → refuses first make a.loan today ≡ None → after.loan.entries ≡ a.loan.entries ++ make today a.loan ∷ []
+      → refuses first make a.loan today ≡ None → after.loan ≡ record a.loan { entries = a.loan.entries ++ make today a.loan ∷ [] } → IsChange a.loan after.loan after.change
       → Decides stands clean leaves (in_ledger loan (λ k l. enter first make k (account_in k l))) old new (Ok (record { reply = reply.Loan loan (Entered (make today a.loan).seq); commit = Some (Enter loan after) }))
-  then_entered loan first make a after today old mid new ask read accepted entries =
+  then_entered loan first make a after today old mid new ask read accepted is change =
+      let entries = ap (λ (x : Running). x.entries) is in
       learned_tells (Known loan a today) (entering loan first make) old new _ (known loan a today old mid new ask read) (λ i h. entering_accepted loan first make a after today i h.0 h.1 accepted entries)
+      (λ i h. handed_on loan OneMore a after (a.loan.entries ++ make today a.loan ∷ []) i h.0 is (make today a.loan, entries) change)
 
   pub then_refused : (loan : Account) (first : Running → Option Fault) (make : ℕ → Running → Entry) (a : Replayed) (today : ℕ) (fault : Fault) (old mid new : S) → Asks stands clean leaves (account_there loan) old mid (Ok a) → Reads stands clean leaves (λ i. i.catalogue.day) mid new (Ok today)
       → (fault ≡ F20) ⊎ (refuses first make a.loan today ≡ Some fault)
@@ -281,10 +299,12 @@ module _ {S : Type 0} (stands : S → Institution → Type 0) (clean : S → Typ
 
   -- what is reversed in the account of a loan
   pub then_reversed : (loan : Account) (seq : ℕ) (a after : Replayed) (old new : S) → Asks stands clean leaves (account_there loan) old new (Ok a)
-      → reversal_refused a.loan.entries seq ≡ None → after.loan.entries ≡ with_mark a.loan.entries (seq - 1) true
+      → reversal_refused a.loan.entries seq ≡ None → after.loan ≡ record a.loan { entries = with_mark a.loan.entries (seq - 1) true } → IsChange a.loan after.loan after.change
       → Decides stands clean leaves (in_ledger loan (λ k l. reverse seq (account_in k l))) old new (Ok (record { reply = reply.Loan loan (Reversed seq); commit = Some (Reverse loan seq after) }))
-  then_reversed loan seq a after old new ask accepted entries =
+  then_reversed loan seq a after old new ask accepted is change =
+      let entries = ap (λ (x : Running). x.entries) is in
       learned_tells (λ i. account_there loan i ≡ Ok a) (on_account loan (λ k. reverse seq)) old new _ (learns stands clean leaves (account_there loan) old new a ask) (λ i h. reversing_accepted loan seq a after i h accepted entries)
+      (λ i h. handed_on loan (OneReversed seq) a after (with_mark a.loan.entries (seq - 1) true) i h is (record { allowed = accepted; marked = entries }) change)
 
   pub then_kept : (loan : Account) (seq : ℕ) (a : Replayed) (fault : Fault) (old new : S) → Asks stands clean leaves (account_there loan) old new (Ok a)
       → (fault ≡ F20) ⊎ (reversal_refused a.loan.entries seq ≡ Some fault)

@@ -1,5 +1,5 @@
 -- What the desk does with a request, in the words of the institution that its store stands for.
-use Rattle.std.specs.Prelude.{◌≡◌, ℕ, ◌⊎◌, true, false, cond, is_some, List, option_map, Option, Some, None, Result, Ok, Err, IfOk, IfErr, OnOk, OnErr}
+use Rattle.std.specs.Prelude.{◌≡◌, ℕ, ◌⊎◌, true, false, cond, is_some, List, option_map, Option, Some, None, Result, Ok, Err, IfOk, IfErr, IfSome, OnOk, OnErr}
 use Rattle.mf_base.specs.declared.fault.Fault.{Fault}
 use Rattle.mf_base.specs.declared.fault.Fault.TheVariants.{F2, F4, F9, F20}
 use Rattle.mf_office.specs.declared.account.Account.{Account}
@@ -20,7 +20,7 @@ use Rattle.mf_model.specs.Tree.{seen_office}
 use Rattle.mf_model.specs.Outcomes.{where_found}
 use Rattle.mf_model.specs.declared.loan.ReceiptUse.{ReceiptUse}
 use Rattle.mf_model.specs.declared.request.LoanRequest.{LoanRequest}
-use Rattle.mf_model.specs.Store.{receipt_at, rows_at, client_at, loan_at, account_at, change_of, left_by}
+use Rattle.mf_model.specs.Store.{receipt_at, rows_at, client_at, loan_at, account_at, change_of, left_by, IsHanded}
 
 -- what becomes of a plan, or of what reads as no request
 abbrev pub plan_outcome : Result Plan Fault → Caller → Institution → Outcome
@@ -95,12 +95,13 @@ abbrev pub arrears_told : Caller → Institution → Result (List Line) Fault
 arrears_told c i = cond (is_some (staff_at i c)) (Ok (arrears_seen c.office i)) (Err F2)
 
 module _ {S : Type 0} (stands : S → Institution → Type 0) (clean : S → Type 0) (leaves : S → List Institution → Type 0) where
-  -- A decision reads the store and changes nothing. It is the outcome, its refusal the outcome's, and it may give up.
+  -- A decision reads the store and changes nothing. It is the outcome, its refusal the outcome's, and it may give up. What its commit hands on is as a store asks.
   pub record Decides (told : Institution → Outcome) (old new : S) (result : Result Decision Fault) : Type 0 where
     pub premise : clean new → clean old
     pub same : clean new → (i : Institution) → stands old i → stands new i
     pub decides : clean new → (i : Institution) → stands old i → IfOk result (λ d. told i ≡ decision_outcome d i)
     pub refuses : clean new → (i : Institution) → stands old i → IfErr result (λ fault. (fault ≡ F20) ⊎ (told i ≡ Err fault))
+    pub handed : clean new → (i : Institution) → stands old i → IfOk result (λ d. IfSome d.commit (λ c. IsHanded c i))
     pub stop : clean new → (is : List Institution) → leaves old is → leaves new is
 
   -- What is worked out of a reading of the store, which changes nothing. It is what the institution gives, its refusal the institution's, and it may give up.

@@ -2,6 +2,7 @@
 
 ghost use Rattle.std.specs.Prelude.{◌≡◌, ◌≢◌, ◌⊎◌, ℕ, ◌+◌, ◌∷◌, [], ◌++◌, false, length, None, Some, IfOk, IfErr};
 ghost use Rattle.mf_base.specs.declared.fault.Fault.TheVariants.{F20};
+ghost use Rattle.mf_account.specs.Change.{IsChange};
 ghost use Rattle.mf_account.specs.Refusals.{refusal_of, HasForm};
 ghost use Rattle.mf_model.specs.declared.request.LoanRequest.TheVariants.{Repay};
 ghost use Rattle.mf_model.specs.declared.commit.Commit.TheVariants.{Enter};
@@ -68,7 +69,8 @@ pub fn entered(
     requires stands { entry.reversed ≡ false }
     requires form { HasForm entry.kind today entry }
     ensures accepted { IfOk result (λ after. refusal_of account.loan entry today ≡ None) }
-    ensures entries { IfOk result (λ after. after.loan.entries ≡ account.loan.entries ++ entry ∷ []) }
+    ensures loan { IfOk result (λ after. after.loan ≡ record account.loan { entries = account.loan.entries ++ entry ∷ [] }) }
+    ensures change { IfOk result (λ after. IsChange account.loan after.loan after.change) }
     ensures refused { IfErr result (λ f. (f ≡ F20) ⊎ (refusal_of account.loan entry today ≡ Some f)) }
 {
     let mut account = account;

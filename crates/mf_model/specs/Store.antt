@@ -1,5 +1,5 @@
 -- What the calls of a store say, in the words of the institution that it stands for.
-use Rattle.std.specs.Prelude.{◌≡◌, ℕ, Bool, cond, List, [], ◌∷◌, length, option_map, Option, Some, None, Result, IfOk, OnOk, OnErr, IfErr}
+use Rattle.std.specs.Prelude.{◌≡◌, ℕ, ◌-◌, Bool, true, cond, List, [], ◌∷◌, ◌++◌, length, option_map, Option, Some, None, Result, IfOk, OnOk, OnErr, IfErr}
 use Rattle.mf_base.specs.declared.fault.Fault.{Fault}
 use Rattle.mf_base.specs.declared.fault.Fault.TheVariants.{F20}
 use Rattle.mf_office.specs.declared.staff.Role.{Role}
@@ -11,8 +11,11 @@ use Rattle.mf_model.specs.declared.loan.Loan.{Loan}
 use Rattle.mf_model.specs.declared.loan.LoanLine.{LoanLine}
 use Rattle.mf_model.specs.declared.store.CatalogueCounts.{CatalogueCounts}
 use Rattle.mf_model.specs.declared.store.Counts.{Counts}
+use Rattle.mf_account.specs.declared.entry.Entry.{Entry}
+use Rattle.mf_account.specs.Change.{Account as Replayed, IsChange, no_change}
 use Rattle.mf_account.specs.Loan.{Loan as Running}
-use Rattle.mf_account.specs.Change.{Account as Replayed, no_change}
+use Rattle.mf_account.specs.Refusals.{reversal_refused}
+use Rattle.mf_account.specs.Standing.{with_mark}
 use Rattle.mf_model.specs.Institution.{Institution, Catalogue, Office, Rows, Staff, Ledger, Change, Catalogue_becomes, Rows_become, Office_added, after, office_at, no_rows, numbered}
 use Rattle.mf_model.specs.Catalogue.{day_set, charge_added, product_added, product_retired}
 use Rattle.mf_model.specs.Offices.{staff_added, client_added}
@@ -99,6 +102,34 @@ change_of (Reverse loan seq account) i = Rows_become loan.office (loan_entered l
 abbrev pub committed : Commit → Institution → Institution
 committed commit i = after (change_of commit i) i
 
+-- entries with one more
+abbrev pub OneMore : List Entry → List Entry → Type 0
+OneMore entries after = (entry : Entry) × (after ≡ entries ++ entry ∷ [])
+
+-- entries of which one, which may be, is reversed
+pub record OneReversed (seq : ℕ) (entries after : List Entry) : Type 0 where
+  pub allowed : reversal_refused entries seq ≡ None
+  pub marked : after ≡ with_mark entries (seq - 1) true
+
+-- An account that a commit hands on is that of the loan before it but for its entries, which become these; and it tells what that changed.
+pub record IsHandedOn (loan : Account) (becomes : List Entry → List Entry → Type 0) (account : Replayed) (i : Institution) : Type 0 where
+  pub before : Running
+  pub there : account_of i.catalogue (ledger_at loan i) ≡ Some before
+  pub entries : becomes before.entries account.loan.entries
+  pub others : account.loan ≡ record before { entries = account.loan.entries }
+  pub change : IsChange before account.loan account.change
+
+-- what is known of the account that a commit hands on
+abbrev pub IsHanded : Commit → Institution → Type 0
+IsHanded (Enter loan account) i = IsHandedOn loan OneMore account i
+IsHanded (Reverse loan seq account) i = IsHandedOn loan (OneReversed seq) account i
+IsHanded _ i = Unit {0}
+
+-- a commit that may be made: the institution is sound after it, and so is what it hands on
+pub record IsAdmitted (commit : Commit) (i : Institution) : Type 0 where
+  pub sound : IsSound (committed commit i)
+  pub handed : IsHanded commit i
+
 -- What a stop after a call may leave, where before it left one of these: a change that was made; and where the call gave up, its change or what was there.
 abbrev pub left_by : Option Change → Bool → Institution → List Institution → List Institution
 left_by None given_up i is = is
@@ -122,8 +153,8 @@ module _ {S : Type 0} (stands : S → Institution → Type 0) (clean : S → Typ
   -- A call that makes a change whole or, giving up, not at all. Once it is made a stop leaves it; where the call gave up a stop may leave it or not.
   pub record Commits (commit : Commit) (old new : S) (result : Result (Unit {0}) Fault) : Type 0 where
     pub premise : clean new → clean old
-    pub made : clean new → (i : Institution) → stands old i → IsSound (committed commit i) → OnOk result (stands new (committed commit i))
-    pub kept : clean new → (i : Institution) → stands old i → IsSound (committed commit i) → OnOk result (leaves new (committed commit i ∷ []))
+    pub made : clean new → (i : Institution) → stands old i → IsAdmitted commit i → OnOk result (stands new (committed commit i))
+    pub kept : clean new → (i : Institution) → stands old i → IsAdmitted commit i → OnOk result (leaves new (committed commit i ∷ []))
     pub same : clean new → (i : Institution) → stands old i → OnErr result (stands new i)
     pub gives_up : IfErr result (λ fault. fault ≡ F20)
-    pub stop : clean new → (i : Institution) (is : List Institution) → stands old i → IsSound (committed commit i) → leaves old is → leaves new (committed commit i ∷ is)
+    pub stop : clean new → (i : Institution) (is : List Institution) → stands old i → IsAdmitted commit i → leaves old is → leaves new (committed commit i ∷ is)

@@ -1,8 +1,7 @@
 -- Days of a disbursed loan and what the report of arrears says of it, line by line.
-use Rattle.std.specs.Prelude.{ℕ, ◌+◌, List, [], ◌∷◌, ◌++◌, codes, None, Some, Result, Ok}
+use Rattle.std.specs.Prelude.{ℕ, ◌+◌, List, [], ◌∷◌, ◌++◌, codes, None, Result, Ok}
 use Rattle.mf_base.specs.declared.fault.Fault.{Fault}
 use Rattle.mf_office.specs.declared.staff.Role.TheVariants.{Teller}
-use Rattle.mf_office.specs.declared.caller.Caller.{Caller}
 use Rattle.mf_arrears.specs.Line.{Line as Arrears, line_of}
 use Rattle.mf_catalog.specs.declared.terms.StrategyName.TheVariants.{PrincipalFirst}
 use Rattle.mf_model.specs.declared.reply.Reply.{Reply}

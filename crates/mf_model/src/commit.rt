@@ -53,12 +53,12 @@ pub enum Commit {
         loan: Account,
         stage: Stage,
     },
-    /// A loan that is disbursed has one entry more; these are its entries then.
+    /// A loan that is disbursed has one entry more; this is its account then.
     Enter {
         loan: Account,
         account: LoanAccount,
     },
-    /// An entry of a loan that is disbursed is reversed; these are its entries then.
+    /// An entry of a loan that is disbursed is reversed; this is its account then.
     Reverse {
         loan: Account,
         seq: u32,

@@ -114,7 +114,7 @@ pub trait InstitutionStore {
     fn office_lines(&mut self, alloc: Global, to: OfficeNo) -> Result<ArrearsList, Fault>
         ensures { Reads stands clean leaves (arrears_seen to) self.old self.new result };
 
-    /// Makes a change that leaves the institution sound.
+    /// Makes a change that leaves the institution sound. Where it hands on an account, that is the loan's after the change.
     fn commit(&mut self, alloc: Global, commit: Commit) -> Result<(), Fault>
         ensures { Commits stands clean leaves commit self.old self.new result };
 

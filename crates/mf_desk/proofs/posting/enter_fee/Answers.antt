@@ -66,4 +66,4 @@ returns-clause-decides g c =
     in
     rw is (then_entered s.stands s.clean s.leaves c.args.loan (fee_first c.args.due) make account after today c.args.store.now c.find_account.new.store c.business_day.new.self c.in_ok-account.ensures.asks c.in_ok-today.ensures
     (by_account c.args.due account.loan (refusal_of account.loan (make today account.loan) today) none ∙ ap (λ (x : Entry). refusal_of account.loan x today) (sym made) ∙ c.in_ok-account-2.ensures.accepted)
-    (c.in_ok-account-2.ensures.entries ∙ ap (λ (x : Entry). account.loan.entries ++ x ∷ []) made))
+    (c.in_ok-account-2.ensures.loan ∙ ap (λ (x : Entry). record account.loan { entries = account.loan.entries ++ x ∷ [] }) made) c.in_ok-account-2.ensures.change)

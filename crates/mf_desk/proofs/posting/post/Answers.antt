@@ -47,4 +47,4 @@ returns-clause-decides g c =
     in
     rw is (then_entered s.stands s.clean s.leaves c.args.loan none_first make account after today c.args.store.now c.find_account.new.store c.business_day.new.self c.in_ok-account.ensures.asks c.in_ok-today.ensures
     (ap (λ (x : Entry). refusal_of account.loan x today) (sym c.posting-entry.ensures) ∙ c.in_ok-account-2.ensures.accepted)
-    (c.in_ok-account-2.ensures.entries ∙ ap (λ (x : Entry). account.loan.entries ++ x ∷ []) c.posting-entry.ensures))
+    (c.in_ok-account-2.ensures.loan ∙ ap (λ (x : Entry). record account.loan { entries = account.loan.entries ++ x ∷ [] }) c.posting-entry.ensures) c.in_ok-account-2.ensures.change)

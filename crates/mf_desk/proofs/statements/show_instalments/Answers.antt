@@ -22,3 +22,4 @@ returns-clause-decides g c caller =
     ap (λ (a : Option Running). Ok (reply.Loan loan (Instalments (of_account [] instalments_of a)), None)) account_is
     ∙ ap (λ (x : List InstalmentLine). Ok (reply.Loan loan (Instalments x), None)) (sym c.in_ok-lines.ensures.lines)
     ∙ ap (λ (d : Decision). decision_outcome d i) (sym c.show.ensures))
+    (ap (λ (d : Decision). d.commit) c.show.ensures)

@@ -26,3 +26,4 @@ returns-clause-decides g c caller =
     ∙ ap (λ (a : Option Running). Ok (reply.Loan loan (Shown (statement_by found a)), None)) account_is
     ∙ ap (λ (x : Statement). Ok (reply.Loan loan (Shown x), None)) (sym c.statement.ensures)
     ∙ ap (λ (d : Decision). decision_outcome d i) (sym c.show.ensures))
+    (ap (λ (d : Decision). d.commit) c.show.ensures)
