@@ -10,6 +10,7 @@ use Rattle.sqlite.specs.Order.{Row}
 use Rattle.sqlite.specs.State.{State, HasCleanDisk, Survives}
 use Rattle.sqlite.specs.Listing.{understood}
 use Rattle.sqlite.proofs.Callers.{IsPlain}
+use Rattle.sqlite.proofs.StateLemmas.{survives_then}
 use Rattle.sqlite_keyed.proofs.ListLemmas.{slice_get-filter}
 use Rattle.mf_store_records.specs.Tables.{schema}
 use Rattle.mf_store_tables.specs.Queries.{Answers}
@@ -75,3 +76,7 @@ pub shown : {V E : Type 0} (r : Result V E) (rows_of : V → List Row) (s : Stat
     → IsKeeping s lists → IfOk r (λ v. Shows s sql params (rows_of v)) → IfOk r P
 shown (Ok v) rows_of s sql params lists P law kept h = law v (kept h.is_open) h.answers
 shown (Err e) rows_of s sql params lists P law kept h = tt
+
+-- two statements of one transaction, one after the other: a stop leaves nothing more
+pub goes_on : (was mid is : State) → Survives was mid (λ _. ⊥) → Survives mid is (λ _. ⊥) → Survives was is (λ _. ⊥)
+goes_on was mid is = survives_then was mid is (λ _. ⊥) (λ _. ⊥) (λ _. ⊥) (λ _ db none. none) (λ _ db none. none)

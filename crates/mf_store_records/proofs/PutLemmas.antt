@@ -1,6 +1,8 @@
 -- What one statement makes of all tables together.
-use Rattle.std.proofs.Common.{◌≡◌, ℕ, List, None, Some, Ok, Option, IsSome, [], sym, subst, arith, true≢false}
+use Rattle.std.proofs.Common.{◌≡◌, ℕ, pos, not, List, None, Some, Ok, Option, IsSome, [], ◌∷◌, filter, sym, subst, arith, true≢false}
 use Rattle.sqlite.specs.Effect.{Database}
+use Rattle.sqlite.specs.Order.{Row}
+use Rattle.sqlite.specs.declared.types.Value.TheVariants.{Int}
 use Rattle.sqlite.specs.State.{State, Executes}
 use Rattle.sqlite_catalog.specs.Listing.{IsSound}
 use Rattle.mf_store_tables.specs.Keep.{Keeps, put_item}
@@ -11,7 +13,7 @@ use Rattle.mf_store_tables.proofs.KeepLemmas.{keeps_none}
 use Rattle.mf_store_tables.proofs.KeptLemmas.{Spares}
 use Rattle.mf_store_tables.proofs.MakeLemmas.{makes_one}
 use Rattle.mf_store_records.specs.Tables.{schema}
-use Rattle.mf_store_records.specs.Rows.{Lists, no_rows, meta_row, office_row, staff_row, client_row, charge_row, product_row, loan_row, entry_row, receipt_row, by_meta, by_office, by_staff, by_client, by_charge, by_product, by_loan, by_entry, by_receipt, put_meta, put_office, put_staff, put_client, put_charge, put_product, put_loan, put_entry, put_receipt}
+use Rattle.mf_store_records.specs.Rows.{Lists, no_rows, meta_row, office_row, staff_row, client_row, charge_row, product_row, loan_row, entry_row, receipt_row, instalment_row, share_row, by_meta, by_office, by_staff, by_client, by_charge, by_product, by_loan, by_entry, by_receipt, by_instalment, by_share, is_share_in, put_meta, put_office, put_staff, put_client, put_charge, put_product, put_loan, put_entry, put_receipt, put_instalment, put_share, drop_shares}
 use Rattle.mf_store_records.specs.declared.meta.MetaRow.{MetaRow}
 use Rattle.mf_store_records.specs.declared.offices.OfficeRow.{OfficeRow}
 use Rattle.mf_store_records.specs.declared.staff.StaffRow.{StaffRow}
@@ -21,10 +23,13 @@ use Rattle.mf_store_records.specs.declared.products.ProductRow.{ProductRow}
 use Rattle.mf_store_records.specs.declared.loans.LoanRow.{LoanRow}
 use Rattle.mf_store_records.specs.declared.entries.EntryRow.{EntryRow}
 use Rattle.mf_store_records.specs.declared.receipts.ReceiptRow.{ReceiptRow}
+use Rattle.mf_store_records.specs.declared.instalments.InstalmentRow.{InstalmentRow}
+use Rattle.mf_store_records.specs.declared.shares.EntryKey.{EntryKey}
+use Rattle.mf_store_records.specs.declared.shares.ShareRow.{ShareRow}
 use Rattle.mf_store_records.specs.Writes.{changed, schema_of, Holds, Making, Putting}
-use Rattle.mf_store_records.proofs.Texts.{create_meta, create_offices, create_staff, create_clients, create_charges, create_products, create_loans, create_entries, create_receipts, defines_meta, defines_offices, defines_staff, defines_clients, defines_charges, defines_products, defines_loans, defines_entries, defines_receipts, made_is, upsert_meta, upsert_product, upsert_loan, upsert_entry}
+use Rattle.mf_store_records.proofs.Texts.{create_meta, create_offices, create_staff, create_clients, create_charges, create_products, create_loans, create_entries, create_receipts, create_instalments, create_shares, defines_meta, defines_offices, defines_staff, defines_clients, defines_charges, defines_products, defines_loans, defines_entries, defines_receipts, defines_instalments, defines_shares, made_is, upsert_meta, upsert_product, upsert_loan, upsert_entry, upsert_instalment, upsert_share, delete_shares}
 use Rattle.mf_store_records.proofs.AddLemmas.{insert_office, insert_staff, insert_client, insert_charge, insert_product, insert_loan, insert_entry, insert_receipt, adds_office, adds_staff, adds_client, adds_charge, adds_product, adds_loan, adds_entry, adds_receipt}
-use Rattle.mf_store_records.proofs.TableLemmas.{by_meta_total, by_office_total, by_staff_total, by_client_total, by_charge_total, by_product_total, by_loan_total, by_entry_total, by_receipt_total, puts_meta, puts_product, puts_loan, puts_entry}
+use Rattle.mf_store_records.proofs.TableLemmas.{by_meta_total, by_office_total, by_staff_total, by_client_total, by_charge_total, by_product_total, by_loan_total, by_entry_total, by_receipt_total, by_instalment_total, by_share_total, puts_meta, puts_product, puts_loan, puts_entry, puts_instalment, puts_share, removes_shares}
 
 abbrev pub StandsAs : Database → Option Lists → Type 0
 StandsAs = Serves schema_of Holds
@@ -52,6 +57,8 @@ putting_meta x old new ran = record { mode = ran.mode; was_open = ran.was_open; 
             loans = subst (λ t. Keeps loan_row by_loan t m.loans) (sym (spared.1.1.1.1.1.1.0 (λ e. absurd (omega arith)))) s.holds.loans;
             entries = subst (λ t. Keeps entry_row by_entry t m.entries) (sym (spared.1.1.1.1.1.1.1.0 (λ e. absurd (omega arith)))) s.holds.entries;
             receipts = subst (λ t. Keeps receipt_row by_receipt t m.receipts) (sym (spared.1.1.1.1.1.1.1.1.0 (λ e. absurd (omega arith)))) s.holds.receipts;
+            instalments = subst (λ t. Keeps instalment_row by_instalment t m.instalments) (sym (spared.1.1.1.1.1.1.1.1.1.0 (λ e. absurd (omega arith)))) s.holds.instalments;
+            shares = subst (λ t. Keeps share_row by_share t m.shares) (sym (spared.1.1.1.1.1.1.1.1.1.1.0 (λ e. absurd (omega arith)))) s.holds.shares;
           };
         }
 
@@ -75,6 +82,8 @@ putting_office x old new ran = record { mode = ran.mode; was_open = ran.was_open
             loans = subst (λ t. Keeps loan_row by_loan t m.loans) (sym (spared.1.1.1.1.1.1.0 (λ e. absurd (omega arith)))) s.holds.loans;
             entries = subst (λ t. Keeps entry_row by_entry t m.entries) (sym (spared.1.1.1.1.1.1.1.0 (λ e. absurd (omega arith)))) s.holds.entries;
             receipts = subst (λ t. Keeps receipt_row by_receipt t m.receipts) (sym (spared.1.1.1.1.1.1.1.1.0 (λ e. absurd (omega arith)))) s.holds.receipts;
+            instalments = subst (λ t. Keeps instalment_row by_instalment t m.instalments) (sym (spared.1.1.1.1.1.1.1.1.1.0 (λ e. absurd (omega arith)))) s.holds.instalments;
+            shares = subst (λ t. Keeps share_row by_share t m.shares) (sym (spared.1.1.1.1.1.1.1.1.1.1.0 (λ e. absurd (omega arith)))) s.holds.shares;
           };
         }
 
@@ -98,6 +107,8 @@ putting_staff x old new ran = record { mode = ran.mode; was_open = ran.was_open;
             loans = subst (λ t. Keeps loan_row by_loan t m.loans) (sym (spared.1.1.1.1.1.1.0 (λ e. absurd (omega arith)))) s.holds.loans;
             entries = subst (λ t. Keeps entry_row by_entry t m.entries) (sym (spared.1.1.1.1.1.1.1.0 (λ e. absurd (omega arith)))) s.holds.entries;
             receipts = subst (λ t. Keeps receipt_row by_receipt t m.receipts) (sym (spared.1.1.1.1.1.1.1.1.0 (λ e. absurd (omega arith)))) s.holds.receipts;
+            instalments = subst (λ t. Keeps instalment_row by_instalment t m.instalments) (sym (spared.1.1.1.1.1.1.1.1.1.0 (λ e. absurd (omega arith)))) s.holds.instalments;
+            shares = subst (λ t. Keeps share_row by_share t m.shares) (sym (spared.1.1.1.1.1.1.1.1.1.1.0 (λ e. absurd (omega arith)))) s.holds.shares;
           };
         }
 
@@ -121,6 +132,8 @@ putting_client x old new ran = record { mode = ran.mode; was_open = ran.was_open
             loans = subst (λ t. Keeps loan_row by_loan t m.loans) (sym (spared.1.1.1.1.1.1.0 (λ e. absurd (omega arith)))) s.holds.loans;
             entries = subst (λ t. Keeps entry_row by_entry t m.entries) (sym (spared.1.1.1.1.1.1.1.0 (λ e. absurd (omega arith)))) s.holds.entries;
             receipts = subst (λ t. Keeps receipt_row by_receipt t m.receipts) (sym (spared.1.1.1.1.1.1.1.1.0 (λ e. absurd (omega arith)))) s.holds.receipts;
+            instalments = subst (λ t. Keeps instalment_row by_instalment t m.instalments) (sym (spared.1.1.1.1.1.1.1.1.1.0 (λ e. absurd (omega arith)))) s.holds.instalments;
+            shares = subst (λ t. Keeps share_row by_share t m.shares) (sym (spared.1.1.1.1.1.1.1.1.1.1.0 (λ e. absurd (omega arith)))) s.holds.shares;
           };
         }
 
@@ -144,6 +157,8 @@ putting_charge x old new ran = record { mode = ran.mode; was_open = ran.was_open
             loans = subst (λ t. Keeps loan_row by_loan t m.loans) (sym (spared.1.1.1.1.1.1.0 (λ e. absurd (omega arith)))) s.holds.loans;
             entries = subst (λ t. Keeps entry_row by_entry t m.entries) (sym (spared.1.1.1.1.1.1.1.0 (λ e. absurd (omega arith)))) s.holds.entries;
             receipts = subst (λ t. Keeps receipt_row by_receipt t m.receipts) (sym (spared.1.1.1.1.1.1.1.1.0 (λ e. absurd (omega arith)))) s.holds.receipts;
+            instalments = subst (λ t. Keeps instalment_row by_instalment t m.instalments) (sym (spared.1.1.1.1.1.1.1.1.1.0 (λ e. absurd (omega arith)))) s.holds.instalments;
+            shares = subst (λ t. Keeps share_row by_share t m.shares) (sym (spared.1.1.1.1.1.1.1.1.1.1.0 (λ e. absurd (omega arith)))) s.holds.shares;
           };
         }
 
@@ -172,6 +187,8 @@ product_written sql puts x old new ran = record { mode = ran.mode; was_open = ra
             loans = subst (λ t. Keeps loan_row by_loan t m.loans) (sym (spared.1.1.1.1.1.1.0 (λ e. absurd (omega arith)))) s.holds.loans;
             entries = subst (λ t. Keeps entry_row by_entry t m.entries) (sym (spared.1.1.1.1.1.1.1.0 (λ e. absurd (omega arith)))) s.holds.entries;
             receipts = subst (λ t. Keeps receipt_row by_receipt t m.receipts) (sym (spared.1.1.1.1.1.1.1.1.0 (λ e. absurd (omega arith)))) s.holds.receipts;
+            instalments = subst (λ t. Keeps instalment_row by_instalment t m.instalments) (sym (spared.1.1.1.1.1.1.1.1.1.0 (λ e. absurd (omega arith)))) s.holds.instalments;
+            shares = subst (λ t. Keeps share_row by_share t m.shares) (sym (spared.1.1.1.1.1.1.1.1.1.1.0 (λ e. absurd (omega arith)))) s.holds.shares;
           };
         }
 
@@ -206,6 +223,8 @@ loan_written sql puts x old new ran = record { mode = ran.mode; was_open = ran.w
             loans = did.1;
             entries = subst (λ t. Keeps entry_row by_entry t m.entries) (sym (spared.1.1.1.1.1.1.1.0 (λ e. absurd (omega arith)))) s.holds.entries;
             receipts = subst (λ t. Keeps receipt_row by_receipt t m.receipts) (sym (spared.1.1.1.1.1.1.1.1.0 (λ e. absurd (omega arith)))) s.holds.receipts;
+            instalments = subst (λ t. Keeps instalment_row by_instalment t m.instalments) (sym (spared.1.1.1.1.1.1.1.1.1.0 (λ e. absurd (omega arith)))) s.holds.instalments;
+            shares = subst (λ t. Keeps share_row by_share t m.shares) (sym (spared.1.1.1.1.1.1.1.1.1.1.0 (λ e. absurd (omega arith)))) s.holds.shares;
           };
         }
 
@@ -240,6 +259,8 @@ entry_written sql puts x old new ran = record { mode = ran.mode; was_open = ran.
             loans = subst (λ t. Keeps loan_row by_loan t m.loans) (sym (spared.1.1.1.1.1.1.0 (λ e. absurd (omega arith)))) s.holds.loans;
             entries = did.1;
             receipts = subst (λ t. Keeps receipt_row by_receipt t m.receipts) (sym (spared.1.1.1.1.1.1.1.1.0 (λ e. absurd (omega arith)))) s.holds.receipts;
+            instalments = subst (λ t. Keeps instalment_row by_instalment t m.instalments) (sym (spared.1.1.1.1.1.1.1.1.1.0 (λ e. absurd (omega arith)))) s.holds.instalments;
+            shares = subst (λ t. Keeps share_row by_share t m.shares) (sym (spared.1.1.1.1.1.1.1.1.1.1.0 (λ e. absurd (omega arith)))) s.holds.shares;
           };
         }
 
@@ -269,8 +290,72 @@ putting_receipt x old new ran = record { mode = ran.mode; was_open = ran.was_ope
             loans = subst (λ t. Keeps loan_row by_loan t m.loans) (sym (spared.1.1.1.1.1.1.0 (λ e. absurd (omega arith)))) s.holds.loans;
             entries = subst (λ t. Keeps entry_row by_entry t m.entries) (sym (spared.1.1.1.1.1.1.1.0 (λ e. absurd (omega arith)))) s.holds.entries;
             receipts = did.1;
+            instalments = subst (λ t. Keeps instalment_row by_instalment t m.instalments) (sym (spared.1.1.1.1.1.1.1.1.1.0 (λ e. absurd (omega arith)))) s.holds.instalments;
+            shares = subst (λ t. Keeps share_row by_share t m.shares) (sym (spared.1.1.1.1.1.1.1.1.1.1.0 (λ e. absurd (omega arith)))) s.holds.shares;
           };
         }
+
+pub putting_instalment : (x : InstalmentRow) (old new : State) → Ran upsert_instalment (instalment_row x) old new → Putting (put_instalment x) old new
+putting_instalment x old new ran = record { mode = ran.mode; was_open = ran.was_open; turns = turns }
+  where
+    turns : (lists : Option Lists) → StandsAs old.now lists → IsSome lists → StandsAs new.now (changed (put_instalment x) lists)
+    turns None s there = nothing_there there
+    turns (Some m) s there =
+        let did = puts_instalment x old new ran.count m.instalments s.schema_is s.holds.instalments ran.ran in
+        let spared = did.2 in record {
+          schema_is = did.0;
+          holds = record {
+            sound = did.3;
+            meta = subst (λ t. Keeps meta_row by_meta t m.meta) (sym (spared.0 (λ e. absurd (omega arith)))) s.holds.meta;
+            offices = subst (λ t. Keeps office_row by_office t m.offices) (sym (spared.1.0 (λ e. absurd (omega arith)))) s.holds.offices;
+            staff = subst (λ t. Keeps staff_row by_staff t m.staff) (sym (spared.1.1.0 (λ e. absurd (omega arith)))) s.holds.staff;
+            clients = subst (λ t. Keeps client_row by_client t m.clients) (sym (spared.1.1.1.0 (λ e. absurd (omega arith)))) s.holds.clients;
+            charges = subst (λ t. Keeps charge_row by_charge t m.charges) (sym (spared.1.1.1.1.0 (λ e. absurd (omega arith)))) s.holds.charges;
+            products = subst (λ t. Keeps product_row by_product t m.products) (sym (spared.1.1.1.1.1.0 (λ e. absurd (omega arith)))) s.holds.products;
+            loans = subst (λ t. Keeps loan_row by_loan t m.loans) (sym (spared.1.1.1.1.1.1.0 (λ e. absurd (omega arith)))) s.holds.loans;
+            entries = subst (λ t. Keeps entry_row by_entry t m.entries) (sym (spared.1.1.1.1.1.1.1.0 (λ e. absurd (omega arith)))) s.holds.entries;
+            receipts = subst (λ t. Keeps receipt_row by_receipt t m.receipts) (sym (spared.1.1.1.1.1.1.1.1.0 (λ e. absurd (omega arith)))) s.holds.receipts;
+            instalments = did.1;
+            shares = subst (λ t. Keeps share_row by_share t m.shares) (sym (spared.1.1.1.1.1.1.1.1.1.1.0 (λ e. absurd (omega arith)))) s.holds.shares;
+          };
+        }
+
+-- what a text makes of the shares and of the other tables
+abbrev Turns_shares : (List ShareRow → List ShareRow) → State → State → Type 0
+Turns_shares change old new = (items : List ShareRow) → old.now.schema ≡ schema → Keeps share_row by_share (old.now.trees 21) items
+    → (new.now.schema ≡ schema) × Keeps share_row by_share (new.now.trees 21) (change items) × Spares schema 21 old.now.trees new.now.trees × IsSound schema new.now.trees
+
+shares_written : (change : List ShareRow → List ShareRow) (sql : List ℕ) (params : Row) (old new : State) → Ran sql params old new → Turns_shares change old new → Putting (λ lists. record lists { shares = change lists.shares }) old new
+shares_written change sql params old new ran shares_turn = record { mode = ran.mode; was_open = ran.was_open; turns = turns }
+  where
+    turns : (lists : Option Lists) → StandsAs old.now lists → IsSome lists → StandsAs new.now (changed (λ lists. record lists { shares = change lists.shares }) lists)
+    turns None s there = nothing_there there
+    turns (Some m) s there =
+        let did = shares_turn m.shares s.schema_is s.holds.shares in
+        let spared = did.2 in record {
+          schema_is = did.0;
+          holds = record {
+            sound = did.3;
+            meta = subst (λ t. Keeps meta_row by_meta t m.meta) (sym (spared.0 (λ e. absurd (omega arith)))) s.holds.meta;
+            offices = subst (λ t. Keeps office_row by_office t m.offices) (sym (spared.1.0 (λ e. absurd (omega arith)))) s.holds.offices;
+            staff = subst (λ t. Keeps staff_row by_staff t m.staff) (sym (spared.1.1.0 (λ e. absurd (omega arith)))) s.holds.staff;
+            clients = subst (λ t. Keeps client_row by_client t m.clients) (sym (spared.1.1.1.0 (λ e. absurd (omega arith)))) s.holds.clients;
+            charges = subst (λ t. Keeps charge_row by_charge t m.charges) (sym (spared.1.1.1.1.0 (λ e. absurd (omega arith)))) s.holds.charges;
+            products = subst (λ t. Keeps product_row by_product t m.products) (sym (spared.1.1.1.1.1.0 (λ e. absurd (omega arith)))) s.holds.products;
+            loans = subst (λ t. Keeps loan_row by_loan t m.loans) (sym (spared.1.1.1.1.1.1.0 (λ e. absurd (omega arith)))) s.holds.loans;
+            entries = subst (λ t. Keeps entry_row by_entry t m.entries) (sym (spared.1.1.1.1.1.1.1.0 (λ e. absurd (omega arith)))) s.holds.entries;
+            receipts = subst (λ t. Keeps receipt_row by_receipt t m.receipts) (sym (spared.1.1.1.1.1.1.1.1.0 (λ e. absurd (omega arith)))) s.holds.receipts;
+            instalments = subst (λ t. Keeps instalment_row by_instalment t m.instalments) (sym (spared.1.1.1.1.1.1.1.1.1.0 (λ e. absurd (omega arith)))) s.holds.instalments;
+            shares = did.1;
+          };
+        }
+
+pub putting_share : (x : ShareRow) (old new : State) → Ran upsert_share (share_row x) old new → Putting (put_share x) old new
+putting_share x old new ran = shares_written (put_item by_share x) upsert_share (share_row x) old new ran (λ items has k. puts_share x old new ran.count items has k ran.ran)
+
+pub removing_shares : (e : EntryKey) (old new : State) → Ran delete_shares (Int (pos e.office) ∷ Int (pos e.loan) ∷ Int (pos e.seq) ∷ []) old new → Putting (drop_shares e) old new
+removing_shares e old new ran =
+    shares_written (filter (λ x. not (is_share_in e.office e.loan e.seq x))) delete_shares _ old new ran (λ items has k. removes_shares e.office e.loan e.seq old new ran.count items has k ran.ran)
 
 -- ---- the tables made
 
@@ -291,13 +376,15 @@ stands_empty db e = record {
     loans = subst (λ t. Keeps loan_row by_loan t []) (sym e.empty.1.1.1.1.1.1.0) (keeps_none by_loan by_loan_total loan_row);
     entries = subst (λ t. Keeps entry_row by_entry t []) (sym e.empty.1.1.1.1.1.1.1.0) (keeps_none by_entry by_entry_total entry_row);
     receipts = subst (λ t. Keeps receipt_row by_receipt t []) (sym e.empty.1.1.1.1.1.1.1.1.0) (keeps_none by_receipt by_receipt_total receipt_row);
+    instalments = subst (λ t. Keeps instalment_row by_instalment t []) (sym e.empty.1.1.1.1.1.1.1.1.1.0) (keeps_none by_instalment by_instalment_total instalment_row);
+    shares = subst (λ t. Keeps share_row by_share t []) (sym e.empty.1.1.1.1.1.1.1.1.1.1.0) (keeps_none by_share by_share_total share_row);
   };
 }
 
-pub making : (a b c d e f g h i j : State) → Ran create_meta [] a b → Ran create_offices [] b c → Ran create_staff [] c d → Ran create_clients [] d e → Ran create_charges [] e f → Ran create_products [] f g → Ran create_loans [] g h → Ran create_entries [] h i → Ran create_receipts [] i j → Making a j
-making a b c d e f g h i j one two three four five six seven eight nine = record { mode = nine.mode; was_open = one.was_open; turns = turns }
+pub making : (a b c d e f g h i j k l : State) → Ran create_meta [] a b → Ran create_offices [] b c → Ran create_staff [] c d → Ran create_clients [] d e → Ran create_charges [] e f → Ran create_products [] f g → Ran create_loans [] g h → Ran create_entries [] h i → Ran create_receipts [] i j → Ran create_instalments [] j k → Ran create_shares [] k l → Making a l
+making a b c d e f g h i j k l one two three four five six seven eight nine ten eleven = record { mode = eleven.mode; was_open = one.was_open; turns = turns }
   where
-    turns : (lists : Option Lists) → StandsAs a.now lists → lists ≡ None → StandsAs j.now (Some no_rows)
+    turns : (lists : Option Lists) → StandsAs a.now lists → lists ≡ None → StandsAs l.now (Some no_rows)
     turns lists s none =
         let first = empty_at_first a.now (subst (StandsAs a.now) none s) in
         let has_meta = makes_one _ _ create_meta a b one.count defines_meta first one.ran in
@@ -309,4 +396,6 @@ making a b c d e f g h i j one two three four five six seven eight nine = record
         let has_loans = makes_one _ _ create_loans g h seven.count defines_loans has_products seven.ran in
         let has_entries = makes_one _ _ create_entries h i eight.count defines_entries has_loans eight.ran in
         let has_receipts = makes_one _ _ create_receipts i j nine.count defines_receipts has_entries nine.ran in
-        stands_empty j.now (subst (λ s. IsEmpty s j.now) made_is has_receipts)
+        let has_instalments = makes_one _ _ create_instalments j k ten.count defines_instalments has_receipts ten.ran in
+        let has_shares = makes_one _ _ create_shares k l eleven.count defines_shares has_instalments eleven.ran in
+        stands_empty l.now (subst (λ s. IsEmpty s l.now) made_is has_shares)

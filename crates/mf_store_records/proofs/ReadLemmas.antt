@@ -16,7 +16,7 @@ use Rattle.mf_store_tables.specs.Scan.{eq, by, scan}
 use Rattle.mf_store_tables.proofs.CompareLemmas.{equals_back, and_true, key_step, int_cmp-pos, at_least_text, below_text, above_number}
 use Rattle.mf_store_tables.proofs.ShownLemmas.{shown_kept, shown_first_kept}
 use Rattle.mf_store_records.specs.Tables.{schema}
-use Rattle.mf_store_records.specs.Rows.{by_meta, meta_row, by_office, office_row, by_staff, staff_row, by_client, client_row, by_charge, charge_row, by_product, product_row, by_loan, loan_row, by_entry, entry_row, by_receipt, receipt_row, is_meta, is_office, is_staff, is_client, is_charge, is_product, is_loan, is_entry, is_receipt, is_staff_of, is_client_of, is_loan_of, is_entry_of, is_loan_above, is_in_range}
+use Rattle.mf_store_records.specs.Rows.{by_meta, meta_row, by_office, office_row, by_staff, staff_row, by_client, client_row, by_charge, charge_row, by_product, product_row, by_loan, loan_row, by_entry, entry_row, by_receipt, receipt_row, is_meta, is_office, is_staff, is_client, is_charge, is_product, is_loan, is_entry, is_receipt, is_staff_of, is_client_of, is_loan_of, is_entry_of, is_loan_above, is_in_range, by_instalment, instalment_row, is_instalment, is_instalment_of, is_instalment_in, by_share, share_row, is_share, is_share_of}
 use Rattle.mf_store_records.specs.declared.meta.MetaRow.{MetaRow}
 use Rattle.mf_store_records.specs.declared.offices.OfficeRow.{OfficeRow}
 use Rattle.mf_store_records.specs.declared.staff.StaffRow.{StaffRow}
@@ -26,9 +26,11 @@ use Rattle.mf_store_records.specs.declared.products.ProductRow.{ProductRow}
 use Rattle.mf_store_records.specs.declared.loans.LoanRow.{LoanRow}
 use Rattle.mf_store_records.specs.declared.entries.EntryRow.{EntryRow}
 use Rattle.mf_store_records.specs.declared.receipts.ReceiptRow.{ReceiptRow}
+use Rattle.mf_store_records.specs.declared.instalments.InstalmentRow.{InstalmentRow}
+use Rattle.mf_store_records.specs.declared.shares.ShareRow.{ShareRow}
 use Rattle.mf_store_records.proofs.TextLemmas.{equals_text_back}
 use Rattle.sqlite_value.proofs.OrderLemmas.{value_cmp-Text}
-use Rattle.mf_store_records.proofs.Texts.{find_receipt, find_receipt_is, find_receipt_plain, find_receipt_listed, find_meta, find_meta_is, find_meta_plain, find_meta_listed, find_office, find_office_is, find_office_plain, find_office_listed, find_staff, find_staff_is, find_staff_plain, find_staff_listed, staff_of_office, staff_of_office_is, staff_of_office_plain, staff_of_office_listed, clients_of_office, clients_of_office_is, clients_of_office_plain, clients_of_office_listed, find_client, find_client_is, find_client_plain, find_client_listed, offices_in, offices_in_is, offices_in_plain, offices_in_listed, find_charge, find_charge_is, find_charge_plain, find_charge_listed, find_product, find_product_is, find_product_plain, find_product_listed, find_loan, find_loan_is, find_loan_plain, find_loan_listed, loans_of_office, loans_of_office_is, loans_of_office_plain, loans_of_office_listed, loans_above, loans_above_is, loans_above_plain, loans_above_listed, find_entry, find_entry_is, find_entry_plain, find_entry_listed, entries_of_loan, entries_of_loan_is, entries_of_loan_plain, entries_of_loan_listed}
+use Rattle.mf_store_records.proofs.Texts.{find_receipt, find_receipt_is, find_receipt_plain, find_receipt_listed, find_meta, find_meta_is, find_meta_plain, find_meta_listed, find_office, find_office_is, find_office_plain, find_office_listed, find_staff, find_staff_is, find_staff_plain, find_staff_listed, staff_of_office, staff_of_office_is, staff_of_office_plain, staff_of_office_listed, clients_of_office, clients_of_office_is, clients_of_office_plain, clients_of_office_listed, find_client, find_client_is, find_client_plain, find_client_listed, offices_in, offices_in_is, offices_in_plain, offices_in_listed, find_charge, find_charge_is, find_charge_plain, find_charge_listed, find_product, find_product_is, find_product_plain, find_product_listed, find_loan, find_loan_is, find_loan_plain, find_loan_listed, loans_of_office, loans_of_office_is, loans_of_office_plain, loans_of_office_listed, loans_above, loans_above_is, loans_above_plain, loans_above_listed, find_entry, find_entry_is, find_entry_plain, find_entry_listed, entries_of_loan, entries_of_loan_is, entries_of_loan_plain, entries_of_loan_listed, find_instalment, find_instalment_is, find_instalment_plain, find_instalment_listed, instalments_of_loan, instalments_of_loan_is, instalments_of_loan_plain, instalments_of_loan_listed, instalments_of_office, instalments_of_office_is, instalments_of_office_plain, instalments_of_office_listed, find_share, find_share_is, find_share_plain, find_share_listed, shares_of_loan, shares_of_loan_is, shares_of_loan_plain, shares_of_loan_listed}
 
 -- ---- meta
 
@@ -162,3 +164,39 @@ receipt_ranks tests a b = ap₂ ordering_then (int_cmp-pos a.office b.office) (t
 pub find_receipt_shows : (office : ℕ) (receipt : List ℕ) (db : Database) (rows : List Row) (items : List ReceiptRow) → db.schema ≡ schema → Keeps receipt_row by_receipt (db.trees 17) items → Answers find_receipt (Int (pos office) ∷ Text receipt ∷ []) db rows → rows ≡ map receipt_row (filter (is_receipt office receipt) items)
 find_receipt_shows office receipt db rows items has k =
     shown_kept receipt_row by_receipt schema 17 find_receipt find_receipt_plain find_receipt_listed (eq (col 1 1) (col 0 0) ∷ eq (col 1 2) (col 0 1) ∷ []) _ _ _ find_receipt_is _ (is_receipt office receipt) (λ id y. (key_step _ _ _ _ (equals_back y.office office) (and_true _ ∙ equals_text_back y.receipt receipt))) receipt_key receipt_row (λ id y. refl) (receipt_ranks (eq (col 1 1) (col 0 0) ∷ eq (col 1 2) (col 0 1) ∷ [])) (λ t. refl) db items rows has k
+
+-- ---- instalments
+
+abbrev instalment_key : InstalmentRow → Row
+instalment_key x = Int (pos x.office) ∷ Int (pos x.loan) ∷ Int (pos x.number) ∷ []
+
+instalment_ranks : (tests : List Term) (a b : InstalmentRow) → output_cmp (scan 19 tests (col 1 1 ∷ col 1 2 ∷ col 1 3 ∷ col 1 4 ∷ col 1 5 ∷ col 1 6 ∷ col 1 7 ∷ col 1 8 ∷ col 1 9 ∷ col 1 10 ∷ col 1 11 ∷ col 1 12 ∷ col 1 13 ∷ col 1 14 ∷ col 1 15 ∷ col 1 16 ∷ col 1 17 ∷ col 1 18 ∷ col 1 19 ∷ col 1 20 ∷ []) (by (col 1 1) ∷ by (col 1 2) ∷ by (col 1 3) ∷ [])) (instalment_key a, instalment_row a) (instalment_key b, instalment_row b) ≡ by_instalment a b
+instalment_ranks tests a b = ap₂ ordering_then (int_cmp-pos a.office b.office) (ap₂ ordering_then (int_cmp-pos a.loan b.loan) (then-Equal _ ∙ int_cmp-pos a.number b.number))
+
+pub find_instalment_shows : (office loan number : ℕ) (db : Database) (rows : List Row) (items : List InstalmentRow) → db.schema ≡ schema → Keeps instalment_row by_instalment (db.trees 19) items → Answers find_instalment (Int (pos office) ∷ Int (pos loan) ∷ Int (pos number) ∷ []) db rows → rows ≡ map instalment_row (filter (is_instalment office loan number) items)
+find_instalment_shows office loan number db rows items has k =
+    shown_kept instalment_row by_instalment schema 19 find_instalment find_instalment_plain find_instalment_listed (eq (col 1 1) (col 0 0) ∷ eq (col 1 2) (col 0 1) ∷ eq (col 1 3) (col 0 2) ∷ []) _ _ _ find_instalment_is _ (is_instalment office loan number) (λ id y. (key_step _ _ _ _ (equals_back y.office office) (key_step _ _ _ _ (equals_back y.loan loan) (and_true _ ∙ equals_back y.number number)))) instalment_key instalment_row (λ id y. refl) (instalment_ranks (eq (col 1 1) (col 0 0) ∷ eq (col 1 2) (col 0 1) ∷ eq (col 1 3) (col 0 2) ∷ [])) (λ t. refl) db items rows has k
+
+pub instalments_of_loan_shows : (office loan : ℕ) (db : Database) (rows : List Row) (items : List InstalmentRow) → db.schema ≡ schema → Keeps instalment_row by_instalment (db.trees 19) items → Answers instalments_of_loan (Int (pos office) ∷ Int (pos loan) ∷ []) db rows → rows ≡ map instalment_row (filter (is_instalment_of office loan) items)
+instalments_of_loan_shows office loan db rows items has k =
+    shown_kept instalment_row by_instalment schema 19 instalments_of_loan instalments_of_loan_plain instalments_of_loan_listed (eq (col 1 1) (col 0 0) ∷ eq (col 1 2) (col 0 1) ∷ []) _ _ _ instalments_of_loan_is _ (is_instalment_of office loan) (λ id y. (key_step _ _ _ _ (equals_back y.office office) (and_true _ ∙ equals_back y.loan loan))) instalment_key instalment_row (λ id y. refl) (instalment_ranks (eq (col 1 1) (col 0 0) ∷ eq (col 1 2) (col 0 1) ∷ [])) (λ t. refl) db items rows has k
+
+pub instalments_of_office_shows : (office : ℕ) (db : Database) (rows : List Row) (items : List InstalmentRow) → db.schema ≡ schema → Keeps instalment_row by_instalment (db.trees 19) items → Answers instalments_of_office (Int (pos office) ∷ []) db rows → rows ≡ map instalment_row (filter (is_instalment_in office) items)
+instalments_of_office_shows office db rows items has k =
+    shown_kept instalment_row by_instalment schema 19 instalments_of_office instalments_of_office_plain instalments_of_office_listed (eq (col 1 1) (col 0 0) ∷ []) _ _ _ instalments_of_office_is _ (is_instalment_in office) (λ id y. (and_true _ ∙ equals_back y.office office)) instalment_key instalment_row (λ id y. refl) (instalment_ranks (eq (col 1 1) (col 0 0) ∷ [])) (λ t. refl) db items rows has k
+
+-- ---- shares
+
+abbrev share_key : ShareRow → Row
+share_key x = Int (pos x.office) ∷ Int (pos x.loan) ∷ Int (pos x.seq) ∷ Int (pos x.place) ∷ []
+
+share_ranks : (tests : List Term) (a b : ShareRow) → output_cmp (scan 21 tests (col 1 1 ∷ col 1 2 ∷ col 1 3 ∷ col 1 4 ∷ col 1 5 ∷ col 1 6 ∷ col 1 7 ∷ col 1 8 ∷ []) (by (col 1 1) ∷ by (col 1 2) ∷ by (col 1 3) ∷ by (col 1 4) ∷ [])) (share_key a, share_row a) (share_key b, share_row b) ≡ by_share a b
+share_ranks tests a b = ap₂ ordering_then (int_cmp-pos a.office b.office) (ap₂ ordering_then (int_cmp-pos a.loan b.loan) (ap₂ ordering_then (int_cmp-pos a.seq b.seq) (then-Equal _ ∙ int_cmp-pos a.place b.place)))
+
+pub find_share_shows : (office loan seq place : ℕ) (db : Database) (rows : List Row) (items : List ShareRow) → db.schema ≡ schema → Keeps share_row by_share (db.trees 21) items → Answers find_share (Int (pos office) ∷ Int (pos loan) ∷ Int (pos seq) ∷ Int (pos place) ∷ []) db rows → rows ≡ map share_row (filter (is_share office loan seq place) items)
+find_share_shows office loan seq place db rows items has k =
+    shown_kept share_row by_share schema 21 find_share find_share_plain find_share_listed (eq (col 1 1) (col 0 0) ∷ eq (col 1 2) (col 0 1) ∷ eq (col 1 3) (col 0 2) ∷ eq (col 1 4) (col 0 3) ∷ []) _ _ _ find_share_is _ (is_share office loan seq place) (λ id y. (key_step _ _ _ _ (equals_back y.office office) (key_step _ _ _ _ (equals_back y.loan loan) (key_step _ _ _ _ (equals_back y.seq seq) (and_true _ ∙ equals_back y.place place))))) share_key share_row (λ id y. refl) (share_ranks (eq (col 1 1) (col 0 0) ∷ eq (col 1 2) (col 0 1) ∷ eq (col 1 3) (col 0 2) ∷ eq (col 1 4) (col 0 3) ∷ [])) (λ t. refl) db items rows has k
+
+pub shares_of_loan_shows : (office loan : ℕ) (db : Database) (rows : List Row) (items : List ShareRow) → db.schema ≡ schema → Keeps share_row by_share (db.trees 21) items → Answers shares_of_loan (Int (pos office) ∷ Int (pos loan) ∷ []) db rows → rows ≡ map share_row (filter (is_share_of office loan) items)
+shares_of_loan_shows office loan db rows items has k =
+    shown_kept share_row by_share schema 21 shares_of_loan shares_of_loan_plain shares_of_loan_listed (eq (col 1 1) (col 0 0) ∷ eq (col 1 2) (col 0 1) ∷ []) _ _ _ shares_of_loan_is _ (is_share_of office loan) (λ id y. (key_step _ _ _ _ (equals_back y.office office) (and_true _ ∙ equals_back y.loan loan))) share_key share_row (λ id y. refl) (share_ranks (eq (col 1 1) (col 0 0) ∷ eq (col 1 2) (col 0 1) ∷ [])) (λ t. refl) db items rows has k

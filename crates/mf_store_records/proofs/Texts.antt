@@ -3,7 +3,7 @@ use Rattle.std.proofs.Common.{◌≡◌, ℕ, List, [], ◌∷◌, codes, refl, 
 use Rattle.sqlite.specs.declared.types.Value.TheVariants.{Null}
 use Rattle.sqlite.specs.Term.{lit, col, op2}
 use Rattle.sqlite.specs.Source.TheVariants.{Values}
-use Rattle.sqlite.specs.Command.TheVariants.{InsertOr, Select}
+use Rattle.sqlite.specs.Command.TheVariants.{Delete, InsertOr, Select}
 use Rattle.sqlite.specs.Change.{created}
 use Rattle.sqlite.specs.Collation.TheVariants.{Binary}
 use Rattle.sqlite_sql.specs.declared.ops.BinaryOp.TheVariants.{Compare}
@@ -15,7 +15,7 @@ use Rattle.sqlite.proofs.Callers.{IsPlain, command_of}
 use Rattle.mf_store_tables.specs.Scan.{eq, by, scan, cut_at}
 use Rattle.mf_store_tables.specs.Tables.{no_schema}
 use Rattle.mf_store_tables.specs.Making.{Defines}
-use Rattle.mf_store_records.specs.Tables.{schema, meta, offices, staff, clients, charges, products, loans, entries, receipts}
+use Rattle.mf_store_records.specs.Tables.{schema, meta, offices, staff, clients, charges, products, loans, entries, receipts, instalments, shares}
 
 -- ---- meta
 
@@ -367,6 +367,132 @@ pub find_receipt_listed : reads_listing schema find_receipt ≡ false
 unfolding understood everything
 find_receipt_listed = refl
 
-pub made_is : created (created (created (created (created (created (created (created (created no_schema (record meta { tree = 0 })) (record offices { tree = 0 })) (record staff { tree = 0 })) (record clients { tree = 0 })) (record charges { tree = 0 })) (record products { tree = 0 })) (record loans { tree = 0 })) (record entries { tree = 0 })) (record receipts { tree = 0 }) ≡ schema
+-- ---- instalments
+
+abbrev pub create_instalments : List ℕ
+create_instalments = codes "CREATE TABLE instalments (office INTEGER NOT NULL, loan INTEGER NOT NULL, number INTEGER NOT NULL, due TEXT NOT NULL, owed_penalty INTEGER NOT NULL, paid_penalty INTEGER NOT NULL, waived_penalty INTEGER NOT NULL, written_off_penalty INTEGER NOT NULL, owed_fee INTEGER NOT NULL, paid_fee INTEGER NOT NULL, waived_fee INTEGER NOT NULL, written_off_fee INTEGER NOT NULL, owed_interest INTEGER NOT NULL, paid_interest INTEGER NOT NULL, waived_interest INTEGER NOT NULL, written_off_interest INTEGER NOT NULL, owed_principal INTEGER NOT NULL, paid_principal INTEGER NOT NULL, waived_principal INTEGER NOT NULL, written_off_principal INTEGER NOT NULL, PRIMARY KEY (office, loan, number)) STRICT"
+
+pub defines_instalments : Defines (created (created (created (created (created (created (created (created (created no_schema (record meta { tree = 0 })) (record offices { tree = 0 })) (record staff { tree = 0 })) (record clients { tree = 0 })) (record charges { tree = 0 })) (record products { tree = 0 })) (record loans { tree = 0 })) (record entries { tree = 0 })) (record receipts { tree = 0 })) create_instalments (record instalments { tree = 0 })
+unfolding understood everything
+defines_instalments = record { command = refl; plain = (refl, refl); table_is = refl; uncounted = refl }
+
+abbrev pub upsert_instalment : List ℕ
+upsert_instalment = codes "INSERT INTO instalments VALUES (?1, ?2, ?3, ?4, ?5, ?6, ?7, ?8, ?9, ?10, ?11, ?12, ?13, ?14, ?15, ?16, ?17, ?18, ?19, ?20) ON CONFLICT (office, loan, number) DO UPDATE SET due = excluded.due, owed_penalty = excluded.owed_penalty, paid_penalty = excluded.paid_penalty, waived_penalty = excluded.waived_penalty, written_off_penalty = excluded.written_off_penalty, owed_fee = excluded.owed_fee, paid_fee = excluded.paid_fee, waived_fee = excluded.waived_fee, written_off_fee = excluded.written_off_fee, owed_interest = excluded.owed_interest, paid_interest = excluded.paid_interest, waived_interest = excluded.waived_interest, written_off_interest = excluded.written_off_interest, owed_principal = excluded.owed_principal, paid_principal = excluded.paid_principal, waived_principal = excluded.waived_principal, written_off_principal = excluded.written_off_principal"
+
+pub upsert_instalment_is : command_of (understood schema upsert_instalment) ≡ InsertOr 9 Abort (Values (lit Null ∷ col 0 0 ∷ col 0 1 ∷ col 0 2 ∷ col 0 3 ∷ col 0 4 ∷ col 0 5 ∷ col 0 6 ∷ col 0 7 ∷ col 0 8 ∷ col 0 9 ∷ col 0 10 ∷ col 0 11 ∷ col 0 12 ∷ col 0 13 ∷ col 0 14 ∷ col 0 15 ∷ col 0 16 ∷ col 0 17 ∷ col 0 18 ∷ col 0 19 ∷ []) 21) (record { target = Some (1 ∷ 2 ∷ 3 ∷ []); update = Some (record { lets = []; body = scan 19 (eq (col 1 0) (col 0 20) ∷ []) (col 1 0 ∷ col 1 0 ∷ col 1 1 ∷ col 1 2 ∷ col 1 3 ∷ col 0 25 ∷ col 0 26 ∷ col 0 27 ∷ col 0 28 ∷ col 0 29 ∷ col 0 30 ∷ col 0 31 ∷ col 0 32 ∷ col 0 33 ∷ col 0 34 ∷ col 0 35 ∷ col 0 36 ∷ col 0 37 ∷ col 0 38 ∷ col 0 39 ∷ col 0 40 ∷ col 0 41 ∷ []) [] }) } ∷ [])
+unfolding understood everything
+upsert_instalment_is = refl
+
+pub upsert_instalment_plain : IsPlain (understood schema upsert_instalment)
+unfolding understood everything
+upsert_instalment_plain = (refl, refl)
+
+abbrev pub find_instalment : List ℕ
+find_instalment = codes "SELECT office, loan, number, due, owed_penalty, paid_penalty, waived_penalty, written_off_penalty, owed_fee, paid_fee, waived_fee, written_off_fee, owed_interest, paid_interest, waived_interest, written_off_interest, owed_principal, paid_principal, waived_principal, written_off_principal FROM instalments WHERE office = ?1 AND loan = ?2 AND number = ?3 ORDER BY office, loan, number"
+
+pub find_instalment_is : command_of (understood schema find_instalment) ≡ Select (record { lets = []; body = scan 19 (eq (col 1 1) (col 0 0) ∷ eq (col 1 2) (col 0 1) ∷ eq (col 1 3) (col 0 2) ∷ []) (col 1 1 ∷ col 1 2 ∷ col 1 3 ∷ col 1 4 ∷ col 1 5 ∷ col 1 6 ∷ col 1 7 ∷ col 1 8 ∷ col 1 9 ∷ col 1 10 ∷ col 1 11 ∷ col 1 12 ∷ col 1 13 ∷ col 1 14 ∷ col 1 15 ∷ col 1 16 ∷ col 1 17 ∷ col 1 18 ∷ col 1 19 ∷ col 1 20 ∷ []) (by (col 1 1) ∷ by (col 1 2) ∷ by (col 1 3) ∷ []) }) (codes "office" ∷ codes "loan" ∷ codes "number" ∷ codes "due" ∷ codes "owed_penalty" ∷ codes "paid_penalty" ∷ codes "waived_penalty" ∷ codes "written_off_penalty" ∷ codes "owed_fee" ∷ codes "paid_fee" ∷ codes "waived_fee" ∷ codes "written_off_fee" ∷ codes "owed_interest" ∷ codes "paid_interest" ∷ codes "waived_interest" ∷ codes "written_off_interest" ∷ codes "owed_principal" ∷ codes "paid_principal" ∷ codes "waived_principal" ∷ codes "written_off_principal" ∷ [])
+unfolding understood everything
+find_instalment_is = refl
+
+pub find_instalment_plain : IsPlain (understood schema find_instalment)
+unfolding understood everything
+find_instalment_plain = (refl, refl)
+
+pub find_instalment_listed : reads_listing schema find_instalment ≡ false
+unfolding understood everything
+find_instalment_listed = refl
+
+abbrev pub instalments_of_loan : List ℕ
+instalments_of_loan = codes "SELECT office, loan, number, due, owed_penalty, paid_penalty, waived_penalty, written_off_penalty, owed_fee, paid_fee, waived_fee, written_off_fee, owed_interest, paid_interest, waived_interest, written_off_interest, owed_principal, paid_principal, waived_principal, written_off_principal FROM instalments WHERE office = ?1 AND loan = ?2 ORDER BY office, loan, number"
+
+pub instalments_of_loan_is : command_of (understood schema instalments_of_loan) ≡ Select (record { lets = []; body = scan 19 (eq (col 1 1) (col 0 0) ∷ eq (col 1 2) (col 0 1) ∷ []) (col 1 1 ∷ col 1 2 ∷ col 1 3 ∷ col 1 4 ∷ col 1 5 ∷ col 1 6 ∷ col 1 7 ∷ col 1 8 ∷ col 1 9 ∷ col 1 10 ∷ col 1 11 ∷ col 1 12 ∷ col 1 13 ∷ col 1 14 ∷ col 1 15 ∷ col 1 16 ∷ col 1 17 ∷ col 1 18 ∷ col 1 19 ∷ col 1 20 ∷ []) (by (col 1 1) ∷ by (col 1 2) ∷ by (col 1 3) ∷ []) }) (codes "office" ∷ codes "loan" ∷ codes "number" ∷ codes "due" ∷ codes "owed_penalty" ∷ codes "paid_penalty" ∷ codes "waived_penalty" ∷ codes "written_off_penalty" ∷ codes "owed_fee" ∷ codes "paid_fee" ∷ codes "waived_fee" ∷ codes "written_off_fee" ∷ codes "owed_interest" ∷ codes "paid_interest" ∷ codes "waived_interest" ∷ codes "written_off_interest" ∷ codes "owed_principal" ∷ codes "paid_principal" ∷ codes "waived_principal" ∷ codes "written_off_principal" ∷ [])
+unfolding understood everything
+instalments_of_loan_is = refl
+
+pub instalments_of_loan_plain : IsPlain (understood schema instalments_of_loan)
+unfolding understood everything
+instalments_of_loan_plain = (refl, refl)
+
+pub instalments_of_loan_listed : reads_listing schema instalments_of_loan ≡ false
+unfolding understood everything
+instalments_of_loan_listed = refl
+
+abbrev pub instalments_of_office : List ℕ
+instalments_of_office = codes "SELECT office, loan, number, due, owed_penalty, paid_penalty, waived_penalty, written_off_penalty, owed_fee, paid_fee, waived_fee, written_off_fee, owed_interest, paid_interest, waived_interest, written_off_interest, owed_principal, paid_principal, waived_principal, written_off_principal FROM instalments WHERE office = ?1 ORDER BY office, loan, number"
+
+pub instalments_of_office_is : command_of (understood schema instalments_of_office) ≡ Select (record { lets = []; body = scan 19 (eq (col 1 1) (col 0 0) ∷ []) (col 1 1 ∷ col 1 2 ∷ col 1 3 ∷ col 1 4 ∷ col 1 5 ∷ col 1 6 ∷ col 1 7 ∷ col 1 8 ∷ col 1 9 ∷ col 1 10 ∷ col 1 11 ∷ col 1 12 ∷ col 1 13 ∷ col 1 14 ∷ col 1 15 ∷ col 1 16 ∷ col 1 17 ∷ col 1 18 ∷ col 1 19 ∷ col 1 20 ∷ []) (by (col 1 1) ∷ by (col 1 2) ∷ by (col 1 3) ∷ []) }) (codes "office" ∷ codes "loan" ∷ codes "number" ∷ codes "due" ∷ codes "owed_penalty" ∷ codes "paid_penalty" ∷ codes "waived_penalty" ∷ codes "written_off_penalty" ∷ codes "owed_fee" ∷ codes "paid_fee" ∷ codes "waived_fee" ∷ codes "written_off_fee" ∷ codes "owed_interest" ∷ codes "paid_interest" ∷ codes "waived_interest" ∷ codes "written_off_interest" ∷ codes "owed_principal" ∷ codes "paid_principal" ∷ codes "waived_principal" ∷ codes "written_off_principal" ∷ [])
+unfolding understood everything
+instalments_of_office_is = refl
+
+pub instalments_of_office_plain : IsPlain (understood schema instalments_of_office)
+unfolding understood everything
+instalments_of_office_plain = (refl, refl)
+
+pub instalments_of_office_listed : reads_listing schema instalments_of_office ≡ false
+unfolding understood everything
+instalments_of_office_listed = refl
+
+-- ---- shares
+
+abbrev pub create_shares : List ℕ
+create_shares = codes "CREATE TABLE shares (office INTEGER NOT NULL, loan INTEGER NOT NULL, seq INTEGER NOT NULL, place INTEGER NOT NULL, instalment INTEGER NOT NULL, portion INTEGER NOT NULL, how INTEGER NOT NULL, amount INTEGER NOT NULL, PRIMARY KEY (office, loan, seq, place)) STRICT"
+
+pub defines_shares : Defines (created (created (created (created (created (created (created (created (created (created no_schema (record meta { tree = 0 })) (record offices { tree = 0 })) (record staff { tree = 0 })) (record clients { tree = 0 })) (record charges { tree = 0 })) (record products { tree = 0 })) (record loans { tree = 0 })) (record entries { tree = 0 })) (record receipts { tree = 0 })) (record instalments { tree = 0 })) create_shares (record shares { tree = 0 })
+unfolding understood everything
+defines_shares = record { command = refl; plain = (refl, refl); table_is = refl; uncounted = refl }
+
+abbrev pub upsert_share : List ℕ
+upsert_share = codes "INSERT INTO shares VALUES (?1, ?2, ?3, ?4, ?5, ?6, ?7, ?8) ON CONFLICT (office, loan, seq, place) DO UPDATE SET instalment = excluded.instalment, portion = excluded.portion, how = excluded.how, amount = excluded.amount"
+
+pub upsert_share_is : command_of (understood schema upsert_share) ≡ InsertOr 10 Abort (Values (lit Null ∷ col 0 0 ∷ col 0 1 ∷ col 0 2 ∷ col 0 3 ∷ col 0 4 ∷ col 0 5 ∷ col 0 6 ∷ col 0 7 ∷ []) 9) (record { target = Some (1 ∷ 2 ∷ 3 ∷ 4 ∷ []); update = Some (record { lets = []; body = scan 21 (eq (col 1 0) (col 0 8) ∷ []) (col 1 0 ∷ col 1 0 ∷ col 1 1 ∷ col 1 2 ∷ col 1 3 ∷ col 1 4 ∷ col 0 14 ∷ col 0 15 ∷ col 0 16 ∷ col 0 17 ∷ []) [] }) } ∷ [])
+unfolding understood everything
+upsert_share_is = refl
+
+pub upsert_share_plain : IsPlain (understood schema upsert_share)
+unfolding understood everything
+upsert_share_plain = (refl, refl)
+
+abbrev pub find_share : List ℕ
+find_share = codes "SELECT office, loan, seq, place, instalment, portion, how, amount FROM shares WHERE office = ?1 AND loan = ?2 AND seq = ?3 AND place = ?4 ORDER BY office, loan, seq, place"
+
+pub find_share_is : command_of (understood schema find_share) ≡ Select (record { lets = []; body = scan 21 (eq (col 1 1) (col 0 0) ∷ eq (col 1 2) (col 0 1) ∷ eq (col 1 3) (col 0 2) ∷ eq (col 1 4) (col 0 3) ∷ []) (col 1 1 ∷ col 1 2 ∷ col 1 3 ∷ col 1 4 ∷ col 1 5 ∷ col 1 6 ∷ col 1 7 ∷ col 1 8 ∷ []) (by (col 1 1) ∷ by (col 1 2) ∷ by (col 1 3) ∷ by (col 1 4) ∷ []) }) (codes "office" ∷ codes "loan" ∷ codes "seq" ∷ codes "place" ∷ codes "instalment" ∷ codes "portion" ∷ codes "how" ∷ codes "amount" ∷ [])
+unfolding understood everything
+find_share_is = refl
+
+pub find_share_plain : IsPlain (understood schema find_share)
+unfolding understood everything
+find_share_plain = (refl, refl)
+
+pub find_share_listed : reads_listing schema find_share ≡ false
+unfolding understood everything
+find_share_listed = refl
+
+abbrev pub shares_of_loan : List ℕ
+shares_of_loan = codes "SELECT office, loan, seq, place, instalment, portion, how, amount FROM shares WHERE office = ?1 AND loan = ?2 ORDER BY office, loan, seq, place"
+
+pub shares_of_loan_is : command_of (understood schema shares_of_loan) ≡ Select (record { lets = []; body = scan 21 (eq (col 1 1) (col 0 0) ∷ eq (col 1 2) (col 0 1) ∷ []) (col 1 1 ∷ col 1 2 ∷ col 1 3 ∷ col 1 4 ∷ col 1 5 ∷ col 1 6 ∷ col 1 7 ∷ col 1 8 ∷ []) (by (col 1 1) ∷ by (col 1 2) ∷ by (col 1 3) ∷ by (col 1 4) ∷ []) }) (codes "office" ∷ codes "loan" ∷ codes "seq" ∷ codes "place" ∷ codes "instalment" ∷ codes "portion" ∷ codes "how" ∷ codes "amount" ∷ [])
+unfolding understood everything
+shares_of_loan_is = refl
+
+pub shares_of_loan_plain : IsPlain (understood schema shares_of_loan)
+unfolding understood everything
+shares_of_loan_plain = (refl, refl)
+
+pub shares_of_loan_listed : reads_listing schema shares_of_loan ≡ false
+unfolding understood everything
+shares_of_loan_listed = refl
+
+abbrev pub delete_shares : List ℕ
+delete_shares = codes "DELETE FROM shares WHERE office = ?1 AND loan = ?2 AND seq = ?3"
+
+pub delete_shares_is : command_of (understood schema delete_shares) ≡ Delete 10 (record { lets = []; body = scan 21 (eq (col 1 1) (col 0 0) ∷ eq (col 1 2) (col 0 1) ∷ eq (col 1 3) (col 0 2) ∷ []) (col 1 0 ∷ []) [] })
+unfolding understood everything
+delete_shares_is = refl
+
+pub delete_shares_plain : IsPlain (understood schema delete_shares)
+unfolding understood everything
+delete_shares_plain = (refl, refl)
+
+pub made_is : created (created (created (created (created (created (created (created (created (created (created no_schema (record meta { tree = 0 })) (record offices { tree = 0 })) (record staff { tree = 0 })) (record clients { tree = 0 })) (record charges { tree = 0 })) (record products { tree = 0 })) (record loans { tree = 0 })) (record entries { tree = 0 })) (record receipts { tree = 0 })) (record instalments { tree = 0 })) (record shares { tree = 0 }) ≡ schema
 unfolding understood everything
 made_is = refl

@@ -1,5 +1,5 @@
 -- The rows of the tables, each table's as a list in the order of its key; and which of them the queries look for.
-use Rattle.std.specs.Prelude.{◌≡◌, ℕ, pos, Bool, true, false, cond, ◌&&◌, List, [], ◌∷◌}
+use Rattle.std.specs.Prelude.{◌≡◌, ℕ, pos, Bool, true, false, cond, not, ◌&&◌, List, [], ◌∷◌, filter}
 use Rattle.std.specs.List.{AllByRecursion}
 use Rattle.std.specs.declared.cmp.Ordering.{Ordering}
 use Rattle.std.specs.Ordering.{nat_cmp, ordering_then, is_eq, is_lt, is_ge, is_gt}
@@ -18,6 +18,9 @@ use Rattle.mf_store_records.specs.declared.products.ProductRow.{ProductRow}
 use Rattle.mf_store_records.specs.declared.loans.LoanRow.{LoanRow}
 use Rattle.mf_store_records.specs.declared.entries.EntryRow.{EntryRow}
 use Rattle.mf_store_records.specs.declared.receipts.ReceiptRow.{ReceiptRow}
+use Rattle.mf_store_records.specs.declared.instalments.InstalmentRow.{InstalmentRow}
+use Rattle.mf_store_records.specs.declared.shares.EntryKey.{EntryKey}
+use Rattle.mf_store_records.specs.declared.shares.ShareRow.{ShareRow}
 
 abbrev pub by_meta : MetaRow → MetaRow → Ordering
 by_meta a b = nat_cmp a.one b.one
@@ -141,6 +144,42 @@ abbrev pub with_receipt : ReceiptRow → List ReceiptRow → List ReceiptRow
 with_receipt x [] = x ∷ []
 with_receipt x (y ∷ ys) = cond (is_receipt_before x y) (x ∷ y ∷ ys) (y ∷ with_receipt x ys)
 
+abbrev pub by_instalment : InstalmentRow → InstalmentRow → Ordering
+by_instalment a b = ordering_then (nat_cmp a.office b.office) (ordering_then (nat_cmp a.loan b.loan) (nat_cmp a.number b.number))
+
+abbrev pub instalment_row : InstalmentRow → Row
+instalment_row x = Int (pos x.office) ∷ Int (pos x.loan) ∷ Int (pos x.number) ∷ Words x.due ∷ Int x.owed_penalty ∷ Int x.paid_penalty ∷ Int x.waived_penalty ∷ Int x.written_off_penalty ∷ Int x.owed_fee ∷ Int x.paid_fee ∷ Int x.waived_fee ∷ Int x.written_off_fee ∷ Int x.owed_interest ∷ Int x.paid_interest ∷ Int x.waived_interest ∷ Int x.written_off_interest ∷ Int x.owed_principal ∷ Int x.paid_principal ∷ Int x.waived_principal ∷ Int x.written_off_principal ∷ []
+
+-- the row under a key
+abbrev pub is_instalment : ℕ → ℕ → ℕ → InstalmentRow → Bool
+is_instalment office loan number x = is_eq (ordering_then (nat_cmp office x.office) (ordering_then (nat_cmp loan x.loan) (nat_cmp number x.number)))
+
+-- the rows of one loan
+abbrev pub is_instalment_of : ℕ → ℕ → InstalmentRow → Bool
+is_instalment_of office loan x = is_eq (ordering_then (nat_cmp office x.office) (nat_cmp loan x.loan))
+
+-- the rows of one office
+abbrev pub is_instalment_in : ℕ → InstalmentRow → Bool
+is_instalment_in office x = is_eq (nat_cmp office x.office)
+
+abbrev pub by_share : ShareRow → ShareRow → Ordering
+by_share a b = ordering_then (nat_cmp a.office b.office) (ordering_then (nat_cmp a.loan b.loan) (ordering_then (nat_cmp a.seq b.seq) (nat_cmp a.place b.place)))
+
+abbrev pub share_row : ShareRow → Row
+share_row x = Int (pos x.office) ∷ Int (pos x.loan) ∷ Int (pos x.seq) ∷ Int (pos x.place) ∷ Int (pos x.instalment) ∷ Int (pos x.portion) ∷ Int (pos x.how) ∷ Int x.amount ∷ []
+
+-- the row under a key
+abbrev pub is_share : ℕ → ℕ → ℕ → ℕ → ShareRow → Bool
+is_share office loan seq place x = is_eq (ordering_then (nat_cmp office x.office) (ordering_then (nat_cmp loan x.loan) (ordering_then (nat_cmp seq x.seq) (nat_cmp place x.place))))
+
+-- the rows of one loan
+abbrev pub is_share_of : ℕ → ℕ → ShareRow → Bool
+is_share_of office loan x = is_eq (ordering_then (nat_cmp office x.office) (nat_cmp loan x.loan))
+
+-- the rows of one entry
+abbrev pub is_share_in : ℕ → ℕ → ℕ → ShareRow → Bool
+is_share_in office loan seq x = is_eq (ordering_then (nat_cmp office x.office) (ordering_then (nat_cmp loan x.loan) (nat_cmp seq x.seq)))
+
 pub record Lists : Type 0 where
   pub meta : List MetaRow
   pub offices : List OfficeRow
@@ -151,9 +190,11 @@ pub record Lists : Type 0 where
   pub loans : List LoanRow
   pub entries : List EntryRow
   pub receipts : List ReceiptRow
+  pub instalments : List InstalmentRow
+  pub shares : List ShareRow
 
 abbrev pub no_rows : Lists
-no_rows = record { meta = []; offices = []; staff = []; clients = []; charges = []; products = []; loans = []; entries = []; receipts = [] }
+no_rows = record { meta = []; offices = []; staff = []; clients = []; charges = []; products = []; loans = []; entries = []; receipts = []; instalments = []; shares = [] }
 
 abbrev pub put_meta : MetaRow → Lists → Lists
 put_meta x lists = record lists { meta = put_item by_meta x lists.meta }
@@ -181,3 +222,13 @@ put_entry x lists = record lists { entries = put_item by_entry x lists.entries }
 
 abbrev pub put_receipt : ReceiptRow → Lists → Lists
 put_receipt x lists = record lists { receipts = put_item by_receipt x lists.receipts }
+
+abbrev pub put_instalment : InstalmentRow → Lists → Lists
+put_instalment x lists = record lists { instalments = put_item by_instalment x lists.instalments }
+
+abbrev pub put_share : ShareRow → Lists → Lists
+put_share x lists = record lists { shares = put_item by_share x lists.shares }
+
+-- the lists less the shares of an entry
+abbrev pub drop_shares : EntryKey → Lists → Lists
+drop_shares e lists = record lists { shares = filter (λ x. not (is_share_in e.office e.loan e.seq x)) lists.shares }

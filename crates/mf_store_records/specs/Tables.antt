@@ -31,9 +31,15 @@ entries = table_of 15 (codes "entries") (int (codes "office") ∷ int (codes "lo
 abbrev pub receipts : Table
 receipts = table_of 17 (codes "receipts") (int (codes "office") ∷ text (codes "receipt") ∷ int (codes "loan") ∷ int (codes "seq") ∷ []) (1 ∷ 2 ∷ [])
 
+abbrev pub instalments : Table
+instalments = table_of 19 (codes "instalments") (int (codes "office") ∷ int (codes "loan") ∷ int (codes "number") ∷ text (codes "due") ∷ int (codes "owed_penalty") ∷ int (codes "paid_penalty") ∷ int (codes "waived_penalty") ∷ int (codes "written_off_penalty") ∷ int (codes "owed_fee") ∷ int (codes "paid_fee") ∷ int (codes "waived_fee") ∷ int (codes "written_off_fee") ∷ int (codes "owed_interest") ∷ int (codes "paid_interest") ∷ int (codes "waived_interest") ∷ int (codes "written_off_interest") ∷ int (codes "owed_principal") ∷ int (codes "paid_principal") ∷ int (codes "waived_principal") ∷ int (codes "written_off_principal") ∷ []) (1 ∷ 2 ∷ 3 ∷ [])
+
+abbrev pub shares : Table
+shares = table_of 21 (codes "shares") (int (codes "office") ∷ int (codes "loan") ∷ int (codes "seq") ∷ int (codes "place") ∷ int (codes "instalment") ∷ int (codes "portion") ∷ int (codes "how") ∷ int (codes "amount") ∷ []) (1 ∷ 2 ∷ 3 ∷ 4 ∷ [])
+
 abbrev pub schema : Schema
 schema = record {
-  tables = meta ∷ offices ∷ staff ∷ clients ∷ charges ∷ products ∷ loans ∷ entries ∷ receipts ∷ [];
-  indexes = index_on 0 1 (codes "sqlite_autoindex_meta_1") (1 ∷ []) ∷ index_on 2 3 (codes "sqlite_autoindex_offices_1") (3 ∷ []) ∷ index_on 2 4 (codes "sqlite_autoindex_offices_2") (1 ∷ []) ∷ index_on 5 6 (codes "sqlite_autoindex_staff_1") (1 ∷ 2 ∷ []) ∷ index_on 7 8 (codes "sqlite_autoindex_clients_1") (1 ∷ 2 ∷ []) ∷ index_on 9 10 (codes "sqlite_autoindex_charges_1") (1 ∷ []) ∷ index_on 11 12 (codes "sqlite_autoindex_products_1") (1 ∷ []) ∷ index_on 13 14 (codes "sqlite_autoindex_loans_1") (1 ∷ 2 ∷ []) ∷ index_on 15 16 (codes "sqlite_autoindex_entries_1") (1 ∷ 2 ∷ 3 ∷ []) ∷ index_on 17 18 (codes "sqlite_autoindex_receipts_1") (1 ∷ 2 ∷ []) ∷ [];
+  tables = meta ∷ offices ∷ staff ∷ clients ∷ charges ∷ products ∷ loans ∷ entries ∷ receipts ∷ instalments ∷ shares ∷ [];
+  indexes = index_on 0 1 (codes "sqlite_autoindex_meta_1") (1 ∷ []) ∷ index_on 2 3 (codes "sqlite_autoindex_offices_1") (3 ∷ []) ∷ index_on 2 4 (codes "sqlite_autoindex_offices_2") (1 ∷ []) ∷ index_on 5 6 (codes "sqlite_autoindex_staff_1") (1 ∷ 2 ∷ []) ∷ index_on 7 8 (codes "sqlite_autoindex_clients_1") (1 ∷ 2 ∷ []) ∷ index_on 9 10 (codes "sqlite_autoindex_charges_1") (1 ∷ []) ∷ index_on 11 12 (codes "sqlite_autoindex_products_1") (1 ∷ []) ∷ index_on 13 14 (codes "sqlite_autoindex_loans_1") (1 ∷ 2 ∷ []) ∷ index_on 15 16 (codes "sqlite_autoindex_entries_1") (1 ∷ 2 ∷ 3 ∷ []) ∷ index_on 17 18 (codes "sqlite_autoindex_receipts_1") (1 ∷ 2 ∷ []) ∷ index_on 19 20 (codes "sqlite_autoindex_instalments_1") (1 ∷ 2 ∷ 3 ∷ []) ∷ index_on 21 22 (codes "sqlite_autoindex_shares_1") (1 ∷ 2 ∷ 3 ∷ 4 ∷ []) ∷ [];
   views = [];
 }

@@ -8,9 +8,9 @@ use Rattle.sqlite.specs.State.{State}
 use Rattle.mf_store_tables.specs.Tables.{no_schema}
 use Rattle.mf_store_tables.specs.Writes.{Serves, Steps}
 use Rattle.mf_store_records.specs.Tables.{schema}
-use Rattle.mf_store_records.specs.Rows.{Lists, no_rows, meta_row, office_row, staff_row, client_row, charge_row, product_row, loan_row, entry_row, receipt_row, by_meta, by_office, by_staff, by_client, by_charge, by_product, by_loan, by_entry, by_receipt, put_meta, put_office, put_staff, put_client, put_charge, put_product, put_loan, put_entry, put_receipt}
+use Rattle.mf_store_records.specs.Rows.{Lists, no_rows, meta_row, office_row, staff_row, client_row, charge_row, product_row, loan_row, entry_row, receipt_row, instalment_row, share_row, by_meta, by_office, by_staff, by_client, by_charge, by_product, by_loan, by_entry, by_receipt, by_instalment, by_share, put_meta, put_office, put_staff, put_client, put_charge, put_product, put_loan, put_entry, put_receipt, put_instalment, put_share, drop_shares}
 use Rattle.mf_store_records.specs.declared.writes.StoreWrite.{StoreWrite}
-use Rattle.mf_store_records.specs.declared.writes.StoreWrite.TheVariants.{MakeTables, PutMeta, PutOffice, PutStaff, PutClient, PutCharge, AddProduct, PutProduct, AddLoan, PutLoan, AddEntry, ChangeEntry, AddReceipt}
+use Rattle.mf_store_records.specs.declared.writes.StoreWrite.TheVariants.{MakeTables, PutMeta, PutOffice, PutStaff, PutClient, PutCharge, AddProduct, PutProduct, AddLoan, PutLoan, AddEntry, ChangeEntry, AddReceipt, PutInstalment, PutShare, RemoveShares}
 
 -- the trees list the schema and obey it, and keep these lists
 pub record HoldsLists (trees : Trees) (lists : Lists) : Type 0 where
@@ -24,6 +24,8 @@ pub record HoldsLists (trees : Trees) (lists : Lists) : Type 0 where
   pub loans : Keeps loan_row by_loan (trees 13) lists.loans
   pub entries : Keeps entry_row by_entry (trees 15) lists.entries
   pub receipts : Keeps receipt_row by_receipt (trees 17) lists.receipts
+  pub instalments : Keeps instalment_row by_instalment (trees 19) lists.instalments
+  pub shares : Keeps share_row by_share (trees 21) lists.shares
 
 abbrev pub schema_of : Option Lists → Schema
 schema_of None = no_schema
@@ -51,8 +53,11 @@ after (PutLoan x) lists = changed (put_loan x) lists
 after (AddEntry x) lists = changed (put_entry x) lists
 after (ChangeEntry x) lists = changed (put_entry x) lists
 after (AddReceipt x) lists = changed (put_receipt x) lists
+after (PutInstalment x) lists = changed (put_instalment x) lists
+after (PutShare x) lists = changed (put_share x) lists
+after (RemoveShares e) lists = changed (drop_shares e) lists
 
--- tables are made where there is none, and rows are put where there are
+-- tables are made where there is none, and rows are put and removed where there are
 abbrev pub Fits : StoreWrite → Option Lists → Type 0
 Fits MakeTables lists = lists ≡ None
 Fits _ lists = IsSome lists

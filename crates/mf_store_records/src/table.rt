@@ -81,6 +81,17 @@ impl Columns for (u32, u32, u32) {
     }
 }
 
+impl Columns for (u32, u32, u32, u32) {
+    ghost use Rattle.std.specs.Prelude.{pos, [], ◌∷◌};
+    ghost use Rattle.sqlite.specs.declared.types.Value.TheVariants.{Int};
+
+    ghost values = { λ key. Int (pos key.0) ∷ Int (pos key.1) ∷ Int (pos key.2) ∷ Int (pos key.3) ∷ [] };
+
+    fn ask<S: Alter>(self, connection: &mut Connection<S>, sql: &str) -> Result<Vec<Row>, Fault> {
+        ask(connection, sql, params![self.0, self.1, self.2, self.3])
+    }
+}
+
 /// The rows of a table, each as the program holds it.
 pub trait Table: Sized {
     /// What one row is found by.

@@ -1,0 +1,149 @@
+ghost use Rattle.std.specs.Prelude.{◌≡◌, false, IsTrue, OnOk, IfOk, IfErr, map, filter};
+ghost use Rattle.mf_base.specs.declared.fault.Fault.TheVariants.{F20};
+ghost use Rattle.sqlite.specs.Held.{state};
+ghost use Rattle.sqlite.specs.State.{HasCleanDisk};
+ghost use Rattle.mf_store_records.specs.Rows.{Lists, instalment_row, put_instalment, is_instalment, is_instalment_of, is_instalment_in};
+ghost use Rattle.mf_store_records.specs.Calls.{IsUnchanged, IsKeeping};
+
+use crate::table::{Changed, Listed, Table, ask};
+use crate::text::Text;
+use mf_base::Fault;
+use mf_store_tables::run;
+use sqlite::{Alter, Connection, Error, Row, Transaction, params};
+
+/// A row of the table instalments.
+#[derive(Debug, Drop)]
+pub struct InstalmentRow {
+    pub office: u32,
+    /// The loan's number within the office.
+    pub loan: u32,
+    /// The instalment's number within the loan, from 1.
+    pub number: u32,
+    /// The day on which it is due, as YYYY-MM-DD.
+    pub due: Text,
+    /// Cents, as in all that follow: by portion what is owed, and of it what is paid, waived and written off.
+    pub owed_penalty: i64,
+    pub paid_penalty: i64,
+    pub waived_penalty: i64,
+    pub written_off_penalty: i64,
+    pub owed_fee: i64,
+    pub paid_fee: i64,
+    pub waived_fee: i64,
+    pub written_off_fee: i64,
+    pub owed_interest: i64,
+    pub paid_interest: i64,
+    pub waived_interest: i64,
+    pub written_off_interest: i64,
+    pub owed_principal: i64,
+    pub paid_principal: i64,
+    pub waived_principal: i64,
+    pub written_off_principal: i64,
+}
+
+impl Table for InstalmentRow {
+    type Key = (u32, u32, u32);
+
+    ghost stored = { instalment_row };
+
+    ghost list = { λ lists. lists.instalments };
+
+    ghost put = { put_instalment };
+
+    ghost is_at = { λ key. is_instalment key.0 key.1 key.2 };
+
+    fn read(row: &Row) -> Result<InstalmentRow, Error> {
+        Ok(InstalmentRow {
+            office: row.get(0)?,
+            loan: row.get(1)?,
+            number: row.get(2)?,
+            due: row.get(3)?,
+            owed_penalty: row.get(4)?,
+            paid_penalty: row.get(5)?,
+            waived_penalty: row.get(6)?,
+            written_off_penalty: row.get(7)?,
+            owed_fee: row.get(8)?,
+            paid_fee: row.get(9)?,
+            waived_fee: row.get(10)?,
+            written_off_fee: row.get(11)?,
+            owed_interest: row.get(12)?,
+            paid_interest: row.get(13)?,
+            waived_interest: row.get(14)?,
+            written_off_interest: row.get(15)?,
+            owed_principal: row.get(16)?,
+            paid_principal: row.get(17)?,
+            waived_principal: row.get(18)?,
+            written_off_principal: row.get(19)?,
+        })
+    }
+
+    fn execute<S: Alter>(&self, tx: &mut Transaction<'_, S>, sql: &str) -> Result<(), Error> {
+        run(
+            tx,
+            sql,
+            params![
+                self.office,
+                self.loan,
+                self.number,
+                &self.due,
+                &self.owed_penalty,
+                &self.paid_penalty,
+                &self.waived_penalty,
+                &self.written_off_penalty,
+                &self.owed_fee,
+                &self.paid_fee,
+                &self.waived_fee,
+                &self.written_off_fee,
+                &self.owed_interest,
+                &self.paid_interest,
+                &self.waived_interest,
+                &self.written_off_interest,
+                &self.owed_principal,
+                &self.paid_principal,
+                &self.waived_principal,
+                &self.written_off_principal
+            ],
+        )
+    }
+
+    fn find_text() -> &'static str {
+        "SELECT office, loan, number, due, owed_penalty, paid_penalty, waived_penalty, written_off_penalty, owed_fee, paid_fee, waived_fee, written_off_fee, owed_interest, paid_interest, waived_interest, written_off_interest, owed_principal, paid_principal, waived_principal, written_off_principal FROM instalments WHERE office = ?1 AND loan = ?2 AND number = ?3 ORDER BY office, loan, number"
+    }
+}
+
+impl Changed for InstalmentRow {
+    fn upsert<S: Alter>(&self, tx: &mut Transaction<'_, S>) -> Result<(), Error> {
+        self.execute(
+            tx,
+            "INSERT INTO instalments VALUES (?1, ?2, ?3, ?4, ?5, ?6, ?7, ?8, ?9, ?10, ?11, ?12, ?13, ?14, ?15, ?16, ?17, ?18, ?19, ?20) ON CONFLICT (office, loan, number) DO UPDATE SET due = excluded.due, owed_penalty = excluded.owed_penalty, paid_penalty = excluded.paid_penalty, waived_penalty = excluded.waived_penalty, written_off_penalty = excluded.written_off_penalty, owed_fee = excluded.owed_fee, paid_fee = excluded.paid_fee, waived_fee = excluded.waived_fee, written_off_fee = excluded.written_off_fee, owed_interest = excluded.owed_interest, paid_interest = excluded.paid_interest, waived_interest = excluded.waived_interest, written_off_interest = excluded.written_off_interest, owed_principal = excluded.owed_principal, paid_principal = excluded.paid_principal, waived_principal = excluded.waived_principal, written_off_principal = excluded.written_off_principal",
+        )
+    }
+}
+
+impl Listed for InstalmentRow {
+    type Part = (u32, u32);
+
+    ghost is_in = { λ loan. is_instalment_of loan.0 loan.1 };
+
+    fn list_text() -> &'static str {
+        "SELECT office, loan, number, due, owed_penalty, paid_penalty, waived_penalty, written_off_penalty, owed_fee, paid_fee, waived_fee, written_off_fee, owed_interest, paid_interest, waived_interest, written_off_interest, owed_principal, paid_principal, waived_principal, written_off_principal FROM instalments WHERE office = ?1 AND loan = ?2 ORDER BY office, loan, number"
+    }
+}
+
+/// The rows of an office, in the order of their loans and of their numbers.
+pub fn instalments_of_office<S: Alter>(
+    connection: &mut Connection<S>,
+    office: u32,
+) -> Result<Vec<Row>, Fault>
+    requires alone { connection.old.in_transaction ≡ false }
+    ensures kept { IsUnchanged (state S.Store connection.old) (state S.Store connection.new) }
+    ensures gives_up { IfErr result (λ fault. fault ≡ F20) }
+    ensures open { HasCleanDisk (state S.Store connection.new) → OnOk result (IsTrue (state S.Store connection.new).is_open) }
+    ensures rows { HasCleanDisk (state S.Store connection.new) → (lists : Lists) → IsKeeping (state S.Store connection.old) lists → IfOk result (λ rows. rows.items ≡ map instalment_row (filter (is_instalment_in office) lists.instalments)) }
+    ensures mode { connection.new.in_transaction ≡ false }
+{
+    ask(
+        connection,
+        "SELECT office, loan, number, due, owed_penalty, paid_penalty, waived_penalty, written_off_penalty, owed_fee, paid_fee, waived_fee, written_off_fee, owed_interest, paid_interest, waived_interest, written_off_interest, owed_principal, paid_principal, waived_principal, written_off_principal FROM instalments WHERE office = ?1 ORDER BY office, loan, number",
+        params![office],
+    )
+}

@@ -1,0 +1,120 @@
+ghost use Rattle.std.specs.Prelude.{◌≡◌, IsTrue, OnOk};
+ghost use Rattle.sqlite.specs.Held.{state};
+ghost use Rattle.sqlite.specs.State.{HasCleanDisk, KeepsCommit, Survives};
+ghost use Rattle.mf_store_records.specs.Rows.{share_row, put_share, is_share, is_share_of, drop_shares};
+ghost use Rattle.mf_store_records.specs.Writes.{Putting};
+
+use crate::table::{Changed, Listed, Table};
+use mf_store_tables::run;
+use sqlite::{Alter, Error, Row, Transaction, params};
+
+/// A row of the table shares: what an entry settles of one portion of one instalment.
+#[derive(Debug, Drop)]
+pub struct ShareRow {
+    pub office: u32,
+    /// The loan's number within the office.
+    pub loan: u32,
+    /// The entry's number within the loan.
+    pub seq: u32,
+    /// The share's place within the entry, from 1.
+    pub place: u32,
+    pub instalment: u32,
+    /// 1 penalties, 2 fees, 3 interest, 4 principal.
+    pub portion: u32,
+    /// 1 paid, 2 waived, 3 written off.
+    pub how: u32,
+    /// Cents.
+    pub amount: i64,
+}
+
+impl Table for ShareRow {
+    type Key = (u32, u32, u32, u32);
+
+    ghost stored = { share_row };
+
+    ghost list = { λ lists. lists.shares };
+
+    ghost put = { put_share };
+
+    ghost is_at = { λ key. is_share key.0 key.1 key.2 key.3 };
+
+    fn read(row: &Row) -> Result<ShareRow, Error> {
+        Ok(ShareRow {
+            office: row.get(0)?,
+            loan: row.get(1)?,
+            seq: row.get(2)?,
+            place: row.get(3)?,
+            instalment: row.get(4)?,
+            portion: row.get(5)?,
+            how: row.get(6)?,
+            amount: row.get(7)?,
+        })
+    }
+
+    fn execute<S: Alter>(&self, tx: &mut Transaction<'_, S>, sql: &str) -> Result<(), Error> {
+        run(
+            tx,
+            sql,
+            params![
+                self.office,
+                self.loan,
+                self.seq,
+                self.place,
+                self.instalment,
+                self.portion,
+                self.how,
+                &self.amount
+            ],
+        )
+    }
+
+    fn find_text() -> &'static str {
+        "SELECT office, loan, seq, place, instalment, portion, how, amount FROM shares WHERE office = ?1 AND loan = ?2 AND seq = ?3 AND place = ?4 ORDER BY office, loan, seq, place"
+    }
+}
+
+impl Changed for ShareRow {
+    fn upsert<S: Alter>(&self, tx: &mut Transaction<'_, S>) -> Result<(), Error> {
+        self.execute(
+            tx,
+            "INSERT INTO shares VALUES (?1, ?2, ?3, ?4, ?5, ?6, ?7, ?8) ON CONFLICT (office, loan, seq, place) DO UPDATE SET instalment = excluded.instalment, portion = excluded.portion, how = excluded.how, amount = excluded.amount",
+        )
+    }
+}
+
+impl Listed for ShareRow {
+    type Part = (u32, u32);
+
+    ghost is_in = { λ loan. is_share_of loan.0 loan.1 };
+
+    fn list_text() -> &'static str {
+        "SELECT office, loan, seq, place, instalment, portion, how, amount FROM shares WHERE office = ?1 AND loan = ?2 ORDER BY office, loan, seq, place"
+    }
+}
+
+/// The entry that shares belong to.
+#[derive(Debug, Drop)]
+pub struct EntryKey {
+    pub office: u32,
+    /// The loan's number within the office.
+    pub loan: u32,
+    /// The entry's number within the loan.
+    pub seq: u32,
+}
+
+impl EntryKey {
+    /// Removes all shares of the entry.
+    pub(crate) fn remove_shares<S: Alter>(&self, tx: &mut Transaction<'_, S>) -> Result<(), Error>
+        ensures same_reference { tx.new.conn.ghost_name ≡ tx.old.conn.ghost_name }
+        ensures ok { HasCleanDisk (state S.Store tx.new.conn.now) → IsTrue (state S.Store tx.old.conn.now).in_transaction
+            → OnOk result (Putting (drop_shares self.now) (state S.Store tx.old.conn.now) (state S.Store tx.new.conn.now)) }
+        ensures kept { HasCleanDisk (state S.Store tx.new.conn.now) → KeepsCommit (state S.Store tx.old.conn.now) (state S.Store tx.new.conn.now) }
+        ensures survives { Survives (state S.Store tx.old.conn.now) (state S.Store tx.new.conn.now) (λ _. ⊥) }
+    {
+        run(
+            tx,
+            "DELETE FROM shares WHERE office = ?1 AND loan = ?2 AND seq = ?3",
+            params![self.office, self.loan, self.seq],
+        )
+    }
+}
