@@ -16,7 +16,7 @@ use Rattle.mf_model.specs.declared.commit.Commit.TheVariants.{AddOffice, AddStaf
 use Rattle.mf_model.specs.Institution.{Institution, Office, Rows, office_at, with_rows, with_office, new_office}
 use Rattle.mf_model.specs.Desk.{staff_added, client_added}
 use Rattle.mf_model.specs.Sound.{IsSound}
-use Rattle.mf_model.specs.Store.{Commits, committed, rows_at}
+use Rattle.mf_model.specs.Store.{Commits, IsAdmitted, committed, rows_at}
 use Rattle.mf_model.specs.Tree.{parent_of, is_there, Above, Ascending}
 use Rattle.mf_store_records.specs.Rows.{Lists, by_office, by_staff, by_client, by_loan}
 use Rattle.mf_store_records.specs.declared.offices.OfficeRow.{OfficeRow}
@@ -25,14 +25,14 @@ use Rattle.mf_store_records.specs.declared.clients.ClientRow.{ClientRow}
 use Rattle.mf_store_records.specs.declared.loans.LoanRow.{LoanRow}
 use Rattle.mf_store_records.specs.declared.entries.EntryRow.{EntryRow}
 use Rattle.mf_store_records.specs.declared.receipts.ReceiptRow.{ReceiptRow}
-use Rattle.mf_store.specs.Flat.{tables_of, office_under, key_at, staff_in, client_in, loan_in, loans_of}
+use Rattle.mf_store.specs.Flat.{tables_of, office_under, key_at, staff_in, client_in, loan_in, loans_of, entry_in, own_entries}
 use Rattle.mf_store_records.specs.declared.writes.StoreWrite.{StoreWrite}
 use Rattle.mf_store_records.specs.declared.writes.StoreWrite.TheVariants.{PutOffice, PutStaff, PutClient}
 use Rattle.mf_store.specs.Facts.{Kept}
 use Rattle.mf_store.specs.Learning.{Tells}
 use Rattle.mf_store.specs.declared.known.News.{News}
 use Rattle.mf_store.specs.Stands.{StandsFor, IsClean, Leaves, Stays, Becomes}
-use Rattle.mf_store.proofs.EntryLemmas.{same_entries_of, no_entries_in}
+use Rattle.mf_store.proofs.LoanRowLemmas.{same_by_loan, none_in_office}
 use Rattle.mf_store.proofs.FlatLemmas.{put_row_of, same_rows_of, no_rows_of, put_first, put_past}
 use Rattle.mf_store.proofs.ReceiptRowLemmas.{same_receipts_of, no_receipts_in}
 
@@ -49,11 +49,11 @@ module _ {S : Type 0} (g : Ghosts S) (commit : Commit) where
   pub gave_up : (old new : Kept S) (fault : Fault) → Stays g old new → fault ≡ F20 → Made old new (Err fault)
   gave_up old new fault kept is = record {
     premise = kept.premise;
-    made = λ clean i s sound. tt;
-    kept = λ clean i s sound. tt;
+    made = λ clean i s admitted. tt;
+    kept = λ clean i s admitted. tt;
     same = λ clean i s. kept.same clean i s;
     gives_up = is;
-    stop = λ clean i left s sound l. more new (committed commit i) left (kept.stop clean left l);
+    stop = λ clean i left s admitted l. more new (committed commit i) left (kept.stop clean left l);
   }
 
   if_made : (r : Result (Unit {0}) Fault) (P Q : Type 0) → OnOk r P → (P → Q) → OnOk r Q
@@ -66,7 +66,7 @@ module _ {S : Type 0} (g : Ghosts S) (commit : Commit) where
 
   -- the call made its writes after look-ups
   pub made_by : (old mid new : Kept S) (writes : List StoreWrite) (news : News) (r : Result (Unit {0}) Fault) → Stays g old mid
-      → (IsClean g mid → (i : Institution) → StandsFor g old i → IsSound (committed commit i) → Becomes writes i (committed commit i) × Tells news i (committed commit i))
+      → (IsClean g mid → (i : Institution) → StandsFor g old i → IsAdmitted commit i → Becomes writes i (committed commit i) × Tells news i (committed commit i))
       → (IsClean g new → IsClean g mid) → IfErr r (λ fault. fault ≡ F20)
       → (IsClean g new → OnOk r ((i j : Institution) → StandsFor g mid i → Becomes writes i j → Tells news i j → StandsFor g new j))
       → (IsClean g new → OnOk r ((i j : Institution) → StandsFor g mid i → Becomes writes i j → Leaves g new (j ∷ [])))
@@ -75,11 +75,11 @@ module _ {S : Type 0} (g : Ghosts S) (commit : Commit) where
       → Made old new r
   made_by old mid new writes news r kept becomes premise gives_up made left same stop = record {
     premise = λ clean. kept.premise (premise clean);
-    made = λ clean i s sound. let now = premise clean in if_made r _ (StandsFor g new (committed commit i)) (made clean) (λ m. let b = becomes now i s sound in m i (committed commit i) (kept.same now i s) b.0 b.1);
-    kept = λ clean i s sound. let now = premise clean in if_made r _ (Leaves g new (committed commit i ∷ [])) (left clean) (λ m. m i (committed commit i) (kept.same now i s) (becomes now i s sound).0);
+    made = λ clean i s admitted. let now = premise clean in if_made r _ (StandsFor g new (committed commit i)) (made clean) (λ m. let b = becomes now i s admitted in m i (committed commit i) (kept.same now i s) b.0 b.1);
+    kept = λ clean i s admitted. let now = premise clean in if_made r _ (Leaves g new (committed commit i ∷ [])) (left clean) (λ m. m i (committed commit i) (kept.same now i s) (becomes now i s admitted).0);
     same = λ clean i s. if_not r _ (StandsFor g new i) (same clean) (λ m. m i (kept.same (premise clean) i s));
     gives_up = gives_up;
-    stop = λ clean i is s sound l. let now = premise clean in stop clean i (committed commit i) is (kept.same now i s) (becomes now i s sound).0 (kept.stop now is l);
+    stop = λ clean i is s admitted l. let now = premise clean in stop clean i (committed commit i) is (kept.same now i s) (becomes now i s admitted).0 (kept.stop now is l);
   }
 
 -- the rows of the offices, where the catalogue's are as they were
@@ -108,7 +108,7 @@ client_becomes x name i c before sound there is = record {
   is = ap Some (same_lists i (offices-with_rows x new i.offices) (same_rows_of staff_in (λ rows. rows.staff) refl by_staff (λ x n y m a b. refl) x new i.offices before.tree.ascending refl)
       (ap (λ r. put_item by_client r (tables_of i).clients) is ∙ put_row_of client_in (λ rows. rows.clients) refl by_client (λ x n y m a b. refl) x name new i.offices before.tree.ascending there refl)
       (same_rows_of loan_in loans_of refl by_loan (λ x n y m a b. refl) x new i.offices before.tree.ascending refl)
-      (same_entries_of x new i.offices before.tree.ascending (λ y n. refl)) (same_receipts_of x new i.offices before.tree.ascending refl));
+      (same_by_loan entry_in own_entries x new i.offices before.tree.ascending (λ y n. refl)) (same_receipts_of x new i.offices before.tree.ascending refl));
 }
   where
     new : Rows
@@ -123,7 +123,7 @@ staff_becomes x name role i s before sound there is = record {
       (ap (λ r. put_item by_staff r (tables_of i).staff) is ∙ put_row_of staff_in (λ rows. rows.staff) refl by_staff (λ x n y m a b. refl) x (record { name = name; role = role }) new i.offices before.tree.ascending there refl)
       (same_rows_of client_in (λ rows. rows.clients) refl by_client (λ x n y m a b. refl) x new i.offices before.tree.ascending refl)
       (same_rows_of loan_in loans_of refl by_loan (λ x n y m a b. refl) x new i.offices before.tree.ascending refl)
-      (same_entries_of x new i.offices before.tree.ascending (λ y n. refl)) (same_receipts_of x new i.offices before.tree.ascending refl));
+      (same_by_loan entry_in own_entries x new i.offices before.tree.ascending (λ y n. refl)) (same_receipts_of x new i.offices before.tree.ascending refl));
 }
   where
     new : Rows
@@ -235,7 +235,7 @@ office_becomes x parent name key i o before sound trees free there key_is is = r
   sound = sound;
   fits = (refl, tt);
   is = ap Some (same_lists i (ap (λ r. put_item by_office r (map (office_under ps) fs)) (is ∙ row_is) ∙ ap (put_item by_office (office_under qs new)) (under_alike ps qs fs (all_there fs fs (λ f. key_of qs f.number ≡ key_of ps f.number) before.tree.ascending (λ f here. kept_key f.number here)))
-      ∙ office_put qs new fs before.tree.ascending free) (no_rows_of staff_in (λ rows. rows.staff) refl by_staff (λ x n y m a b. refl) new fs refl) (no_rows_of client_in (λ rows. rows.clients) refl by_client (λ x n y m a b. refl) new fs refl) (no_rows_of loan_in loans_of refl by_loan (λ x n y m a b. refl) new fs refl) (no_entries_in new fs refl) (no_receipts_in new fs refl));
+      ∙ office_put qs new fs before.tree.ascending free) (no_rows_of staff_in (λ rows. rows.staff) refl by_staff (λ x n y m a b. refl) new fs refl) (no_rows_of client_in (λ rows. rows.clients) refl by_client (λ x n y m a b. refl) new fs refl) (no_rows_of loan_in loans_of refl by_loan (λ x n y m a b. refl) new fs refl) (none_in_office entry_in own_entries new fs refl) (no_receipts_in new fs refl));
 }
   where
     fs : List Office

@@ -1,7 +1,15 @@
 -- What soundness says of entries: who entered them, and their numbers.
-use Rattle.std.proofs.Common.{◌≡◌, ◌+◌, ℕ, zero, suc, Bool, true, List, [], ◌∷◌, ◌++◌, map, filter, length, slice_get, Option, None, Some, refl, sym, ap, ◌∙◌, subst, arith, true≢false}
+use Rattle.std.proofs.Common.{◌≡◌, ◌≤◌, ◌+◌, ◌-◌, ◌&&◌, ℕ, zero, suc, Bool, true, false, cond, List, [], ◌∷◌, ◌++◌, map, filter, length, slice_get, Option, None, Some, refl, sym, ap, ◌∙◌, subst, arith, true≢false}
+use Rattle.std.specs.Prelude.{not}
+use Rattle.std.proofs.lemmas.Bool.Decides.{nat_tests}
+use Rattle.mf_base.specs.declared.fault.Fault.TheVariants.{F11, F12, F13}
+use Rattle.mf_account.specs.Loan.{Loan as Running}
+use Rattle.mf_account.specs.Refusals.{is_there as is_numbered, is_sealed, reversal_refused}
+use Rattle.mf_account.specs.Kinds.{is_seal}
+use Rattle.mf_account.specs.Standing.{entry_at}
+use Rattle.mf_model.specs.Accounts.{account_in}
 use Rattle.std.specs.List.{AllByRecursion}
-use Rattle.std.specs.Option.{is_some, option_map}
+use Rattle.std.specs.Option.{is_some}
 use Rattle.mf_account.specs.declared.entry.Entry.{Entry}
 use Rattle.mf_account.specs.Change.{Account as Replayed}
 use Rattle.mf_office.specs.Numbers.{IsNumberUpTo}
@@ -14,17 +22,15 @@ use Rattle.mf_model.specs.Loans.{with_entries, loan_entered}
 use Rattle.mf_model.specs.Receipts.{uses_from, AreApart}
 use Rattle.mf_model.specs.Sound.{IsSound, IsSoundLoan, IsSoundOffice, IsSoundRows, IsEntryBy, AreEntriesBy, is_staff}
 use Rattle.mf_model.specs.Stages.{disbursed_on}
-use Rattle.mf_model.specs.Store.{committed, rows_of, rows_at}
+use Rattle.mf_model.proofs.AccountLemmas.{account_is}
+use Rattle.mf_model.specs.Store.{committed, rows_of, rows_at, ledger_at, account_of}
 use Rattle.mf_model.specs.Tree.{is_there}
 use Rattle.mf_model.proofs.Growing.{all_map, all_at}
 use Rattle.mf_model.proofs.SoundLemmas.{found_sound}
-use Rattle.mf_model.specs.declared.loan.Loan.{Loan}
 use Rattle.mf_store_records.specs.Rows.{entry_row, is_entry_of}
-use Rattle.mf_store_records.specs.declared.loans.LoanRow.{LoanRow}
-use Rattle.mf_store.specs.Flat.{tables_of, entries_of, loans_of, loan_in, entry_in, loan_row_at}
+use Rattle.mf_store.specs.Flat.{tables_of, entries_of, entry_in}
 use Rattle.mf_store.proofs.CommitLemmas.{number_at}
 use Rattle.mf_store.proofs.EntryLemmas.{AreEarlier, AreNumbered, later_numbered, entries_shown}
-use Rattle.mf_store.proofs.LoanLemmas.{loan_of, numbered_loan}
 use Rattle.mf_store.proofs.FlatLemmas.{numbered-suc, with_numbered_later}
 use Rattle.mf_store.proofs.LookLemmas.{has_number, office_sound}
 use Rattle.mf_store.proofs.NewsLemmas.{own_rows}
@@ -162,19 +168,26 @@ map_map g f (x ∷ xs) = ap (λ l. g (f x) ∷ l) (map_map g f xs)
 pub loan_entries_shown : (x n : ℕ) (i : Institution) → IsSound i → map entry_row (filter (is_entry_of x n) (tables_of i).entries) ≡ map (λ (e : Entry). entry_row (entry_in x n e)) (entries_of (numbered (rows_at x i).loans n))
 loan_entries_shown x n i sound = ap (map entry_row) (entries_shown x n i.offices sound.tree.ascending) ∙ map_map entry_row (entry_in x n) (entries_of (numbered (rows_at x i).loans n))
 
--- a loan's row is found where the loan is there
-pub loan_there : (x n : ℕ) (i : Institution) (found : Option LoanRow) → found ≡ loan_row_at x n i → is_some found ≡ is_some (numbered (rows_at x i).loans n)
-loan_there x n i found is = ap is_some is ∙ go (numbered (loans_of (rows_at x i)) n) ∙ ap is_some (numbered_loan (rows_at x i).loans n) ∙ back (numbered (rows_at x i).loans n)
+-- ---- accounts that are handed on
+
+-- the loan whose account this is, and its entries
+pub record IsAccountOf (loan : Account) (a : Running) (i : Institution) : Type 0 where
+  pub ledger : Ledger
+  pub there : ledger_at loan i ≡ Some ledger
+  pub account : account_in i.catalogue ledger ≡ Some a
+  pub entries : a.entries ≡ ledger.entries
+
+pub account_of_loan : (loan : Account) (a : Running) (i : Institution) → account_of i.catalogue (ledger_at loan i) ≡ Some a → IsAccountOf loan a i
+account_of_loan loan a i h = go (ledger_at loan i) refl h
   where
-    go : (o : Option Loan) → is_some (option_map (loan_in x n) o) ≡ is_some o
-    go None = refl
-    go (Some l) = refl
+    go : (o : Option Ledger) → ledger_at loan i ≡ o → account_of i.catalogue o ≡ Some a → IsAccountOf loan a i
+    go None e h = absurd (let never : None ≡ Some a = h in cc)
+    go (Some l) e h = record { ledger = l; there = e; account = h; entries = sym (ap (λ (r : Running). r.entries) (account_is i.catalogue l a h).account_is) }
 
-    back : (o : Option Ledger) → is_some (option_map loan_of o) ≡ is_some o
-    back None = refl
-    back (Some l) = refl
-
--- the entries of a loan that is there
-pub entries_found : (found : Option Ledger) (entries : List Entry) → is_some found ≡ true → entries ≡ entries_of found → (l : Ledger) × (found ≡ Some l) × (entries ≡ l.entries)
-entries_found None entries there is = absurd (true≢false (sym there))
-entries_found (Some l) entries there is = (l, refl, is)
+-- an entry that may be reversed is there
+pub reversal_there : (es : List Entry) (seq : ℕ) → reversal_refused es seq ≡ None → (1 ≤ seq) × (seq ≤ length es)
+reversal_there es seq h = go (is_numbered (length es) seq) refl h
+  where
+    go : (b : Bool) → is_numbered (length es) seq ≡ b → cond (not b) (Some F12) (cond (entry_at es (seq - 1)).reversed (Some F13) (cond (is_sealed es && not (is_seal (entry_at es (seq - 1)).kind)) (Some F11) None)) ≡ None → (1 ≤ seq) × (seq ≤ length es)
+    go false e h = absurd (let never : Some F12 ≡ None = h in cc)
+    go true e h = grind (arith, nat_tests)

@@ -38,6 +38,8 @@ begins writes day m o s is one schema text number parent key head office staff m
     loans = [];
     entries = [];
     receipts = [];
+    instalments = [];
+    shares = [];
   });
 })
 

@@ -1,4 +1,10 @@
 pub mod FlatLemmas
+pub mod LoanRowLemmas
+pub mod PutAllLemmas
+pub mod PushLemmas
+pub mod InstalmentRowLemmas
+pub mod ShareRowLemmas
+pub mod AccountRowLemmas
 pub mod EntryLemmas
 pub mod SortedLemmas
 pub mod ReceiptRowLemmas
@@ -16,3 +22,4 @@ pub mod ArrearsLemmas
 pub mod CatalogueLemmas
 pub mod LoanLemmas
 pub mod OneInstitution
+pub mod ChangedRowLemmas

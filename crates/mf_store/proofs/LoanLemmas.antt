@@ -11,7 +11,7 @@ use Rattle.sqlite_keyed.proofs.ListLemmas.{filter-filter}
 use Rattle.mf_account.specs.declared.entry.Entry.{Entry}
 use Rattle.mf_account.specs.Change.{Account as Replayed, no_change}
 use Rattle.mf_account.specs.Loan.{Loan as Running, status_of_loan}
-use Rattle.mf_account.specs.Standing.{entry_at}
+use Rattle.mf_account.specs.Standing.{entry_at, with_mark}
 use Rattle.mf_catalog.specs.declared.terms.Terms.{Terms}
 use Rattle.mf_base.specs.DayText.{day_text}
 use Rattle.mf_office.specs.declared.account.Account.{Account}
@@ -36,13 +36,14 @@ use Rattle.mf_store_records.specs.Rows.{Lists, by_staff, by_client, by_loan, by_
 use Rattle.mf_store_records.specs.declared.loans.LoanRow.{LoanRow}
 use Rattle.mf_store_records.specs.declared.entries.EntryRow.{EntryRow}
 use Rattle.mf_store_records.specs.declared.receipts.ReceiptRow.{ReceiptRow}
-use Rattle.mf_store.specs.Flat.{tables_of, numbered_from, staff_in, client_in, loan_in, loans_of, entry_in, line_in, approval_text, disbursal_text, entries_of, reversed_entry, IsReversal}
+use Rattle.mf_store.specs.Flat.{tables_of, numbered_from, staff_in, client_in, loan_in, loans_of, entry_in, line_in, approval_text, disbursal_text, entries_of, own_entries, reversed_entry}
 use Rattle.mf_store_records.specs.declared.writes.StoreWrite.TheVariants as write
 use Rattle.mf_store.specs.ReceiptRows.{receipt_rows, receipt_added, entry_added}
 use Rattle.mf_store.specs.Stands.{Becomes}
 use Rattle.mf_store.proofs.CatalogueLemmas.{amount_is}
 use Rattle.mf_store.proofs.CommitLemmas.{same_lists, offices-with_rows}
-use Rattle.mf_store.proofs.EntryLemmas.{AreEarlier, AreNumbered, PutsEntry, puts_last, puts_reversed, entry_put, same_entries_of, none_more, stage_alone}
+use Rattle.mf_store.proofs.EntryLemmas.{AreEarlier, AreNumbered, PutsEntry, puts_last, puts_reversed, entry_put}
+use Rattle.mf_store.proofs.LoanRowLemmas.{same_by_loan, one_more_loan, change_alone}
 use Rattle.mf_store.proofs.FlatLemmas.{put_row_of, put_over_of, same_rows_of, numbered-suc}
 use Rattle.mf_store.proofs.OfficeRowsLemmas.{rows_in_office, take_whole}
 use Rattle.mf_store.proofs.ReceiptRowLemmas.{same_receipts_of, no_receipt_put, receipt_put}
@@ -139,7 +140,7 @@ loan_becomes x l i r before sound there is = record {
       (same_rows_of client_in (λ rows. rows.clients) refl by_client (λ x n y m a b. refl) x new i.offices before.tree.ascending refl)
       (ap (λ r. put_item by_loan r (tables_of i).loans) (is ∙ ap (λ n. loan_in x (n + 1) l) (sym (length-map loans loan_of)))
       ∙ put_row_of loan_in loans_of refl by_loan (λ x n y m a b. refl) x l new i.offices before.tree.ascending there (map-append loan_of loans (record { loan = l; entries = [] } ∷ [])))
-      (same_entries_of x new i.offices before.tree.ascending (none_more l loans)) (same_receipts_of x new i.offices before.tree.ascending (uses_push 1 l loans)));
+      (same_by_loan entry_in own_entries x new i.offices before.tree.ascending (one_more_loan entry_in own_entries (record { loan = l; entries = [] }) loans refl)) (same_receipts_of x new i.offices before.tree.ascending (uses_push 1 l loans)));
 }
   where
     loans : List Ledger
@@ -157,7 +158,7 @@ staged_becomes account stage l i r before sound there is = record {
       (same_rows_of client_in (λ rows. rows.clients) refl by_client (λ x n y m a b. refl) x new i.offices before.tree.ascending refl)
       (ap (λ r. put_item by_loan r (tables_of i).loans) is
       ∙ put_over_of loan_in loans_of refl by_loan (λ x n y m a b. refl) (λ l. record l { stage = stage }) l x account.number new i.offices before.tree.ascending there (loans_staged account.number stage (rows_at x i).loans))
-      (same_entries_of x new i.offices before.tree.ascending (stage_alone account.number stage (rows_at x i).loans)) (same_receipts_of x new i.offices before.tree.ascending (uses_with account.number 1 (staged stage) (rows_at x i).loans (λ l k. refl))));
+      (same_by_loan entry_in own_entries x new i.offices before.tree.ascending (change_alone entry_in own_entries account.number (staged stage) (rows_at x i).loans (λ k. refl))) (same_receipts_of x new i.offices before.tree.ascending (uses_with account.number 1 (staged stage) (rows_at x i).loans (λ l k. refl))));
 }
   where
     x : ℕ
@@ -199,7 +200,7 @@ module _ (loan : Account) (account : Replayed) (e : Entry) (l : Ledger) (i : Ins
   entry_becomes r is = subst (λ s. Becomes (entry_added s) i (committed (Enter loan account) i)) (sym is) (row_becomes e.receipt refl)
 
 -- what a reversal makes of the rows of its office: one entry's own
-module _ (loan : Account) (seq : ℕ) (account : Replayed) (l : Ledger) (i : Institution) (before : IsSound i) (sound : IsSound (committed (Reverse loan seq account) i)) (there : numbered (rows_at loan.office i).loans loan.number ≡ Some l) (numbers : AreNumbered 0 l.entries) (reversal : IsReversal seq l.entries account.loan.entries) where
+module _ (loan : Account) (seq : ℕ) (account : Replayed) (l : Ledger) (i : Institution) (before : IsSound i) (sound : IsSound (committed (Reverse loan seq account) i)) (there : numbered (rows_at loan.office i).loans loan.number ≡ Some l) (numbers : AreNumbered 0 l.entries) (first : 1 ≤ seq) (last : seq ≤ length l.entries) (marked : account.loan.entries ≡ with_mark l.entries (seq - 1) true) where
   abbrev reversed_rows : Rows
   reversed_rows = loan_entered loan.number account.loan.entries (rows_at loan.office i)
 
@@ -208,15 +209,13 @@ module _ (loan : Account) (seq : ℕ) (account : Replayed) (l : Ledger) (i : Ins
 
   puts : PutsEntry loan.office loan.number entry l.entries account.loan.entries
   puts =
-      let first = reversal.first in
-      let last = reversal.last in
-      subst (PutsEntry loan.office loan.number entry l.entries) (sym reversal.marked) (puts_reversed loan.office loan.number 0 (seq - 1) l.entries numbers (omega (arith, first, last)))
+      subst (PutsEntry loan.office loan.number entry l.entries) (sym marked) (puts_reversed loan.office loan.number 0 (seq - 1) l.entries numbers (omega (arith, first, last)))
 
   -- the receipts are as they were
   same_uses : uses_from 1 reversed_rows.loans ≡ uses_from 1 (rows_at loan.office i).loans
   same_uses =
       let ls = (rows_at loan.office i).loans in
-      ap (uses_from 1) (with_same_at loan.number (with_entries account.loan.entries) (reversed seq) ls l there (ap (λ es. with_entries es l) reversal.marked)) ∙ uses_with loan.number 1 (reversed seq) ls (λ l k. uses_marked k (seq - 1) l.entries)
+      ap (uses_from 1) (with_same_at loan.number (with_entries account.loan.entries) (reversed seq) ls l there (ap (λ es. with_entries es l) marked)) ∙ uses_with loan.number 1 (reversed seq) ls (λ l k. uses_marked k (seq - 1) l.entries)
 
   pub reversal_becomes : (r : EntryRow) → r ≡ entry_in loan.office loan.number entry → Becomes (write.ChangeEntry r ∷ []) i (committed (Reverse loan seq account) i)
   reversal_becomes r is = record {

@@ -40,9 +40,9 @@ use Rattle.mf_store_records.specs.declared.charges.ChargeRow.{ChargeRow}
 use Rattle.mf_store_records.specs.declared.products.ProductRow.{ProductRow}
 use Rattle.mf_store_records.specs.declared.loans.LoanRow.{LoanRow}
 use Rattle.mf_store_records.specs.declared.entries.EntryRow.{EntryRow}
-use Rattle.mf_store.specs.Flat.{flag_number, entry_kind_number, portion_number, office_under, meta_on, staff_in, client_in, charge_as, product_as, loan_in, loans_of, entry_in, numbered_from, all_rows, rows_of_loans, entry_rows, tables_of}
+use Rattle.mf_store.specs.Flat.{flag_number, entry_kind_number, portion_number, office_under, meta_on, staff_in, client_in, charge_as, product_as, loan_in, loans_of, entry_in, own_entries, numbered_from, all_rows, rows_of_loans, entry_rows, tables_of}
 use Rattle.mf_store.proofs.EnteredLemmas.{HaveCallers, AreCalled, all_called}
-use Rattle.mf_store.proofs.EntryLemmas.{all_map, all_loans, all_offices}
+use Rattle.mf_store.proofs.LoanRowLemmas.{all_map, all_loans, all_offices}
 use Rattle.mf_store.proofs.LoanLemmas.{loan_of, stage_is}
 use Rattle.mf_store_records.specs.Rows.{Lists}
 
@@ -362,7 +362,7 @@ module _ (apart : (d e : ℕ) → day_text d ≡ day_text e → d ≡ e) where
       let rest : map (entry_in x n) ds ≡ map (entry_in x n) bs = cc in
       λ t. entry_same x n a b p.0 q.0 first t ∷ entries_same x n ds bs p.1 q.1 rest t
 
-  ledgers_same : (x n : ℕ) (ls ks : List Ledger) → AreCalled ls → AreCalled ks → map loan_of ls ≡ map loan_of ks → rows_of_loans x n ls ≡ rows_of_loans x n ks → ls ≡ ks
+  ledgers_same : (x n : ℕ) (ls ks : List Ledger) → AreCalled ls → AreCalled ks → map loan_of ls ≡ map loan_of ks → rows_of_loans entry_in own_entries x n ls ≡ rows_of_loans entry_in own_entries x n ks → ls ≡ ks
   ledgers_same x n [] [] p q h e = refl
   ledgers_same x n [] (k ∷ ks) p q h e = absurd (cc)
   ledgers_same x n (l ∷ ls) [] p q h e = absurd (cc)
@@ -371,8 +371,8 @@ module _ (apart : (d e : ℕ) → day_text d ≡ day_text e → d ≡ e) where
       let loan : l.loan ≡ k.loan = cc in
       let loans : map loan_of ls ≡ map loan_of ks = cc in
       let own = λ (es : List Entry). all_map (λ r. of_loan n r ≡ true) (entry_in x n) es (λ a. at_self n) in
-      let others = λ (js : List Ledger). all_loans (λ r. of_loan n r ≡ false) x (n + 1) js (λ m a low. above_self n m (omega (arith, low))) in
-      let parts = split_same (of_loan n) (map (entry_in x n) l.entries) (rows_of_loans x (n + 1) ls) (map (entry_in x n) k.entries) (rows_of_loans x (n + 1) ks) (own l.entries) (others ls) (own k.entries) (others ks) e in
+      let others = λ (js : List Ledger). all_loans entry_in own_entries (λ r. of_loan n r ≡ false) x (n + 1) js (λ m a low. above_self n m (omega (arith, low))) in
+      let parts = split_same (of_loan n) (map (entry_in x n) l.entries) (rows_of_loans entry_in own_entries x (n + 1) ls) (map (entry_in x n) k.entries) (rows_of_loans entry_in own_entries x (n + 1) ks) (own l.entries) (others ls) (own k.entries) (others ks) e in
       let entries = entries_same x n l.entries k.entries p.0 q.0 parts.0 in
       let more = ledgers_same x (n + 1) ls ks p.1 q.1 loans parts.1 in
       λ t. record { loan = loan t; entries = entries t } ∷ more t
@@ -389,11 +389,11 @@ module _ (apart : (d e : ℕ) → day_text d ≡ day_text e → d ≡ e) where
       let loans : loans_of f.rows ≡ loans_of g.rows = cc in
       let more_loans : map (λ (f : Office). loans_of f.rows) fs ≡ map (λ (f : Office). loans_of f.rows) gs = cc in
       let x = f.number in
-      let rows : rows_of_loans x 1 f.rows.loans ++ entry_rows fs ≡ rows_of_loans x 1 g.rows.loans ++ entry_rows gs = e ∙ (λ t. rows_of_loans (sym number t) 1 g.rows.loans ++ entry_rows gs) in
-      let own = λ (js : List Ledger). all_loans (λ r. of_office x r ≡ true) x 1 js (λ m a low. at_self x) in
-      let parts = split_same (of_office x) (rows_of_loans x 1 f.rows.loans) (entry_rows fs) (rows_of_loans x 1 g.rows.loans) (entry_rows gs)
-      (own f.rows.loans) (all_offices (λ r. of_office x r ≡ false) x fs up.0 (λ y m a low. above_self x y low))
-      (own g.rows.loans) (all_offices (λ r. of_office x r ≡ false) x gs (subst (λ n. Above n gs) (sym number) vp.0) (λ y m a low. above_self x y low)) rows in
+      let rows : rows_of_loans entry_in own_entries x 1 f.rows.loans ++ entry_rows fs ≡ rows_of_loans entry_in own_entries x 1 g.rows.loans ++ entry_rows gs = e ∙ (λ t. rows_of_loans entry_in own_entries (sym number t) 1 g.rows.loans ++ entry_rows gs) in
+      let own = λ (js : List Ledger). all_loans entry_in own_entries (λ r. of_office x r ≡ true) x 1 js (λ m a low. at_self x) in
+      let parts = split_same (of_office x) (rows_of_loans entry_in own_entries x 1 f.rows.loans) (entry_rows fs) (rows_of_loans entry_in own_entries x 1 g.rows.loans) (entry_rows gs)
+      (own f.rows.loans) (all_offices entry_in own_entries (λ r. of_office x r ≡ false) x fs up.0 (λ y m a low. above_self x y low))
+      (own g.rows.loans) (all_offices entry_in own_entries (λ r. of_office x r ≡ false) x gs (subst (λ n. Above n gs) (sym number) vp.0) (λ y m a low. above_self x y low)) rows in
       let first = ledgers_same x 1 f.rows.loans g.rows.loans p.0 q.0 loans parts.0 in
       let others = all_ledgers_same fs gs heads up.1 vp.1 p.1 q.1 more_loans parts.1 in
       λ t. first t ∷ others t

@@ -5,3 +5,4 @@ pub mod Facts
 pub mod Learning
 pub mod Stands
 pub mod Arrears
+pub mod ChangeWrites

@@ -1,9 +1,8 @@
 //! The accounts of loans: each is replayed from the loan's row, its product's terms and its entries.
 
-ghost use Rattle.std.specs.Prelude.{◌≡◌, ◌-◌, ℕ, List, [], ◌∷◌, ◌++◌, map, is_some, Some, OnOk, IfOk, IfErr};
+ghost use Rattle.std.specs.Prelude.{◌≡◌, ◌≤◌, ◌-◌, ℕ, List, length, map, Some, OnOk, IfOk, IfErr};
 ghost use Rattle.std.specs.List.{AllByRecursion};
 ghost use Rattle.mf_base.specs.declared.fault.Fault.TheVariants.{F20};
-ghost use Rattle.mf_account.specs.declared.entry.Entry.{Entry as ModelEntry};
 ghost use Rattle.mf_account.specs.Standing.{entry_at};
 ghost use Rattle.mf_catalog.specs.Product.{charge_of};
 ghost use Rattle.mf_model.specs.Accounts.{terms_in, status_in};
@@ -11,10 +10,10 @@ ghost use Rattle.mf_model.specs.Institution.{Institution, Ledger as ModelLedger,
 ghost use Rattle.mf_model.specs.Stages.{disbursed_on};
 ghost use Rattle.mf_model.specs.Store.{Commits, loan_at, ledger_at, account_at, loans_at};
 ghost use Rattle.mf_model.specs.declared.commit.Commit.TheVariants.{Enter, Reverse};
-ghost use Rattle.mf_store.specs.Flat.{loan_in, line_in, entry_in, entries_of, reversed_entry, IsNextRow, IsReversal, IsReversedRow};
+ghost use Rattle.mf_store.specs.Flat.{loan_in, line_in, entry_in, entries_of};
 ghost use Rattle.mf_store_records.specs.Rows.{loan_row as loan_stored};
 
-use crate::entries::{entries_from, entry_row, one_more, one_reversed};
+use crate::entries::{entries_from, entry_row};
 use crate::known::News;
 use crate::loans::{account_number, loan_from};
 use crate::receipts::writes_of;
@@ -40,55 +39,27 @@ fn disbursal_day(loan: &Loan) -> Option<Day>
     }
 }
 
-/// The row of the last entry of a loan's account, where all before it are these; else F20.
-fn last_row(
-    alloc: Global,
-    office: u32,
-    loan: u32,
-    account: &LoanAccount,
-    before: &[Entry],
-) -> Result<EntryRow, Fault>
-    ensures row { IfOk result (λ row. (last : ModelEntry) × (account.now.loan.entries ≡ before.now ++ last ∷ []) × (row ≡ entry_in office loan last)) }
-    ensures gives_up { IfErr result (λ fault. fault ≡ F20) }
-{
-    let Some(last) = one_more(account.entries(), before) else {
-        return Err(Fault::F20);
-    };
-    entry_row(alloc, office, loan, last)
-}
-
-/// The row of an entry that is reversed in a loan's account, where it stood among these and all others are the same; else
-/// F20.
-fn row_of_reversal(
+/// The row of an entry of a loan's account, by its number; F20 where there is none.
+fn row_of_entry(
     alloc: Global,
     loan: Account,
     seq: u32,
     account: &LoanAccount,
-    before: &[Entry],
 ) -> Result<EntryRow, Fault>
-    ensures reversal { OnOk result (IsReversal seq before.now account.now.loan.entries) }
-    ensures row { IfOk result (λ row. row ≡ entry_in loan.office loan.number (reversed_entry (entry_at before.now (seq - 1)))) }
+    ensures there { OnOk result ((1 ≤ seq) × (seq ≤ length account.now.loan.entries)) }
+    ensures row { IfOk result (λ row. row ≡ entry_in loan.office loan.number (entry_at account.now.loan.entries (seq - 1))) }
     ensures gives_up { IfErr result (λ fault. fault ≡ F20) }
 {
-    let Some(entry) = one_reversed(account.entries(), before, seq) else {
+    let entries = account.entries();
+    if seq == 0 || entries.len() < seq as usize {
         return Err(Fault::F20);
-    };
+    }
+    let entry = &entries[seq as usize - 1];
     entry_row(alloc, loan.office.get(), loan.number.get(), entry)
 }
 
 impl<S: Alter> Store<S> {
     ghost use Rattle.mf_store.specs.Stands.{StandsFor, IsClean, Leaves, Stays, IsOpen, FaultsAloneShut};
-
-    /// Whether a loan is there.
-    fn has_loan(&mut self, loan: Account) -> Result<bool, Fault>
-        ensures kept { Stays S.Store self.old self.new }
-        ensures gives_up { IfErr result (λ fault. fault ≡ F20) }
-        ensures open { IsClean S.Store self.new → OnOk result (IsOpen S.Store self.new) }
-        ensures value { IsClean S.Store self.new → (i : Institution) → StandsFor S.Store self.old i → IfOk result (λ there. there ≡ is_some (ledger_at loan i)) }
-    {
-        let found = self.find_loan(loan.office.get(), loan.number.get())?;
-        Ok(found.is_some())
-    }
 
     /// The entries of a loan, by number; none where it isn't there.
     pub(crate) fn entries_at(&mut self, alloc: Global, loan: Account) -> Result<Vec<Entry>, Fault>
@@ -99,21 +70,6 @@ impl<S: Alter> Store<S> {
     {
         let rows = self.list::<EntryRow>((loan.office.get(), loan.number.get()))?;
         entries_from(alloc, &rows)
-    }
-
-    /// The entries of a loan that is there, by number; else F20.
-    fn entries_there(&mut self, alloc: Global, loan: Account) -> Result<Vec<Entry>, Fault>
-        ensures kept { Stays S.Store self.old self.new }
-        ensures gives_up { IfErr result (λ fault. fault ≡ F20) }
-        ensures open { IsClean S.Store self.new → OnOk result (IsOpen S.Store self.new) }
-        ensures value { IsClean S.Store self.new → (i : Institution) → StandsFor S.Store self.old i → IfOk result (λ list. (l : ModelLedger) × (ledger_at loan i ≡ Some l) × (list.items ≡ l.entries)) }
-    {
-        let Account { office, number } = loan;
-        let there = self.has_loan(Account { office, number })?;
-        if !there {
-            return Err(Fault::F20);
-        }
-        self.entries_at(alloc, Account { office, number })
     }
 
     /// The charge that a product names, if it names one.
@@ -273,57 +229,19 @@ impl<S: Alter> Store<S> {
         self.lines_of(alloc, &rows)
     }
 
-    /// The row of the last entry of a loan's account, where the loan is there and has all the others and no more; else
-    /// F20.
-    fn next_row(
-        &mut self,
-        alloc: Global,
-        loan: Account,
-        account: &LoanAccount,
-    ) -> Result<EntryRow, Fault>
-        ensures kept { Stays S.Store self.old self.new }
-        ensures gives_up { IfErr result (λ fault. fault ≡ F20) }
-        ensures open { IsClean S.Store self.new → OnOk result (IsOpen S.Store self.new) }
-        ensures value { IsClean S.Store self.new → (i : Institution) → StandsFor S.Store self.old i → IfOk result (λ row. IsNextRow loan account.now.loan.entries (ledger_at loan i) row) }
-    {
-        let Account { office, number } = loan;
-        let before = self.entries_there(alloc, Account { office, number })?;
-        last_row(alloc, office.get(), number.get(), account, &before)
-    }
-
-    /// The row of an entry that is reversed in a loan's account, where it stands in the loan and all others are the same;
-    /// else F20.
-    fn reversed_row(
-        &mut self,
-        alloc: Global,
-        loan: Account,
-        seq: u32,
-        account: &LoanAccount,
-    ) -> Result<EntryRow, Fault>
-        ensures kept { Stays S.Store self.old self.new }
-        ensures gives_up { IfErr result (λ fault. fault ≡ F20) }
-        ensures open { IsClean S.Store self.new → OnOk result (IsOpen S.Store self.new) }
-        ensures value { IsClean S.Store self.new → (i : Institution) → StandsFor S.Store self.old i → IfOk result (λ row. IsReversedRow loan seq account.now.loan.entries (ledger_at loan i) row) }
-    {
-        let Account { office, number } = loan;
-        let before = self.entries_there(alloc, Account { office, number })?;
-        row_of_reversal(alloc, Account { office, number }, seq, account, &before)
-    }
-
-    /// Adds the last entry of a loan's account to a loan that has all the others and no more; where it hasn't, the call
-    /// gives up.
+    /// Adds the last entry of a loan's account to the loan, which has all the others and no more.
     pub fn enter(&mut self, alloc: Global, loan: Account, account: LoanAccount) -> Result<(), Fault>
         ensures commits { Commits (StandsFor S.Store) (IsClean S.Store) (Leaves S.Store) (Enter loan account) self.old self.new result }
         ensures shuts { FaultsAloneShut S.Store self.old self.new }
         ensures open { IsClean S.Store self.new → OnOk result (IsOpen S.Store self.new) }
     {
-        let row = self.next_row(alloc, loan, &account)?;
+        let row = row_of_entry(alloc, loan, account.entry_count(), &account)?;
         let writes = writes_of(alloc, row)?;
         self.make(&writes, News::Nothing)
     }
 
-    /// Writes an entry of a loan that is reversed in the loan's account. It stands in the loan, and all others are the same
-    /// in both; where that isn't so, the call gives up. The row of its receipt stays as it is.
+    /// Writes an entry of a loan that is reversed in the loan's account. All others are the same in both. The row of its
+    /// receipt stays as it is.
     pub fn reverse(
         &mut self,
         alloc: Global,
@@ -335,7 +253,7 @@ impl<S: Alter> Store<S> {
         ensures shuts { FaultsAloneShut S.Store self.old self.new }
         ensures open { IsClean S.Store self.new → OnOk result (IsOpen S.Store self.new) }
     {
-        let row = self.reversed_row(alloc, loan, seq, &account)?;
+        let row = row_of_entry(alloc, loan, seq, &account)?;
         self.make(&[StoreWrite::ChangeEntry(row)], News::Nothing)
     }
 }

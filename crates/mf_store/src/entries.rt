@@ -1,15 +1,14 @@
 //! What a loan's rows of entries stand for, and the row that an entry is kept by.
 
-ghost use Rattle.std.specs.Prelude.{◌≡◌, ◌-◌, ℕ, List, [], ◌∷◌, ◌++◌, map, take, length, false, IfOk, IfErr, IfSome, IsTrue};
+ghost use Rattle.std.specs.Prelude.{◌≡◌, ℕ, List, map, IfOk, IfErr};
 ghost use Rattle.std.specs.List.{AllByRecursion};
 ghost use Rattle.mf_base.specs.declared.fault.Fault.TheVariants.{F20};
 ghost use Rattle.mf_office.specs.Texts.{IsCaller};
 ghost use Rattle.mf_office.specs.Written.{caller_text};
 ghost use Rattle.mf_office.specs.declared.caller.Caller.{Caller as ModelCaller};
 ghost use Rattle.mf_account.specs.declared.entry.Entry.{Entry as ModelEntry};
-ghost use Rattle.mf_account.specs.Standing.{entry_at};
 ghost use Rattle.mf_store_records.specs.Rows.{entry_row as entry_stored};
-ghost use Rattle.mf_store.specs.Flat.{entry_in, entry_kind_number, portion_number, flag_number, reversed_entry, IsReversal};
+ghost use Rattle.mf_store.specs.Flat.{entry_in, entry_kind_number, portion_number, flag_number};
 
 use crate::loans::{day_from, text_of_day};
 use crate::stored::{flag_from, signed, unsigned};
@@ -52,7 +51,7 @@ fn kind_from(number: u32) -> Result<Kind, Fault>
 }
 
 /// The number by which a portion is kept.
-fn number_of_portion(portion: Portion) -> u32
+pub(crate) fn number_of_portion(portion: Portion) -> u32
     ensures { result ≡ portion_number portion }
 {
     match portion {
@@ -184,93 +183,4 @@ pub(crate) fn entry_row(
         staff: Text::new(staff),
         reversed: entry.reversed as u32,
     })
-}
-
-/// Whether two receipts are the same, or both are wanting.
-fn is_same_receipt(one: &Option<Receipt>, other: &Option<Receipt>) -> bool
-    ensures { IsTrue result → one.now ≡ other.now }
-{
-    match (one, other) {
-        (None, None) => true,
-        (Some(one), Some(other)) => one.as_str() == other.as_str(),
-        _ => false,
-    }
-}
-
-/// Whether two entries are the same but for whether they are reversed.
-fn is_alike(one: &Entry, other: &Entry) -> bool
-    ensures { IsTrue result → one.now ≡ record other.now { reversed = one.now.reversed } }
-{
-    one.seq == other.seq
-        && one.kind == other.kind
-        && one.day == other.day
-        && one.amount == other.amount
-        && one.instalment == other.instalment
-        && one.portion == other.portion
-        && is_same_receipt(&one.receipt, &other.receipt)
-        && one.staff == other.staff
-}
-
-/// Whether two entries are the same.
-fn is_same(one: &Entry, other: &Entry) -> bool
-    ensures { IsTrue result → one.now ≡ other.now }
-{
-    is_alike(one, other) && one.reversed == other.reversed
-}
-
-/// Whether an entry is one that stood before, reversed.
-fn is_reversed(entry: &Entry, before: &Entry) -> bool
-    ensures stood { IsTrue result → before.now.reversed ≡ false }
-    ensures reversed { IsTrue result → entry.now ≡ reversed_entry before.now }
-{
-    entry.reversed && !before.reversed && is_alike(entry, before)
-}
-
-/// Whether a list begins with the other one.
-fn begins_with(entries: &[Entry], first: &[Entry]) -> bool
-    ensures { IsTrue result → first.now ≡ take (length first.now) entries.now }
-{
-    if entries.len() < first.len() {
-        return false;
-    }
-    for k in 0..first.len() {
-        if !is_same(&first[k], &entries[k]) {
-            return false;
-        }
-    }
-    true
-}
-
-/// The last entry, where all before it are these.
-pub(crate) fn one_more<'a>(entries: &'a [Entry], before: &[Entry]) -> Option<&'a Entry>
-    ensures { IfSome result (λ last. entries.now ≡ before.now ++ last.now ∷ []) }
-{
-    if entries.len() != before.len() + 1 || !begins_with(entries, before) {
-        return None;
-    }
-    Some(&entries[before.len()])
-}
-
-/// The entry of a number, where it stood before and is reversed, and all others are as before.
-pub(crate) fn one_reversed<'a>(
-    entries: &'a [Entry],
-    before: &[Entry],
-    seq: u32,
-) -> Option<&'a Entry>
-    ensures reversal { IfSome result (λ entry. IsReversal seq before.now entries.now) }
-    ensures entry { IfSome result (λ entry. entry.now ≡ reversed_entry (entry_at before.now (seq - 1))) }
-{
-    let count = before.len();
-    if seq == 0 || count < seq as usize || entries.len() != count {
-        return None;
-    }
-    let place = seq as usize - 1;
-    let entry = &entries[place];
-    if !is_reversed(entry, &before[place])
-        || !begins_with(entries, &before[..place])
-        || !begins_with(&entries[place + 1..], &before[place + 1..])
-    {
-        return None;
-    }
-    Some(entry)
 }

@@ -7,6 +7,7 @@
 mod accounts;
 mod arrears;
 mod catalogue;
+mod changes;
 mod commits;
 mod counts;
 mod entries;

@@ -20,7 +20,7 @@ returns-clause-commits g c =
     let there : c.in_ok-there.there ≡ true = search rules in
     let known = c.in_ok-counts.counts in
     made_by g.S.Store (AddClient c.args.office c.args.name) old mid c.make.new.self (PutClient client ∷ []) (OfficeCounts c.get-office.result (record { staff = known.staff; clients = known.clients + 1; loans = known.loans })) c.make.result (stays_then g.S.Store old first mid c.in_ok-there.ensures.kept c.in_ok-counts.ensures.kept)
-    (λ clean i s sound. let before = c.in_ok-counts.ensures.kept.premise clean in
+    (λ clean i s admitted. let sound = admitted.sound in let before = c.in_ok-counts.ensures.kept.premise clean in
     let here = ap (is_there i.offices) (sym c.get-office.ensures.value) ∙ sym (c.in_ok-there.ensures.value before i s) ∙ there in
     let counts = c.in_ok-counts.ensures.value clean i (c.in_ok-there.ensures.kept.same before i s) in (
       client_becomes c.args.office c.args.name i client s.sound sound here

@@ -21,7 +21,7 @@ returns-clause-commits g c =
     let office = c.get-office.ensures.value in
     let known = c.in_ok-counts.counts in
     made_by g.S.Store (AddLoan c.args.office c.args.loan) old mid c.make.new.self (write.AddLoan c.in_ok-row.row ∷ []) (OfficeCounts c.get-office.result (record { staff = known.staff; clients = known.clients; loans = known.loans + 1 })) c.make.result (stays_then g.S.Store old first mid c.in_ok-there.ensures.kept c.in_ok-counts.ensures.kept)
-    (λ clean i s sound. let before = c.in_ok-counts.ensures.kept.premise clean in
+    (λ clean i s admitted. let sound = admitted.sound in let before = c.in_ok-counts.ensures.kept.premise clean in
     let here = ap (is_there i.offices) (sym office) ∙ sym (c.in_ok-there.ensures.value before i s) ∙ there in
     let counts = c.in_ok-counts.ensures.value clean i (c.in_ok-there.ensures.kept.same before i s) in
     let last = ap (λ (k : Counts). k.loans) counts ∙ ap (λ x. length (rows_at x i).loans) office in

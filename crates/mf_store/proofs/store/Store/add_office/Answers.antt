@@ -23,7 +23,7 @@ returns-clause-commits g c =
     let number = c.get.ensures.value in
     let parent = c.get-parent.ensures.value in
     made_by g.S.Store (AddOffice c.args.number c.args.parent c.args.name) old mid c.make.new.self (PutOffice office ∷ []) Nothing c.make.result (stays_then g.S.Store old first mid c.in_ok-taken.ensures.kept c.in_ok-above.ensures.kept)
-    (λ clean i s sound. let before = c.in_ok-above.ensures.kept.premise clean in
+    (λ clean i s admitted. let sound = admitted.sound in let before = c.in_ok-above.ensures.kept.premise clean in
     let known = office_known c.in_ok-above.field-0 above_key c.get-parent.result i c.in-Some.is (c.in_ok-above.ensures.value clean i (c.in_ok-taken.ensures.kept.same before i s)) in
     let none = none_there (office_at c.args.number i.offices) (ap (is_there i.offices) (sym number) ∙ sym (c.in_ok-taken.ensures.value before i s) ∙ free) in (
       office_becomes c.args.number c.args.parent c.args.name above_key i office s.sound sound c.tree_of_offices.ensures none (ap (is_there i.offices) (sym parent) ∙ known.0) (known.1 ∙ ap (key_of (parent_of i.offices)) parent)

@@ -15,5 +15,5 @@ returns-clause-commits g c =
     let offer : Offer = record { members = c.args.members; retired = false } in
     let known = c.in_ok-counts.counts in
     made_by g.S.Store (AddProduct c.args.members) c.args.self.now c.count_catalogue.new.self c.make.new.self (write.AddProduct c.in_ok-row.row ∷ []) (Catalogue (record { charges = known.charges; products = known.products + 1 })) c.make.result c.in_ok-counts.ensures.kept
-    (λ clean i s sound. let counts = c.in_ok-counts.ensures.value clean i s in (product_becomes c.args.members i c.in_ok-row.row sound (c.in_ok-row.ensures.row ∙ ap (λ (k : CatalogueCounts). product_as (k.products + 1) offer) counts), product_tells c.args.members i known counts))
+    (λ clean i s admitted. let sound = admitted.sound in let counts = c.in_ok-counts.ensures.value clean i s in (product_becomes c.args.members i c.in_ok-row.row sound (c.in_ok-row.ensures.row ∙ ap (λ (k : CatalogueCounts). product_as (k.products + 1) offer) counts), product_tells c.args.members i known counts))
     c.make.ensures.premise c.make.ensures.gives_up c.make.ensures.made c.make.ensures.left c.make.ensures.same c.make.ensures.stop

@@ -16,6 +16,6 @@ returns-clause-commits g c =
     let office = c.args.loan.office in
     let number = c.args.loan.number in
     made_by g.S.Store (SetStage c.args.loan c.args.stage) c.args.self.now c.find_loan.new.self c.make.new.self (PutLoan c.in_ok-row.row ∷ []) Nothing c.make.result c.in_ok-found.ensures.kept
-    (λ clean i s sound. let k = known (loan_in office number) c.in_ok-found.field-0 c.in-Some.found (numbered (loans_of (rows_at office i)) number) c.in-Some.is (c.in_ok-found.ensures.value clean i s ∙ (λ t. loan_row_at (c.get.ensures.value t) (c.get-2.ensures.value t) i)) in
+    (λ clean i s admitted. let sound = admitted.sound in let k = known (loan_in office number) c.in_ok-found.field-0 c.in-Some.found (numbered (loans_of (rows_at office i)) number) c.in-Some.is (c.in_ok-found.ensures.value clean i s ∙ (λ t. loan_row_at (c.get.ensures.value t) (c.get-2.ensures.value t) i)) in
     (staged_becomes c.args.loan c.args.stage k.0 i c.in_ok-row.row s.sound sound k.1 (c.in_ok-row.ensures.row office number k.0 k.2), stage_tells c.args.loan c.args.stage i))
     c.make.ensures.premise c.make.ensures.gives_up c.make.ensures.made c.make.ensures.left c.make.ensures.same c.make.ensures.stop

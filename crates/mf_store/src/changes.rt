@@ -1,0 +1,209 @@
+//! What a change of a loan's account writes beside the entry: the rows of its instalments, and what its entries settle.
+
+ghost use Rattle.std.specs.Prelude.{◌≡◌, ◌++◌, map, OnOk, IfOk, IfErr};
+ghost use Rattle.mf_base.specs.declared.fault.Fault.TheVariants.{F20};
+ghost use Rattle.mf_alloc.specs.Rows.{row_at};
+ghost use Rattle.mf_account.specs.Loan.{settled_of_loan};
+ghost use Rattle.mf_store_records.specs.declared.writes.StoreWrite.TheVariants.{PutShare};
+ghost use Rattle.mf_store.specs.Flat.{how_number, instalment_in, share_in, placed_parts};
+ghost use Rattle.mf_store.specs.ChangeWrites.{instalments_put, shares_replaced, shares_put, change_writes};
+
+use crate::entries::number_of_portion;
+use crate::loans::text_of_day;
+use crate::stored::signed;
+use mf_account::{How, LoanAccount, Settled};
+use mf_alloc::Row;
+use mf_base::Fault;
+use mf_office::Account;
+use mf_store_records::{EntryKey, InstalmentRow, ShareRow, StoreWrite};
+use std::alloc::Global;
+
+/// The number by which a way of settling is kept.
+fn number_of_how(how: How) -> u32
+    ensures { result ≡ how_number how }
+{
+    match how {
+        How::Paid => 1,
+        How::Waived => 2,
+        How::WrittenOff => 3,
+    }
+}
+
+/// The row of an instalment.
+fn instalment_row(
+    alloc: Global,
+    office: u32,
+    loan: u32,
+    number: u32,
+    row: &Row,
+) -> Result<InstalmentRow, Fault>
+    ensures row { IfOk result (λ stored. stored ≡ instalment_in office loan (number, row.now)) }
+    ensures gives_up { IfErr result (λ fault. fault ≡ F20) }
+{
+    let Row {
+        due,
+        owed,
+        paid,
+        waived,
+        written_off,
+    } = *row;
+    Ok(InstalmentRow {
+        office,
+        loan,
+        number,
+        due: text_of_day(alloc, due)?,
+        owed_penalty: signed(owed[0])?,
+        paid_penalty: signed(paid[0])?,
+        waived_penalty: signed(waived[0])?,
+        written_off_penalty: signed(written_off[0])?,
+        owed_fee: signed(owed[1])?,
+        paid_fee: signed(paid[1])?,
+        waived_fee: signed(waived[1])?,
+        written_off_fee: signed(written_off[1])?,
+        owed_interest: signed(owed[2])?,
+        paid_interest: signed(paid[2])?,
+        waived_interest: signed(waived[2])?,
+        written_off_interest: signed(written_off[2])?,
+        owed_principal: signed(owed[3])?,
+        paid_principal: signed(paid[3])?,
+        waived_principal: signed(waived[3])?,
+        written_off_principal: signed(written_off[3])?,
+    })
+}
+
+/// The row of the instalment of a number; F20 where there is none.
+fn instalment_at(
+    alloc: Global,
+    office: u32,
+    loan: u32,
+    number: u32,
+    rows: &[Row],
+) -> Result<InstalmentRow, Fault>
+    ensures row { IfOk result (λ stored. stored ≡ instalment_in office loan (number, row_at rows.now number)) }
+    ensures gives_up { IfErr result (λ fault. fault ≡ F20) }
+{
+    if number == 0 || rows.len() < number as usize {
+        return Err(Fault::F20);
+    }
+    let row = &rows[number as usize - 1];
+    instalment_row(alloc, office, loan, number, row)
+}
+
+/// Adds the puts of the instalments with these numbers.
+pub(crate) fn put_instalments(
+    alloc: Global,
+    office: u32,
+    loan: u32,
+    rows: &[Row],
+    numbers: &[u32],
+    writes: &mut Vec<StoreWrite>,
+) -> Result<(), Fault>
+    ensures writes { OnOk result (writes.new.items ≡ writes.old.items ++ instalments_put office loan rows.now numbers.now) }
+    ensures gives_up { IfErr result (λ fault. fault ≡ F20) }
+{
+    for number in numbers {
+        let row = instalment_at(alloc, office, loan, *number, rows)?;
+        writes.push(StoreWrite::PutInstalment(row))?;
+    }
+    Ok(())
+}
+
+/// The row of what an entry settles in a cell.
+fn share_row(
+    office: u32,
+    loan: u32,
+    seq: u32,
+    place: u32,
+    part: &Settled,
+) -> Result<ShareRow, Fault>
+    ensures row { IfOk result (λ stored. stored ≡ share_in office loan (seq, (place, part.now))) }
+    ensures gives_up { IfErr result (λ fault. fault ≡ F20) }
+{
+    let amount = signed(part.amount)?;
+    Ok(ShareRow {
+        office,
+        loan,
+        seq,
+        place,
+        instalment: part.cell.instalment,
+        portion: number_of_portion(part.cell.portion),
+        how: number_of_how(part.how),
+        amount,
+    })
+}
+
+/// Adds the puts of what an entry settles.
+fn put_parts(
+    office: u32,
+    loan: u32,
+    seq: u32,
+    parts: &[Settled],
+    writes: &mut Vec<StoreWrite>,
+) -> Result<(), Fault>
+    ensures writes { OnOk result (writes.new.items ≡ writes.old.items ++ map (λ placed. PutShare (share_in office loan placed)) (placed_parts seq parts.now)) }
+    ensures gives_up { IfErr result (λ fault. fault ≡ F20) }
+{
+    let mut place = 0;
+    for part in parts {
+        if place == u32::MAX {
+            return Err(Fault::F20);
+        }
+        place += 1;
+        let row = share_row(office, loan, seq, place, part)?;
+        writes.push(StoreWrite::PutShare(row))?;
+    }
+    Ok(())
+}
+
+/// Adds the writes that bring what an entry settles to what the account says.
+fn replace_shares(
+    alloc: Global,
+    office: u32,
+    loan: u32,
+    account: &LoanAccount,
+    seq: u32,
+    writes: &mut Vec<StoreWrite>,
+) -> Result<(), Fault>
+    ensures writes { OnOk result (writes.new.items ≡ writes.old.items ++ shares_replaced office loan (settled_of_loan account.now.loan) seq) }
+    ensures gives_up { IfErr result (λ fault. fault ≡ F20) }
+{
+    let parts = account.settled(alloc, seq)?;
+    writes.push(StoreWrite::RemoveShares(EntryKey { office, loan, seq }))?;
+    put_parts(office, loan, seq, &parts, writes)
+}
+
+/// The same for each of these entries.
+fn put_shares(
+    alloc: Global,
+    office: u32,
+    loan: u32,
+    account: &LoanAccount,
+    seqs: &[u32],
+    writes: &mut Vec<StoreWrite>,
+) -> Result<(), Fault>
+    ensures writes { OnOk result (writes.new.items ≡ writes.old.items ++ shares_put office loan (settled_of_loan account.now.loan) seqs.now) }
+    ensures gives_up { IfErr result (λ fault. fault ≡ F20) }
+{
+    for seq in seqs {
+        replace_shares(alloc, office, loan, account, *seq, writes)?;
+    }
+    Ok(())
+}
+
+/// Adds the writes of what the account's last entry or reversal changed: the instalments whose rows differ, and the
+/// entries that settle otherwise.
+pub(crate) fn put_change(
+    alloc: Global,
+    loan: Account,
+    account: &LoanAccount,
+    writes: &mut Vec<StoreWrite>,
+) -> Result<(), Fault>
+    ensures writes { OnOk result (writes.new.items ≡ writes.old.items ++ change_writes loan.office loan.number account.now) }
+    ensures gives_up { IfErr result (λ fault. fault ≡ F20) }
+{
+    let office = loan.office.get();
+    let loan = loan.number.get();
+    let change = account.change();
+    put_instalments(alloc, office, loan, account.rows(), &change.rows, writes)?;
+    put_shares(alloc, office, loan, account, &change.seqs, writes)
+}
