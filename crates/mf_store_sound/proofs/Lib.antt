@@ -1,0 +1,10 @@
+pub mod StoredLemmas
+pub mod RowLemmas
+pub mod ProductLemmas
+pub mod OfficeRowLemmas
+pub mod OfficeTreeLemmas
+pub mod LoanLemmas
+pub mod PartLemmas
+pub mod EntryLemmas
+pub mod SealLemmas
+pub mod EnteredLemmas

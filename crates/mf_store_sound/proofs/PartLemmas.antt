@@ -1,0 +1,106 @@
+-- Rows of one owner after another, apart.
+use Rattle.std.proofs.Common.{◌≡◌, ◌<◌, ◌+◌, ◌∙◌, ℕ, suc, Bool, true, false, cond, List, [], ◌∷◌, ◌++◌, map, take, drop, refl, ap, arith, ◌==◌}
+use Rattle.std.specs.List.{AllByRecursion}
+use Rattle.std.proofs.lemmas.Bool.Decides.{nat_tests}
+use Rattle.std.proofs.lemmas.List.Sums.{take_while-cons}
+use Rattle.mf_account.specs.declared.entry.Entry.{Entry}
+use Rattle.mf_model.specs.Institution.{Ledger, Office, Rows}
+use Rattle.mf_model.specs.Tree.{Above}
+use Rattle.mf_store_records.specs.declared.entries.EntryRow.{EntryRow}
+use Rattle.mf_store_sound.specs.Flat.{numbered_from, all_rows, entry_in, rows_of_loans, entry_rows}
+use Rattle.mf_store_sound.specs.Parts.{own_count, own, later}
+
+module _ {R : Type 0} (owner : R → ℕ) (x : ℕ) where
+  own-cons : (r : R) (rs : List R) → own owner x (r ∷ rs) ≡ cond (owner r == x) (r ∷ own owner x rs) []
+  own-cons r rs = take_while-cons (λ s. owner s == x) r rs
+
+  later-cons : (r : R) (rs : List R) → later owner x (r ∷ rs) ≡ cond (owner r == x) (later owner x rs) (r ∷ rs)
+  later-cons r rs = go (owner r == x)
+    where
+      go : (b : Bool) → drop (cond b (1 + own_count owner x rs) 0) (r ∷ rs) ≡ cond b (later owner x rs) (r ∷ rs)
+      go true = ap (λ n. drop n (r ∷ rs)) (let e : 1 + own_count owner x rs ≡ suc (own_count owner x rs) = omega arith in e)
+      go false = refl
+
+  at_own : (r : R) → owner r ≡ x → (owner r == x) ≡ true
+  at_own r same = grind (arith, nat_tests)
+
+  -- rows of one owner, before rows of which none is its own
+  pub own_block : (xs rest : List R) → AllByRecursion (λ r. owner r ≡ x) xs → own_count owner x rest ≡ 0 → own owner x (xs ++ rest) ≡ xs
+  own_block [] rest all none = ap (λ n. take n rest) none
+  own_block (r ∷ xs) rest all none = own-cons r (xs ++ rest) ∙ ap (λ b. cond b (r ∷ own owner x (xs ++ rest)) []) (at_own r all.0) ∙ ap (λ l. r ∷ l) (own_block xs rest all.1 none)
+
+  pub later_block : (xs rest : List R) → AllByRecursion (λ r. owner r ≡ x) xs → own_count owner x rest ≡ 0 → later owner x (xs ++ rest) ≡ rest
+  later_block [] rest all none = ap (λ n. drop n rest) none
+  later_block (r ∷ xs) rest all none = later-cons r (xs ++ rest) ∙ ap (λ b. cond b (later owner x (xs ++ rest)) (r ∷ (xs ++ rest))) (at_own r all.0) ∙ later_block xs rest all.1 none
+
+  -- rows of owners with greater numbers
+  pub none_own : (xs rest : List R) → AllByRecursion (λ r. x < owner r) xs → own_count owner x rest ≡ 0 → own_count owner x (xs ++ rest) ≡ 0
+  none_own [] rest all none = none
+  none_own (r ∷ xs) rest all none =
+      let low : x < owner r = all.0 in
+      let apart : (owner r == x) ≡ false = grind (arith, nat_tests) in
+      ap (λ b. cond b (1 + own_count owner x (xs ++ rest)) 0) apart
+
+all_same : {R : Type 0} (owner : R → ℕ) (x y : ℕ) (xs : List R) → x < y → AllByRecursion (λ r. owner r ≡ y) xs → AllByRecursion (λ r. x < owner r) xs
+all_same owner x y [] lt all = tt
+all_same owner x y (r ∷ xs) lt all = (let is : owner r ≡ y = all.0 in omega arith, all_same owner x y xs lt all.1)
+
+-- ---- rows of one kind, office by office
+module _ {A R : Type 0} (make : ℕ → ℕ → A → R) (of : Rows → List A) (office : R → ℕ) (belongs : (x n : ℕ) (a : A) → office (make x n a) ≡ x) where
+  all_own : (x n : ℕ) (xs : List A) → AllByRecursion (λ r. office r ≡ x) (numbered_from (make x) n xs)
+  all_own x n [] = tt
+  all_own x n (a ∷ xs) = (belongs x n a, all_own x (n + 1) xs)
+
+  -- offices with greater numbers have none of this office's rows
+  none_above : (x : ℕ) (fs : List Office) → Above x fs → own_count office x (all_rows make of fs) ≡ 0
+  none_above x [] h = refl
+  none_above x (f ∷ fs) h = none_own office x (numbered_from (make f.number) 1 (of f.rows)) (all_rows make of fs) (all_same office x f.number _ h.0 (all_own f.number 1 (of f.rows))) (none_above x fs h.1)
+
+  pub own_of_first : (f : Office) (fs : List Office) → Above f.number fs → own office f.number (all_rows make of (f ∷ fs)) ≡ numbered_from (make f.number) 1 (of f.rows)
+  own_of_first f fs h = own_block office f.number (numbered_from (make f.number) 1 (of f.rows)) (all_rows make of fs) (all_own f.number 1 (of f.rows)) (none_above f.number fs h)
+
+  pub later_of_first : (f : Office) (fs : List Office) → Above f.number fs → later office f.number (all_rows make of (f ∷ fs)) ≡ all_rows make of fs
+  later_of_first f fs h = later_block office f.number (numbered_from (make f.number) 1 (of f.rows)) (all_rows make of fs) (all_own f.number 1 (of f.rows)) (none_above f.number fs h)
+
+-- ---- rows of entries, loan by loan and office by office
+abbrev loan_of : EntryRow → ℕ
+loan_of r = r.loan
+
+abbrev office_of : EntryRow → ℕ
+office_of r = r.office
+
+of_loan : (x n : ℕ) (es : List Entry) → AllByRecursion (λ r. loan_of r ≡ n) (map (entry_in x n) es)
+of_loan x n [] = tt
+of_loan x n (e ∷ es) = (refl, of_loan x n es)
+
+no_entries_above : (x n m : ℕ) (ls : List Ledger) → n < m → own_count loan_of n (rows_of_loans x m ls) ≡ 0
+no_entries_above x n m [] h = refl
+no_entries_above x n m (l ∷ ls) h = none_own loan_of n (map (entry_in x m) l.entries) (rows_of_loans x (m + 1) ls) (all_same loan_of n m _ h (of_loan x m l.entries)) (no_entries_above x n (m + 1) ls (omega arith))
+
+pub own_of_loan : (x n : ℕ) (l : Ledger) (ls : List Ledger) → own loan_of n (rows_of_loans x n (l ∷ ls)) ≡ map (entry_in x n) l.entries
+own_of_loan x n l ls = own_block loan_of n (map (entry_in x n) l.entries) (rows_of_loans x (n + 1) ls) (of_loan x n l.entries) (no_entries_above x n (n + 1) ls (omega arith))
+
+pub later_of_loan : (x n : ℕ) (l : Ledger) (ls : List Ledger) → later loan_of n (rows_of_loans x n (l ∷ ls)) ≡ rows_of_loans x (n + 1) ls
+later_of_loan x n l ls = later_block loan_of n (map (entry_in x n) l.entries) (rows_of_loans x (n + 1) ls) (of_loan x n l.entries) (no_entries_above x n (n + 1) ls (omega arith))
+
+all_append : {A : Type 0} (P : A → Type 0) (xs ys : List A) → AllByRecursion P xs → AllByRecursion P ys → AllByRecursion P (xs ++ ys)
+all_append P [] ys p q = q
+all_append P (x ∷ xs) ys p q = (p.0, all_append P xs ys p.1 q)
+
+of_office : (x n : ℕ) (es : List Entry) → AllByRecursion (λ r. office_of r ≡ x) (map (entry_in x n) es)
+of_office x n [] = tt
+of_office x n (e ∷ es) = (refl, of_office x n es)
+
+all_of_office : (x n : ℕ) (ls : List Ledger) → AllByRecursion (λ r. office_of r ≡ x) (rows_of_loans x n ls)
+all_of_office x n [] = tt
+all_of_office x n (l ∷ ls) = all_append (λ r. office_of r ≡ x) (map (entry_in x n) l.entries) (rows_of_loans x (n + 1) ls) (of_office x n l.entries) (all_of_office x (n + 1) ls)
+
+no_office_above : (x : ℕ) (fs : List Office) → Above x fs → own_count office_of x (entry_rows fs) ≡ 0
+no_office_above x [] h = refl
+no_office_above x (f ∷ fs) h = none_own office_of x (rows_of_loans f.number 1 f.rows.loans) (entry_rows fs) (all_same office_of x f.number _ h.0 (all_of_office f.number 1 f.rows.loans)) (no_office_above x fs h.1)
+
+pub own_of_office : (f : Office) (fs : List Office) → Above f.number fs → own office_of f.number (entry_rows (f ∷ fs)) ≡ rows_of_loans f.number 1 f.rows.loans
+own_of_office f fs h = own_block office_of f.number (rows_of_loans f.number 1 f.rows.loans) (entry_rows fs) (all_of_office f.number 1 f.rows.loans) (no_office_above f.number fs h)
+
+pub later_of_office : (f : Office) (fs : List Office) → Above f.number fs → later office_of f.number (entry_rows (f ∷ fs)) ≡ entry_rows fs
+later_of_office f fs h = later_block office_of f.number (rows_of_loans f.number 1 f.rows.loans) (entry_rows fs) (all_of_office f.number 1 f.rows.loans) (no_office_above f.number fs h)

@@ -1,0 +1,65 @@
+-- Rows of products, and the charges that they name.
+use Rattle.std.proofs.Common.{◌≡◌, ◌+◌, ◌-◌, ◌∙◌, ℕ, zero, suc, Bool, true, false, cond, ◌&&◌, List, [], ◌∷◌, slice_get, Option, Some, None, refl, sym, ap, arith, ◌==◌}
+use Rattle.std.specs.Option.{option_map}
+use Rattle.std.proofs.lemmas.Bool.Decides.{nat_tests}
+use Rattle.mf_catalog.specs.declared.charge.ChargeKind.{ChargeKind}
+use Rattle.mf_catalog.specs.declared.charge.ChargeKind.TheVariants.{Disbursement, Instalment, Overdue, DueDate}
+use Rattle.mf_catalog.specs.Product.{same_kind, has_kind, is_of_kind, kinds_right}
+use Rattle.mf_model.specs.Institution.{Catalogue, Charge, Offer, charge_in, charge_def, numbered}
+use Rattle.mf_store_records.specs.declared.charges.ChargeRow.{ChargeRow}
+use Rattle.mf_store_records.specs.declared.products.ProductRow.{ProductRow}
+use Rattle.mf_store_sound.specs.Flat.{charge_as, product_as, numbered_from}
+use Rattle.mf_catalog.specs.Names.{kind_number}
+
+-- the row of a number, by the value of that number
+module _ {A R : Type 0} (make : ℕ → A → R) where
+  at_place : (xs : List A) (m d n : ℕ) → n ≡ m + d → slice_get (numbered_from make m xs) d ≡ option_map (make n) (slice_get xs d)
+  at_place [] m d n e = refl
+  at_place (x ∷ xs) m zero n e = ap (λ j. Some (make j x)) (let same : m ≡ n = omega arith in same)
+  at_place (x ∷ xs) m (suc d) n e = at_place xs (m + 1) d n (omega arith)
+
+  pub numbered_row : (xs : List A) (n : ℕ) → numbered (numbered_from make 1 xs) n ≡ option_map (make n) (numbered xs n)
+  numbered_row xs n = go (n == 0) refl
+    where
+      go : (b : Bool) → (n == 0) ≡ b → cond b None (slice_get (numbered_from make 1 xs) (n - 1)) ≡ option_map (make n) (cond b None (slice_get xs (n - 1)))
+      go true e = refl
+      go false e = let some : n ≡ 1 + (n - 1) = grind (arith, nat_tests) in at_place xs 1 (n - 1) n some
+
+kinds_tested : (a b : ChargeKind) → (kind_number b == kind_number a) ≡ same_kind a b
+kinds_tested Disbursement Disbursement = refl
+kinds_tested Disbursement Instalment = refl
+kinds_tested Disbursement Overdue = refl
+kinds_tested Disbursement DueDate = refl
+kinds_tested Instalment Disbursement = refl
+kinds_tested Instalment Instalment = refl
+kinds_tested Instalment Overdue = refl
+kinds_tested Instalment DueDate = refl
+kinds_tested Overdue Disbursement = refl
+kinds_tested Overdue Instalment = refl
+kinds_tested Overdue Overdue = refl
+kinds_tested Overdue DueDate = refl
+kinds_tested DueDate Disbursement = refl
+kinds_tested DueDate Instalment = refl
+kinds_tested DueDate Overdue = refl
+kinds_tested DueDate DueDate = refl
+
+-- a charge that is named and there
+pub named_charge : (k : Catalogue) (rows : List ChargeRow) (row : ChargeRow) (number kind : ℕ) (wanted : ChargeKind) → numbered_from charge_as 1 k.charges ≡ rows → Some row ≡ numbered rows number → kind_number wanted ≡ kind → (row.kind == kind) ≡ has_kind wanted (charge_in k number)
+named_charge k rows row number kind wanted e is w = go (numbered k.charges number) (is ∙ ap (λ rs. numbered rs number) (sym e) ∙ numbered_row charge_as k.charges number)
+  where
+    go : (o : Option Charge) → Some row ≡ option_map (charge_as number) o → (row.kind == kind) ≡ has_kind wanted (option_map (charge_def number) o)
+    go None h = absurd (cc)
+    go (Some c) h =
+        let same : row ≡ charge_as number c = cc in
+        (λ t. (same t).kind == sym w t) ∙ kinds_tested wanted c.kind
+
+-- a charge that is named and not there
+pub unnamed_charge : (k : Catalogue) (rows : List ChargeRow) (number : ℕ) (wanted : ChargeKind) → numbered_from charge_as 1 k.charges ≡ rows → None ≡ numbered rows number → false ≡ has_kind wanted (charge_in k number)
+unnamed_charge k rows number wanted e is = go (numbered k.charges number) (is ∙ ap (λ rs. numbered rs number) (sym e) ∙ numbered_row charge_as k.charges number)
+  where
+    go : (o : Option Charge) → None ≡ option_map (charge_as number) o → false ≡ has_kind wanted (option_map (charge_def number) o)
+    go None h = refl
+    go (Some c) h = absurd (cc)
+
+pub kinds_are : (k : Catalogue) (number : ℕ) (p : Offer) (row : ProductRow) (a b c : Bool) → product_as number p ≡ row → a ≡ is_of_kind (charge_in k) Disbursement row.disbursement_charge → b ≡ is_of_kind (charge_in k) Instalment row.instalment_charge → c ≡ is_of_kind (charge_in k) Overdue row.overdue_charge → (a && (b && c)) ≡ kinds_right (charge_in k) p.members
+kinds_are k number p row a b c is at bt ct = (λ t. at t && (bt t && ct t)) ∙ ap (λ (r : ProductRow). is_of_kind (charge_in k) Disbursement r.disbursement_charge && (is_of_kind (charge_in k) Instalment r.instalment_charge && is_of_kind (charge_in k) Overdue r.overdue_charge)) (sym is)

@@ -1,0 +1,251 @@
+-- The rows of an institution: one list a table, each in the order of its key.
+use Rattle.std.specs.Prelude.{◌≡◌, ◌≤◌, ℕ, pos, Bool, true, false, ◌+◌, ◌-◌, length, List, [], ◌∷◌, ◌++◌, map, option_map, Option, Some, None, nat_le}
+use Rattle.mf_account.specs.declared.entry.Entry.{Entry}
+use Rattle.mf_account.specs.Standing.{entry_at, with_mark}
+use Rattle.mf_account.specs.declared.entry.Kind.{Kind}
+use Rattle.mf_account.specs.declared.entry.Kind.TheVariants.{Repay, Fee, Penalty, Waive, WriteOff, Refund}
+use Rattle.mf_alloc.specs.declared.row.Portion.{Portion}
+use Rattle.mf_alloc.specs.declared.row.Portion.TheVariants as portion
+use Rattle.mf_base.specs.Choices.{frequency_number}
+use Rattle.mf_base.specs.DayText.{day_text}
+use Rattle.mf_catalog.specs.Names.{kind_number, calc_number, method_number, strategy_number}
+use Rattle.mf_office.specs.declared.account.Account.{Account}
+use Rattle.mf_office.specs.Keys.{key_of, key_depth, raised, is_in_range}
+use Rattle.mf_office.specs.Roles.{role_number}
+use Rattle.mf_office.specs.Written.{caller_text}
+use Rattle.mf_model.specs.Accounts.{status_in}
+use Rattle.mf_model.specs.Institution.{Institution, Catalogue, Charge, Ledger, Offer, Office, Rows, Staff, office_at, numbered}
+use Rattle.mf_model.specs.Stages.{stage_number, disbursed_on}
+use Rattle.mf_model.specs.declared.loan.Loan.{Loan}
+use Rattle.mf_model.specs.declared.loan.LoanLine.{LoanLine}
+use Rattle.mf_model.specs.declared.loan.Stage.{Stage}
+use Rattle.mf_model.specs.declared.loan.Stage.TheVariants.{Submitted, Approved, Disbursed, Withdrawn, Rejected}
+use Rattle.mf_model.specs.Store.{rows_at}
+use Rattle.mf_model.specs.Tree.{parent_of}
+use Rattle.mf_store_records.specs.Rows.{Lists}
+use Rattle.mf_store_sound.specs.ReceiptRows.{receipt_rows}
+use Rattle.mf_store_records.specs.declared.meta.MetaRow.{MetaRow}
+use Rattle.mf_store_records.specs.declared.offices.OfficeRow.{OfficeRow}
+use Rattle.mf_store_records.specs.declared.staff.StaffRow.{StaffRow}
+use Rattle.mf_store_records.specs.declared.clients.ClientRow.{ClientRow}
+use Rattle.mf_store_records.specs.declared.charges.ChargeRow.{ChargeRow}
+use Rattle.mf_store_records.specs.declared.products.ProductRow.{ProductRow}
+use Rattle.mf_store_records.specs.declared.loans.LoanRow.{LoanRow}
+use Rattle.mf_store_records.specs.declared.entries.EntryRow.{EntryRow}
+
+-- the number of the schema that these tables are
+abbrev pub schema_number : ℕ
+schema_number = 1
+
+-- 1 for yes
+abbrev pub flag_number : Bool → ℕ
+flag_number false = 0
+flag_number true = 1
+
+-- the text of the day on which a loan was approved, where it stands approved or is disbursed
+abbrev pub approval_text : Stage → Option (List ℕ)
+approval_text Submitted = None
+approval_text (Approved day) = Some (day_text day)
+approval_text (Disbursed approved day) = Some (day_text approved)
+approval_text Withdrawn = None
+approval_text Rejected = None
+
+-- the text of the day on which a loan was disbursed
+abbrev pub disbursal_text : Stage → Option (List ℕ)
+disbursal_text stage = option_map day_text (disbursed_on stage)
+
+-- the number by which a kind of entry is kept
+abbrev pub entry_kind_number : Kind → ℕ
+entry_kind_number Repay = 1
+entry_kind_number Fee = 2
+entry_kind_number Penalty = 3
+entry_kind_number Waive = 4
+entry_kind_number WriteOff = 5
+entry_kind_number Refund = 6
+
+-- the number by which a portion of an instalment is kept
+abbrev pub portion_number : Portion → ℕ
+portion_number portion.Penalty = 1
+portion_number portion.Fee = 2
+portion_number portion.Interest = 3
+portion_number portion.Principal = 4
+
+abbrev pub meta_on : ℕ → MetaRow
+meta_on day = record { one = 1; schema = schema_number; day = day_text day }
+
+-- an office's own row, with the hierarchy text that its parents give
+abbrev pub office_under : (ℕ → Option ℕ) → Office → OfficeRow
+office_under parents f = record { number = f.number; parent = f.parent; hkey = key_of parents f.number; name = f.name }
+
+-- the row of a member of staff: office, number
+abbrev pub staff_in : ℕ → ℕ → Staff → StaffRow
+staff_in office number s = record { office = office; number = number; name = s.name; role = role_number s.role }
+
+-- the row of a client: office, number
+abbrev pub client_in : ℕ → ℕ → List ℕ → ClientRow
+client_in office number name = record { office = office; number = number; name = name }
+
+-- the row of a charge under its number
+abbrev pub charge_as : ℕ → Charge → ChargeRow
+charge_as number c = record { number = number; name = c.name; kind = kind_number c.kind; calc = calc_number c.calc; value = pos c.value }
+
+-- the row of a product under its number
+abbrev pub product_as : ℕ → Offer → ProductRow
+product_as number p = record {
+  number = number;
+  name = p.members.name;
+  method = method_number p.members.method;
+  rate = p.members.rate;
+  frequency = frequency_number p.members.freq;
+  every = p.members.every;
+  principal_grace = p.members.principal_grace;
+  interest_grace = p.members.interest_grace;
+  min_principal = pos p.members.min_principal;
+  max_principal = pos p.members.max_principal;
+  min_periods = p.members.min_periods;
+  max_periods = p.members.max_periods;
+  strategy = strategy_number p.members.strategy;
+  disbursement_charge = p.members.disbursement_charge;
+  instalment_charge = p.members.instalment_charge;
+  overdue_charge = p.members.overdue_charge;
+  retired = flag_number p.retired;
+}
+
+-- the row of a loan: office, number
+abbrev pub loan_in : ℕ → ℕ → Loan → LoanRow
+loan_in office number l = record { office = office; number = number; client = l.client; product = l.product; principal = pos l.principal; periods = l.periods; stage = stage_number l.stage; approved = approval_text l.stage; disbursed = disbursal_text l.stage }
+
+-- the row of an entry: office, loan
+abbrev pub entry_in : ℕ → ℕ → Entry → EntryRow
+entry_in office loan e = record {
+  office = office;
+  loan = loan;
+  seq = e.seq;
+  kind = entry_kind_number e.kind;
+  day = day_text e.day;
+  amount = pos e.amount;
+  instalment = e.instalment;
+  portion = portion_number e.portion;
+  receipt = e.receipt;
+  staff = caller_text e.staff.office e.staff.staff;
+  reversed = flag_number e.reversed;
+}
+
+-- a loan in a list of loans: office, number
+abbrev pub line_in : Catalogue → ℕ → ℕ → Ledger → LoanLine
+line_in k office number l = record { loan = record { office = office; number = number }; status = status_in k l }
+
+-- the loans of an office, without their entries
+abbrev pub loans_of : Rows → List Loan
+loans_of rows = map (λ (l : Ledger). l.loan) rows.loans
+
+-- rows numbered by their places, the first with this number
+abbrev pub numbered_from : {A R : Type 0} → (ℕ → A → R) → ℕ → List A → List R
+numbered_from make n [] = []
+numbered_from make n (x ∷ xs) = make n x ∷ numbered_from make (n + 1) xs
+
+-- the rows of one kind, office by office
+abbrev pub all_rows : {A R : Type 0} → (ℕ → ℕ → A → R) → (Rows → List A) → List Office → List R
+all_rows make of [] = []
+all_rows make of (f ∷ fs) = numbered_from (make f.number) 1 (of f.rows) ++ all_rows make of fs
+
+-- the rows of the entries of an office's loans, loan by loan, the first with this number
+abbrev pub rows_of_loans : ℕ → ℕ → List Ledger → List EntryRow
+rows_of_loans office n [] = []
+rows_of_loans office n (l ∷ ls) = map (entry_in office n) l.entries ++ rows_of_loans office (n + 1) ls
+
+-- the rows of all entries, office by office
+abbrev pub entry_rows : List Office → List EntryRow
+entry_rows [] = []
+entry_rows (f ∷ fs) = rows_of_loans f.number 1 f.rows.loans ++ entry_rows fs
+
+-- what the tables hold of an institution; those of instalments and shares hold nothing yet
+abbrev pub tables_of : Institution → Lists
+tables_of i = record {
+  meta = meta_on i.catalogue.day ∷ [];
+  offices = map (office_under (parent_of i.offices)) i.offices;
+  staff = all_rows staff_in (λ rows. rows.staff) i.offices;
+  clients = all_rows client_in (λ rows. rows.clients) i.offices;
+  charges = numbered_from charge_as 1 i.catalogue.charges;
+  products = numbered_from product_as 1 i.catalogue.products;
+  loans = all_rows loan_in loans_of i.offices;
+  entries = entry_rows i.offices;
+  receipts = receipt_rows i.offices;
+  instalments = [];
+  shares = [];
+}
+
+-- the row of an office that is there
+abbrev pub office_row_at : ℕ → Institution → Option OfficeRow
+office_row_at x i = option_map (office_under (parent_of i.offices)) (office_at x i.offices)
+
+-- the row of a member of staff who is there
+abbrev pub staff_row_at : ℕ → ℕ → Institution → Option StaffRow
+staff_row_at x number i = option_map (staff_in x number) (numbered (rows_at x i).staff number)
+
+-- the row of a client who is there
+abbrev pub client_row_at : ℕ → ℕ → Institution → Option ClientRow
+client_row_at x number i = option_map (client_in x number) (numbered (rows_at x i).clients number)
+
+-- the row of a charge that is there
+abbrev pub charge_row_at : ℕ → Institution → Option ChargeRow
+charge_row_at number i = option_map (charge_as number) (numbered i.catalogue.charges number)
+
+-- the row of a product that is there
+abbrev pub product_row_at : ℕ → Institution → Option ProductRow
+product_row_at number i = option_map (product_as number) (numbered i.catalogue.products number)
+
+-- the row of a loan that is there
+abbrev pub loan_row_at : ℕ → ℕ → Institution → Option LoanRow
+loan_row_at x number i = option_map (loan_in x number) (numbered (loans_of (rows_at x i)) number)
+
+-- the entries of a loan that is there
+abbrev pub entries_of : Option Ledger → List Entry
+entries_of None = []
+entries_of (Some l) = l.entries
+
+-- a row is that of the last of these entries, and the loan is there and has all the others
+pub record IsNextRow (loan : Account) (entries : List Entry) (found : Option Ledger) (row : EntryRow) : Type 0 where
+  pub ledger : Ledger
+  pub last : Entry
+  pub there : found ≡ Some ledger
+  pub one_more : entries ≡ ledger.entries ++ last ∷ []
+  pub row_is : row ≡ entry_in loan.office loan.number last
+
+-- an entry, reversed
+abbrev pub reversed_entry : Entry → Entry
+reversed_entry e = record e { reversed = true }
+
+-- the entry of a number stood before and is reversed, and all others are as before
+pub record IsReversal (seq : ℕ) (before entries : List Entry) : Type 0 where
+  pub first : 1 ≤ seq
+  pub last : seq ≤ length before
+  pub stood : (entry_at before (seq - 1)).reversed ≡ false
+  pub marked : entries ≡ with_mark before (seq - 1) true
+
+-- a row is that of the entry of a number, reversed, and the loan is there and has these entries but for that
+pub record IsReversedRow (loan : Account) (seq : ℕ) (entries : List Entry) (found : Option Ledger) (row : EntryRow) : Type 0 where
+  pub ledger : Ledger
+  pub there : found ≡ Some ledger
+  pub reversal : IsReversal seq ledger.entries entries
+  pub row_is : row ≡ entry_in loan.office loan.number (reversed_entry (entry_at ledger.entries (seq - 1)))
+
+-- the hierarchy text of an office that is there
+abbrev pub key_at : ℕ → Institution → Option (List ℕ)
+key_at x i = option_map (λ (f : Office). key_of (parent_of i.offices) f.number) (office_at x i.offices)
+
+-- the parent that an office's row names
+abbrev pub above_of : Option OfficeRow → Option ℕ
+above_of None = None
+above_of (Some r) = r.parent
+
+-- one hierarchy text lies in the range of another
+abbrev pub sees : Option (List ℕ) → Option (List ℕ) → Bool
+sees None key = false
+sees (Some above) None = false
+sees (Some above) (Some key) = is_in_range above (raised above) key
+
+-- a key of at most five dots, one for each office on the way
+abbrev pub has_room : Option (List ℕ) → Bool
+has_room None = false
+has_room (Some key) = nat_le (key_depth key) 5

@@ -1,0 +1,34 @@
+-- Rows of loans: what the texts of a loan's days say of its stage, and what a loan keeps by itself.
+use Rattle.std.specs.Prelude.{◌≡◌, ℕ, ◌≤◌, List, [], Option, Some, None, is_some, true}
+use Rattle.mf_base.specs.DayText.{day_text}
+use Rattle.mf_model.specs.Institution.{Catalogue, numbered, product_in}
+use Rattle.mf_model.specs.Sound.{IsStageBy, lends}
+use Rattle.mf_model.specs.declared.loan.Loan.{Loan}
+use Rattle.mf_store_records.specs.declared.entries.EntryRow.{EntryRow}
+use Rattle.mf_store_sound.specs.Entries.{AreLoanEntries}
+use Rattle.mf_model.specs.Stages.{stage_number}
+use Rattle.mf_model.specs.declared.loan.Stage.{Stage}
+use Rattle.mf_store_sound.specs.Flat.{approval_text, disbursal_text}
+
+-- the text of a day up to this one
+abbrev pub IsApproval : ℕ → List ℕ → Type 0
+IsApproval today text = (day : ℕ) × (day ≤ today) × (text ≡ day_text day)
+
+-- the texts of two days, the first not after the second, up to this one
+abbrev pub IsDisbursal : ℕ → List ℕ → List ℕ → Type 0
+IsDisbursal today approved disbursed = (first : ℕ) × (second : ℕ) × (first ≤ second) × (second ≤ today) × (approved ≡ day_text first) × (disbursed ≡ day_text second)
+
+-- a stage that a loan can have reached on this day has this number and these texts
+abbrev pub IsStageOf : ℕ → ℕ → Option (List ℕ) → Option (List ℕ) → Type 0
+IsStageOf today number approved disbursed = (s : Stage) × IsStageBy today s × (stage_number s ≡ number) × (approval_text s ≡ approved) × (disbursal_text s ≡ disbursed)
+
+-- a loan's client is there, its product lends so, and its days are in order
+pub record IsOwnLoan (k : Catalogue) (clients : List (List ℕ)) (l : Loan) : Type 0 where
+  pub client : is_some (numbered clients l.client) ≡ true
+  pub product : lends (product_in k l.product) l.principal l.periods ≡ true
+  pub stage : IsStageBy k.day l.stage
+
+-- a loan that is not disbursed has no rows of entries
+abbrev pub AreEntriesOf : ℕ → ℕ → Option ℕ → ℕ → ℕ → List EntryRow → Type 0
+AreEntriesOf today periods None office loan rows = rows ≡ []
+AreEntriesOf today periods (Some day) office loan rows = AreLoanEntries today day periods office loan rows

@@ -1,0 +1,189 @@
+//! The rows of entries, each by itself.
+
+ghost use Rattle.std.specs.Prelude.{◌≡◌, ◌≢◌, ℕ, pos, ◌≤◌, ◌↔◌, IsTrue, length, IfSome, Some, None, ◌^◌};
+ghost use Rattle.mf_account.specs.Loan.{HasColumns};
+ghost use Rattle.mf_account.specs.declared.entry.Entry.{Entry};
+ghost use Rattle.mf_account.specs.declared.entry.Kind.{Kind as AnyKind};
+ghost use Rattle.mf_alloc.specs.declared.row.Portion.{Portion as AnyPortion};
+ghost use Rattle.mf_alloc.specs.declared.row.Portion.TheVariants.{Penalty as PenaltyPart, Fee as FeePart, Principal};
+ghost use Rattle.mf_model.specs.Receipts.{IsReceipt, is_printable};
+ghost use Rattle.mf_store_sound.specs.Entries.{IsReadable, IsEntryRow};
+ghost use Rattle.mf_store_sound.specs.Flat.{entry_in, entry_kind_number, portion_number};
+ghost use Rattle.std.specs.List.{list_all};
+
+use crate::numbers::{amount_from, flag_from};
+use mf_account::Kind;
+use mf_alloc::Portion;
+use mf_base::Day;
+use mf_office::Caller;
+use mf_store_records::{EntryRow, Text};
+
+/// The greatest amount of an entry, as rows keep it.
+const GREATEST_AMOUNT: i64 = 1_000_000_000_000;
+
+/// The kind of a number.
+fn kind_from(number: u32) -> Option<Kind>
+    ensures some { IfSome result (λ kind. entry_kind_number kind ≡ number) }
+    ensures every { (kind : AnyKind) → entry_kind_number kind ≡ number → result ≡ Some kind }
+{
+    match number {
+        1 => Some(Kind::Repay),
+        2 => Some(Kind::Fee),
+        3 => Some(Kind::Penalty),
+        4 => Some(Kind::Waive),
+        5 => Some(Kind::WriteOff),
+        6 => Some(Kind::Refund),
+        _ => None,
+    }
+}
+
+/// The portion of a number.
+fn portion_from(number: u32) -> Option<Portion>
+    ensures some { IfSome result (λ portion. portion_number portion ≡ number) }
+    ensures every { (portion : AnyPortion) → portion_number portion ≡ number → result ≡ Some portion }
+{
+    match number {
+        1 => Some(Portion::Penalty),
+        2 => Some(Portion::Fee),
+        3 => Some(Portion::Interest),
+        4 => Some(Portion::Principal),
+        _ => None,
+    }
+}
+
+/// Whether the numbers and texts of a row are those of an entry.
+pub(crate) fn is_readable(row: &EntryRow) -> bool
+    ensures { IsTrue result ↔ ((e : Entry) × IsReadable e × (entry_in row.now.office row.now.loan e ≡ row.now)) }
+{
+    match (
+        kind_from(row.kind),
+        portion_from(row.portion),
+        flag_from(row.reversed),
+        amount_from(row.amount),
+        Day::parse(row.day.as_str().as_bytes()),
+        Caller::parse(row.staff.as_str().as_bytes()),
+    ) {
+        (Some(_), Some(_), Some(_), Some(_), Some(_), Some(_)) => true,
+        _ => false,
+    }
+}
+
+/// Whether an amount is from 1 cent to the greatest.
+fn is_amount(cents: i64) -> bool
+    ensures { (amount : ℕ) → pos amount ≡ cents → IsTrue result ↔ ((1 ≤ amount) × (amount ≤ 10 ^ 12)) }
+{
+    cents >= 1 && cents <= GREATEST_AMOUNT
+}
+
+/// Whether a row's instalment is one of so many.
+fn is_instalment(periods: u32, row: &EntryRow) -> bool
+    ensures { IsTrue result ↔ ((1 ≤ row.now.instalment) × (row.now.instalment ≤ periods)) }
+{
+    row.instalment >= 1 && row.instalment <= periods
+}
+
+/// Whether a row's columns are those of a fee or a penalty, whose portion has this number.
+fn is_charge(portion: u32, periods: u32, row: &EntryRow) -> bool
+    ensures { (amount : ℕ) → pos amount ≡ row.now.amount →
+        IsTrue result ↔ ((1 ≤ amount) × (amount ≤ 10 ^ 12) × (1 ≤ row.now.instalment) × (row.now.instalment ≤ periods) × (row.now.portion ≡ portion) × (row.now.receipt ≡ None)) }
+{
+    is_amount(row.amount)
+        && is_instalment(periods, row)
+        && row.portion == portion
+        && row.receipt.is_none()
+}
+
+/// Whether a row's columns are those of a repayment.
+fn is_repayment(row: &EntryRow) -> bool
+    ensures { (amount : ℕ) → pos amount ≡ row.now.amount →
+        IsTrue result ↔ ((1 ≤ amount) × (amount ≤ 10 ^ 12) × (row.now.instalment ≡ 0) × (row.now.portion ≡ 4)) }
+{
+    is_amount(row.amount) && row.instalment == 0 && row.portion == 4
+}
+
+/// Whether a row's columns are those of a waiver.
+fn is_waiver(periods: u32, row: &EntryRow) -> bool
+    ensures { (amount : ℕ) → pos amount ≡ row.now.amount →
+        IsTrue result ↔ ((amount ≡ 0) × (1 ≤ row.now.instalment) × (row.now.instalment ≤ periods) × (row.now.portion ≢ 4) × (row.now.receipt ≡ None)) }
+{
+    row.amount == 0 && is_instalment(periods, row) && row.portion != 4 && row.receipt.is_none()
+}
+
+/// Whether a row's columns are those of a write-off or a refund.
+fn is_sealing(row: &EntryRow) -> bool
+    ensures { (amount : ℕ) → pos amount ≡ row.now.amount →
+        IsTrue result ↔ ((amount ≡ 0) × (row.now.instalment ≡ 0) × (row.now.portion ≡ 4) × (row.now.receipt ≡ None)) }
+{
+    row.amount == 0 && row.instalment == 0 && row.portion == 4 && row.receipt.is_none()
+}
+
+/// Whether a row's columns are those of an entry of its kind, on a loan of so many instalments.
+pub(crate) fn has_columns(periods: u32, row: &EntryRow) -> bool
+    ensures { (e : Entry) → entry_in row.now.office row.now.loan e ≡ row.now → IsTrue result ↔ HasColumns e.kind periods e }
+{
+    match row.kind {
+        1 => is_repayment(row),
+        2 => is_charge(2, periods, row),
+        3 => is_charge(1, periods, row),
+        4 => is_waiver(periods, row),
+        _ => is_sealing(row),
+    }
+}
+
+/// Whether a text is that of a receipt.
+fn is_receipt(text: &Text) -> bool
+    ensures { IsTrue result ↔ IsReceipt text.now }
+{
+    let bytes = text.as_str().as_bytes();
+    !bytes.is_empty() && bytes.len() <= 40 && are_printable(bytes)
+}
+
+/// Whether each byte is printable ASCII, and none is a space.
+fn are_printable(bytes: &[u8]) -> bool
+    ensures { result ≡ list_all is_printable bytes.now }
+{
+    bytes.iter().all(|byte| *byte >= 33 && *byte <= 126)
+}
+
+/// Whether a row's receipt, if it has one, is a receipt.
+pub(crate) fn has_right_receipt(row: &EntryRow) -> bool
+    ensures { IsTrue result ↔ IfSome row.now.receipt IsReceipt }
+{
+    match &row.receipt {
+        None => true,
+        Some(text) => is_receipt(text),
+    }
+}
+
+/// Whether a row's day is from this day to today.
+fn is_on_time(today: Day, day: Day, row: &EntryRow) -> bool
+    ensures { (e : Entry) → IsReadable e → entry_in row.now.office row.now.loan e ≡ row.now →
+        IsTrue result ↔ ((day ≤ e.day) × (e.day ≤ today)) }
+{
+    match Day::parse(row.day.as_str().as_bytes()) {
+        Some(on) => day <= on && on <= today,
+        None => false,
+    }
+}
+
+/// Whether a row is that of an entry with this number, of a loan of so many instalments that was disbursed on a day,
+/// whoever entered it.
+pub(crate) fn is_entry(
+    today: Day,
+    day: Day,
+    periods: u32,
+    office: u32,
+    loan: u32,
+    number: u32,
+    row: &EntryRow,
+) -> bool
+    ensures { IsTrue result ↔ IsEntryRow today day periods office loan number row.now }
+{
+    row.office == office
+        && row.loan == loan
+        && row.seq == number
+        && is_readable(row)
+        && is_on_time(today, day, row)
+        && has_columns(periods, row)
+        && has_right_receipt(row)
+}

@@ -1,0 +1,140 @@
+//! The rows of loans, each by itself.
+
+ghost use Rattle.std.specs.Prelude.{◌≡◌, ℕ, List, ◌≤◌, ◌↔◌, IsTrue, length, is_some};
+ghost use Rattle.mf_base.specs.DayText.{last_entered_day};
+ghost use Rattle.mf_catalog.specs.Product.{allows};
+ghost use Rattle.mf_model.specs.Institution.{Catalogue, Offer, product_in, numbered};
+ghost use Rattle.mf_model.specs.Sound.{IsStageBy, lends};
+ghost use Rattle.mf_model.specs.declared.loan.Loan.{Loan};
+ghost use Rattle.mf_store_sound.specs.Flat.{loan_in, product_as, numbered_from};
+ghost use Rattle.mf_store_sound.specs.Stages.{IsApproval, IsDisbursal, IsStageOf, IsOwnLoan, AreEntriesOf};
+ghost use Rattle.mf_model.specs.Stages.{disbursed_on};
+ghost use Rattle.mf_store_sound.specs.Stored.{IsRowOf};
+
+use crate::entered::are_loan_entries;
+use crate::numbers::amount_from;
+use crate::products::product_row;
+use mf_base::Day;
+use mf_store_records::{EntryRow, LoanRow, ProductRow, Text};
+
+/// Whether an approval's text is that of a day up to this one.
+fn is_approval(today: Day, approved: &Text) -> bool
+    requires { today ≤ last_entered_day }
+    ensures { IsTrue result ↔ IsApproval today approved.now }
+{
+    match Day::parse(approved.as_str().as_bytes()) {
+        Some(day) => day <= today,
+        None => false,
+    }
+}
+
+/// Whether the texts are those of a day of approval and a day of disbursement, in this order and up to this day.
+fn is_disbursal(today: Day, approved: &Text, disbursed: &Text) -> bool
+    requires { today ≤ last_entered_day }
+    ensures { IsTrue result ↔ IsDisbursal today approved.now disbursed.now }
+{
+    let Some(first) = Day::parse(approved.as_str().as_bytes()) else {
+        return false;
+    };
+    let Some(second) = Day::parse(disbursed.as_str().as_bytes()) else {
+        return false;
+    };
+    first <= second && second <= today
+}
+
+/// Whether a status and two days are those of a stage that a loan can have reached on this day.
+fn is_stage(today: Day, row: &LoanRow) -> bool
+    requires { today ≤ last_entered_day }
+    ensures { IsTrue result ↔ IsStageOf today row.now.stage row.now.approved row.now.disbursed }
+{
+    match (row.stage, &row.approved, &row.disbursed) {
+        (100, None, None) => true,
+        (200, Some(approved), None) => is_approval(today, approved),
+        (300, Some(approved), Some(disbursed)) => is_disbursal(today, approved, disbursed),
+        (400, None, None) => true,
+        (500, None, None) => true,
+        _ => false,
+    }
+}
+
+/// Whether a row is that of a loan of this office with this number, at a stage that it can have reached on this day.
+fn is_row_of_loan(today: Day, office: u32, number: u32, row: &LoanRow) -> bool
+    requires { today ≤ last_entered_day }
+    ensures { IsTrue result ↔ IsRowOf (loan_in office) (λ (l : Loan). IsStageBy today l.stage) number row.now }
+{
+    match amount_from(row.principal) {
+        Some(_) => row.office == office && row.number == number && is_stage(today, row),
+        None => false,
+    }
+}
+
+/// Whether the client of the row's loan is one of so many.
+fn is_client_there(clients: usize, row: &LoanRow) -> bool
+    ensures { (l : Loan) → loan_in row.now.office row.now.number l ≡ row.now → (names : List (List ℕ)) → length names ≡ clients →
+        result ≡ is_some (numbered names l.client) }
+{
+    row.client >= 1 && row.client as usize <= clients
+}
+
+/// Whether a product's row allows the principal and the periods of a loan's.
+fn is_allowed(product: &ProductRow, row: &LoanRow) -> bool
+    ensures { (number : ℕ) (p : Offer) → product_as number p ≡ product.now → (l : Loan) → loan_in row.now.office row.now.number l ≡ row.now →
+        result ≡ allows p.members l.principal l.periods }
+{
+    row.principal >= product.min_principal
+        && row.principal <= product.max_principal
+        && row.periods >= product.min_periods
+        && row.periods <= product.max_periods
+}
+
+/// Whether the product of the row's loan is there and lends so.
+fn does_lend(products: &[ProductRow], row: &LoanRow) -> bool
+    ensures { (k : Catalogue) → numbered_from product_as 1 k.products ≡ products.now → (l : Loan) → loan_in row.now.office row.now.number l ≡ row.now →
+        result ≡ lends (product_in k l.product) l.principal l.periods }
+{
+    match product_row(products, row.product) {
+        Some(product) => is_allowed(product, row),
+        None => false,
+    }
+}
+
+/// Whether a row is that of a loan of this office with this number, over this catalogue and so many clients. Its entries
+/// are left open.
+pub(crate) fn is_loan(
+    today: Day,
+    products: &[ProductRow],
+    clients: usize,
+    office: u32,
+    number: u32,
+    row: &LoanRow,
+) -> bool
+    requires { today ≤ last_entered_day }
+    ensures { (k : Catalogue) → k.day ≡ today → numbered_from product_as 1 k.products ≡ products.now → (names : List (List ℕ)) → length names ≡ clients →
+        IsTrue result ↔ IsRowOf (loan_in office) (IsOwnLoan k names) number row.now }
+{
+    is_row_of_loan(today, office, number, row)
+        && is_client_there(clients, row)
+        && does_lend(products, row)
+}
+
+/// Whether the rows are those of the entries of a row's loan: none where it is not disbursed. That those who entered
+/// them are there is left open.
+pub(crate) fn are_entries_of(
+    today: Day,
+    office: u32,
+    number: u32,
+    row: &LoanRow,
+    own: &[EntryRow],
+) -> bool
+    requires { today ≤ last_entered_day }
+    ensures { (l : Loan) → loan_in office number l ≡ row.now → IsStageBy today l.stage →
+        IsTrue result ↔ AreEntriesOf today l.periods (disbursed_on l.stage) office number own.now }
+{
+    match &row.disbursed {
+        None => own.is_empty(),
+        Some(text) => match Day::parse(text.as_str().as_bytes()) {
+            Some(day) => are_loan_entries(today, day, row.periods, office, number, own),
+            None => false,
+        },
+    }
+}

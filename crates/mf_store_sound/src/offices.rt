@@ -1,0 +1,143 @@
+//! The rows of offices: whether they are one tree, with the hierarchy texts that their parents give.
+
+ghost use Rattle.std.specs.Prelude.{◌≡◌, ◌≢◌, ◌≤◌, ◌↔◌, IsTrue, IfOk, IfErr, map, string_bytes, option_copied};
+ghost use Rattle.std.specs.List.{AllByRecursion};
+ghost use Rattle.mf_base.specs.declared.fault.Fault.TheVariants.{F20};
+ghost use Rattle.mf_model.specs.Tree.{Ascending};
+ghost use Rattle.mf_office.specs.Keys.{child_key, head_key, key_depth};
+ghost use Rattle.mf_store_sound.specs.Offices.{IsNumberedAndNamed, AscendFrom, row_at, HasParentsText, IsOfficeRow, AreOfficeRows, AreOffices};
+ghost use Rattle.mf_store_sound.specs.Parts.{office_of};
+
+use mf_base::Fault;
+use mf_model::is_name;
+use mf_office::tree_by_its_keys;
+use mf_store_records::OfficeRow;
+use std::alloc::Global;
+
+/// The greatest number of an office.
+const GREATEST_NUMBER: u32 = 9_999;
+
+/// How many dots the deepest hierarchy text has.
+const MOST_DOTS: usize = 6;
+
+/// Whether the offices stand by number, each number once.
+fn do_ascend(offices: &[OfficeRow]) -> bool
+    ensures { IsTrue result ↔ AscendFrom 0 offices.now }
+{
+    let mut last = 0;
+    for office in offices {
+        if office.number <= last {
+            return false;
+        }
+        last = office.number;
+    }
+    true
+}
+
+/// The row of the office with this number, in rows by number.
+fn find_office(offices: &[OfficeRow], number: u32) -> Option<&OfficeRow>
+    ensures { AscendFrom 0 offices.now → option_copied result ≡ row_at number offices.now }
+{
+    match offices.binary_search_by_key(&number, |office| office.number) {
+        Ok(place) => Some(&offices[place]),
+        Err(_) => None,
+    }
+}
+
+/// The hierarchy text of a child of an office.
+fn child_text(alloc: Global, above: &str, number: u32) -> Result<String, Fault>
+    ensures text { IfOk result (λ text. string_bytes text ≡ child_key above.now number) }
+    ensures gives_up { IfErr result (λ fault. fault ≡ F20) }
+{
+    let text = format!(in alloc; "{above}{number}.")?;
+    Ok(text)
+}
+
+/// How many dots a hierarchy text has.
+fn count_dots(key: &str) -> usize
+    ensures { result ≡ key_depth key.now }
+{
+    key.bytes().filter(|b| *b == b'.').count()
+}
+
+/// Whether a row has a number and a name, as every office has.
+fn is_numbered_and_named(office: &OfficeRow) -> bool
+    ensures { IsTrue result ↔ IsNumberedAndNamed office.now }
+{
+    office.number >= 1 && office.number <= GREATEST_NUMBER && is_name(office.name.as_str())
+}
+
+/// Whether a row is that of the head.
+fn is_head(office: &OfficeRow) -> bool
+    ensures { IsTrue result ↔ ((office.now.number ≡ 1) × (office.now.hkey ≡ head_key)) }
+{
+    office.number == 1 && office.hkey.as_str() == "."
+}
+
+/// Whether a row's hierarchy text is that of a child of the office of another row.
+fn is_child(alloc: Global, above: &OfficeRow, office: &OfficeRow) -> Result<bool, Fault>
+    ensures child { IfOk result (λ yes. IsTrue yes ↔ ((office.now.number ≢ 1) × (office.now.hkey ≡ child_key above.now.hkey office.now.number))) }
+    ensures gives_up { IfErr result (λ fault. fault ≡ F20) }
+{
+    let text = child_text(alloc, above.hkey.as_str(), office.number)?;
+    Ok(office.number != 1 && office.hkey.as_str() == text.as_str())
+}
+
+/// Whether a row's hierarchy text is the one that its parent gives.
+fn has_parents_text(alloc: Global, offices: &[OfficeRow], office: &OfficeRow) -> Result<bool, Fault>
+    ensures text { AscendFrom 0 offices.now → IfOk result (λ yes. IsTrue yes ↔ HasParentsText offices.now office.now.parent office.now) }
+    ensures gives_up { IfErr result (λ fault. fault ≡ F20) }
+{
+    let Some(parent) = office.parent else {
+        return Ok(is_head(office));
+    };
+    match find_office(offices, parent) {
+        Some(above) => is_child(alloc, above, office),
+        None => Ok(false),
+    }
+}
+
+/// Whether a row is one of such offices.
+fn is_office(alloc: Global, offices: &[OfficeRow], office: &OfficeRow) -> Result<bool, Fault>
+    ensures row { AscendFrom 0 offices.now → IfOk result (λ yes. IsTrue yes ↔ IsOfficeRow offices.now office.now) }
+    ensures gives_up { IfErr result (λ fault. fault ≡ F20) }
+{
+    let has_text = has_parents_text(alloc, offices, office)?;
+    Ok(has_text && is_numbered_and_named(office) && count_dots(office.hkey.as_str()) <= MOST_DOTS)
+}
+
+/// Whether each row is one of such offices.
+fn are_each_offices(alloc: Global, offices: &[OfficeRow]) -> Result<bool, Fault>
+    ensures rows { AscendFrom 0 offices.now → IfOk result (λ yes. IsTrue yes ↔ AllByRecursion (IsOfficeRow offices.now) offices.now) }
+    ensures gives_up { IfErr result (λ fault. fault ≡ F20) }
+{
+    for office in offices {
+        if !is_office(alloc, offices, office)? {
+            return Ok(false);
+        }
+    }
+    Ok(true)
+}
+
+/// Whether the rows keep what shows row by row that offices are one tree.
+fn are_office_rows(alloc: Global, offices: &[OfficeRow]) -> Result<bool, Fault>
+    ensures rows { IfOk result (λ yes. IsTrue yes ↔ AreOfficeRows offices.now) }
+    ensures gives_up { IfErr result (λ fault. fault ≡ F20) }
+{
+    if !do_ascend(offices) {
+        return Ok(false);
+    }
+    if find_office(offices, 1).is_none() {
+        return Ok(false);
+    }
+    are_each_offices(alloc, offices)
+}
+
+/// Whether the rows are those of offices that are one tree, with the hierarchy texts that their parents give.
+pub(crate) fn are_offices(alloc: Global, offices: &[OfficeRow]) -> Result<bool, Fault>
+    ensures offices { IfOk result (λ yes. IsTrue yes ↔ AreOffices offices.now) }
+    ensures gives_up { IfErr result (λ fault. fault ≡ F20) }
+{
+    tree_by_its_keys();
+    are_office_rows(alloc, offices)
+}

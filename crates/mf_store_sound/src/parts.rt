@@ -1,0 +1,93 @@
+//! Rows in the order of their owners: those of the first owner, and those of later ones.
+
+ghost use Rattle.std.specs.Prelude.{◌≡◌, ℕ};
+ghost use Rattle.mf_store_sound.specs.Parts.{own_count, own, later};
+
+use mf_store_records::{ClientRow, EntryRow, LoanRow, StaffRow};
+
+/// A row that belongs to an office.
+pub(crate) trait OfOffice {
+    /// The number of the office.
+    ghost office_of: { Self → ℕ };
+
+    fn office(&self) -> u32
+        ensures { result ≡ office_of self.now };
+}
+
+impl OfOffice for StaffRow {
+    ghost office_of = { λ row. row.office };
+
+    fn office(&self) -> u32 {
+        self.office
+    }
+}
+
+impl OfOffice for ClientRow {
+    ghost office_of = { λ row. row.office };
+
+    fn office(&self) -> u32 {
+        self.office
+    }
+}
+
+impl OfOffice for LoanRow {
+    ghost office_of = { λ row. row.office };
+
+    fn office(&self) -> u32 {
+        self.office
+    }
+}
+
+impl OfOffice for EntryRow {
+    ghost office_of = { λ row. row.office };
+
+    fn office(&self) -> u32 {
+        self.office
+    }
+}
+
+/// How many rows are this office's, before the first that is not.
+fn count_own<T: OfOffice>(rows: &[T], office: u32) -> usize
+    ensures { result ≡ own_count T.office_of office rows.now }
+{
+    let mut count = 0;
+    for row in rows {
+        if row.office() != office {
+            return count;
+        }
+        count += 1;
+    }
+    count
+}
+
+/// The rows of this office, which come first, and the later ones.
+pub(crate) fn parts<T: OfOffice>(rows: &[T], office: u32) -> (&[T], &[T])
+    ensures own { result.0.now ≡ own T.office_of office rows.now }
+    ensures later { result.1.now ≡ later T.office_of office rows.now }
+{
+    let count = count_own(rows, office);
+    rows.split_at(count)
+}
+
+/// How many rows are of entries of this loan of an office, before the first that is not.
+fn count_of_loan(rows: &[EntryRow], loan: u32) -> usize
+    ensures { result ≡ own_count (λ row. row.loan) loan rows.now }
+{
+    let mut count = 0;
+    for row in rows {
+        if row.loan != loan {
+            return count;
+        }
+        count += 1;
+    }
+    count
+}
+
+/// The rows of the entries of this loan of an office, which come first, and the later ones.
+pub(crate) fn parts_of_loan(rows: &[EntryRow], loan: u32) -> (&[EntryRow], &[EntryRow])
+    ensures own { result.0.now ≡ own (λ row. row.loan) loan rows.now }
+    ensures later { result.1.now ≡ later (λ row. row.loan) loan rows.now }
+{
+    let count = count_of_loan(rows, loan);
+    rows.split_at(count)
+}

@@ -1,0 +1,175 @@
+ghost use Rattle.std.specs.Prelude.{◌≡◌, ℕ, pos, ◌≤◌, ◌↔◌, IsTrue, length, option_copied};
+ghost use Rattle.mf_base.specs.declared.day.Freq.{Freq as AnyFreq};
+ghost use Rattle.mf_catalog.specs.declared.limits.TheConstants.{GREATEST_AMOUNT, MOST_PERIODS};
+ghost use Rattle.mf_catalog.specs.Limits.{longest_step};
+ghost use Rattle.mf_catalog.specs.Product.{AreMembersWithinLimits, limits_agree, kinds_right, is_of_kind};
+ghost use Rattle.mf_catalog.specs.declared.charge.ChargeKind.{ChargeKind as AnyKind};
+ghost use Rattle.mf_model.specs.Institution.{Catalogue, Offer, charge_in, numbered};
+ghost use Rattle.mf_model.specs.Sound.{IsSoundOffer};
+ghost use Rattle.mf_store_sound.specs.Flat.{charge_as, product_as, numbered_from};
+ghost use Rattle.mf_base.specs.Choices.{frequency_number};
+ghost use Rattle.mf_catalog.specs.Names.{kind_number};
+ghost use Rattle.mf_store_sound.specs.Stored.{IsRowOf, AreRowsOf};
+
+use crate::numbers::{amount_from, flag_from};
+use mf_base::{Choice, Freq};
+use mf_catalog::{
+    GREATEST_RATE, MOST_GRACE, MOST_MONTHS, MOST_PERIODS, MOST_WEEKS, Method, StrategyName,
+};
+use mf_model::is_name;
+use mf_store_records::{ChargeRow, ProductRow};
+
+/// The most products.
+const MOST_PRODUCTS: usize = 999;
+
+/// The greatest principal, as rows keep it.
+const GREATEST_PRINCIPAL: i64 = 1_000_000_000_000;
+
+/// Whether the numbers of a row that stand for choices stand for some, and its amounts are amounts.
+fn has_choices(row: &ProductRow) -> bool
+    ensures { IsTrue result ↔ ((p : Offer) × (product_as row.now.number p ≡ row.now)) }
+{
+    match (
+        Method::from_number(row.method),
+        Freq::from_number(row.frequency),
+        StrategyName::from_number(row.strategy),
+        flag_from(row.retired),
+        amount_from(row.min_principal),
+        amount_from(row.max_principal),
+    ) {
+        (Some(_), Some(_), Some(_), Some(_), Some(_), Some(_)) => true,
+        _ => false,
+    }
+}
+
+/// The longest step between due days for the number of a frequency.
+fn longest(frequency: u32) -> u32
+    ensures { (freq : AnyFreq) → frequency_number freq ≡ frequency → result ≡ longest_step freq }
+{
+    if frequency == 1 {
+        MOST_WEEKS
+    } else {
+        MOST_MONTHS
+    }
+}
+
+/// Whether a principal is from 1 cent to the greatest.
+fn is_principal(principal: i64) -> bool
+    ensures { (amount : ℕ) → pos amount ≡ principal → IsTrue result ↔ ((1 ≤ amount) × (amount ≤ GREATEST_AMOUNT)) }
+{
+    principal >= 1 && principal <= GREATEST_PRINCIPAL
+}
+
+/// Whether a number of periods is from 1 to the most.
+fn are_periods(periods: u32) -> bool
+    ensures { IsTrue result ↔ ((1 ≤ periods) × (periods ≤ MOST_PERIODS)) }
+{
+    periods >= 1 && periods <= MOST_PERIODS
+}
+
+/// Whether the members of the row's product lie in their ranges.
+fn is_within_limits(row: &ProductRow) -> bool
+    ensures { (p : Offer) → product_as row.now.number p ≡ row.now → IsTrue result ↔ AreMembersWithinLimits p.members }
+{
+    row.rate <= GREATEST_RATE
+        && row.every >= 1
+        && row.every <= longest(row.frequency)
+        && row.principal_grace <= MOST_GRACE
+        && row.interest_grace <= MOST_GRACE
+        && is_principal(row.min_principal)
+        && is_principal(row.max_principal)
+        && are_periods(row.min_periods)
+        && are_periods(row.max_periods)
+}
+
+/// Whether the limits of the row's product agree.
+fn do_limits_agree(row: &ProductRow) -> bool
+    ensures { (p : Offer) → product_as row.now.number p ≡ row.now → result ≡ limits_agree p.members }
+{
+    row.min_principal <= row.max_principal
+        && row.min_periods <= row.max_periods
+        && row.principal_grace < row.min_periods
+        && row.interest_grace < row.min_periods
+}
+
+/// The row with this number, in rows by number from 1.
+fn charge_row(rows: &[ChargeRow], number: u32) -> Option<&ChargeRow>
+    ensures { option_copied result ≡ numbered rows.now number }
+{
+    if number == 0 {
+        return None;
+    }
+    rows.get(number as usize - 1)
+}
+
+/// The row with this number, in rows by number from 1.
+pub(crate) fn product_row(rows: &[ProductRow], number: u32) -> Option<&ProductRow>
+    ensures { option_copied result ≡ numbered rows.now number }
+{
+    if number == 0 {
+        return None;
+    }
+    rows.get(number as usize - 1)
+}
+
+/// Whether the charge is there and of the kind of this number, where one is named.
+fn is_of_kind(charges: &[ChargeRow], kind: u32, named: Option<u32>) -> bool
+    ensures { (k : Catalogue) → numbered_from charge_as 1 k.charges ≡ charges.now → (wanted : AnyKind) → kind_number wanted ≡ kind →
+        result ≡ is_of_kind (charge_in k) wanted named }
+{
+    let Some(number) = named else {
+        return true;
+    };
+    match charge_row(charges, number) {
+        Some(charge) => charge.kind == kind,
+        None => false,
+    }
+}
+
+/// Whether the charges that the row's product names are there and of the right kinds.
+fn are_kinds_right(charges: &[ChargeRow], row: &ProductRow) -> bool
+    ensures { (k : Catalogue) → numbered_from charge_as 1 k.charges ≡ charges.now → (p : Offer) → product_as row.now.number p ≡ row.now →
+        result ≡ kinds_right (charge_in k) p.members }
+{
+    let disbursement = is_of_kind(charges, 1, row.disbursement_charge);
+    let instalment = is_of_kind(charges, 2, row.instalment_charge);
+    let overdue = is_of_kind(charges, 3, row.overdue_charge);
+    if !disbursement {
+        return false;
+    }
+    if !instalment {
+        return false;
+    }
+    overdue
+}
+
+/// Whether a row is that of a product with this number, over these charges.
+fn is_product(charges: &[ChargeRow], number: u32, row: &ProductRow) -> bool
+    ensures { (k : Catalogue) → numbered_from charge_as 1 k.charges ≡ charges.now →
+        IsTrue result ↔ IsRowOf product_as (IsSoundOffer (charge_in k)) number row.now }
+{
+    row.number == number
+        && has_choices(row)
+        && is_name(row.name.as_str())
+        && is_within_limits(row)
+        && do_limits_agree(row)
+        && are_kinds_right(charges, row)
+}
+
+/// Whether the rows are those of products over these charges, by number from 1.
+pub(crate) fn are_products(charges: &[ChargeRow], rows: &[ProductRow]) -> bool
+    ensures { (k : Catalogue) → numbered_from charge_as 1 k.charges ≡ charges.now →
+        IsTrue result ↔ ((length rows.now ≤ 999) × AreRowsOf product_as (IsSoundOffer (charge_in k)) 1 rows.now) }
+{
+    if rows.len() > MOST_PRODUCTS {
+        return false;
+    }
+    let mut number = 1;
+    for row in rows {
+        if !is_product(charges, number, row) {
+            return false;
+        }
+        number += 1;
+    }
+    true
+}
