@@ -16,3 +16,4 @@ pub use lines::{LineDesk, run_lines};
 pub use refusals::fault_text;
 pub use sinks::{Sink, WatchedWriter, WriteFault};
 pub use sources::{ReadFault, Source, WatchedReader};
+pub use writing::put;

@@ -1,0 +1,45 @@
+-- A sheet's lines as calls, and what they are told as results.
+use Rattle.std.specs.Prelude.{Some, List, ℕ, Result, Ok, Err}
+use Rattle.mf_base.specs.declared.fault.Fault.{Fault}
+use Rattle.mf_office.specs.declared.caller.Caller.{Caller}
+use Rattle.mf_model.specs.declared.request.Call.{Call}
+use Rattle.mf_model.specs.declared.request.Request.{Request}
+use Rattle.mf_model.specs.declared.request.Request.TheVariants as request
+use Rattle.mf_model.specs.declared.request.Flaw.TheVariants.{Malformed}
+use Rattle.mf_model.specs.declared.request.LoanRequest.TheVariants as asks
+use Rattle.mf_model.specs.declared.reply.Reply.{Reply}
+use Rattle.mf_model.specs.declared.reply.Reply.TheVariants as reply
+use Rattle.mf_model.specs.declared.reply.LoanReply.TheVariants as told
+use Rattle.mf_sheet_lines.specs.declared.line.SheetLine.{SheetLine}
+use Rattle.mf_sheet_lines.specs.declared.line.SheetLine.TheVariants.{Repay, Bad}
+use Rattle.mf_sheet_lines.specs.declared.results.SheetResult.{SheetResult}
+use Rattle.mf_sheet_lines.specs.declared.results.SheetResult.TheVariants.{Entered, Repeated, Refused}
+use Rattle.mf_sheet_lines.specs.Lines.{line_of}
+
+-- a line asks for a repayment; a bad one reads as no request
+abbrev pub asked_by : SheetLine → Request
+asked_by Bad = request.Unreadable Malformed
+asked_by (Repay r) = request.Loan r.loan (asks.Repay (record { amount = r.amount; day = r.day; receipt = Some r.receipt }))
+
+-- the call of a line that somebody sends
+abbrev pub call_of : Caller → SheetLine → Call
+call_of c line = record { caller = Some c; request = asked_by line }
+
+-- the call of a line of these fields
+abbrev pub call_by : Caller → List (List ℕ) → Call
+call_by c fields = call_of c (line_of fields)
+
+-- the result of a success: a receipt that was known is repeated
+abbrev pub told_by : Reply → SheetResult
+told_by (reply.Loan loan (told.Repeated seq)) = Repeated
+told_by _ = Entered
+
+-- the result of a reply
+abbrev pub result_of : Result Reply Fault → SheetResult
+result_of (Ok r) = told_by r
+result_of (Err fault) = Refused fault
+
+-- a result that was made of a success, or the refusal
+abbrev pub outcome_of : Result SheetResult Fault → SheetResult
+outcome_of (Ok result) = result
+outcome_of (Err fault) = Refused fault

@@ -1,0 +1,90 @@
+// A line of a sheet, answered over a store.
+ghost use Rattle.std.specs.Prelude.{◌≡◌, IfOk, IfErr};
+ghost use Rattle.mf_model.specs.Sound.{IsInRange};
+ghost use Rattle.mf_sheet_lines.specs.Lines.{IsLineInRange};
+ghost use Rattle.mf_sheet.specs.Lines.{asked_by, told_by, call_of, result_of, outcome_of};
+ghost use Rattle.mf_sheet.specs.Runs.{Calls};
+
+use mf_base::Fault;
+use mf_desk::answer;
+use mf_model::{Flaw, InstitutionStore, LoanReply, LoanRequest, Repayment, Reply, Request};
+use mf_office::Caller;
+use mf_sheet_lines::{SheetLine, SheetResult};
+use std::alloc::Global;
+
+/// What a line asks of the desk. A bad line reads as no request.
+fn request_of(line: SheetLine) -> Request
+    ensures value { result ≡ asked_by line }
+    ensures in_range { IsLineInRange line → IsInRange result }
+{
+    match line {
+        SheetLine::Bad => Request::Unreadable(Flaw::Malformed),
+        SheetLine::Repay(repayment) => Request::Loan {
+            loan: repayment.loan,
+            asked: LoanRequest::Repay(Repayment {
+                amount: repayment.amount,
+                day: repayment.day,
+                receipt: Some(repayment.receipt),
+            }),
+        },
+    }
+}
+
+/// The result that a success is told as.
+fn told(reply: &Reply) -> SheetResult
+    ensures { result ≡ told_by reply.now }
+{
+    match reply {
+        Reply::Loan {
+            loan: _,
+            told: LoanReply::Repeated(_),
+        } => SheetResult::Repeated,
+        _ => SheetResult::Entered,
+    }
+}
+
+/// The result of a line, or its refusal.
+fn answered<S: InstitutionStore>(
+    alloc: Global,
+    store: &mut S,
+    caller: Caller,
+    line: SheetLine,
+) -> Result<SheetResult, Fault>
+    requires { IsLineInRange line }
+    ensures { Calls S.stands S.clean S.leaves (λ r. outcome_of result ≡ result_of r) (call_of caller line) store.old store.new }
+{
+    let request = request_of(line);
+    answer(
+        alloc,
+        store,
+        caller,
+        request,
+        |reply: &Reply| -> Result<SheetResult, Fault>
+            ensures ok { IfOk result (λ s. s ≡ told_by reply.now) }
+            ensures err { IfErr result (λ f. f ≡ Fault.F20) }
+        { Ok(told(reply)) },
+    )
+}
+
+fn outcome(answered: Result<SheetResult, Fault>) -> SheetResult
+    ensures { result ≡ outcome_of answered }
+{
+    match answered {
+        Ok(told) => told,
+        Err(fault) => SheetResult::Refused(fault),
+    }
+}
+
+/// Answers a line of a sheet, which somebody sends, as a repayment. A bad line is refused as malformed before its
+/// sender is looked at. A refusal changes nothing.
+pub fn answer_line<S: InstitutionStore>(
+    alloc: Global,
+    store: &mut S,
+    caller: Caller,
+    line: SheetLine,
+) -> SheetResult
+    requires { IsLineInRange line }
+    ensures { Calls S.stands S.clean S.leaves (λ r. result ≡ result_of r) (call_of caller line) store.old store.new }
+{
+    outcome(answered(alloc, store, caller, line))
+}

@@ -1,0 +1,125 @@
+// A sheet answered line by line, the result of each written before the next is answered.
+ghost use Rattle.std.specs.Prelude.{◌≡◌, ◌≢◌, ◌<◌, ◌≤◌, ℕ, List, Option, IfOk, IfErr, OnOk, length, take, true, false};
+ghost use Rattle.std.specs.Io.KnownBytes.{Appends};
+ghost use Rattle.mf_base.specs.declared.fault.Cause.TheVariants as cause;
+ghost use Rattle.mf_sheet_lines.specs.Results.{heading as heading_text, record_text};
+ghost use Rattle.mf_sheet_lines.specs.Sheets.{longest, rows_of};
+ghost use Rattle.mf_sheet.specs.Runs.{AnswersFields, RunsRows, Steps};
+ghost use Rattle.mf_sheet.specs.Ends.{Ends};
+
+use crate::answering::answer_line;
+use mf_base::{Cause, Fault, StreamFault};
+use mf_model::InstitutionStore;
+use mf_office::Caller;
+use mf_sheet_lines::{BegunRecord, SheetResult, SheetRow, heading, read_sheet};
+use mf_wire_lines::{Sink, WriteFault, put};
+use std::alloc::Global;
+
+/// Answers a line and writes the record of its result, whose room is made before the line is answered.
+fn collect_row<S: InstitutionStore, W: Sink>(
+    alloc: Global,
+    store: &mut S,
+    caller: &Caller,
+    row: SheetRow,
+    sink: &mut W,
+) -> Result<SheetResult, Cause>
+    ensures answered { IfOk result (λ r. AnswersFields S.stands S.clean S.leaves caller.now store.old row r store.new) }
+    ensures written { IfOk result (λ r. Appends (W.written sink.old) (W.written sink.new) (record_text row r)) }
+    ensures sound { OnOk result (W.faults sink.new ≡ W.faults sink.old) }
+    ensures memory { IfErr result (λ c. c ≡ cause.Memory → (store.new ≡ store.old) × (sink.new ≡ sink.old)) }
+    ensures write { IfErr result (λ c. c ≡ cause.Write → (r : SheetResult) × AnswersFields S.stands S.clean S.leaves caller.now store.old row r store.new
+        × ((n : ℕ) × (n < length (record_text row r)) × Appends (W.written sink.old) (W.written sink.new) (take n (record_text row r)))) }
+    ensures fault { IfErr result (λ c. c ≡ cause.Write → W.faults sink.new ≢ W.faults sink.old) }
+    ensures read { IfErr result (λ c. c ≢ cause.Read) }
+{
+    let (fields, line) = row.into_parts();
+    let Ok(begun) = BegunRecord::new(alloc, &fields) else {
+        return Err(Cause::Memory);
+    };
+    let outcome = answer_line(alloc, store, *caller, line);
+    let record = begun.ended(outcome);
+    match put(sink, record.as_slice()) {
+        Ok(()) => Ok(outcome),
+        Err(WriteFault) => Err(Cause::Write),
+    }
+}
+
+/// Whether a result ends the sheet.
+fn is_end(outcome: SheetResult) -> bool
+    ensures end { result ≡ true → outcome ≡ SheetResult.Refused Fault.F20 }
+    ensures goes_on { result ≡ false → outcome ≢ SheetResult.Refused Fault.F20 }
+{
+    match outcome {
+        SheetResult::Refused(Fault::F20) => true,
+        _ => false,
+    }
+}
+
+/// Answers the lines of a sheet whose heading was written.
+fn collect_rows<S: InstitutionStore, W: Sink>(
+    alloc: Global,
+    store: &mut S,
+    caller: &Caller,
+    rows: Vec<SheetRow>,
+    sink: &mut W,
+) -> Result<(), StreamFault>
+    ensures ends { (before : Option (List ℕ)) → Appends before (W.written sink.old) heading_text →
+        Ends (Steps (AnswersFields S.stands S.clean S.leaves caller.now)) store.old store.new (record {
+          rows = rows.items;
+          before = before;
+          after = W.written sink.new;
+          faults_before = W.faults sink.old;
+          faults_after = W.faults sink.new;
+        }) result }
+{
+    let mut answered = 0u64;
+    for row in rows {
+        let outcome = match collect_row(alloc, store, caller, row, sink) {
+            Ok(outcome) => outcome,
+            Err(cause) => return Err(StreamFault { answered, cause }),
+        };
+        if is_end(outcome) {
+            return Ok(());
+        }
+        answered += 1;
+    }
+    Ok(())
+}
+
+/// Answers a collection sheet, which somebody sends, line by line as repayments, and writes the sheet of their results.
+/// The first F20 is written and ends the sheet.
+///
+/// A fault tells how many results were written whole. `Memory` is told where the sheet can't be read, and nothing is
+/// answered or written, and where there is no room for the record of a line's result, which is made before the line is
+/// answered: that line is not run. After `Write`, which is told only where the writer failed in this call, the line
+/// whose result was being written is the last that was run, and none was where the heading was being written.
+pub fn collect<S: InstitutionStore, W: Sink>(
+    alloc: Global,
+    store: &mut S,
+    caller: Caller,
+    bytes: &[u8],
+    sink: &mut W,
+) -> Result<(), StreamFault>
+    requires { length bytes.now ≤ longest }
+    ensures ends { Ends (RunsRows S.stands S.clean S.leaves caller) store.old store.new (record {
+      rows = rows_of bytes.now;
+      before = W.written sink.old;
+      after = W.written sink.new;
+      faults_before = W.faults sink.old;
+      faults_after = W.faults sink.new;
+    }) result }
+{
+    let Ok(sheet) = read_sheet(alloc, bytes) else {
+        return Err(StreamFault {
+            answered: 0,
+            cause: Cause::Memory,
+        });
+    };
+    let Ok(()) = put(sink, heading()) else {
+        return Err(StreamFault {
+            answered: 0,
+            cause: Cause::Write,
+        });
+    };
+    collect_rows(alloc, store, &caller, sheet.into_rows(), sink)
+}
