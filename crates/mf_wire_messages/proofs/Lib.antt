@@ -1,0 +1,4 @@
+pub mod BodyLemmas
+pub mod FieldLemmas
+pub mod HeadLemmas
+pub mod MessageLemmas

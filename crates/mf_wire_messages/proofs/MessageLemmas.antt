@@ -1,0 +1,76 @@
+-- A message by its head and the bytes after it.
+use Rattle.std.proofs.Common.{◌≡◌, ◌≢◌, ℕ, ◌<◌, ◌≤◌, List, [], ◌∷◌, ◌++◌, refl, sym, ap, ◌∙◌, subst, arith, length, length-append, take, drop, map, append_assoc, append-nil, Option, None, Some, true, false, cond, nat_le, option_and_then}
+use Rattle.std.proofs.lemmas.List.{take-append-le, length-take-le, length-map}
+use Rattle.std.specs.Io.KnownBytes.{Consumes, IsAtEnd}
+use Rattle.httparse.specs.Grammar.{RequestHead}
+use Rattle.httparse.specs.Spans.{IsRequestAt, IsRequestWithin, name_and_value, header_bytes}
+use Rattle.httparse.specs.declared.spans.HeaderSpan.{HeaderSpan}
+use Rattle.httparse.specs.declared.spans.RequestSpans.{RequestSpans}
+use Rattle.httparse.proofs.GrammarLemmas.{ReadsRequest-append}
+use Rattle.mf_wire_messages.specs.Heads.{ReadsHead}
+use Rattle.mf_wire_messages.specs.Messages.{Request, frame_of, request_within, request_of}
+use Rattle.mf_wire_messages.specs.Arrivals.{following, Tells, Arrives}
+use Rattle.mf_wire_messages.specs.declared.reading.Arrival.{Arrival}
+use Rattle.std.proofs.KnownBytes.{Consumes-trans}
+use Rattle.std.proofs.Math.Seq.{take-append_seam}
+use Rattle.mf_wire_messages.proofs.HeadLemmas.{none_follows}
+
+pub nonempty_front : (xs ys : List ℕ) → xs ≢ [] → xs ++ ys ≢ []
+nonempty_front [] ys n e = n refl
+nonempty_front (x ∷ xs) ys n e = absurd (omega (arith, ap length e))
+
+-- what was parsed is the head of the whole stream
+pub head_there : (bytes more : List ℕ) (fields : List HeaderSpan) (spans : RequestSpans) (head : RequestHead) → length bytes ≤ 16384 → length fields ≤ 64
+    → IsRequestWithin bytes fields spans → IsRequestAt bytes fields spans head → ReadsHead (bytes ++ more) head (drop spans.len bytes ++ more)
+head_there bytes more fields spans head short few within at = record {
+  reads = ReadsRequest-append bytes head (drop spans.len bytes) more at.reads;
+  short = omega (arith, short, at.len, within.section.len_fits);
+  few = omega (arith, few, within.section.count_fits, ap length at.fields, length-map head.fields name_and_value, length-map (take spans.headers fields) (header_bytes bytes), length-take-le spans.headers fields within.section.count_fits);
+}
+
+pub unframed : (head : RequestHead) (rest : List ℕ) → frame_of (map name_and_value head.fields) ≡ None → request_of head rest ≡ None
+unframed head rest e = ap (option_and_then (request_within head rest)) e
+
+over : (n m : ℕ) → m < n → nat_le n m ≡ false
+over n m lt = grind arith
+
+pub upto : (n m : ℕ) → n ≤ m → nat_le n m ≡ true
+upto n m le = grind arith
+
+-- the body is cut
+pub cut_short : (head : RequestHead) (begun more : List ℕ) (left : Option (List ℕ)) (frame : List ℕ × ℕ) (size : ℕ) → frame_of (map name_and_value head.fields) ≡ Some frame → size ≡ frame.1
+    → length (begun ++ more) < size → IsAtEnd left → request_of head (begun ++ (more ++ following left)) ≡ None
+cut_short head begun more left frame size e same short end =
+    let all : begun ++ (more ++ following left) ≡ begun ++ more = ap (λ l. begun ++ l) (ap (λ l. more ++ l) (none_follows left end) ∙ append-nil more) in
+    ap (request_of head) all ∙ ap (option_and_then (request_within head (begun ++ more))) e
+    ∙ ap (λ t. cond t (Some (record { staff = frame.0; method = head.method; target = head.target; body = take frame.1 (begun ++ more) })) None) (over frame.1 (length (begun ++ more)) (omega (arith, same, short)))
+
+-- the body is whole
+pub whole_request : (head : RequestHead) (begun more body : List ℕ) (left : Option (List ℕ)) (frame : List ℕ × ℕ) → frame_of (map name_and_value head.fields) ≡ Some frame → length body ≡ frame.1
+    → length body ≤ length (begun ++ more) → body ≡ take (length body) (begun ++ more)
+    → request_of head (begun ++ (more ++ following left)) ≡ Some (record { staff = frame.0; method = head.method; target = head.target; body = body })
+whole_request head begun more body left frame e same fits content =
+    let rest = begun ++ (more ++ following left) in
+    let parts : rest ≡ (begun ++ more) ++ following left = sym (append_assoc begun more (following left)) in
+    let long : length rest ≡ length ((begun ++ more) ++ following left) = ap length parts in
+    let taken : take frame.1 rest ≡ body =
+    ap (take frame.1) parts ∙ take-append-le frame.1 (begun ++ more) (following left) (omega (arith, same, fits)) ∙ ap (λ n. take n (begun ++ more)) (sym same) ∙ sym content in
+    ap (option_and_then (request_within head rest)) e
+    ∙ ap (λ t. cond t (Some (record { staff = frame.0; method = head.method; target = head.target; body = take frame.1 rest })) None) (upto frame.1 (length rest) (omega (arith, same, fits, long, length-append (begun ++ more) (following left))))
+    ∙ ap (λ b. Some (record { staff = frame.0; method = head.method; target = head.target; body = b })) taken
+
+-- the head and its message are read one after the other
+pub together : (a b d : Option (List ℕ)) (bytes : List ℕ) (arrival : Arrival) → Consumes a b bytes
+    → ((more : List ℕ) × Consumes b d more × Tells (bytes ++ (more ++ following d)) arrival) → Arrives a d arrival
+together a b d bytes arrival p t =
+    (bytes ++ t.0, Consumes-trans a b d bytes t.0 p t.1, subst (λ l. Tells l arrival) (sym (append_assoc bytes t.0 (following d))) t.2)
+
+abbrev pub made : List ℕ → List ℕ → List ℕ → List ℕ → Request
+made staff method target body = record { staff = staff; method = method; target = target; body = body }
+
+pub same_request : (staff method target body verb path content : List ℕ) → method ≡ verb → target ≡ path → body ≡ content → Some (made staff method target body) ≡ Some (made staff verb path content)
+same_request staff method target body verb path content p q r i = Some (made staff (p i) (q i) (r i))
+
+-- a vector whose slice was written as a whole
+pub written : (size : ℕ) (new old : List ℕ) → length new ≡ size → take size (new ++ drop (length new) old) ≡ new
+written size new old e = ap (λ n. take n (new ++ drop (length new) old)) (sym e) ∙ take-append_seam new (drop (length new) old)

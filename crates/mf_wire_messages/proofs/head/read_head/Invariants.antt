@@ -1,0 +1,17 @@
+use Rattle.std.proofs.Common.{◌≡◌, ◌<◌, ◌≤◌, ◌-◌, length, take}
+use Rattle.std.specs.Io.KnownBytes.{Consumes}
+use Rattle.httparse.specs.Grammar.{HasNoRequest}
+use Rattle.mf_wire_messages.proofs.head.read_head.Given as goal
+
+abbrev pub invariant-loop-size : goal.invariant-loop-size
+invariant-loop-size g l = record {
+  long : length l.room ≡ 16384;
+  many : length l.fields ≡ 64;
+  within : l.size ≤ 16384;
+  told : Consumes (g.R.Source.unread l.initial.source) (g.R.Source.unread l.source) (take l.size l.room);
+  none : 0 < l.size → HasNoRequest (take l.size l.room);
+  sound : g.R.Source.faults l.source ≡ g.R.Source.faults l.initial.source;
+}
+
+abbrev pub decreases-loop-size : goal.decreases-loop-size
+decreases-loop-size g l = length l.initial.room - l.size

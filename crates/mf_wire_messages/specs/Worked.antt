@@ -1,0 +1,61 @@
+-- Messages that are worked out by hand.
+use Rattle.std.specs.Prelude.{◌≡◌, ℕ, List, [], ◌∷◌, ◌++◌, codes, Some, None, true, false}
+use Rattle.httparse.specs.Grammar.{Field, RequestHead, crlf, print_request}
+use Rattle.mf_base.specs.declared.fault.Fault.TheVariants.{F1}
+use Rattle.mf_wire_messages.specs.Messages.{frame_of, request_of}
+use Rattle.mf_wire_messages.specs.Responses.{response, refusal}
+
+-- a field line with a space before its value
+abbrev pub line : List ℕ → List ℕ → Field
+line name value = record { name = name; raw = 32 ∷ value; end = crlf }
+
+-- the head that asks for a new client
+abbrev pub asking : RequestHead
+asking = record {
+  blank = [];
+  method = codes "POST";
+  target = codes "/clients";
+  minor = 1;
+  line_end = crlf;
+  fields = line (codes "Host") (codes "localhost") ∷ line (codes "X-Staff") (codes "1/1") ∷ line (codes "Content-Length") (codes "27") ∷ [];
+  last = crlf;
+}
+
+-- its body
+abbrev pub asked : List ℕ
+asked = codes "{\"office\":1,\"name\":\"Amina\"}"
+
+-- the head's bytes
+abbrev pub HeadIsWritten : Type 0
+HeadIsWritten = print_request asking ≡ codes "POST /clients HTTP/1.1\r\nHost: localhost\r\nX-Staff: 1/1\r\nContent-Length: 27\r\n\r\n"
+
+-- the request, whatever follows its body
+abbrev pub IsAsked : Type 0
+IsAsked = (more : List ℕ) → request_of asking (asked ++ more) ≡ Some (record { staff = codes "1/1"; method = codes "POST"; target = codes "/clients"; body = asked })
+
+-- five bytes of the body are none
+abbrev pub CutIsRefused : Type 0
+CutIsRefused = request_of asking (codes "{\"off") ≡ None
+
+-- the fields of a head that are refused: no staff, two, a length twice, with a sign or too long, and a transfer coding
+abbrev pub FieldsAreRefused : Type 0
+FieldsAreRefused =
+    (frame_of ((codes "Host", codes "localhost") ∷ []) ≡ None)
+    × (frame_of ((codes "X-Staff", codes "1/1") ∷ (codes "x-staff", codes "1/1") ∷ []) ≡ None)
+    × (frame_of ((codes "X-Staff", codes "1/1") ∷ (codes "Content-Length", codes "27, 27") ∷ []) ≡ None)
+    × (frame_of ((codes "X-Staff", codes "1/1") ∷ (codes "Content-Length", codes "+5") ∷ []) ≡ None)
+    × (frame_of ((codes "X-Staff", codes "1/1") ∷ (codes "Content-Length", codes "1048577") ∷ []) ≡ None)
+    × (frame_of ((codes "X-Staff", codes "1/1") ∷ (codes "Transfer-Encoding", codes "identity") ∷ []) ≡ None)
+
+-- the fields of a head that are taken: any case of a name, the longest body, and no body
+abbrev pub FieldsAreTaken : Type 0
+FieldsAreTaken =
+    (frame_of ((codes "x-STAFF", codes "1/1") ∷ (codes "content-length", codes "1048576") ∷ []) ≡ Some (codes "1/1", 1048576))
+    × (frame_of ((codes "X-Staff", codes "9/9") ∷ []) ≡ Some (codes "9/9", 0))
+
+-- the response to the request, and that of a malformed message to HEAD
+abbrev pub ResponsesAreWritten : Type 0
+ResponsesAreWritten =
+    (response 201 (codes "{\"client\":\"0001-000001\"}") false
+    ≡ codes "HTTP/1.1 201 Created\r\nContent-Type: application/json\r\nContent-Length: 24\r\nConnection: close\r\n\r\n{\"client\":\"0001-000001\"}")
+    × (refusal F1 true ≡ codes "HTTP/1.1 400 Bad Request\r\nContent-Type: application/json\r\nContent-Length: 14\r\nConnection: close\r\n\r\n")
