@@ -1,0 +1,274 @@
+//! Messages over streams in memory, whole, in single bytes, and cut.
+
+use mf_base::{Cause, Fault, StreamFault};
+use mf_wire_lines::{WatchedReader, WatchedWriter};
+use mf_wire_messages::{Arrival, read_message, write_refusal, write_reply};
+use std::alloc::Global;
+use std::io;
+use std::io::{Read, Write};
+use std::process::Abort;
+use std::test::Fail;
+
+const CLIENT: &str =
+    "POST /clients HTTP/1.1\r\nHost: localhost\r\nX-Staff: 1/1\r\nContent-Length: 27\r\n\r\n{\"office\":1,\"name\":\"Amina\"}";
+
+const CLIENT_TOLD: &str = "1/1 POST /clients {\"office\":1,\"name\":\"Amina\"}";
+
+const CREATED: &str =
+    "HTTP/1.1 201 Created\r\nContent-Type: application/json\r\nContent-Length: 24\r\nConnection: close\r\n\r\n{\"client\":\"0001-000001\"}";
+
+const REFUSED: &str =
+    "HTTP/1.1 400 Bad Request\r\nContent-Type: application/json\r\nContent-Length: 14\r\nConnection: close\r\n\r\n{\"fault\":\"F1\"}";
+
+/// Gives its bytes one by one, and then ends or fails.
+#[derive(Drop)]
+struct Drops<'a> {
+    bytes: &'a [u8],
+    fails: bool,
+}
+
+impl Read for Drops<'_> {
+    fn read(&mut self, buf: &mut [u8]) -> io::Result<usize> {
+        let Some(byte) = self.bytes.first() else {
+            if self.fails {
+                return Err(io::Error::from(io::ErrorKind::BrokenPipe));
+            }
+            return Ok(0);
+        };
+        let Some(place) = buf.first_mut() else {
+            return Ok(0);
+        };
+        *place = *byte;
+        self.bytes = &self.bytes[1..];
+        Ok(1)
+    }
+}
+
+/// Takes at most so many bytes in all, seven a call, and then fails.
+#[derive(Drop)]
+struct Narrow {
+    taken: Vec<u8>,
+    room: usize,
+}
+
+impl Write for Narrow {
+    fn write(&mut self, buf: &[u8]) -> io::Result<usize> {
+        if self.room == 0 {
+            return Err(io::Error::from(io::ErrorKind::BrokenPipe));
+        }
+        let count = buf.len().min(7).min(self.room);
+        self.taken.extend_from_slice(&buf[..count])?;
+        self.room -= count;
+        Ok(count)
+    }
+
+    fn flush(&mut self) -> io::Result<()> {
+        Ok(())
+    }
+}
+
+/// What has arrived, as a text.
+fn shown(alloc: Global, arrival: &Arrival) -> Result<Vec<u8>, Fail> {
+    let mut text = Vec::new(alloc);
+    match arrival {
+        Arrival::Silent => text.extend_from_slice(b"nothing")?,
+        Arrival::Malformed { to_head: true } => text.extend_from_slice(b"F1 to HEAD")?,
+        Arrival::Malformed { to_head: false } => text.extend_from_slice(b"F1")?,
+        Arrival::NoRoom { to_head: _ } => text.extend_from_slice(b"F20")?,
+        Arrival::Received(message) => {
+            for part in [message.staff(), message.method(), message.target()] {
+                text.extend_from_slice(part)?;
+                text.push(b' ')?;
+            }
+            text.extend_from_slice(message.body())?;
+        }
+    }
+    Ok(text)
+}
+
+/// The stream is told as that, whether it comes at once or byte by byte.
+fn assert_told(rt: &impl Abort, alloc: Global, stream: &[u8], expected: &str) -> Result<(), Fail> {
+    let mut whole = WatchedReader::new(stream);
+    let arrival = read_message(alloc, &mut whole)?;
+    assert_eq!(rt; shown(alloc, &arrival)?.as_slice(), expected.as_bytes());
+    let mut drops = WatchedReader::new(Drops {
+        bytes: stream,
+        fails: false,
+    });
+    let arrival = read_message(alloc, &mut drops)?;
+    assert_eq!(rt; shown(alloc, &arrival)?.as_slice(), expected.as_bytes());
+    Ok(())
+}
+
+#[test]
+fn messages_that_are_read(rt: HostRuntime) -> Result<(), Fail> {
+    for (stream, expected) in [
+        (CLIENT, CLIENT_TOLD),
+        ("", "nothing"),
+        (
+            "GET /offices HTTP/1.0\r\nx-sTAFF:  1/1 \r\n\r\n",
+            "1/1 GET /offices ",
+        ),
+        (
+            "\r\n\nGET /offices HTTP/1.1\nX-Staff: 1/1\n\nmore that is not read",
+            "1/1 GET /offices ",
+        ),
+        (
+            "HEAD /offices HTTP/1.1\r\nX-Staff: 1/1\r\n\r\n",
+            "1/1 HEAD /offices ",
+        ),
+        (
+            "GET http://localhost/offices HTTP/1.1\r\nX-Staff: 1/1\r\n\r\n",
+            "1/1 GET http://localhost/offices ",
+        ),
+        (
+            "PUT /a HTTP/1.1\r\nX-Staff: 1/1\r\nContent-Length: 0000000002\r\n\r\nabc",
+            "1/1 PUT /a ab",
+        ),
+    ] {
+        assert_told(&rt, rt.alloc(), stream.as_bytes(), expected)?;
+    }
+    Ok(())
+}
+
+#[test]
+fn messages_that_are_refused(rt: HostRuntime) -> Result<(), Fail> {
+    for (stream, expected) in [
+        ("GET /offices HTTP/1.1\r\n\r\n", "F1"),
+        ("HEAD /offices HTTP/1.1\r\n\r\n", "F1 to HEAD"),
+        (
+            "GET /a HTTP/1.1\r\nX-Staff: 1/1\r\nx-staff: 1/1\r\n\r\n",
+            "F1",
+        ),
+        (
+            "GET /a HTTP/1.1\r\nX-Staff: 1/1\r\nContent-Length: 27, 27\r\n\r\n",
+            "F1",
+        ),
+        (
+            "GET /a HTTP/1.1\r\nX-Staff: 1/1\r\nContent-Length: 1\r\nContent-Length: 1\r\n\r\na",
+            "F1",
+        ),
+        (
+            "GET /a HTTP/1.1\r\nX-Staff: 1/1\r\nContent-Length: +5\r\n\r\nabcde",
+            "F1",
+        ),
+        (
+            "GET /a HTTP/1.1\r\nX-Staff: 1/1\r\nContent-Length:\r\n\r\n",
+            "F1",
+        ),
+        (
+            "GET /a HTTP/1.1\r\nX-Staff: 1/1\r\nContent-Length: 00000000001\r\n\r\na",
+            "F1",
+        ),
+        (
+            "GET /a HTTP/1.1\r\nX-Staff: 1/1\r\nContent-Length: 1048577\r\n\r\n",
+            "F1",
+        ),
+        (
+            "GET /a HTTP/1.1\r\nX-Staff: 1/1\r\nTransfer-Encoding: identity\r\n\r\n",
+            "F1",
+        ),
+        ("GET /a HTTP/1.2\r\nX-Staff: 1/1\r\n\r\n", "F1"),
+        ("GET /a HTTP/2.0\r\nX-Staff: 1/1\r\n\r\n", "F1"),
+        ("POST /clients HTTP/1.1\r\nX-Sta", "F1"),
+        ("HEAD /clients HTTP/1.1\r\nX-Sta", "F1"),
+        ("\r\n", "F1"),
+        (
+            "POST /clients HTTP/1.1\r\nX-Staff: 1/1\r\nContent-Length: 27\r\n\r\n{\"off",
+            "F1",
+        ),
+        (
+            "HEAD /clients HTTP/1.1\r\nX-Staff: 1/1\r\nContent-Length: 27\r\n\r\n{\"off",
+            "F1 to HEAD",
+        ),
+    ] {
+        assert_told(&rt, rt.alloc(), stream.as_bytes(), expected)?;
+    }
+    Ok(())
+}
+
+#[test]
+fn the_longest_head(rt: HostRuntime) -> Result<(), Fail> {
+    let alloc = rt.alloc();
+    for (length, expected) in [(16384usize, "1/1 HEAD /a "), (16385, "F1")] {
+        let mut head = Vec::from_slice(alloc, b"HEAD /a HTTP/1.1\r\nX-Staff: 1/1\r\nPad: ")?;
+        for _ in head.len() + 4..length {
+            head.push(b'a')?;
+        }
+        head.extend_from_slice(b"\r\n\r\n")?;
+        assert_eq!(rt; head.len(), length);
+        let mut source = WatchedReader::new(head.as_slice());
+        let arrival = read_message(alloc, &mut source)?;
+        assert_eq!(rt; shown(alloc, &arrival)?.as_slice(), expected.as_bytes());
+    }
+    Ok(())
+}
+
+#[test]
+fn the_most_fields(rt: HostRuntime) -> Result<(), Fail> {
+    let alloc = rt.alloc();
+    for (count, expected) in [(64usize, "1/1 HEAD /a "), (65, "F1")] {
+        let mut head = Vec::from_slice(alloc, b"HEAD /a HTTP/1.1\r\nX-Staff: 1/1\r\n")?;
+        for _ in 1..count {
+            head.extend_from_slice(b"A: b\r\n")?;
+        }
+        head.extend_from_slice(b"\r\n")?;
+        assert_told(&rt, alloc, head.as_slice(), expected)?;
+    }
+    Ok(())
+}
+
+/// The reader fails before any byte, inside the head, and inside the body.
+#[test]
+fn a_reader_that_fails(rt: HostRuntime) -> Result<(), Fail> {
+    let alloc = rt.alloc();
+    for length in [0usize, 30, CLIENT.len() - 1] {
+        let mut source = WatchedReader::new(Drops {
+            bytes: &CLIENT.as_bytes()[..length],
+            fails: true,
+        });
+        let fault = StreamFault {
+            answered: 0,
+            cause: Cause::Read,
+        };
+        assert_eq!(rt; read_message(alloc, &mut source).err(), Some(fault));
+    }
+    Ok(())
+}
+
+#[test]
+fn responses_as_bytes(rt: HostRuntime) -> Result<(), Fail> {
+    let alloc = rt.alloc();
+    let mut sink = WatchedWriter::new(Vec::new(alloc));
+    assert!(rt; write_reply(&mut sink, 201, b"{\"client\":\"0001-000001\"}", false).is_ok());
+    assert_eq!(rt; sink.into_inner().as_slice(), CREATED.as_bytes());
+    let mut sink = WatchedWriter::new(Vec::new(alloc));
+    assert!(rt; write_refusal(&mut sink, Fault::F1, false).is_ok());
+    assert_eq!(rt; sink.into_inner().as_slice(), REFUSED.as_bytes());
+    let mut sink = WatchedWriter::new(Vec::new(alloc));
+    assert!(rt; write_refusal(&mut sink, Fault::F1, true).is_ok());
+    assert_eq!(rt;
+        sink.into_inner().as_slice(),
+        &REFUSED.as_bytes()[..REFUSED.len() - 14]
+    );
+    Ok(())
+}
+
+/// The writer takes so many bytes and then fails: they are a beginning of the response.
+#[test]
+fn a_writer_that_fails(rt: HostRuntime) -> Result<(), Fail> {
+    let alloc = rt.alloc();
+    for room in [0usize, 9, 40, CREATED.len() - 1, CREATED.len()] {
+        let mut sink = WatchedWriter::new(Narrow {
+            taken: Vec::new(alloc),
+            room,
+        });
+        let told = write_reply(&mut sink, 201, b"{\"client\":\"0001-000001\"}", false);
+        assert_eq!(rt; told.is_ok(), room == CREATED.len());
+        assert_eq!(rt;
+            sink.into_inner().taken.as_slice(),
+            &CREATED.as_bytes()[..room]
+        );
+    }
+    Ok(())
+}
