@@ -1,3 +1,4 @@
+pub mod RowLemmas
 pub mod Texts
 pub mod TableLemmas
 pub mod AddLemmas

@@ -34,10 +34,10 @@ use Rattle.mf_store_records.proofs.Texts.{find_receipt, find_receipt_is, find_re
 
 -- ---- meta
 
-abbrev meta_key : MetaRow → Row
+abbrev pub meta_key : MetaRow → Row
 meta_key x = Int (pos x.one) ∷ []
 
-meta_ranks : (tests : List Term) (a b : MetaRow) → output_cmp (scan 0 tests (col 1 1 ∷ col 1 2 ∷ col 1 3 ∷ []) (by (col 1 1) ∷ [])) (meta_key a, meta_row a) (meta_key b, meta_row b) ≡ by_meta a b
+pub meta_ranks : (tests : List Term) (a b : MetaRow) → output_cmp (scan 0 tests (col 1 1 ∷ col 1 2 ∷ col 1 3 ∷ []) (by (col 1 1) ∷ [])) (meta_key a, meta_row a) (meta_key b, meta_row b) ≡ by_meta a b
 meta_ranks tests a b = then-Equal _ ∙ int_cmp-pos a.one b.one
 
 pub find_meta_shows : (one : ℕ) (db : Database) (rows : List Row) (items : List MetaRow) → db.schema ≡ schema → Keeps meta_row by_meta (db.trees 0) items → Answers find_meta (Int (pos one) ∷ []) db rows → rows ≡ map meta_row (filter (is_meta one) items)
@@ -46,10 +46,10 @@ find_meta_shows one db rows items has k =
 
 -- ---- offices
 
-abbrev office_key : OfficeRow → Row
+abbrev pub office_key : OfficeRow → Row
 office_key x = Int (pos x.number) ∷ []
 
-office_ranks : (tests : List Term) (a b : OfficeRow) → output_cmp (scan 2 tests (col 1 1 ∷ col 1 2 ∷ col 1 3 ∷ col 1 4 ∷ []) (by (col 1 1) ∷ [])) (office_key a, office_row a) (office_key b, office_row b) ≡ by_office a b
+pub office_ranks : (tests : List Term) (a b : OfficeRow) → output_cmp (scan 2 tests (col 1 1 ∷ col 1 2 ∷ col 1 3 ∷ col 1 4 ∷ []) (by (col 1 1) ∷ [])) (office_key a, office_row a) (office_key b, office_row b) ≡ by_office a b
 office_ranks tests a b = then-Equal _ ∙ int_cmp-pos a.number b.number
 
 pub find_office_shows : (number : ℕ) (db : Database) (rows : List Row) (items : List OfficeRow) → db.schema ≡ schema → Keeps office_row by_office (db.trees 2) items → Answers find_office (Int (pos number) ∷ []) db rows → rows ≡ map office_row (filter (is_office number) items)
@@ -63,10 +63,10 @@ offices_in_shows low high db rows items has k =
 
 -- ---- staff
 
-abbrev staff_key : StaffRow → Row
+abbrev pub staff_key : StaffRow → Row
 staff_key x = Int (pos x.office) ∷ Int (pos x.number) ∷ []
 
-staff_ranks : (tests : List Term) (a b : StaffRow) → output_cmp (scan 5 tests (col 1 1 ∷ col 1 2 ∷ col 1 3 ∷ col 1 4 ∷ []) (by (col 1 1) ∷ by (col 1 2) ∷ [])) (staff_key a, staff_row a) (staff_key b, staff_row b) ≡ by_staff a b
+pub staff_ranks : (tests : List Term) (a b : StaffRow) → output_cmp (scan 5 tests (col 1 1 ∷ col 1 2 ∷ col 1 3 ∷ col 1 4 ∷ []) (by (col 1 1) ∷ by (col 1 2) ∷ [])) (staff_key a, staff_row a) (staff_key b, staff_row b) ≡ by_staff a b
 staff_ranks tests a b = ap₂ ordering_then (int_cmp-pos a.office b.office) (then-Equal _ ∙ int_cmp-pos a.number b.number)
 
 pub find_staff_shows : (office number : ℕ) (db : Database) (rows : List Row) (items : List StaffRow) → db.schema ≡ schema → Keeps staff_row by_staff (db.trees 5) items → Answers find_staff (Int (pos office) ∷ Int (pos number) ∷ []) db rows → rows ≡ map staff_row (filter (is_staff office number) items)
@@ -79,10 +79,10 @@ staff_of_office_shows office db rows items has k =
 
 -- ---- clients
 
-abbrev client_key : ClientRow → Row
+abbrev pub client_key : ClientRow → Row
 client_key x = Int (pos x.office) ∷ Int (pos x.number) ∷ []
 
-client_ranks : (tests : List Term) (a b : ClientRow) → output_cmp (scan 7 tests (col 1 1 ∷ col 1 2 ∷ col 1 3 ∷ []) (by (col 1 1) ∷ by (col 1 2) ∷ [])) (client_key a, client_row a) (client_key b, client_row b) ≡ by_client a b
+pub client_ranks : (tests : List Term) (a b : ClientRow) → output_cmp (scan 7 tests (col 1 1 ∷ col 1 2 ∷ col 1 3 ∷ []) (by (col 1 1) ∷ by (col 1 2) ∷ [])) (client_key a, client_row a) (client_key b, client_row b) ≡ by_client a b
 client_ranks tests a b = ap₂ ordering_then (int_cmp-pos a.office b.office) (then-Equal _ ∙ int_cmp-pos a.number b.number)
 
 pub find_client_shows : (office number : ℕ) (db : Database) (rows : List Row) (items : List ClientRow) → db.schema ≡ schema → Keeps client_row by_client (db.trees 7) items → Answers find_client (Int (pos office) ∷ Int (pos number) ∷ []) db rows → rows ≡ map client_row (filter (is_client office number) items)
@@ -95,10 +95,10 @@ clients_of_office_shows office db rows items has k =
 
 -- ---- charges
 
-abbrev charge_key : ChargeRow → Row
+abbrev pub charge_key : ChargeRow → Row
 charge_key x = Int (pos x.number) ∷ []
 
-charge_ranks : (tests : List Term) (a b : ChargeRow) → output_cmp (scan 9 tests (col 1 1 ∷ col 1 2 ∷ col 1 3 ∷ col 1 4 ∷ col 1 5 ∷ []) (by (col 1 1) ∷ [])) (charge_key a, charge_row a) (charge_key b, charge_row b) ≡ by_charge a b
+pub charge_ranks : (tests : List Term) (a b : ChargeRow) → output_cmp (scan 9 tests (col 1 1 ∷ col 1 2 ∷ col 1 3 ∷ col 1 4 ∷ col 1 5 ∷ []) (by (col 1 1) ∷ [])) (charge_key a, charge_row a) (charge_key b, charge_row b) ≡ by_charge a b
 charge_ranks tests a b = then-Equal _ ∙ int_cmp-pos a.number b.number
 
 pub find_charge_shows : (number : ℕ) (db : Database) (rows : List Row) (items : List ChargeRow) → db.schema ≡ schema → Keeps charge_row by_charge (db.trees 9) items → Answers find_charge (Int (pos number) ∷ []) db rows → rows ≡ map charge_row (filter (is_charge number) items)
@@ -107,10 +107,10 @@ find_charge_shows number db rows items has k =
 
 -- ---- products
 
-abbrev product_key : ProductRow → Row
+abbrev pub product_key : ProductRow → Row
 product_key x = Int (pos x.number) ∷ []
 
-product_ranks : (tests : List Term) (a b : ProductRow) → output_cmp (scan 11 tests (col 1 1 ∷ col 1 2 ∷ col 1 3 ∷ col 1 4 ∷ col 1 5 ∷ col 1 6 ∷ col 1 7 ∷ col 1 8 ∷ col 1 9 ∷ col 1 10 ∷ col 1 11 ∷ col 1 12 ∷ col 1 13 ∷ col 1 14 ∷ col 1 15 ∷ col 1 16 ∷ col 1 17 ∷ []) (by (col 1 1) ∷ [])) (product_key a, product_row a) (product_key b, product_row b) ≡ by_product a b
+pub product_ranks : (tests : List Term) (a b : ProductRow) → output_cmp (scan 11 tests (col 1 1 ∷ col 1 2 ∷ col 1 3 ∷ col 1 4 ∷ col 1 5 ∷ col 1 6 ∷ col 1 7 ∷ col 1 8 ∷ col 1 9 ∷ col 1 10 ∷ col 1 11 ∷ col 1 12 ∷ col 1 13 ∷ col 1 14 ∷ col 1 15 ∷ col 1 16 ∷ col 1 17 ∷ []) (by (col 1 1) ∷ [])) (product_key a, product_row a) (product_key b, product_row b) ≡ by_product a b
 product_ranks tests a b = then-Equal _ ∙ int_cmp-pos a.number b.number
 
 pub find_product_shows : (number : ℕ) (db : Database) (rows : List Row) (items : List ProductRow) → db.schema ≡ schema → Keeps product_row by_product (db.trees 11) items → Answers find_product (Int (pos number) ∷ []) db rows → rows ≡ map product_row (filter (is_product number) items)
@@ -119,10 +119,10 @@ find_product_shows number db rows items has k =
 
 -- ---- loans
 
-abbrev loan_key : LoanRow → Row
+abbrev pub loan_key : LoanRow → Row
 loan_key x = Int (pos x.office) ∷ Int (pos x.number) ∷ []
 
-loan_ranks : (tests : List Term) (a b : LoanRow) → output_cmp (scan 13 tests (col 1 1 ∷ col 1 2 ∷ col 1 3 ∷ col 1 4 ∷ col 1 5 ∷ col 1 6 ∷ col 1 7 ∷ col 1 8 ∷ col 1 9 ∷ []) (by (col 1 1) ∷ by (col 1 2) ∷ [])) (loan_key a, loan_row a) (loan_key b, loan_row b) ≡ by_loan a b
+pub loan_ranks : (tests : List Term) (a b : LoanRow) → output_cmp (scan 13 tests (col 1 1 ∷ col 1 2 ∷ col 1 3 ∷ col 1 4 ∷ col 1 5 ∷ col 1 6 ∷ col 1 7 ∷ col 1 8 ∷ col 1 9 ∷ []) (by (col 1 1) ∷ by (col 1 2) ∷ [])) (loan_key a, loan_row a) (loan_key b, loan_row b) ≡ by_loan a b
 loan_ranks tests a b = ap₂ ordering_then (int_cmp-pos a.office b.office) (then-Equal _ ∙ int_cmp-pos a.number b.number)
 
 pub find_loan_shows : (office number : ℕ) (db : Database) (rows : List Row) (items : List LoanRow) → db.schema ≡ schema → Keeps loan_row by_loan (db.trees 13) items → Answers find_loan (Int (pos office) ∷ Int (pos number) ∷ []) db rows → rows ≡ map loan_row (filter (is_loan office number) items)
@@ -139,10 +139,10 @@ loans_above_shows office after db rows items has k =
 
 -- ---- entries
 
-abbrev entry_key : EntryRow → Row
+abbrev pub entry_key : EntryRow → Row
 entry_key x = Int (pos x.office) ∷ Int (pos x.loan) ∷ Int (pos x.seq) ∷ []
 
-entry_ranks : (tests : List Term) (a b : EntryRow) → output_cmp (scan 15 tests (col 1 1 ∷ col 1 2 ∷ col 1 3 ∷ col 1 4 ∷ col 1 5 ∷ col 1 6 ∷ col 1 7 ∷ col 1 8 ∷ col 1 9 ∷ col 1 10 ∷ col 1 11 ∷ []) (by (col 1 1) ∷ by (col 1 2) ∷ by (col 1 3) ∷ [])) (entry_key a, entry_row a) (entry_key b, entry_row b) ≡ by_entry a b
+pub entry_ranks : (tests : List Term) (a b : EntryRow) → output_cmp (scan 15 tests (col 1 1 ∷ col 1 2 ∷ col 1 3 ∷ col 1 4 ∷ col 1 5 ∷ col 1 6 ∷ col 1 7 ∷ col 1 8 ∷ col 1 9 ∷ col 1 10 ∷ col 1 11 ∷ []) (by (col 1 1) ∷ by (col 1 2) ∷ by (col 1 3) ∷ [])) (entry_key a, entry_row a) (entry_key b, entry_row b) ≡ by_entry a b
 entry_ranks tests a b = ap₂ ordering_then (int_cmp-pos a.office b.office) (ap₂ ordering_then (int_cmp-pos a.loan b.loan) (then-Equal _ ∙ int_cmp-pos a.seq b.seq))
 
 pub find_entry_shows : (office loan seq : ℕ) (db : Database) (rows : List Row) (items : List EntryRow) → db.schema ≡ schema → Keeps entry_row by_entry (db.trees 15) items → Answers find_entry (Int (pos office) ∷ Int (pos loan) ∷ Int (pos seq) ∷ []) db rows → rows ≡ map entry_row (filter (is_entry office loan seq) items)
@@ -155,10 +155,10 @@ entries_of_loan_shows office loan db rows items has k =
 
 -- ---- receipts
 
-abbrev receipt_key : ReceiptRow → Row
+abbrev pub receipt_key : ReceiptRow → Row
 receipt_key x = Int (pos x.office) ∷ Text x.receipt ∷ []
 
-receipt_ranks : (tests : List Term) (a b : ReceiptRow) → output_cmp (scan 17 tests (col 1 1 ∷ col 1 2 ∷ col 1 3 ∷ col 1 4 ∷ []) (by (col 1 1) ∷ by (col 1 2) ∷ [])) (receipt_key a, receipt_row a) (receipt_key b, receipt_row b) ≡ by_receipt a b
+pub receipt_ranks : (tests : List Term) (a b : ReceiptRow) → output_cmp (scan 17 tests (col 1 1 ∷ col 1 2 ∷ col 1 3 ∷ col 1 4 ∷ []) (by (col 1 1) ∷ by (col 1 2) ∷ [])) (receipt_key a, receipt_row a) (receipt_key b, receipt_row b) ≡ by_receipt a b
 receipt_ranks tests a b = ap₂ ordering_then (int_cmp-pos a.office b.office) (then-Equal _ ∙ value_cmp-Text a.receipt b.receipt)
 
 pub find_receipt_shows : (office : ℕ) (receipt : List ℕ) (db : Database) (rows : List Row) (items : List ReceiptRow) → db.schema ≡ schema → Keeps receipt_row by_receipt (db.trees 17) items → Answers find_receipt (Int (pos office) ∷ Text receipt ∷ []) db rows → rows ≡ map receipt_row (filter (is_receipt office receipt) items)
@@ -167,10 +167,10 @@ find_receipt_shows office receipt db rows items has k =
 
 -- ---- instalments
 
-abbrev instalment_key : InstalmentRow → Row
+abbrev pub instalment_key : InstalmentRow → Row
 instalment_key x = Int (pos x.office) ∷ Int (pos x.loan) ∷ Int (pos x.number) ∷ []
 
-instalment_ranks : (tests : List Term) (a b : InstalmentRow) → output_cmp (scan 19 tests (col 1 1 ∷ col 1 2 ∷ col 1 3 ∷ col 1 4 ∷ col 1 5 ∷ col 1 6 ∷ col 1 7 ∷ col 1 8 ∷ col 1 9 ∷ col 1 10 ∷ col 1 11 ∷ col 1 12 ∷ col 1 13 ∷ col 1 14 ∷ col 1 15 ∷ col 1 16 ∷ col 1 17 ∷ col 1 18 ∷ col 1 19 ∷ col 1 20 ∷ []) (by (col 1 1) ∷ by (col 1 2) ∷ by (col 1 3) ∷ [])) (instalment_key a, instalment_row a) (instalment_key b, instalment_row b) ≡ by_instalment a b
+pub instalment_ranks : (tests : List Term) (a b : InstalmentRow) → output_cmp (scan 19 tests (col 1 1 ∷ col 1 2 ∷ col 1 3 ∷ col 1 4 ∷ col 1 5 ∷ col 1 6 ∷ col 1 7 ∷ col 1 8 ∷ col 1 9 ∷ col 1 10 ∷ col 1 11 ∷ col 1 12 ∷ col 1 13 ∷ col 1 14 ∷ col 1 15 ∷ col 1 16 ∷ col 1 17 ∷ col 1 18 ∷ col 1 19 ∷ col 1 20 ∷ []) (by (col 1 1) ∷ by (col 1 2) ∷ by (col 1 3) ∷ [])) (instalment_key a, instalment_row a) (instalment_key b, instalment_row b) ≡ by_instalment a b
 instalment_ranks tests a b = ap₂ ordering_then (int_cmp-pos a.office b.office) (ap₂ ordering_then (int_cmp-pos a.loan b.loan) (then-Equal _ ∙ int_cmp-pos a.number b.number))
 
 pub find_instalment_shows : (office loan number : ℕ) (db : Database) (rows : List Row) (items : List InstalmentRow) → db.schema ≡ schema → Keeps instalment_row by_instalment (db.trees 19) items → Answers find_instalment (Int (pos office) ∷ Int (pos loan) ∷ Int (pos number) ∷ []) db rows → rows ≡ map instalment_row (filter (is_instalment office loan number) items)
@@ -187,10 +187,10 @@ instalments_of_office_shows office db rows items has k =
 
 -- ---- shares
 
-abbrev share_key : ShareRow → Row
+abbrev pub share_key : ShareRow → Row
 share_key x = Int (pos x.office) ∷ Int (pos x.loan) ∷ Int (pos x.seq) ∷ Int (pos x.place) ∷ []
 
-share_ranks : (tests : List Term) (a b : ShareRow) → output_cmp (scan 21 tests (col 1 1 ∷ col 1 2 ∷ col 1 3 ∷ col 1 4 ∷ col 1 5 ∷ col 1 6 ∷ col 1 7 ∷ col 1 8 ∷ []) (by (col 1 1) ∷ by (col 1 2) ∷ by (col 1 3) ∷ by (col 1 4) ∷ [])) (share_key a, share_row a) (share_key b, share_row b) ≡ by_share a b
+pub share_ranks : (tests : List Term) (a b : ShareRow) → output_cmp (scan 21 tests (col 1 1 ∷ col 1 2 ∷ col 1 3 ∷ col 1 4 ∷ col 1 5 ∷ col 1 6 ∷ col 1 7 ∷ col 1 8 ∷ []) (by (col 1 1) ∷ by (col 1 2) ∷ by (col 1 3) ∷ by (col 1 4) ∷ [])) (share_key a, share_row a) (share_key b, share_row b) ≡ by_share a b
 share_ranks tests a b = ap₂ ordering_then (int_cmp-pos a.office b.office) (ap₂ ordering_then (int_cmp-pos a.loan b.loan) (ap₂ ordering_then (int_cmp-pos a.seq b.seq) (then-Equal _ ∙ int_cmp-pos a.place b.place)))
 
 pub find_share_shows : (office loan seq place : ℕ) (db : Database) (rows : List Row) (items : List ShareRow) → db.schema ≡ schema → Keeps share_row by_share (db.trees 21) items → Answers find_share (Int (pos office) ∷ Int (pos loan) ∷ Int (pos seq) ∷ Int (pos place) ∷ []) db rows → rows ≡ map share_row (filter (is_share office loan seq place) items)

@@ -1,4 +1,5 @@
 pub mod Tables
+pub mod Fields
 pub mod Rows
 pub mod Writes
 pub mod Calls

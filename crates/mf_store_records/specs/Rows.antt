@@ -9,6 +9,7 @@ use Rattle.sqlite.specs.Order.{Row}
 use Rattle.sqlite_trees.specs.Tree.{IsAscending}
 use Rattle.mf_store_tables.specs.Values.{or_null, or_text}
 use Rattle.mf_store_tables.specs.Keep.{put_item}
+use Rattle.mf_store_records.specs.Fields.{Field, Number, Amount, Text, MaybeNumber, MaybeText}
 use Rattle.mf_store_records.specs.declared.meta.MetaRow.{MetaRow}
 use Rattle.mf_store_records.specs.declared.offices.OfficeRow.{OfficeRow}
 use Rattle.mf_store_records.specs.declared.staff.StaffRow.{StaffRow}
@@ -28,6 +29,9 @@ by_meta a b = nat_cmp a.one b.one
 abbrev pub meta_row : MetaRow → Row
 meta_row x = Int (pos x.one) ∷ Int (pos x.schema) ∷ Words x.day ∷ []
 
+abbrev pub meta_fields : List Field
+meta_fields = Number ∷ Number ∷ Text ∷ []
+
 -- the row under a key
 abbrev pub is_meta : ℕ → MetaRow → Bool
 is_meta one x = is_eq (nat_cmp one x.one)
@@ -37,6 +41,9 @@ by_office a b = nat_cmp a.number b.number
 
 abbrev pub office_row : OfficeRow → Row
 office_row x = Int (pos x.number) ∷ or_null x.parent ∷ Words x.hkey ∷ Words x.name ∷ []
+
+abbrev pub office_fields : List Field
+office_fields = Number ∷ MaybeNumber ∷ Text ∷ Text ∷ []
 
 abbrev pub is_office : ℕ → OfficeRow → Bool
 is_office number x = is_eq (nat_cmp number x.number)
@@ -51,6 +58,9 @@ by_staff a b = ordering_then (nat_cmp a.office b.office) (nat_cmp a.number b.num
 abbrev pub staff_row : StaffRow → Row
 staff_row x = Int (pos x.office) ∷ Int (pos x.number) ∷ Words x.name ∷ Int (pos x.role) ∷ []
 
+abbrev pub staff_fields : List Field
+staff_fields = Number ∷ Number ∷ Text ∷ Number ∷ []
+
 abbrev pub is_staff : ℕ → ℕ → StaffRow → Bool
 is_staff office number x = is_eq (ordering_then (nat_cmp office x.office) (nat_cmp number x.number))
 
@@ -64,6 +74,9 @@ by_client a b = ordering_then (nat_cmp a.office b.office) (nat_cmp a.number b.nu
 abbrev pub client_row : ClientRow → Row
 client_row x = Int (pos x.office) ∷ Int (pos x.number) ∷ Words x.name ∷ []
 
+abbrev pub client_fields : List Field
+client_fields = Number ∷ Number ∷ Text ∷ []
+
 abbrev pub is_client : ℕ → ℕ → ClientRow → Bool
 is_client office number x = is_eq (ordering_then (nat_cmp office x.office) (nat_cmp number x.number))
 
@@ -76,6 +89,9 @@ by_charge a b = nat_cmp a.number b.number
 abbrev pub charge_row : ChargeRow → Row
 charge_row x = Int (pos x.number) ∷ Words x.name ∷ Int (pos x.kind) ∷ Int (pos x.calc) ∷ Int x.value ∷ []
 
+abbrev pub charge_fields : List Field
+charge_fields = Number ∷ Text ∷ Number ∷ Number ∷ Amount ∷ []
+
 abbrev pub is_charge : ℕ → ChargeRow → Bool
 is_charge number x = is_eq (nat_cmp number x.number)
 
@@ -85,6 +101,9 @@ by_product a b = nat_cmp a.number b.number
 abbrev pub product_row : ProductRow → Row
 product_row x = Int (pos x.number) ∷ Words x.name ∷ Int (pos x.method) ∷ Int (pos x.rate) ∷ Int (pos x.frequency) ∷ Int (pos x.every) ∷ Int (pos x.principal_grace) ∷ Int (pos x.interest_grace) ∷ Int x.min_principal ∷ Int x.max_principal ∷ Int (pos x.min_periods) ∷ Int (pos x.max_periods) ∷ Int (pos x.strategy) ∷ or_null x.disbursement_charge ∷ or_null x.instalment_charge ∷ or_null x.overdue_charge ∷ Int (pos x.retired) ∷ []
 
+abbrev pub product_fields : List Field
+product_fields = Number ∷ Text ∷ Number ∷ Number ∷ Number ∷ Number ∷ Number ∷ Number ∷ Amount ∷ Amount ∷ Number ∷ Number ∷ Number ∷ MaybeNumber ∷ MaybeNumber ∷ MaybeNumber ∷ Number ∷ []
+
 abbrev pub is_product : ℕ → ProductRow → Bool
 is_product number x = is_eq (nat_cmp number x.number)
 
@@ -93,6 +112,9 @@ by_loan a b = ordering_then (nat_cmp a.office b.office) (nat_cmp a.number b.numb
 
 abbrev pub loan_row : LoanRow → Row
 loan_row x = Int (pos x.office) ∷ Int (pos x.number) ∷ Int (pos x.client) ∷ Int (pos x.product) ∷ Int x.principal ∷ Int (pos x.periods) ∷ Int (pos x.stage) ∷ or_text x.approved ∷ or_text x.disbursed ∷ []
+
+abbrev pub loan_fields : List Field
+loan_fields = Number ∷ Number ∷ Number ∷ Number ∷ Amount ∷ Number ∷ Number ∷ MaybeText ∷ MaybeText ∷ []
 
 abbrev pub is_loan : ℕ → ℕ → LoanRow → Bool
 is_loan office number x = is_eq (ordering_then (nat_cmp office x.office) (nat_cmp number x.number))
@@ -110,6 +132,9 @@ by_entry a b = ordering_then (nat_cmp a.office b.office) (ordering_then (nat_cmp
 abbrev pub entry_row : EntryRow → Row
 entry_row x = Int (pos x.office) ∷ Int (pos x.loan) ∷ Int (pos x.seq) ∷ Int (pos x.kind) ∷ Words x.day ∷ Int x.amount ∷ Int (pos x.instalment) ∷ Int (pos x.portion) ∷ or_text x.receipt ∷ Words x.staff ∷ Int (pos x.reversed) ∷ []
 
+abbrev pub entry_fields : List Field
+entry_fields = Number ∷ Number ∷ Number ∷ Number ∷ Text ∷ Amount ∷ Number ∷ Number ∷ MaybeText ∷ Text ∷ Number ∷ []
+
 abbrev pub is_entry : ℕ → ℕ → ℕ → EntryRow → Bool
 is_entry office loan seq x = is_eq (ordering_then (nat_cmp office x.office) (ordering_then (nat_cmp loan x.loan) (nat_cmp seq x.seq)))
 
@@ -123,6 +148,9 @@ by_receipt a b = ordering_then (nat_cmp a.office b.office) (slice_cmp nat_cmp a.
 
 abbrev pub receipt_row : ReceiptRow → Row
 receipt_row x = Int (pos x.office) ∷ Words x.receipt ∷ Int (pos x.loan) ∷ Int (pos x.seq) ∷ []
+
+abbrev pub receipt_fields : List Field
+receipt_fields = Number ∷ Text ∷ Number ∷ Number ∷ []
 
 abbrev pub is_receipt : ℕ → List ℕ → ReceiptRow → Bool
 is_receipt office receipt x = is_eq (ordering_then (nat_cmp office x.office) (slice_cmp nat_cmp receipt x.receipt))
@@ -150,6 +178,9 @@ by_instalment a b = ordering_then (nat_cmp a.office b.office) (ordering_then (na
 abbrev pub instalment_row : InstalmentRow → Row
 instalment_row x = Int (pos x.office) ∷ Int (pos x.loan) ∷ Int (pos x.number) ∷ Words x.due ∷ Int x.owed_penalty ∷ Int x.paid_penalty ∷ Int x.waived_penalty ∷ Int x.written_off_penalty ∷ Int x.owed_fee ∷ Int x.paid_fee ∷ Int x.waived_fee ∷ Int x.written_off_fee ∷ Int x.owed_interest ∷ Int x.paid_interest ∷ Int x.waived_interest ∷ Int x.written_off_interest ∷ Int x.owed_principal ∷ Int x.paid_principal ∷ Int x.waived_principal ∷ Int x.written_off_principal ∷ []
 
+abbrev pub instalment_fields : List Field
+instalment_fields = Number ∷ Number ∷ Number ∷ Text ∷ Amount ∷ Amount ∷ Amount ∷ Amount ∷ Amount ∷ Amount ∷ Amount ∷ Amount ∷ Amount ∷ Amount ∷ Amount ∷ Amount ∷ Amount ∷ Amount ∷ Amount ∷ Amount ∷ []
+
 -- the row under a key
 abbrev pub is_instalment : ℕ → ℕ → ℕ → InstalmentRow → Bool
 is_instalment office loan number x = is_eq (ordering_then (nat_cmp office x.office) (ordering_then (nat_cmp loan x.loan) (nat_cmp number x.number)))
@@ -167,6 +198,9 @@ by_share a b = ordering_then (nat_cmp a.office b.office) (ordering_then (nat_cmp
 
 abbrev pub share_row : ShareRow → Row
 share_row x = Int (pos x.office) ∷ Int (pos x.loan) ∷ Int (pos x.seq) ∷ Int (pos x.place) ∷ Int (pos x.instalment) ∷ Int (pos x.portion) ∷ Int (pos x.how) ∷ Int x.amount ∷ []
+
+abbrev pub share_fields : List Field
+share_fields = Number ∷ Number ∷ Number ∷ Number ∷ Number ∷ Number ∷ Number ∷ Amount ∷ []
 
 -- the row under a key
 abbrev pub is_share : ℕ → ℕ → ℕ → ℕ → ShareRow → Bool

@@ -1,6 +1,6 @@
-ghost use Rattle.mf_store_records.specs.Rows.{charge_row, put_charge, is_charge};
+ghost use Rattle.mf_store_records.specs.Rows.{charge_fields, charge_row, put_charge, is_charge};
 
-use crate::table::{Added, Table};
+use crate::table::{Added, Table, has_columns};
 use crate::text::Text;
 use mf_store_tables::run;
 use sqlite::{Alter, Error, Row, Transaction, params};
@@ -23,6 +23,8 @@ impl Table for ChargeRow {
 
     ghost stored = { charge_row };
 
+    ghost fields = { charge_fields };
+
     ghost list = { λ lists. lists.charges };
 
     ghost put = { put_charge };
@@ -30,6 +32,7 @@ impl Table for ChargeRow {
     ghost is_at = { is_charge };
 
     fn read(row: &Row) -> Result<ChargeRow, Error> {
+        has_columns(row, 5)?;
         Ok(ChargeRow {
             number: row.get(0)?,
             name: row.get(1)?,

@@ -1,6 +1,6 @@
-ghost use Rattle.mf_store_records.specs.Rows.{client_row, put_client, is_client, is_client_of};
+ghost use Rattle.mf_store_records.specs.Rows.{client_fields, client_row, put_client, is_client, is_client_of};
 
-use crate::table::{Added, Listed, Table};
+use crate::table::{Added, Listed, Table, has_columns};
 use crate::text::Text;
 use mf_store_tables::run;
 use sqlite::{Alter, Error, Row, Transaction, params};
@@ -18,6 +18,8 @@ impl Table for ClientRow {
 
     ghost stored = { client_row };
 
+    ghost fields = { client_fields };
+
     ghost list = { λ lists. lists.clients };
 
     ghost put = { put_client };
@@ -25,6 +27,7 @@ impl Table for ClientRow {
     ghost is_at = { λ key. is_client key.0 key.1 };
 
     fn read(row: &Row) -> Result<ClientRow, Error> {
+        has_columns(row, 3)?;
         Ok(ClientRow {
             office: row.get(0)?,
             number: row.get(1)?,

@@ -1,6 +1,6 @@
-ghost use Rattle.mf_store_records.specs.Rows.{entry_row, put_entry, is_entry, is_entry_of};
+ghost use Rattle.mf_store_records.specs.Rows.{entry_fields, entry_row, put_entry, is_entry, is_entry_of};
 
-use crate::table::{Added, Changed, Listed, Table};
+use crate::table::{Added, Changed, Listed, Table, has_columns};
 use crate::text::Text;
 use mf_store_tables::run;
 use sqlite::{Alter, Error, Row, Transaction, params};
@@ -36,6 +36,8 @@ impl Table for EntryRow {
 
     ghost stored = { entry_row };
 
+    ghost fields = { entry_fields };
+
     ghost list = { λ lists. lists.entries };
 
     ghost put = { put_entry };
@@ -43,6 +45,7 @@ impl Table for EntryRow {
     ghost is_at = { λ key. is_entry key.0 key.1 key.2 };
 
     fn read(row: &Row) -> Result<EntryRow, Error> {
+        has_columns(row, 11)?;
         Ok(EntryRow {
             office: row.get(0)?,
             loan: row.get(1)?,

@@ -2,10 +2,10 @@ ghost use Rattle.std.specs.Prelude.{◌≡◌, false, IsTrue, OnOk, IfOk, IfErr,
 ghost use Rattle.mf_base.specs.declared.fault.Fault.TheVariants.{F20};
 ghost use Rattle.sqlite.specs.Held.{state};
 ghost use Rattle.sqlite.specs.State.{HasCleanDisk};
-ghost use Rattle.mf_store_records.specs.Rows.{Lists, instalment_row, put_instalment, is_instalment, is_instalment_of, is_instalment_in};
+ghost use Rattle.mf_store_records.specs.Rows.{instalment_fields, Lists, instalment_row, put_instalment, is_instalment, is_instalment_of, is_instalment_in};
 ghost use Rattle.mf_store_records.specs.Calls.{IsUnchanged, IsKeeping};
 
-use crate::table::{Changed, Listed, Table, ask};
+use crate::table::{Changed, Listed, Table, ask, has_columns};
 use crate::text::Text;
 use mf_base::Fault;
 use mf_store_tables::run;
@@ -45,6 +45,8 @@ impl Table for InstalmentRow {
 
     ghost stored = { instalment_row };
 
+    ghost fields = { instalment_fields };
+
     ghost list = { λ lists. lists.instalments };
 
     ghost put = { put_instalment };
@@ -52,6 +54,7 @@ impl Table for InstalmentRow {
     ghost is_at = { λ key. is_instalment key.0 key.1 key.2 };
 
     fn read(row: &Row) -> Result<InstalmentRow, Error> {
+        has_columns(row, 20)?;
         Ok(InstalmentRow {
             office: row.get(0)?,
             loan: row.get(1)?,

@@ -2,10 +2,10 @@ ghost use Rattle.std.specs.Prelude.{◌≡◌, false, IsTrue, OnOk, IfOk, IfErr,
 ghost use Rattle.mf_base.specs.declared.fault.Fault.TheVariants.{F20};
 ghost use Rattle.sqlite.specs.Held.{state};
 ghost use Rattle.sqlite.specs.State.{HasCleanDisk};
-ghost use Rattle.mf_store_records.specs.Rows.{Lists, loan_row, put_loan, is_loan, is_loan_of, is_loan_above};
+ghost use Rattle.mf_store_records.specs.Rows.{loan_fields, Lists, loan_row, put_loan, is_loan, is_loan_of, is_loan_above};
 ghost use Rattle.mf_store_records.specs.Calls.{IsUnchanged, IsKeeping};
 
-use crate::table::{Added, Changed, Listed, Table, ask};
+use crate::table::{Added, Changed, Listed, Table, ask, has_columns};
 use crate::text::Text;
 use mf_base::Fault;
 use mf_store_tables::run;
@@ -35,6 +35,8 @@ impl Table for LoanRow {
 
     ghost stored = { loan_row };
 
+    ghost fields = { loan_fields };
+
     ghost list = { λ lists. lists.loans };
 
     ghost put = { put_loan };
@@ -42,6 +44,7 @@ impl Table for LoanRow {
     ghost is_at = { λ key. is_loan key.0 key.1 };
 
     fn read(row: &Row) -> Result<LoanRow, Error> {
+        has_columns(row, 9)?;
         Ok(LoanRow {
             office: row.get(0)?,
             number: row.get(1)?,

@@ -1,6 +1,6 @@
-ghost use Rattle.mf_store_records.specs.Rows.{meta_row, put_meta, is_meta};
+ghost use Rattle.mf_store_records.specs.Rows.{meta_fields, meta_row, put_meta, is_meta};
 
-use crate::table::{Changed, Table};
+use crate::table::{Changed, Table, has_columns};
 use crate::text::Text;
 use mf_store_tables::run;
 use sqlite::{Alter, Error, Row, Transaction, params};
@@ -19,6 +19,8 @@ impl Table for MetaRow {
 
     ghost stored = { meta_row };
 
+    ghost fields = { meta_fields };
+
     ghost list = { λ lists. lists.meta };
 
     ghost put = { put_meta };
@@ -26,6 +28,7 @@ impl Table for MetaRow {
     ghost is_at = { is_meta };
 
     fn read(row: &Row) -> Result<MetaRow, Error> {
+        has_columns(row, 3)?;
         Ok(MetaRow {
             one: row.get(0)?,
             schema: row.get(1)?,

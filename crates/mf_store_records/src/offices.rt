@@ -2,10 +2,10 @@ ghost use Rattle.std.specs.Prelude.{◌≡◌, false, IsTrue, OnOk, IfOk, IfErr,
 ghost use Rattle.mf_base.specs.declared.fault.Fault.TheVariants.{F20};
 ghost use Rattle.sqlite.specs.Held.{state};
 ghost use Rattle.sqlite.specs.State.{HasCleanDisk};
-ghost use Rattle.mf_store_records.specs.Rows.{Lists, office_row, put_office, is_office, is_in_range};
+ghost use Rattle.mf_store_records.specs.Rows.{office_fields, Lists, office_row, put_office, is_office, is_in_range};
 ghost use Rattle.mf_store_records.specs.Calls.{IsUnchanged, IsKeeping};
 
-use crate::table::{Added, Table, ask};
+use crate::table::{Added, Table, ask, has_columns};
 use crate::text::Text;
 use mf_base::Fault;
 use mf_store_tables::run;
@@ -27,6 +27,8 @@ impl Table for OfficeRow {
 
     ghost stored = { office_row };
 
+    ghost fields = { office_fields };
+
     ghost list = { λ lists. lists.offices };
 
     ghost put = { put_office };
@@ -34,6 +36,7 @@ impl Table for OfficeRow {
     ghost is_at = { is_office };
 
     fn read(row: &Row) -> Result<OfficeRow, Error> {
+        has_columns(row, 4)?;
         Ok(OfficeRow {
             number: row.get(0)?,
             parent: row.get(1)?,

@@ -1,6 +1,6 @@
-ghost use Rattle.mf_store_records.specs.Rows.{product_row, put_product, is_product};
+ghost use Rattle.mf_store_records.specs.Rows.{product_fields, product_row, put_product, is_product};
 
-use crate::table::{Added, Changed, Table};
+use crate::table::{Added, Changed, Table, has_columns};
 use crate::text::Text;
 use mf_store_tables::run;
 use sqlite::{Alter, Error, Row, Transaction, params};
@@ -39,6 +39,8 @@ impl Table for ProductRow {
 
     ghost stored = { product_row };
 
+    ghost fields = { product_fields };
+
     ghost list = { λ lists. lists.products };
 
     ghost put = { put_product };
@@ -46,6 +48,7 @@ impl Table for ProductRow {
     ghost is_at = { is_product };
 
     fn read(row: &Row) -> Result<ProductRow, Error> {
+        has_columns(row, 17)?;
         Ok(ProductRow {
             number: row.get(0)?,
             name: row.get(1)?,

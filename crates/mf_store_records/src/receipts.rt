@@ -2,10 +2,10 @@ ghost use Rattle.std.specs.Prelude.{◌≡◌, false, IsTrue, OnOk, IfOk, IfErr,
 ghost use Rattle.mf_base.specs.declared.fault.Fault.TheVariants.{F20};
 ghost use Rattle.sqlite.specs.Held.{state};
 ghost use Rattle.sqlite.specs.State.{HasCleanDisk};
-ghost use Rattle.mf_store_records.specs.Rows.{Lists, receipt_row, put_receipt, is_receipt};
+ghost use Rattle.mf_store_records.specs.Rows.{receipt_fields, Lists, receipt_row, put_receipt, is_receipt};
 ghost use Rattle.mf_store_records.specs.Calls.{IsUnchanged, IsKeeping};
 
-use crate::table::{Added, Table, ask, first};
+use crate::table::{Added, Table, ask, first, has_columns};
 use crate::text::Text;
 use mf_base::Fault;
 use mf_store_tables::run;
@@ -27,6 +27,8 @@ impl Table for ReceiptRow {
 
     ghost stored = { receipt_row };
 
+    ghost fields = { receipt_fields };
+
     ghost list = { λ lists. lists.receipts };
 
     ghost put = { put_receipt };
@@ -34,6 +36,7 @@ impl Table for ReceiptRow {
     ghost is_at = { λ key. is_receipt key.0 key.1 };
 
     fn read(row: &Row) -> Result<ReceiptRow, Error> {
+        has_columns(row, 4)?;
         Ok(ReceiptRow {
             office: row.get(0)?,
             receipt: row.get(1)?,

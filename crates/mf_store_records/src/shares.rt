@@ -1,10 +1,10 @@
 ghost use Rattle.std.specs.Prelude.{◌≡◌, IsTrue, OnOk};
 ghost use Rattle.sqlite.specs.Held.{state};
 ghost use Rattle.sqlite.specs.State.{HasCleanDisk, KeepsCommit, Survives};
-ghost use Rattle.mf_store_records.specs.Rows.{share_row, put_share, is_share, is_share_of, drop_shares};
+ghost use Rattle.mf_store_records.specs.Rows.{share_fields, share_row, put_share, is_share, is_share_of, drop_shares};
 ghost use Rattle.mf_store_records.specs.Writes.{Putting};
 
-use crate::table::{Changed, Listed, Table};
+use crate::table::{Changed, Listed, Table, has_columns};
 use mf_store_tables::run;
 use sqlite::{Alter, Error, Row, Transaction, params};
 
@@ -32,6 +32,8 @@ impl Table for ShareRow {
 
     ghost stored = { share_row };
 
+    ghost fields = { share_fields };
+
     ghost list = { λ lists. lists.shares };
 
     ghost put = { put_share };
@@ -39,6 +41,7 @@ impl Table for ShareRow {
     ghost is_at = { λ key. is_share key.0 key.1 key.2 key.3 };
 
     fn read(row: &Row) -> Result<ShareRow, Error> {
+        has_columns(row, 8)?;
         Ok(ShareRow {
             office: row.get(0)?,
             loan: row.get(1)?,

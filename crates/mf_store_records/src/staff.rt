@@ -1,6 +1,6 @@
-ghost use Rattle.mf_store_records.specs.Rows.{staff_row, put_staff, is_staff, is_staff_of};
+ghost use Rattle.mf_store_records.specs.Rows.{staff_fields, staff_row, put_staff, is_staff, is_staff_of};
 
-use crate::table::{Added, Listed, Table};
+use crate::table::{Added, Listed, Table, has_columns};
 use crate::text::Text;
 use mf_store_tables::run;
 use sqlite::{Alter, Error, Row, Transaction, params};
@@ -20,6 +20,8 @@ impl Table for StaffRow {
 
     ghost stored = { staff_row };
 
+    ghost fields = { staff_fields };
+
     ghost list = { λ lists. lists.staff };
 
     ghost put = { put_staff };
@@ -27,6 +29,7 @@ impl Table for StaffRow {
     ghost is_at = { λ key. is_staff key.0 key.1 };
 
     fn read(row: &Row) -> Result<StaffRow, Error> {
+        has_columns(row, 4)?;
         Ok(StaffRow {
             office: row.get(0)?,
             number: row.get(1)?,

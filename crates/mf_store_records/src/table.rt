@@ -1,6 +1,6 @@
 //! A table: the texts that read and write it, and what these mean.
 
-ghost use Rattle.std.specs.Prelude.{◌≡◌, ℕ, List, Bool, IsTrue, OnOk, IfOk, IfErr, Some, false, map, filter, find, slice_get};
+ghost use Rattle.std.specs.Prelude.{◌≡◌, ◌≢◌, ℕ, List, Bool, IsTrue, OnOk, OnErr, IfOk, IfErr, length, Some, false, map, filter, find, slice_get};
 ghost use Rattle.mf_base.specs.declared.fault.Fault.TheVariants.{F20};
 ghost use Rattle.sqlite.specs.Order.{Row as SqlRow};
 ghost use Rattle.sqlite.specs.Effect.{Database};
@@ -12,6 +12,8 @@ ghost use Rattle.sqlite.specs.Values.{bound};
 ghost use Rattle.mf_store_tables.specs.Queries.{Answers};
 ghost use Rattle.mf_store_tables.specs.Writes.{Ran, Serves};
 ghost use Rattle.mf_store_records.specs.Tables.{schema};
+ghost use Rattle.sqlite.specs.declared.error.ErrorCode.TheVariants.{OutOfMemory};
+ghost use Rattle.mf_store_records.specs.Fields.{Field, HasFields};
 ghost use Rattle.mf_store_records.specs.Rows.{Lists};
 ghost use Rattle.mf_store_records.specs.Writes.{schema_of, Holds, Putting};
 ghost use Rattle.mf_store_records.specs.Calls.{IsUnchanged, IsKeeping, Shows};
@@ -100,6 +102,9 @@ pub trait Table: Sized {
     /// The values that the table keeps of a row.
     ghost stored: { Self → SqlRow };
 
+    /// The kinds of the row's fields.
+    ghost fields: { List Field };
+
     /// The list that the table keeps.
     ghost list: { Lists → List Self };
 
@@ -109,9 +114,11 @@ pub trait Table: Sized {
     /// Whether a row is the one under a key.
     ghost is_at: { Self.Key → Self → Bool };
 
-    /// The error is only for want of memory and for a row that the table cannot have.
+    /// The row, of whatever values. The error is for want of memory, and any other for values that the fields cannot hold.
     fn read(row: &Row) -> Result<Self, Error>
-        ensures { IfOk result (λ x. (r : Self) → row.now ≡ stored r → x ≡ r) };
+        ensures row { IfOk result (λ x. stored x ≡ row.now) }
+        ensures only { IfOk result (λ x. (r : Self) → row.now ≡ stored r → x ≡ r) }
+        ensures none { IfErr result (λ e. e ≢ Error.SqliteFailure OutOfMemory → ¬ HasFields fields row.now) };
 
     /// Runs a text with the row's values for its parameters.
     fn execute<S: Alter>(&self, tx: &mut Transaction<'_, S>, sql: &str) -> Result<(), Error>
@@ -165,8 +172,21 @@ pub trait Listed: Table {
             → rows ≡ map Self.stored (filter (is_in part) (Self.list lists)) };
 }
 
+/// The row has so many columns.
+pub(crate) fn has_columns(row: &Row, count: usize) -> Result<(), Error>
+    ensures ok { OnOk result (length row.now ≡ count) }
+    ensures err { OnErr result (length row.now ≢ count) }
+{
+    let columns = row.column_count();
+    if columns == count {
+        Ok(())
+    } else {
+        Err(Error::InvalidColumnIndex(columns))
+    }
+}
+
 /// The rows that a plain text shows.
-pub(crate) fn ask<S: Alter>(
+pub fn ask<S: Alter>(
     connection: &mut Connection<S>,
     sql: &str,
     params: &[ValueRef<'_>],

@@ -40,6 +40,7 @@ use Rattle.mf_store_tables.proofs.CompareLemmas.{truth_back, cast_null}
 use Rattle.mf_store_tables.proofs.KeepLemmas.{keeps-put}
 use Rattle.mf_store_tables.proofs.WriteLemmas.{IsQuiet, went, same_value, edited_by, opened, task}
 use Rattle.mf_store_tables.proofs.KeptLemmas.{Spares}
+use Rattle.mf_store_tables.proofs.AlikeLemmas.{agree_alike, has_tree, put_alike, taken_alike}
 
 -- ---- the rows once one is put
 
@@ -146,15 +147,23 @@ module _ {X : Type 0} (stored : X → Row) (cmp : X → X → Ordering) (total :
       let put : next table.tree ≡ put_row n rows = step.rows ∙ ap (put_all rows) news in
       let others = none_from_any (λ (r : Row). is_eq (value_cmp (rowid r) (rowid n))) rows free in
       let has_new : Has (next table.tree) n = subst (λ rs. Has rs n) (sym put) (has_put n rows) in
-      let clear : AllByRecursion (λ (e : ℤ × X). is_eq (cmp x e.1) ≡ false) k.entries = all_from (λ (e : ℤ × X). is_eq (cmp x e.1) ≡ false) k.entries (λ e l.
+      let es = k.whole.entries in
+      let clear : AllByRecursion (λ (e : ℤ × X). is_eq (cmp x e.1) ≡ false) es = all_from (λ (e : ℤ × X). is_eq (cmp x e.1) ≡ false) es (λ e l.
       (let r = row_of stored e in
-      let here : Has rows r = subst (λ rs. Has rs r) (sym k.rows) (has_mapped (row_of stored) k.entries e l) in
-      let apart : same_id e.0 id ≡ false = all_has (λ (o : Row). is_eq (value_cmp (rowid o) (rowid n)) ≡ false) rows r others here in
-      sym (agrees id e.0 e.1) ∙ unshared schema table index next (has_got schema.tables at table there) has_index guarded sound n r has_new (subst (λ rs. Has rs r) (sym put) (has_other n rows r free here)) (differs e.0 id ∙ ap not apart))) in
+      let here : Has k.full r = subst (λ rs. Has rs r) (sym k.whole.rows) (has_mapped (row_of stored) es e l) in
+      let s = has_tree rows k.full k.alike r here in
+      let apart : same_id e.0 id ≡ false = ap (λ v. is_eq (value_cmp v (rowid n))) (sym (s.2 0)) ∙ all_has (λ (o : Row). is_eq (value_cmp (rowid o) (rowid n)) ≡ false) rows s.0 others s.1 in
+      let other : differ (rowid s.0) (rowid n) ≡ true = ap (λ v. differ v (rowid n)) (s.2 0) ∙ differs e.0 id ∙ ap not apart in
+      sym (agrees id e.0 e.1) ∙ sym (agree_alike index.order index.columns s.0 r index.columns n s.2)
+      ∙ unshared schema table index next (has_got schema.tables at table there) has_index guarded sound n s.0 has_new (subst (λ rs. Has rs s.0) (sym put) (has_other n rows s.0 free s.1)) other)) in
       let q = λ (y : X). is_eq (cmp x y) in
       let none : AllByRecursion (λ y. is_eq (cmp x y) ≡ false) items =
-      none_from_any q items (sym (list_any-IsPermutation q (map (λ (e : ℤ × X). e.1) k.entries) items k.same) ∙ any_from_none q (map (λ (e : ℤ × X). e.1) k.entries) (all_map (λ y. q y ≡ false) (λ (e : ℤ × X). e.1) k.entries clear)) in
-      let kept : Keeps stored cmp (put_row n rows) (insert_sorted cmp x items) = keeps-put cmp total stored id x rows items k none free in
+      none_from_any q items (sym (list_any-IsPermutation q (map (λ (e : ℤ × X). e.1) es) items k.whole.same) ∙ any_from_none q (map (λ (e : ℤ × X). e.1) es) (all_map (λ y. q y ≡ false) (λ (e : ℤ × X). e.1) es clear)) in
+      let kept : Keeps stored cmp (put_row n rows) (insert_sorted cmp x items) = record {
+        full = put_row n k.full;
+        alike = put_alike n rows k.full k.alike;
+        whole = keeps-put cmp total stored id x k.full items k.whole none (sym (taken_alike n rows k.full k.alike) ∙ free);
+      } in
       let all : drop_item cmp x items ≡ items = filter_all (λ y. not (q y)) items (all_weaker (λ y. q y ≡ false) (λ y. not (q y) ≡ true) (λ y f. ap not f) items none) in
       let ends : Keeps stored cmp (next table.tree) (put_item cmp x items) = subst (λ l. Keeps stored cmp (next table.tree) (insert_sorted cmp x l)) (sym all) (subst (λ rs. Keeps stored cmp rs (insert_sorted cmp x items)) (sym put) kept) in
       (named, ends, step.tables, sound)

@@ -14,7 +14,7 @@ use Rattle.sqlite_rules.specs.Edit.{without_all, is_taken}
 use Rattle.sqlite_keyed.specs.Lists.{insert_sorted, delete_where}
 use Rattle.sqlite_keyed.proofs.ListLemmas.{map-map, map_same, filter-map, filter_same, IsPermutation-filter, ascending-filter, all_weaker, all-filter, any_from_none}
 use Rattle.sqlite_keyed.proofs.SortLemmas.{sorted_unique}
-use Rattle.mf_store_tables.specs.Keep.{row_of, same_id, Keeps, drop_item}
+use Rattle.mf_store_tables.specs.Keep.{row_of, same_id, Keeps, KeepsWhole, drop_item}
 
 pub id_back : (a b : ℤ) → same_id a b ≡ false → same_id b a ≡ false
 id_back a b h = ap is_eq (value_cmp_total.antisymm (Int b) (Int a)) ∙ turned (value_cmp (Int a) (Int b)) h
@@ -165,11 +165,14 @@ module _ {X : Type 0} (cmp : X → X → Ordering) (total : IsTotalOrder cmp) wh
   -- ---- what a table keeps
 
   module _ (stored : X → Row) where
-    pub keeps_none : Keeps stored cmp [] []
-    keeps_none = record { entries = []; rows = refl; apart = tt; same = IsPermutation-refl []; rising = tt }
+    none_whole : KeepsWhole stored cmp [] []
+    none_whole = record { entries = []; rows = refl; apart = tt; same = IsPermutation-refl []; rising = tt }
 
-    pub keeps-deleted : (p : Row → Bool) (q : X → Bool) → ((id : ℤ) (x : X) → p (Int id ∷ stored x) ≡ q x) → (tree : List Row) (items : List X) → Keeps stored cmp tree items
-        → Keeps stored cmp (filter (λ r. not (p r)) tree) (delete_where q items)
+    pub keeps_none : Keeps stored cmp [] []
+    keeps_none = record { full = []; alike = tt; whole = none_whole }
+
+    pub keeps-deleted : (p : Row → Bool) (q : X → Bool) → ((id : ℤ) (x : X) → p (Int id ∷ stored x) ≡ q x) → (tree : List Row) (items : List X) → KeepsWhole stored cmp tree items
+        → KeepsWhole stored cmp (filter (λ r. not (p r)) tree) (delete_where q items)
     keeps-deleted p q alike tree items k = record {
       entries = filter (λ e. not (q e.1)) k.entries;
       rows = ap (filter (λ r. not (p r))) k.rows ∙ filter-map (λ r. not (p r)) (row_of stored) k.entries ∙ ap (map (row_of stored)) (filter_same _ _ (λ e. ap not (alike e.0 e.1)) k.entries);
@@ -179,7 +182,7 @@ module _ {X : Type 0} (cmp : X → X → Ordering) (total : IsTotalOrder cmp) wh
     }
 
     -- a DELETE takes the rows that have one of its rowids
-    pub taken_rows : (p : Row → Bool) (q : X → Bool) → ((id : ℤ) (x : X) → p (Int id ∷ stored x) ≡ q x) → (tree : List Row) (items : List X) (k : Keeps stored cmp tree items)
+    pub taken_rows : (p : Row → Bool) (q : X → Bool) → ((id : ℤ) (x : X) → p (Int id ∷ stored x) ≡ q x) → (tree : List Row) (items : List X) (k : KeepsWhole stored cmp tree items)
         → (ids : List ℤ) → IsPermutation (map (λ (e : ℤ × X). e.0) (filter (λ (e : ℤ × X). q e.1) k.entries)) ids → without_all tree ids ≡ filter (λ r. not (p r)) tree
     taken_rows p q alike tree items k ids same =
         let es = k.entries in
@@ -190,8 +193,8 @@ module _ {X : Type 0} (cmp : X → X → Ordering) (total : IsTotalOrder cmp) wh
         (all_weaker (λ e. is_among stored passed e ≡ q e.1) (λ e. not (list_any (λ id. has_rowid id (row_of stored e)) ids) ≡ not (p (row_of stored e))) (λ e h. ap not (hit e ∙ h ∙ sym (alike e.0 e.1))) es (among stored (λ e. q e.1) es k.apart)) in
         without_all-filter tree ids ∙ ap (filter (λ r. not (list_any (λ id. has_rowid id r) ids))) k.rows ∙ filter-map _ (row_of stored) es ∙ ap (map (row_of stored)) left ∙ sym (filter-map (λ r. not (p r)) (row_of stored) es) ∙ sym (ap (filter (λ r. not (p r))) k.rows)
 
-    pub keeps-put : (id : ℤ) (x : X) (tree : List Row) (items : List X) → Keeps stored cmp tree items → AllByRecursion (λ y. is_eq (cmp x y) ≡ false) items → is_taken tree (Int id ∷ stored x) ≡ false
-        → Keeps stored cmp (put_row (Int id ∷ stored x) tree) (insert_sorted cmp x items)
+    pub keeps-put : (id : ℤ) (x : X) (tree : List Row) (items : List X) → KeepsWhole stored cmp tree items → AllByRecursion (λ y. is_eq (cmp x y) ≡ false) items → is_taken tree (Int id ∷ stored x) ≡ false
+        → KeepsWhole stored cmp (put_row (Int id ∷ stored x) tree) (insert_sorted cmp x items)
     keeps-put id x tree items k others fresh =
         let n : ℤ × X = (id, x) in
         let clear = free stored n k.entries (ap (λ t. is_taken t (Int id ∷ stored x)) (sym k.rows) ∙ fresh) in record {
@@ -211,11 +214,11 @@ sorted_from_rising cmp total (x ∷ []) up k d low high = absurd (omega arith)
 sorted_from_rising cmp total (x ∷ y ∷ xs) up zero d low high = ap is_lt (total.antisymm y x ∙ ap ordering_reverse up.0.0)
 sorted_from_rising cmp total (x ∷ y ∷ xs) up (suc k) d low high = rw add-one (rw add-one at (sorted_from_rising cmp total (y ∷ xs) up.1 k d (omega arith) (omega arith)))
 
-pub keeps_once : {X : Type 0} (stored : X → Row) (cmp : X → X → Ordering) (total : IsTotalOrder cmp) (read : Row → X) → ((id : ℤ) (x : X) → read (Int id ∷ stored x) ≡ x) → (tree : List Row) (xs ys : List X) → Keeps stored cmp tree xs → Keeps stored cmp tree ys → xs ≡ ys
+pub keeps_once : {X : Type 0} (stored : X → Row) (cmp : X → X → Ordering) (total : IsTotalOrder cmp) (read : Row → X) → ((id : ℤ) (x : X) → read (Int id ∷ stored x) ≡ x) → (tree : List Row) (xs ys : List X) → KeepsWhole stored cmp tree xs → KeepsWhole stored cmp tree ys → xs ≡ ys
 keeps_once stored cmp total read back tree xs ys k l =
     let one = items_of stored cmp read back tree xs k in
     let two = items_of stored cmp read back tree ys l in
     sym (sorted_unique cmp total xs ys k.rising (IsPermutation-trans _ _ _ (IsPermutation-sym _ _ one) two) (sorted_from_rising cmp total ys l.rising))
   where
-    items_of : {X : Type 0} (stored : X → Row) (cmp : X → X → Ordering) (read : Row → X) → ((id : ℤ) (x : X) → read (Int id ∷ stored x) ≡ x) → (tree : List Row) (xs : List X) → Keeps stored cmp tree xs → IsPermutation (map read tree) xs
+    items_of : {X : Type 0} (stored : X → Row) (cmp : X → X → Ordering) (read : Row → X) → ((id : ℤ) (x : X) → read (Int id ∷ stored x) ≡ x) → (tree : List Row) (xs : List X) → KeepsWhole stored cmp tree xs → IsPermutation (map read tree) xs
     items_of {X} stored cmp read back tree xs k = subst (λ l. IsPermutation l xs) (sym (ap (map read) k.rows ∙ map-map read (row_of stored) k.entries ∙ map_same _ (λ (e : ℤ × X). e.1) (λ e. back e.0 e.1) k.entries)) k.same

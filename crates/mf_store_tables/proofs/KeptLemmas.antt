@@ -21,9 +21,10 @@ use Rattle.sqlite_trees.specs.Tree.{rowid}
 use Rattle.sqlite_rules.specs.Calls.{ids_of}
 use Rattle.sqlite_keyed.specs.Lists.{delete_where}
 use Rattle.sqlite_keyed.proofs.ListLemmas.{map-map}
-use Rattle.mf_store_tables.specs.Keep.{Keeps}
+use Rattle.mf_store_tables.specs.Keep.{AreAlike, Keeps, KeepsWhole}
 use Rattle.mf_store_tables.specs.Scan.{scan}
 use Rattle.mf_store_tables.proofs.KeepLemmas.{taken_rows, keeps-deleted}
+use Rattle.mf_store_tables.proofs.AlikeLemmas.{answer_alike, left_alike}
 use Rattle.mf_store_tables.proofs.ReadLemmas.{finds_ids}
 use Rattle.mf_store_tables.proofs.WriteLemmas.{IsQuiet, deletes}
 
@@ -40,10 +41,17 @@ module _ {X : Type 0} (stored : X → Row) (cmp : X → X → Ordering) (total :
       → (new.now.schema ≡ schema) × Keeps stored cmp (new.now.trees table.tree) (delete_where test items) × Spares schema table.tree old.now.trees new.now.trees × IsSound schema new.now.trees
   deletes_kept tests is params test tested under old new count items has k h =
       let did = deletes schema at table there sql params old new has plain count _ quiet uncounted is h in
-      let k' : Keeps stored cmp (overlay old.now.trees [] table.tree) items = subst (λ t. Keeps stored cmp t items) (sym (under old.now.trees)) k in
-      let ids = finds_ids stored cmp table.tree tests (col 1 0 ∷ []) [] params test tested (overlay old.now.trees []) items k' Null did.0 (did.1 Null) (λ (o : Output). id_in (rowid o.1)) (λ e. refl) _
+      let near = subst (λ t. AreAlike t k.full) (sym (under old.now.trees)) k.alike in
+      let seen = answer_alike table.tree tests (col 1 0 ∷ []) [] params Null (overlay old.now.trees []) (λ _. k.full) near did.0 (did.1 Null) in
+      let ids = finds_ids stored cmp table.tree tests (col 1 0 ∷ []) [] params test tested (λ _. k.full) items k.whole Null did.0 seen (λ (o : Output). id_in (rowid o.1)) (λ e. refl) _
       (λ ordered is. ap ids_of is ∙ map-map _ (λ (o : Output). o.1) ordered) in
       let p = λ (r : Row). list_all (holds (params ∷ r ∷ [])) tests in
-      let gone = taken_rows cmp total stored p test tested (overlay old.now.trees [] table.tree) items k' _ ids in
-      let kept = keeps-deleted cmp total stored p test tested (overlay old.now.trees [] table.tree) items k' in
-      (did.2, subst (λ t. Keeps stored cmp t (delete_where test items)) (sym (did.3.rows_are ∙ sym (ap (λ t. Rattle.sqlite.specs.Edit.without_all t (ids_of did.0)) (under old.now.trees)) ∙ gone)) kept, did.3.others, did.4)
+      let gone = taken_rows cmp total stored p test tested k.full items k.whole _ ids in
+      let kept = keeps-deleted cmp total stored p test tested k.full items k.whole in
+      let left = Rattle.sqlite.specs.Edit.without_all k.full (ids_of did.0) in
+      let after : Keeps stored cmp (new.now.trees table.tree) (delete_where test items) = record {
+        full = left;
+        alike = subst (λ t. AreAlike t left) (sym did.3.rows_are) (left_alike (ids_of did.0) (old.now.trees table.tree) k.full k.alike);
+        whole = subst (λ t. KeepsWhole stored cmp t (delete_where test items)) (sym gone) kept;
+      } in
+      (did.2, after, did.3.others, did.4)

@@ -2,6 +2,7 @@ pub mod CompareLemmas
 pub mod KeepLemmas
 pub mod ItemLemmas
 pub mod ReadLemmas
+pub mod AlikeLemmas
 pub mod WriteLemmas
 pub mod KeptLemmas
 pub mod ShownLemmas

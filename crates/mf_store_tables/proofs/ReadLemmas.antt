@@ -13,7 +13,7 @@ use Rattle.sqlite_sql.proofs.QueryLemmas.{output_cmp_total}
 use Rattle.sqlite_trees.specs.Tree.{IsAscending}
 use Rattle.sqlite_keyed.proofs.ListLemmas.{map-map, filter-map, IsPermutation-filter, map_same, ascending-map}
 use Rattle.sqlite_keyed.proofs.SortLemmas.{sorted_unique}
-use Rattle.mf_store_tables.specs.Keep.{row_of, Keeps}
+use Rattle.mf_store_tables.specs.Keep.{row_of, KeepsWhole}
 use Rattle.mf_store_tables.specs.Scan.{scan}
 
 pub flat_map_if : {A B : Type 0} (p : A → Bool) (f : A → B) (xs : List A) → flat_map (λ x. cond (p x) (f x ∷ []) []) xs ≡ map f (filter p xs)
@@ -33,7 +33,7 @@ module _ {X : Type 0} (stored : X → Row) (cmp : X → X → Ordering) (at : �
   env e = params ∷ row_of stored e ∷ []
 
   -- the outputs come from the entries that pass
-  pub shows_in_any_order : (db : Trees) (items : List X) (k : Keeps stored cmp (db at) items) (lost : Value) (rows : List Row) (a : IsAnswerAs lost q db params rows)
+  pub shows_in_any_order : (db : Trees) (items : List X) (k : KeepsWhole stored cmp (db at) items) (lost : Value) (rows : List Row) (a : IsAnswerAs lost q db params rows)
       → IsPermutation (map (λ e. output q (env e)) (filter (λ (e : ℤ × X). test e.1) k.entries)) a.ordered × (rows ≡ map (λ (o : Output). o.1) a.ordered)
   shows_in_any_order db items k lost rows a =
       let staged : a.staged ≡ map (λ r. params ∷ r ∷ []) (filter (λ r. list_all (holds (params ∷ r ∷ [])) tests) (db at)) = a.grouped ∙ flat_map_if (λ r. list_all (holds (params ∷ r ∷ [])) tests) (λ r. params ∷ r ∷ []) (db at) in
@@ -44,7 +44,7 @@ module _ {X : Type 0} (stored : X → Row) (cmp : X → X → Ordering) (at : �
       (subst (λ l. IsPermutation l a.ordered) kept a.same, a.shown)
 
   -- the rowids that a DELETE is given
-  pub finds_ids : (db : Trees) (items : List X) (k : Keeps stored cmp (db at) items) (lost : Value) (rows : List Row) → IsAnswerAs lost q db params rows → (id_of : Output → ℤ)
+  pub finds_ids : (db : Trees) (items : List X) (k : KeepsWhole stored cmp (db at) items) (lost : Value) (rows : List Row) → IsAnswerAs lost q db params rows → (id_of : Output → ℤ)
       → ((e : ℤ × X) → id_of (output q (env e)) ≡ e.0) → (ids : List ℤ) → ((ordered : List Output) → rows ≡ map (λ (o : Output). o.1) ordered → ids ≡ map id_of ordered)
       → IsPermutation (map (λ (e : ℤ × X). e.0) (filter (λ (e : ℤ × X). test e.1) k.entries)) ids
   finds_ids db items k lost rows a id_of is ids from =
@@ -55,7 +55,7 @@ module _ {X : Type 0} (stored : X → Row) (cmp : X → X → Ordering) (at : �
       subst (λ l. IsPermutation wanted l) (sym (from a.ordered found.1)) (subst (λ l. IsPermutation l (map id_of a.ordered)) left both)
 
   -- in the order of the key, the rows are those of the items that pass
-  pub shows : (sort show : X → Row) → ((id : ℤ) (x : X) → output q (params ∷ (Int id ∷ stored x) ∷ []) ≡ (sort x, show x)) → (db : Trees) (items : List X) → Keeps stored cmp (db at) items
+  pub shows : (sort show : X → Row) → ((id : ℤ) (x : X) → output q (params ∷ (Int id ∷ stored x) ∷ []) ≡ (sort x, show x)) → (db : Trees) (items : List X) → KeepsWhole stored cmp (db at) items
       → IsAscending (λ a b. output_cmp q (sort a, show a) (sort b, show b) ≡ Less) (filter test items) → (lost : Value) (rows : List Row) → IsAnswerAs lost q db params rows → rows ≡ map show (filter test items)
   shows sort show out db items k rising lost rows a =
       let found = shows_in_any_order db items k lost rows a in

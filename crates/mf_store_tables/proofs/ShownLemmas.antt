@@ -15,9 +15,10 @@ use Rattle.sqlite.specs.Effect.{Database, Reads}
 use Rattle.sqlite.proofs.Callers.{IsPlain, command_of}
 use Rattle.sqlite_value.specs.declared.keys.Key.{Key}
 use Rattle.sqlite_keyed.proofs.ListLemmas.{ascending-filter, ascending_weaker}
-use Rattle.mf_store_tables.specs.Keep.{Keeps}
+use Rattle.mf_store_tables.specs.Keep.{AreAlike, Keeps}
 use Rattle.mf_store_tables.specs.Scan.{scan, cut_at}
 use Rattle.mf_store_tables.specs.Queries.{Answers}
+use Rattle.mf_store_tables.proofs.AlikeLemmas.{answer_alike}
 use Rattle.mf_store_tables.proofs.ReadLemmas.{shows}
 
 pub shown_kept : {X : Type 0} (stored : X → Row) (cmp : X → X → Ordering) (schema : Schema) (tree : ℕ) (sql : List ℕ) → IsPlain (understood schema sql) → reads_listing schema sql ≡ false
@@ -28,10 +29,10 @@ pub shown_kept : {X : Type 0} (stored : X → Row) (cmp : X → X → Ordering) 
     → (db : Database) (items : List X) (rows : List Row) → db.schema ≡ schema → Keeps stored cmp (db.trees tree) items → Answers sql params db rows → rows ≡ map show (filter test items)
 shown_kept stored cmp schema tree sql plain unlisted tests project order names is params test tested sort show out ranks under db items rows has k h =
     let read = subst (λ c. Reads c db params rows) (ap (λ s. command_of (understood s sql)) has ∙ is) (h (subst (λ s. IsPlain (understood s sql)) (sym has) plain) (ap (λ s. reads_listing s sql) has ∙ unlisted)) in
-    let k' : Keeps stored cmp (overlay db.trees [] tree) items = subst (λ t. Keeps stored cmp t items) (sym (under db.trees)) k in
+    let near = subst (λ t. AreAlike t k.full) (sym (under db.trees)) k.alike in
     let q = scan tree tests project order in
-    let rising = ascending_weaker _ (λ a b. output_cmp q (sort a, show a) (sort b, show b) ≡ Less) (λ a b h. ranks a b ∙ h) _ (ascending-filter (λ a b. cmp a b ≡ Less) test items k.rising) in
-    shows stored cmp tree tests project order params test tested sort show out (overlay db.trees []) items k' rising Null rows (read.answer Null)
+    let rising = ascending_weaker _ (λ a b. output_cmp q (sort a, show a) (sort b, show b) ≡ Less) (λ a b h. ranks a b ∙ h) _ (ascending-filter (λ a b. cmp a b ≡ Less) test items k.whole.rising) in
+    shows stored cmp tree tests project order params test tested sort show out (λ _. k.full) items k.whole rising Null rows (answer_alike tree tests project order params Null (overlay db.trees []) (λ _. k.full) near rows (read.answer Null))
 
 -- the answer of a query that is cut is the start of the whole answer
 whole : (lost : Value) (count tree : ℕ) (tests project : List Term) (order : List (Term × Key)) (db : Trees) (params : Row) (rows : List Row) → IsAnswerAs lost (cut_at count (scan tree tests project order)) db params rows
@@ -48,8 +49,8 @@ pub shown_first_kept : {X : Type 0} (stored : X → Row) (cmp : X → X → Orde
     → (db : Database) (items : List X) (rows : List Row) → db.schema ≡ schema → Keeps stored cmp (db.trees tree) items → Answers sql params db rows → rows ≡ take count (map show (filter test items))
 shown_first_kept stored cmp schema tree count sql plain unlisted tests project order names is params test tested sort show out ranks under db items rows has k h =
     let read = subst (λ c. Reads c db params rows) (ap (λ s. command_of (understood s sql)) has ∙ is) (h (subst (λ s. IsPlain (understood s sql)) (sym has) plain) (ap (λ s. reads_listing s sql) has ∙ unlisted)) in
-    let k' : Keeps stored cmp (overlay db.trees [] tree) items = subst (λ t. Keeps stored cmp t items) (sym (under db.trees)) k in
+    let near = subst (λ t. AreAlike t k.full) (sym (under db.trees)) k.alike in
     let q = scan tree tests project order in
-    let rising = ascending_weaker _ (λ a b. output_cmp q (sort a, show a) (sort b, show b) ≡ Less) (λ a b h. ranks a b ∙ h) _ (ascending-filter (λ a b. cmp a b ≡ Less) test items k.rising) in
+    let rising = ascending_weaker _ (λ a b. output_cmp q (sort a, show a) (sort b, show b) ≡ Less) (λ a b h. ranks a b ∙ h) _ (ascending-filter (λ a b. cmp a b ≡ Less) test items k.whole.rising) in
     let all = whole Null count tree tests project order (overlay db.trees []) params rows (read.answer Null) in
-    all.2 ∙ ap (take count) (shows stored cmp tree tests project order params test tested sort show out (overlay db.trees []) items k' rising Null all.0 all.1)
+    all.2 ∙ ap (take count) (shows stored cmp tree tests project order params test tested sort show out (λ _. k.full) items k.whole rising Null all.0 (answer_alike tree tests project order params Null (overlay db.trees []) (λ _. k.full) near all.0 all.1))

@@ -41,7 +41,8 @@ use Rattle.sqlite_trees.specs.Tree.{IsAscending, rowid, put_row}
 use Rattle.sqlite_value.specs.Order.{column}
 use Rattle.sqlite_value.proofs.OrderLemmas.{value_cmp_total}
 use Rattle.sqlite_keyed.proofs.ListLemmas.{filter-map, filter_same, filter_all, filter_none, all_weaker, IsPermutation-filter, IsPermutation-same}
-use Rattle.mf_store_tables.specs.Keep.{Keeps, row_of, same_id, put_item, drop_item}
+use Rattle.mf_store_tables.specs.Keep.{Keeps, row_of, same_id, put_item, drop_item, KeepsWhole, Alike, AreAlike}
+use Rattle.mf_store_tables.proofs.AlikeLemmas.{answer_alike, left_alike, put_alike, taken_alike, has_full, has_tree, conflicts_alike}
 use Rattle.mf_store_tables.specs.Scan.{eq, scan}
 use Rattle.mf_store_tables.proofs.CompareLemmas.{and_true, equals_id, cast_null, cast_int}
 use Rattle.mf_store_tables.proofs.KeepLemmas.{id_back, taken_rows, keeps-deleted, keeps-put, dropped}
@@ -86,7 +87,7 @@ module _ {X : Type 0} (stored : X → Row) (cmp : X → X → Ordering) (total :
       go Less e few = few
       go Rattle.std.proofs.Common.Greater e few = few
 
-  pub only_key : (tree : List Row) (items : List X) (k : Keeps stored cmp tree items) (e : ℤ × X) → Has k.entries e → is_eq (cmp x e.1) ≡ true → filter (λ (f : ℤ × X). is_eq (cmp x f.1)) k.entries ≡ e ∷ []
+  pub only_key : (tree : List Row) (items : List X) (k : KeepsWhole stored cmp tree items) (e : ℤ × X) → Has k.entries e → is_eq (cmp x e.1) ≡ true → filter (λ (f : ℤ × X). is_eq (cmp x f.1)) k.entries ≡ e ∷ []
   only_key tree items k e h same =
       let q = λ (y : X). is_eq (cmp x y) in
       let all = filter (λ (f : ℤ × X). q f.1) k.entries in
@@ -96,7 +97,7 @@ module _ {X : Type 0} (stored : X → Row) (cmp : X → X → Ordering) (total :
       single all e few (has_kept (λ (f : ℤ × X). q f.1) k.entries e h same)
 
   -- a look-up by the rowid of an entry shows it alone
-  pub finds_one : (at n : ℕ) (project : List Term) (given : Row) (db : Trees) (tree : List Row) → db at ≡ tree → (items : List X) (k : Keeps stored cmp tree items) (e : ℤ × X) → Has k.entries e → column given n ≡ Int e.0
+  pub finds_one : (at n : ℕ) (project : List Term) (given : Row) (db : Trees) (tree : List Row) → db at ≡ tree → (items : List X) (k : KeepsWhole stored cmp tree items) (e : ℤ × X) → Has k.entries e → column given n ≡ Int e.0
       → (lost : Value) (rows : List Row) → IsAnswerAs lost (scan at (eq (col 1 0) (col 0 n) ∷ []) project []) db given rows → rows ≡ eval_all project (given ∷ row_of stored e ∷ []) ∷ []
   finds_one at n project given db tree there items k e has is lost rows a =
       let q = scan at (eq (col 1 0) (col 0 n) ∷ []) project [] in
@@ -210,59 +211,68 @@ module _ {X : Type 0} (stored : X → Row) (cmp : X → X → Ordering) (total :
 
   -- the rows but the one that has the key
   abbrev pub others : List Row
-  others = filter (λ r. not (meets r)) (db t.table.tree)
+  others = filter (λ r. not (meets r)) k.full
 
-  added : (i : ℤ) → is_taken others (Int i ∷ stored x) ≡ false → next t.table.tree ≡ put_row (Int i ∷ stored x) others → Keeps stored cmp (next t.table.tree) (put_item cmp x items)
-  added i free is =
-      let kept = keeps-deleted cmp total stored meets (λ y. is_eq (cmp x y)) clash (db t.table.tree) items k in
-      subst (λ rows. Keeps stored cmp rows (put_item cmp x items)) (sym is) (keeps-put cmp total stored i x others (drop_item cmp x items) kept (dropped cmp total x items) free)
+  meet_alike : (a b : Row) → Alike a b → meets a ≡ meets b
+  meet_alike = conflicts_alike (Some key) t.schema.indexes t.table (Int id ∷ stored x)
+
+  full_are : AreConflicts (Some key) t.schema.indexes t.table k.full (Int id ∷ stored x) found
+  full_are = record {
+    sound = λ y h. let from = are.sound y h in let s = has_full (db t.table.tree) k.full k.alike from.0 from.1 in (s.0, s.1, sym (meet_alike from.0 s.0 s.2) ∙ from.2, from.3 ∙ ap (λ v. v ∷ []) (s.2 0));
+    complete = λ s h clashes. let r = has_tree (db t.table.tree) k.full k.alike s h in subst (λ v. Has found (v ∷ [])) (r.2 0) (are.complete r.0 r.1 (meet_alike r.0 s r.2 ∙ clashes));
+  }
+
+  added : (i : ℤ) (rest : List Row) → AreAlike rest others → is_taken rest (Int i ∷ stored x) ≡ false → next t.table.tree ≡ put_row (Int i ∷ stored x) rest → Keeps stored cmp (next t.table.tree) (put_item cmp x items)
+  added i rest near free is =
+      let kept = keeps-deleted cmp total stored meets (λ y. is_eq (cmp x y)) clash k.full items k.whole in
+      let row = Int i ∷ stored x in
+      record {
+        full = put_row row others;
+        alike = subst (λ rows. AreAlike rows (put_row row others)) (sym is) (put_alike row rest others near);
+        whole = keeps-put cmp total stored i x others (drop_item cmp x items) kept (dropped cmp total x items) (sym (taken_alike row rest others near) ∙ free);
+      }
 
   put_news : (edit_of db t.table [] Given 0 ((Int id ∷ stored x) ∷ [])).news ≡ (Int id ∷ stored x) ∷ []
   put_news = ap (λ r. r ∷ []) (same (Int id) ∙ ap (λ v. v ∷ stored x) (cast_int id))
 
-  none_met : found ≡ [] → others ≡ db t.table.tree
-  none_met none = filter_all (λ r. not (meets r)) (db t.table.tree) (all_from (λ r. not (meets r) ≡ true) (db t.table.tree) (λ r h. go r h (meets r) refl))
+  none_met : found ≡ [] → others ≡ k.full
+  none_met none = filter_all (λ r. not (meets r)) k.full (all_from (λ r. not (meets r) ≡ true) k.full (λ r h. go r h (meets r) refl))
     where
-      go : (r : Row) → Has (db t.table.tree) r → (b : Bool) → meets r ≡ b → not b ≡ true
+      go : (r : Row) → Has k.full r → (b : Bool) → meets r ≡ b → not b ≡ true
       go r h false e = refl
-      go r h true e = absurd (subst (λ l. Has l (rowid r ∷ [])) none (are.complete r h e))
+      go r h true e = absurd (subst (λ l. Has l (rowid r ∷ [])) none (full_are.complete r h e))
 
-  pub puts_to : found ≡ [] → edited db (edit_of db t.table [] Given 0 ((Int id ∷ stored x) ∷ [])) ≡ put_row (Int id ∷ stored x) others
-  puts_to none = ap (put_all (db t.table.tree)) put_news ∙ ap (put_row (Int id ∷ stored x)) (sym (none_met none))
+  puts_to : edited db (edit_of db t.table [] Given 0 ((Int id ∷ stored x) ∷ [])) ≡ put_row (Int id ∷ stored x) (db t.table.tree)
+  puts_to = ap (put_all (db t.table.tree)) put_news
 
   pub puts_kept : found ≡ [] → WasPut t at quiet uncounted db next (Int id ∷ stored x) → Keeps stored cmp (next t.table.tree) (put_item cmp x items) × Spares t.schema t.table.tree db next
   puts_kept none did =
       let fresh = and_parts _ _ (subst (λ ns. are_fresh (db t.table.tree) ns ≡ true) put_news did.fresh) in
-      (added id (subst (λ rows. is_taken rows (Int id ∷ stored x) ≡ false) (sym (none_met none)) (not-true _ fresh.0)) (did.rows ∙ puts_to none), did.tables)
+      (added id (db t.table.tree) (subst (AreAlike (db t.table.tree)) (sym (none_met none)) k.alike) (not-true _ fresh.0) (did.rows ∙ puts_to), did.tables)
 
   module _ (n : ℕ) (project : List Term) (nth : (v : Value) (vs : Row) → column (t.params ++ v ∷ vs) n ≡ v)
       (updates : (i : ℤ) (y : X) → is_eq (cmp x y) ≡ true → eval_all project ((t.params ++ Int i ∷ shown t.table (Int id ∷ stored x)) ∷ (Int i ∷ stored y) ∷ []) ≡ Int i ∷ Int i ∷ stored x)
       (under : (trees : Trees) → overlay trees [] t.table.tree ≡ trees t.table.tree) (there : Row) (has : Has found there) (rows : List Row)
       (read : (lost : Value) → IsAnswerAs lost (scan t.table.tree (eq (col 1 0) (col 0 n) ∷ []) project []) (overlay db []) (t.params ++ rowid there ∷ shown t.table (Int id ∷ stored x)) rows) where
     -- the entry that has the key, and the edit of its row
-    found_entry : (e : ℤ × X) × (rows ≡ (Int e.0 ∷ Int e.0 ∷ stored x) ∷ []) × (without_all (db t.table.tree) (e.0 ∷ []) ≡ others)
+    found_entry : (e : ℤ × X) × (rows ≡ (Int e.0 ∷ Int e.0 ∷ stored x) ∷ []) × (without_all k.full (e.0 ∷ []) ≡ others)
     found_entry =
-        let from = are.sound there has in
-        let source = has_map (row_of stored) k.entries from.0 (subst (λ l. Has l from.0) k.rows from.1) in
+        let from = full_are.sound there has in
+        let source = has_map (row_of stored) k.whole.entries from.0 (subst (λ l. Has l from.0) k.whole.rows from.1) in
         let e = source.0 in
         let tied : is_eq (cmp x e.1) ≡ true = sym (clash e.0 e.1) ∙ ap meets (sym source.2) ∙ from.2 in
         let its : rowid there ≡ Int e.0 = ap rowid from.3 ∙ ap rowid source.2 in
         let given = t.params ++ Int e.0 ∷ shown t.table (Int id ∷ stored x) in
         let q = scan t.table.tree (eq (col 1 0) (col 0 n) ∷ []) project [] in
-        let seen = subst (λ v. IsAnswerAs Null q (overlay db []) (t.params ++ v ∷ shown t.table (Int id ∷ stored x)) rows) its (read Null) in (
+        let seen = subst (λ v. IsAnswerAs Null q (overlay db []) (t.params ++ v ∷ shown t.table (Int id ∷ stored x)) rows) its (read Null) in
+        let whole_seen = answer_alike t.table.tree (eq (col 1 0) (col 0 n) ∷ []) project [] given Null (overlay db []) (λ _. k.full) (subst (λ r. AreAlike r k.full) (sym (under db)) k.alike) rows seen in (
           e,
-          finds_one stored cmp total x t.table.tree n project given (overlay db []) (db t.table.tree) (under db) items k e source.1 (nth _ _) Null rows seen ∙ ap (λ r. r ∷ []) (updates e.0 e.1 tied),
-          taken_rows cmp total stored meets (λ y. is_eq (cmp x y)) clash (db t.table.tree) items k (e.0 ∷ []) (IsPermutation-same _ _ (ap (map (λ (f : ℤ × X). f.0)) (only_key stored cmp total x (db t.table.tree) items k e source.1 tied))),
+          finds_one stored cmp total x t.table.tree n project given (λ _. k.full) k.full refl items k.whole e source.1 (nth _ _) Null rows whole_seen ∙ ap (λ r. r ∷ []) (updates e.0 e.1 tied),
+          taken_rows cmp total stored meets (λ y. is_eq (cmp x y)) clash k.full items k.whole (e.0 ∷ []) (IsPermutation-same _ _ (ap (map (λ (f : ℤ × X). f.0)) (only_key stored cmp total x k.full items k.whole e source.1 tied))),
         )
 
     row_news : (i : ℤ) → (edit_of db t.table (i ∷ []) Given 1 ((Int i ∷ Int i ∷ stored x) ∷ [])).news ≡ (Int i ∷ stored x) ∷ []
     row_news i = ap (λ r. r ∷ []) (same (Int i) ∙ ap (λ v. v ∷ stored x) (cast_int i))
-
-    pub updates_to : (i : ℤ) × (edited db (edit_of db t.table (ids_of rows) Given 1 rows) ≡ put_row (Int i ∷ stored x) others)
-    updates_to =
-        let it = found_entry in
-        let i = it.0.0 in
-        (i, ap (λ rs. edited db (edit_of db t.table (ids_of rs) Given 1 rs)) it.1 ∙ ap (put_all (without_all (db t.table.tree) (i ∷ []))) (row_news i) ∙ ap (put_row (Int i ∷ stored x)) it.2)
 
     pub updates_kept : Applies t.schema t.keys db (edit_of db t.table (ids_of rows) Given 1 rows) next → Keeps stored cmp (next t.table.tree) (put_item cmp x items) × Spares t.schema t.table.tree db next
     updates_kept did =
@@ -272,7 +282,7 @@ module _ {X : Type 0} (stored : X → Row) (cmp : X → X → Ordering) (total :
         let step = subst (λ rs. Applies t.schema t.keys db (edit_of db t.table (ids_of rs) Given 1 rs) next) it.1 did in
         let left = without_all (db t.table.tree) (i ∷ []) in
         let fresh = and_parts _ _ (subst (λ ns. are_fresh left ns ≡ true) (row_news i) step.fresh) in
-        (added i (subst (λ rs. is_taken rs row ≡ false) it.2 (not-true _ fresh.0)) (step.rows ∙ ap (put_all left) (row_news i) ∙ ap (put_row row) it.2), step.tables)
+        (added i left (subst (AreAlike left) it.2 (left_alike (i ∷ []) (db t.table.tree) k.full k.alike)) (not-true _ fresh.0) (step.rows ∙ ap (put_all left) (row_news i)), step.tables)
 
 module _ {X : Type 0} (stored : X → Row) (cmp : X → X → Ordering) (total : IsTotalOrder cmp) (schema : Schema) (at : ℕ) (table : Table) (there : slice_get schema.tables at ≡ Some table)
     (quiet : IsQuiet schema table.tree) (uncounted : table.is_counted ≡ false) (sql : List ℕ) (plain : IsPlain (understood schema sql)) where

@@ -1,0 +1,6 @@
+use Rattle.std.proofs.Common.{rules}
+use Rattle.mf_store_records.proofs.RowLemmas.{row_is}
+use Rattle.mf_store_records.proofs.entries.EntryRowTable.read.Goals as goal
+
+pub returns-clause-row : goal.returns-clause-row
+returns-clause-row c = row_is c.args.row.now _ (search rules) (search rules)

@@ -1,0 +1,5 @@
+pub mod ReadLemmas
+pub mod OpenLemmas
+pub mod TreeLemmas
+pub mod AskLemmas
+pub mod Texts

@@ -1,0 +1,13 @@
+use Rattle.std.proofs.Common.{inl, inr, [], refl}
+use Rattle.mf_store_records.specs.Tables.{schema, shares}
+use Rattle.mf_store_records.specs.Rows.{by_share, share_row}
+use Rattle.mf_store_records.proofs.ReadLemmas.{share_key, share_ranks}
+use Rattle.mf_store_rows.proofs.AskLemmas.{shows_table}
+use Rattle.mf_store_rows.proofs.Texts.{asks_share}
+use Rattle.mf_store_rows.proofs.tables.ShareRowWhole.every_text.Goals as goal
+
+pub returns-clause-plain : goal.returns-clause-plain
+returns-clause-plain c = asks_share.plain
+
+pub returns-clause-shows : goal.returns-clause-shows
+returns-clause-shows c = shows_table share_row by_share schema shares (inr (inr (inr (inr (inr (inr (inr (inr (inr (inr (inl refl))))))))))) refl _ _ asks_share (λ t. refl) share_key (λ id x. refl) (share_ranks [])

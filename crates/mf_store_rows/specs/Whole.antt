@@ -1,0 +1,28 @@
+-- Tables of whatever rows, and what a text shows of one.
+use Rattle.std.specs.Prelude.{◌≡◌, List, map}
+use Rattle.std.specs.declared.cmp.Ordering.{Ordering}
+use Rattle.std.specs.declared.cmp.Ordering.TheVariants.{Less}
+use Rattle.std.specs.List.{AllByRecursion}
+use Rattle.sqlite.specs.Order.{Row}
+use Rattle.sqlite.specs.Table.{Table as SqlTable}
+use Rattle.sqlite.specs.Tree.{Trees}
+use Rattle.sqlite_trees.specs.declared.store.Shape.TheVariants.{Table}
+use Rattle.sqlite_trees.specs.Tree.{IsAscending}
+use Rattle.sqlite_trees.specs.View.{IsShaped}
+use Rattle.mf_store_tables.specs.Keep.{Keeps}
+use Rattle.mf_store_records.specs.Tables.{schema}
+
+-- the rows stand under rowids that are integers and rise
+abbrev pub HasRowids : List Row → Type 0
+HasRowids = IsShaped Table
+
+-- so does each table of the program
+abbrev pub HaveRowids : Trees → Type 0
+HaveRowids trees = AllByRecursion (λ (t : SqlTable). HasRowids (trees t.tree)) schema.tables
+
+-- what a text that asks for the whole table shows of it
+pub record ShowsTable {X : Type 0} (stored : X → Row) (cmp : X → X → Ordering) (tree rows : List Row) : Type 0 where
+  -- where the table keeps items, the rows are theirs
+  pub shows : (items : List X) → Keeps stored cmp tree items → rows ≡ map stored items
+  -- a table with its rowids in order keeps the items whose rows are shown, if these rise by key
+  pub keeps : HasRowids tree → (items : List X) → IsAscending (λ a b. cmp a b ≡ Less) items → rows ≡ map stored items → Keeps stored cmp tree items

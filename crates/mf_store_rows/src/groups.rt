@@ -1,0 +1,104 @@
+//! Several tables read whole, one after the other.
+
+ghost use Rattle.std.specs.Prelude.{◌≡◌, IsTrue, OnOk, IfOk, IfErr, IfSome, IfNone, false};
+ghost use Rattle.mf_base.specs.declared.fault.Fault.TheVariants.{F20};
+ghost use Rattle.sqlite.specs.Held.{state};
+ghost use Rattle.sqlite.specs.State.{HasCleanDisk};
+ghost use Rattle.sqlite.specs.Tree.{Trees};
+ghost use Rattle.mf_store_records.specs.Calls.{IsUnchanged};
+ghost use Rattle.mf_store_records.specs.Tables.{schema};
+ghost use Rattle.mf_store_rows.specs.Whole.{HaveRowids};
+
+use crate::whole::{Whole, every};
+use mf_base::Fault;
+use sqlite::{Alter, Connection};
+use std::alloc::Global;
+
+/// Rows of one table or of several: a `Vec` of records, or a pair of groups.
+pub trait Group: Sized {
+    /// The records.
+    ghost Rows: { Type 0 };
+
+    ghost rows: { Self → Rows };
+
+    /// The trees keep them.
+    ghost Keeps: { Trees → Rows → Type 0 };
+
+    /// Fields of the records' kinds can hold their rows.
+    ghost CanBeHeld: { Rows → Type 0 };
+
+    /// They rise by the key of their table.
+    ghost DoRise: { Rows → Type 0 };
+
+    /// What the tables keep, and none where they keep nothing that records can hold.
+    ///
+    /// The clauses on what is read speak of a connection whose tables are this program's, whatever rows stand there.
+    fn read_group<S: Alter>(
+        alloc: Global,
+        connection: &mut Connection<S>,
+    ) -> Result<Option<Self>, Fault>
+        requires alone { connection.old.in_transaction ≡ false }
+        ensures kept { IsUnchanged (state S.Store connection.old) (state S.Store connection.new) }
+        ensures gives_up { IfErr result (λ fault. fault ≡ F20) }
+        ensures open { HasCleanDisk (state S.Store connection.new) → OnOk result (IsTrue (state S.Store connection.new).is_open) }
+        ensures only { HasCleanDisk (state S.Store connection.new) → (state S.Store connection.old).now.schema ≡ schema
+            → IfOk result (λ x. IfSome x (λ group. (kept : Rows) → Keeps (state S.Store connection.old).now.trees kept → rows group ≡ kept)) }
+        ensures keeps { HasCleanDisk (state S.Store connection.new) → (state S.Store connection.old).now.schema ≡ schema → HaveRowids (state S.Store connection.old).now.trees
+            → IfOk result (λ x. IfSome x (λ group. DoRise (rows group) → Keeps (state S.Store connection.old).now.trees (rows group))) }
+        ensures none { HasCleanDisk (state S.Store connection.new) → (state S.Store connection.old).now.schema ≡ schema
+            → IfOk result (λ x. IfNone x ((kept : Rows) → CanBeHeld kept → ¬ Keeps (state S.Store connection.old).now.trees kept)) }
+        ensures mode { connection.new.in_transaction ≡ false };
+}
+
+impl<T: Whole + Drop> Group for Vec<T> {
+    ghost use Rattle.std.specs.Prelude.{List, map};
+    ghost use Rattle.std.specs.List.{AllByRecursion};
+    ghost use Rattle.std.specs.declared.cmp.Ordering.TheVariants.{Less};
+    ghost use Rattle.sqlite_trees.specs.Tree.{IsAscending};
+    ghost use Rattle.mf_store_tables.specs.Keep.{Keeps as KeepsItems};
+    ghost use Rattle.mf_store_records.specs.Fields.{HasFields};
+
+    ghost Rows = { List T };
+
+    ghost rows = { λ group. group.items };
+
+    ghost Keeps = { λ trees items. KeepsItems T.Table.stored T.Whole.by (trees T.Whole.tree) items };
+
+    ghost CanBeHeld = { λ items. AllByRecursion (HasFields T.Table.fields) (map T.Table.stored items) };
+
+    ghost DoRise = { IsAscending (λ a b. T.Whole.by a b ≡ Less) };
+
+    fn read_group<S: Alter>(
+        alloc: Global,
+        connection: &mut Connection<S>,
+    ) -> Result<Option<Vec<T>>, Fault> {
+        every(alloc, connection)
+    }
+}
+
+impl<A: Group + Drop, B: Group + Drop> Group for (A, B) {
+    ghost Rows = { A.Group.Rows × B.Group.Rows };
+
+    ghost rows = { λ group. (A.Group.rows group.0, B.Group.rows group.1) };
+
+    ghost Keeps = { λ trees kept. A.Group.Keeps trees kept.0 × B.Group.Keeps trees kept.1 };
+
+    ghost CanBeHeld = { λ kept. A.Group.CanBeHeld kept.0 × B.Group.CanBeHeld kept.1 };
+
+    ghost DoRise = { λ kept. A.Group.DoRise kept.0 × B.Group.DoRise kept.1 };
+
+    fn read_group<S: Alter>(
+        alloc: Global,
+        connection: &mut Connection<S>,
+    ) -> Result<Option<(A, B)>, Fault> {
+        let found: Option<A> = A::read_group(alloc, connection)?;
+        let Some(first) = found else {
+            return Ok(None);
+        };
+        let more: Option<B> = B::read_group(alloc, connection)?;
+        let Some(second) = more else {
+            return Ok(None);
+        };
+        Ok(Some((first, second)))
+    }
+}

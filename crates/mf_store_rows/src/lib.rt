@@ -1,0 +1,15 @@
+//! The rows of the program's tables as records, whatever rows stand there: each table read whole.
+//!
+//! A row that no record can hold is told apart from want of memory. What institution the records are is left to the crate above.
+#![tactic(auto)]
+
+mod groups;
+mod opened;
+mod rows;
+mod tables;
+mod whole;
+
+pub use groups::Group;
+pub use opened::{open_file, open_store};
+pub use rows::{read_all, read_any};
+pub use whole::{Whole, every};

@@ -1,0 +1,72 @@
+//! A table that is read whole.
+
+ghost use Rattle.std.specs.Prelude.{◌≡◌, ℕ, List, [], false, map, IsTrue, OnOk, IfOk, IfErr, IfSome, IfNone};
+ghost use Rattle.std.specs.List.{AllByRecursion};
+ghost use Rattle.std.specs.declared.cmp.Ordering.{Ordering};
+ghost use Rattle.std.specs.declared.cmp.Ordering.TheVariants.{Less};
+ghost use Rattle.mf_base.specs.declared.fault.Fault.TheVariants.{F20};
+ghost use Rattle.sqlite.specs.Order.{Row as SqlRow};
+ghost use Rattle.sqlite.specs.Effect.{Database};
+ghost use Rattle.sqlite.specs.Given.{IsPlain};
+ghost use Rattle.sqlite.specs.Held.{state};
+ghost use Rattle.sqlite.specs.Listing.{understood};
+ghost use Rattle.sqlite.specs.State.{HasCleanDisk};
+ghost use Rattle.sqlite_catalog.specs.Listing.{IsSound};
+ghost use Rattle.sqlite_trees.specs.Tree.{IsAscending};
+ghost use Rattle.mf_store_tables.specs.Keep.{Keeps};
+ghost use Rattle.mf_store_tables.specs.Queries.{Answers};
+ghost use Rattle.mf_store_records.specs.Calls.{IsUnchanged};
+ghost use Rattle.mf_store_records.specs.Fields.{HasFields};
+ghost use Rattle.mf_store_records.specs.Tables.{schema};
+ghost use Rattle.sqlite.specs.Tree.{Trees};
+ghost use Rattle.mf_store_rows.specs.Whole.{HasRowids, HaveRowids, ShowsTable};
+
+use crate::rows::read_all;
+use mf_base::Fault;
+use mf_store_records::{Table, ask};
+use sqlite::{Alter, Connection};
+use std::alloc::Global;
+
+/// A table that is read whole.
+pub trait Whole: Table {
+    /// The order of its key.
+    ghost by: { Self → Self → Ordering };
+
+    /// The tree of its rows.
+    ghost tree: { ℕ };
+
+    /// The text that shows the whole table in the order of its key.
+    fn every_text() -> &'static str
+        ensures plain { IsPlain (understood schema result.now) }
+        ensures shows { (db : Database) (rows : List SqlRow) → db.schema ≡ schema → IsSound schema db.trees → Answers result.now [] db rows
+            → ShowsTable Self.Table.stored by (db.trees tree) rows };
+
+    // It is the tree of one of the program's tables.
+    ghost listed: { (trees : Trees) → HaveRowids trees → HasRowids (trees tree) };
+}
+
+/// What the table keeps, and none where it keeps nothing that records can hold.
+///
+/// The clauses on what is read speak of a connection whose tables are this program's, whatever rows stand there.
+pub fn every<T: Whole + Drop, S: Alter>(
+    alloc: Global,
+    connection: &mut Connection<S>,
+) -> Result<Option<Vec<T>>, Fault>
+    requires alone { connection.old.in_transaction ≡ false }
+    ensures kept { IsUnchanged (state S.Store connection.old) (state S.Store connection.new) }
+    ensures gives_up { IfErr result (λ fault. fault ≡ F20) }
+    ensures open { HasCleanDisk (state S.Store connection.new) → OnOk result (IsTrue (state S.Store connection.new).is_open) }
+
+    // What the table keeps is this; and a table whose rowids are in order keeps this, if it rises by key.
+    ensures only { HasCleanDisk (state S.Store connection.new) → (state S.Store connection.old).now.schema ≡ schema
+        → IfOk result (λ x. IfSome x (λ rs. (items : List T) → Keeps T.Table.stored T.by ((state S.Store connection.old).now.trees T.tree) items → rs.items ≡ items)) }
+    ensures keeps { HasCleanDisk (state S.Store connection.new) → (state S.Store connection.old).now.schema ≡ schema → HasRowids ((state S.Store connection.old).now.trees T.tree)
+        → IfOk result (λ x. IfSome x (λ rs. IsAscending (λ a b. T.by a b ≡ Less) rs.items → Keeps T.Table.stored T.by ((state S.Store connection.old).now.trees T.tree) rs.items)) }
+    ensures none { HasCleanDisk (state S.Store connection.new) → (state S.Store connection.old).now.schema ≡ schema
+        → IfOk result (λ x. IfNone x ((items : List T) → AllByRecursion (HasFields T.Table.fields) (map T.Table.stored items) → ¬ Keeps T.Table.stored T.by ((state S.Store connection.old).now.trees T.tree) items)) }
+    ensures mode { connection.new.in_transaction ≡ false }
+{
+    let _schema = connection.schema();
+    let rows = ask(connection, T::every_text(), &[])?;
+    read_all(alloc, &rows)
+}
