@@ -7,7 +7,7 @@ use Rattle.mf_model.specs.Institution.{Ledger, Office}
 use Rattle.mf_model.specs.Receipts.{use_of, uses_in, uses_from}
 use Rattle.mf_store_records.specs.declared.entries.EntryRow.{EntryRow}
 use Rattle.mf_store_sound.specs.Entries.{IsEntryRow, IsPlainEntry, AreEntryRows}
-use Rattle.mf_store_sound.specs.Flat.{entry_in, rows_of_loans, entry_rows}
+use Rattle.mf_store_sound.specs.Flat.{entry_in, own_entries, rows_of_loans, entry_rows}
 use Rattle.mf_store_sound.specs.ReceiptRows.{receipt_in, carried, receipt_of, carried_by}
 use Rattle.mf_store_sound.specs.Stored.{AllFrom}
 
@@ -54,12 +54,12 @@ carried_in x n (e ∷ es) = go e.receipt (carried_in x n es)
     go None more = more
     go (Some r) more = ap (λ rest. record { office = x; receipt = r; loan = n; seq = e.seq } ∷ rest) more
 
-carried_from : (x n : ℕ) (ls : List Ledger) → carried_by (rows_of_loans x n ls) ≡ map (receipt_in x) (uses_from n ls)
+carried_from : (x n : ℕ) (ls : List Ledger) → carried_by (rows_of_loans entry_in own_entries x n ls) ≡ map (receipt_in x) (uses_from n ls)
 carried_from x n [] = refl
 carried_from x n (l ∷ ls) =
-    carried_append (map (entry_in x n) l.entries) (rows_of_loans x (n + 1) ls) ∙ (λ t. carried_in x n l.entries t ++ carried_from x (n + 1) ls t) ∙ sym (map-append (receipt_in x) (uses_in n l.entries) (uses_from (n + 1) ls))
+    carried_append (map (entry_in x n) l.entries) (rows_of_loans entry_in own_entries x (n + 1) ls) ∙ (λ t. carried_in x n l.entries t ++ carried_from x (n + 1) ls t) ∙ sym (map-append (receipt_in x) (uses_in n l.entries) (uses_from (n + 1) ls))
 
 -- the receipts of the offices' entries are those that the rows of these entries carry
 pub carried_is : (fs : List Office) → carried fs ≡ carried_by (entry_rows fs)
 carried_is [] = refl
-carried_is (f ∷ fs) = sym (carried_append (rows_of_loans f.number 1 f.rows.loans) (entry_rows fs) ∙ (λ t. carried_from f.number 1 f.rows.loans t ++ sym (carried_is fs) t))
+carried_is (f ∷ fs) = sym (carried_append (rows_of_loans entry_in own_entries f.number 1 f.rows.loans) (entry_rows fs) ∙ (λ t. carried_from f.number 1 f.rows.loans t ++ sym (carried_is fs) t))

@@ -8,3 +8,13 @@ pub mod PartLemmas
 pub mod EntryLemmas
 pub mod SealLemmas
 pub mod EnteredLemmas
+pub mod StaffLemmas
+pub mod LoanPartLemmas
+pub mod OfficePartLemmas
+pub mod ReceiptLemmas
+pub mod AllLoanLemmas
+pub mod SoundLemmas
+pub mod AccountLemmas
+pub mod KeptLemmas
+pub mod ShareLemmas
+pub mod AccountRowLemmas

@@ -82,13 +82,13 @@ no_entries_are today x n l row own b is none h = go (disbursed_on l.stage) (ap (
     go None e = h
     go (Some day) e = absurd (cc)
 
-record WasDisbursed (stage : Stage) (text : List ℕ) : Type 0 where
-  day : ℕ
-  on : disbursed_on stage ≡ Some day
-  entered : day ≤ last_entered_day
-  written : text ≡ day_text day
+pub record WasDisbursed (stage : Stage) (text : List ℕ) : Type 0 where
+  pub day : ℕ
+  pub on : disbursed_on stage ≡ Some day
+  pub entered : day ≤ last_entered_day
+  pub written : text ≡ day_text day
 
-was_disbursed : (today : ℕ) (s : Stage) (text : List ℕ) → today ≤ last_entered_day → IsStageBy today s → disbursal_text s ≡ Some text → WasDisbursed s text
+pub was_disbursed : (today : ℕ) (s : Stage) (text : List ℕ) → today ≤ last_entered_day → IsStageBy today s → disbursal_text s ≡ Some text → WasDisbursed s text
 was_disbursed today Submitted text late by e = absurd (cc)
 was_disbursed today (Approved day) text late by e = absurd (cc)
 was_disbursed today (Disbursed first day) text late by e = let le : day ≤ today = by.1 in record { day = day; on = refl; entered = omega arith; written = (let w : text ≡ day_text day = cc in w) }

@@ -3,11 +3,9 @@ use Rattle.std.proofs.Common.{◌≡◌, ◌<◌, ◌+◌, ◌∙◌, ℕ, suc, 
 use Rattle.std.specs.List.{AllByRecursion}
 use Rattle.std.proofs.lemmas.Bool.Decides.{nat_tests}
 use Rattle.std.proofs.lemmas.List.Sums.{take_while-cons}
-use Rattle.mf_account.specs.declared.entry.Entry.{Entry}
 use Rattle.mf_model.specs.Institution.{Ledger, Office, Rows}
 use Rattle.mf_model.specs.Tree.{Above}
-use Rattle.mf_store_records.specs.declared.entries.EntryRow.{EntryRow}
-use Rattle.mf_store_sound.specs.Flat.{numbered_from, all_rows, entry_in, rows_of_loans, entry_rows}
+use Rattle.mf_store_sound.specs.Flat.{numbered_from, all_rows, rows_of_loans, rows_by_loan}
 use Rattle.mf_store_sound.specs.Parts.{own_count, own, later}
 
 module _ {R : Type 0} (owner : R → ℕ) (x : ℕ) where
@@ -62,45 +60,43 @@ module _ {A R : Type 0} (make : ℕ → ℕ → A → R) (of : Rows → List A) 
   pub later_of_first : (f : Office) (fs : List Office) → Above f.number fs → later office f.number (all_rows make of (f ∷ fs)) ≡ all_rows make of fs
   later_of_first f fs h = later_block office f.number (numbered_from (make f.number) 1 (of f.rows)) (all_rows make of fs) (all_own f.number 1 (of f.rows)) (none_above f.number fs h)
 
--- ---- rows of entries, loan by loan and office by office
-abbrev loan_of : EntryRow → ℕ
-loan_of r = r.loan
-
-abbrev office_of : EntryRow → ℕ
-office_of r = r.office
-
-of_loan : (x n : ℕ) (es : List Entry) → AllByRecursion (λ r. loan_of r ≡ n) (map (entry_in x n) es)
-of_loan x n [] = tt
-of_loan x n (e ∷ es) = (refl, of_loan x n es)
-
-no_entries_above : (x n m : ℕ) (ls : List Ledger) → n < m → own_count loan_of n (rows_of_loans x m ls) ≡ 0
-no_entries_above x n m [] h = refl
-no_entries_above x n m (l ∷ ls) h = none_own loan_of n (map (entry_in x m) l.entries) (rows_of_loans x (m + 1) ls) (all_same loan_of n m _ h (of_loan x m l.entries)) (no_entries_above x n (m + 1) ls (omega arith))
-
-pub own_of_loan : (x n : ℕ) (l : Ledger) (ls : List Ledger) → own loan_of n (rows_of_loans x n (l ∷ ls)) ≡ map (entry_in x n) l.entries
-own_of_loan x n l ls = own_block loan_of n (map (entry_in x n) l.entries) (rows_of_loans x (n + 1) ls) (of_loan x n l.entries) (no_entries_above x n (n + 1) ls (omega arith))
-
-pub later_of_loan : (x n : ℕ) (l : Ledger) (ls : List Ledger) → later loan_of n (rows_of_loans x n (l ∷ ls)) ≡ rows_of_loans x (n + 1) ls
-later_of_loan x n l ls = later_block loan_of n (map (entry_in x n) l.entries) (rows_of_loans x (n + 1) ls) (of_loan x n l.entries) (no_entries_above x n (n + 1) ls (omega arith))
-
-all_append : {A : Type 0} (P : A → Type 0) (xs ys : List A) → AllByRecursion P xs → AllByRecursion P ys → AllByRecursion P (xs ++ ys)
+pub all_append : {A : Type 0} (P : A → Type 0) (xs ys : List A) → AllByRecursion P xs → AllByRecursion P ys → AllByRecursion P (xs ++ ys)
 all_append P [] ys p q = q
 all_append P (x ∷ xs) ys p q = (p.0, all_append P xs ys p.1 q)
 
-of_office : (x n : ℕ) (es : List Entry) → AllByRecursion (λ r. office_of r ≡ x) (map (entry_in x n) es)
-of_office x n [] = tt
-of_office x n (e ∷ es) = (refl, of_office x n es)
+-- ---- rows of what loans have, loan by loan and office by office
+module _ {A R : Type 0} (make : ℕ → ℕ → A → R) (of : Ledger → List A) where
+  module _ (loan : R → ℕ) (belongs : (x n : ℕ) (a : A) → loan (make x n a) ≡ n) where
+    of_loan : (x n : ℕ) (xs : List A) → AllByRecursion (λ r. loan r ≡ n) (map (make x n) xs)
+    of_loan x n [] = tt
+    of_loan x n (a ∷ xs) = (belongs x n a, of_loan x n xs)
 
-all_of_office : (x n : ℕ) (ls : List Ledger) → AllByRecursion (λ r. office_of r ≡ x) (rows_of_loans x n ls)
-all_of_office x n [] = tt
-all_of_office x n (l ∷ ls) = all_append (λ r. office_of r ≡ x) (map (entry_in x n) l.entries) (rows_of_loans x (n + 1) ls) (of_office x n l.entries) (all_of_office x (n + 1) ls)
+    no_loan_above : (x n m : ℕ) (ls : List Ledger) → n < m → own_count loan n (rows_of_loans make of x m ls) ≡ 0
+    no_loan_above x n m [] h = refl
+    no_loan_above x n m (l ∷ ls) h = none_own loan n (map (make x m) (of l)) (rows_of_loans make of x (m + 1) ls) (all_same loan n m _ h (of_loan x m (of l))) (no_loan_above x n (m + 1) ls (omega arith))
 
-no_office_above : (x : ℕ) (fs : List Office) → Above x fs → own_count office_of x (entry_rows fs) ≡ 0
-no_office_above x [] h = refl
-no_office_above x (f ∷ fs) h = none_own office_of x (rows_of_loans f.number 1 f.rows.loans) (entry_rows fs) (all_same office_of x f.number _ h.0 (all_of_office f.number 1 f.rows.loans)) (no_office_above x fs h.1)
+    pub own_of_loan : (x n : ℕ) (l : Ledger) (ls : List Ledger) → own loan n (rows_of_loans make of x n (l ∷ ls)) ≡ map (make x n) (of l)
+    own_of_loan x n l ls = own_block loan n (map (make x n) (of l)) (rows_of_loans make of x (n + 1) ls) (of_loan x n (of l)) (no_loan_above x n (n + 1) ls (omega arith))
 
-pub own_of_office : (f : Office) (fs : List Office) → Above f.number fs → own office_of f.number (entry_rows (f ∷ fs)) ≡ rows_of_loans f.number 1 f.rows.loans
-own_of_office f fs h = own_block office_of f.number (rows_of_loans f.number 1 f.rows.loans) (entry_rows fs) (all_of_office f.number 1 f.rows.loans) (no_office_above f.number fs h)
+    pub later_of_loan : (x n : ℕ) (l : Ledger) (ls : List Ledger) → later loan n (rows_of_loans make of x n (l ∷ ls)) ≡ rows_of_loans make of x (n + 1) ls
+    later_of_loan x n l ls = later_block loan n (map (make x n) (of l)) (rows_of_loans make of x (n + 1) ls) (of_loan x n (of l)) (no_loan_above x n (n + 1) ls (omega arith))
 
-pub later_of_office : (f : Office) (fs : List Office) → Above f.number fs → later office_of f.number (entry_rows (f ∷ fs)) ≡ entry_rows fs
-later_of_office f fs h = later_block office_of f.number (rows_of_loans f.number 1 f.rows.loans) (entry_rows fs) (all_of_office f.number 1 f.rows.loans) (no_office_above f.number fs h)
+  module _ (office : R → ℕ) (belongs : (x n : ℕ) (a : A) → office (make x n a) ≡ x) where
+    of_office : (x n : ℕ) (xs : List A) → AllByRecursion (λ r. office r ≡ x) (map (make x n) xs)
+    of_office x n [] = tt
+    of_office x n (a ∷ xs) = (belongs x n a, of_office x n xs)
+
+    all_of_office : (x n : ℕ) (ls : List Ledger) → AllByRecursion (λ r. office r ≡ x) (rows_of_loans make of x n ls)
+    all_of_office x n [] = tt
+    all_of_office x n (l ∷ ls) = all_append (λ r. office r ≡ x) (map (make x n) (of l)) (rows_of_loans make of x (n + 1) ls) (of_office x n (of l)) (all_of_office x (n + 1) ls)
+
+    no_office_above : (x : ℕ) (fs : List Office) → Above x fs → own_count office x (rows_by_loan make of fs) ≡ 0
+    no_office_above x [] h = refl
+    no_office_above x (f ∷ fs) h =
+        none_own office x (rows_of_loans make of f.number 1 f.rows.loans) (rows_by_loan make of fs) (all_same office x f.number _ h.0 (all_of_office f.number 1 f.rows.loans)) (no_office_above x fs h.1)
+
+    pub own_of_office : (f : Office) (fs : List Office) → Above f.number fs → own office f.number (rows_by_loan make of (f ∷ fs)) ≡ rows_of_loans make of f.number 1 f.rows.loans
+    own_of_office f fs h = own_block office f.number (rows_of_loans make of f.number 1 f.rows.loans) (rows_by_loan make of fs) (all_of_office f.number 1 f.rows.loans) (no_office_above f.number fs h)
+
+    pub later_of_office : (f : Office) (fs : List Office) → Above f.number fs → later office f.number (rows_by_loan make of (f ∷ fs)) ≡ rows_by_loan make of fs
+    later_of_office f fs h = later_block office f.number (rows_of_loans make of f.number 1 f.rows.loans) (rows_by_loan make of fs) (all_of_office f.number 1 f.rows.loans) (no_office_above f.number fs h)

@@ -1,6 +1,7 @@
 -- Rows of values, one by one: how a loop over rows decides them.
-use Rattle.std.proofs.Common.{◌≡◌, ◌↔◌, ◌<◌, ◌≤◌, ◌+◌, ◌∙◌, ℕ, Bool, true, false, List, [], ◌∷◌, length, get_or, drop, IsTrue, refl, sym, subst, add-one, drop-cons, true≢false}
+use Rattle.std.proofs.Common.{◌≡◌, ◌↔◌, ◌<◌, ◌≤◌, ◌+◌, ◌∙◌, ℕ, suc, Bool, true, false, List, [], ◌∷◌, length, get_or, drop, IsTrue, refl, sym, subst, add-one, drop-cons, true≢false, arith, ◌==◌}
 use Rattle.std.specs.List.{AllByRecursion}
+use Rattle.std.proofs.lemmas.Bool.Decides.{nat_tests}
 use Rattle.std.proofs.lemmas.List.{drop_all}
 use Rattle.mf_store_sound.specs.Flat.{numbered_from}
 use Rattle.mf_store_sound.specs.Stored.{IsRowOf, AreRowsOf, AllFrom}
@@ -14,6 +15,13 @@ no_answer h = (λ t. absurd (true≢false (sym t)), λ p. absurd (h p))
 
 pub yes_answer : {P : Type 0} → P → IsTrue true ↔ P
 yes_answer p = (λ t. p, λ q. refl)
+
+-- nothing is left
+pub nothing_is : {R : Type 0} (rows : List R) (b : Bool) → b ≡ (length rows == 0) → IsTrue b ↔ (rows ≡ [])
+nothing_is [] b e = (λ t. refl, λ t. e)
+nothing_is (r ∷ rs) b e =
+    let some : (suc (length rs) == 0) ≡ false = grind (arith, nat_tests) in
+    (λ yes. absurd (true≢false (sym yes ∙ e ∙ some)), λ is. absurd (cc))
 
 module _ {A R : Type 0} (make : ℕ → A → R) (Passes : A → Type 0) where
   pub rows_none : (n : ℕ) → AreRowsOf make Passes n []

@@ -1,7 +1,12 @@
 -- The rows of an institution: one list a table, each in the order of its key.
-use Rattle.std.specs.Prelude.{◌≡◌, ◌≤◌, ℕ, pos, Bool, true, false, ◌+◌, ◌-◌, length, List, [], ◌∷◌, ◌++◌, map, option_map, Option, Some, None, nat_le}
+use Rattle.std.specs.Prelude.{ℕ, zero, suc, pos, Bool, true, false, ◌+◌, length, slice_index, List, [], ◌∷◌, ◌++◌, map, option_map, Option, Some, None, nat_le}
 use Rattle.mf_account.specs.declared.entry.Entry.{Entry}
-use Rattle.mf_account.specs.Standing.{entry_at, with_mark}
+use Rattle.mf_account.specs.declared.settled.How.{How}
+use Rattle.mf_account.specs.declared.settled.How.TheVariants.{Paid, Waived, WrittenOff}
+use Rattle.mf_account.specs.declared.settled.Settled.{Settled}
+use Rattle.mf_account.specs.Change.{settled_in}
+use Rattle.mf_account.specs.Loan.{Loan as Running, state_of_loan, settled_of_loan}
+use Rattle.mf_alloc.specs.Sums.{Sums}
 use Rattle.mf_account.specs.declared.entry.Kind.{Kind}
 use Rattle.mf_account.specs.declared.entry.Kind.TheVariants.{Repay, Fee, Penalty, Waive, WriteOff, Refund}
 use Rattle.mf_alloc.specs.declared.row.Portion.{Portion}
@@ -9,11 +14,10 @@ use Rattle.mf_alloc.specs.declared.row.Portion.TheVariants as portion
 use Rattle.mf_base.specs.Choices.{frequency_number}
 use Rattle.mf_base.specs.DayText.{day_text}
 use Rattle.mf_catalog.specs.Names.{kind_number, calc_number, method_number, strategy_number}
-use Rattle.mf_office.specs.declared.account.Account.{Account}
 use Rattle.mf_office.specs.Keys.{key_of, key_depth, raised, is_in_range}
 use Rattle.mf_office.specs.Roles.{role_number}
 use Rattle.mf_office.specs.Written.{caller_text}
-use Rattle.mf_model.specs.Accounts.{status_in}
+use Rattle.mf_model.specs.Accounts.{account_in, of_account, status_in}
 use Rattle.mf_model.specs.Institution.{Institution, Catalogue, Charge, Ledger, Offer, Office, Rows, Staff, office_at, numbered}
 use Rattle.mf_model.specs.Stages.{stage_number, disbursed_on}
 use Rattle.mf_model.specs.declared.loan.Loan.{Loan}
@@ -32,10 +36,12 @@ use Rattle.mf_store_records.specs.declared.charges.ChargeRow.{ChargeRow}
 use Rattle.mf_store_records.specs.declared.products.ProductRow.{ProductRow}
 use Rattle.mf_store_records.specs.declared.loans.LoanRow.{LoanRow}
 use Rattle.mf_store_records.specs.declared.entries.EntryRow.{EntryRow}
+use Rattle.mf_store_records.specs.declared.instalments.InstalmentRow.{InstalmentRow}
+use Rattle.mf_store_records.specs.declared.shares.ShareRow.{ShareRow}
 
 -- the number of the schema that these tables are
 abbrev pub schema_number : ℕ
-schema_number = 1
+schema_number = 2
 
 -- 1 for yes
 abbrev pub flag_number : Bool → ℕ
@@ -131,6 +137,50 @@ entry_in office loan e = record {
   reversed = flag_number e.reversed;
 }
 
+-- the row of an instalment, with its number: office, loan
+abbrev pub instalment_in : ℕ → ℕ → ℕ × Sums → InstalmentRow
+instalment_in office loan numbered = record {
+  office = office;
+  loan = loan;
+  number = numbered.0;
+  due = day_text numbered.1.due;
+  owed_penalty = pos (slice_index numbered.1.owed 0);
+  paid_penalty = pos (slice_index numbered.1.paid 0);
+  waived_penalty = pos (slice_index numbered.1.waived 0);
+  written_off_penalty = pos (slice_index numbered.1.written_off 0);
+  owed_fee = pos (slice_index numbered.1.owed 1);
+  paid_fee = pos (slice_index numbered.1.paid 1);
+  waived_fee = pos (slice_index numbered.1.waived 1);
+  written_off_fee = pos (slice_index numbered.1.written_off 1);
+  owed_interest = pos (slice_index numbered.1.owed 2);
+  paid_interest = pos (slice_index numbered.1.paid 2);
+  waived_interest = pos (slice_index numbered.1.waived 2);
+  written_off_interest = pos (slice_index numbered.1.written_off 2);
+  owed_principal = pos (slice_index numbered.1.owed 3);
+  paid_principal = pos (slice_index numbered.1.paid 3);
+  waived_principal = pos (slice_index numbered.1.waived 3);
+  written_off_principal = pos (slice_index numbered.1.written_off 3);
+}
+
+-- the number by which a way of settling is kept
+abbrev pub how_number : How → ℕ
+how_number Paid = 1
+how_number Waived = 2
+how_number WrittenOff = 3
+
+-- the row of what an entry settled in a cell, with the entry's number and its place within the entry: office, loan
+abbrev pub share_in : ℕ → ℕ → ℕ × (ℕ × Settled) → ShareRow
+share_in office loan placed = record {
+  office = office;
+  loan = loan;
+  seq = placed.0;
+  place = placed.1.0;
+  instalment = placed.1.1.cell.instalment;
+  portion = portion_number placed.1.1.cell.portion;
+  how = how_number placed.1.1.how;
+  amount = pos placed.1.1.amount;
+}
+
 -- a loan in a list of loans: office, number
 abbrev pub line_in : Catalogue → ℕ → ℕ → Ledger → LoanLine
 line_in k office number l = record { loan = record { office = office; number = number }; status = status_in k l }
@@ -149,17 +199,54 @@ abbrev pub all_rows : {A R : Type 0} → (ℕ → ℕ → A → R) → (Rows →
 all_rows make of [] = []
 all_rows make of (f ∷ fs) = numbered_from (make f.number) 1 (of f.rows) ++ all_rows make of fs
 
--- the rows of the entries of an office's loans, loan by loan, the first with this number
-abbrev pub rows_of_loans : ℕ → ℕ → List Ledger → List EntryRow
-rows_of_loans office n [] = []
-rows_of_loans office n (l ∷ ls) = map (entry_in office n) l.entries ++ rows_of_loans office (n + 1) ls
+-- the rows of what an office's loans have, loan by loan, the first with this number
+abbrev pub rows_of_loans : {A R : Type 0} → (ℕ → ℕ → A → R) → (Ledger → List A) → ℕ → ℕ → List Ledger → List R
+rows_of_loans make of office n [] = []
+rows_of_loans make of office n (l ∷ ls) = map (make office n) (of l) ++ rows_of_loans make of office (n + 1) ls
 
--- the rows of all entries, office by office
+-- the same of all loans, office by office
+abbrev pub rows_by_loan : {A R : Type 0} → (ℕ → ℕ → A → R) → (Ledger → List A) → List Office → List R
+rows_by_loan make of [] = []
+rows_by_loan make of (f ∷ fs) = rows_of_loans make of f.number 1 f.rows.loans ++ rows_by_loan make of fs
+
+-- the entries that a loan has
+abbrev pub own_entries : Ledger → List Entry
+own_entries l = l.entries
+
+-- an account's instalments as they stand, with their numbers
+abbrev pub instalments_kept : Running → List (ℕ × Sums)
+instalments_kept a = numbered_from (λ n row. (n, row)) 1 (state_of_loan a).rows
+
+-- the parts that an entry settles, with its number and their places
+abbrev pub placed_parts : ℕ → List Settled → List (ℕ × (ℕ × Settled))
+placed_parts seq parts = numbered_from (λ place part. (seq, (place, part))) 1 parts
+
+-- the same of so many entries, the first with this number
+abbrev pub parts_from : (ℕ → List Settled) → ℕ → ℕ → List (ℕ × (ℕ × Settled))
+parts_from parts seq zero = []
+parts_from parts seq (suc count) = placed_parts seq (parts seq) ++ parts_from parts (seq + 1) count
+
+-- what an account's entries settle, by entry and place
+abbrev pub shares_kept : Running → List (ℕ × (ℕ × Settled))
+shares_kept a = parts_from (λ seq. settled_in seq (settled_of_loan a)) 1 (length a.entries)
+
+-- the rows of all entries
 abbrev pub entry_rows : List Office → List EntryRow
-entry_rows [] = []
-entry_rows (f ∷ fs) = rows_of_loans f.number 1 f.rows.loans ++ entry_rows fs
+entry_rows fs = rows_by_loan entry_in own_entries fs
 
--- what the tables hold of an institution; those of instalments and shares hold nothing yet
+-- what is read off a loan's account; nothing before it is disbursed
+abbrev pub kept_of : {A : Type 0} → (Running → List A) → Catalogue → Ledger → List A
+kept_of read k l = of_account [] read (account_in k l)
+
+-- the rows of all instalments, as the replay of each loan's entries leaves them
+abbrev pub instalment_rows : Catalogue → List Office → List InstalmentRow
+instalment_rows k fs = rows_by_loan instalment_in (kept_of instalments_kept k) fs
+
+-- the rows of what all entries settle, as that replay has it
+abbrev pub share_rows : Catalogue → List Office → List ShareRow
+share_rows k fs = rows_by_loan share_in (kept_of shares_kept k) fs
+
+-- what the tables hold of an institution
 abbrev pub tables_of : Institution → Lists
 tables_of i = record {
   meta = meta_on i.catalogue.day ∷ [];
@@ -171,8 +258,8 @@ tables_of i = record {
   loans = all_rows loan_in loans_of i.offices;
   entries = entry_rows i.offices;
   receipts = receipt_rows i.offices;
-  instalments = [];
-  shares = [];
+  instalments = instalment_rows i.catalogue i.offices;
+  shares = share_rows i.catalogue i.offices;
 }
 
 -- the row of an office that is there
@@ -199,36 +286,18 @@ product_row_at number i = option_map (product_as number) (numbered i.catalogue.p
 abbrev pub loan_row_at : ℕ → ℕ → Institution → Option LoanRow
 loan_row_at x number i = option_map (loan_in x number) (numbered (loans_of (rows_at x i)) number)
 
+-- what a loan that is there has
+abbrev pub had_by : {A : Type 0} → (Ledger → List A) → Option Ledger → List A
+had_by of None = []
+had_by of (Some l) = of l
+
 -- the entries of a loan that is there
 abbrev pub entries_of : Option Ledger → List Entry
-entries_of None = []
-entries_of (Some l) = l.entries
-
--- a row is that of the last of these entries, and the loan is there and has all the others
-pub record IsNextRow (loan : Account) (entries : List Entry) (found : Option Ledger) (row : EntryRow) : Type 0 where
-  pub ledger : Ledger
-  pub last : Entry
-  pub there : found ≡ Some ledger
-  pub one_more : entries ≡ ledger.entries ++ last ∷ []
-  pub row_is : row ≡ entry_in loan.office loan.number last
+entries_of found = had_by own_entries found
 
 -- an entry, reversed
 abbrev pub reversed_entry : Entry → Entry
 reversed_entry e = record e { reversed = true }
-
--- the entry of a number stood before and is reversed, and all others are as before
-pub record IsReversal (seq : ℕ) (before entries : List Entry) : Type 0 where
-  pub first : 1 ≤ seq
-  pub last : seq ≤ length before
-  pub stood : (entry_at before (seq - 1)).reversed ≡ false
-  pub marked : entries ≡ with_mark before (seq - 1) true
-
--- a row is that of the entry of a number, reversed, and the loan is there and has these entries but for that
-pub record IsReversedRow (loan : Account) (seq : ℕ) (entries : List Entry) (found : Option Ledger) (row : EntryRow) : Type 0 where
-  pub ledger : Ledger
-  pub there : found ≡ Some ledger
-  pub reversal : IsReversal seq ledger.entries entries
-  pub row_is : row ≡ entry_in loan.office loan.number (reversed_entry (entry_at ledger.entries (seq - 1)))
 
 -- the hierarchy text of an office that is there
 abbrev pub key_at : ℕ → Institution → Option (List ℕ)

@@ -5,3 +5,7 @@ pub mod Parts
 pub mod Offices
 pub mod Entries
 pub mod Stages
+pub mod Callers
+pub mod Sound
+pub mod Kept
+pub mod Accounts

@@ -1,9 +1,9 @@
 -- The rows of receipts, by office and then by the bytes of the receipt; and what adds an entry.
-use Rattle.std.specs.Prelude.{ℕ, List, [], ◌∷◌, ◌++◌, map, Option, Some, None}
+use Rattle.std.specs.Prelude.{◌≡◌, ℕ, List, [], ◌∷◌, ◌++◌, map, Option, Some, None}
 use Rattle.sqlite_keyed.specs.Lists.{sort_by}
 use Rattle.mf_model.specs.Institution.{Office}
 use Rattle.mf_model.specs.Receipts.{Use, uses_from}
-use Rattle.mf_store_records.specs.Rows.{by_receipt}
+use Rattle.mf_store_records.specs.Rows.{by_receipt, AreReceiptsInOrder}
 use Rattle.mf_store_records.specs.declared.entries.EntryRow.{EntryRow}
 use Rattle.mf_store_records.specs.declared.receipts.ReceiptRow.{ReceiptRow}
 use Rattle.mf_store_records.specs.declared.writes.StoreWrite.{StoreWrite}
@@ -40,3 +40,8 @@ receipt_of entry (Some receipt) = record { office = entry.office; receipt = rece
 abbrev pub carried_by : List EntryRow → List ReceiptRow
 carried_by [] = []
 carried_by (entry ∷ entries) = receipt_of entry entry.receipt ++ carried_by entries
+
+-- these are the rows of the receipts that the rows of entries carry, in the order of their key, and no key comes twice
+pub record AreReceiptsOf (receipts : List ReceiptRow) (entries : List EntryRow) : Type 0 where
+  pub in_order : AreReceiptsInOrder receipts
+  pub rows_are : sort_by by_receipt (carried_by entries) ≡ receipts

@@ -22,7 +22,7 @@ use mf_store_records::{EntryRow, Text};
 const GREATEST_AMOUNT: i64 = 1_000_000_000_000;
 
 /// The kind of a number.
-fn kind_from(number: u32) -> Option<Kind>
+pub(crate) fn kind_from(number: u32) -> Option<Kind>
     ensures some { IfSome result (λ kind. entry_kind_number kind ≡ number) }
     ensures every { (kind : AnyKind) → entry_kind_number kind ≡ number → result ≡ Some kind }
 {
@@ -38,7 +38,7 @@ fn kind_from(number: u32) -> Option<Kind>
 }
 
 /// The portion of a number.
-fn portion_from(number: u32) -> Option<Portion>
+pub(crate) fn portion_from(number: u32) -> Option<Portion>
     ensures some { IfSome result (λ portion. portion_number portion ≡ number) }
     ensures every { (portion : AnyPortion) → portion_number portion ≡ number → result ≡ Some portion }
 {
@@ -85,7 +85,9 @@ fn is_instalment(periods: u32, row: &EntryRow) -> bool
 /// Whether a row's columns are those of a fee or a penalty, whose portion has this number.
 fn is_charge(portion: u32, periods: u32, row: &EntryRow) -> bool
     ensures { (amount : ℕ) → pos amount ≡ row.now.amount →
-        IsTrue result ↔ ((1 ≤ amount) × (amount ≤ 10 ^ 12) × (1 ≤ row.now.instalment) × (row.now.instalment ≤ periods) × (row.now.portion ≡ portion) × (row.now.receipt ≡ None)) }
+        IsTrue result ↔
+        ((1 ≤ amount) × (amount ≤ 10 ^ 12) × (1 ≤ row.now.instalment) × (row.now.instalment ≤ periods)
+        × (row.now.portion ≡ portion) × (row.now.receipt ≡ None)) }
 {
     is_amount(row.amount)
         && is_instalment(periods, row)
@@ -104,7 +106,9 @@ fn is_repayment(row: &EntryRow) -> bool
 /// Whether a row's columns are those of a waiver.
 fn is_waiver(periods: u32, row: &EntryRow) -> bool
     ensures { (amount : ℕ) → pos amount ≡ row.now.amount →
-        IsTrue result ↔ ((amount ≡ 0) × (1 ≤ row.now.instalment) × (row.now.instalment ≤ periods) × (row.now.portion ≢ 4) × (row.now.receipt ≡ None)) }
+        IsTrue result ↔
+        ((amount ≡ 0) × (1 ≤ row.now.instalment) × (row.now.instalment ≤ periods) × (row.now.portion ≢ 4)
+        × (row.now.receipt ≡ None)) }
 {
     row.amount == 0 && is_instalment(periods, row) && row.portion != 4 && row.receipt.is_none()
 }

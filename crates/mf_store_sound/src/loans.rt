@@ -78,7 +78,8 @@ fn is_client_there(clients: usize, row: &LoanRow) -> bool
 
 /// Whether a product's row allows the principal and the periods of a loan's.
 fn is_allowed(product: &ProductRow, row: &LoanRow) -> bool
-    ensures { (number : ℕ) (p : Offer) → product_as number p ≡ product.now → (l : Loan) → loan_in row.now.office row.now.number l ≡ row.now →
+    ensures { (number : ℕ) (p : Offer) → product_as number p ≡ product.now → (l : Loan) →
+        loan_in row.now.office row.now.number l ≡ row.now →
         result ≡ allows p.members l.principal l.periods }
 {
     row.principal >= product.min_principal
@@ -89,7 +90,8 @@ fn is_allowed(product: &ProductRow, row: &LoanRow) -> bool
 
 /// Whether the product of the row's loan is there and lends so.
 fn does_lend(products: &[ProductRow], row: &LoanRow) -> bool
-    ensures { (k : Catalogue) → numbered_from product_as 1 k.products ≡ products.now → (l : Loan) → loan_in row.now.office row.now.number l ≡ row.now →
+    ensures { (k : Catalogue) → numbered_from product_as 1 k.products ≡ products.now → (l : Loan) →
+        loan_in row.now.office row.now.number l ≡ row.now →
         result ≡ lends (product_in k l.product) l.principal l.periods }
 {
     match product_row(products, row.product) {
@@ -109,7 +111,8 @@ pub(crate) fn is_loan(
     row: &LoanRow,
 ) -> bool
     requires { today ≤ last_entered_day }
-    ensures { (k : Catalogue) → k.day ≡ today → numbered_from product_as 1 k.products ≡ products.now → (names : List (List ℕ)) → length names ≡ clients →
+    ensures { (k : Catalogue) → k.day ≡ today → numbered_from product_as 1 k.products ≡ products.now →
+        (names : List (List ℕ)) → length names ≡ clients →
         IsTrue result ↔ IsRowOf (loan_in office) (IsOwnLoan k names) number row.now }
 {
     is_row_of_loan(today, office, number, row)

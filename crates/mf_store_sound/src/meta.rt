@@ -6,7 +6,7 @@ use mf_base::Day;
 use mf_store_records::MetaRow;
 
 /// The number of the schema that these tables are.
-const SCHEMA: u32 = 1;
+const SCHEMA: u32 = 2;
 
 /// The business day of the row of meta, where it is such a row.
 fn day_of_row(row: &MetaRow) -> Option<Day>

@@ -5,7 +5,8 @@ ghost use Rattle.std.specs.List.{AllByRecursion};
 ghost use Rattle.mf_base.specs.declared.fault.Fault.TheVariants.{F20};
 ghost use Rattle.mf_model.specs.Tree.{Ascending};
 ghost use Rattle.mf_office.specs.Keys.{child_key, head_key, key_depth};
-ghost use Rattle.mf_store_sound.specs.Offices.{IsNumberedAndNamed, AscendFrom, row_at, HasParentsText, IsOfficeRow, AreOfficeRows, AreOffices};
+ghost use Rattle.mf_store_sound.specs.Offices.{IsNumberedAndNamed, AscendFrom, row_at, HasParentsText};
+ghost use Rattle.mf_store_sound.specs.Offices.{IsOfficeRow, AreOfficeRows, AreOffices};
 ghost use Rattle.mf_store_sound.specs.Parts.{office_of};
 
 use mf_base::Fault;
@@ -76,7 +77,8 @@ fn is_head(office: &OfficeRow) -> bool
 
 /// Whether a row's hierarchy text is that of a child of the office of another row.
 fn is_child(alloc: Global, above: &OfficeRow, office: &OfficeRow) -> Result<bool, Fault>
-    ensures child { IfOk result (λ yes. IsTrue yes ↔ ((office.now.number ≢ 1) × (office.now.hkey ≡ child_key above.now.hkey office.now.number))) }
+    ensures child { IfOk result (λ yes. IsTrue yes ↔
+        ((office.now.number ≢ 1) × (office.now.hkey ≡ child_key above.now.hkey office.now.number))) }
     ensures gives_up { IfErr result (λ fault. fault ≡ F20) }
 {
     let text = child_text(alloc, above.hkey.as_str(), office.number)?;
@@ -85,7 +87,8 @@ fn is_child(alloc: Global, above: &OfficeRow, office: &OfficeRow) -> Result<bool
 
 /// Whether a row's hierarchy text is the one that its parent gives.
 fn has_parents_text(alloc: Global, offices: &[OfficeRow], office: &OfficeRow) -> Result<bool, Fault>
-    ensures text { AscendFrom 0 offices.now → IfOk result (λ yes. IsTrue yes ↔ HasParentsText offices.now office.now.parent office.now) }
+    ensures text { AscendFrom 0 offices.now → IfOk result (λ yes. IsTrue yes ↔
+        HasParentsText offices.now office.now.parent office.now) }
     ensures gives_up { IfErr result (λ fault. fault ≡ F20) }
 {
     let Some(parent) = office.parent else {
@@ -108,7 +111,8 @@ fn is_office(alloc: Global, offices: &[OfficeRow], office: &OfficeRow) -> Result
 
 /// Whether each row is one of such offices.
 fn are_each_offices(alloc: Global, offices: &[OfficeRow]) -> Result<bool, Fault>
-    ensures rows { AscendFrom 0 offices.now → IfOk result (λ yes. IsTrue yes ↔ AllByRecursion (IsOfficeRow offices.now) offices.now) }
+    ensures rows { AscendFrom 0 offices.now → IfOk result (λ yes. IsTrue yes ↔
+        AllByRecursion (IsOfficeRow offices.now) offices.now) }
     ensures gives_up { IfErr result (λ fault. fault ≡ F20) }
 {
     for office in offices {

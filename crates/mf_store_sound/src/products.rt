@@ -93,7 +93,7 @@ fn do_limits_agree(row: &ProductRow) -> bool
 }
 
 /// The row with this number, in rows by number from 1.
-fn charge_row(rows: &[ChargeRow], number: u32) -> Option<&ChargeRow>
+pub(crate) fn charge_row(rows: &[ChargeRow], number: u32) -> Option<&ChargeRow>
     ensures { option_copied result ≡ numbered rows.now number }
 {
     if number == 0 {
@@ -114,7 +114,8 @@ pub(crate) fn product_row(rows: &[ProductRow], number: u32) -> Option<&ProductRo
 
 /// Whether the charge is there and of the kind of this number, where one is named.
 fn is_of_kind(charges: &[ChargeRow], kind: u32, named: Option<u32>) -> bool
-    ensures { (k : Catalogue) → numbered_from charge_as 1 k.charges ≡ charges.now → (wanted : AnyKind) → kind_number wanted ≡ kind →
+    ensures { (k : Catalogue) → numbered_from charge_as 1 k.charges ≡ charges.now → (wanted : AnyKind) →
+        kind_number wanted ≡ kind →
         result ≡ is_of_kind (charge_in k) wanted named }
 {
     let Some(number) = named else {
@@ -128,7 +129,8 @@ fn is_of_kind(charges: &[ChargeRow], kind: u32, named: Option<u32>) -> bool
 
 /// Whether the charges that the row's product names are there and of the right kinds.
 fn are_kinds_right(charges: &[ChargeRow], row: &ProductRow) -> bool
-    ensures { (k : Catalogue) → numbered_from charge_as 1 k.charges ≡ charges.now → (p : Offer) → product_as row.now.number p ≡ row.now →
+    ensures { (k : Catalogue) → numbered_from charge_as 1 k.charges ≡ charges.now → (p : Offer) →
+        product_as row.now.number p ≡ row.now →
         result ≡ kinds_right (charge_in k) p.members }
 {
     let disbursement = is_of_kind(charges, 1, row.disbursement_charge);

@@ -56,7 +56,8 @@ fn is_past(row: &EntryRow, last: &EntryRow) -> bool
 
 /// Whether every other standing entry comes before that of a row.
 fn is_last(rows: &[EntryRow], last: &EntryRow) -> bool
-    ensures { (x m : ℕ) (entries : List Entry) (e : Entry) → AllByRecursion IsReadable entries → map (entry_in x m) entries ≡ rows.now → IsReadable e → entry_in x m e ≡ last.now →
+    ensures { (x m : ℕ) (entries : List Entry) (e : Entry) → AllByRecursion IsReadable entries →
+        map (entry_in x m) entries ≡ rows.now → IsReadable e → entry_in x m e ≡ last.now →
         result ≡ is_last_of entries e }
 {
     for row in rows {
@@ -69,7 +70,8 @@ fn is_last(rows: &[EntryRow], last: &EntryRow) -> bool
 
 /// Whether the entry of a row is the last, where it is a write-off or a refund that stands.
 fn is_in_order(rows: &[EntryRow], row: &EntryRow) -> bool
-    ensures { (x m : ℕ) (entries : List Entry) (e : Entry) → AllByRecursion IsReadable entries → map (entry_in x m) entries ≡ rows.now → IsReadable e → entry_in x m e ≡ row.now →
+    ensures { (x m : ℕ) (entries : List Entry) (e : Entry) → AllByRecursion IsReadable entries →
+        map (entry_in x m) entries ≡ rows.now → IsReadable e → entry_in x m e ≡ row.now →
         result ≡ (e.reversed || (not (is_seal_kind e.kind) || is_last_of entries e)) }
 {
     if is_reversed(row) {

@@ -1,0 +1,262 @@
+-- Receipts in the order of their key, where no key comes twice.
+use Rattle.std.proofs.Common.{◌≡◌, ◌≢◌, ◌↔◌, ◌<◌, ◌≤◌, ◌+◌, ◌-◌, ◌∙◌, ◌&&◌, ℕ, zero, suc, Bool, true, false, cond, List, [], ◌∷◌, ◌++◌, map, filter, length, get_or, refl, sym, ap, subst, arith, Ordering, Less, Equal, Greater, is_eq, is_lt, is_gt, true≢false, ◌==◌, IsPermutation, IsSorted}
+use Rattle.std.specs.List.{AllByRecursion}
+use Rattle.std.specs.Cmp.{IsTotalOrder}
+use Rattle.std.specs.Ordering.{ordering_reverse}
+use Rattle.std.specs.Str.{bytes_eq}
+use Rattle.std.proofs.lemmas.Bool.Decides.{nat_tests}
+use Rattle.std.proofs.lemmas.Cmp.{tied_itself}
+use Rattle.std.proofs.lemmas.List.{get_or_default, ext_get_or}
+use Rattle.std.proofs.lemmas.List.Sorted.{IsPermutation-sym, IsPermutation-trans, length_permutation}
+use Rattle.std.proofs.lemmas.Slice.Eq.{bytes_eq-Decides}
+use Rattle.sqlite_keyed.proofs.ListLemmas.{all_weaker, ascending_weaker, IsPermutation-filter, filter_none}
+use Rattle.sqlite_keyed.proofs.SortLemmas.{sorted_unique, sorted_is-sort_by, IsPermutation-sort_by}
+use Rattle.sqlite_keyed.specs.Lists.{insert_sorted, sort_by}
+use Rattle.sqlite_trees.specs.Tree.{IsAscending}
+use Rattle.mf_model.specs.Institution.{Office}
+use Rattle.mf_model.specs.Receipts.{Use, uses_from, AreApart}
+use Rattle.mf_model.specs.Tree.{Above, Ascending}
+use Rattle.mf_store_records.specs.Rows.{by_receipt, is_receipt, is_receipt_before, AreReceiptsInOrder}
+use Rattle.mf_store_records.specs.declared.entries.EntryRow.{EntryRow}
+use Rattle.mf_store_records.specs.declared.receipts.ReceiptRow.{ReceiptRow}
+use Rattle.mf_store_records.proofs.ReceiptLemmas.{before_later, is_receipt-bytes}
+use Rattle.mf_store_records.proofs.TableLemmas.{by_receipt_total}
+use Rattle.mf_store_sound.specs.ReceiptRows.{receipt_in, carried, carried_by, AreReceiptsOf}
+use Rattle.mf_store_sound.proofs.PartLemmas.{all_append}
+use Rattle.mf_store_sound.proofs.StaffLemmas.{rising_is_sorted}
+
+-- ---- lists with no ties
+
+module _ {X : Type 0} (cmp : X → X → Ordering) (total : IsTotalOrder cmp) where
+  abbrev pub Rises : List X → Type 0
+  Rises = IsAscending (λ a b. cmp a b ≡ Less)
+
+  abbrev pub NoTies : List X → Type 0
+  NoTies = IsAscending (λ a b. is_eq (cmp a b) ≡ false)
+
+  abbrev Few : List X → Type 0
+  Few xs = (r : X) → length (filter (λ y. is_eq (cmp r y)) xs) ≤ 1
+
+  few_in_order : (xs : List X) → Rises xs → Few xs
+  few_in_order [] up r = omega arith
+  few_in_order (x ∷ xs) up r = go (cmp r x) refl (few_in_order xs up.1 r)
+    where
+      go : (o : Ordering) → cmp r x ≡ o → length (filter (λ y. is_eq (cmp r y)) xs) ≤ 1 → length (cond (is_eq o) (x ∷ filter (λ y. is_eq (cmp r y)) xs) (filter (λ y. is_eq (cmp r y)) xs)) ≤ 1
+      go Equal e few = let none = filter_none (λ y. is_eq (cmp r y)) xs (all_weaker _ (λ z. is_eq (cmp r z) ≡ false) (λ z h. ap is_eq (total.congr r x z e ∙ h)) xs up.0) in rw none (omega arith)
+      go Less e few = few
+      go Greater e few = few
+
+  few_permuted : (xs ys : List X) → IsPermutation xs ys → Few xs → Few ys
+  few_permuted xs ys same few r =
+      let p = λ (y : X). is_eq (cmp r y) in
+      let many : length (filter (λ (y : X). is_eq (cmp r y)) ys) ≡ length (filter (λ (y : X). is_eq (cmp r y)) xs) = length_permutation _ _ (IsPermutation-filter (λ (y : X). is_eq (cmp r y)) xs ys same) in
+      subst (λ n. n ≤ 1) (sym many) (few r)
+
+  none_kept : (p : X → Bool) (xs : List X) → length (filter p xs) ≤ 0 → AllByRecursion (λ y. p y ≡ false) xs
+  none_kept p [] h = tt
+  none_kept p (x ∷ xs) h = go (p x) refl h (none_kept p xs)
+    where
+      go : (b : Bool) → p x ≡ b → length (cond b (x ∷ filter p xs) (filter p xs)) ≤ 0 → (length (filter p xs) ≤ 0 → AllByRecursion (λ y. p y ≡ false) xs) → (p x ≡ false) × AllByRecursion (λ y. p y ≡ false) xs
+      go true e h more = absurd (omega (arith, h))
+      go false e h more = (e, more h)
+
+  fewer : (p : X → Bool) (x : X) (xs : List X) → length (filter p xs) ≤ length (filter p (x ∷ xs))
+  fewer p x xs = go (p x)
+    where
+      go : (b : Bool) → length (filter p xs) ≤ length (cond b (x ∷ filter p xs) (filter p xs))
+      go true = omega arith
+      go false = omega arith
+
+  no_ties : (xs : List X) → Few xs → NoTies xs
+  no_ties [] few = tt
+  no_ties (x ∷ xs) few =
+      let one = few x in
+      let here : is_eq (cmp x x) ≡ true = ap is_eq (tied_itself total x) in
+      let mine : length (x ∷ filter (λ y. is_eq (cmp x y)) xs) ≤ 1 = subst (λ b. length (cond b (x ∷ filter (λ y. is_eq (cmp x y)) xs) (filter (λ y. is_eq (cmp x y)) xs)) ≤ 1) here (few x) in
+      (none_kept (λ y. is_eq (cmp x y)) xs (omega (arith, mine)), no_ties xs (λ r. omega (arith, fewer (λ y. is_eq (cmp r y)) x xs, few r)))
+
+  -- what rises is what a list is sorted to
+  pub sorts_to : (xs ys : List X) → Rises ys → IsPermutation xs ys → sort_by cmp xs ≡ ys
+  sorts_to xs ys up same = sym (sorted_is-sort_by cmp total xs ys (no_ties xs (few_permuted ys xs (IsPermutation-sym xs ys same) (few_in_order ys up))) same (rising_is_sorted cmp total ys up))
+
+  -- where the sorted list rises there are no ties
+  pub none_tied : (xs : List X) → Rises (sort_by cmp xs) → NoTies xs
+  none_tied xs up = no_ties xs (few_permuted (sort_by cmp xs) xs (IsPermutation-sort_by cmp total xs) (few_in_order (sort_by cmp xs) up))
+
+  all_inserted : (P : X → Type 0) (new : X) (xs : List X) → P new → AllByRecursion P xs → AllByRecursion P (insert_sorted cmp new xs)
+  all_inserted P new [] h all = (h, tt)
+  all_inserted P new (x ∷ xs) h all = elim (is_gt (cmp new x)) as (λ b. AllByRecursion P (cond b (x ∷ insert_sorted cmp new xs) (new ∷ x ∷ xs))) [ true ↦ (all.0, all_inserted P new xs h all.1) | false ↦ (h, all) ]
+
+  all_sorted : (P : X → Type 0) (xs : List X) → AllByRecursion P xs → AllByRecursion P (sort_by cmp xs)
+  all_sorted P [] all = tt
+  all_sorted P (x ∷ xs) all = all_inserted P x (sort_by cmp xs) all.0 (all_sorted P xs all.1)
+
+  rises_inserted : (new : X) (xs : List X) → AllByRecursion (λ y. is_eq (cmp new y) ≡ false) xs → Rises xs → Rises (insert_sorted cmp new xs)
+  rises_inserted new [] apart up = (tt, tt)
+  rises_inserted new (x ∷ xs) apart up = go (cmp new x) refl (rises_inserted new xs apart.1 up.1)
+    where
+      go : (o : Ordering) → cmp new x ≡ o → Rises (insert_sorted cmp new xs) → Rises (cond (is_gt o) (x ∷ insert_sorted cmp new xs) (new ∷ x ∷ xs))
+      go Less e more = ((e, all_weaker _ (λ y. cmp new y ≡ Less) (λ y. total.trans new x y e) xs up.0), up)
+      go Equal e more = absurd (true≢false (sym (ap is_eq e) ∙ apart.0))
+      go Greater e more = (all_inserted (λ y. cmp x y ≡ Less) new xs (total.antisymm x new ∙ ap ordering_reverse e) up.0, more)
+
+  -- and where there are none it rises
+  pub rises_sorted : (xs : List X) → NoTies xs → Rises (sort_by cmp xs)
+  rises_sorted [] apart = tt
+  rises_sorted (x ∷ xs) apart = rises_inserted x (sort_by cmp xs) (all_sorted (λ y. is_eq (cmp x y) ≡ false) xs apart.0) (rises_sorted xs apart.1)
+
+less_is : (o : Ordering) → is_lt o ≡ true → o ≡ Less
+less_is Less h = refl
+less_is Equal h = absurd (true≢false (sym h))
+less_is Greater h = absurd (true≢false (sym h))
+
+rises_in_order : (rows : List ReceiptRow) → AreReceiptsInOrder rows → Rises by_receipt by_receipt_total rows
+rises_in_order rows up = ascending_weaker (λ a b. is_receipt_before a b ≡ true) (λ a b. by_receipt a b ≡ Less) (λ a b h. less_is (by_receipt a b) h) rows up
+
+in_order_rises : (rows : List ReceiptRow) → Rises by_receipt by_receipt_total rows → AreReceiptsInOrder rows
+in_order_rises rows up = ascending_weaker (λ a b. by_receipt a b ≡ Less) (λ a b. is_receipt_before a b ≡ true) (λ a b h. ap is_lt h) rows up
+
+-- ---- the rows sorted, and those that are stored
+
+pub receipts_are : (entries : List EntryRow) (sorted receipts : List ReceiptRow) (B : Type 0) → AreReceiptsInOrder receipts → IsPermutation (carried_by entries) sorted → IsSorted by_receipt sorted → (B ↔ (sorted ≡ receipts)) → B ↔ AreReceiptsOf receipts entries
+receipts_are entries sorted receipts B up same order h = (
+  λ yes. record { in_order = up; rows_are = sorts_to by_receipt by_receipt_total (carried_by entries) receipts (rises_in_order receipts up) (subst (IsPermutation (carried_by entries)) (h.0 yes) same) },
+  λ of. h.1 (
+      sorted_unique by_receipt by_receipt_total receipts sorted (rises_in_order receipts up)
+      (subst (λ rows. IsPermutation rows sorted) of.rows_are (IsPermutation-trans _ _ _ (IsPermutation-sort_by by_receipt by_receipt_total (carried_by entries)) same)) order
+      ),
+)
+
+-- ---- rows that rise, one beside the next
+
+abbrev pub RisesTo : List ReceiptRow → ℕ → Type 0
+RisesTo rows i = (k : ℕ) (d : ReceiptRow) → suc k < i → is_receipt_before (get_or rows k d) (get_or rows (suc k) d) ≡ true
+
+pub rises_on : (rows : List ReceiptRow) (i : ℕ) (x y : ReceiptRow) → 1 ≤ i → i < length rows → x ≡ get_or rows (i - 1) x → y ≡ get_or rows i y → is_receipt_before x y ≡ true → RisesTo rows i → RisesTo rows (i + 1)
+rises_on rows i x y some inside is_x is_y before so_far k d below = go (suc k == i) refl
+  where
+    go : (b : Bool) → (suc k == i) ≡ b → is_receipt_before (get_or rows k d) (get_or rows (suc k) d) ≡ true
+    go true e =
+        let here : suc k ≡ i = grind (arith, nat_tests) in
+        let place : k ≡ i - 1 = omega arith in
+        let one : get_or rows k d ≡ x = get_or_default rows k d x (omega arith) ∙ (λ t. get_or rows (place t) x) ∙ sym is_x in
+        let other : get_or rows (suc k) d ≡ y = get_or_default rows (suc k) d y (omega arith) ∙ (λ t. get_or rows (here t) y) ∙ sym is_y in
+        (λ t. is_receipt_before (one t) (other t)) ∙ before
+    go false e = let apart : suc k ≢ i = grind (arith, nat_tests) in so_far k d (omega arith)
+
+rise_all : (rows : List ReceiptRow) → RisesTo rows (length rows) → AreReceiptsInOrder rows
+rise_all [] h = tt
+rise_all (x ∷ []) h = (tt, tt)
+rise_all (x ∷ y ∷ ys) h =
+    let more = rise_all (y ∷ ys) (λ k d below. h (suc k) d (omega arith)) in
+    let first : is_receipt_before x y ≡ true = h 0 x (omega arith) in
+    ((first, all_weaker (λ z. is_receipt_before y z ≡ true) (λ z. is_receipt_before x z ≡ true) (λ z later. before_later x y z first later) ys more.0), more)
+
+pub rose : (rows : List ReceiptRow) (i : ℕ) → length rows ≤ i → RisesTo rows i → AreReceiptsInOrder rows
+rose rows i h all = rise_all rows (λ k d below. all k d (omega arith))
+
+rise_each : (rows : List ReceiptRow) → AreReceiptsInOrder rows → RisesTo rows (length rows)
+rise_each [] up k d below = absurd (omega arith)
+rise_each (x ∷ []) up k d below = absurd (omega arith)
+rise_each (x ∷ y ∷ ys) up zero d below = up.0.0
+rise_each (x ∷ y ∷ ys) up (suc k) d below = rise_each (y ∷ ys) up.1 k d (omega arith)
+
+pub rises_not : (rows : List ReceiptRow) (i : ℕ) (x y : ReceiptRow) → 1 ≤ i → i < length rows → x ≡ get_or rows (i - 1) x → y ≡ get_or rows i y → is_receipt_before x y ≡ false → AreReceiptsInOrder rows → ⊥
+rises_not rows i x y some inside is_x is_y before up =
+    let here : suc (i - 1) ≡ i = omega arith in
+    let one : get_or rows (i - 1) x ≡ x = sym is_x in
+    let other : get_or rows (suc (i - 1)) x ≡ y = get_or_default rows (suc (i - 1)) x y (omega arith) ∙ (λ t. get_or rows (here t) y) ∙ sym is_y in
+    absurd (true≢false (sym (rise_each rows up (i - 1) x (omega arith)) ∙ (λ t. is_receipt_before (one t) (other t)) ∙ before))
+
+-- ---- the receipts of offices
+
+receipt_itself : (x : ℕ) (u v : Use) → u.receipt ≡ v.receipt → is_receipt x u.receipt (receipt_in x v) ≡ true
+receipt_itself x u v is = is_receipt-bytes x u.receipt (receipt_in x v) ∙ (λ t. (x == x) && bytes_eq u.receipt (sym is t)) ∙ (λ t. same t && (bytes_eq-Decides u.receipt u.receipt).1 refl t)
+  where
+    same : (x == x) ≡ true
+    same = grind (arith, nat_tests)
+
+bytes_apart : (xs ys : List ℕ) → xs ≢ ys → bytes_eq xs ys ≡ false
+bytes_apart xs ys h = go (bytes_eq xs ys) refl
+  where
+    go : (b : Bool) → bytes_eq xs ys ≡ b → b ≡ false
+    go true e = absurd (h ((bytes_eq-Decides xs ys).0 e))
+    go false e = refl
+
+and_false : (b : Bool) → (b && false) ≡ false
+and_false true = refl
+and_false false = refl
+
+receipt_apart : (x : ℕ) (u v : Use) → u.receipt ≢ v.receipt → is_receipt x u.receipt (receipt_in x v) ≡ false
+receipt_apart x u v h = is_receipt-bytes x u.receipt (receipt_in x v) ∙ ap (λ b. (x == x) && b) (bytes_apart u.receipt v.receipt h) ∙ and_false (x == x)
+
+office_apart : (x y : ℕ) (r : List ℕ) (v : Use) → x < y → is_receipt x r (receipt_in y v) ≡ false
+office_apart x y r v h = is_receipt-bytes x r (receipt_in y v) ∙ ap (λ b. b && bytes_eq r v.receipt) (let apart : (x == y) ≡ false = grind (arith, nat_tests) in apart)
+
+others_in : (x y : ℕ) (r : List ℕ) (us : List Use) → x < y → AllByRecursion (λ (row : ReceiptRow). is_receipt x r row ≡ false) (map (receipt_in y) us)
+others_in x y r [] h = tt
+others_in x y r (u ∷ us) h = (office_apart x y r u h, others_in x y r us h)
+
+others_above : (x : ℕ) (r : List ℕ) (fs : List Office) → Above x fs → AllByRecursion (λ (row : ReceiptRow). is_receipt x r row ≡ false) (carried fs)
+others_above x r [] up = tt
+others_above x r (f ∷ fs) up = all_append (λ (row : ReceiptRow). is_receipt x r row ≡ false) (map (receipt_in f.number) (uses_from 1 f.rows.loans)) (carried fs) (others_in x f.number r (uses_from 1 f.rows.loans) up.0) (others_above x r fs up.1)
+
+apart_from : (x : ℕ) (u : Use) (us : List Use) → AllByRecursion (λ (v : Use). u.receipt ≢ v.receipt) us → AllByRecursion (λ (row : ReceiptRow). is_receipt x u.receipt row ≡ false) (map (receipt_in x) us)
+apart_from x u [] all = tt
+apart_from x u (v ∷ us) all = (receipt_apart x u v all.0, apart_from x u us all.1)
+
+no_ties_in : (x : ℕ) (us : List Use) (rest : List ReceiptRow) → AreApart us → ((r : List ℕ) → AllByRecursion (λ (row : ReceiptRow). is_receipt x r row ≡ false) rest) → NoTies by_receipt by_receipt_total rest → NoTies by_receipt by_receipt_total (map (receipt_in x) us ++ rest)
+no_ties_in x [] rest apart others none = none
+no_ties_in x (u ∷ us) rest apart others none = (all_append (λ (row : ReceiptRow). is_receipt x u.receipt row ≡ false) (map (receipt_in x) us) rest (apart_from x u us apart.0) (others u.receipt), no_ties_in x us rest apart.1 others none)
+
+-- the receipts of each office are apart
+abbrev pub AreAllApart : List Office → Type 0
+AreAllApart fs = AllByRecursion (λ (f : Office). AreApart (uses_from 1 f.rows.loans)) fs
+
+no_ties_of : (fs : List Office) → Ascending fs → AreAllApart fs → NoTies by_receipt by_receipt_total (carried fs)
+no_ties_of [] up apart = tt
+no_ties_of (f ∷ fs) up apart = no_ties_in f.number (uses_from 1 f.rows.loans) (carried fs) apart.0 (λ r. others_above f.number r fs up.0) (no_ties_of fs up.1 apart.1)
+
+apart_to : (x : ℕ) (u : Use) (us : List Use) (rest : List ReceiptRow) → AllByRecursion (λ (row : ReceiptRow). is_receipt x u.receipt row ≡ false) (map (receipt_in x) us ++ rest) → AllByRecursion (λ (v : Use). u.receipt ≢ v.receipt) us
+apart_to x u [] rest all = tt
+apart_to x u (v ∷ us) rest all = (λ is. absurd (true≢false (sym (receipt_itself x u v is) ∙ all.0)), apart_to x u us rest all.1)
+
+apart_in : (x : ℕ) (us : List Use) (rest : List ReceiptRow) → NoTies by_receipt by_receipt_total (map (receipt_in x) us ++ rest) → AreApart us × NoTies by_receipt by_receipt_total rest
+apart_in x [] rest none = (tt, none)
+apart_in x (u ∷ us) rest none = let more = apart_in x us rest none.1 in ((apart_to x u us rest none.0, more.0), more.1)
+
+apart_of : (fs : List Office) → NoTies by_receipt by_receipt_total (carried fs) → AreAllApart fs
+apart_of [] none = tt
+apart_of (f ∷ fs) none = let both = apart_in f.number (uses_from 1 f.rows.loans) (carried fs) none in (both.0, apart_of fs both.1)
+
+-- no office has a receipt twice just where their rows rise
+pub in_order_apart : (fs : List Office) → Ascending fs → AreAllApart fs → AreReceiptsInOrder (sort_by by_receipt (carried fs))
+in_order_apart fs up apart = in_order_rises (sort_by by_receipt (carried fs)) (rises_sorted by_receipt by_receipt_total (carried fs) (no_ties_of fs up apart))
+
+pub apart_in_order : (fs : List Office) → AreReceiptsInOrder (sort_by by_receipt (carried fs)) → AreAllApart fs
+apart_in_order fs up = apart_of fs (none_tied by_receipt by_receipt_total (carried fs) (rises_in_order (sort_by by_receipt (carried fs)) up))
+
+-- ---- two lists of rows, one by one
+
+abbrev pub SameTo : List ReceiptRow → List ReceiptRow → ℕ → Type 0
+SameTo rows others i = (k : ℕ) (d : ReceiptRow) → k < i → get_or rows k d ≡ get_or others k d
+
+pub same_on : (rows others : List ReceiptRow) (i : ℕ) (x y : ReceiptRow) → length rows ≡ length others → i < length rows → x ≡ get_or rows i x → y ≡ get_or others i y → x ≡ y → SameTo rows others i → SameTo rows others (i + 1)
+same_on rows others i x y many inside is_x is_y is so_far k d below = go (k == i) refl
+  where
+    go : (b : Bool) → (k == i) ≡ b → get_or rows k d ≡ get_or others k d
+    go true e =
+        let here : k ≡ i = grind (arith, nat_tests) in
+        get_or_default rows k d x (omega arith) ∙ (λ t. get_or rows (here t) x) ∙ sym is_x ∙ is ∙ is_y ∙ (λ t. get_or others (sym here t) y) ∙ get_or_default others k y d (omega arith)
+    go false e = let apart : k ≢ i = grind (arith, nat_tests) in so_far k d (omega arith)
+
+no_receipt : ReceiptRow
+no_receipt = record { office = 0; receipt = []; loan = 0; seq = 0 }
+
+pub same_all : (rows others : List ReceiptRow) (i : ℕ) → length rows ≡ length others → length rows ≤ i → SameTo rows others i → rows ≡ others
+same_all rows others i many h all = ext_get_or no_receipt rows others many (λ k below. all k no_receipt (omega arith))
+
+pub same_not : (rows others : List ReceiptRow) (i : ℕ) (x y : ReceiptRow) → i < length rows → x ≡ get_or rows i x → y ≡ get_or others i y → (x ≡ y → ⊥) → rows ≡ others → ⊥
+same_not rows others i x y inside is_x is_y apart is =
+    let many : length rows ≡ length others = ap length is in
+    apart (is_x ∙ (λ t. get_or (is t) i x) ∙ get_or_default others i x y (omega arith) ∙ sym is_y)

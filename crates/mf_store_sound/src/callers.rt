@@ -1,0 +1,47 @@
+//! Whether those who entered the entries are there.
+
+ghost use Rattle.std.specs.Prelude.{◌≡◌, List};
+ghost use Rattle.std.specs.List.{list_all};
+ghost use Rattle.mf_model.specs.Institution.{Office};
+ghost use Rattle.mf_model.specs.Sound.{is_staff};
+ghost use Rattle.mf_model.specs.Tree.{Ascending};
+ghost use Rattle.mf_store_sound.specs.Callers.{is_by_staff as names_staff};
+ghost use Rattle.mf_store_sound.specs.Flat.{all_rows, staff_in};
+
+use mf_office::Caller;
+use mf_store_records::{EntryRow, StaffRow};
+
+/// Whether there is such a member of staff, by rows in the order of office and number.
+fn is_there(staff: &[StaffRow], office: u32, number: u32) -> bool
+    ensures { (fs : List Office) → Ascending fs → all_rows staff_in (λ own. own.staff) fs ≡ staff.now →
+        result ≡ is_staff fs (record { office = office; staff = number }) }
+{
+    match staff.binary_search_by_key(&(office, number), |row| (row.office, row.number)) {
+        Ok(_) => true,
+        Err(_) => false,
+    }
+}
+
+/// Whether the entry of a row was entered by somebody who is there.
+fn is_by_staff(staff: &[StaffRow], row: &EntryRow) -> bool
+    ensures { (fs : List Office) → Ascending fs → all_rows staff_in (λ own. own.staff) fs ≡ staff.now →
+        result ≡ names_staff fs row.now }
+{
+    match Caller::parse(row.staff.as_str().as_bytes()) {
+        Some(caller) => is_there(staff, caller.office.get(), caller.staff.get()),
+        None => false,
+    }
+}
+
+/// Whether the entry of each row was entered by somebody who is there.
+pub(crate) fn are_by_staff(staff: &[StaffRow], rows: &[EntryRow]) -> bool
+    ensures { (fs : List Office) → Ascending fs → all_rows staff_in (λ own. own.staff) fs ≡ staff.now →
+        result ≡ list_all (names_staff fs) rows.now }
+{
+    for row in rows {
+        if !is_by_staff(staff, row) {
+            return false;
+        }
+    }
+    true
+}

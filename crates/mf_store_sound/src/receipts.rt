@@ -1,0 +1,116 @@
+//! The rows of receipts: whether they are those that the rows of entries carry.
+
+ghost use Rattle.std.specs.Prelude.{◌≡◌, ◌++◌, ◌↔◌, IsTrue, OnOk, IfOk, IfErr};
+ghost use Rattle.mf_base.specs.declared.fault.Fault.TheVariants.{F20};
+ghost use Rattle.mf_store_records.specs.Rows.{by_receipt, is_receipt_before, AreReceiptsInOrder};
+ghost use Rattle.mf_store_sound.specs.ReceiptRows.{receipt_of, carried_by, AreReceiptsOf};
+
+use mf_base::Fault;
+use mf_store_records::{EntryRow, ReceiptRow, Text};
+use std::alloc::Global;
+use std::cmp::Ordering;
+
+/// The order of receipts: by office, and then by their bytes.
+fn compare(row: &ReceiptRow, other: &ReceiptRow) -> Ordering
+    ensures { result ≡ by_receipt row.now other.now }
+{
+    let by_bytes = row
+        .receipt
+        .as_str()
+        .as_bytes()
+        .cmp(other.receipt.as_str().as_bytes());
+    row.office.cmp(&other.office).then(by_bytes)
+}
+
+/// Whether a receipt comes before another.
+fn is_before(row: &ReceiptRow, other: &ReceiptRow) -> bool
+    ensures { result ≡ is_receipt_before row.now other.now }
+{
+    compare(row, other) == Ordering::Less
+}
+
+/// Whether each receipt comes before those that follow it, so that none stands twice in an office.
+fn do_rise(rows: &[ReceiptRow]) -> bool
+    ensures { IsTrue result ↔ AreReceiptsInOrder rows.now }
+{
+    for place in 1..rows.len() {
+        if !is_before(&rows[place - 1], &rows[place]) {
+            return false;
+        }
+    }
+    true
+}
+
+/// Whether two rows are the same.
+fn is_same(row: &ReceiptRow, other: &ReceiptRow) -> bool
+    ensures { IsTrue result ↔ (row.now ≡ other.now) }
+{
+    row.office == other.office
+        && row.loan == other.loan
+        && row.seq == other.seq
+        && row.receipt.as_str() == other.receipt.as_str()
+}
+
+/// Whether the rows are the same, one by one.
+fn are_same(rows: &[ReceiptRow], others: &[ReceiptRow]) -> bool
+    ensures { IsTrue result ↔ (rows.now ≡ others.now) }
+{
+    if rows.len() != others.len() {
+        return false;
+    }
+    for place in 0..rows.len() {
+        if !is_same(&rows[place], &others[place]) {
+            return false;
+        }
+    }
+    true
+}
+
+/// Adds the row of the receipt that an entry's row carries, if it carries one.
+fn add_receipt(alloc: Global, rows: &mut Vec<ReceiptRow>, entry: &EntryRow) -> Result<(), Fault>
+    ensures added { OnOk result (rows.new.items ≡ rows.old.items ++ receipt_of entry.now entry.now.receipt) }
+    ensures gives_up { IfErr result (λ fault. fault ≡ F20) }
+{
+    let Some(receipt) = &entry.receipt else {
+        return Ok(());
+    };
+    let text = Text::new(String::from_str(alloc, receipt.as_str())?);
+    rows.push(ReceiptRow {
+        office: entry.office,
+        receipt: text,
+        loan: entry.loan,
+        seq: entry.seq,
+    })?;
+    Ok(())
+}
+
+/// The rows of the receipts that the rows of entries carry, in the order of the entries.
+fn carried(alloc: Global, entries: &[EntryRow]) -> Result<Vec<ReceiptRow>, Fault>
+    ensures rows { IfOk result (λ rows. rows.items ≡ carried_by entries.now) }
+    ensures gives_up { IfErr result (λ fault. fault ≡ F20) }
+{
+    let mut rows = Vec::new(alloc);
+    for entry in entries {
+        add_receipt(alloc, &mut rows, entry)?;
+    }
+    Ok(rows)
+}
+
+/// Whether the rows are those of the receipts that the rows of entries carry, in the order of their key, and no office
+/// has a receipt twice. The error is want of memory, F20.
+pub(crate) fn are_receipts(
+    alloc: Global,
+    receipts: &[ReceiptRow],
+    entries: &[EntryRow],
+) -> Result<bool, Fault>
+    ensures exact { IfOk result (λ yes. IsTrue yes ↔ AreReceiptsOf receipts.now entries.now) }
+    ensures gives_up { IfErr result (λ fault. fault ≡ F20) }
+{
+    if !do_rise(receipts) {
+        return Ok(false);
+    }
+    let mut rows = carried(alloc, entries)?;
+    rows.sort_unstable_by(|row, other| compare(row, other));
+    let same = are_same(&rows, receipts);
+    Ok(same)
+}
