@@ -5,12 +5,14 @@ use Rattle.mf_catalog.specs.declared.terms.Terms.{Terms}
 use Rattle.mf_office.specs.declared.caller.Caller.{Caller}
 use Rattle.mf_account.specs.Loan.{Loan as Running}
 use Rattle.mf_model.specs.Accounts.{account_in, of_account, running_from, terms_in}
-use Rattle.mf_model.specs.Institution.{Catalogue, Ledger, Office}
+use Rattle.mf_model.specs.Institution.{Catalogue, Ledger, Office, Rows, office_at, with_office, with_rows, no_rows}
 use Rattle.mf_model.specs.Sound.{IsSoundLoan, IsSoundOffice}
 use Rattle.mf_model.specs.Stages.{disbursed_on}
+use Rattle.mf_model.specs.Store.{rows_of}
+use Rattle.mf_model.specs.Tree.{Ascending}
 use Rattle.mf_model.proofs.AccountLemmas.{IsRunning, account_is, account_there}
-use Rattle.mf_store.specs.Flat.{rows_of_loans, rows_by_loan}
-use Rattle.mf_store.proofs.LoanRowLemmas.{Around}
+use Rattle.mf_store_sound.specs.Flat.{rows_of_loans, rows_by_loan, kept_of, instalment_in, share_in, instalments_kept, shares_kept, instalment_rows, share_rows}
+use Rattle.mf_store.proofs.LoanRowLemmas.{Around, HaveSame, same_by_loan, none_in_office}
 
 -- ---- as the catalogue grows
 
@@ -33,25 +35,42 @@ same_account k h staffed clients l stand sound = go (disbursed_on l.loan.stage) 
         ∙ ap Some is.account_is)
 
 module _ {A R : Type 0} (make : ℕ → ℕ → A → R) (read : Running → List A) where
-  -- what is read off a loan's account; nothing before it is disbursed
-  abbrev pub read_in : Catalogue → Ledger → List A
-  read_in k l = of_account [] read (account_in k l)
-
-  loans_stand : (k h : Catalogue) (staffed : Caller → Bool) (clients : List (List ℕ)) (x n : ℕ) (ls : List Ledger) → TermsStand k h → AllByRecursion (IsSoundLoan k staffed clients) ls → rows_of_loans make (read_in k) x n ls ≡ rows_of_loans make (read_in h) x n ls
+  loans_stand : (k h : Catalogue) (staffed : Caller → Bool) (clients : List (List ℕ)) (x n : ℕ) (ls : List Ledger) → TermsStand k h → AllByRecursion (IsSoundLoan k staffed clients) ls → rows_of_loans make (kept_of read k) x n ls ≡ rows_of_loans make (kept_of read h) x n ls
   loans_stand k h staffed clients x n [] stand sound = refl
   loans_stand k h staffed clients x n (l ∷ ls) stand sound = ap₂ (λ a rest. map (make x n) (of_account [] read a) ++ rest) (same_account k h staffed clients l stand sound.0) (loans_stand k h staffed clients x (n + 1) ls stand sound.1)
 
   -- the rows that are read off the accounts of sound loans stand
-  pub rows_stand : (k h : Catalogue) (staffed : Caller → Bool) (fs : List Office) → TermsStand k h → AllByRecursion (IsSoundOffice k staffed) fs → rows_by_loan make (read_in k) fs ≡ rows_by_loan make (read_in h) fs
+  pub rows_stand : (k h : Catalogue) (staffed : Caller → Bool) (fs : List Office) → TermsStand k h → AllByRecursion (IsSoundOffice k staffed) fs → rows_by_loan make (kept_of read k) fs ≡ rows_by_loan make (kept_of read h) fs
   rows_stand k h staffed [] stand sound = refl
   rows_stand k h staffed (f ∷ fs) stand sound = ap₂ ◌++◌ (loans_stand k h staffed f.rows.clients f.number 1 f.rows.loans stand sound.0.rows.loans) (rows_stand k h staffed fs stand sound.1)
 
-  -- ---- where a loan has no account
+-- ---- where a loan's rows are the same after a change
+pub around_same : {A R : Type 0} (make : ℕ → ℕ → A → R) (x n : ℕ) (old new : List R) (block changed : List A) → Around make x n old new block changed → block ≡ changed → old ≡ new
+around_same make x n old new block changed w same = w.old_is ∙ ap (λ b. w.first ++ (map (make x n) b ++ w.last)) same ∙ sym w.new_is
 
-  -- before it is disbursed
-  pub none_before : (k : Catalogue) (l : Ledger) → disbursed_on l.loan.stage ≡ None → read_in k l ≡ []
-  none_before k l e = ap (λ d. of_account [] read (running_from l.loan l.entries d (terms_in k l.loan.product))) e
+-- ---- where a loan has no account
 
-  -- ---- where a loan's rows are the same after a change
-  pub around_same : (x n : ℕ) (old new : List R) (block changed : List A) → Around make x n old new block changed → block ≡ changed → old ≡ new
-  around_same x n old new block changed w same = w.old_is ∙ ap (λ (b : List A). w.first ++ (map (make x n) b ++ w.last)) same ∙ sym w.new_is
+-- before it is disbursed
+pub none_before : {A : Type 0} (read : Running → List A) (k : Catalogue) (l : Ledger) → disbursed_on l.loan.stage ≡ None → kept_of read k l ≡ []
+none_before read k l e = ap (λ d. of_account [] read (running_from l.loan l.entries d (terms_in k l.loan.product))) e
+
+-- ---- both tables, where no account changes
+
+-- the rows of instalments and of shares are the same
+pub record SameRows (k h : Catalogue) (fs gs : List Office) : Type 0 where
+  pub instalments : instalment_rows k fs ≡ instalment_rows h gs
+  pub shares : share_rows k fs ≡ share_rows h gs
+
+-- in an office with other rows, whose loans have the same
+pub rows_same : (k : Catalogue) (x : ℕ) (new : Rows) (fs : List Office) → Ascending fs
+    → HaveSame instalment_in (kept_of instalments_kept k) (kept_of instalments_kept k) new.loans (rows_of (office_at x fs)).loans
+    → HaveSame share_in (kept_of shares_kept k) (kept_of shares_kept k) new.loans (rows_of (office_at x fs)).loans → SameRows k k fs (with_rows x new fs)
+rows_same k x new fs up instalments shares = record { instalments = same_by_loan instalment_in (kept_of instalments_kept k) x new fs up instalments; shares = same_by_loan share_in (kept_of shares_kept k) x new fs up shares }
+
+-- with one more office
+pub office_same : (k : Catalogue) (new : Office) (fs : List Office) → new.rows ≡ no_rows → SameRows k k fs (with_office new fs)
+office_same k new fs is = record { instalments = none_in_office instalment_in (kept_of instalments_kept k) new fs is; shares = none_in_office share_in (kept_of shares_kept k) new fs is }
+
+-- as the catalogue grows
+pub catalogue_same : (k h : Catalogue) (staffed : Caller → Bool) (fs : List Office) → TermsStand k h → AllByRecursion (IsSoundOffice k staffed) fs → SameRows k h fs fs
+catalogue_same k h staffed fs stand sound = record { instalments = rows_stand instalment_in instalments_kept k h staffed fs stand sound; shares = rows_stand share_in shares_kept k h staffed fs stand sound }

@@ -1,7 +1,6 @@
 -- Offices' lines of active loans, as they are counted in turn.
 use Rattle.std.proofs.Common.{◌≡◌, ◌<◌, ◌+◌, ℕ, Bool, true, false, cond, ◌==◌, List, [], ◌∷◌, ◌++◌, map, length, take, get_or, slice_get, Option, Some, None, refl, sym, ap, ap₂, ◌∙◌, arith}
-use Rattle.std.specs.List.{AllByRecursion, flat_map}
-use Rattle.std.specs.Option.{option_map}
+use Rattle.std.specs.List.{AllByRecursion, flat_map, list_any}
 use Rattle.std.proofs.lemmas.Bool.Decides.{nat_tests}
 use Rattle.std.proofs.lemmas.Grind.{flat_map-append}
 use Rattle.std.proofs.lemmas.List.{take_more, map-append}
@@ -10,16 +9,18 @@ use Rattle.std.proofs.lemmas.Option.{slice_get-get_or}
 use Rattle.mf_office.specs.declared.office.Office.{Office as OfficeShown}
 use Rattle.mf_arrears.specs.Line.{Loan as Aged, Line, line_of as line_of_loans}
 use Rattle.mf_model.specs.declared.loan.Stage.TheVariants.{Submitted}
-use Rattle.mf_model.specs.Accounts.{account_in}
-use Rattle.mf_model.specs.Arrears.{active_in, arrears_line, arrears_seen, if_active}
+use Rattle.mf_alloc.specs.Sums.{Sums, is_open}
+use Rattle.mf_model.specs.Accounts.{account_in, of_account, status_in}
+use Rattle.mf_model.specs.Stages.{stage_number}
+use Rattle.mf_model.specs.Arrears.{aged, active_in, arrears_line, arrears_seen, if_active}
 use Rattle.mf_model.specs.Desk.{line_of}
 use Rattle.mf_model.specs.Institution.{Institution, Catalogue, Office, Ledger, office_at}
-use Rattle.mf_account.specs.Change.{Account as Replayed}
-use Rattle.mf_account.specs.Loan.{Loan as Running}
-use Rattle.mf_model.specs.Store.{rows_of, replayed}
+use Rattle.mf_account.specs.Loan.{Loan as Running, IsSound as IsSoundAccount, state_of_loan, status_of_loan}
+use Rattle.mf_account.proofs.ActiveLemmas.{active-where_open}
+use Rattle.mf_model.specs.Store.{rows_of}
 use Rattle.mf_model.specs.Tree.{kept, seen_by, parent_of, Above, Ascending}
 use Rattle.mf_office.specs.Tree.{is_at_or_below}
-use Rattle.mf_store.specs.Arrears.{line_at}
+use Rattle.mf_store.specs.Arrears.{aged_rows, line_at}
 
 -- ---- the loans of one office
 
@@ -40,13 +41,22 @@ one_more k ls d found low is =
     counts l = if_active k.day (account_in k l)
 
 -- what is told of an account that was handed out, and of none
-pub none_told : (today : ℕ) (account : Option Running) → option_map replayed account ≡ None → [] ≡ if_active today account
-none_told today None none = refl
-none_told today (Some a) none = absurd (cc)
+-- an account's instalments as they stand
+abbrev pub rows_of_account : Running → List Sums
+rows_of_account a = (state_of_loan a).rows
 
-pub some_told : (today : ℕ) (found : Replayed) (account : Option Running) → Some found ≡ option_map replayed account → if_active today (Some found.loan) ≡ if_active today account
-some_told today found None is = absurd (cc)
-some_told today found (Some a) is = ap (λ (r : Replayed). if_active today (Some r.loan)) (let same : found ≡ replayed a = cc in same)
+-- a loan counts by the instalments that are kept as by its account
+pub aged_told : (today : ℕ) (o : Option Running) → ((a : Running) → o ≡ Some a → IsSoundAccount a) → aged_rows today (of_account [] rows_of_account o) ≡ if_active today o
+aged_told today None sound = refl
+aged_told today (Some a) sound = ap (λ b. cond b (aged today a ∷ []) []) (sym (active-where_open a (sound a refl)))
+
+-- where something is outstanding its status is 300
+pub active_status : (k : Catalogue) (l : Ledger) → ((a : Running) → account_in k l ≡ Some a → IsSoundAccount a) → list_any is_open (of_account [] rows_of_account (account_in k l)) ≡ true → 300 ≡ status_in k l
+active_status k l sound open_is = go (account_in k l) refl open_is
+  where
+    go : (o : Option Running) → account_in k l ≡ o → list_any is_open (of_account [] rows_of_account o) ≡ true → 300 ≡ of_account (stage_number l.loan.stage) status_of_loan o
+    go None e h = absurd (let never : false ≡ true = h in cc)
+    go (Some a) e h = let is : (status_of_loan a == 300) ≡ true = active-where_open a (sound a e) ∙ h in grind (arith, nat_tests)
 
 -- one more loan is counted
 pub next_line : (k : Catalogue) (office : ℕ) (ls : List Ledger) (d : ℕ) (line new : Line) (found : List Aged) → d < length ls → ((l : Ledger) → slice_get ls d ≡ Some l → found ≡ if_active k.day (account_in k l))

@@ -7,20 +7,20 @@ use Rattle.mf_alloc.specs.Sums.{Sums}
 use Rattle.mf_account.specs.declared.settled.How.{How}
 use Rattle.mf_account.specs.declared.settled.How.TheVariants.{Paid, Waived, WrittenOff}
 use Rattle.mf_account.specs.declared.settled.Settled.{Settled}
-use Rattle.mf_account.specs.Change.{Changed, AreThose, HasOtherRow, HasOtherParts, IsChange, settled_in}
+use Rattle.mf_account.specs.Change.{Account as Replayed, Changed, AreThose, HasOtherRow, HasOtherParts, IsChange, settled_in}
 use Rattle.mf_account.specs.Loan.{Loan as Running, IsSound, state_of_loan, settled_of_loan}
 use Rattle.mf_account.proofs.ChangeLemmas.{none-in}
 use Rattle.mf_account.proofs.SoundLemmas.{good-sound}
 use Rattle.mf_account.proofs.ToldLemmas.{parts-numbered}
-use Rattle.mf_store_tables.specs.Writes.{after_all}
+use Rattle.mf_store_tables.specs.Writes.{AllFit, after_all}
 use Rattle.mf_store_records.specs.Rows.{Lists, by_instalment, by_share}
-use Rattle.mf_store_records.specs.Writes.{after}
+use Rattle.mf_store_records.specs.Writes.{Fits, after}
 use Rattle.mf_store_records.specs.declared.writes.StoreWrite.{StoreWrite}
 use Rattle.mf_store_records.specs.declared.writes.StoreWrite.TheVariants.{PutShare}
-use Rattle.mf_store.specs.ChangeWrites.{instalments_put, shares_replaced, shares_put}
-use Rattle.mf_store.specs.Flat.{how_number, portion_number, instalment_in, share_in, placed_parts, parts_from, instalments_kept, shares_kept}
+use Rattle.mf_store.specs.ChangeWrites.{schedule_put, instalments_put, shares_replaced, shares_put, change_writes}
+use Rattle.mf_store_sound.specs.Flat.{how_number, portion_number, instalment_in, share_in, placed_parts, parts_from, instalments_kept, shares_kept}
 use Rattle.mf_store.proofs.InstalmentRowLemmas.{rows_put, change_put}
-use Rattle.mf_store.proofs.OneInstitution.{portion_same}
+use Rattle.mf_store.proofs.FlatLemmas.{portion_same}
 use Rattle.mf_store.proofs.PutAllLemmas.{put_all}
 use Rattle.mf_store.proofs.ShareRowLemmas.{replaced_each, change_replaced}
 
@@ -141,3 +141,36 @@ shares_written x n settled [] lists = refl
 shares_written x n settled (s ∷ ss) lists =
     after_both (shares_replaced x n settled s) (shares_put x n settled ss) (Some lists)
     ∙ ap (after_all after (shares_put x n settled ss)) (parts_written x n (placed_parts s (settled_in s settled)) _) ∙ shares_written x n settled ss _
+
+pub schedule_written : (x n : ℕ) (numbered : List (ℕ × Sums)) (lists : Lists) → after_all after (schedule_put x n numbered) (Some lists) ≡ Some (record lists { instalments = put_all by_instalment (map (instalment_in x n) numbered) lists.instalments })
+schedule_written x n [] lists = refl
+schedule_written x n (item ∷ numbered) lists = schedule_written x n numbered _
+
+-- ---- they fit tables that are there
+
+pub fit_both : (us ws : List StoreWrite) (lists : _) → AllFit after Fits us lists → AllFit after Fits ws (after_all after us lists) → AllFit after Fits (us ++ ws) lists
+fit_both [] ws lists first then = then
+fit_both (u ∷ us) ws lists first then = (first.0, fit_both us ws (after u lists) first.1 then)
+
+instalments_fit : (x n : ℕ) (rows : List Sums) (ks : List ℕ) (lists : Lists) → AllFit after Fits (instalments_put x n rows ks) (Some lists)
+instalments_fit x n rows [] lists = tt
+instalments_fit x n rows (k ∷ ks) lists = (refl, instalments_fit x n rows ks _)
+
+pub schedule_fits : (x n : ℕ) (numbered : List (ℕ × Sums)) (lists : Lists) → AllFit after Fits (schedule_put x n numbered) (Some lists)
+schedule_fits x n [] lists = tt
+schedule_fits x n (item ∷ numbered) lists = (refl, schedule_fits x n numbered _)
+
+parts_fit : (x n : ℕ) (placed : List (ℕ × (ℕ × Settled))) (lists : Lists) → AllFit after Fits (map (λ (p : ℕ × (ℕ × Settled)). PutShare (share_in x n p)) placed) (Some lists)
+parts_fit x n [] lists = tt
+parts_fit x n (p ∷ placed) lists = (refl, parts_fit x n placed _)
+
+shares_fit : (x n : ℕ) (settled : List Settled) (ss : List ℕ) (lists : Lists) → AllFit after Fits (shares_put x n settled ss) (Some lists)
+shares_fit x n settled [] lists = tt
+shares_fit x n settled (s ∷ ss) lists =
+    fit_both (shares_replaced x n settled s) (shares_put x n settled ss) (Some lists) (refl, parts_fit x n (placed_parts s (settled_in s settled)) _)
+    (subst (AllFit after Fits (shares_put x n settled ss)) (sym (parts_written x n (placed_parts s (settled_in s settled)) _)) (shares_fit x n settled ss _))
+
+pub change_fits : (x n : ℕ) (a : Replayed) (lists : Lists) → AllFit after Fits (change_writes x n a) (Some lists)
+change_fits x n a lists =
+    fit_both (instalments_put x n (state_of_loan a.loan).rows a.change.rows) (shares_put x n (settled_of_loan a.loan) a.change.seqs) (Some lists) (instalments_fit x n (state_of_loan a.loan).rows a.change.rows lists)
+    (subst (AllFit after Fits (shares_put x n (settled_of_loan a.loan) a.change.seqs)) (sym (instalments_written x n (state_of_loan a.loan).rows a.change.rows lists)) (shares_fit x n (settled_of_loan a.loan) a.change.seqs _))

@@ -25,13 +25,16 @@ use Rattle.mf_store_records.specs.declared.clients.ClientRow.{ClientRow}
 use Rattle.mf_store_records.specs.declared.loans.LoanRow.{LoanRow}
 use Rattle.mf_store_records.specs.declared.entries.EntryRow.{EntryRow}
 use Rattle.mf_store_records.specs.declared.receipts.ReceiptRow.{ReceiptRow}
-use Rattle.mf_store.specs.Flat.{tables_of, office_under, key_at, staff_in, client_in, loan_in, loans_of, entry_in, own_entries}
+use Rattle.mf_store_records.specs.declared.instalments.InstalmentRow.{InstalmentRow}
+use Rattle.mf_store_records.specs.declared.shares.ShareRow.{ShareRow}
+use Rattle.mf_store_sound.specs.Flat.{tables_of, office_under, key_at, staff_in, client_in, loan_in, loans_of, entry_in, own_entries}
 use Rattle.mf_store_records.specs.declared.writes.StoreWrite.{StoreWrite}
 use Rattle.mf_store_records.specs.declared.writes.StoreWrite.TheVariants.{PutOffice, PutStaff, PutClient}
 use Rattle.mf_store.specs.Facts.{Kept}
 use Rattle.mf_store.specs.Learning.{Tells}
 use Rattle.mf_store.specs.declared.known.News.{News}
 use Rattle.mf_store.specs.Stands.{StandsFor, IsClean, Leaves, Stays, Becomes}
+use Rattle.mf_store.proofs.AccountRowLemmas.{SameRows, rows_same, office_same}
 use Rattle.mf_store.proofs.LoanRowLemmas.{same_by_loan, none_in_office}
 use Rattle.mf_store.proofs.FlatLemmas.{put_row_of, same_rows_of, no_rows_of, put_first, put_past}
 use Rattle.mf_store.proofs.ReceiptRowLemmas.{same_receipts_of, no_receipts_in}
@@ -83,9 +86,9 @@ module _ {S : Type 0} (g : Ghosts S) (commit : Commit) where
   }
 
 -- the rows of the offices, where the catalogue's are as they were
-pub same_lists : (i : Institution) {o p : List OfficeRow} {s t : List StaffRow} {c d : List ClientRow} {l m : List LoanRow} {e f : List EntryRow} {q r : List ReceiptRow} → o ≡ p → s ≡ t → c ≡ d → l ≡ m → e ≡ f → q ≡ r
-    → ◌≡◌ {A = Lists} (record (tables_of i) { offices = o; staff = s; clients = c; loans = l; entries = e; receipts = q }) (record (tables_of i) { offices = p; staff = t; clients = d; loans = m; entries = f; receipts = r })
-same_lists i a b e h j u = λ k. record (tables_of i) { offices = a k; staff = b k; clients = e k; loans = h k; entries = j k; receipts = u k }
+pub same_lists : (i : Institution) {o p : List OfficeRow} {s t : List StaffRow} {c d : List ClientRow} {l m : List LoanRow} {e f : List EntryRow} {q r : List ReceiptRow} {v w : List InstalmentRow} {y z : List ShareRow} → o ≡ p → s ≡ t → c ≡ d → l ≡ m → e ≡ f → q ≡ r → v ≡ w → y ≡ z
+    → ◌≡◌ {A = Lists} (record (tables_of i) { offices = o; staff = s; clients = c; loans = l; entries = e; receipts = q; instalments = v; shares = y }) (record (tables_of i) { offices = p; staff = t; clients = d; loans = m; entries = f; receipts = r; instalments = w; shares = z })
+same_lists i a b e h j u v y = λ k. record (tables_of i) { offices = a k; staff = b k; clients = e k; loans = h k; entries = j k; receipts = u k; instalments = v k; shares = y k }
 
 -- ---- one more row of an office
 
@@ -108,11 +111,14 @@ client_becomes x name i c before sound there is = record {
   is = ap Some (same_lists i (offices-with_rows x new i.offices) (same_rows_of staff_in (λ rows. rows.staff) refl by_staff (λ x n y m a b. refl) x new i.offices before.tree.ascending refl)
       (ap (λ r. put_item by_client r (tables_of i).clients) is ∙ put_row_of client_in (λ rows. rows.clients) refl by_client (λ x n y m a b. refl) x name new i.offices before.tree.ascending there refl)
       (same_rows_of loan_in loans_of refl by_loan (λ x n y m a b. refl) x new i.offices before.tree.ascending refl)
-      (same_by_loan entry_in own_entries x new i.offices before.tree.ascending (λ y n. refl)) (same_receipts_of x new i.offices before.tree.ascending refl));
+      (same_by_loan entry_in own_entries x new i.offices before.tree.ascending (λ y n. refl)) (same_receipts_of x new i.offices before.tree.ascending refl) accounts.instalments accounts.shares);
 }
   where
     new : Rows
     new = client_added name (rows_at x i)
+
+    accounts : SameRows i.catalogue i.catalogue i.offices (with_rows x new i.offices)
+    accounts = rows_same i.catalogue x new i.offices before.tree.ascending (λ y n. refl) (λ y n. refl)
 
 pub staff_becomes : (x : ℕ) (name : List ℕ) (role : Role) (i : Institution) (s : StaffRow) → IsSound i → IsSound (committed (AddStaff x name role) i) → is_there i.offices x ≡ true
     → s ≡ staff_in x (length (rows_at x i).staff + 1) (record { name = name; role = role }) → Becomes (PutStaff s ∷ []) i (committed (AddStaff x name role) i)
@@ -123,11 +129,14 @@ staff_becomes x name role i s before sound there is = record {
       (ap (λ r. put_item by_staff r (tables_of i).staff) is ∙ put_row_of staff_in (λ rows. rows.staff) refl by_staff (λ x n y m a b. refl) x (record { name = name; role = role }) new i.offices before.tree.ascending there refl)
       (same_rows_of client_in (λ rows. rows.clients) refl by_client (λ x n y m a b. refl) x new i.offices before.tree.ascending refl)
       (same_rows_of loan_in loans_of refl by_loan (λ x n y m a b. refl) x new i.offices before.tree.ascending refl)
-      (same_by_loan entry_in own_entries x new i.offices before.tree.ascending (λ y n. refl)) (same_receipts_of x new i.offices before.tree.ascending refl));
+      (same_by_loan entry_in own_entries x new i.offices before.tree.ascending (λ y n. refl)) (same_receipts_of x new i.offices before.tree.ascending refl) accounts.instalments accounts.shares);
 }
   where
     new : Rows
     new = staff_added name role (rows_at x i)
+
+    accounts : SameRows i.catalogue i.catalogue i.offices (with_rows x new i.offices)
+    accounts = rows_same i.catalogue x new i.offices before.tree.ascending (λ y n. refl) (λ y n. refl)
 
 -- ---- a new office
 
@@ -235,7 +244,7 @@ office_becomes x parent name key i o before sound trees free there key_is is = r
   sound = sound;
   fits = (refl, tt);
   is = ap Some (same_lists i (ap (λ r. put_item by_office r (map (office_under ps) fs)) (is ∙ row_is) ∙ ap (put_item by_office (office_under qs new)) (under_alike ps qs fs (all_there fs fs (λ f. key_of qs f.number ≡ key_of ps f.number) before.tree.ascending (λ f here. kept_key f.number here)))
-      ∙ office_put qs new fs before.tree.ascending free) (no_rows_of staff_in (λ rows. rows.staff) refl by_staff (λ x n y m a b. refl) new fs refl) (no_rows_of client_in (λ rows. rows.clients) refl by_client (λ x n y m a b. refl) new fs refl) (no_rows_of loan_in loans_of refl by_loan (λ x n y m a b. refl) new fs refl) (none_in_office entry_in own_entries new fs refl) (no_receipts_in new fs refl));
+      ∙ office_put qs new fs before.tree.ascending free) (no_rows_of staff_in (λ rows. rows.staff) refl by_staff (λ x n y m a b. refl) new fs refl) (no_rows_of client_in (λ rows. rows.clients) refl by_client (λ x n y m a b. refl) new fs refl) (no_rows_of loan_in loans_of refl by_loan (λ x n y m a b. refl) new fs refl) (none_in_office entry_in own_entries new fs refl) (no_receipts_in new fs refl) accounts.instalments accounts.shares);
 }
   where
     fs : List Office
@@ -243,6 +252,9 @@ office_becomes x parent name key i o before sound trees free there key_is is = r
 
     new : Office
     new = new_office x parent name
+
+    accounts : SameRows i.catalogue i.catalogue fs (with_office new fs)
+    accounts = office_same i.catalogue new fs refl
 
     ps : ℕ → Option ℕ
     ps = parent_of fs

@@ -2,16 +2,17 @@
 use Rattle.std.proofs.Common.{◌≡◌, ◌≤◌, ◌+◌, ◌-◌, ◌&&◌, ℕ, zero, suc, Bool, true, false, cond, List, [], ◌∷◌, ◌++◌, map, filter, length, slice_get, Option, None, Some, refl, sym, ap, ◌∙◌, subst, arith, true≢false}
 use Rattle.std.specs.Prelude.{not}
 use Rattle.std.proofs.lemmas.Bool.Decides.{nat_tests}
+use Rattle.std.proofs.lemmas.List.{length-append, length-set}
 use Rattle.mf_base.specs.declared.fault.Fault.TheVariants.{F11, F12, F13}
 use Rattle.mf_account.specs.Loan.{Loan as Running}
 use Rattle.mf_account.specs.Refusals.{is_there as is_numbered, is_sealed, reversal_refused}
 use Rattle.mf_account.specs.Kinds.{is_seal}
-use Rattle.mf_account.specs.Standing.{entry_at}
+use Rattle.mf_account.specs.Standing.{entry_at, with_mark}
 use Rattle.mf_model.specs.Accounts.{account_in}
 use Rattle.std.specs.List.{AllByRecursion}
 use Rattle.std.specs.Option.{is_some}
 use Rattle.mf_account.specs.declared.entry.Entry.{Entry}
-use Rattle.mf_account.specs.Change.{Account as Replayed}
+use Rattle.mf_account.specs.Change.{Account as Replayed, IsChange}
 use Rattle.mf_office.specs.Numbers.{IsNumberUpTo}
 use Rattle.mf_office.specs.Texts.{IsCaller}
 use Rattle.mf_office.specs.declared.account.Account.{Account}
@@ -22,13 +23,14 @@ use Rattle.mf_model.specs.Loans.{with_entries, loan_entered}
 use Rattle.mf_model.specs.Receipts.{uses_from, AreApart}
 use Rattle.mf_model.specs.Sound.{IsSound, IsSoundLoan, IsSoundOffice, IsSoundRows, IsEntryBy, AreEntriesBy, is_staff}
 use Rattle.mf_model.specs.Stages.{disbursed_on}
-use Rattle.mf_model.proofs.AccountLemmas.{account_is}
+use Rattle.mf_model.proofs.AccountLemmas.{account_is, account_sound}
 use Rattle.mf_model.specs.Store.{committed, rows_of, rows_at, ledger_at, account_of}
 use Rattle.mf_model.specs.Tree.{is_there}
 use Rattle.mf_model.proofs.Growing.{all_map, all_at}
 use Rattle.mf_model.proofs.SoundLemmas.{found_sound}
 use Rattle.mf_store_records.specs.Rows.{entry_row, is_entry_of}
-use Rattle.mf_store.specs.Flat.{tables_of, entries_of, entry_in}
+use Rattle.mf_store_sound.specs.Flat.{tables_of, entries_of, entry_in}
+use Rattle.mf_store.proofs.AccountCommitLemmas.{IsChanged, account_with}
 use Rattle.mf_store.proofs.CommitLemmas.{number_at}
 use Rattle.mf_store.proofs.EntryLemmas.{AreEarlier, AreNumbered, later_numbered, entries_shown}
 use Rattle.mf_store.proofs.FlatLemmas.{numbered-suc, with_numbered_later}
@@ -44,7 +46,7 @@ HaveCallers entries = AllByRecursion (λ (e : Entry). IsCaller e.staff) entries
 abbrev staff_found : Option Office → ℕ → Option Staff
 staff_found o n = elim o [ None ↦ None | Some f ↦ numbered f.rows.staff n ]
 
-staff_are_callers : (k : Catalogue) (s : Caller → Bool) (fs : List Office) → AllByRecursion (IsSoundOffice k s) fs → (c : Caller) → is_staff fs c ≡ true → IsCaller c
+pub staff_are_callers : (k : Catalogue) (s : Caller → Bool) (fs : List Office) → AllByRecursion (IsSoundOffice k s) fs → (c : Caller) → is_staff fs c ≡ true → IsCaller c
 staff_are_callers k s fs all c there = go (office_at c.office fs) refl there
   where
     go : (o : Option Office) → office_at c.office fs ≡ o → is_some (staff_found o c.staff) ≡ true → IsCaller c
@@ -100,12 +102,16 @@ entries_numbered : (today : ℕ) (s : Caller → Bool) (n : ℕ) (o : Option ℕ
 entries_numbered today s n None es are = subst (AreNumbered 0) (sym are) (λ i below. absurd (omega (arith, below)))
 entries_numbered today s n (Some day) es are = λ i below. let number = are.lawful.numbers i below in omega (arith, number)
 
--- those of a loan are numbered from 1 on
-pub loan_numbered : (x n : ℕ) (l : Ledger) (i : Institution) → IsSound i → numbered (rows_at x i).loans n ≡ Some l → AreNumbered 0 l.entries
-loan_numbered x n l i sound there =
+-- a loan of a sound institution
+pub loan_sound : (loan : Account) (l : Ledger) (i : Institution) → IsSound i → ledger_at loan i ≡ Some l → IsSoundLoan i.catalogue (is_staff i.offices) (rows_at loan.office i).clients l
+loan_sound loan l i sound there =
     let s = is_staff i.offices in
-    let is = all_at (IsSoundLoan i.catalogue s (rows_at x i).clients) (rows_at x i).loans n l (office_sound i.catalogue s x i.offices sound.each).loans there in
-    entries_numbered i.catalogue.day s l.loan.periods (disbursed_on l.loan.stage) l.entries is.entries
+    let rows = rows_at loan.office i in
+    all_at (IsSoundLoan i.catalogue s rows.clients) rows.loans loan.number l (office_sound i.catalogue s loan.office i.offices sound.each).loans there
+
+-- its entries are numbered from 1 on
+pub loan_numbered : (loan : Account) (l : Ledger) (i : Institution) → IsSound i → ledger_at loan i ≡ Some l → AreNumbered 0 l.entries
+loan_numbered loan l i sound there = entries_numbered i.catalogue.day (is_staff i.offices) l.loan.periods (disbursed_on l.loan.stage) l.entries (loan_sound loan l i sound there).entries
 
 last_number : (n : ℕ) (es : List Entry) (e : Entry) → AreNumbered n (es ++ e ∷ []) → e.seq ≡ n + length es + 1
 last_number n [] e h = h 0 (omega arith)
@@ -137,31 +143,43 @@ there_of x n l fs at = go (office_at x fs) at
     go None h = nothing n h _
     go (Some f) h = refl
 
--- where a loan with one entry more is sound, that entry has the greatest number
-pub entry_last : (loan : Account) (account : Replayed) (e : Entry) (l : Ledger) (i : Institution) → IsSound (committed (Enter loan account) i) → numbered (rows_at loan.office i).loans loan.number ≡ Some l → account.loan.entries ≡ l.entries ++ e ∷ [] → AreEarlier e.seq l.entries
-entry_last loan account e l i sound there are =
+-- the staff after a change of a loan's entries
+abbrev pub staff_after : Account → Replayed → Institution → Caller → Bool
+staff_after loan account i = is_staff (with_rows loan.office (loan_entered loan.number account.loan.entries (rows_at loan.office i)) i.offices)
+
+-- the rows of its office are sound where the institution is
+rows_after : (loan : Account) (account : Replayed) (l : Ledger) (i : Institution) → IsSound (committed (Enter loan account) i) → ledger_at loan i ≡ Some l → IsSoundRows i.catalogue (staff_after loan account i) (loan_entered loan.number account.loan.entries (rows_at loan.office i))
+rows_after loan account l i sound there =
     let x = loan.office in
     let new = loan_entered loan.number account.loan.entries (rows_at x i) in
-    let fs = with_rows x new i.offices in
-    let s = is_staff fs in
-    let rows : IsSoundRows i.catalogue s new = subst (IsSoundRows i.catalogue s) (own_rows x new i.offices (there_of x loan.number l i.offices there)) (office_sound i.catalogue s x fs sound.each) in
-    let is : IsSoundLoan i.catalogue s new.clients (with_entries account.loan.entries l) =
-    all_at (IsSoundLoan i.catalogue s new.clients) new.loans loan.number (with_entries account.loan.entries l) rows.loans (changed_numbered (with_entries account.loan.entries) l loan.number (rows_at x i).loans there) in
-    entered_earlier i.catalogue.day s l.loan.periods (disbursed_on l.loan.stage) l.entries e (subst (AreEntriesBy i.catalogue.day s l.loan.periods (disbursed_on l.loan.stage)) are is.entries)
+    let s = staff_after loan account i in
+    subst (IsSoundRows i.catalogue s) (own_rows x new i.offices (there_of x loan.number l i.offices there)) (office_sound i.catalogue s x (with_rows x new i.offices) sound.each)
+
+-- and so is the loan with these entries
+loan_after : (loan : Account) (account : Replayed) (l : Ledger) (i : Institution) → IsSound (committed (Enter loan account) i) → ledger_at loan i ≡ Some l → IsSoundLoan i.catalogue (staff_after loan account i) (rows_at loan.office i).clients (with_entries account.loan.entries l)
+loan_after loan account l i sound there =
+    let ls = (rows_at loan.office i).loans in
+    let change = with_entries account.loan.entries in
+    all_at (IsSoundLoan i.catalogue (staff_after loan account i) (rows_at loan.office i).clients) (with_numbered loan.number change ls) loan.number (change l) (rows_after loan account l i sound there).loans (changed_numbered change l loan.number ls there)
+
+-- a loan that is not disbursed has no entries
+pub no_entries : (loan : Account) (l : Ledger) (i : Institution) → IsSound i → ledger_at loan i ≡ Some l → disbursed_on l.loan.stage ≡ None → l.entries ≡ []
+no_entries loan l i sound there none = subst (λ d. AreEntriesBy i.catalogue.day (is_staff i.offices) l.loan.periods d l.entries) none (loan_sound loan l i sound there).entries
+
+-- where a loan with one entry more is sound, that entry has the greatest number
+pub entry_last : (loan : Account) (account : Replayed) (e : Entry) (l : Ledger) (i : Institution) → IsSound (committed (Enter loan account) i) → ledger_at loan i ≡ Some l → account.loan.entries ≡ l.entries ++ e ∷ [] → AreEarlier e.seq l.entries
+entry_last loan account e l i sound there are =
+    let s = staff_after loan account i in
+    let day = disbursed_on l.loan.stage in
+    entered_earlier i.catalogue.day s l.loan.periods day l.entries e (subst (AreEntriesBy i.catalogue.day s l.loan.periods day) are (loan_after loan account l i sound there).entries)
 
 -- where an office with one entry more is sound, no receipt stands twice in it
-pub entry_apart : (loan : Account) (account : Replayed) (l : Ledger) (i : Institution) → IsSound (committed (Enter loan account) i) → numbered (rows_at loan.office i).loans loan.number ≡ Some l → AreApart (uses_from 1 (loan_entered loan.number account.loan.entries (rows_at loan.office i)).loans)
-entry_apart loan account l i sound there =
-    let x = loan.office in
-    let new = loan_entered loan.number account.loan.entries (rows_at x i) in
-    let fs = with_rows x new i.offices in
-    let s = is_staff fs in
-    let rows : IsSoundRows i.catalogue s new = subst (IsSoundRows i.catalogue s) (own_rows x new i.offices (there_of x loan.number l i.offices there)) (office_sound i.catalogue s x fs sound.each) in
-    rows.receipts
+pub entry_apart : (loan : Account) (account : Replayed) (l : Ledger) (i : Institution) → IsSound (committed (Enter loan account) i) → ledger_at loan i ≡ Some l → AreApart (uses_from 1 (loan_entered loan.number account.loan.entries (rows_at loan.office i)).loans)
+entry_apart loan account l i sound there = (rows_after loan account l i sound there).receipts
 
 -- ---- what the tables show of one loan
 
-map_map : {A B C : Type 0} (g : B → C) (f : A → B) (xs : List A) → map g (map f xs) ≡ map (λ x. g (f x)) xs
+pub map_map : {A B C : Type 0} (g : B → C) (f : A → B) (xs : List A) → map g (map f xs) ≡ map (λ x. g (f x)) xs
 map_map g f [] = refl
 map_map g f (x ∷ xs) = ap (λ l. g (f x) ∷ l) (map_map g f xs)
 
@@ -191,3 +209,30 @@ reversal_there es seq h = go (is_numbered (length es) seq) refl h
     go : (b : Bool) → is_numbered (length es) seq ≡ b → cond (not b) (Some F12) (cond (entry_at es (seq - 1)).reversed (Some F13) (cond (is_sealed es && not (is_seal (entry_at es (seq - 1)).kind)) (Some F11) None)) ≡ None → (1 ≤ seq) × (seq ≤ length es)
     go false e h = absurd (let never : Some F12 ≡ None = h in cc)
     go true e h = grind (arith, nat_tests)
+
+-- how many entries there are then
+pub longer : (es after : List Entry) (e : Entry) → after ≡ es ++ e ∷ [] → length es ≤ length after
+longer es after e is = let long = length-append es (e ∷ []) in let size : length after ≡ length (es ++ e ∷ []) = ap length is in omega (arith, long, size)
+
+pub as_long : (es after : List Entry) (seq : ℕ) → after ≡ with_mark es (seq - 1) true → length es ≤ length after
+as_long es after seq is = let long = length-set es (seq - 1) (record (entry_at es (seq - 1)) { reversed = true }) in let size : length after ≡ length (with_mark es (seq - 1) true) = ap length is in omega (arith, long, size)
+
+-- what the stored rows of its account become
+pub handed_changed : (loan : Account) (account : Replayed) (before : Running) (i : Institution) → IsSound i → IsSound (committed (Enter loan account) i) → (of : IsAccountOf loan before i)
+    → account.loan ≡ record before { entries = account.loan.entries } → length before.entries ≤ length account.loan.entries → IsChange before account.loan account.change → IsChanged i.catalogue of.ledger account
+handed_changed loan account before i sound then of others more change = record {
+  before = before;
+  was = of.account;
+  now = now;
+  sound = account_sound k (is_staff i.offices) (rows_at loan.office i).clients of.ledger before sound.catalogue (loan_sound loan of.ledger i sound of.there) of.account;
+  then = account_sound k (staff_after loan account i) (rows_at loan.office i).clients (with_entries account.loan.entries of.ledger) account.loan sound.catalogue (loan_after loan account of.ledger i then of.there) now;
+  same = sym (ap (λ (r : Running). r.periods) others);
+  more = more;
+  change = change;
+}
+  where
+    k : Catalogue
+    k = i.catalogue
+
+    now : account_in k (with_entries account.loan.entries of.ledger) ≡ Some account.loan
+    now = account_with k of.ledger before account.loan.entries of.account ∙ ap Some (sym others)

@@ -22,7 +22,7 @@ first_list : MetaRow → OfficeRow → StaffRow → List StoreWrite
 first_list m o s = MakeTables ∷ PutMeta m ∷ PutOffice o ∷ PutStaff s ∷ []
 
 pub begins : (writes : List StoreWrite) (day : ℕ) (m : MetaRow) (o : OfficeRow) (s : StaffRow) → writes ≡ MakeTables ∷ PutMeta m ∷ PutOffice o ∷ PutStaff s ∷ []
-    → m.one ≡ 1 → m.schema ≡ 1 → m.day ≡ day_text day → o.number ≡ 1 → o.parent ≡ None → o.hkey ≡ codes "." → o.name ≡ codes "Head Office"
+    → m.one ≡ 1 → m.schema ≡ 2 → m.day ≡ day_text day → o.number ≡ 1 → o.parent ≡ None → o.hkey ≡ codes "." → o.name ≡ codes "Head Office"
     → s.office ≡ 1 → s.number ≡ 1 → s.name ≡ codes "Head Manager" → s.role ≡ 3 → Begins writes day
 unfolding key_of key_within
 begins writes day m o s is one schema text number parent key head office staff manager role = subst (λ ws. Begins ws day) (sym is) (record {

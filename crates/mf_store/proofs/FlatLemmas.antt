@@ -6,11 +6,13 @@ use Rattle.std.specs.Ordering.{ordering_then}
 use Rattle.std.proofs.lemmas.Bool.Decides.{nat_tests}
 use Rattle.std.proofs.lemmas.List.Folds.{find-append}
 use Rattle.sqlite_keyed.specs.Lists.{insert_sorted}
+use Rattle.mf_alloc.specs.declared.row.Portion.{Portion}
+use Rattle.mf_alloc.specs.declared.row.Portion.TheVariants as portion
 use Rattle.mf_store_tables.specs.Keep.{put_item, drop_item}
 use Rattle.mf_model.specs.Institution.{Office, Rows, office_at, with_rows, with_office, no_rows, numbered, with_numbered}
 use Rattle.mf_model.specs.Tree.{Above, Ascending, is_there}
 use Rattle.mf_model.specs.Store.{rows_of}
-use Rattle.mf_store.specs.Flat.{numbered_from, all_rows}
+use Rattle.mf_store_sound.specs.Flat.{numbered_from, all_rows, portion_number}
 
 -- ---- puts into a list by key
 
@@ -268,3 +270,17 @@ module _ {A R : Type 0} (make : ℕ → ℕ → A → R) (of : Rows → List A) 
         go : (b : Bool) → all_rows make of fs ≡ all_rows make of (with_office new fs) → all_rows make of (f ∷ fs) ≡ all_rows make of (cond b (new ∷ f ∷ fs) (f ∷ with_office new fs))
         go true more = sym (ap (λ xs. numbered_from (make new.number) 1 xs ++ all_rows make of (f ∷ fs)) (ap of is ∙ none))
         go false more = ap (λ l. numbered_from (make f.number) 1 (of f.rows) ++ l) more
+
+-- ---- a number stands for one portion
+
+abbrev portion_at : ℕ → Portion
+portion_at n = cond (n == 1) portion.Penalty (cond (n == 2) portion.Fee (cond (n == 3) portion.Interest portion.Principal))
+
+portion_read : (x : Portion) → portion_at (portion_number x) ≡ x
+portion_read portion.Penalty = refl
+portion_read portion.Fee = refl
+portion_read portion.Interest = refl
+portion_read portion.Principal = refl
+
+pub portion_same : (a b : Portion) → portion_number a ≡ portion_number b → a ≡ b
+portion_same a b e = sym (portion_read a) ∙ ap portion_at e ∙ portion_read b

@@ -23,3 +23,8 @@ pub mod CatalogueLemmas
 pub mod LoanLemmas
 pub mod OneInstitution
 pub mod ChangedRowLemmas
+pub mod HeldLemmas
+pub mod HeldAccountLemmas
+pub mod RiseLemmas
+pub mod AccountCommitLemmas
+pub mod InstalmentReadLemmas

@@ -16,6 +16,7 @@ use Rattle.mf_catalog.specs.declared.terms.Terms.{Terms}
 use Rattle.mf_base.specs.DayText.{day_text}
 use Rattle.mf_office.specs.declared.account.Account.{Account}
 use Rattle.mf_store_tables.specs.Keep.{put_item}
+use Rattle.mf_store_tables.specs.Writes.{AllFit, after_all}
 use Rattle.mf_model.specs.declared.commit.Commit.TheVariants.{AddLoan, SetStage, Enter, Reverse}
 use Rattle.mf_model.specs.declared.loan.Loan.{Loan}
 use Rattle.mf_model.specs.declared.loan.LoanLine.{LoanLine}
@@ -23,7 +24,7 @@ use Rattle.mf_model.specs.declared.loan.Stage.{Stage}
 use Rattle.mf_model.specs.declared.loan.Stage.TheVariants.{Submitted, Approved, Disbursed, Withdrawn, Rejected}
 use Rattle.mf_model.specs.Accounts.{account_in, of_account, running, running_from, status_in, terms_in}
 use Rattle.mf_model.specs.Desk.{loan_added, loan_staged, loan_entered}
-use Rattle.mf_model.specs.Institution.{Institution, Catalogue, Ledger, Rows, numbered, with_numbered, with_rows}
+use Rattle.mf_model.specs.Institution.{Institution, Catalogue, Ledger, Office, Rows, numbered, with_numbered, with_rows}
 use Rattle.mf_model.specs.Loans.{staged, reversed, with_entries, lines_from, lines_above}
 use Rattle.mf_model.specs.Receipts.{uses_from, AreApart}
 use Rattle.mf_model.specs.Sound.{IsSound}
@@ -36,11 +37,17 @@ use Rattle.mf_store_records.specs.Rows.{Lists, by_staff, by_client, by_loan, by_
 use Rattle.mf_store_records.specs.declared.loans.LoanRow.{LoanRow}
 use Rattle.mf_store_records.specs.declared.entries.EntryRow.{EntryRow}
 use Rattle.mf_store_records.specs.declared.receipts.ReceiptRow.{ReceiptRow}
-use Rattle.mf_store.specs.Flat.{tables_of, numbered_from, staff_in, client_in, loan_in, loans_of, entry_in, line_in, approval_text, disbursal_text, entries_of, own_entries, reversed_entry}
+use Rattle.mf_store_sound.specs.Flat.{tables_of, numbered_from, staff_in, client_in, loan_in, loans_of, entry_in, line_in, approval_text, disbursal_text, entries_of, entry_rows, own_entries, reversed_entry, instalment_in, share_in, instalments_kept, shares_kept, kept_of, instalment_rows, share_rows}
+use Rattle.mf_store.specs.ChangeWrites.{schedule_put, change_writes}
+use Rattle.mf_store_records.specs.Writes.{Fits, after}
+use Rattle.mf_store_records.specs.declared.writes.StoreWrite.{StoreWrite}
 use Rattle.mf_store_records.specs.declared.writes.StoreWrite.TheVariants as write
-use Rattle.mf_store.specs.ReceiptRows.{receipt_rows, receipt_added, entry_added}
+use Rattle.mf_store_sound.specs.ReceiptRows.{receipt_rows, receipt_added, entry_added}
 use Rattle.mf_store.specs.Stands.{Becomes}
+use Rattle.mf_store.proofs.AccountCommitLemmas.{IsChanged, change_written, schedule_there, staged_shares}
+use Rattle.mf_store.proofs.AccountRowLemmas.{SameRows, rows_same, none_before}
 use Rattle.mf_store.proofs.CatalogueLemmas.{amount_is}
+use Rattle.mf_store.proofs.ChangedRowLemmas.{after_both, fit_both, change_fits, schedule_fits}
 use Rattle.mf_store.proofs.CommitLemmas.{same_lists, offices-with_rows}
 use Rattle.mf_store.proofs.EntryLemmas.{AreEarlier, AreNumbered, PutsEntry, puts_last, puts_reversed, entry_put}
 use Rattle.mf_store.proofs.LoanRowLemmas.{same_by_loan, one_more_loan, change_alone}
@@ -132,101 +139,135 @@ loans_entered n es (l ∷ ls) = go (n == 1) (loans_entered (n - 1) es ls)
 
 -- ---- the commits
 
-pub loan_becomes : (x : ℕ) (l : Loan) (i : Institution) (r : LoanRow) → IsSound i → IsSound (committed (AddLoan x l) i) → is_there i.offices x ≡ true → r ≡ loan_in x (length (rows_at x i).loans + 1) l → Becomes (write.AddLoan r ∷ []) i (committed (AddLoan x l) i)
-loan_becomes x l i r before sound there is = record {
+pub loan_becomes : (x : ℕ) (l : Loan) (i : Institution) (r : LoanRow) → IsSound i → IsSound (committed (AddLoan x l) i) → is_there i.offices x ≡ true → disbursed_on l.stage ≡ None → r ≡ loan_in x (length (rows_at x i).loans + 1) l → Becomes (write.AddLoan r ∷ []) i (committed (AddLoan x l) i)
+loan_becomes x l i r before sound there none is = record {
   sound = sound;
   fits = (refl, tt);
   is = ap Some (same_lists i (offices-with_rows x new i.offices) (same_rows_of staff_in (λ rows. rows.staff) refl by_staff (λ x n y m a b. refl) x new i.offices before.tree.ascending refl)
       (same_rows_of client_in (λ rows. rows.clients) refl by_client (λ x n y m a b. refl) x new i.offices before.tree.ascending refl)
       (ap (λ r. put_item by_loan r (tables_of i).loans) (is ∙ ap (λ n. loan_in x (n + 1) l) (sym (length-map loans loan_of)))
-      ∙ put_row_of loan_in loans_of refl by_loan (λ x n y m a b. refl) x l new i.offices before.tree.ascending there (map-append loan_of loans (record { loan = l; entries = [] } ∷ [])))
-      (same_by_loan entry_in own_entries x new i.offices before.tree.ascending (one_more_loan entry_in own_entries (record { loan = l; entries = [] }) loans refl)) (same_receipts_of x new i.offices before.tree.ascending (uses_push 1 l loans)));
+      ∙ put_row_of loan_in loans_of refl by_loan (λ x n y m a b. refl) x l new i.offices before.tree.ascending there (map-append loan_of loans (added ∷ [])))
+      (same_by_loan entry_in own_entries x new i.offices before.tree.ascending (one_more_loan entry_in own_entries added loans refl)) (same_receipts_of x new i.offices before.tree.ascending (uses_push 1 l loans))
+      accounts.instalments accounts.shares);
 }
   where
     loans : List Ledger
     loans = (rows_at x i).loans
 
+    added : Ledger
+    added = record { loan = l; entries = [] }
+
     new : Rows
     new = loan_added l (rows_at x i)
 
-pub staged_becomes : (account : Account) (stage : Stage) (l : Loan) (i : Institution) (r : LoanRow) → IsSound i → IsSound (committed (SetStage account stage) i) → numbered (loans_of (rows_at account.office i)) account.number ≡ Some l
-    → r ≡ loan_in account.office account.number (record l { stage = stage }) → Becomes (write.PutLoan r ∷ []) i (committed (SetStage account stage) i)
-staged_becomes account stage l i r before sound there is = record {
-  sound = sound;
-  fits = (refl, tt);
-  is = ap Some (same_lists i (offices-with_rows x new i.offices) (same_rows_of staff_in (λ rows. rows.staff) refl by_staff (λ x n y m a b. refl) x new i.offices before.tree.ascending refl)
-      (same_rows_of client_in (λ rows. rows.clients) refl by_client (λ x n y m a b. refl) x new i.offices before.tree.ascending refl)
-      (ap (λ r. put_item by_loan r (tables_of i).loans) is
-      ∙ put_over_of loan_in loans_of refl by_loan (λ x n y m a b. refl) (λ l. record l { stage = stage }) l x account.number new i.offices before.tree.ascending there (loans_staged account.number stage (rows_at x i).loans))
-      (same_by_loan entry_in own_entries x new i.offices before.tree.ascending (change_alone entry_in own_entries account.number (staged stage) (rows_at x i).loans (λ k. refl))) (same_receipts_of x new i.offices before.tree.ascending (uses_with account.number 1 (staged stage) (rows_at x i).loans (λ l k. refl))));
-}
-  where
-    x : ℕ
-    x = account.office
+    accounts : SameRows i.catalogue i.catalogue i.offices (with_rows x new i.offices)
+    accounts =
+        let k = i.catalogue in
+        rows_same k x new i.offices before.tree.ascending (one_more_loan instalment_in (kept_of instalments_kept k) added loans (none_before instalments_kept k added none))
+        (one_more_loan share_in (kept_of shares_kept k) added loans (none_before shares_kept k added none))
 
-    new : Rows
-    new = loan_staged account.number stage (rows_at x i)
+-- where a loan that was not disbursed comes to a stage, its row is put, and those of its instalments
+module _ (account : Account) (stage : Stage) (l : Ledger) (i : Institution) (before : IsSound i) (there : ledger_at account i ≡ Some l) (none : disbursed_on l.loan.stage ≡ None) (without : l.entries ≡ []) where
+  abbrev staged_rows : Rows
+  staged_rows = loan_staged account.number stage (rows_at account.office i)
 
--- what an entry adds to the rows of its office: its own, and that of its receipt
-module _ (loan : Account) (account : Replayed) (e : Entry) (l : Ledger) (i : Institution) (before : IsSound i) (sound : IsSound (committed (Enter loan account) i)) (there : numbered (rows_at loan.office i).loans loan.number ≡ Some l) (are : account.loan.entries ≡ l.entries ++ e ∷ []) (early : AreEarlier e.seq l.entries) (apart : AreApart (uses_from 1 (loan_entered loan.number account.loan.entries (rows_at loan.office i)).loans)) where
+  abbrev staged_offices : List Office
+  staged_offices = with_rows account.office staged_rows i.offices
+
+  abbrev put_row : LoanRow
+  put_row = loan_in account.office account.number (record l.loan { stage = stage })
+
+  row_staged : ◌≡◌ {A = Lists} (record (tables_of i) { loans = put_item by_loan put_row (tables_of i).loans; instalments = instalment_rows i.catalogue staged_offices }) (tables_of (committed (SetStage account stage) i))
+  row_staged =
+      let x = account.office in
+      same_lists i (offices-with_rows x staged_rows i.offices) (same_rows_of staff_in (λ rows. rows.staff) refl by_staff (λ x n y m a b. refl) x staged_rows i.offices before.tree.ascending refl)
+      (same_rows_of client_in (λ rows. rows.clients) refl by_client (λ x n y m a b. refl) x staged_rows i.offices before.tree.ascending refl)
+      (put_over_of loan_in loans_of refl by_loan (λ x n y m a b. refl) (λ l. record l { stage = stage }) l.loan x account.number staged_rows i.offices before.tree.ascending (numbered_loan (rows_at x i).loans account.number ∙ ap (option_map loan_of) there) (loans_staged account.number stage (rows_at x i).loans))
+      (same_by_loan entry_in own_entries x staged_rows i.offices before.tree.ascending (change_alone entry_in own_entries account.number (staged stage) (rows_at x i).loans (λ k. refl)))
+      (same_receipts_of x staged_rows i.offices before.tree.ascending (uses_with account.number 1 (staged stage) (rows_at x i).loans (λ l k. refl)))
+      refl
+      (staged_shares i.catalogue x account.number l stage staged_rows i.offices before.tree.ascending there refl none without)
+
+  abbrev pub schedule : List StoreWrite
+  schedule = schedule_put account.office account.number (kept_of instalments_kept i.catalogue (staged stage l))
+
+  pub staged_becomes : IsSound (committed (SetStage account stage) i) → Becomes (write.PutLoan put_row ∷ schedule) i (committed (SetStage account stage) i)
+  staged_becomes sound = record {
+    sound = sound;
+    fits = (refl, schedule_fits account.office account.number (kept_of instalments_kept i.catalogue (staged stage l)) _);
+    is = schedule_there i.catalogue account.office account.number l stage staged_rows i.offices before.tree.ascending there refl none without _ refl ∙ ap Some row_staged;
+  }
+
+-- what a change of a loan's entries leaves of the rows of its office
+module _ (loan : Account) (account : Replayed) (l : Ledger) (i : Institution) (before : IsSound i) (there : ledger_at loan i ≡ Some l) (changed : IsChanged i.catalogue l account) where
   abbrev x : ℕ
   x = loan.office
 
   abbrev new : Rows
   new = loan_entered loan.number account.loan.entries (rows_at x i)
 
-  abbrev row : EntryRow
-  row = entry_in x loan.number e
+  abbrev now : List Office
+  now = with_rows x new i.offices
 
-  row_added : {q : List ReceiptRow} → q ≡ receipt_rows (with_rows x new i.offices) → ◌≡◌ {A = Lists} (record (tables_of i) { entries = put_item by_entry row (tables_of i).entries; receipts = q }) (tables_of (committed (Enter loan account) i))
-  row_added h = same_lists i (offices-with_rows x new i.offices) (same_rows_of staff_in (λ rows. rows.staff) refl by_staff (λ x n y m a b. refl) x new i.offices before.tree.ascending refl)
+  entries_changed : {e : List EntryRow} {q : List ReceiptRow} → e ≡ entry_rows now → q ≡ receipt_rows now
+      → ◌≡◌ {A = Lists} (record (tables_of i) { entries = e; receipts = q; instalments = instalment_rows i.catalogue now; shares = share_rows i.catalogue now }) (tables_of (committed (Enter loan account) i))
+  entries_changed entries receipts = same_lists i (offices-with_rows x new i.offices) (same_rows_of staff_in (λ rows. rows.staff) refl by_staff (λ x n y m a b. refl) x new i.offices before.tree.ascending refl)
       (same_rows_of client_in (λ rows. rows.clients) refl by_client (λ x n y m a b. refl) x new i.offices before.tree.ascending refl)
       (same_rows_of loan_in loans_of refl by_loan (λ x n y m a b. refl) x new i.offices before.tree.ascending (loans_entered loan.number account.loan.entries (rows_at x i).loans))
-      (entry_put x loan.number e account.loan.entries l new i.offices before.tree.ascending there refl (subst (PutsEntry x loan.number e l.entries) (sym are) (puts_last x loan.number e l.entries early))) h
+      entries receipts refl refl
 
-  row_becomes : (o : Option (List ℕ)) → e.receipt ≡ o → Becomes (write.AddEntry row ∷ receipt_added row o) i (committed (Enter loan account) i)
-  row_becomes None none = record {
+  abbrev change : List StoreWrite
+  change = change_writes x loan.number account
+
+  -- these writes and then those of the change
+  with_change : (writes : List StoreWrite) (lists : Lists) → IsSound (committed (Enter loan account) i) → AllFit after Fits writes (Some (tables_of i)) → after_all after writes (Some (tables_of i)) ≡ Some lists
+      → lists.instalments ≡ instalment_rows i.catalogue i.offices → lists.shares ≡ share_rows i.catalogue i.offices
+      → ◌≡◌ {A = Lists} (record lists { instalments = instalment_rows i.catalogue now; shares = share_rows i.catalogue now }) (tables_of (committed (Enter loan account) i))
+      → Becomes (writes ++ change) i (committed (Enter loan account) i)
+  with_change writes lists sound fits first instalments shares is = record {
     sound = sound;
-    fits = (refl, tt);
-    is = ap Some (row_added (no_receipt_put x loan.number e account.loan.entries l new i.offices before.tree.ascending there refl are none));
-  }
-  row_becomes (Some r) some = record {
-    sound = sound;
-    fits = (refl, (refl, tt));
-    is = ap Some (row_added (receipt_put x loan.number e account.loan.entries l new i.offices r before.tree.ascending there refl are some apart));
+    fits = fit_both writes change (Some (tables_of i)) fits (subst (AllFit after Fits change) (sym first) (change_fits x loan.number account lists));
+    is = after_both writes change (Some (tables_of i)) ∙ ap (after_all after change) first ∙ change_written i.catalogue x loan.number l account changed new i.offices before.tree.ascending there refl lists instalments shares ∙ ap Some is;
   }
 
-  pub entry_becomes : (r : EntryRow) → r ≡ entry_in loan.office loan.number e → Becomes (entry_added r) i (committed (Enter loan account) i)
-  entry_becomes r is = subst (λ s. Becomes (entry_added s) i (committed (Enter loan account) i)) (sym is) (row_becomes e.receipt refl)
+  -- ---- one entry more: its own row, and that of its receipt
 
--- what a reversal makes of the rows of its office: one entry's own
-module _ (loan : Account) (seq : ℕ) (account : Replayed) (l : Ledger) (i : Institution) (before : IsSound i) (sound : IsSound (committed (Reverse loan seq account) i)) (there : numbered (rows_at loan.office i).loans loan.number ≡ Some l) (numbers : AreNumbered 0 l.entries) (first : 1 ≤ seq) (last : seq ≤ length l.entries) (marked : account.loan.entries ≡ with_mark l.entries (seq - 1) true) where
-  abbrev reversed_rows : Rows
-  reversed_rows = loan_entered loan.number account.loan.entries (rows_at loan.office i)
+  module _ (e : Entry) (sound : IsSound (committed (Enter loan account) i)) (are : account.loan.entries ≡ l.entries ++ e ∷ []) (early : AreEarlier e.seq l.entries) (apart : AreApart (uses_from 1 new.loans)) where
+    abbrev row : EntryRow
+    row = entry_in x loan.number e
 
-  abbrev entry : Entry
-  entry = reversed_entry (entry_at l.entries (seq - 1))
+    row_put : put_item by_entry row (tables_of i).entries ≡ entry_rows now
+    row_put = entry_put x loan.number e account.loan.entries l new i.offices before.tree.ascending there refl (subst (PutsEntry x loan.number e l.entries) (sym are) (puts_last x loan.number e l.entries early))
 
-  puts : PutsEntry loan.office loan.number entry l.entries account.loan.entries
-  puts =
-      subst (PutsEntry loan.office loan.number entry l.entries) (sym marked) (puts_reversed loan.office loan.number 0 (seq - 1) l.entries numbers (omega (arith, first, last)))
+    row_becomes : (o : Option (List ℕ)) → e.receipt ≡ o → Becomes ((write.AddEntry row ∷ receipt_added row o) ++ change) i (committed (Enter loan account) i)
+    row_becomes None none =
+        with_change (write.AddEntry row ∷ []) _ sound (refl, tt) refl refl refl (entries_changed row_put (no_receipt_put x loan.number e account.loan.entries l new i.offices before.tree.ascending there refl are none))
+    row_becomes (Some r) some =
+        with_change (write.AddEntry row ∷ receipt_added row (Some r)) _ sound (refl, (refl, tt)) refl refl refl (entries_changed row_put (receipt_put x loan.number e account.loan.entries l new i.offices r before.tree.ascending there refl are some apart))
 
-  -- the receipts are as they were
-  same_uses : uses_from 1 reversed_rows.loans ≡ uses_from 1 (rows_at loan.office i).loans
-  same_uses =
-      let ls = (rows_at loan.office i).loans in
-      ap (uses_from 1) (with_same_at loan.number (with_entries account.loan.entries) (reversed seq) ls l there (ap (λ es. with_entries es l) marked)) ∙ uses_with loan.number 1 (reversed seq) ls (λ l k. uses_marked k (seq - 1) l.entries)
+    pub entry_becomes : (r : EntryRow) → r ≡ row → Becomes (entry_added r ++ change) i (committed (Enter loan account) i)
+    entry_becomes r is = subst (λ s. Becomes (entry_added s ++ change) i (committed (Enter loan account) i)) (sym is) (row_becomes e.receipt refl)
 
-  pub reversal_becomes : (r : EntryRow) → r ≡ entry_in loan.office loan.number entry → Becomes (write.ChangeEntry r ∷ []) i (committed (Reverse loan seq account) i)
-  reversal_becomes r is = record {
-    sound = sound;
-    fits = (refl, tt);
-    is = ap Some (same_lists i (offices-with_rows loan.office reversed_rows i.offices) (same_rows_of staff_in (λ rows. rows.staff) refl by_staff (λ x n y m a b. refl) loan.office reversed_rows i.offices before.tree.ascending refl)
-        (same_rows_of client_in (λ rows. rows.clients) refl by_client (λ x n y m a b. refl) loan.office reversed_rows i.offices before.tree.ascending refl)
-        (same_rows_of loan_in loans_of refl by_loan (λ x n y m a b. refl) loan.office reversed_rows i.offices before.tree.ascending (loans_entered loan.number account.loan.entries (rows_at loan.office i).loans))
-        (ap (λ r. put_item by_entry r (tables_of i).entries) is ∙ entry_put loan.office loan.number entry account.loan.entries l reversed_rows i.offices before.tree.ascending there refl puts)
-        (same_receipts_of loan.office reversed_rows i.offices before.tree.ascending same_uses));
-  }
+  -- ---- a reversal: one entry's own row
+
+  module _ (seq : ℕ) (sound : IsSound (committed (Reverse loan seq account) i)) (numbers : AreNumbered 0 l.entries) (first : 1 ≤ seq) (last : seq ≤ length l.entries) (marked : account.loan.entries ≡ with_mark l.entries (seq - 1) true) where
+    abbrev entry : Entry
+    entry = reversed_entry (entry_at l.entries (seq - 1))
+
+    puts : PutsEntry x loan.number entry l.entries account.loan.entries
+    puts = subst (PutsEntry x loan.number entry l.entries) (sym marked) (puts_reversed x loan.number 0 (seq - 1) l.entries numbers (omega (arith, first, last)))
+
+    -- the receipts are as they were
+    same_uses : uses_from 1 new.loans ≡ uses_from 1 (rows_at x i).loans
+    same_uses =
+        let ls = (rows_at x i).loans in
+        ap (uses_from 1) (with_same_at loan.number (with_entries account.loan.entries) (reversed seq) ls l there (ap (λ es. with_entries es l) marked)) ∙ uses_with loan.number 1 (reversed seq) ls (λ l k. uses_marked k (seq - 1) l.entries)
+
+    pub reversal_becomes : (r : EntryRow) → r ≡ entry_in x loan.number entry → Becomes (write.ChangeEntry r ∷ change) i (committed (Reverse loan seq account) i)
+    reversal_becomes r is =
+        subst (λ s. Becomes (write.ChangeEntry s ∷ change) i (committed (Reverse loan seq account) i)) (sym is)
+        (with_change (write.ChangeEntry (entry_in x loan.number entry) ∷ []) _ sound (refl, tt) refl refl refl
+        (entries_changed (entry_put x loan.number entry account.loan.entries l new i.offices before.tree.ascending there refl puts) (same_receipts_of x new i.offices before.tree.ascending same_uses)))
 
 -- ---- lists of loans
 
@@ -354,26 +395,38 @@ map_self (x ∷ xs) = ap (λ l. x ∷ l) (map_self xs)
 
 -- ---- accounts
 
--- what is replayed of a loan's row, its terms and its entries is its account
-pub replay_is : (i : Institution) (account : Account) (loan : Loan) (day : ℕ) (entries : List Entry) (named : Option Terms) (terms : Terms) (found : Option Replayed) (a : Replayed) → entries ≡ entries_of (ledger_at account i) → named ≡ terms_in i.catalogue loan.product → named ≡ Some terms
+-- what is replayed of a loan's terms and its entries
+pub replay_is : (named : Option Terms) (loan : Loan) (day : ℕ) (entries : List Entry) (terms : Terms) (found : Option Replayed) (a : Replayed) → named ≡ Some terms
     → IfSome found (λ (b : Replayed). b ≡ record { loan = record { terms = terms; principal = loan.principal; periods = loan.periods; day = day; entries = entries }; change = no_change }) → found ≡ Some a
+    → option_map replayed (running_from loan entries (Some day) named) ≡ Some a
+replay_is named loan day entries terms found a term made is =
+    ap (λ t. option_map replayed (running_from loan entries (Some day) t)) term ∙ ap Some (sym (subst (λ o. IfSome o (λ (b : Replayed). b ≡ replayed (running loan entries day terms))) is made))
+
+-- the instalments of a loan that was just disbursed
+pub fresh_rows : (k : Catalogue) (loan : Loan) (day : ℕ) (es : List Entry) (a : Replayed) → option_map replayed (running_from loan es (Some day) (terms_in k loan.product)) ≡ Some a → es ≡ [] → disbursed_on loan.stage ≡ Some day
+    → kept_of instalments_kept k (record { loan = loan; entries = [] }) ≡ instalments_kept a.loan
+fresh_rows k loan day es a is none disbursed =
+    (λ t. of_account [] instalments_kept (running_from loan (sym none t) (disbursed t) (terms_in k loan.product))) ∙ go (running_from loan es (Some day) (terms_in k loan.product)) is
+  where
+    go : (o : Option Running) → option_map replayed o ≡ Some a → of_account [] instalments_kept o ≡ instalments_kept a.loan
+    go None e = absurd (let never : None ≡ Some a = e in cc)
+    go (Some r) e = let found : Some (replayed r) ≡ Some a = e in let same : replayed r ≡ a = cc in ap (λ (b : Replayed). instalments_kept b.loan) same
+
+-- what is replayed of a loan's row and its entries is its account
+pub account_replayed : (i : Institution) (account : Account) (loan : Loan) (day : ℕ) (entries : List Entry) (a : Replayed) → entries ≡ entries_of (ledger_at account i) → option_map replayed (running_from loan entries (Some day) (terms_in i.catalogue loan.product)) ≡ Some a
     → loan_at account i ≡ Some loan → disbursed_on loan.stage ≡ Some day → account_at account i ≡ Some a
-replay_is i account loan day entries named terms found a entered names term made is there disbursed = go (ledger_at account i) entered there
+account_replayed i account loan day entries a entered is there disbursed = go (ledger_at account i) entered there
   where
     k : Catalogue
     k = i.catalogue
-
-    a_is : a ≡ replayed (running loan entries day terms)
-    a_is = subst (λ o. IfSome o (λ (b : Replayed). b ≡ replayed (running loan entries day terms))) is made
 
     go : (o : Option Ledger) → entries ≡ entries_of o → option_map loan_of o ≡ Some loan → option_map replayed (account_of k o) ≡ Some a
     go None e h = absurd (let never : None ≡ Some loan = h in cc)
     go (Some l) e h =
         let found : Some l.loan ≡ Some loan = h in
         let same : l.loan ≡ loan = cc in
-        let term_is : terms_in k loan.product ≡ Some terms = sym names ∙ term in
         (λ t. option_map replayed (running_from (same t) l.entries (disbursed_on (same t).stage) (terms_in k (same t).product)))
-        ∙ (λ t. option_map replayed (running_from loan (sym e t) (disbursed t) (term_is t))) ∙ ap Some (sym a_is)
+        ∙ (λ t. option_map replayed (running_from loan (sym e t) (disbursed t) (terms_in k loan.product))) ∙ is
 
 -- the status of a disbursed loan
 pub status_is : (i : Institution) (account : Account) (l : Ledger) (a : Replayed) → ledger_at account i ≡ Some l → account_at account i ≡ Some a → status_of_loan a.loan ≡ status_in i.catalogue l

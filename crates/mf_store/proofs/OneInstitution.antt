@@ -22,8 +22,6 @@ use Rattle.mf_office.specs.declared.staff.Role.TheVariants.{Teller, Officer, Man
 use Rattle.mf_account.specs.declared.entry.Entry.{Entry}
 use Rattle.mf_account.specs.declared.entry.Kind.{Kind}
 use Rattle.mf_account.specs.declared.entry.Kind.TheVariants.{Repay, Fee, Penalty, Waive, WriteOff, Refund}
-use Rattle.mf_alloc.specs.declared.row.Portion.{Portion}
-use Rattle.mf_alloc.specs.declared.row.Portion.TheVariants as portion
 use Rattle.mf_office.specs.Texts.{IsCaller}
 use Rattle.mf_office.specs.Written.{caller_text}
 use Rattle.mf_office.specs.declared.caller.Caller.{Caller}
@@ -40,7 +38,8 @@ use Rattle.mf_store_records.specs.declared.charges.ChargeRow.{ChargeRow}
 use Rattle.mf_store_records.specs.declared.products.ProductRow.{ProductRow}
 use Rattle.mf_store_records.specs.declared.loans.LoanRow.{LoanRow}
 use Rattle.mf_store_records.specs.declared.entries.EntryRow.{EntryRow}
-use Rattle.mf_store.specs.Flat.{flag_number, entry_kind_number, portion_number, office_under, meta_on, staff_in, client_in, charge_as, product_as, loan_in, loans_of, entry_in, own_entries, numbered_from, all_rows, rows_of_loans, entry_rows, tables_of}
+use Rattle.mf_store.proofs.FlatLemmas.{portion_same}
+use Rattle.mf_store_sound.specs.Flat.{flag_number, entry_kind_number, office_under, meta_on, staff_in, client_in, charge_as, product_as, loan_in, loans_of, entry_in, own_entries, numbered_from, all_rows, rows_of_loans, entry_rows, tables_of}
 use Rattle.mf_store.proofs.EnteredLemmas.{HaveCallers, AreCalled, all_called}
 use Rattle.mf_store.proofs.LoanRowLemmas.{all_map, all_loans, all_offices}
 use Rattle.mf_store.proofs.LoanLemmas.{loan_of, stage_is}
@@ -290,18 +289,6 @@ entry_kind_read Refund = refl
 
 pub entry_kind_same : (a b : Kind) → entry_kind_number a ≡ entry_kind_number b → a ≡ b
 entry_kind_same a b e = sym (entry_kind_read a) ∙ ap entry_kind_at e ∙ entry_kind_read b
-
-abbrev portion_at : ℕ → Portion
-portion_at n = cond (n == 1) portion.Penalty (cond (n == 2) portion.Fee (cond (n == 3) portion.Interest portion.Principal))
-
-portion_read : (x : Portion) → portion_at (portion_number x) ≡ x
-portion_read portion.Penalty = refl
-portion_read portion.Fee = refl
-portion_read portion.Interest = refl
-portion_read portion.Principal = refl
-
-pub portion_same : (a b : Portion) → portion_number a ≡ portion_number b → a ≡ b
-portion_same a b e = sym (portion_read a) ∙ ap portion_at e ∙ portion_read b
 
 caller_same : (a b : Caller) → IsCaller a → IsCaller b → caller_text a.office a.staff ≡ caller_text b.office b.staff → a ≡ b
 caller_same a b p q e = let one : Some a ≡ Some b = sym (caller_of-text (caller_text b.office b.staff) a p (sym e)) ∙ caller_of-text (caller_text b.office b.staff) b q refl in cc

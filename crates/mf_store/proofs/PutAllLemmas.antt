@@ -1,8 +1,9 @@
 -- Several rows put into a list by key, one after another.
-use Rattle.std.proofs.Common.{◌≡◌, List, [], ◌∷◌, ◌++◌, refl, sym, ap, ◌∙◌, Ordering, Less, Greater}
+use Rattle.std.proofs.Common.{◌≡◌, ℕ, List, [], ◌∷◌, ◌++◌, map, refl, sym, ap, ◌∙◌, Ordering, Less, Greater, nat_cmp}
 use Rattle.std.specs.List.{AllByRecursion}
+use Rattle.std.specs.Ordering.{ordering_then}
 use Rattle.mf_store_tables.specs.Keep.{put_item}
-use Rattle.mf_store.proofs.LoanRowLemmas.{all_append, append_none, append_twice, put_past_all, put_ahead}
+use Rattle.mf_store.proofs.LoanRowLemmas.{Around, IsRowOf, IsBefore, IsAfter, all_append, append_none, append_twice, put_past_all, put_ahead, put_among}
 
 -- the list with all of these put
 abbrev pub put_all : {R : Type 0} → (R → R → Ordering) → List R → List R → List R
@@ -50,3 +51,21 @@ none_before cmp (r ∷ rs) = (tt, none_before cmp rs)
 -- where there were none
 pub put_all_first : {R : Type 0} (cmp : R → R → Ordering) (rs : List R) → AreRising cmp rs → put_all cmp rs [] ≡ rs
 put_all_first cmp rs up = put_all_behind cmp rs [] (none_before cmp rs) up
+
+-- ---- rows of one loan, put where other loans' rows stand round them
+
+module _ {A R : Type 0} (make : ℕ → ℕ → A → R) (cmp : R → R → Ordering) (inner : A → A → Ordering) (ranks : (x n y m : ℕ) (a b : A) → cmp (make x n a) (make y m b) ≡ ordering_then (nat_cmp x y) (ordering_then (nat_cmp n m) (inner a b))) where
+  -- among the loan's own
+  pub put_all_among : {B : Type 0} (x n : ℕ) (item : B → A) (bs : List B) (first mid last : List R) → AllByRecursion (IsRowOf make (IsBefore make x n)) first → AllByRecursion (IsRowOf make (IsAfter make x n)) last
+      → put_all cmp (map (λ b. make x n (item b)) bs) (first ++ (mid ++ last)) ≡ first ++ (put_all cmp (map (λ b. make x n (item b)) bs) mid ++ last)
+  put_all_among x n item [] first mid last before after = refl
+  put_all_among x n item (b ∷ bs) first mid last before after =
+      ap (put_all cmp (map (λ b. make x n (item b)) bs)) (put_among make cmp inner ranks x n (item b) first mid last before after)
+      ∙ put_all_among x n item bs first (put_item cmp (make x n (item b)) mid) last before after
+
+  -- puts that make one loan's rows of the others make one list of the other
+  pub put_all_around : {B : Type 0} (x n : ℕ) (item : B → A) (bs : List B) (old new : List R) (block changed : List A) → Around make x n old new block changed
+      → put_all cmp (map (λ b. make x n (item b)) bs) (map (make x n) block) ≡ map (make x n) changed → put_all cmp (map (λ b. make x n (item b)) bs) old ≡ new
+  put_all_around x n item bs old new block changed w own =
+      ap (put_all cmp (map (λ b. make x n (item b)) bs)) w.old_is ∙ put_all_among x n item bs w.first (map (make x n) block) w.last w.before w.after
+      ∙ ap (λ l. w.first ++ (l ++ w.last)) own ∙ sym w.new_is

@@ -24,7 +24,7 @@ use Rattle.mf_model.proofs.ReceiptLemmas.{IsPut}
 use Rattle.mf_store_records.specs.Rows.{by_receipt, is_receipt}
 use Rattle.mf_store_records.specs.declared.receipts.ReceiptRow.{ReceiptRow}
 use Rattle.mf_store_records.proofs.TableLemmas.{by_receipt_total}
-use Rattle.mf_store.specs.ReceiptRows.{receipt_in, carried, receipt_rows}
+use Rattle.mf_store_sound.specs.ReceiptRows.{receipt_in, carried, receipt_rows}
 use Rattle.mf_store.proofs.LoanRowLemmas.{all_append}
 use Rattle.mf_store.proofs.FlatLemmas.{with_rows-above, numbered-suc, with_numbered_later}
 use Rattle.mf_store.proofs.SortedLemmas.{IsOfOne, find_sorted, put_among}
@@ -75,14 +75,14 @@ apart_bytes xs ys h = go (bytes_eq xs ys) refl
 -- ---- one receipt found
 
 -- no row of these uses has the key
-abbrev AreOthers : ℕ → List ℕ → List ReceiptRow → Type 0
+abbrev pub AreOthers : ℕ → List ℕ → List ReceiptRow → Type 0
 AreOthers x r rows = AllByRecursion (λ (row : ReceiptRow). is_receipt x r row ≡ false) rows
 
 others_in : (x y : ℕ) (r : List ℕ) (us : List Use) → (y == x) ≡ false → AreOthers x r (map (receipt_in y) us)
 others_in x y r [] h = tt
 others_in x y r (u ∷ us) h = (other_key x y r u h, others_in x y r us h)
 
-others_above : (x : ℕ) (r : List ℕ) (fs : List Office) → Above x fs → AreOthers x r (carried fs)
+pub others_above : (x : ℕ) (r : List ℕ) (fs : List Office) → Above x fs → AreOthers x r (carried fs)
 others_above x r [] up = tt
 others_above x r (f ∷ fs) up =
     let low : x < f.number = up.0 in
@@ -114,13 +114,13 @@ found x r (f ∷ fs) up = find-append p (map (receipt_in f.number) (uses_from 1 
     go false e more = ap (λ o. option_or o (find p (carried fs))) (none_found p (map (receipt_in f.number) (uses_from 1 f.rows.loans)) (others_in x f.number r (uses_from 1 f.rows.loans) e)) ∙ more
 
 -- the receipts of each office are apart
-abbrev AreAllApart : List Office → Type 0
+abbrev pub AreAllApart : List Office → Type 0
 AreAllApart fs = AllByRecursion (λ (f : Office). AreApart (uses_from 1 f.rows.loans)) fs
 
-all_apart : (i : Institution) → IsSound i → AreAllApart i.offices
+pub all_apart : (i : Institution) → IsSound i → AreAllApart i.offices
 all_apart i sound = all_weaker (IsSoundOffice i.catalogue (is_staff i.offices)) (λ (f : Office). AreApart (uses_from 1 f.rows.loans)) i.offices (λ f is. is.rows.receipts) sound.each
 
-others_of : (x : ℕ) (r : List ℕ) (u : Use) (us : List Use) → u.receipt ≡ r → AllByRecursion (λ (v : Use). u.receipt ≢ v.receipt) us → AreOthers x r (map (receipt_in x) us)
+pub others_of : (x : ℕ) (r : List ℕ) (u : Use) (us : List Use) → u.receipt ≡ r → AllByRecursion (λ (v : Use). u.receipt ≢ v.receipt) us → AreOthers x r (map (receipt_in x) us)
 others_of x r u [] is a = tt
 others_of x r u (v ∷ us) is a = (own_key x r v ∙ apart_bytes v.receipt r (λ same. a.0 (is ∙ sym same)), others_of x r u us is a.1)
 

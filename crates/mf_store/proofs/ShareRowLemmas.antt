@@ -11,9 +11,9 @@ use Rattle.lru.proofs.Splits.{Contains-nil, Contains-cons, Contains-head, Contai
 use Rattle.mf_account.specs.declared.settled.Settled.{Settled}
 use Rattle.mf_store_records.specs.Rows.{by_share, is_share_in}
 use Rattle.mf_store_records.specs.declared.shares.ShareRow.{ShareRow}
-use Rattle.mf_store.specs.Flat.{share_in, numbered_from, placed_parts, parts_from}
-use Rattle.mf_store.proofs.LoanRowLemmas.{all_append, kept_all, kept_none}
-use Rattle.mf_store.proofs.PutAllLemmas.{put_all, AreRising, put_all_past, put_all_ahead, put_all_first}
+use Rattle.mf_store_sound.specs.Flat.{share_in, numbered_from, placed_parts, parts_from}
+use Rattle.mf_store.proofs.LoanRowLemmas.{Around, IsRowOf, IsBefore, IsAfter, all_append, all_weaker, kept_all, kept_none}
+use Rattle.mf_store.proofs.PutAllLemmas.{put_all, AreRising, put_all_past, put_all_ahead, put_all_first, put_all_among}
 
 -- ---- the rows by entry
 
@@ -158,3 +158,42 @@ brought_all (s ∷ ss) c f new but k first last = brought_all ss c (with_parts s
 pub change_replaced : (x n c : ℕ) (old new : ℕ → List Settled) (ss : List ℕ) → ((s : ℕ) → Contains ss s → (1 ≤ s) × (s ≤ c)) → AreBut ss c old new → replaced_each x n new ss (shares_from x n old 1 c) ≡ shares_from x n new 1 c
 change_replaced x n c old new ss there but =
     replaced_all x n new ss old c there ∙ ap (map (share_in x n)) (parts_alike (brought ss new old) new 1 c (λ k low high. brought_all ss c old new but k low (omega (arith, high))))
+
+-- ---- where other loans' rows stand round them
+
+-- a row of another loan is not of the entry
+not_before : (x n s : ℕ) (r : ShareRow) → IsRowOf share_in (IsBefore share_in x n) r → not_of x n s r ≡ true
+not_before x n s r is = ap (not_of x n s) is.row_is ∙ ranked is.office is.loan is.item.0 is.holds
+  where
+    ranked : (y m t : ℕ) → IsBefore share_in x n y m → not (is_eq (ordering_then (nat_cmp x y) (ordering_then (nat_cmp n m) (nat_cmp s t)))) ≡ true
+    ranked y m t (inl low) = grind (arith, nat_tests)
+    ranked y m t (inr same) = let e : y ≡ x = same.0 in let low : m < n = same.1 in grind (arith, nat_tests)
+
+not_after : (x n s : ℕ) (r : ShareRow) → IsRowOf share_in (IsAfter share_in x n) r → not_of x n s r ≡ true
+not_after x n s r is = ap (not_of x n s) is.row_is ∙ ranked is.office is.loan is.item.0 is.holds
+  where
+    ranked : (y m t : ℕ) → IsAfter share_in x n y m → not (is_eq (ordering_then (nat_cmp x y) (ordering_then (nat_cmp n m) (nat_cmp s t)))) ≡ true
+    ranked y m t (inl low) = grind (arith, nat_tests)
+    ranked y m t (inr same) = let e : y ≡ x = same.0 in let low : n < m = same.1 in grind (arith, nat_tests)
+
+removed_among : (x n s : ℕ) (first mid last : List ShareRow) → AllByRecursion (IsRowOf share_in (IsBefore share_in x n)) first → AllByRecursion (IsRowOf share_in (IsAfter share_in x n)) last
+    → filter (not_of x n s) (first ++ (mid ++ last)) ≡ first ++ (filter (not_of x n s) mid ++ last)
+removed_among x n s first mid last before after =
+    filter-append (not_of x n s) first (mid ++ last)
+    ∙ ap₂ ◌++◌ (kept_all (not_of x n s) first (all_weaker (IsRowOf share_in (IsBefore share_in x n)) (λ r. not_of x n s r ≡ true) first (not_before x n s) before))
+    (filter-append (not_of x n s) mid last ∙ ap (λ l. filter (not_of x n s) mid ++ l) (kept_all (not_of x n s) last (all_weaker (IsRowOf share_in (IsAfter share_in x n)) (λ r. not_of x n s r ≡ true) last (not_after x n s) after)))
+
+replaced_among : (x n : ℕ) (new : ℕ → List Settled) (ss : List ℕ) (first mid last : List ShareRow) → AllByRecursion (IsRowOf share_in (IsBefore share_in x n)) first → AllByRecursion (IsRowOf share_in (IsAfter share_in x n)) last
+    → replaced_each x n new ss (first ++ (mid ++ last)) ≡ first ++ (replaced_each x n new ss mid ++ last)
+replaced_among x n new [] first mid last before after = refl
+replaced_among x n new (s ∷ ss) first mid last before after =
+    ap (λ rows. replaced_each x n new ss (put_all by_share (entry_parts x n s (new s)) rows)) (removed_among x n s first mid last before after)
+    ∙ ap (replaced_each x n new ss) (put_all_among share_in by_share (λ a b. ordering_then (nat_cmp a.0 b.0) (nat_cmp a.1.0 b.1.0)) (λ x n y m a b. refl) x n (λ placed. placed) (placed_parts s (new s)) first (filter (not_of x n s) mid) last before after)
+    ∙ replaced_among x n new ss first (put_all by_share (entry_parts x n s (new s)) (filter (not_of x n s) mid)) last before after
+
+-- what makes one loan's rows of the others makes one list of the other
+pub replaced_around : (x n : ℕ) (new : ℕ → List Settled) (ss : List ℕ) (old rows : List ShareRow) (block changed : List (ℕ × (ℕ × Settled))) → Around share_in x n old rows block changed
+    → replaced_each x n new ss (map (share_in x n) block) ≡ map (share_in x n) changed → replaced_each x n new ss old ≡ rows
+replaced_around x n new ss old rows block changed w own =
+    ap (replaced_each x n new ss) w.old_is ∙ replaced_among x n new ss w.first (map (share_in x n) block) w.last w.before w.after
+    ∙ ap (λ l. w.first ++ (l ++ w.last)) own ∙ sym w.new_is

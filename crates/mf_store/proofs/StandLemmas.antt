@@ -11,7 +11,7 @@ use Rattle.mf_base.specs.declared.fault.Fault.TheVariants.{F20}
 use Rattle.mf_store_tables.specs.Writes.{Serves, AllFit, after_all, Turns, IsSettled, MayHold}
 use Rattle.mf_model.specs.Institution.{Institution}
 use Rattle.mf_store_records.specs.Tables.{schema}
-use Rattle.mf_store.specs.Flat.{tables_of}
+use Rattle.mf_store_sound.specs.Flat.{tables_of}
 use Rattle.mf_store_records.specs.Calls.{IsUnchanged}
 use Rattle.mf_store_records.specs.Writes.{schema_of, Holds, after, Fits}
 use Rattle.mf_store_records.specs.declared.writes.StoreWrite.{StoreWrite}
@@ -55,6 +55,10 @@ weaker_if_ok (Err e) P Q f h = tt
 pub at_ok : {A E : Type 0} (r : Result A E) (P : Type 0) → P → OnOk r P
 at_ok (Ok x) P h = h
 at_ok (Err e) P h = tt
+
+pub weaker_on_ok : {A E : Type 0} (r : Result A E) (P Q : Type 0) → OnOk r P → (P → Q) → OnOk r Q
+weaker_on_ok (Ok v) P Q h f = f h
+weaker_on_ok (Err e) P Q h f = tt
 
 pub weaker_on_err : {A E : Type 0} (r : Result A E) (P Q : Type 0) → OnErr r P → (P → Q) → OnErr r Q
 weaker_on_err (Ok x) P Q h f = tt

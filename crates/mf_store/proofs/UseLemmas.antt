@@ -12,7 +12,7 @@ use Rattle.mf_model.specs.Sound.{IsSound}
 use Rattle.mf_model.specs.Store.{rows_at, use_at}
 use Rattle.mf_store_records.specs.Rows.{is_entry, is_entry_of}
 use Rattle.mf_store_records.specs.declared.entries.EntryRow.{EntryRow}
-use Rattle.mf_store.specs.Flat.{entry_in, entries_of, tables_of}
+use Rattle.mf_store_sound.specs.Flat.{entry_in, entries_of, tables_of}
 use Rattle.mf_store.proofs.EnteredLemmas.{loan_numbered}
 use Rattle.mf_store.proofs.EntryLemmas.{AreNumbered, later_numbered, entries_shown}
 use Rattle.mf_store.proofs.FlatLemmas.{numbered-suc}
@@ -119,7 +119,7 @@ carrier x r u i sound at =
     let e = a.inside.entry in
     let next : n ≡ suc a.place = omega arith in
     let there : numbered ls n ≡ Some a.ledger = ap (numbered ls) next ∙ numbered-suc ls a.place ∙ a.at in
-    let numbers = loan_numbered x n a.ledger i sound there in
+    let numbers = loan_numbered (record { office = x; number = n }) a.ledger i sound there in
     let loan_is : u.by.loan ≡ n = λ k. (a.inside.by_is k).loan in
     let seq_is : u.by.seq ≡ e.seq = λ k. (a.inside.by_is k).seq in
     let row : find (is_entry x n e.seq) (tables_of i).entries ≡ Some (entry_in x n e) =

@@ -1,5 +1,3 @@
-pub mod ReceiptRows
-pub mod Flat
 pub mod Counts
 pub mod Facts
 pub mod Learning

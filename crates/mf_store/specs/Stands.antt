@@ -10,7 +10,7 @@ use Rattle.mf_model.specs.Sound.{IsSound}
 use Rattle.mf_store_records.specs.Calls.{IsOpenUpTo, OnlyFaultsShut}
 use Rattle.mf_store_records.specs.Tables.{schema}
 use Rattle.mf_store.specs.Facts.{Kept, AreTrueOf}
-use Rattle.mf_store.specs.Flat.{tables_of}
+use Rattle.mf_store_sound.specs.Flat.{tables_of}
 use Rattle.mf_store_records.specs.Writes.{schema_of, Holds, after, Fits}
 use Rattle.mf_store_records.specs.declared.writes.StoreWrite.{StoreWrite}
 

@@ -1,21 +1,24 @@
 //! The accounts of loans: each is replayed from the loan's row, its product's terms and its entries.
 
-ghost use Rattle.std.specs.Prelude.{◌≡◌, ◌≤◌, ◌-◌, ℕ, List, length, map, Some, OnOk, IfOk, IfErr};
+ghost use Rattle.std.specs.Prelude.{◌≡◌, ◌≤◌, ◌-◌, ◌++◌, ℕ, List, [], length, map, option_map, Some, OnOk, IfOk, IfErr};
 ghost use Rattle.std.specs.List.{AllByRecursion};
 ghost use Rattle.mf_base.specs.declared.fault.Fault.TheVariants.{F20};
 ghost use Rattle.mf_account.specs.Standing.{entry_at};
 ghost use Rattle.mf_catalog.specs.Product.{charge_of};
-ghost use Rattle.mf_model.specs.Accounts.{terms_in, status_in};
+ghost use Rattle.mf_model.specs.Accounts.{running_from, terms_in, status_in};
 ghost use Rattle.mf_model.specs.Institution.{Institution, Ledger as ModelLedger, charge_in};
 ghost use Rattle.mf_model.specs.Stages.{disbursed_on};
-ghost use Rattle.mf_model.specs.Store.{Commits, loan_at, ledger_at, account_at, loans_at};
+ghost use Rattle.mf_model.specs.Store.{Commits, loan_at, ledger_at, account_at, replayed, loans_at};
 ghost use Rattle.mf_model.specs.declared.commit.Commit.TheVariants.{Enter, Reverse};
-ghost use Rattle.mf_store.specs.Flat.{loan_in, line_in, entry_in, entries_of};
+ghost use Rattle.mf_store.specs.ChangeWrites.{schedule_put};
+ghost use Rattle.mf_store_sound.specs.Flat.{loan_in, line_in, entry_in, entries_of, instalments_kept, kept_of};
 ghost use Rattle.mf_store_records.specs.Rows.{loan_row as loan_stored};
 
+use crate::changes::{put_change, put_schedule};
 use crate::entries::{entries_from, entry_row};
+use crate::kept::is_active;
 use crate::known::News;
-use crate::loans::{account_number, loan_from};
+use crate::loans::{account_number, disbursal_day, loan_from};
 use crate::receipts::writes_of;
 use crate::store::Store;
 use crate::stored::stored;
@@ -23,31 +26,25 @@ use crate::visible::office_number;
 use mf_account::{Entry, LoanAccount};
 use mf_base::{Day, Fault};
 use mf_catalog::{ChargeDef, Terms};
-use mf_model::{Loan, LoanLine, LoanList, Stage};
+use mf_model::{Loan, LoanLine, LoanList};
 use mf_office::{Account, OfficeNo};
 use mf_store_records::{EntryRow, LoanRow, StoreWrite, read_row};
 use sqlite::{Alter, Row};
 use std::alloc::Global;
 
-/// The day on which a loan was disbursed.
-fn disbursal_day(loan: &Loan) -> Option<Day>
-    ensures { result ≡ disbursed_on loan.now.stage }
-{
-    match loan.stage {
-        Stage::Disbursed { day, .. } => Some(day),
-        _ => None,
-    }
-}
+/// The status of a loan that is disbursed and has something outstanding.
+const ACTIVE: u16 = 300;
 
 /// The row of an entry of a loan's account, by its number; F20 where there is none.
 fn row_of_entry(
     alloc: Global,
-    loan: Account,
+    office: u32,
+    loan: u32,
     seq: u32,
     account: &LoanAccount,
 ) -> Result<EntryRow, Fault>
     ensures there { OnOk result ((1 ≤ seq) × (seq ≤ length account.now.loan.entries)) }
-    ensures row { IfOk result (λ row. row ≡ entry_in loan.office loan.number (entry_at account.now.loan.entries (seq - 1))) }
+    ensures row { IfOk result (λ row. row ≡ entry_in office loan (entry_at account.now.loan.entries (seq - 1))) }
     ensures gives_up { IfErr result (λ fault. fault ≡ F20) }
 {
     let entries = account.entries();
@@ -55,7 +52,7 @@ fn row_of_entry(
         return Err(Fault::F20);
     }
     let entry = &entries[seq as usize - 1];
-    entry_row(alloc, loan.office.get(), loan.number.get(), entry)
+    entry_row(alloc, office, loan, entry)
 }
 
 impl<S: Alter> Store<S> {
@@ -113,6 +110,32 @@ impl<S: Alter> Store<S> {
         }))
     }
 
+    /// The account of a loan that was disbursed on a day and has these entries. Where it can have none, the call gives up.
+    fn account_with(
+        &mut self,
+        alloc: Global,
+        loan: &Loan,
+        day: Day,
+        entries: Vec<Entry>,
+    ) -> Result<LoanAccount, Fault>
+        ensures kept { Stays S.Store self.old self.new }
+        ensures gives_up { IfErr result (λ fault. fault ≡ F20) }
+        ensures open { IsClean S.Store self.new → IsOpen S.Store self.old → OnOk result (IsOpen S.Store self.new) }
+        ensures value { IsClean S.Store self.new → (i : Institution) → StandsFor S.Store self.old i → IfOk result (λ account. option_map replayed (running_from loan.now entries.items (Some day) (terms_in i.catalogue loan.now.product)) ≡ Some account) }
+    {
+        let named = self.terms_of(loan.product)?;
+        let terms = stored(named)?;
+        let found = LoanAccount::of_entries(
+            alloc,
+            terms,
+            loan.principal,
+            loan.periods,
+            day,
+            entries,
+        )?;
+        stored(found)
+    }
+
     /// The account of a loan that is there and was disbursed on this day.
     fn replay(
         &mut self,
@@ -127,17 +150,28 @@ impl<S: Alter> Store<S> {
         ensures value { IsClean S.Store self.new → (i : Institution) → StandsFor S.Store self.old i → loan_at account i ≡ Some loan.now → disbursed_on loan.now.stage ≡ Some day → IfOk result (λ replayed. account_at account i ≡ Some replayed) }
     {
         let entries = self.entries_at(alloc, account)?;
-        let named = self.terms_of(loan.product)?;
-        let terms = stored(named)?;
-        let found = LoanAccount::of_entries(
-            alloc,
-            terms,
-            loan.principal,
-            loan.periods,
-            day,
-            entries,
-        )?;
-        stored(found)
+        self.account_with(alloc, loan, day, entries)
+    }
+
+    /// Adds the puts of a loan's instalments as its disbursement leaves them; none where it is not disbursed.
+    pub(crate) fn put_schedule_of(
+        &mut self,
+        alloc: Global,
+        office: u32,
+        number: u32,
+        loan: &Loan,
+        writes: &mut Vec<StoreWrite>,
+    ) -> Result<(), Fault>
+        ensures kept { Stays S.Store self.old self.new }
+        ensures gives_up { IfErr result (λ fault. fault ≡ F20) }
+        ensures writes { IsClean S.Store self.new → (i : Institution) → StandsFor S.Store self.old i → OnOk result (writes.new.items ≡ writes.old.items ++ schedule_put office number (kept_of instalments_kept i.catalogue (record { loan = loan.now; entries = [] }))) }
+        ensures more { OnOk result (length writes.old.items ≤ length writes.new.items) }
+    {
+        let Some(day) = disbursal_day(loan) else {
+            return Ok(());
+        };
+        let fresh = self.account_with(alloc, loan, day, Vec::new(alloc))?;
+        put_schedule(alloc, office, number, fresh.rows(), writes)
     }
 
     /// The account of a loan, or None where there is no such loan or it is not disbursed.
@@ -162,6 +196,29 @@ impl<S: Alter> Store<S> {
         Ok(Some(replayed))
     }
 
+    /// The status of a loan that is there and was disbursed on this day. Only where nothing is outstanding in the instalments
+    /// that are kept are its entries replayed.
+    fn disbursed_status(
+        &mut self,
+        alloc: Global,
+        account: Account,
+        loan: &Loan,
+        day: Day,
+    ) -> Result<u16, Fault>
+        ensures kept { Stays S.Store self.old self.new }
+        ensures gives_up { IfErr result (λ fault. fault ≡ F20) }
+        ensures open { IsClean S.Store self.new → OnOk result (IsOpen S.Store self.new) }
+        ensures value { IsClean S.Store self.new → (i : Institution) → StandsFor S.Store self.old i → (l : ModelLedger) → ledger_at account i ≡ Some l → l.loan ≡ loan.now → disbursed_on loan.now.stage ≡ Some day → IfOk result (λ status. status ≡ status_in i.catalogue l) }
+    {
+        let Account { office, number } = account;
+        let rows = self.instalments_at(alloc, Account { office, number })?;
+        if is_active(&rows) {
+            return Ok(ACTIVE);
+        }
+        let replayed = self.replay(alloc, Account { office, number }, loan, day)?;
+        Ok(replayed.status())
+    }
+
     /// The status of a loan that is there: its stage's number, or what its account says.
     fn status_of(&mut self, alloc: Global, account: Account, loan: &Loan) -> Result<u16, Fault>
         ensures kept { Stays S.Store self.old self.new }
@@ -171,10 +228,7 @@ impl<S: Alter> Store<S> {
     {
         match disbursal_day(loan) {
             None => Ok(loan.stage.status()),
-            Some(day) => {
-                let replayed = self.replay(alloc, account, loan, day)?;
-                Ok(replayed.status())
-            }
+            Some(day) => self.disbursed_status(alloc, account, loan, day),
         }
     }
 
@@ -229,19 +283,23 @@ impl<S: Alter> Store<S> {
         self.lines_of(alloc, &rows)
     }
 
-    /// Adds the last entry of a loan's account to the loan, which has all the others and no more.
+    /// Adds the last entry of a loan's account to the loan, which has all the others and no more, and writes what that
+    /// changed of the loan's instalments and shares.
     pub fn enter(&mut self, alloc: Global, loan: Account, account: LoanAccount) -> Result<(), Fault>
         ensures commits { Commits (StandsFor S.Store) (IsClean S.Store) (Leaves S.Store) (Enter loan account) self.old self.new result }
         ensures shuts { FaultsAloneShut S.Store self.old self.new }
         ensures open { IsClean S.Store self.new → OnOk result (IsOpen S.Store self.new) }
     {
-        let row = row_of_entry(alloc, loan, account.entry_count(), &account)?;
-        let writes = writes_of(alloc, row)?;
+        let office = loan.office.get();
+        let loan = loan.number.get();
+        let row = row_of_entry(alloc, office, loan, account.entry_count(), &account)?;
+        let mut writes = writes_of(alloc, row)?;
+        put_change(alloc, office, loan, &account, &mut writes)?;
         self.make(&writes, News::Nothing)
     }
 
-    /// Writes an entry of a loan that is reversed in the loan's account. All others are the same in both. The row of its
-    /// receipt stays as it is.
+    /// Writes an entry of a loan that is reversed in the loan's account, and what that changed of the loan's instalments
+    /// and shares. All other entries are the same in both. The row of the entry's receipt stays as it is.
     pub fn reverse(
         &mut self,
         alloc: Global,
@@ -253,7 +311,12 @@ impl<S: Alter> Store<S> {
         ensures shuts { FaultsAloneShut S.Store self.old self.new }
         ensures open { IsClean S.Store self.new → OnOk result (IsOpen S.Store self.new) }
     {
-        let row = row_of_entry(alloc, loan, seq, &account)?;
-        self.make(&[StoreWrite::ChangeEntry(row)], News::Nothing)
+        let office = loan.office.get();
+        let loan = loan.number.get();
+        let row = row_of_entry(alloc, office, loan, seq, &account)?;
+        let mut writes = Vec::new(alloc);
+        writes.push(StoreWrite::ChangeEntry(row))?;
+        put_change(alloc, office, loan, &account, &mut writes)?;
+        self.make(&writes, News::Nothing)
     }
 }

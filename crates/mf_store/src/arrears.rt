@@ -1,4 +1,4 @@
-//! The active loans of offices, by days overdue: one loan is held at a time, and each is replayed.
+//! The active loans of offices, by days overdue, from the instalments that are kept: one loan is held at a time.
 
 ghost use Rattle.std.specs.Prelude.{◌≡◌, ℕ, ◌+◌, ◌<◌, ◌≤◌, ◌^◌, List, ◌++◌, length, map, Some, OnOk, IfOk, IfErr, IfSome};
 ghost use Rattle.mf_base.specs.declared.fault.Fault.TheVariants.{F20};
@@ -7,11 +7,14 @@ ghost use Rattle.mf_model.specs.Accounts.{account_in};
 ghost use Rattle.mf_model.specs.Arrears.{active_in, arrears_seen, if_active};
 ghost use Rattle.mf_model.specs.Institution.{Institution, Ledger as ModelLedger};
 ghost use Rattle.mf_model.specs.Store.{ledger_at, rows_at};
-ghost use Rattle.mf_store.specs.Arrears.{active_told, line_at};
+ghost use Rattle.mf_store.specs.Arrears.{active_told, aged_rows, line_at};
+ghost use Rattle.mf_account.specs.Balance.{open_in};
 
+use crate::kept::is_active;
 use crate::loans::account_number;
 use crate::store::Store;
-use mf_account::LoanAccount;
+use crate::stored::stored;
+use mf_alloc::{Portion, Row as Instalment};
 use mf_arrears::{OfficeLine, arrears};
 use mf_base::{Day, Fault};
 use mf_model::ArrearsList;
@@ -19,8 +22,8 @@ use mf_office::{Account, Office, OfficeNo};
 use sqlite::Alter;
 use std::alloc::Global;
 
-/// The status of a loan that is paid out, and has something outstanding.
-const ACTIVE: u16 = 300;
+/// The most that can be outstanding of a loan's principal, in cents: 10^12.
+const MOST_PRINCIPAL: u64 = 1_000_000_000_000;
 
 /// A loan that counts: its outstanding principal in cents, and its days overdue.
 #[derive(Clone, Copy, Debug)]
@@ -29,18 +32,34 @@ struct ActiveLoan {
     days: i64,
 }
 
-/// The account's loan where it counts on a day.
-fn active(account: &LoanAccount, today: Day) -> Option<ActiveLoan>
-    ensures value { active_told result ≡ if_active today (Some account.now.loan) }
-    ensures most { IfSome result (λ loan. loan.principal ≤ 10 ^ 12) }
+/// What is outstanding of the principal of instalments, where 64 bits hold it.
+fn principal_left(rows: &[Instalment]) -> Option<u64>
+    ensures { IfSome result (λ sum. sum ≡ open_in 3 rows.now) }
 {
-    if account.status() != ACTIVE {
-        return None;
+    let mut sum: u64 = 0;
+    for row in rows {
+        sum = sum.checked_add(row.outstanding(Portion::Principal))?;
     }
-    Some(ActiveLoan {
-        principal: account.principal_left(),
-        days: arrears(account.rows(), today),
-    })
+    Some(sum)
+}
+
+/// The loan that these are the instalments of, where it counts on a day: where something is outstanding.
+fn active(rows: &[Instalment], today: Day) -> Result<Option<ActiveLoan>, Fault>
+    ensures value { IfOk result (λ found. active_told found ≡ aged_rows today rows.now) }
+    ensures most { IfOk result (λ found. IfSome found (λ loan. loan.principal ≤ 10 ^ 12)) }
+    ensures gives_up { IfErr result (λ fault. fault ≡ F20) }
+{
+    if !is_active(rows) {
+        return Ok(None);
+    }
+    let principal = stored(principal_left(rows))?;
+    if principal > MOST_PRINCIPAL {
+        return Err(Fault::F20);
+    }
+    Ok(Some(ActiveLoan {
+        principal,
+        days: arrears(rows, today),
+    }))
 }
 
 /// Adds a loan to its office's line, where there is one that counts.
@@ -58,7 +77,7 @@ fn add(line: &mut OfficeLine, loan: Option<ActiveLoan>)
 impl<S: Alter> Store<S> {
     ghost use Rattle.mf_store.specs.Stands.{StandsFor, IsClean, Stays, IsOpen};
 
-    /// A loan where it is there and counts on a day.
+    /// A loan where it counts on a day. Its entries are not replayed: the instalments that are kept say it.
     fn active_loan(
         &mut self,
         alloc: Global,
@@ -71,11 +90,8 @@ impl<S: Alter> Store<S> {
         ensures most { IfOk result (λ found. IfSome found (λ loan. loan.principal ≤ 10 ^ 12)) }
         ensures value { IsClean S.Store self.new → (i : Institution) → StandsFor S.Store self.old i → (l : ModelLedger) → ledger_at loan i ≡ Some l → IfOk result (λ found. active_told found ≡ if_active today (account_in i.catalogue l)) }
     {
-        let found = self.account_of(alloc, loan)?;
-        let Some(account) = found else {
-            return Ok(None);
-        };
-        Ok(active(&account, today))
+        let rows = self.instalments_at(alloc, loan)?;
+        active(&rows, today)
     }
 
     /// An office's line on a day, over all its loans, of which there are so many.

@@ -5,8 +5,8 @@ ghost use Rattle.mf_base.specs.declared.fault.Fault.TheVariants.{F20};
 ghost use Rattle.mf_alloc.specs.Rows.{row_at};
 ghost use Rattle.mf_account.specs.Loan.{settled_of_loan};
 ghost use Rattle.mf_store_records.specs.declared.writes.StoreWrite.TheVariants.{PutShare};
-ghost use Rattle.mf_store.specs.Flat.{how_number, instalment_in, share_in, placed_parts};
-ghost use Rattle.mf_store.specs.ChangeWrites.{instalments_put, shares_replaced, shares_put, change_writes};
+ghost use Rattle.mf_store_sound.specs.Flat.{how_number, instalment_in, numbered_from, share_in, placed_parts};
+ghost use Rattle.mf_store.specs.ChangeWrites.{schedule_put, instalments_put, shares_replaced, shares_put, change_writes};
 
 use crate::entries::number_of_portion;
 use crate::loans::text_of_day;
@@ -14,7 +14,6 @@ use crate::stored::signed;
 use mf_account::{How, LoanAccount, Settled};
 use mf_alloc::Row;
 use mf_base::Fault;
-use mf_office::Account;
 use mf_store_records::{EntryKey, InstalmentRow, ShareRow, StoreWrite};
 use std::alloc::Global;
 
@@ -69,6 +68,29 @@ fn instalment_row(
         waived_principal: signed(waived[3])?,
         written_off_principal: signed(written_off[3])?,
     })
+}
+
+/// Adds the puts of all instalments of a loan.
+pub(crate) fn put_schedule(
+    alloc: Global,
+    office: u32,
+    loan: u32,
+    rows: &[Row],
+    writes: &mut Vec<StoreWrite>,
+) -> Result<(), Fault>
+    ensures writes { OnOk result (writes.new.items ≡ writes.old.items ++ schedule_put office loan (numbered_from (λ n row. (n, row)) 1 rows.now)) }
+    ensures gives_up { IfErr result (λ fault. fault ≡ F20) }
+{
+    let mut number = 0;
+    for row in rows {
+        if number == u32::MAX {
+            return Err(Fault::F20);
+        }
+        number += 1;
+        let put = instalment_row(alloc, office, loan, number, row)?;
+        writes.push(StoreWrite::PutInstalment(put))?;
+    }
+    Ok(())
 }
 
 /// The row of the instalment of a number; F20 where there is none.
@@ -194,15 +216,14 @@ fn put_shares(
 /// entries that settle otherwise.
 pub(crate) fn put_change(
     alloc: Global,
-    loan: Account,
+    office: u32,
+    loan: u32,
     account: &LoanAccount,
     writes: &mut Vec<StoreWrite>,
 ) -> Result<(), Fault>
-    ensures writes { OnOk result (writes.new.items ≡ writes.old.items ++ change_writes loan.office loan.number account.now) }
+    ensures writes { OnOk result (writes.new.items ≡ writes.old.items ++ change_writes office loan account.now) }
     ensures gives_up { IfErr result (λ fault. fault ≡ F20) }
 {
-    let office = loan.office.get();
-    let loan = loan.number.get();
     let change = account.change();
     put_instalments(alloc, office, loan, account.rows(), &change.rows, writes)?;
     put_shares(alloc, office, loan, account, &change.seqs, writes)

@@ -23,7 +23,7 @@ pub(crate) fn first_writes(alloc: Global, day: Day) -> Result<Vec<StoreWrite>, F
 {
     let meta = MetaRow {
         one: 1,
-        schema: 1,
+        schema: 2,
         day: Text::new(day.text(alloc)?),
     };
     let head = OfficeRow {

@@ -13,6 +13,7 @@ mod counts;
 mod entries;
 mod first;
 mod institution;
+mod kept;
 mod known;
 mod laws;
 mod loans;

@@ -4,12 +4,12 @@ ghost use Rattle.std.specs.Prelude.{◌≡◌, ℕ, Option, option_map, Some, On
 ghost use Rattle.mf_base.specs.declared.fault.Fault.TheVariants.{F20};
 ghost use Rattle.mf_model.specs.Institution.{Institution};
 ghost use Rattle.mf_base.specs.DayText.{day_text};
-ghost use Rattle.mf_model.specs.Stages.{stage_number};
+ghost use Rattle.mf_model.specs.Stages.{stage_number, disbursed_on};
 ghost use Rattle.mf_model.specs.Store.{Commits, loan_at};
 ghost use Rattle.mf_model.specs.declared.commit.Commit.TheVariants.{AddLoan, SetStage};
 ghost use Rattle.mf_model.specs.declared.loan.Loan.{Loan as ModelLoan};
 ghost use Rattle.mf_model.specs.declared.loan.Stage.{Stage as ModelStage};
-ghost use Rattle.mf_store.specs.Flat.{loan_in, approval_text, disbursal_text};
+ghost use Rattle.mf_store_sound.specs.Flat.{loan_in, approval_text, disbursal_text};
 
 use crate::counts::MOST;
 use crate::known::News;
@@ -132,25 +132,27 @@ fn loan_row(alloc: Global, office: u32, number: u32, loan: Loan) -> Result<LoanR
     })
 }
 
-/// The row of the same loan, at another stage.
-fn staged(alloc: Global, row: &LoanRow, stage: &Stage) -> Result<LoanRow, Fault>
-    ensures row { IfOk result (λ new. (office number : ℕ) (l : ModelLoan) → row.now ≡ loan_in office number l → new ≡ loan_in office number (record l { stage = stage.now })) }
-    ensures gives_up { IfErr result (λ fault. fault ≡ F20) }
+/// The day on which a loan was disbursed.
+pub(crate) fn disbursal_day(loan: &Loan) -> Option<Day>
+    ensures { result ≡ disbursed_on loan.now.stage }
 {
-    let status = stage.status() as u32;
-    let approved = approval(alloc, *stage)?;
-    let disbursed = disbursal(alloc, *stage)?;
-    Ok(LoanRow {
-        office: row.office,
-        number: row.number,
-        client: row.client,
-        product: row.product,
-        principal: row.principal,
-        periods: row.periods,
-        stage: status,
-        approved,
-        disbursed,
-    })
+    match loan.stage {
+        Stage::Disbursed { day, .. } => Some(day),
+        _ => None,
+    }
+}
+
+/// A loan, brought to a stage.
+fn staged(loan: &Loan, stage: Stage) -> Loan
+    ensures { result ≡ record loan.now { stage = stage } }
+{
+    Loan {
+        client: loan.client,
+        product: loan.product,
+        principal: loan.principal,
+        periods: loan.periods,
+        stage,
+    }
 }
 
 impl<S: Alter> Store<S> {
@@ -170,7 +172,7 @@ impl<S: Alter> Store<S> {
         Ok(Some(found))
     }
 
-    /// Adds a loan of an office that is there, under the next number.
+    /// Adds a loan of an office that is there, under the next number. It is not disbursed; where it is, the call gives up.
     pub fn add_loan(&mut self, alloc: Global, office: OfficeNo, loan: Loan) -> Result<(), Fault>
         ensures commits { Commits (StandsFor S.Store) (IsClean S.Store) (Leaves S.Store) (AddLoan office loan) self.old self.new result }
         ensures shuts { FaultsAloneShut S.Store self.old self.new }
@@ -182,7 +184,7 @@ impl<S: Alter> Store<S> {
             return Err(Fault::F20);
         }
         let counts = self.counts_of(office)?;
-        if counts.loans > MOST {
+        if counts.loans > MOST || disbursal_day(&loan).is_some() {
             return Err(Fault::F20);
         }
         let number = counts.loans + 1;
@@ -195,16 +197,27 @@ impl<S: Alter> Store<S> {
         self.make(&[StoreWrite::AddLoan(row)], News::OfficeCounts(office, now))
     }
 
-    /// Brings a loan that is there to a stage.
+    /// Brings a loan that is there to a stage, and writes its instalments where that disburses it. Where it was disbursed
+    /// before, the call gives up.
     pub fn set_stage(&mut self, alloc: Global, loan: Account, stage: Stage) -> Result<(), Fault>
         ensures commits { Commits (StandsFor S.Store) (IsClean S.Store) (Leaves S.Store) (SetStage loan stage) self.old self.new result }
         ensures shuts { FaultsAloneShut S.Store self.old self.new }
         ensures open { IsClean S.Store self.new → OnOk result (IsOpen S.Store self.new) }
     {
-        let Some(found) = self.find_loan(loan.office.get(), loan.number.get())? else {
+        let Account { office, number } = loan;
+        let Some(before) = self.loan_at(Account { office, number })? else {
             return Err(Fault::F20);
         };
-        let row = staged(alloc, &found, &stage)?;
-        self.make(&[StoreWrite::PutLoan(row)], News::Nothing)
+        if disbursal_day(&before).is_some() {
+            return Err(Fault::F20);
+        }
+        let now = staged(&before, stage);
+        let office = office.get();
+        let number = number.get();
+        let row = loan_row(alloc, office, number, now)?;
+        let mut writes = Vec::new(alloc);
+        writes.push(StoreWrite::PutLoan(row))?;
+        self.put_schedule_of(alloc, office, number, &now, &mut writes)?;
+        self.make(&writes, News::Nothing)
     }
 }

@@ -8,7 +8,7 @@ use Rattle.mf_store.proofs.first.first_writes.Goals as goal
 
 pub returns-clause-writes : goal.returns-clause-writes
 returns-clause-writes c =
-    let meta : MetaRow = record { one = 1; schema = 1; day = c.new.result } in
+    let meta : MetaRow = record { one = 1; schema = 2; day = c.new.result } in
     let head : OfficeRow = record { number = 1; parent = None; hkey = c.new-2.result; name = c.new-3.result } in
     let manager : StaffRow = record { office = 1; number = 1; name = c.new-4.result; role = 3 } in
     let all : c.push-4.new.self.items ≡ MakeTables ∷ PutMeta meta ∷ PutOffice head ∷ PutStaff manager ∷ [] =

@@ -2,7 +2,7 @@ use Rattle.std.proofs.Common.{◌+◌, [], ◌∷◌, ap, ◌∙◌}
 use Rattle.mf_model.specs.declared.store.CatalogueCounts.{CatalogueCounts}
 use Rattle.mf_model.specs.Institution.{Charge}
 use Rattle.mf_model.specs.declared.commit.Commit.TheVariants.{AddCharge}
-use Rattle.mf_store.specs.Flat.{charge_as}
+use Rattle.mf_store_sound.specs.Flat.{charge_as}
 use Rattle.mf_store_records.specs.declared.writes.StoreWrite.TheVariants.{PutCharge}
 use Rattle.mf_store.proofs.CatalogueLemmas.{charge_becomes}
 use Rattle.mf_store.proofs.CommitLemmas.{made_by}
@@ -15,5 +15,5 @@ returns-clause-commits g c =
     let charge : Charge = record { name = c.args.name; kind = c.args.kind; calc = c.args.calc; value = c.args.value } in
     let known = c.in_ok-counts.counts in
     made_by g.S.Store (AddCharge c.args.name c.args.kind c.args.calc c.args.value) c.args.self.now c.count_catalogue.new.self c.make.new.self (PutCharge c.in_ok-row.row ∷ []) (Catalogue (record { charges = known.charges + 1; products = known.products })) c.make.result c.in_ok-counts.ensures.kept
-    (λ clean i s admitted. let sound = admitted.sound in let counts = c.in_ok-counts.ensures.value clean i s in (charge_becomes charge i c.in_ok-row.row sound (c.in_ok-row.ensures.row ∙ ap (λ (k : CatalogueCounts). charge_as (k.charges + 1) charge) counts), charge_tells charge i known counts))
+    (λ clean i s admitted. let sound = admitted.sound in let counts = c.in_ok-counts.ensures.value clean i s in (charge_becomes charge i c.in_ok-row.row s.sound sound (c.in_ok-row.ensures.row ∙ ap (λ (k : CatalogueCounts). charge_as (k.charges + 1) charge) counts), charge_tells charge i known counts))
     c.make.ensures.premise c.make.ensures.gives_up c.make.ensures.made c.make.ensures.left c.make.ensures.same c.make.ensures.stop

@@ -1,7 +1,7 @@
 use Rattle.std.proofs.Common.{[], ◌∷◌, ap, ◌∙◌}
 use Rattle.mf_model.specs.Institution.{numbered}
 use Rattle.mf_model.specs.declared.commit.Commit.TheVariants.{RetireProduct}
-use Rattle.mf_store.specs.Flat.{product_as}
+use Rattle.mf_store_sound.specs.Flat.{product_as}
 use Rattle.mf_store_records.specs.declared.products.ProductRow.{ProductRow}
 use Rattle.mf_store_records.specs.declared.writes.StoreWrite.TheVariants.{PutProduct}
 use Rattle.mf_store.proofs.CatalogueLemmas.{known, retired_becomes}
@@ -14,5 +14,5 @@ pub returns-clause-commits : goal.returns-clause-commits
 returns-clause-commits g c =
     made_by g.S.Store (RetireProduct c.args.product) c.args.self.now c.find_product.new.self c.make.new.self (PutProduct c.retired-row.result ∷ []) Retirement c.make.result c.in_ok-found.ensures.kept
     (λ clean i s admitted. let sound = admitted.sound in let k = known (product_as c.args.product) c.in_ok-found.field-0 c.in-Some.found (numbered i.catalogue.products c.args.product) c.in-Some.is (c.in_ok-found.ensures.value clean i s) in
-    (retired_becomes c.args.product k.0 i c.retired-row.result sound k.1 (c.retired-row.ensures ∙ ap (λ (r : ProductRow). record r { retired = 1 }) k.2), retired_tells c.args.product i))
+    (retired_becomes c.args.product k.0 i c.retired-row.result s.sound sound k.1 (c.retired-row.ensures ∙ ap (λ (r : ProductRow). record r { retired = 1 }) k.2), retired_tells c.args.product i))
     c.make.ensures.premise c.make.ensures.gives_up c.make.ensures.made c.make.ensures.left c.make.ensures.same c.make.ensures.stop

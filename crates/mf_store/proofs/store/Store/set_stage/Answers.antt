@@ -1,21 +1,44 @@
-use Rattle.std.proofs.Common.{[], ◌∷◌, ◌∙◌}
+use Rattle.std.proofs.Common.{◌≡◌, ◌++◌, ◌∷◌, [], Some, false, sym, subst, ap, ◌∙◌, rules}
+use Rattle.std.specs.Option.{is_some}
 use Rattle.mf_model.specs.declared.commit.Commit.TheVariants.{SetStage}
-use Rattle.mf_model.specs.Institution.{numbered}
-use Rattle.mf_model.specs.Store.{rows_at}
-use Rattle.mf_store.specs.Flat.{loan_in, loans_of, loan_row_at}
+use Rattle.mf_model.specs.Institution.{Ledger}
+use Rattle.mf_model.specs.Stages.{disbursed_on}
+use Rattle.mf_model.specs.Store.{committed, ledger_at}
+use Rattle.mf_model.specs.declared.loan.Loan.{Loan}
 use Rattle.mf_store_records.specs.declared.writes.StoreWrite.TheVariants.{PutLoan}
-use Rattle.mf_store.proofs.CatalogueLemmas.{known}
-use Rattle.mf_store.proofs.CommitLemmas.{made_by}
-use Rattle.mf_store.proofs.LoanLemmas.{staged_becomes}
+use Rattle.mf_store.specs.ChangeWrites.{schedule_put}
+use Rattle.mf_store_sound.specs.Flat.{instalments_kept, kept_of, loan_in}
+use Rattle.mf_store.specs.Stands.{Becomes}
 use Rattle.mf_store.specs.declared.known.News.TheVariants.{Nothing}
+use Rattle.mf_store.proofs.CommitLemmas.{made_by, none_there}
+use Rattle.mf_store.proofs.CatalogueLemmas.{known}
+use Rattle.mf_store.proofs.EnteredLemmas.{no_entries}
+use Rattle.mf_store.proofs.KeptLemmas.{stays_then}
+use Rattle.mf_store.proofs.LoanLemmas.{staged_becomes, loan_of}
 use Rattle.mf_store.proofs.NewsLemmas.{stage_tells}
 use Rattle.mf_store.proofs.store.Store.set_stage.Goals as goal
 
 pub returns-clause-commits : goal.returns-clause-commits
 returns-clause-commits g c =
-    let office = c.args.loan.office in
-    let number = c.args.loan.number in
-    made_by g.S.Store (SetStage c.args.loan c.args.stage) c.args.self.now c.find_loan.new.self c.make.new.self (PutLoan c.in_ok-row.row ∷ []) Nothing c.make.result c.in_ok-found.ensures.kept
-    (λ clean i s admitted. let sound = admitted.sound in let k = known (loan_in office number) c.in_ok-found.field-0 c.in-Some.found (numbered (loans_of (rows_at office i)) number) c.in-Some.is (c.in_ok-found.ensures.value clean i s ∙ (λ t. loan_row_at (c.get.ensures.value t) (c.get-2.ensures.value t) i)) in
-    (staged_becomes c.args.loan c.args.stage k.0 i c.in_ok-row.row s.sound sound k.1 (c.in_ok-row.ensures.row office number k.0 k.2), stage_tells c.args.loan c.args.stage i))
+    let loan = c.args.loan in
+    let stage = c.args.stage in
+    let old = c.args.self.now in
+    let mid = c.loan_at.new.self in
+    let last = c.put_schedule_of.new.self in
+    let none : is_some (disbursed_on c.in-Some.before.stage) ≡ false = search rules in
+    made_by g.S.Store (SetStage loan stage) old last c.make.new.self c.deref.result.now Nothing c.make.result (stays_then g.S.Store old mid last c.in_ok-before.ensures.kept c.in_ok-put_schedule_of.ensures.kept)
+    (λ clean i s admitted.
+    let first = c.in_ok-put_schedule_of.ensures.kept.premise clean in
+    let k = known loan_of c.in_ok-before.field-0 c.in-Some.before (ledger_at loan i) c.in-Some.is (c.in_ok-before.ensures.value first i s) in
+    let l : Ledger = k.0 in
+    let there : ledger_at loan i ≡ Some l = k.1 in
+    let same : c.in-Some.before ≡ l.loan = k.2 in
+    let before = none_there (disbursed_on l.loan.stage) (ap (λ (m : Loan). is_some (disbursed_on m.stage)) (sym same) ∙ none) in
+    let without = no_entries loan l i s.sound there before in
+    let now = c.staged-now.ensures ∙ ap (λ (m : Loan). record m { stage = stage }) same in
+    let row = c.in_ok-row.ensures.row ∙ (λ t. loan_in (c.get-office.ensures.value t) (c.get-number.ensures.value t) (now t)) in
+    let first_write = c.in_ok-push.ensures.items ∙ ap (λ ws. ws ++ PutLoan c.in_ok-row.row ∷ []) c.new-writes.ensures.items in
+    let schedule = c.in_ok-put_schedule_of.ensures.writes clean i (c.in_ok-before.ensures.kept.same first i s) ∙ ap (λ ws. ws ++ schedule_put c.get-office.result c.get-number.result (kept_of instalments_kept i.catalogue (record { loan = c.staged-now.result; entries = [] }))) first_write in
+    let writes = c.deref.ensures.value ∙ schedule ∙ (λ t. PutLoan (row t) ∷ schedule_put (c.get-office.ensures.value t) (c.get-number.ensures.value t) (kept_of instalments_kept i.catalogue (record { loan = now t; entries = sym without t }))) in
+    (subst (λ ws. Becomes ws i (committed (SetStage loan stage) i)) (sym writes) (staged_becomes loan stage l i s.sound there before without admitted.sound), stage_tells loan stage i))
     c.make.ensures.premise c.make.ensures.gives_up c.make.ensures.made c.make.ensures.left c.make.ensures.same c.make.ensures.stop

@@ -1,0 +1,81 @@
+-- What the rows of a loan's instalments are read as.
+use Rattle.std.proofs.Common.{◌≡◌, ◌+◌, ℕ, pos, List, [], ◌∷◌, map, filter, length, Option, None, Some, refl, ap, ◌∙◌, arith}
+use Rattle.std.specs.Prelude.{slice_index}
+use Rattle.std.specs.List.{AllByRecursion}
+use Rattle.std.proofs.lemmas.List.Elements.{All-head, All-tail}
+use Rattle.mf_alloc.specs.Sums.{Sums, IsWhole, AreWhole}
+use Rattle.mf_account.specs.Loan.{Loan as Running, IsSound as IsSoundAccount, state_of_loan}
+use Rattle.mf_account.proofs.SoundLemmas.{good-sound}
+use Rattle.mf_office.specs.declared.account.Account.{Account}
+use Rattle.mf_model.specs.Accounts.{account_in, of_account}
+use Rattle.mf_model.specs.Institution.{Institution, Ledger}
+use Rattle.mf_model.specs.Sound.{IsSound, is_staff}
+use Rattle.mf_model.specs.Store.{ledger_at, rows_at}
+use Rattle.mf_model.proofs.AccountLemmas.{account_sound}
+use Rattle.mf_store_records.specs.Rows.{instalment_row, is_instalment_of}
+use Rattle.mf_store_sound.specs.Flat.{tables_of, instalment_in, numbered_from, instalments_kept, kept_of, had_by}
+use Rattle.mf_store.proofs.CatalogueLemmas.{amount_is}
+use Rattle.mf_store.proofs.EnteredLemmas.{loan_sound, map_map}
+use Rattle.mf_store.proofs.LoanRowLemmas.{loan_shown}
+
+-- ---- four sums
+
+same_amounts : (xs ys : List ℕ) → map pos xs ≡ map pos ys → xs ≡ ys
+same_amounts [] [] e = refl
+same_amounts [] (y ∷ ys) e = absurd (let never : [] ≡ pos y ∷ map pos ys = e in cc)
+same_amounts (x ∷ xs) [] e = absurd (let never : pos x ∷ map pos xs ≡ [] = e in cc)
+same_amounts (x ∷ xs) (y ∷ ys) e =
+    let whole : pos x ∷ map pos xs ≡ pos y ∷ map pos ys = e in
+    let first : pos x ≡ pos y = cc in
+    let rest : map pos xs ≡ map pos ys = cc in
+    λ t. amount_is x y first t ∷ same_amounts xs ys rest t
+
+-- four of them, one by one
+pub same_four : (xs ys : List ℕ) → length ys ≡ 4 → map pos xs ≡ pos (slice_index ys 0) ∷ pos (slice_index ys 1) ∷ pos (slice_index ys 2) ∷ pos (slice_index ys 3) ∷ [] → xs ≡ ys
+same_four xs [] four e = absurd (omega (arith, four))
+same_four xs (a ∷ []) four e = absurd (omega (arith, four))
+same_four xs (a ∷ b ∷ []) four e = absurd (omega (arith, four))
+same_four xs (a ∷ b ∷ c ∷ []) four e = absurd (omega (arith, four))
+same_four xs (a ∷ b ∷ c ∷ d ∷ []) four e = same_amounts xs (a ∷ b ∷ c ∷ d ∷ []) e
+same_four xs (a ∷ b ∷ c ∷ d ∷ f ∷ ys) four e = absurd (omega (arith, four))
+
+-- ---- the rows of one loan
+
+-- an instalment without its number
+abbrev pub sums_of : ℕ × Sums → Sums
+sums_of item = item.1
+
+numbered_sums : (n : ℕ) (rows : List Sums) → map sums_of (numbered_from (λ k row. (k, row)) n rows) ≡ rows
+numbered_sums n [] = refl
+numbered_sums n (row ∷ rows) = ap (λ l. row ∷ l) (numbered_sums (n + 1) rows)
+
+-- the instalments that are kept are those of the account
+pub sums_kept : (o : Option Running) → map sums_of (of_account [] instalments_kept o) ≡ of_account [] (λ a. (state_of_loan a).rows) o
+sums_kept None = refl
+sums_kept (Some a) = numbered_sums 1 (state_of_loan a).rows
+
+numbered_whole : (n : ℕ) (rows : List Sums) → AreWhole rows → AllByRecursion (λ item. IsWhole (sums_of item)) (numbered_from (λ k row. (k, row)) n rows)
+numbered_whole n [] whole = tt
+numbered_whole n (row ∷ rows) whole = (All-head IsWhole row rows whole, numbered_whole (n + 1) rows (All-tail IsWhole row rows whole))
+
+-- the account of a loan of a sound institution
+pub loan_account_sound : (loan : Account) (l : Ledger) (i : Institution) → IsSound i → ledger_at loan i ≡ Some l → (a : Running) → account_in i.catalogue l ≡ Some a → IsSoundAccount a
+loan_account_sound loan l i sound there a is = account_sound i.catalogue (is_staff i.offices) (rows_at loan.office i).clients l a sound.catalogue (loan_sound loan l i sound there) is
+
+-- each has its four sums of each kind
+pub kept_whole : (loan : Account) (l : Ledger) (i : Institution) → IsSound i → ledger_at loan i ≡ Some l → AllByRecursion (λ item. IsWhole (sums_of item)) (kept_of instalments_kept i.catalogue l)
+kept_whole loan l i sound there = go (account_in i.catalogue l) refl
+  where
+    go : (o : Option Running) → account_in i.catalogue l ≡ o → AllByRecursion (λ item. IsWhole (sums_of item)) (of_account [] instalments_kept o)
+    go None e = tt
+    go (Some a) e = numbered_whole 1 (state_of_loan a).rows (good-sound a (loan_account_sound loan l i sound there a e)).whole
+
+-- the rows of a loan are those of its account's instalments
+pub instalments_shown : (loan : Account) (l : Ledger) (i : Institution) → IsSound i → ledger_at loan i ≡ Some l
+    → map instalment_row (filter (is_instalment_of loan.office loan.number) (tables_of i).instalments) ≡ map (λ item. instalment_row (instalment_in loan.office loan.number item)) (kept_of instalments_kept i.catalogue l)
+instalments_shown loan l i sound there =
+    let x = loan.office in
+    let n = loan.number in
+    let kept = kept_of instalments_kept i.catalogue in
+    ap (map instalment_row) (loan_shown instalment_in kept is_instalment_of (λ x n y m a. refl) x n i.offices sound.tree.ascending ∙ ap (λ o. map (instalment_in x n) (had_by kept o)) there)
+    ∙ map_map instalment_row (instalment_in x n) (kept l)
