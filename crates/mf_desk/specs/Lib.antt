@@ -1,3 +1,4 @@
 pub mod Answers
 pub mod Charges
 pub mod Statements
+pub mod Runs

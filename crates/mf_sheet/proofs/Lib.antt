@@ -1,3 +1,7 @@
-pub mod Calling
 pub mod Rows
 pub mod Ran
+pub mod Uses
+pub mod Judging
+pub mod Again
+pub mod Repeats
+pub mod Twice

@@ -1,3 +1,4 @@
 pub mod Lines
 pub mod Runs
 pub mod Ends
+pub mod Again

@@ -1,15 +1,12 @@
 -- Runs of a sheet's lines over a store, in the words of the institution that it stands for.
-use Rattle.std.specs.Prelude.{◌≡◌, ◌≢◌, ℕ, Bool, false, List, [], ◌∷◌, map, Result}
+use Rattle.std.specs.Prelude.{◌≡◌, ◌≢◌, ℕ, false, List, [], ◌∷◌, map}
 use Rattle.std.specs.List.{AllByRecursion}
-use Rattle.mf_base.specs.declared.fault.Fault.{Fault}
 use Rattle.mf_base.specs.declared.fault.Fault.TheVariants.{F20}
 use Rattle.mf_office.specs.declared.caller.Caller.{Caller}
-use Rattle.mf_model.specs.declared.request.Call.{Call}
-use Rattle.mf_model.specs.declared.reply.Reply.{Reply}
 use Rattle.mf_model.specs.Institution.{Institution}
-use Rattle.mf_model.specs.Desk.{outcome, change_in}
-use Rattle.mf_model.specs.Run.{Line, answer, next, answers, last, NoneGivenUp}
-use Rattle.mf_model.specs.Store.{left_by, left_after}
+use Rattle.mf_model.specs.Run.{Line, answers, last, NoneGivenUp}
+use Rattle.mf_model.specs.Store.{left_after}
+use Rattle.mf_desk.specs.Runs.{Calls}
 use Rattle.mf_sheet_lines.specs.declared.results.SheetResult.{SheetResult}
 use Rattle.mf_sheet_lines.specs.declared.results.SheetResult.TheVariants.{Refused}
 use Rattle.mf_sheet.specs.Lines.{call_by, result_of}
@@ -25,20 +22,9 @@ OnlyF20GivesUp (l ∷ ls) [] = Unit {0}
 OnlyF20GivesUp (l ∷ ls) (result ∷ results) = (result ≢ Refused F20 → l.given_up ≡ false) × OnlyF20GivesUp ls results
 
 module _ {S : Type 0} (stands : S → Institution → Type 0) (clean : S → Type 0) (leaves : S → List Institution → Type 0) where
-  -- A line of a run on the institution was answered: this is told of its reply, and the store stands for what follows.
-  pub record AnswersLine (told : Result Reply Fault → Type 0) (l : Line) (i : Institution) (old new : S) : Type 0 where
-    pub replied : told (answer l i)
-    pub follows : stands new (next l i)
-    pub stop : (is : List Institution) → leaves old is → leaves new (left_by (change_in (outcome l.call i)) l.given_up i is)
-
-  -- A call was answered. Whether it was given up is known afterwards.
-  pub record Calls (told : Result Reply Fault → Type 0) (call : Call) (old new : S) : Type 0 where
-    pub premise : clean new → clean old
-    pub answered : clean new → (i : Institution) → stands old i → (given_up : Bool) × AnswersLine told (record { call = call; given_up = given_up }) i old new
-
   -- the store answers a line of these fields with this result
   abbrev pub AnswersFields : Caller → S → List (List ℕ) → SheetResult → S → Type 0
-  AnswersFields c old fields result new = Calls (λ r. result ≡ result_of r) (call_by c fields) old new
+  AnswersFields c old fields result new = Calls stands clean leaves (λ r. result ≡ result_of r) (call_by c fields) old new
 
   -- The results are those of a run over the lines on the institution, and the store stands for what follows. A line is given up only where its result is F20, so where none is, no line is.
   pub record RunsOn (c : Caller) (i : Institution) (rows : List (List (List ℕ))) (old : S) (results : List SheetResult) (new : S) : Type 0 where

@@ -1,9 +1,9 @@
 // A line of a sheet, answered over a store.
 ghost use Rattle.std.specs.Prelude.{◌≡◌, IfOk, IfErr};
 ghost use Rattle.mf_model.specs.Sound.{IsInRange};
+ghost use Rattle.mf_desk.specs.Runs.{Calls};
 ghost use Rattle.mf_sheet_lines.specs.Lines.{IsLineInRange};
 ghost use Rattle.mf_sheet.specs.Lines.{asked_by, told_by, call_of, result_of, outcome_of};
-ghost use Rattle.mf_sheet.specs.Runs.{Calls};
 
 use mf_base::Fault;
 use mf_desk::answer;

@@ -2,8 +2,8 @@ use Rattle.std.proofs.Common.{◌≡◌, Some, ap, ◌∙◌, subst, rules}
 use Rattle.mf_base.specs.declared.fault.Fault.TheVariants.{F20}
 use Rattle.mf_model.specs.declared.request.Request.{Request}
 use Rattle.mf_sheet.specs.Lines.{told_by, result_of, outcome_of}
-use Rattle.mf_sheet.specs.Runs.{Calls}
-use Rattle.mf_sheet.proofs.Calling.{told_of_answer}
+use Rattle.mf_desk.specs.Runs.{Calls}
+use Rattle.mf_desk.proofs.Calling.{told_of_answer}
 use Rattle.mf_sheet.proofs.answering.answered.Goals as goal
 
 pub returns : goal.returns

@@ -1,0 +1,21 @@
+-- Calls that the desk answered, as lines of a run on the institution that its store stands for.
+use Rattle.std.specs.Prelude.{◌≡◌, Bool, List, Result}
+use Rattle.mf_base.specs.declared.fault.Fault.{Fault}
+use Rattle.mf_model.specs.declared.request.Call.{Call}
+use Rattle.mf_model.specs.declared.reply.Reply.{Reply}
+use Rattle.mf_model.specs.Institution.{Institution}
+use Rattle.mf_model.specs.Desk.{outcome, change_in}
+use Rattle.mf_model.specs.Run.{Line, answer, next}
+use Rattle.mf_model.specs.Store.{left_by}
+
+module _ {S : Type 0} (stands : S → Institution → Type 0) (clean : S → Type 0) (leaves : S → List Institution → Type 0) where
+  -- A line of a run on the institution was answered: this is told of its reply, and the store stands for what follows.
+  pub record AnswersLine (told : Result Reply Fault → Type 0) (l : Line) (i : Institution) (old new : S) : Type 0 where
+    pub replied : told (answer l i)
+    pub follows : stands new (next l i)
+    pub stop : (is : List Institution) → leaves old is → leaves new (left_by (change_in (outcome l.call i)) l.given_up i is)
+
+  -- A call was answered. Whether it was given up is known afterwards.
+  pub record Calls (told : Result Reply Fault → Type 0) (call : Call) (old new : S) : Type 0 where
+    pub premise : clean new → clean old
+    pub answered : clean new → (i : Institution) → stands old i → (given_up : Bool) × AnswersLine told (record { call = call; given_up = given_up }) i old new
