@@ -132,42 +132,31 @@ fn messages_that_are_read(rt: HostRuntime) -> Result<(), Fail> {
 }
 
 #[test]
+fn fields_that_are_refused(rt: HostRuntime) -> Result<(), Fail> {
+    for (fields, body) in [
+        ("", ""),
+        ("X-Staff: 1/1\r\nx-staff: 1/1\r\n", ""),
+        ("X-Staff: 1/1\r\nContent-Length: 27, 27\r\n", ""),
+        (
+            "X-Staff: 1/1\r\nContent-Length: 1\r\nContent-Length: 1\r\n",
+            "a",
+        ),
+        ("X-Staff: 1/1\r\nContent-Length: +5\r\n", "abcde"),
+        ("X-Staff: 1/1\r\nContent-Length:\r\n", ""),
+        ("X-Staff: 1/1\r\nContent-Length: 00000000001\r\n", "a"),
+        ("X-Staff: 1/1\r\nContent-Length: 1048577\r\n", ""),
+        ("X-Staff: 1/1\r\nTransfer-Encoding: identity\r\n", ""),
+    ] {
+        let stream = format!(in rt.alloc(); "GET /a HTTP/1.1\r\n{fields}\r\n{body}")?;
+        assert_told(&rt, rt.alloc(), stream.as_bytes(), "F1")?;
+    }
+    Ok(())
+}
+
+#[test]
 fn messages_that_are_refused(rt: HostRuntime) -> Result<(), Fail> {
     for (stream, expected) in [
-        ("GET /offices HTTP/1.1\r\n\r\n", "F1"),
         ("HEAD /offices HTTP/1.1\r\n\r\n", "F1 to HEAD"),
-        (
-            "GET /a HTTP/1.1\r\nX-Staff: 1/1\r\nx-staff: 1/1\r\n\r\n",
-            "F1",
-        ),
-        (
-            "GET /a HTTP/1.1\r\nX-Staff: 1/1\r\nContent-Length: 27, 27\r\n\r\n",
-            "F1",
-        ),
-        (
-            "GET /a HTTP/1.1\r\nX-Staff: 1/1\r\nContent-Length: 1\r\nContent-Length: 1\r\n\r\na",
-            "F1",
-        ),
-        (
-            "GET /a HTTP/1.1\r\nX-Staff: 1/1\r\nContent-Length: +5\r\n\r\nabcde",
-            "F1",
-        ),
-        (
-            "GET /a HTTP/1.1\r\nX-Staff: 1/1\r\nContent-Length:\r\n\r\n",
-            "F1",
-        ),
-        (
-            "GET /a HTTP/1.1\r\nX-Staff: 1/1\r\nContent-Length: 00000000001\r\n\r\na",
-            "F1",
-        ),
-        (
-            "GET /a HTTP/1.1\r\nX-Staff: 1/1\r\nContent-Length: 1048577\r\n\r\n",
-            "F1",
-        ),
-        (
-            "GET /a HTTP/1.1\r\nX-Staff: 1/1\r\nTransfer-Encoding: identity\r\n\r\n",
-            "F1",
-        ),
         ("GET /a HTTP/1.2\r\nX-Staff: 1/1\r\n\r\n", "F1"),
         ("GET /a HTTP/2.0\r\nX-Staff: 1/1\r\n\r\n", "F1"),
         ("POST /clients HTTP/1.1\r\nX-Sta", "F1"),

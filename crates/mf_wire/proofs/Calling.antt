@@ -1,5 +1,5 @@
 -- From the desk's answer to the text of a reply.
-use Rattle.std.proofs.Common.{◌≡◌, inl, inr, ℕ, ◌≤◌, nat_le, Bool, true, false, cond, List, Option, Some, None, Result, Ok, Err, refl, sym, ap, ◌∙◌, subst, arith}
+use Rattle.std.proofs.Common.{◌≡◌, ℕ, ◌≤◌, nat_le, Bool, true, false, cond, List, Option, Some, None, Result, Err, sym, ap, ◌∙◌, subst, arith}
 use Rattle.std.specs.Prelude.{◌&&◌, is_some, option_map, option_and_then, length, ◌∷◌}
 use Rattle.mf_base.specs.declared.fault.Fault.{Fault}
 use Rattle.mf_base.specs.declared.fault.Fault.TheVariants.{F20}
@@ -12,52 +12,15 @@ use Rattle.mf_model.specs.declared.reply.Reply.{Reply}
 use Rattle.mf_model.specs.Institution.{Institution, Change, after, after_maybe}
 use Rattle.mf_model.specs.Desk.{Outcome, flaw_fault, outcome, reply, reply_in, change_in}
 use Rattle.mf_model.specs.Store.{left_by}
-use Rattle.mf_desk.specs.Answers.{Tells, Changes, call_of as call_by}
+use Rattle.mf_desk.specs.Answers.{Tells, call_of as call_by}
+pub use Rattle.mf_desk.proofs.Calling.{told_of_answer}
 use Rattle.mf_office.specs.Texts.{caller_of}
 use Rattle.mf_office.specs.declared.caller.Caller.{Caller}
 use Rattle.mf_wire_requests.specs.RequestLine.{Parts, after_caller, parts_after, parts_of, split_space, is_token}
 use Rattle.mf_wire_requests.specs.Requests.{request_of, asked_in, call_of_parts, call_of}
-use Rattle.mf_wire.specs.Runs.{AnswersLine, Calls}
-
-refused_keeps : (o : Outcome) (f : Fault) → reply_in o ≡ Err f → change_in o ≡ None
-refused_keeps (Err e) f h = refl
-refused_keeps (Ok p) f h = absurd (cc)
+use Rattle.mf_wire.specs.Runs.{Calls}
 
 module _ {S : Type 0} (stands : S → Institution → Type 0) (clean : S → Type 0) (leaves : S → List Institution → Type 0) where
-  -- The answer of the desk, told of a line. What shows a reply refuses it for want of memory alone.
-  pub told_of_answer : {T : Type 0} (shows : Reply → Result T Fault → Type 0) (told : Result Reply Fault → Type 0) (call : Call) (old new : S) (result : Result T Fault)
-      → ((t : T) (r : Reply) → result ≡ Ok t → shows r (Ok t) → told (Ok r)) → ((f : Fault) → result ≡ Err f → told (Err f)) → ((r : Reply) (f : Fault) → shows r (Err f) → f ≡ F20)
-      → Tells stands clean leaves shows (reply call) old new result → Changes stands clean leaves {T = T} call old new result → Calls stands clean leaves told call old new
-  told_of_answer {T = T} shows told call old new (Ok t) ok err f20 s a = record {
-    premise = a.premise;
-    answered = λ c i h. let w = s.shown c i h in
-        (false, record { replied = subst told (sym w.1) (ok t w.0 refl w.2); follows = a.made c i h; stop = λ is l. a.stop c i is h l });
-  }
-  told_of_answer {T = T} shows told call old new (Err f) ok err f20 s a = record {
-    premise = a.premise;
-    answered = λ c i h. elim (s.refused c i h) [
-      | inl e ↦ given c i h e
-      | inr w ↦ elim w [
-        | inl e ↦ refused c i h e
-        | inr v ↦ given c i h (f20 v.0 f v.2)
-      ]
-    ];
-  }
-    where
-      given : (c : clean new) (i : Institution) (h : stands old i) → f ≡ F20 → (given_up : Bool) × AnswersLine stands clean leaves told (record { call = call; given_up = given_up }) i old new
-      given c i h e = (true, record { replied = subst (λ (x : Fault). told (Err x)) e (err f refl); follows = a.same c i h; stop = λ is l. a.stop_refused c i is h l })
-
-      refused : (c : clean new) (i : Institution) (h : stands old i) → reply call i ≡ Err f → (given_up : Bool) × AnswersLine stands clean leaves told (record { call = call; given_up = given_up }) i old new
-      refused c i h r =
-          let none : change_in (outcome call i) ≡ None = refused_keeps (outcome call i) f r in (
-            false,
-            record {
-              replied = subst told (sym r) (err f refl);
-              follows = subst (λ (k : Option Change). stands new (after_maybe k i)) (sym none) (a.same c i h);
-              stop = λ is l. subst (λ (k : Option Change). leaves new (left_by k false i is)) (sym none) (subst (λ (k : Option Change). leaves new (left_by k true i is)) none (a.stop_refused c i is h l));
-            },
-          )
-
   -- what reads as no request is refused, and nothing is changed
   pub told_malformed : (told : Result Reply Fault → Type 0) (call : Call) (s : S) (flaw : Flaw) → call.request ≡ Unreadable flaw → told (Err (flaw_fault flaw)) → Calls stands clean leaves told call s s
   told_malformed told call s flaw e t =

@@ -4,3 +4,7 @@ pub mod Calling
 pub mod Ran
 pub mod Agreeing
 pub mod Ending
+pub mod Responses
+pub mod Alone
+pub mod HeadRefused
+pub mod Served

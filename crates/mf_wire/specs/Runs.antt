@@ -1,17 +1,16 @@
 -- Runs of request lines over a store, in the words of the institution that it stands for.
-use Rattle.std.specs.Prelude.{◌≡◌, ℕ, Bool, List, map, Result}
+use Rattle.std.specs.Prelude.{◌≡◌, ℕ, List, map, Result}
 use Rattle.mf_office.specs.declared.caller.Caller.{Caller}
 use Rattle.mf_office.specs.Texts.{IsCaller}
 use Rattle.mf_office.specs.Written.{caller_text}
 use Rattle.mf_base.specs.declared.fault.Fault.{Fault}
-use Rattle.mf_model.specs.declared.request.Call.{Call}
 use Rattle.mf_model.specs.declared.reply.Reply.{Reply}
 use Rattle.mf_model.specs.Institution.{Institution}
 use Rattle.mf_model.specs.Tree.{view}
-use Rattle.mf_model.specs.Desk.{outcome, change_in}
-use Rattle.mf_model.specs.Run.{Line, answer, next, answers, last, from_office, from_caller, touching, play, play_replies, given_up, but_given_up}
+use Rattle.mf_model.specs.Run.{Line, answers, last, from_office, from_caller, touching, play, play_replies, given_up, but_given_up}
 use Rattle.mf_model.specs.Answering.{all_answered}
-use Rattle.mf_model.specs.Store.{left_by, left_after}
+use Rattle.mf_model.specs.Store.{left_after}
+pub use Rattle.mf_desk.specs.Runs.{AnswersLine, Calls}
 use Rattle.mf_wire_replies.specs.Shown.{shown_line}
 use Rattle.mf_wire_requests.specs.Requests.{call_of}
 use Rattle.mf_wire.specs.Senders.{is_sent_by, is_sent_from, texts_for, NoneIsF20}
@@ -37,17 +36,6 @@ pub record Isolated (i : Institution) (ls : List Line) (lines texts : List (List
   pub all_own_texts : (c : Caller) → IsCaller c → NoneIsF20 (texts_for (is_sent_by (caller_text c.office c.staff)) lines texts) → texts_for (is_sent_by (caller_text c.office c.staff)) lines texts ≡ map shown_line (own_play c ls i)
 
 module _ {S : Type 0} (stands : S → Institution → Type 0) (clean : S → Type 0) (leaves : S → List Institution → Type 0) where
-  -- A line of a run on the institution was answered: this is told of its reply, and the store stands for what follows.
-  pub record AnswersLine (told : Result Reply Fault → Type 0) (l : Line) (i : Institution) (old new : S) : Type 0 where
-    pub replied : told (answer l i)
-    pub follows : stands new (next l i)
-    pub stop : (is : List Institution) → leaves old is → leaves new (left_by (change_in (outcome l.call i)) l.given_up i is)
-
-  -- A call was answered. Whether it was given up is known afterwards.
-  pub record Calls (told : Result Reply Fault → Type 0) (call : Call) (old new : S) : Type 0 where
-    pub premise : clean new → clean old
-    pub answered : clean new → (i : Institution) → stands old i → (given_up : Bool) × AnswersLine told (record { call = call; given_up = given_up }) i old new
-
   -- These texts are the replies of a run over the lines on the institution, and the store stands for what follows. What each office is told is isolated. Where no text is F20's, the run is that of the lines' calls with none given up.
   pub record RunsOn (i : Institution) (lines : List (List ℕ)) (old : S) (texts : List (List ℕ)) (new : S) : Type 0 where
     pub run : List Line

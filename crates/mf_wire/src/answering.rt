@@ -17,7 +17,7 @@ use mf_office::Caller;
 use mf_wire_lines::LineDesk;
 use mf_wire_replies::{body_text, line_text, status};
 use mf_wire_requests::{LineParts, Routes, is_token, line_parts, read_request};
-use std::alloc::Global;
+use std::alloc::{AllocError, Global};
 
 /// Answers a request in its parts. The caller and the method are looked at first, then the route and the rest.
 fn answer_parts<S: InstitutionStore, T: Drop, F: FnOnce(&Reply) -> Result<T, Fault> + Drop>(
@@ -72,6 +72,28 @@ fn status_and_body(alloc: Global, reply: &Reply) -> Result<(u16, String), Fault>
     Ok((status(reply), body))
 }
 
+/// The status and the body of the reply to a request in its parts.
+pub(crate) fn answer_text_parts<S: InstitutionStore>(
+    alloc: Global,
+    routes: &Routes,
+    store: &mut S,
+    parts: LineParts<'_>,
+) -> Result<(u16, String), Fault>
+    ensures calls { Calls S.stands S.clean S.leaves (IsText result) (call_of_parts (parts_now parts.entry)) store.old store.new }
+    ensures refusal { IfErr result (λ f. f ≢ Fault.F19) }
+{
+    answer_parts(
+        alloc,
+        routes,
+        store,
+        parts,
+        |reply: &Reply| -> Result<(u16, String), Fault>
+            ensures ok { IfOk result (λ t. (t.0 ≡ reply_status reply.now) × (string_bytes t.1 ≡ reply_body reply.now)) }
+            ensures err { IfErr result (λ f. f ≡ Fault.F20) }
+        { status_and_body(alloc, reply) },
+    )
+}
+
 /// The status and the body of the reply to a request, by the texts of its caller, method, path and body. At `Err`
 /// the refusal, whose text is that of `fault_text`, and nothing is changed.
 pub fn answer_text<S: InstitutionStore>(
@@ -95,22 +117,23 @@ pub fn answer_text<S: InstitutionStore>(
         path,
         body,
     };
-    answer_parts(
-        alloc,
-        &routes,
-        store,
-        parts,
-        |reply: &Reply| -> Result<(u16, String), Fault>
-            ensures ok { IfOk result (λ t. (t.0 ≡ reply_status reply.now) × (string_bytes t.1 ≡ reply_body reply.now)) }
-            ensures err { IfErr result (λ f. f ≡ Fault.F20) }
-        { status_and_body(alloc, reply) },
-    )
+    answer_text_parts(alloc, &routes, store, parts)
 }
 
-/// The desk as a stream of lines meets it, with its routes made once for a run.
+/// The desk as it is reached by bytes, with its routes made once: for a run, or for a server.
 #[derive(Drop)]
 pub struct Desk {
-    pub routes: Routes,
+    pub(crate) routes: Routes,
+}
+
+impl Desk {
+    /// A desk. It fails only for want of memory.
+    pub fn new(alloc: Global) -> Result<Desk, AllocError> {
+        match Routes::new(alloc) {
+            Ok(routes) => Ok(Desk { routes }),
+            Err(_) => Err(AllocError),
+        }
+    }
 }
 
 impl<S: InstitutionStore> LineDesk<S> for Desk {

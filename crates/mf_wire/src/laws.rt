@@ -1,18 +1,27 @@
-// Laws of whole runs, in bytes. Each function does nothing: its contract is the law.
-ghost use Rattle.std.specs.Prelude.{◌≡◌, ℕ, List, Result};
+// Laws of whole runs and of single messages, in bytes. Each function does nothing: its contract is the law.
+ghost use Rattle.std.specs.Prelude.{◌≡◌, ◌≢◌, ℕ, Bool, List, Result, Err, Some, true};
 ghost use Rattle.std.specs.List.{AllByRecursion, concat};
 ghost use Rattle.mf_office.specs.declared.account.Account.{Account};
 ghost use Rattle.mf_office.specs.declared.caller.Caller.{Caller};
+ghost use Rattle.mf_model.specs.declared.request.Call.{Call};
+ghost use Rattle.mf_model.specs.declared.request.Flaw.{Flaw};
+ghost use Rattle.mf_model.specs.declared.request.Request.TheVariants.{Unreadable};
 ghost use Rattle.mf_model.specs.declared.reply.Reply.{Reply};
 ghost use Rattle.mf_model.specs.Institution.{Institution};
 ghost use Rattle.mf_model.specs.Desk.{reply};
+ghost use Rattle.mf_model.specs.Tree.{view};
 ghost use Rattle.mf_model.specs.Run.{Line, Alike};
 ghost use Rattle.mf_model.specs.Unseen.{Asked, IsUnseen, asked_of, sent};
-ghost use Rattle.mf_wire_replies.specs.Shown.{shown_line};
+ghost use Rattle.mf_wire_messages.specs.Messages.{is_head, Request as Message};
+ghost use Rattle.mf_wire_messages.specs.Responses.{refusal};
+ghost use Rattle.mf_wire_replies.specs.Shown.{shown_line, IsText};
 ghost use Rattle.mf_wire_requests.specs.Requests.{call_of};
 ghost use Rattle.mf_wire.specs.Agreeing.{Agree};
-ghost use Rattle.mf_wire.specs.Runs.{RunsOn, texts_of};
+ghost use Rattle.mf_wire.specs.Exchanges.{Exchange, AnswersAll, ServesOn};
+ghost use Rattle.mf_wire.specs.OneCall.{IsolatedCall};
+ghost use Rattle.mf_wire.specs.Runs.{RunsOn, Calls, texts_of};
 ghost use Rattle.mf_wire.specs.Senders.{IsOneLine};
+ghost use Rattle.mf_wire.specs.Serving.{AnswersMessage, call_of_message, shown_response, text_response};
 
 use mf_base::Fault;
 use mf_model::{InstitutionStore, laws};
@@ -37,11 +46,74 @@ pub fn two_runs_agree<S: InstitutionStore, T: InstitutionStore>()
 {}
 
 /// A line that asks for a client or a loan which its sender may not see gets the same text as one that asks for one
-/// that isn't there.
+/// that isn't there, and a message the same response.
 pub fn hidden_and_missing_read_alike()
-    ensures { (asked : Asked) (a b : Account) (c : Caller) (i : Institution) (line other : List ℕ) →
+    ensures lines { (asked : Asked) (a b : Account) (c : Caller) (i : Institution) (line other : List ℕ) →
         IsUnseen c asked a i → IsUnseen c asked b i → call_of line ≡ sent c (asked_of asked a) → call_of other ≡ sent c (asked_of asked b) →
         shown_line (reply (call_of line) i) ≡ shown_line (reply (call_of other) i) }
+    ensures messages { (asked : Asked) (a b : Account) (c : Caller) (i : Institution) (message other : Message) (to_head : Bool) →
+        IsUnseen c asked a i → IsUnseen c asked b i → call_of_message (Some message) ≡ sent c (asked_of asked a) → call_of_message (Some other) ≡ sent c (asked_of asked b) →
+        shown_response to_head (reply (call_of_message (Some message)) i) ≡ shown_response to_head (reply (call_of_message (Some other)) i) }
 {
     laws::hidden_is_missing();
 }
+
+/// A message is isolated. Take what `serve_one` says of it: its caller is told the reply of what their office sees,
+/// whatever else the institution holds, or F20. What an office sees afterwards is what the call, where it touches the
+/// office, makes of what it saw.
+pub fn one_message_is_isolated<S: InstitutionStore>()
+    ensures { (i : Institution) (bytes text : List ℕ) (old new : S) →
+        (served : AnswersMessage S.stands S.clean S.leaves bytes old text new) → S.clean new → S.stands old i →
+        IsolatedCall S.stands (λ r. text ≡ shown_response served.to_head r) (call_of_message served.message) i new }
+{
+    laws::isolation();
+}
+
+/// The same of what `answer_text` has answered.
+pub fn one_text_is_isolated<S: InstitutionStore>(answered: &Result<(u16, String), Fault>)
+    ensures { (i : Institution) (call : Call) (old new : S) →
+        Calls S.stands S.clean S.leaves (IsText answered.now) call old new → S.clean new → S.stands old i →
+        IsolatedCall S.stands (IsText answered.now) call i new }
+{
+    laws::isolation();
+}
+
+/// Messages that are answered one after another, as a server answers them, are a run: what each office sees in the end
+/// is its touching list played on what it saw first, and its callers are told by their responses what that play answers.
+pub fn served_messages_are_isolated<S: InstitutionStore>()
+    ensures { (i : Institution) (exchanges : List Exchange) (old new : S) →
+        AnswersAll S.stands S.clean S.leaves old exchanges new → S.clean new → S.stands old i → ServesOn S.stands S.clean S.leaves i exchanges old new }
+{
+    laws::isolation();
+}
+
+/// Two stores, of any two types, whose institutions the caller's office sees alike answer the same message by the same
+/// bytes, whatever else they hold, unless one gives up.
+pub fn two_messages_agree<S: InstitutionStore, T: InstitutionStore>()
+    ensures { (c : Caller) (i j : Institution) (bytes text other : List ℕ) (old new : S) (before after : T) →
+        (one : AnswersMessage S.stands S.clean S.leaves bytes old text new) → AnswersMessage T.stands T.clean T.leaves bytes before other after →
+        S.clean new → S.stands old i → T.clean after → T.stands before j →
+        (call_of_message one.message).caller ≡ Some c → view c.office i ≡ view c.office j →
+        text ≢ refusal Fault.F20 one.to_head → other ≢ refusal Fault.F20 one.to_head → text ≡ other }
+{
+    laws::isolation();
+}
+
+/// So a message is answered by the status and the body that `answer_text` gives to its staff, method, target and body.
+pub fn messages_and_texts_agree<S: InstitutionStore, T: InstitutionStore>(
+    answered: &Result<(u16, String), Fault>,
+)
+    ensures { (c : Caller) (i j : Institution) (bytes text : List ℕ) (old new : S) (before after : T) →
+        (one : AnswersMessage S.stands S.clean S.leaves bytes old text new) →
+        Calls T.stands T.clean T.leaves (IsText answered.now) (call_of_message one.message) before after →
+        S.clean new → S.stands old i → T.clean after → T.stands before j →
+        (call_of_message one.message).caller ≡ Some c → view c.office i ≡ view c.office j →
+        text ≢ refusal Fault.F20 one.to_head → answered.now ≢ Err Fault.F20 → text ≡ text_response one.to_head answered.now }
+{
+    laws::isolation();
+}
+
+/// HEAD is a method of no route: a message to it is refused as malformed, for want of a route or for its method.
+pub fn head_is_refused()
+    ensures { (message : Message) → is_head message.method ≡ true → (flaw : Flaw) × ((call_of_message (Some message)).request ≡ Unreadable flaw) }
+{}

@@ -8,7 +8,6 @@ use crate::answering::Desk;
 use mf_base::{Cause, StreamFault};
 use mf_model::{InstitutionStore, laws};
 use mf_wire_lines::{Sink, Source, run_lines};
-use mf_wire_requests::Routes;
 use std::alloc::Global;
 
 /// Answers each request line of a stream over a store, and writes the reply of each before the next is answered. It
@@ -42,11 +41,11 @@ pub fn run<S: InstitutionStore, R: Source, W: Sink>(
     ensures memory { IfErr result (λ f. f.cause ≡ cause.Memory → (source.new ≡ source.old) × (sink.new ≡ sink.old)) }
 {
     laws::isolation();
-    let Ok(routes) = Routes::new(alloc) else {
+    let Ok(desk) = Desk::new(alloc) else {
         return Err(StreamFault {
             answered: 0,
             cause: Cause::Memory,
         });
     };
-    run_lines(alloc, &Desk { routes }, store, source, sink)
+    run_lines(alloc, &desk, store, source, sink)
 }

@@ -1,14 +1,14 @@
 -- A message by its head and the bytes after it.
-use Rattle.std.proofs.Common.{◌≡◌, ◌≢◌, ℕ, ◌<◌, ◌≤◌, List, [], ◌∷◌, ◌++◌, refl, sym, ap, ◌∙◌, subst, arith, length, length-append, take, drop, map, append_assoc, append-nil, Option, None, Some, true, false, cond, nat_le, option_and_then}
+use Rattle.std.proofs.Common.{◌≡◌, ◌≢◌, inl, inr, ℕ, ◌<◌, ◌≤◌, List, [], ◌∷◌, ◌++◌, refl, sym, ap, ap₂, ◌∙◌, subst, arith, length, length-append, take, drop, map, append_assoc, append-nil, Option, None, Some, Bool, true, false, cond, nat_le, option_and_then}
 use Rattle.std.proofs.lemmas.List.{take-append-le, length-take-le, length-map}
 use Rattle.std.specs.Io.KnownBytes.{Consumes, IsAtEnd}
 use Rattle.httparse.specs.Grammar.{RequestHead}
 use Rattle.httparse.specs.Spans.{IsRequestAt, IsRequestWithin, name_and_value, header_bytes}
 use Rattle.httparse.specs.declared.spans.HeaderSpan.{HeaderSpan}
 use Rattle.httparse.specs.declared.spans.RequestSpans.{RequestSpans}
-use Rattle.httparse.proofs.GrammarLemmas.{ReadsRequest-append}
+use Rattle.httparse.proofs.GrammarLemmas.{ReadsRequest-append, request_unique}
 use Rattle.mf_wire_messages.specs.Heads.{ReadsHead}
-use Rattle.mf_wire_messages.specs.Messages.{Request, frame_of, request_within, request_of}
+use Rattle.mf_wire_messages.specs.Messages.{Request, frame_of, request_within, request_of, is_head, IsMessage}
 use Rattle.mf_wire_messages.specs.Arrivals.{following, Tells, Arrives}
 use Rattle.mf_wire_messages.specs.declared.reading.Arrival.{Arrival}
 use Rattle.std.proofs.KnownBytes.{Consumes-trans}
@@ -74,3 +74,28 @@ same_request staff method target body verb path content p q r i = Some (made sta
 -- a vector whose slice was written as a whole
 pub written : (size : ℕ) (new old : List ℕ) → length new ≡ size → take size (new ++ drop (length new) old) ≡ new
 written size new old e = ap (λ n. take n (new ++ drop (length new) old)) (sym e) ∙ take-append_seam new (drop (length new) old)
+
+-- the method of a request is that of its head
+method_is : (head : RequestHead) (rest : List ℕ) (request : Request) → request_of head rest ≡ Some request → head.method ≡ request.method
+method_is head rest request e = framed (frame_of (map name_and_value head.fields)) e
+  where
+    cut_or_whole : (frame : List ℕ × ℕ) (whole : Bool) → cond whole (Some (made frame.0 head.method head.target (take frame.1 rest))) None ≡ Some request → head.method ≡ request.method
+    cut_or_whole frame true e = let same : made frame.0 head.method head.target (take frame.1 rest) ≡ request = cc in ap (λ (r : Request). r.method) same
+    cut_or_whole frame false e = absurd (cc)
+
+    framed : (frame : Option (List ℕ × ℕ)) → option_and_then (request_within head rest) frame ≡ Some request → head.method ≡ request.method
+    framed None e = absurd (cc)
+    framed (Some frame) e = cut_or_whole frame (nat_le frame.1 (length rest)) e
+
+-- a request that was received is the message of the stream
+pub received : (bytes : List ℕ) (request : Request) → (head : RequestHead) × (rest : List ℕ) × ReadsHead bytes head rest × (request_of head rest ≡ Some request) → IsMessage bytes (Some request) (is_head request.method)
+received bytes request t = inr (t.0, t.1, t.2, sym t.3, sym (ap is_head (method_is t.0 t.1 request t.3)))
+
+-- the bytes of a stream are no two messages
+pub one_message : (bytes : List ℕ) (message other : Option Request) (to_head other_to_head : Bool) → IsMessage bytes message to_head → IsMessage bytes other other_to_head → (message ≡ other) × (to_head ≡ other_to_head)
+one_message bytes message other to_head other_to_head (inl a) (inl b) = (a.2 ∙ sym b.2, a.3 ∙ sym b.3)
+one_message bytes message other to_head other_to_head (inl a) (inr b) = absurd (a.1 b.0 b.1 b.2)
+one_message bytes message other to_head other_to_head (inr a) (inl b) = absurd (b.1 a.0 a.1 a.2)
+one_message bytes message other to_head other_to_head (inr a) (inr b) =
+    let same = request_unique bytes a.0 b.0 a.1 b.1 a.2.reads b.2.reads in
+    (a.3 ∙ ap₂ request_of same.0 same.1 ∙ sym b.3, a.4 ∙ ap (λ (head : RequestHead). is_head head.method) same.0 ∙ sym b.4)

@@ -1,11 +1,12 @@
 -- What the fields of a head say, and the message that a head and the bytes after it are.
-use Rattle.std.specs.Prelude.{ℕ, Bool, ◌&&◌, cond, List, [], ◌∷◌, length, take, map, nat_le, codes, Option, Some, None, option_map, option_and_then}
+use Rattle.std.specs.Prelude.{◌≡◌, ◌≢◌, ℕ, ◌⊎◌, Bool, false, ◌&&◌, cond, List, [], ◌∷◌, length, take, map, nat_le, codes, Option, Some, None, option_map, option_and_then}
 use Rattle.std.specs.Char.{is_ascii_digit}
 use Rattle.std.specs.List.{list_all}
 use Rattle.std.specs.Str.{bytes_eq, str_eq_ignore_ascii_case}
 use Rattle.std.specs.Str.Parse.{digits_value}
 use Rattle.httparse.specs.Grammar.{RequestHead}
 use Rattle.httparse.specs.Spans.{name_and_value}
+use Rattle.mf_wire_messages.specs.Heads.{ReadsHead, HasNoHead}
 
 -- who asks, by which method, at which target, and with what body
 pub record Request : Type 0 where
@@ -63,3 +64,9 @@ request_of head rest = option_and_then (request_within head rest) (frame_of (map
 -- the method asks for a reply without its body
 abbrev pub is_head : List ℕ → Bool
 is_head method = bytes_eq method (codes "HEAD")
+
+-- Which message the bytes of a stream are, whatever follows it: a request, or none where it is malformed; and whether its reply is without its body. Bytes that begin no head are malformed, and are not to HEAD.
+abbrev pub IsMessage : List ℕ → Option Request → Bool → Type 0
+IsMessage bytes message to_head =
+    ((bytes ≢ []) × HasNoHead bytes × (message ≡ None) × (to_head ≡ false))
+    ⊎ ((head : RequestHead) × (rest : List ℕ) × ReadsHead bytes head rest × (message ≡ request_of head rest) × (to_head ≡ is_head head.method))

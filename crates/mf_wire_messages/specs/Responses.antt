@@ -1,21 +1,17 @@
 -- Responses, as bytes.
-use Rattle.std.specs.Prelude.{ℕ, ◌==◌, ◌<◌, Bool, cond, List, [], ◌++◌, length, take, codes, decimal, Option}
+use Rattle.std.specs.Prelude.{ℕ, ◌<◌, Bool, ◌&&◌, cond, List, [], ◌++◌, length, take, nat_le, nat_lt, codes, decimal, Option, unwrap_or}
 use Rattle.std.specs.Io.KnownBytes.{Appends}
+use Rattle.http.specs.StatusCode.{reason_phrase}
 use Rattle.mf_base.specs.declared.fault.Fault.{Fault}
 use Rattle.mf_wire_lines.specs.Replies.{fault_status, fault_body}
 
--- the phrase of a status; one that no reply has is without a phrase
+-- the number is a status: it has three digits
+abbrev pub is_status : ℕ → Bool
+is_status n = nat_le 100 n && nat_lt n 1000
+
+-- the phrase that belongs to a status, where one does
 abbrev pub phrase_of : ℕ → List ℕ
-phrase_of status =
-    cond (status == 200) (codes "OK")
-    (cond (status == 201) (codes "Created")
-    (cond (status == 400) (codes "Bad Request")
-    (cond (status == 401) (codes "Unauthorized")
-    (cond (status == 403) (codes "Forbidden")
-    (cond (status == 404) (codes "Not Found")
-    (cond (status == 405) (codes "Method Not Allowed")
-    (cond (status == 409) (codes "Conflict")
-    (cond (status == 503) (codes "Service Unavailable") []))))))))
+phrase_of status = cond (is_status status) (unwrap_or (reason_phrase status) []) []
 
 -- the status line without its end
 unfoldable pub status_line : ℕ → List ℕ

@@ -3,7 +3,7 @@ use Rattle.std.specs.Prelude.{◌≡◌, ℕ, List, [], ◌∷◌, ◌++◌, cod
 use Rattle.httparse.specs.Grammar.{Field, RequestHead, crlf, print_request}
 use Rattle.mf_base.specs.declared.fault.Fault.TheVariants.{F1}
 use Rattle.mf_wire_messages.specs.Messages.{frame_of, request_of}
-use Rattle.mf_wire_messages.specs.Responses.{response, refusal}
+use Rattle.mf_wire_messages.specs.Responses.{phrase_of, response, refusal}
 
 -- a field line with a space before its value
 abbrev pub line : List ℕ → List ℕ → Field
@@ -59,3 +59,16 @@ ResponsesAreWritten =
     (response 201 (codes "{\"client\":\"0001-000001\"}") false
     ≡ codes "HTTP/1.1 201 Created\r\nContent-Type: application/json\r\nContent-Length: 24\r\nConnection: close\r\n\r\n{\"client\":\"0001-000001\"}")
     × (refusal F1 true ≡ codes "HTTP/1.1 400 Bad Request\r\nContent-Type: application/json\r\nContent-Length: 14\r\nConnection: close\r\n\r\n")
+
+-- the phrases of the statuses that replies have
+abbrev pub PhrasesAreWritten : Type 0
+PhrasesAreWritten =
+    (phrase_of 200 ≡ codes "OK")
+    × (phrase_of 201 ≡ codes "Created")
+    × (phrase_of 400 ≡ codes "Bad Request")
+    × (phrase_of 401 ≡ codes "Unauthorized")
+    × (phrase_of 403 ≡ codes "Forbidden")
+    × (phrase_of 404 ≡ codes "Not Found")
+    × (phrase_of 405 ≡ codes "Method Not Allowed")
+    × (phrase_of 409 ≡ codes "Conflict")
+    × (phrase_of 503 ≡ codes "Service Unavailable")

@@ -1,13 +1,22 @@
-//! Messages worked out by hand. The function does nothing: its contract is the law.
+//! Laws of messages, and messages worked out by hand. The functions do nothing: their contracts are the laws.
 
-ghost use Rattle.mf_wire_messages.specs.Worked.{HeadIsWritten, IsAsked, CutIsRefused, FieldsAreRefused, FieldsAreTaken, ResponsesAreWritten};
+ghost use Rattle.std.specs.Prelude.{◌≡◌, ℕ, Bool, List, Option};
+ghost use Rattle.mf_wire_messages.specs.Messages.{Request, IsMessage};
+ghost use Rattle.mf_wire_messages.specs.Worked.{HeadIsWritten, IsAsked, CutIsRefused, FieldsAreRefused, FieldsAreTaken, PhrasesAreWritten, ResponsesAreWritten};
 
-/// A message that asks for a new client, its response, and the heads that are refused.
+/// A message that asks for a new client, its response, the heads that are refused, and the phrases of responses.
 pub fn worked_messages()
     ensures head { HeadIsWritten }
     ensures asked { IsAsked }
     ensures cut { CutIsRefused }
     ensures refused { FieldsAreRefused }
     ensures taken { FieldsAreTaken }
+    ensures phrases { PhrasesAreWritten }
     ensures responses { ResponsesAreWritten }
+{}
+
+/// The bytes of a stream are no two messages.
+pub fn one_message()
+    ensures { (bytes : List ℕ) (message other : Option Request) (to_head other_to_head : Bool) →
+        IsMessage bytes message to_head → IsMessage bytes other other_to_head → (message ≡ other) × (to_head ≡ other_to_head) }
 {}

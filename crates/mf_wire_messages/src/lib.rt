@@ -11,7 +11,7 @@ mod messages;
 mod reading;
 mod responses;
 
-pub use laws::worked_messages;
+pub use laws::{one_message, worked_messages};
 pub use messages::Message;
 pub use reading::{Arrival, read_message};
 pub use responses::{write_refusal, write_reply};

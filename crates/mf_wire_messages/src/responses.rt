@@ -1,8 +1,10 @@
 // Responses, written without taking memory.
-ghost use Rattle.std.specs.Prelude.{◌≡◌, ◌≢◌, ◌++◌, OnOk, OnErr};
+ghost use Rattle.std.specs.Prelude.{◌≡◌, ◌≢◌, ◌++◌, [], unwrap_or, OnOk, OnErr};
+ghost use Rattle.http.specs.StatusCode.{reason_phrase};
 ghost use Rattle.std.specs.Io.KnownBytes.{Appends};
 ghost use Rattle.mf_wire_messages.specs.Responses.{phrase_of, status_line, sent_body, fields_and_body, response, refusal, IsCut};
 
+use http::StatusCode;
 use itoa::Buffer;
 use mf_base::Fault;
 use mf_wire_lines::{Sink, WriteFault, fault_text, put};
@@ -32,20 +34,18 @@ fn put_four<W: Sink>(
     put(sink, fourth)
 }
 
+fn phrase_of_code(code: StatusCode) -> &'static str
+    ensures { result.now ≡ unwrap_or (reason_phrase code) [] }
+{
+    code.canonical_reason().unwrap_or("")
+}
+
 fn phrase(status: u16) -> &'static str
     ensures { result.now ≡ phrase_of status }
 {
-    match status {
-        200 => "OK",
-        201 => "Created",
-        400 => "Bad Request",
-        401 => "Unauthorized",
-        403 => "Forbidden",
-        404 => "Not Found",
-        405 => "Method Not Allowed",
-        409 => "Conflict",
-        503 => "Service Unavailable",
-        _ => "",
+    match StatusCode::from_u16(status) {
+        Ok(code) => phrase_of_code(code),
+        Err(_) => "",
     }
 }
 

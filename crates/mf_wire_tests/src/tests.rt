@@ -3,6 +3,7 @@
 mod accounts;
 mod arrears;
 mod limits;
+mod messages;
 mod refused;
 mod requests;
 mod streams;

@@ -27,6 +27,9 @@ pub returns-clause-taken : goal.returns-clause-taken
 unfolding httparse_on_literals
 returns-clause-taken c = (refl, refl)
 
+pub returns-clause-phrases : goal.returns-clause-phrases
+returns-clause-phrases c = (refl, refl, refl, refl, refl, refl, refl, refl, refl)
+
 pub returns-clause-responses : goal.returns-clause-responses
 unfolding status_line fields_and_body digits
 returns-clause-responses c = (refl, refl)

@@ -1,0 +1,137 @@
+// HTTP messages over a store, one a stream.
+ghost use Rattle.std.specs.Prelude.{◌≡◌, ◌≢◌, List, ℕ, [], false, None, Some, IfOk, IfErr, IfSome, OnOk, OnErr};
+ghost use Rattle.std.specs.Io.KnownBytes.{Appends};
+ghost use Rattle.mf_base.specs.declared.fault.Cause.TheVariants as cause;
+ghost use Rattle.mf_wire_messages.specs.Arrivals.{Tells};
+ghost use Rattle.mf_wire_messages.specs.Messages.{is_head};
+ghost use Rattle.mf_wire_messages.specs.Responses.{IsCut};
+ghost use Rattle.mf_wire.specs.Runs.{Calls};
+ghost use Rattle.mf_wire.specs.Serving.{call_of_message, shown_response, text_response, AnswersMessage, EndsMessage};
+
+use crate::answering::{Desk, answer_text_parts};
+use mf_base::{Cause, Fault, StreamFault};
+use mf_model::InstitutionStore;
+use mf_wire_lines::{Sink, Source, WriteFault};
+use mf_wire_messages::{Arrival, Message, read_message, write_refusal, write_reply};
+use mf_wire_requests::LineParts;
+use std::alloc::Global;
+
+/// A response that is ready to be written: the status and the body of a success, or a refusal.
+#[derive(Drop)]
+struct Response {
+    text: Result<(u16, String), Fault>,
+    to_head: bool,
+}
+
+/// Answers a request that came in a message.
+fn answer_message<S: InstitutionStore>(
+    alloc: Global,
+    desk: &Desk,
+    store: &mut S,
+    message: &Message,
+) -> Response
+    ensures calls { Calls S.stands S.clean S.leaves (λ r. text_response result.to_head result.text ≡ shown_response result.to_head r) (call_of_message (Some message.now)) store.old store.new }
+    ensures to_head { result.to_head ≡ is_head message.now.method }
+    ensures refusal { IfErr result.text (λ f. f ≢ Fault.F19) }
+{
+    let parts = LineParts {
+        caller: message.staff(),
+        method: message.method(),
+        path: message.target(),
+        body: message.body(),
+    };
+    Response {
+        text: answer_text_parts(alloc, &desk.routes, store, parts),
+        to_head: message.is_head(),
+    }
+}
+
+/// Answers what has arrived. What is malformed is refused, and so is a request for whose body there was no room, and
+/// neither is looked up. To a stream that ended before any byte there is no response.
+fn answer_arrival<S: InstitutionStore>(
+    alloc: Global,
+    desk: &Desk,
+    store: &mut S,
+    arrival: Arrival,
+) -> Option<Response>
+    ensures silent { result ≡ None → (store.new ≡ store.old) × ((bytes : List ℕ) → Tells bytes arrival → bytes ≡ []) }
+    ensures answered { IfSome result (λ response. (bytes : List ℕ) → Tells bytes arrival →
+        AnswersMessage S.stands S.clean S.leaves bytes store.old (text_response response.to_head response.text) store.new) }
+    ensures refusal { IfSome result (λ response. IfErr response.text (λ f. f ≢ Fault.F19)) }
+{
+    match arrival {
+        Arrival::Silent => None,
+        Arrival::Received(message) => Some(answer_message(alloc, desk, store, &message)),
+        Arrival::Malformed { to_head } => Some(Response {
+            text: Err(Fault::F1),
+            to_head,
+        }),
+        Arrival::NoRoom { to_head } => Some(Response {
+            text: Err(Fault::F20),
+            to_head,
+        }),
+    }
+}
+
+/// Writes a response, or a beginning of it. It takes no memory.
+fn put_response<W: Sink>(sink: &mut W, response: &Response) -> Result<(), WriteFault>
+    requires { IfErr response.now.text (λ f. f ≢ Fault.F19) }
+    ensures ok { OnOk result (Appends (W.written sink.old) (W.written sink.new) (text_response response.now.to_head response.now.text)) }
+    ensures err { OnErr result (IsCut (W.written sink.old) (W.written sink.new) (text_response response.now.to_head response.now.text)) }
+    ensures sound { OnOk result (W.faults sink.new ≡ W.faults sink.old) }
+    ensures fault { OnErr result (W.faults sink.new ≢ W.faults sink.old) }
+{
+    match &response.text {
+        Ok((status, body)) => write_reply(sink, *status, body.as_bytes(), response.to_head),
+        Err(fault) => write_refusal(sink, *fault, response.to_head),
+    }
+}
+
+/// Answers the one HTTP message of a stream over a store, and writes its response. It gives whether there was one: a
+/// stream that ends before any byte gets no response. Bytes past the message are not looked at.
+///
+/// A message is its head, which is what `httparse` reads in at most 16,384 bytes and 64 fields, and its body. The head
+/// names the staff who ask once, in `X-Staff`, at most once the length of the body, which is at most 1,048,576 bytes,
+/// and no transfer coding. The reply is that of `answer_text` on the staff, the method, the target and the body. A
+/// message that is anything else, or is cut, is refused as malformed, and one for whose body there is no room is F20.
+/// To HEAD the body of the reply is left off, where the head was read.
+///
+/// The room for the head is made first: where it can't be, `Memory` is told, and nothing is read, answered or written.
+/// After `Read` nothing was answered or written. After `Write` the message was answered, and a beginning of its response
+/// was written. `Read` and `Write` are told only where the reader or the writer failed in this call.
+pub fn serve_one<S: InstitutionStore, R: Source, W: Sink>(
+    alloc: Global,
+    desk: &Desk,
+    store: &mut S,
+    source: &mut R,
+    sink: &mut W,
+) -> Result<bool, StreamFault>
+    ensures ends { EndsMessage (AnswersMessage S.stands S.clean S.leaves) store.old store.new (record {
+      unread = R.unread source.old;
+      left = R.unread source.new;
+      before = W.written sink.old;
+      after = W.written sink.new;
+      source_faults_before = R.faults source.old;
+      source_faults_after = R.faults source.new;
+      sink_faults_before = W.faults sink.old;
+      sink_faults_after = W.faults sink.new;
+    }) result }
+    ensures silent { IfOk result (λ served. served ≡ false → sink.new ≡ sink.old) }
+    ensures unwritten { IfErr result (λ f. f.cause ≢ cause.Write → sink.new ≡ sink.old) }
+    ensures memory { IfErr result (λ f. f.cause ≡ cause.Memory → source.new ≡ source.old) }
+{
+    let arrival = match read_message(alloc, source) {
+        Ok(arrival) => arrival,
+        Err(fault) => return Err(fault),
+    };
+    let Some(response) = answer_arrival(alloc, desk, store, arrival) else {
+        return Ok(false);
+    };
+    match put_response(sink, &response) {
+        Ok(()) => Ok(true),
+        Err(WriteFault) => Err(StreamFault {
+            answered: 0,
+            cause: Cause::Write,
+        }),
+    }
+}

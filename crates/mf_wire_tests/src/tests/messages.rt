@@ -1,0 +1,303 @@
+//! HTTP messages, each answered over an institution in vectors.
+
+use super::streams::{Narrow, Torn};
+use super::{assert_replies, new_books};
+use mf_base::{Cause, Fault, StreamFault};
+use mf_desk_books::Books;
+use mf_wire::{Desk, answer_text, serve_one};
+use mf_wire_lines::{WatchedReader, WatchedWriter};
+use std::alloc::Global;
+use std::process::Abort;
+use std::test::Fail;
+
+const CLIENT: &str =
+    "POST /clients HTTP/1.1\r\nHost: localhost\r\nX-Staff: 1/1\r\nContent-Length: 27\r\n\r\n{\"office\":1,\"name\":\"Amina\"}";
+
+const CREATED: &str =
+    "HTTP/1.1 201 Created\r\nContent-Type: application/json\r\nContent-Length: 24\r\nConnection: close\r\n\r\n{\"client\":\"0001-000001\"}";
+
+/// Whether the stream was answered, and what was written.
+fn served(
+    alloc: Global,
+    desk: &Desk,
+    books: &mut Books,
+    stream: &[u8],
+) -> Result<(bool, Vec<u8>), Fail> {
+    let mut source = WatchedReader::new(stream);
+    let mut sink = WatchedWriter::new(Vec::new(alloc));
+    match serve_one(alloc, desk, books, &mut source, &mut sink) {
+        Ok(answered) => Ok((answered, sink.into_inner())),
+        Err(fault) => Err(Fail::from(fault)),
+    }
+}
+
+/// The institution has no client.
+fn assert_no_client(rt: &impl Abort, alloc: Global, books: &mut Books) {
+    let first = answer_text(alloc, books, b"1/1", b"GET", b"/clients/0001-000001", b"");
+    assert_eq!(rt; first.err(), Some(Fault::F4));
+}
+
+/// A line and a message, answered byte for byte: a body that gives up before it reads answers neither.
+#[test]
+fn gives_up_before_reading(rt: HostRuntime) -> Result<(), Fail> {
+    let alloc = rt.alloc();
+    let desk = Desk::new(alloc)?;
+    let mut books = new_books(alloc)?;
+    let (answered, written) = served(alloc, &desk, &mut books, CLIENT.as_bytes())?;
+    assert!(rt; answered);
+    assert_eq!(rt; written.as_slice(), CREATED.as_bytes());
+    let line = b"1/1 POST /clients {\"office\":1,\"name\":\"Amina\"}\n";
+    assert_replies(&rt, alloc, line, 1, "201 {\"client\":\"0001-000001\"}\n")
+}
+
+/// A response with that status line, and that body, which is sent unless the request was HEAD.
+fn assert_response(
+    rt: &impl Abort,
+    alloc: Global,
+    stream: &str,
+    status_line: &str,
+    body: &str,
+    is_sent: bool,
+) -> Result<(), Fail> {
+    let desk = Desk::new(alloc)?;
+    let mut books = new_books(alloc)?;
+    let (answered, written) = served(alloc, &desk, &mut books, stream.as_bytes())?;
+    assert!(rt; answered);
+    let length = body.len();
+    let sent = if is_sent { body } else { "" };
+    let expected = format!(in alloc;
+        "HTTP/1.1 {status_line}\r\nContent-Type: application/json\r\nContent-Length: {length}\r\nConnection: close\r\n\r\n{sent}"
+    )?;
+    assert_eq!(rt; written.as_slice(), expected.as_bytes());
+    assert_no_client(rt, alloc, &mut books);
+    Ok(())
+}
+
+const OFFICES: &str = "{\"offices\":[{\"name\":\"Head Office\",\"number\":1,\"parent\":null}]}";
+
+/// A message that changes nothing, the status that answers it with its phrase, and the body.
+const ANSWERED: [(&str, &str, &str); 11] = [
+    (
+        "GET /offices HTTP/1.0\r\nX-Staff: 1/1\r\n\r\n",
+        "200 OK",
+        OFFICES,
+    ),
+    (
+        "GET /offices HTTP/1.1\r\nX-Staff: 9/9\r\n\r\n",
+        "401 Unauthorized",
+        "{\"fault\":\"F2\"}",
+    ),
+    (
+        "GET /offices HTTP/1.1\r\nX-Staff: head\r\n\r\n",
+        "400 Bad Request",
+        "{\"fault\":\"F1\"}",
+    ),
+    (
+        "GET /clients/0001-000009 HTTP/1.1\r\nX-Staff: 1/1\r\n\r\n",
+        "404 Not Found",
+        "{\"fault\":\"F4\"}",
+    ),
+    (
+        "GET http://h/offices HTTP/1.1\r\nX-Staff: 1/1\r\n\r\n",
+        "404 Not Found",
+        "{\"fault\":\"F5\"}",
+    ),
+    (
+        "PUT /clients HTTP/1.1\r\nX-Staff: 1/1\r\n\r\n",
+        "405 Method Not Allowed",
+        "{\"fault\":\"F6\"}",
+    ),
+    (
+        "PUT /business-day HTTP/1.1\r\nX-Staff: 1/1\r\nContent-Length: 20\r\n\r\n{\"day\":\"2024-01-31\"}",
+        "409 Conflict",
+        "{\"fault\":\"F17\"}",
+    ),
+    (
+        "POST /clients HTTP/1.1\r\n\r\n",
+        "400 Bad Request",
+        "{\"fault\":\"F1\"}",
+    ),
+    (
+        "POST /clients HTTP/1.1\r\nX-Sta",
+        "400 Bad Request",
+        "{\"fault\":\"F1\"}",
+    ),
+    (
+        "POST /clients HTTP/1.1\r\nX-Staff: 1/1\r\nContent-Length: 27\r\n\r\n{\"off",
+        "400 Bad Request",
+        "{\"fault\":\"F1\"}",
+    ),
+    (
+        "POST /clients HTTP/1.1\r\nX-Staff: 1/1\r\nContent-Length: 26\r\n\r\n{\"office\":1,\"name\":\"Amina\"}",
+        "400 Bad Request",
+        "{\"fault\":\"F1\"}",
+    ),
+];
+
+#[test]
+fn messages_without_a_change(rt: HostRuntime) -> Result<(), Fail> {
+    for (stream, status_line, body) in ANSWERED {
+        assert_response(&rt, rt.alloc(), stream, status_line, body, true)?;
+    }
+    Ok(())
+}
+
+/// A message to HEAD, its status, and the body that it has, though none is sent.
+const ANSWERED_TO_HEAD: [(&str, &str, &str); 4] = [
+    (
+        "HEAD /offices HTTP/1.1\r\nX-Staff: 1/1\r\n\r\n",
+        "405 Method Not Allowed",
+        "{\"fault\":\"F6\"}",
+    ),
+    (
+        "HEAD /nowhere HTTP/1.1\r\nX-Staff: 1/1\r\n\r\n",
+        "404 Not Found",
+        "{\"fault\":\"F5\"}",
+    ),
+    (
+        "HEAD /offices HTTP/1.1\r\nX-Staff: nobody\r\n\r\n",
+        "400 Bad Request",
+        "{\"fault\":\"F1\"}",
+    ),
+    (
+        "HEAD /offices HTTP/1.1\r\n\r\n",
+        "400 Bad Request",
+        "{\"fault\":\"F1\"}",
+    ),
+];
+
+/// Where the head is cut its method counts for nothing, and the body is sent.
+#[test]
+fn responses_to_head(rt: HostRuntime) -> Result<(), Fail> {
+    for (stream, status_line, body) in ANSWERED_TO_HEAD {
+        assert_response(&rt, rt.alloc(), stream, status_line, body, false)?;
+    }
+    let cut = "HEAD /offices HTTP/1.1\r\nX-Sta";
+    assert_response(
+        &rt,
+        rt.alloc(),
+        cut,
+        "400 Bad Request",
+        "{\"fault\":\"F1\"}",
+        true,
+    )
+}
+
+#[test]
+fn a_stream_without_a_byte(rt: HostRuntime) -> Result<(), Fail> {
+    let alloc = rt.alloc();
+    let desk = Desk::new(alloc)?;
+    let mut books = new_books(alloc)?;
+    let (answered, written) = served(alloc, &desk, &mut books, b"")?;
+    assert!(rt; !answered);
+    assert!(rt; written.is_empty());
+    assert_no_client(&rt, alloc, &mut books);
+    Ok(())
+}
+
+/// Of two messages on one connection the first is answered, and the second is not run.
+#[test]
+fn one_message_a_connection(rt: HostRuntime) -> Result<(), Fail> {
+    let alloc = rt.alloc();
+    let desk = Desk::new(alloc)?;
+    let mut books = new_books(alloc)?;
+    let both = format!(in alloc; "{CLIENT}{CLIENT}")?;
+    let (answered, written) = served(alloc, &desk, &mut books, both.as_bytes())?;
+    assert!(rt; answered);
+    assert_eq!(rt; written.as_slice(), CREATED.as_bytes());
+    let second = answer_text(
+        alloc,
+        &mut books,
+        b"1/1",
+        b"GET",
+        b"/clients/0001-000002",
+        b"",
+    );
+    assert_eq!(rt; second.err(), Some(Fault::F4));
+    Ok(())
+}
+
+/// The reader fails at each place of the message: nothing is answered or written.
+#[test]
+fn readers_that_fail(rt: HostRuntime) -> Result<(), Fail> {
+    let alloc = rt.alloc();
+    let desk = Desk::new(alloc)?;
+    let mut books = new_books(alloc)?;
+    let fault = StreamFault {
+        answered: 0,
+        cause: Cause::Read,
+    };
+    for place in 0..CLIENT.len() {
+        let mut source = WatchedReader::new(Torn {
+            bytes: &CLIENT.as_bytes()[..place],
+        });
+        let mut sink = WatchedWriter::new(Vec::new(alloc));
+        let told = serve_one(alloc, &desk, &mut books, &mut source, &mut sink);
+        assert_eq!(rt; told.err(), Some(fault));
+        assert!(rt; sink.into_inner().is_empty());
+    }
+    assert_no_client(&rt, alloc, &mut books);
+    Ok(())
+}
+
+/// The writer fails at each place of the response: a beginning of it was written, and the client stands.
+#[test]
+fn writers_that_fail(rt: HostRuntime) -> Result<(), Fail> {
+    let alloc = rt.alloc();
+    let desk = Desk::new(alloc)?;
+    let fault = StreamFault {
+        answered: 0,
+        cause: Cause::Write,
+    };
+    for room in 0..CREATED.len() {
+        let mut books = new_books(alloc)?;
+        let mut source = WatchedReader::new(CLIENT.as_bytes());
+        let mut sink = WatchedWriter::new(Narrow::new(alloc, 7, room));
+        let told = serve_one(alloc, &desk, &mut books, &mut source, &mut sink);
+        assert_eq!(rt; told.err(), Some(fault));
+        assert_eq!(rt;
+            sink.into_inner().taken.as_slice(),
+            &CREATED.as_bytes()[..room]
+        );
+        let client = b"/clients/0001-000001";
+        let (status, _) = answer_text(alloc, &mut books, b"1/1", b"GET", client, b"")?;
+        assert_eq!(rt; status, 200);
+    }
+    Ok(())
+}
+
+/// Streams of one byte a call give the same response, which ends with the last byte that the writer takes.
+#[test]
+fn one_byte_a_call(rt: HostRuntime) -> Result<(), Fail> {
+    let alloc = rt.alloc();
+    let desk = Desk::new(alloc)?;
+    let mut books = new_books(alloc)?;
+    let mut source = WatchedReader::new(Torn {
+        bytes: CLIENT.as_bytes(),
+    });
+    let mut sink = WatchedWriter::new(Narrow::new(alloc, 1, CREATED.len()));
+    let told = serve_one(alloc, &desk, &mut books, &mut source, &mut sink);
+    assert_eq!(rt; told.ok(), Some(true));
+    assert_eq!(rt; sink.into_inner().taken.as_slice(), CREATED.as_bytes());
+    Ok(())
+}
+
+/// The store gives up at its first call: the message is answered by F20, and the same message is served afterwards.
+#[test]
+fn a_store_that_gives_up(rt: HostRuntime) -> Result<(), Fail> {
+    let alloc = rt.alloc();
+    let desk = Desk::new(alloc)?;
+    let mut books = new_books(alloc)?;
+    books.refuse_after(0);
+    let (answered, written) = served(alloc, &desk, &mut books, CLIENT.as_bytes())?;
+    assert!(rt; answered);
+    assert!(rt;
+        written
+            .as_slice()
+            .starts_with(b"HTTP/1.1 503 Service Unavailable\r\n")
+    );
+    assert!(rt; written.as_slice().ends_with(b"\r\n\r\n{\"fault\":\"F20\"}"));
+    let (_, written) = served(alloc, &desk, &mut books, CLIENT.as_bytes())?;
+    assert_eq!(rt; written.as_slice(), CREATED.as_bytes());
+    Ok(())
+}
