@@ -18,7 +18,7 @@ use Rattle.mf_model.proofs.AccountLemmas.{IsRunning, account_is}
 use Rattle.mf_store_records.specs.Rows.{Lists, by_instalment}
 use Rattle.mf_store_records.specs.Writes.{after}
 use Rattle.mf_store.specs.ChangeWrites.{change_writes, instalments_put, schedule_put, shares_put}
-use Rattle.mf_store_sound.specs.Flat.{instalment_in, share_in, parts_from, instalments_kept, shares_kept, kept_of, instalment_rows, share_rows}
+use Rattle.mf_store_accounts.specs.Flat.{instalment_in, share_in, parts_from, instalments_kept, shares_kept, kept_of, instalment_rows, share_rows}
 use Rattle.mf_store.proofs.AccountRowLemmas.{around_same, none_before}
 use Rattle.mf_store.proofs.ChangedRowLemmas.{instalments_changed, shares_changed, after_both, instalments_written, shares_written, schedule_written}
 use Rattle.mf_store.proofs.InstalmentRowLemmas.{fresh_put, rows_put}

@@ -11,7 +11,7 @@ use Rattle.mf_model.specs.Stages.{disbursed_on}
 use Rattle.mf_model.specs.Store.{rows_of}
 use Rattle.mf_model.specs.Tree.{Ascending}
 use Rattle.mf_model.proofs.AccountLemmas.{IsRunning, account_is, account_there}
-use Rattle.mf_store_sound.specs.Flat.{rows_of_loans, rows_by_loan, kept_of, instalment_in, share_in, instalments_kept, shares_kept, instalment_rows, share_rows}
+use Rattle.mf_store_accounts.specs.Flat.{rows_of_loans, rows_by_loan, kept_of, instalment_in, share_in, instalments_kept, shares_kept, instalment_rows, share_rows}
 use Rattle.mf_store.proofs.LoanRowLemmas.{Around, HaveSame, same_by_loan, none_in_office}
 
 -- ---- as the catalogue grows

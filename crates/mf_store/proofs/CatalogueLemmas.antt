@@ -21,7 +21,7 @@ use Rattle.mf_model.specs.declared.commit.Commit.TheVariants.{SetDay, AddCharge,
 use Rattle.mf_store_records.specs.Rows.{by_meta, by_charge, by_product}
 use Rattle.mf_store_records.specs.declared.charges.ChargeRow.{ChargeRow}
 use Rattle.mf_store_records.specs.declared.products.ProductRow.{ProductRow}
-use Rattle.mf_store_sound.specs.Flat.{tables_of, numbered_from, charge_as, product_as, flag_number}
+use Rattle.mf_store_accounts.specs.Flat.{tables_of, numbered_from, charge_as, product_as, flag_number}
 use Rattle.mf_store_records.specs.declared.meta.MetaRow.{MetaRow}
 use Rattle.mf_store_records.specs.declared.writes.StoreWrite.TheVariants.{PutMeta, PutCharge, PutProduct}
 use Rattle.mf_store_records.specs.declared.writes.StoreWrite.TheVariants as write

@@ -18,7 +18,7 @@ use Rattle.mf_store_records.specs.Writes.{Fits, after}
 use Rattle.mf_store_records.specs.declared.writes.StoreWrite.{StoreWrite}
 use Rattle.mf_store_records.specs.declared.writes.StoreWrite.TheVariants.{PutShare}
 use Rattle.mf_store.specs.ChangeWrites.{schedule_put, instalments_put, shares_replaced, shares_put, change_writes}
-use Rattle.mf_store_sound.specs.Flat.{how_number, portion_number, instalment_in, share_in, placed_parts, parts_from, instalments_kept, shares_kept}
+use Rattle.mf_store_accounts.specs.Flat.{how_number, portion_number, instalment_in, share_in, placed_parts, parts_from, instalments_kept, shares_kept}
 use Rattle.mf_store.proofs.InstalmentRowLemmas.{rows_put, change_put}
 use Rattle.mf_store.proofs.FlatLemmas.{portion_same}
 use Rattle.mf_store.proofs.PutAllLemmas.{put_all}

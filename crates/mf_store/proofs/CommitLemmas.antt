@@ -27,7 +27,7 @@ use Rattle.mf_store_records.specs.declared.entries.EntryRow.{EntryRow}
 use Rattle.mf_store_records.specs.declared.receipts.ReceiptRow.{ReceiptRow}
 use Rattle.mf_store_records.specs.declared.instalments.InstalmentRow.{InstalmentRow}
 use Rattle.mf_store_records.specs.declared.shares.ShareRow.{ShareRow}
-use Rattle.mf_store_sound.specs.Flat.{tables_of, office_under, key_at, staff_in, client_in, loan_in, loans_of, entry_in, own_entries}
+use Rattle.mf_store_accounts.specs.Flat.{tables_of, office_under, key_at, staff_in, client_in, loan_in, loans_of, entry_in, own_entries}
 use Rattle.mf_store_records.specs.declared.writes.StoreWrite.{StoreWrite}
 use Rattle.mf_store_records.specs.declared.writes.StoreWrite.TheVariants.{PutOffice, PutStaff, PutClient}
 use Rattle.mf_store.specs.Facts.{Kept}

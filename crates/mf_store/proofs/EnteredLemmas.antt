@@ -29,7 +29,7 @@ use Rattle.mf_model.specs.Tree.{is_there}
 use Rattle.mf_model.proofs.Growing.{all_map, all_at}
 use Rattle.mf_model.proofs.SoundLemmas.{found_sound}
 use Rattle.mf_store_records.specs.Rows.{entry_row, is_entry_of}
-use Rattle.mf_store_sound.specs.Flat.{tables_of, entries_of, entry_in}
+use Rattle.mf_store_accounts.specs.Flat.{tables_of, entries_of, entry_in}
 use Rattle.mf_store.proofs.AccountCommitLemmas.{IsChanged, account_with}
 use Rattle.mf_store.proofs.CommitLemmas.{number_at}
 use Rattle.mf_store.proofs.EntryLemmas.{AreEarlier, AreNumbered, later_numbered, entries_shown}

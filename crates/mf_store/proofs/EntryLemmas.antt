@@ -12,7 +12,7 @@ use Rattle.mf_model.specs.Loans.{with_entries}
 use Rattle.mf_model.specs.Store.{rows_of}
 use Rattle.mf_model.specs.Tree.{Ascending}
 use Rattle.mf_store_records.specs.Rows.{by_entry, is_entry_of}
-use Rattle.mf_store_sound.specs.Flat.{entry_in, own_entries, entry_rows, entries_of, reversed_entry}
+use Rattle.mf_store_accounts.specs.Flat.{entry_in, own_entries, entry_rows, entries_of, reversed_entry}
 use Rattle.mf_store.proofs.FlatLemmas.{put_past, put_over}
 use Rattle.mf_store.proofs.LoanRowLemmas.{append_none, put_past_all, loan_shown, rows_around, put_around}
 

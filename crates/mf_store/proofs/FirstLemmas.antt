@@ -1,13 +1,13 @@
 -- A new institution's writes, and what stands after them.
-use Rattle.std.proofs.Common.{◌≡◌, ℕ, None, Some, List, [], ◌∷◌, codes, refl, sym, subst, arith}
-use Rattle.sqlite.specs.State.{State}
+use Rattle.std.proofs.Common.{◌≡◌, ℕ, inl, inr, None, Some, List, [], ◌∷◌, IsTrue, codes, refl, sym, subst, arith}
+use Rattle.sqlite.specs.State.{State, HasCleanDisk, Survives}
 use Rattle.sqlite.specs.Held.{Held, state}
 use Rattle.sqlite.specs.Steps.{IsEmpty}
 use Rattle.sqlite_trees.specs.declared.store.Store.{Ghosts}
 use Rattle.sqlite_catalog.specs.Listing.{IsSound as IsSoundListing}
 use Rattle.mf_base.specs.DayText.{day_text}
 use Rattle.mf_office.specs.Keys.{key_of, key_within}
-use Rattle.mf_store_tables.specs.Writes.{Serves, AllFit, after_all, Turns}
+use Rattle.mf_store_tables.specs.Writes.{Serves, AllFit, after_all, Turns, MayHold}
 use Rattle.mf_model.specs.Institution.{newly_made}
 use Rattle.mf_model.specs.Sound.{IsSound}
 use Rattle.mf_store_records.specs.Writes.{schema_of, Holds, after, Fits}
@@ -16,7 +16,8 @@ use Rattle.mf_store_records.specs.declared.offices.OfficeRow.{OfficeRow}
 use Rattle.mf_store_records.specs.declared.staff.StaffRow.{StaffRow}
 use Rattle.mf_store_records.specs.declared.writes.StoreWrite.{StoreWrite}
 use Rattle.mf_store_records.specs.declared.writes.StoreWrite.TheVariants.{MakeTables, PutMeta, PutOffice, PutStaff}
-use Rattle.mf_store.specs.Stands.{IsTabled, Begins}
+use Rattle.mf_store_records.proofs.CallLemmas.{only_faults_shut}
+use Rattle.mf_store.specs.Stands.{IsTabled, IsUnfounded, Begins}
 
 first_list : MetaRow → OfficeRow → StaffRow → List StoreWrite
 first_list m o s = MakeTables ∷ PutMeta m ∷ PutOffice o ∷ PutStaff s ∷ []
@@ -46,6 +47,25 @@ begins writes day m o s is one schema text number parent key head office staff m
 module _ {S : Type 0} (g : Ghosts S) (old new : Held S) (writes : List StoreWrite) (day : ℕ) where
   pub founded_stands : Begins writes day → IsSound (newly_made day) → Turns (Serves schema_of Holds) (AllFit after Fits writes) (after_all after writes) (state g old).now (state g new).now → Serves schema_of Holds (state g old).now None → IsTabled g new (newly_made day)
   founded_stands b sound turns none = record { sound = sound; serves = λ live. subst (λ lists. Serves schema_of Holds (state g new).now lists) b.is (turns None none b.fits) }
+
+-- where nothing was tried, nothing is changed
+pub unfounded_yet : {S : Type 0} (g : Ghosts S) (day : ℕ) (h : Held S) → IsUnfounded g day h h
+unfounded_yet g day h = record { premise = λ clean. clean; was_open = λ clean live. live; same = λ clean live. refl; shuts = λ faults few before. before; stop = λ clean none trees may. inl may }
+
+-- the writes that failed may have been committed, all of them
+module _ {S : Type 0} (g : Ghosts S) (old new : Held S) (writes : List StoreWrite) (day : ℕ) where
+  pub unfounded : Begins writes day → (HasCleanDisk (state g new) → IsTrue (state g new).is_open → IsTrue (state g old).is_open) → (HasCleanDisk (state g new) → IsTrue (state g new).is_open → (state g new).now ≡ (state g old).now)
+      → Survives (state g old) (state g new) (MayHold (Serves schema_of Holds) Holds (AllFit after Fits writes) (after_all after writes) (state g old)) → IsUnfounded g day old new
+  unfounded b was_open same survives = record {
+    premise = λ clean. omega (arith, survives.clean, clean);
+    was_open = was_open;
+    same = same;
+    shuts = only_faults_shut (state g old) (state g new) survives;
+    stop = λ clean none trees may. elim (survives.crash clean trees may) [
+      | inl before ↦ inl before
+      | inr wrote ↦ inr (subst (λ lists. Holds trees lists) b.is (wrote.holds None none b.fits))
+    ];
+  }
 
 -- a new connection in memory has no tables
 pub empty_serves : (s : State) → IsEmpty s → Serves schema_of Holds s.now None

@@ -12,7 +12,7 @@ use Rattle.mf_store_tables.specs.Keep.{put_item, drop_item}
 use Rattle.mf_model.specs.Institution.{Office, Rows, office_at, with_rows, with_office, no_rows, numbered, with_numbered}
 use Rattle.mf_model.specs.Tree.{Above, Ascending, is_there}
 use Rattle.mf_model.specs.Store.{rows_of}
-use Rattle.mf_store_sound.specs.Flat.{numbered_from, all_rows, portion_number}
+use Rattle.mf_store_accounts.specs.Flat.{numbered_from, all_rows, portion_number}
 
 -- ---- puts into a list by key
 

@@ -13,7 +13,7 @@ use Rattle.mf_model.specs.Sound.{IsSound, is_staff}
 use Rattle.mf_model.specs.Store.{ledger_at, rows_at}
 use Rattle.mf_model.proofs.AccountLemmas.{account_sound}
 use Rattle.mf_store_records.specs.Rows.{instalment_row, is_instalment_of}
-use Rattle.mf_store_sound.specs.Flat.{tables_of, instalment_in, numbered_from, instalments_kept, kept_of, had_by}
+use Rattle.mf_store_accounts.specs.Flat.{tables_of, instalment_in, numbered_from, instalments_kept, kept_of, had_by}
 use Rattle.mf_store.proofs.CatalogueLemmas.{amount_is}
 use Rattle.mf_store.proofs.EnteredLemmas.{loan_sound, map_map}
 use Rattle.mf_store.proofs.LoanRowLemmas.{loan_shown}

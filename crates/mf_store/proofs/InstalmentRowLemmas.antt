@@ -14,7 +14,7 @@ use Rattle.mf_account.specs.Change.{AreThose, HasOtherRow}
 use Rattle.mf_store_tables.specs.Keep.{put_item}
 use Rattle.mf_store_records.specs.Rows.{by_instalment}
 use Rattle.mf_store_records.specs.declared.instalments.InstalmentRow.{InstalmentRow}
-use Rattle.mf_store_sound.specs.Flat.{instalment_in, numbered_from}
+use Rattle.mf_store_accounts.specs.Flat.{instalment_in, numbered_from}
 use Rattle.mf_store.proofs.FlatLemmas.{put_past, put_over}
 use Rattle.mf_store.proofs.PutAllLemmas.{put_all, AreRising, put_all_first}
 

@@ -17,7 +17,7 @@ use Rattle.mf_catalog.specs.declared.product.Product.{Product}
 use Rattle.mf_model.specs.Store.{counts_at, catalogue_counts, role_of}
 use Rattle.mf_store_records.specs.Calls.{OnlyFaultsShut}
 use Rattle.mf_store.specs.Facts.{Facts, Kept, AreTrueOf, caller_number}
-use Rattle.mf_store_sound.specs.Flat.{key_at}
+use Rattle.mf_store_accounts.specs.Flat.{key_at}
 use Rattle.mf_store.specs.Learning.{Tells}
 use Rattle.mf_store.specs.declared.known.News.TheVariants.{OfficeCounts, Catalogue, BusinessDay}
 use Rattle.mf_store.specs.Stands.{IsTabled, HasGoodDisk, LeavesTables, StayTabled, StandsFor, IsClean, IsOpenUntil, Stays}

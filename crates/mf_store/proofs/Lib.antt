@@ -23,8 +23,5 @@ pub mod CatalogueLemmas
 pub mod LoanLemmas
 pub mod OneInstitution
 pub mod ChangedRowLemmas
-pub mod HeldLemmas
-pub mod HeldAccountLemmas
-pub mod RiseLemmas
 pub mod AccountCommitLemmas
 pub mod InstalmentReadLemmas

@@ -37,12 +37,12 @@ use Rattle.mf_store_records.specs.Rows.{Lists, by_staff, by_client, by_loan, by_
 use Rattle.mf_store_records.specs.declared.loans.LoanRow.{LoanRow}
 use Rattle.mf_store_records.specs.declared.entries.EntryRow.{EntryRow}
 use Rattle.mf_store_records.specs.declared.receipts.ReceiptRow.{ReceiptRow}
-use Rattle.mf_store_sound.specs.Flat.{tables_of, numbered_from, staff_in, client_in, loan_in, loans_of, entry_in, line_in, approval_text, disbursal_text, entries_of, entry_rows, own_entries, reversed_entry, instalment_in, share_in, instalments_kept, shares_kept, kept_of, instalment_rows, share_rows}
+use Rattle.mf_store_accounts.specs.Flat.{tables_of, numbered_from, staff_in, client_in, loan_in, loans_of, entry_in, line_in, approval_text, disbursal_text, entries_of, entry_rows, own_entries, reversed_entry, instalment_in, share_in, instalments_kept, shares_kept, kept_of, instalment_rows, share_rows}
 use Rattle.mf_store.specs.ChangeWrites.{schedule_put, change_writes}
 use Rattle.mf_store_records.specs.Writes.{Fits, after}
 use Rattle.mf_store_records.specs.declared.writes.StoreWrite.{StoreWrite}
 use Rattle.mf_store_records.specs.declared.writes.StoreWrite.TheVariants as write
-use Rattle.mf_store_sound.specs.ReceiptRows.{receipt_rows, receipt_added, entry_added}
+use Rattle.mf_store_accounts.specs.ReceiptRows.{receipt_rows, receipt_added, entry_added}
 use Rattle.mf_store.specs.Stands.{Becomes}
 use Rattle.mf_store.proofs.AccountCommitLemmas.{IsChanged, change_written, schedule_there, staged_shares}
 use Rattle.mf_store.proofs.AccountRowLemmas.{SameRows, rows_same, none_before}

@@ -11,7 +11,7 @@ use Rattle.mf_store_tables.specs.Keep.{put_item, drop_item}
 use Rattle.mf_model.specs.Institution.{Ledger, Office, Rows, office_at, with_rows, with_office, no_rows, numbered, with_numbered}
 use Rattle.mf_model.specs.Store.{rows_of}
 use Rattle.mf_model.specs.Tree.{Above, Ascending}
-use Rattle.mf_store_sound.specs.Flat.{rows_of_loans, rows_by_loan, had_by}
+use Rattle.mf_store_accounts.specs.Flat.{rows_of_loans, rows_by_loan, had_by}
 use Rattle.mf_store.proofs.FlatLemmas.{put_past, with_rows-above, below, numbered-suc, with_numbered_later}
 
 -- ---- all of a list

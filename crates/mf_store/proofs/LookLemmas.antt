@@ -8,7 +8,7 @@ use Rattle.mf_model.specs.Institution.{Institution, Catalogue, Office, office_at
 use Rattle.mf_model.specs.Sound.{IsSound, IsSoundOffice, IsSoundRows, is_staff as is_staff_in}
 use Rattle.mf_model.specs.Store.{rows_of}
 use Rattle.mf_store_records.specs.Rows.{is_office, is_staff, is_client, is_charge, is_product, is_loan}
-use Rattle.mf_store_sound.specs.Flat.{office_under, staff_in, client_in, charge_as, product_as, loan_in, loans_of, tables_of, staff_row_at, client_row_at, charge_row_at, product_row_at, loan_row_at}
+use Rattle.mf_store_accounts.specs.Flat.{office_under, staff_in, client_in, charge_as, product_as, loan_in, loans_of, tables_of, staff_row_at, client_row_at, charge_row_at, product_row_at, loan_row_at}
 use Rattle.mf_store.specs.Counts.{count_of}
 use Rattle.mf_store.specs.declared.counts.Kind.{Kind}
 use Rattle.mf_store.specs.declared.counts.Kind.TheVariants.{Staff, Clients, Loans, Charges, Products}

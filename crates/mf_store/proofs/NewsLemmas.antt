@@ -25,7 +25,7 @@ use Rattle.mf_model.proofs.Growing.{length_with, numbered_push}
 use Rattle.mf_model.proofs.Offices.{is_there_with_rows}
 use Rattle.mf_store_records.specs.declared.offices.OfficeRow.{OfficeRow}
 use Rattle.mf_store_records.specs.Rows.{is_office}
-use Rattle.mf_store_sound.specs.Flat.{key_at, office_under}
+use Rattle.mf_store_accounts.specs.Flat.{key_at, office_under}
 use Rattle.mf_store.specs.Learning.{Tells}
 use Rattle.mf_store.specs.declared.known.News.TheVariants.{Nothing, OfficeCounts, Catalogue, BusinessDay, Retirement}
 use Rattle.mf_store.proofs.CommitLemmas.{none_there, number_at, offices-with_rows, office_key_kept}

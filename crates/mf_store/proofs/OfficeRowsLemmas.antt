@@ -11,7 +11,7 @@ use Rattle.mf_model.specs.Store.{rows_of, rows_at}
 use Rattle.mf_model.specs.Tree.{Above, Ascending}
 use Rattle.mf_store_records.specs.Rows.{staff_row, client_row, is_staff_of, is_client_of}
 use Rattle.mf_store_records.specs.declared.staff.StaffRow.{StaffRow}
-use Rattle.mf_store_sound.specs.Flat.{numbered_from, all_rows, staff_in, client_in, tables_of}
+use Rattle.mf_store_accounts.specs.Flat.{numbered_from, all_rows, staff_in, client_in, tables_of}
 
 -- ---- one office's rows among all
 

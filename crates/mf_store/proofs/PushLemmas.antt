@@ -4,7 +4,7 @@ use Rattle.std.proofs.lemmas.List.{take_more, map-append}
 use Rattle.mf_account.specs.declared.settled.Settled.{Settled}
 use Rattle.mf_store_records.specs.declared.writes.StoreWrite.{StoreWrite}
 use Rattle.mf_store.specs.ChangeWrites.{shares_put, shares_replaced}
-use Rattle.mf_store_sound.specs.Flat.{numbered_from}
+use Rattle.mf_store_accounts.specs.Flat.{numbered_from}
 use Rattle.mf_store.proofs.LoanRowLemmas.{append_twice, append_none}
 use Rattle.mf_store.proofs.OfficeRowsLemmas.{take_whole}
 

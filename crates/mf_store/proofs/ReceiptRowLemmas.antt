@@ -24,7 +24,7 @@ use Rattle.mf_model.proofs.ReceiptLemmas.{IsPut}
 use Rattle.mf_store_records.specs.Rows.{by_receipt, is_receipt}
 use Rattle.mf_store_records.specs.declared.receipts.ReceiptRow.{ReceiptRow}
 use Rattle.mf_store_records.proofs.TableLemmas.{by_receipt_total}
-use Rattle.mf_store_sound.specs.ReceiptRows.{receipt_in, carried, receipt_rows}
+use Rattle.mf_store_accounts.specs.ReceiptRows.{receipt_in, carried, receipt_rows}
 use Rattle.mf_store.proofs.LoanRowLemmas.{all_append}
 use Rattle.mf_store.proofs.FlatLemmas.{with_rows-above, numbered-suc, with_numbered_later}
 use Rattle.mf_store.proofs.SortedLemmas.{IsOfOne, find_sorted, put_among}

@@ -11,7 +11,7 @@ use Rattle.lru.proofs.Splits.{Contains-nil, Contains-cons, Contains-head, Contai
 use Rattle.mf_account.specs.declared.settled.Settled.{Settled}
 use Rattle.mf_store_records.specs.Rows.{by_share, is_share_in}
 use Rattle.mf_store_records.specs.declared.shares.ShareRow.{ShareRow}
-use Rattle.mf_store_sound.specs.Flat.{share_in, numbered_from, placed_parts, parts_from}
+use Rattle.mf_store_accounts.specs.Flat.{share_in, numbered_from, placed_parts, parts_from}
 use Rattle.mf_store.proofs.LoanRowLemmas.{Around, IsRowOf, IsBefore, IsAfter, all_append, all_weaker, kept_all, kept_none}
 use Rattle.mf_store.proofs.PutAllLemmas.{put_all, AreRising, put_all_past, put_all_ahead, put_all_first, put_all_among}
 

@@ -11,7 +11,7 @@ use Rattle.mf_base.specs.declared.fault.Fault.TheVariants.{F20}
 use Rattle.mf_store_tables.specs.Writes.{Serves, AllFit, after_all, Turns, IsSettled, MayHold}
 use Rattle.mf_model.specs.Institution.{Institution}
 use Rattle.mf_store_records.specs.Tables.{schema}
-use Rattle.mf_store_sound.specs.Flat.{tables_of}
+use Rattle.mf_store_accounts.specs.Flat.{tables_of}
 use Rattle.mf_store_records.specs.Calls.{IsUnchanged}
 use Rattle.mf_store_records.specs.Writes.{schema_of, Holds, after, Fits}
 use Rattle.mf_store_records.specs.declared.writes.StoreWrite.{StoreWrite}

@@ -17,7 +17,7 @@ use Rattle.mf_model.specs.Tree.{parent_of, is_there, seen_by, seen_office}
 use Rattle.mf_model.specs.Sound.{IsSound}
 use Rattle.mf_store_records.specs.Rows.{office_row, is_in_range}
 use Rattle.mf_store_records.specs.declared.offices.OfficeRow.{OfficeRow}
-use Rattle.mf_store_sound.specs.Flat.{office_under, tables_of, key_at, sees, has_room}
+use Rattle.mf_store_accounts.specs.Flat.{office_under, tables_of, key_at, sees, has_room}
 use Rattle.mf_office.specs.declared.office.Office.{Office as Shown}
 use Rattle.mf_model.specs.Desk.{line_of}
 use Rattle.mf_store.proofs.CommitLemmas.{number_at, all_there}

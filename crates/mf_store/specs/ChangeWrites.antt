@@ -7,7 +7,7 @@ use Rattle.mf_account.specs.Change.{Account as Replayed, settled_in}
 use Rattle.mf_account.specs.Loan.{state_of_loan, settled_of_loan}
 use Rattle.mf_store_records.specs.declared.writes.StoreWrite.{StoreWrite}
 use Rattle.mf_store_records.specs.declared.writes.StoreWrite.TheVariants.{PutInstalment, PutShare, RemoveShares}
-use Rattle.mf_store_sound.specs.Flat.{instalment_in, share_in, placed_parts}
+use Rattle.mf_store_accounts.specs.Flat.{instalment_in, share_in, placed_parts}
 
 -- the rows of all these instalments are put
 abbrev pub schedule_put : ℕ → ℕ → List (ℕ × Sums) → List StoreWrite

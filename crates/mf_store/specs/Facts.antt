@@ -14,7 +14,7 @@ use Rattle.mf_model.specs.contracts.store.Counts as counts_row
 use Rattle.mf_model.specs.contracts.store.CatalogueCounts as catalogue_row
 use Rattle.mf_model.specs.Institution.{Institution, product_in}
 use Rattle.mf_model.specs.Store.{counts_at, catalogue_counts, role_of}
-use Rattle.mf_store_sound.specs.Flat.{key_at}
+use Rattle.mf_store_accounts.specs.Flat.{key_at}
 
 -- a caller as one number
 abbrev pub caller_number : Caller → ℕ

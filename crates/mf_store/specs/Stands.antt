@@ -10,7 +10,7 @@ use Rattle.mf_model.specs.Sound.{IsSound}
 use Rattle.mf_store_records.specs.Calls.{IsOpenUpTo, OnlyFaultsShut}
 use Rattle.mf_store_records.specs.Tables.{schema}
 use Rattle.mf_store.specs.Facts.{Kept, AreTrueOf}
-use Rattle.mf_store_sound.specs.Flat.{tables_of}
+use Rattle.mf_store_accounts.specs.Flat.{tables_of}
 use Rattle.mf_store_records.specs.Writes.{schema_of, Holds, after, Fits}
 use Rattle.mf_store_records.specs.declared.writes.StoreWrite.{StoreWrite}
 
@@ -40,6 +40,14 @@ module _ {S : Type 0} (g : Ghosts S) where
     pub shuts : OnlyFaultsShut (state g old) (state g new)
     pub same : HasGoodDisk new → (i : Institution) → IsTabled old i → IsTabled new i
     pub stop : HasGoodDisk new → (is : List Institution) → LeavesTables old is → LeavesTables new is
+
+  -- Where a new institution could not be made on this day, nothing is changed, a stop leaves nothing more than before but that institution, whole, and only a fault of the disk shuts the connection.
+  pub record IsUnfounded (day : ℕ) (old new : Held S) : Type 0 where
+    pub premise : HasGoodDisk new → HasGoodDisk old
+    pub was_open : HasGoodDisk new → IsTrue (state g new).is_open → IsTrue (state g old).is_open
+    pub same : HasGoodDisk new → IsTrue (state g new).is_open → (state g new).now ≡ (state g old).now
+    pub shuts : OnlyFaultsShut (state g old) (state g new)
+    pub stop : HasGoodDisk new → Serves schema_of Holds (state g old).now None → (trees : Trees) → (state g new).may_leave trees → (state g old).may_leave trees ⊎ Holds trees (Some (tables_of (newly_made day)))
 
   -- The tables hold the institution's rows and nothing else, and it is sound; and what is known beside them is so in it.
   pub record StandsFor (k : Kept S) (i : Institution) : Type 0 where

@@ -11,7 +11,7 @@ ghost use Rattle.mf_model.specs.Stages.{disbursed_on};
 ghost use Rattle.mf_model.specs.Store.{Commits, loan_at, ledger_at, account_at, replayed, loans_at};
 ghost use Rattle.mf_model.specs.declared.commit.Commit.TheVariants.{Enter, Reverse};
 ghost use Rattle.mf_store.specs.ChangeWrites.{schedule_put};
-ghost use Rattle.mf_store_sound.specs.Flat.{loan_in, line_in, entry_in, entries_of, instalments_kept, kept_of};
+ghost use Rattle.mf_store_accounts.specs.Flat.{loan_in, line_in, entry_in, entries_of, instalments_kept, kept_of};
 ghost use Rattle.mf_store_records.specs.Rows.{loan_row as loan_stored};
 
 use crate::changes::{put_change, put_schedule};

@@ -5,7 +5,7 @@ ghost use Rattle.mf_base.specs.declared.fault.Fault.TheVariants.{F20};
 ghost use Rattle.mf_model.specs.Institution.{Institution, Charge, Offer, charge_def, charge_in, product_in, product_of as product_numbered};
 ghost use Rattle.mf_model.specs.Store.{Commits, catalogue_counts};
 ghost use Rattle.mf_model.specs.declared.commit.Commit.TheVariants.{SetDay, AddCharge, AddProduct, RetireProduct};
-ghost use Rattle.mf_store_sound.specs.Flat.{charge_as, product_as};
+ghost use Rattle.mf_store_accounts.specs.Flat.{charge_as, product_as};
 
 use crate::counts::{Kind, MOST};
 use crate::known::News;

@@ -5,7 +5,7 @@ ghost use Rattle.mf_base.specs.declared.fault.Fault.TheVariants.{F20};
 ghost use Rattle.mf_alloc.specs.Rows.{row_at};
 ghost use Rattle.mf_account.specs.Loan.{settled_of_loan};
 ghost use Rattle.mf_store_records.specs.declared.writes.StoreWrite.TheVariants.{PutShare};
-ghost use Rattle.mf_store_sound.specs.Flat.{how_number, instalment_in, numbered_from, share_in, placed_parts};
+ghost use Rattle.mf_store_accounts.specs.Flat.{how_number, instalment_in, numbered_from, share_in, placed_parts};
 ghost use Rattle.mf_store.specs.ChangeWrites.{schedule_put, instalments_put, shares_replaced, shares_put, change_writes};
 
 use crate::entries::number_of_portion;

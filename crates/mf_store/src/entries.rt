@@ -8,7 +8,7 @@ ghost use Rattle.mf_office.specs.Written.{caller_text};
 ghost use Rattle.mf_office.specs.declared.caller.Caller.{Caller as ModelCaller};
 ghost use Rattle.mf_account.specs.declared.entry.Entry.{Entry as ModelEntry};
 ghost use Rattle.mf_store_records.specs.Rows.{entry_row as entry_stored};
-ghost use Rattle.mf_store_sound.specs.Flat.{entry_in, entry_kind_number, portion_number, flag_number};
+ghost use Rattle.mf_store_accounts.specs.Flat.{entry_in, entry_kind_number, portion_number, flag_number};
 
 use crate::loans::{day_from, text_of_day};
 use crate::stored::{flag_from, signed, unsigned};

@@ -59,6 +59,9 @@ impl Store<PageStore> {
         let Ok(connection) = mf_store_pages::open(alloc) else {
             return Err(Fault::F20);
         };
-        Store::found(alloc, connection, day)
+        match Store::found(alloc, connection, day) {
+            Ok(store) => Ok(store),
+            Err((fault, _)) => Err(fault),
+        }
     }
 }

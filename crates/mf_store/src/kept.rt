@@ -10,7 +10,7 @@ ghost use Rattle.mf_model.specs.Accounts.{account_in, of_account};
 ghost use Rattle.mf_model.specs.Institution.{Institution, Ledger as ModelLedger};
 ghost use Rattle.mf_model.specs.Store.{ledger_at};
 ghost use Rattle.mf_store_records.specs.Rows.{instalment_row as instalment_stored};
-ghost use Rattle.mf_store_sound.specs.Flat.{instalment_in, numbered_from};
+ghost use Rattle.mf_store_accounts.specs.Flat.{instalment_in, numbered_from};
 
 use crate::loans::day_from;
 use crate::store::Store;

@@ -7,7 +7,7 @@ ghost use Rattle.mf_base.specs.declared.fault.Fault.TheVariants.{F20};
 ghost use Rattle.mf_model.specs.Institution.{Institution, product_in};
 ghost use Rattle.mf_model.specs.Store.{role_of};
 ghost use Rattle.mf_store.specs.Facts.{AreTrueOf, caller_number};
-ghost use Rattle.mf_store_sound.specs.Flat.{key_at};
+ghost use Rattle.mf_store_accounts.specs.Flat.{key_at};
 ghost use Rattle.mf_store.specs.Learning.{Tells};
 
 use lru::LruCache;

@@ -3,7 +3,7 @@
 ghost use Rattle.std.specs.Prelude.{◌≡◌};
 ghost use Rattle.mf_model.specs.Institution.{Institution};
 ghost use Rattle.mf_model.specs.Sound.{IsSound};
-ghost use Rattle.mf_store_sound.specs.Flat.{tables_of};
+ghost use Rattle.mf_store_accounts.specs.Flat.{tables_of};
 
 use mf_base::texts_of_days;
 

@@ -9,7 +9,7 @@ ghost use Rattle.mf_model.specs.Store.{Commits, loan_at};
 ghost use Rattle.mf_model.specs.declared.commit.Commit.TheVariants.{AddLoan, SetStage};
 ghost use Rattle.mf_model.specs.declared.loan.Loan.{Loan as ModelLoan};
 ghost use Rattle.mf_model.specs.declared.loan.Stage.{Stage as ModelStage};
-ghost use Rattle.mf_store_sound.specs.Flat.{loan_in, approval_text, disbursal_text};
+ghost use Rattle.mf_store_accounts.specs.Flat.{loan_in, approval_text, disbursal_text};
 
 use crate::counts::MOST;
 use crate::known::News;

@@ -6,7 +6,7 @@ ghost use Rattle.mf_base.specs.declared.fault.Fault.TheVariants.{F20};
 ghost use Rattle.mf_model.specs.Institution.{Institution, Ledger as ModelLedger, Staff};
 ghost use Rattle.mf_model.specs.Store.{rows_at, ledger_at};
 ghost use Rattle.mf_store_records.specs.Rows.{staff_row, client_row, loan_row};
-ghost use Rattle.mf_store_sound.specs.Flat.{staff_in, client_in, loan_in, numbered_from};
+ghost use Rattle.mf_store_accounts.specs.Flat.{staff_in, client_in, loan_in, numbered_from};
 
 use crate::loans::{account_number, loan_from};
 use crate::store::Store;

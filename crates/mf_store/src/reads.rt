@@ -4,7 +4,7 @@ ghost use Rattle.std.specs.Prelude.{◌≡◌, ◌≤◌, ℕ, OnOk, IfOk, IfErr
 ghost use Rattle.mf_base.specs.declared.fault.Fault.TheVariants.{F20};
 ghost use Rattle.mf_base.specs.DayText.{last_day};
 ghost use Rattle.mf_model.specs.Institution.{Institution};
-ghost use Rattle.mf_store_sound.specs.Flat.{meta_on, office_row_at, staff_row_at, client_row_at, charge_row_at, product_row_at, loan_row_at};
+ghost use Rattle.mf_store_accounts.specs.Flat.{meta_on, office_row_at, staff_row_at, client_row_at, charge_row_at, product_row_at, loan_row_at};
 
 use crate::known::News;
 use crate::store::Store;

@@ -7,8 +7,8 @@ ghost use Rattle.mf_model.specs.Institution.{Institution};
 ghost use Rattle.mf_model.specs.Receipts.{Use, use_by};
 ghost use Rattle.mf_model.specs.Store.{receipt_at, use_at};
 ghost use Rattle.mf_store_records.specs.Rows.{is_entry};
-ghost use Rattle.mf_store_sound.specs.Flat.{entry_in, tables_of};
-ghost use Rattle.mf_store_sound.specs.ReceiptRows.{receipt_in, entry_added};
+ghost use Rattle.mf_store_accounts.specs.Flat.{entry_in, tables_of};
+ghost use Rattle.mf_store_accounts.specs.ReceiptRows.{receipt_in, entry_added};
 
 use crate::loans::{account_number, day_from};
 use crate::store::Store;

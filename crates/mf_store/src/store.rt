@@ -6,12 +6,12 @@ ghost use Rattle.mf_store_tables.specs.Writes.{Serves};
 ghost use Rattle.mf_model.specs.Institution.{Institution, newly_made, product_in};
 ghost use Rattle.mf_model.specs.Store.{counts_at, catalogue_counts, role_of};
 ghost use Rattle.mf_model.specs.Tree.{is_there};
-ghost use Rattle.mf_store_sound.specs.Flat.{key_at, tables_of};
+ghost use Rattle.mf_store_accounts.specs.Flat.{key_at, tables_of};
 ghost use Rattle.mf_store_records.specs.Rows.{loan_row, office_row, is_loan_above, is_in_range};
 ghost use Rattle.mf_store_records.specs.Calls.{OnlyFaultsShut};
 ghost use Rattle.mf_store_records.specs.Writes.{schema_of, Holds};
 ghost use Rattle.mf_store.specs.Learning.{Tells};
-ghost use Rattle.mf_store.specs.Stands.{IsTabled, HasGoodDisk, LeavesTables, StandsFor, IsClean, Leaves, Stays, Becomes, IsOpen, FaultsAloneShut};
+ghost use Rattle.mf_store.specs.Stands.{IsTabled, HasGoodDisk, LeavesTables, IsUnfounded, StandsFor, IsClean, Leaves, Stays, Becomes, IsOpen, FaultsAloneShut};
 
 use crate::first::first_writes;
 use crate::known::{Known, News};
@@ -116,28 +116,69 @@ impl<S: Alter> Store<S> {
         offices_within(&mut self.connection, low, high)
     }
 
-    /// A new institution where there are no tables yet.
-    pub(crate) fn found(
+    /// A new institution on this business day where there are no tables yet, made in one commit. The day is at most 2099-12-31. The
+    /// error is F20, and the connection comes back.
+    pub fn found(
         alloc: Global,
         mut connection: Connection<S>,
         day: Day,
-    ) -> Result<Store<S>, Fault>
-    where
-        S: Drop,
+    ) -> Result<Store<S>, (Fault, Connection<S>)>
         requires alone { connection.in_transaction ≡ false }
         requires day { day ≤ last_entered_day }
+        ensures premise { IfOk result (λ store. IsClean S.Store store → HasGoodDisk S.Store connection) }
         ensures stands { IfOk result (λ store. IsClean S.Store store → Serves schema_of Holds (state S.Store connection).now None → StandsFor S.Store store (newly_made day)) }
         ensures leaves { IfOk result (λ store. IsClean S.Store store → Serves schema_of Holds (state S.Store connection).now None → Leaves S.Store store (newly_made day ∷ [])) }
         ensures open { IfOk result (λ store. IsClean S.Store store → IsOpen S.Store store) }
-        ensures gives_up { IfErr result (λ fault. fault ≡ F20) }
+        ensures was_open { IfOk result (λ store. IsClean S.Store store → IsTrue (state S.Store connection).is_open) }
+        ensures gives_up { IfErr result (λ e. e.0 ≡ F20) }
+        ensures given_back { IfErr result (λ e. IsUnfounded S.Store day connection e.1) }
+        ensures alone { IfErr result (λ e. e.1.in_transaction ≡ false) }
     {
         laws::soundness();
-        let writes = first_writes(alloc, day)?;
-        let known = Known::nothing(alloc)?;
+        let writes = match first_writes(alloc, day) {
+            Ok(writes) => writes,
+            Err(fault) => return Err((fault, connection)),
+        };
+        let known = match Known::nothing(alloc) {
+            Ok(known) => known,
+            Err(fault) => return Err((fault, connection)),
+        };
         match apply(&mut connection, &writes) {
             Ok(()) => Ok(Store { connection, known }),
-            Err(_) => Err(Fault::F20),
+            Err(_) => Err((Fault::F20, connection)),
         }
+    }
+
+    /// A store over tables that hold an institution, which it doesn't ask for anything. The error is F20, want of memory, and the
+    /// connection comes back.
+    pub fn over(
+        alloc: Global,
+        connection: Connection<S>,
+    ) -> Result<Store<S>, (Fault, Connection<S>)>
+        requires alone { connection.in_transaction ≡ false }
+        ensures same { IfOk result (λ store. store.connection ≡ connection) }
+        ensures stands { IfOk result (λ store. (i : Institution) → IsTabled S.Store connection i → StandsFor S.Store store i) }
+        ensures leaves { IfOk result (λ store. IsOpen S.Store store → (i : Institution) → IsTabled S.Store connection i → Leaves S.Store store (i ∷ [])) }
+        ensures gives_up { IfErr result (λ e. (e.0 ≡ F20) × (e.1 ≡ connection)) }
+    {
+        let _settled = connection.is_autocommit();
+        match Known::nothing(alloc) {
+            Ok(known) => Ok(Store { connection, known }),
+            Err(fault) => Err((fault, connection)),
+        }
+    }
+
+    /// The connection to the tables, which hold what the store stood for.
+    pub fn release(self) -> Connection<S>
+        ensures same { result ≡ self.connection }
+        ensures holds { (i : Institution) → StandsFor S.Store self i → IsTabled S.Store result i }
+        ensures alone { result.in_transaction ≡ false }
+    {
+        let Store {
+            connection,
+            known: _,
+        } = self;
+        connection
     }
 
     /// How many rows an office has, where that is known.

@@ -2,7 +2,7 @@
 
 ghost use Rattle.std.specs.Prelude.{◌≡◌, pos, Some, IfOk, IfErr};
 ghost use Rattle.mf_base.specs.declared.fault.Fault.TheVariants.{F20};
-ghost use Rattle.mf_store_sound.specs.Flat.{flag_number};
+ghost use Rattle.mf_store_accounts.specs.Flat.{flag_number};
 
 use mf_base::Fault;
 

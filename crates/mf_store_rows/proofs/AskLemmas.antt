@@ -26,6 +26,8 @@ use Rattle.mf_store_tables.specs.Queries.{Answers}
 use Rattle.mf_store_tables.proofs.ReadLemmas.{flat_map_if}
 use Rattle.mf_store_rows.proofs.OpenLemmas.{raw_row, kept_by_rows}
 use Rattle.mf_store_tables.proofs.ShownLemmas.{shown_kept}
+use Rattle.mf_store_records.specs.Tables.{schema}
+use Rattle.mf_store_rows.specs.Schemas.{first_schema, IsKnown, IsPresent}
 use Rattle.mf_store_rows.specs.Whole.{HasRowids, ShowsTable}
 use Rattle.mf_store_rows.proofs.TreeLemmas.{raw_of, past_end, row_columns}
 
@@ -119,3 +121,21 @@ module _ {X : Type 0} (stored : X → Row) (cmp : X → X → Ordering) (schema 
     shows = λ items k. shown_kept stored cmp schema table.tree sql asks.plain asks.unlisted [] (cols 1 n) order asks.names asks.is [] (λ x. true) (λ id x. refl) key stored out ranks under db items rows has k h ∙ ap (map stored) (filter_true items);
     keeps = λ whole items rising are. kept_by_answer db rows items has sound whole h are rising;
   }
+
+-- a text that asks for the whole table under the schema of today alone
+pub plain_present : (table : Table) (order : List (Term × Key)) (sql : List ℕ) → AsksAll schema table order sql → (k : Schema) → IsPresent k → IsPlain (understood k sql)
+plain_present table order sql now k is = subst (λ s. IsPlain (understood s sql)) (sym is) now.plain
+
+-- a text that asks for the whole table under either schema
+module _ (table : Table) (order : List (Term × Key)) (sql : List ℕ) (now : AsksAll schema table order sql) (first : AsksAll first_schema table order sql) where
+  pub plain_known : (k : Schema) → IsKnown k → IsPlain (understood k sql)
+  plain_known k (inl is) = subst (λ s. IsPlain (understood s sql)) (sym is) now.plain
+  plain_known k (inr is) = subst (λ s. IsPlain (understood s sql)) (sym is) first.plain
+
+module _ {X : Type 0} (stored : X → Row) (cmp : X → X → Ordering) (table : Table) (there : Has schema.tables table) (there_first : Has first_schema.tables table) (keyless : table.key ≡ None) (order : List (Term × Key)) (sql : List ℕ)
+    (now : AsksAll schema table order sql) (first : AsksAll first_schema table order sql) (under : (trees : Trees) → overlay trees [] table.tree ≡ trees table.tree) (key : X → Row)
+    (out : (id : ℤ) (x : X) → output (scan table.tree [] (cols 1 (length table.columns)) order) ([] ∷ (Int id ∷ stored x) ∷ []) ≡ (key x, stored x))
+    (ranks : (a b : X) → output_cmp (scan table.tree [] (cols 1 (length table.columns)) order) (key a, stored a) (key b, stored b) ≡ cmp a b) where
+  pub shows_known : (db : Database) (rows : List Row) → IsKnown db.schema → IsSound db.schema db.trees → Answers sql [] db rows → ShowsTable stored cmp (db.trees table.tree) rows
+  shows_known db rows (inl is) sound = shows_table stored cmp schema table there keyless order sql now under key out ranks db rows is (subst (λ k. IsSound k db.trees) is sound)
+  shows_known db rows (inr is) sound = shows_table stored cmp first_schema table there_first keyless order sql first under key out ranks db rows is (subst (λ k. IsSound k db.trees) is sound)

@@ -1,12 +1,16 @@
 -- Rows that are read into records, one by one.
-use Rattle.std.proofs.Common.{◌≡◌, ◌<◌, ◌+◌, ◌++◌, ◌∙◌, ℕ, zero, suc, List, [], ◌∷◌, map, length, get_or, take, Option, Some, None, Result, Ok, Err, IfOk, sym, ap, ap₂, refl, subst, arith}
+use Rattle.std.proofs.Common.{◌≡◌, ◌<◌, ◌+◌, ◌++◌, ◌∙◌, ℕ, zero, suc, List, [], ◌∷◌, map, length, get_or, take, Option, Some, None, Result, Ok, Err, IfOk, IsTrue, inl, inr, sym, ap, ap₂, refl, subst, arith}
 use Rattle.std.specs.Option.{IfSome}
 use Rattle.std.specs.List.{AllByRecursion}
 use Rattle.std.proofs.lemmas.List.{take_more}
 use Rattle.sqlite.specs.Effect.{Database}
 use Rattle.sqlite.specs.Order.{Row}
-use Rattle.sqlite.specs.State.{State}
-use Rattle.mf_store_records.specs.Calls.{IsUnchanged}
+use Rattle.sqlite.specs.Given.{IsPlain}
+use Rattle.sqlite.specs.Listing.{understood}
+use Rattle.sqlite.specs.Schema.{Schema}
+use Rattle.sqlite.specs.State.{State, HasCleanDisk, Survives}
+use Rattle.mf_store_records.proofs.CallLemmas.{only_faults_shut}
+use Rattle.mf_store_rows.specs.Schemas.{IsUnchangedUnder}
 
 module _ {X : Type 0} (stored : X → Row) where
   -- the record has the row, and no other has it
@@ -61,14 +65,40 @@ some_weaker (Ok (Some v)) P Q f h = f v h
 some_weaker (Ok None) P Q f h = h
 some_weaker (Err e) P Q f h = h
 
+-- a plain text changes nothing, where it is plain under each of the schemas
+pub unchanged : (IsOne : Schema → Type 0) (was is : State) (sql : List ℕ) → ((k : Schema) → IsOne k → IsPlain (understood k sql)) → (HasCleanDisk is → IsTrue is.is_open → IsPlain (understood was.now.schema sql) → is.now ≡ was.now)
+    → (HasCleanDisk is → IsTrue is.is_open → IsTrue was.is_open) → Survives was is (λ _. IsTrue was.is_open × ¬ IsPlain (understood was.now.schema sql)) → IsUnchangedUnder IsOne was is
+unchanged IsOne was is sql plain same was_open survives = record {
+  premise = λ clean. omega (arith, survives.clean, clean);
+  was_open = was_open;
+  shuts = only_faults_shut was is survives;
+  same = λ clean live ours. same clean live (plain was.now.schema ours);
+  stop = λ clean ours trees may. elim (survives.crash clean trees may) [
+    | inl before ↦ before
+    | inr wrote ↦ absurd (wrote.1 (plain was.now.schema (ours wrote.0)))
+  ];
+}
+
 -- two readings, one after the other
-pub unchanged_then : (a b c : State) → IsUnchanged a b → IsUnchanged b c → IsUnchanged a c
-unchanged_then a b c first second = record {
-  premise = λ clean. first.premise (second.premise clean);
-  was_open = λ clean live. first.was_open (second.premise clean) (second.was_open clean live);
-  same = λ clean live ours. let before = first.same (second.premise clean) (second.was_open clean live) ours in second.same clean live (ap (λ (d : Database). d.schema) before ∙ ours) ∙ before;
-  shuts = λ faults few up. second.shuts faults few (first.shuts faults few up);
-  stop = λ clean ours trees may.
-      let early = second.premise clean in
-      first.stop early ours trees (second.stop clean (λ live. ap (λ (d : Database). d.schema) (first.same early live (ours (first.was_open early live))) ∙ ours (first.was_open early live)) trees may);
+pub unchanged_then : (P Q : Schema → Type 0) (a b c : State) → IsUnchangedUnder P a b → IsUnchangedUnder Q b c → IsUnchangedUnder (λ k. P k × Q k) a c
+unchanged_then P Q a b c first second =
+    let kept = λ (same : b.now ≡ a.now) (its : Q a.now.schema). subst (λ (d : Database). Q d.schema) (sym same) its in
+    record {
+      premise = λ clean. first.premise (second.premise clean);
+      was_open = λ clean live. first.was_open (second.premise clean) (second.was_open clean live);
+      same = λ clean live its. let before = first.same (second.premise clean) (second.was_open clean live) its.0 in second.same clean live (kept before its.1) ∙ before;
+      shuts = λ faults few up. second.shuts faults few (first.shuts faults few up);
+      stop = λ clean its trees may.
+          let early = second.premise clean in
+          first.stop early (λ live. (its live).0) trees (second.stop clean (λ live. kept (first.same early live (its (first.was_open early live)).0) (its (first.was_open early live)).1) trees may);
+    }
+
+-- a reading of the first of two groups
+pub unchanged_first : (P Q : Schema → Type 0) (a b : State) → IsUnchangedUnder P a b → IsUnchangedUnder (λ k. P k × Q k) a b
+unchanged_first P Q a b first = record {
+  premise = first.premise;
+  was_open = first.was_open;
+  same = λ clean live its. first.same clean live its.0;
+  shuts = first.shuts;
+  stop = λ clean its. first.stop clean (λ live. (its live).0);
 }

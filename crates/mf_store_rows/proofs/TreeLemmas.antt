@@ -26,7 +26,8 @@ use Rattle.sqlite_store.specs.Listing.{file_trees, all_shapes, all_reals}
 use Rattle.sqlite_store.proofs.ListingLemmas.{all_ordered}
 use Rattle.mf_store_tables.specs.Keep.{same_id}
 use Rattle.mf_store_records.specs.Tables.{schema}
-use Rattle.mf_store_rows.specs.Whole.{HasRowids, HaveRowids}
+use Rattle.mf_store_rows.specs.Schemas.{first_schema}
+use Rattle.mf_store_rows.specs.Whole.{HasRowids, HaveRowidsUnder}
 use Rattle.mf_store_rows.proofs.OpenLemmas.{raw_row}
 
 -- what is listed as a table has its rowids in order, where the trees are in order
@@ -81,22 +82,32 @@ each_table P [] h = tt
 each_table P (t ∷ ts) h = (h t (inl refl), each_table P ts (λ u there. h u (inr there)))
 
 -- a store that is not broken
-pub rowids_of_store : (v : View) (trees : Trees) → (v.is_broken ≡ false → IsListed (v.trees catalog_tree) v.shape v.reals) → (v.is_broken ≡ false → IsOrdered v.shape v.trees) → v.is_broken ≡ false → trees ≡ v.trees → IsSound schema trees → HaveRowids trees
-rowids_of_store v trees listed ordered unbroken same sound =
-    let its = subst (IsSound schema) same sound in
-    subst HaveRowids (sym same) (each_table (λ (t : Table). HasRowids (v.trees t.tree)) schema.tables (λ t there. rowids_in_order v.trees v.shape v.reals schema t (listed unbroken) (ordered unbroken) its there))
+pub rowids_of_store : (k : Schema) (v : View) (trees : Trees) → (v.is_broken ≡ false → IsListed (v.trees catalog_tree) v.shape v.reals) → (v.is_broken ≡ false → IsOrdered v.shape v.trees) → v.is_broken ≡ false → trees ≡ v.trees → IsSound k trees → HaveRowidsUnder k trees
+rowids_of_store k v trees listed ordered unbroken same sound =
+    let its = subst (IsSound k) same sound in
+    subst (HaveRowidsUnder k) (sym same) (each_table (λ (t : Table). HasRowids (v.trees t.tree)) k.tables (λ t there. rowids_in_order v.trees v.shape v.reals k t (listed unbroken) (ordered unbroken) its there))
+
+-- trees with no rows have these in order
+abbrev pub AreLow : Schema → Type 0
+AreLow k = (trees : Trees) → ((t : ℕ) → t < 2 ^ 32 → HasRowids (trees t)) → HaveRowidsUnder k trees
+
+pub are_low : AreLow schema
+are_low trees empty =
+    (empty 0 (omega arith), (empty 2 (omega arith), (empty 5 (omega arith), (empty 7 (omega arith), (empty 9 (omega arith), (empty 11 (omega arith), (empty 13 (omega arith), (empty 15 (omega arith), (empty 17 (omega arith), (empty 19 (omega arith), (empty 21 (omega arith), tt)))))))))))
+
+pub first_are_low : AreLow first_schema
+first_are_low trees empty =
+    (empty 0 (omega arith), (empty 2 (omega arith), (empty 5 (omega arith), (empty 7 (omega arith), (empty 9 (omega arith), (empty 11 (omega arith), (empty 13 (omega arith), (empty 15 (omega arith), (empty 17 (omega arith), tt)))))))))
 
 -- files that hold a database, or none
-pub rowids_of_files : (image : Image) (trees : Trees) → AreFoundIn image trees → IsSound schema trees → HaveRowids trees
-rowids_of_files image trees (inl found) sound =
+pub rowids_of_files : (k : Schema) (image : Image) (trees : Trees) → AreLow k → AreFoundIn image trees → IsSound k trees → HaveRowidsUnder k trees
+rowids_of_files k image trees low (inl found) sound =
     let size = found.0 in
     let pages = found.1 in
     let wanted = found.2 in
     let files = file_trees size wanted pages in
     let ordered : IsOrdered (all_shapes wanted) files = ∥∥₁_elim found.4 (IsOrdered-prop _ _) (λ ours. all_ordered ours.file.db (version_in pages)) in
     let listed : IsListed (files catalog_tree) (all_shapes wanted) (all_reals wanted) = subst (λ rows. IsListed rows (all_shapes wanted) (all_reals wanted)) (sym (catalog_rows size wanted (in_use size pages))) (is_listed wanted) in
-    let its = subst (IsSound schema) found.5 sound in
-    subst HaveRowids (sym found.5) (each_table (λ (t : Table). HasRowids (files t.tree)) schema.tables (λ t there. rowids_in_order files (all_shapes wanted) (all_reals wanted) schema t listed ordered its there))
-rowids_of_files image trees (inr none) sound =
-    let empty : (t : ℕ) → t < 2 ^ 32 → HasRowids (trees t) = λ t low. subst HasRowids (sym (none.1.0 t low)) (tt, tt) in
-    (empty 0 (omega arith), (empty 2 (omega arith), (empty 5 (omega arith), (empty 7 (omega arith), (empty 9 (omega arith), (empty 11 (omega arith), (empty 13 (omega arith), (empty 15 (omega arith), (empty 17 (omega arith), (empty 19 (omega arith), (empty 21 (omega arith), tt)))))))))))
+    let its = subst (IsSound k) found.5 sound in
+    subst (HaveRowidsUnder k) (sym found.5) (each_table (λ (t : Table). HasRowids (files t.tree)) k.tables (λ t there. rowids_in_order files (all_shapes wanted) (all_reals wanted) k t listed ordered its there))
+rowids_of_files k image trees low (inr none) sound = low trees (λ t small. subst HasRowids (sym (none.1.0 t small)) (tt, tt))

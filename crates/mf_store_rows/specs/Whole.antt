@@ -4,6 +4,7 @@ use Rattle.std.specs.declared.cmp.Ordering.{Ordering}
 use Rattle.std.specs.declared.cmp.Ordering.TheVariants.{Less}
 use Rattle.std.specs.List.{AllByRecursion}
 use Rattle.sqlite.specs.Order.{Row}
+use Rattle.sqlite.specs.Schema.{Schema}
 use Rattle.sqlite.specs.Table.{Table as SqlTable}
 use Rattle.sqlite.specs.Tree.{Trees}
 use Rattle.sqlite_trees.specs.declared.store.Shape.TheVariants.{Table}
@@ -11,14 +12,23 @@ use Rattle.sqlite_trees.specs.Tree.{IsAscending}
 use Rattle.sqlite_trees.specs.View.{IsShaped}
 use Rattle.mf_store_tables.specs.Keep.{Keeps}
 use Rattle.mf_store_records.specs.Tables.{schema}
+use Rattle.mf_store_rows.specs.Schemas.{first_schema}
 
 -- the rows stand under rowids that are integers and rise
 abbrev pub HasRowids : List Row → Type 0
 HasRowids = IsShaped Table
 
+-- so does each table of a schema
+abbrev pub HaveRowidsUnder : Schema → Trees → Type 0
+HaveRowidsUnder k trees = AllByRecursion (λ (t : SqlTable). HasRowids (trees t.tree)) k.tables
+
 -- so does each table of the program
 abbrev pub HaveRowids : Trees → Type 0
-HaveRowids trees = AllByRecursion (λ (t : SqlTable). HasRowids (trees t.tree)) schema.tables
+HaveRowids trees = HaveRowidsUnder schema trees
+
+-- so does each table of the first schema
+abbrev pub HaveFirstRowids : Trees → Type 0
+HaveFirstRowids trees = HaveRowidsUnder first_schema trees
 
 -- what a text that asks for the whole table shows of it
 pub record ShowsTable {X : Type 0} (stored : X → Row) (cmp : X → X → Ordering) (tree rows : List Row) : Type 0 where

@@ -3,11 +3,10 @@
 ghost use Rattle.std.specs.Prelude.{◌≡◌, IsTrue, OnOk, IfOk, IfErr, IfSome, IfNone, false};
 ghost use Rattle.mf_base.specs.declared.fault.Fault.TheVariants.{F20};
 ghost use Rattle.sqlite.specs.Held.{state};
+ghost use Rattle.sqlite.specs.Schema.{Schema};
 ghost use Rattle.sqlite.specs.State.{HasCleanDisk};
 ghost use Rattle.sqlite.specs.Tree.{Trees};
-ghost use Rattle.mf_store_records.specs.Calls.{IsUnchanged};
-ghost use Rattle.mf_store_records.specs.Tables.{schema};
-ghost use Rattle.mf_store_rows.specs.Whole.{HaveRowids};
+ghost use Rattle.mf_store_rows.specs.Schemas.{IsUnchangedUnder};
 
 use crate::whole::{Whole, every};
 use mf_base::Fault;
@@ -30,22 +29,28 @@ pub trait Group: Sized {
     /// They rise by the key of their table.
     ghost DoRise: { Rows → Type 0 };
 
+    /// The schemas that have their tables.
+    ghost IsUnder: { Schema → Type 0 };
+
+    /// The rowids of their tables are in order.
+    ghost HaveRowids: { Trees → Type 0 };
+
     /// What the tables keep, and none where they keep nothing that records can hold.
     ///
-    /// The clauses on what is read speak of a connection whose tables are this program's, whatever rows stand there.
+    /// The clauses on what is read speak of a connection whose tables are those of a schema with these tables, whatever rows stand there.
     fn read_group<S: Alter>(
         alloc: Global,
         connection: &mut Connection<S>,
     ) -> Result<Option<Self>, Fault>
         requires alone { connection.old.in_transaction ≡ false }
-        ensures kept { IsUnchanged (state S.Store connection.old) (state S.Store connection.new) }
+        ensures kept { IsUnchangedUnder IsUnder (state S.Store connection.old) (state S.Store connection.new) }
         ensures gives_up { IfErr result (λ fault. fault ≡ F20) }
         ensures open { HasCleanDisk (state S.Store connection.new) → OnOk result (IsTrue (state S.Store connection.new).is_open) }
-        ensures only { HasCleanDisk (state S.Store connection.new) → (state S.Store connection.old).now.schema ≡ schema
+        ensures only { HasCleanDisk (state S.Store connection.new) → IsUnder (state S.Store connection.old).now.schema
             → IfOk result (λ x. IfSome x (λ group. (kept : Rows) → Keeps (state S.Store connection.old).now.trees kept → rows group ≡ kept)) }
-        ensures keeps { HasCleanDisk (state S.Store connection.new) → (state S.Store connection.old).now.schema ≡ schema → HaveRowids (state S.Store connection.old).now.trees
+        ensures keeps { HasCleanDisk (state S.Store connection.new) → IsUnder (state S.Store connection.old).now.schema → HaveRowids (state S.Store connection.old).now.trees
             → IfOk result (λ x. IfSome x (λ group. DoRise (rows group) → Keeps (state S.Store connection.old).now.trees (rows group))) }
-        ensures none { HasCleanDisk (state S.Store connection.new) → (state S.Store connection.old).now.schema ≡ schema
+        ensures none { HasCleanDisk (state S.Store connection.new) → IsUnder (state S.Store connection.old).now.schema
             → IfOk result (λ x. IfNone x ((kept : Rows) → CanBeHeld kept → ¬ Keeps (state S.Store connection.old).now.trees kept)) }
         ensures mode { connection.new.in_transaction ≡ false };
 }
@@ -57,6 +62,7 @@ impl<T: Whole + Drop> Group for Vec<T> {
     ghost use Rattle.sqlite_trees.specs.Tree.{IsAscending};
     ghost use Rattle.mf_store_tables.specs.Keep.{Keeps as KeepsItems};
     ghost use Rattle.mf_store_records.specs.Fields.{HasFields};
+    ghost use Rattle.mf_store_rows.specs.Whole.{HasRowids};
 
     ghost Rows = { List T };
 
@@ -67,6 +73,10 @@ impl<T: Whole + Drop> Group for Vec<T> {
     ghost CanBeHeld = { λ items. AllByRecursion (HasFields T.Table.fields) (map T.Table.stored items) };
 
     ghost DoRise = { IsAscending (λ a b. T.Whole.by a b ≡ Less) };
+
+    ghost IsUnder = { T.Whole.IsUnder };
+
+    ghost HaveRowids = { λ trees. HasRowids (trees T.Whole.tree) };
 
     fn read_group<S: Alter>(
         alloc: Global,
@@ -86,6 +96,10 @@ impl<A: Group + Drop, B: Group + Drop> Group for (A, B) {
     ghost CanBeHeld = { λ kept. A.Group.CanBeHeld kept.0 × B.Group.CanBeHeld kept.1 };
 
     ghost DoRise = { λ kept. A.Group.DoRise kept.0 × B.Group.DoRise kept.1 };
+
+    ghost IsUnder = { λ k. A.Group.IsUnder k × B.Group.IsUnder k };
+
+    ghost HaveRowids = { λ trees. A.Group.HaveRowids trees × B.Group.HaveRowids trees };
 
     fn read_group<S: Alter>(
         alloc: Global,

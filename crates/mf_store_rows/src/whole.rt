@@ -9,21 +9,21 @@ ghost use Rattle.sqlite.specs.Order.{Row as SqlRow};
 ghost use Rattle.sqlite.specs.Effect.{Database};
 ghost use Rattle.sqlite.specs.Given.{IsPlain};
 ghost use Rattle.sqlite.specs.Held.{state};
+ghost use Rattle.sqlite.specs.Schema.{Schema};
 ghost use Rattle.sqlite.specs.Listing.{understood};
 ghost use Rattle.sqlite.specs.State.{HasCleanDisk};
 ghost use Rattle.sqlite_catalog.specs.Listing.{IsSound};
 ghost use Rattle.sqlite_trees.specs.Tree.{IsAscending};
 ghost use Rattle.mf_store_tables.specs.Keep.{Keeps};
 ghost use Rattle.mf_store_tables.specs.Queries.{Answers};
-ghost use Rattle.mf_store_records.specs.Calls.{IsUnchanged};
 ghost use Rattle.mf_store_records.specs.Fields.{HasFields};
-ghost use Rattle.mf_store_records.specs.Tables.{schema};
-ghost use Rattle.sqlite.specs.Tree.{Trees};
-ghost use Rattle.mf_store_rows.specs.Whole.{HasRowids, HaveRowids, ShowsTable};
+ghost use Rattle.mf_store_rows.specs.Schemas.{IsUnchangedUnder};
+ghost use Rattle.mf_store_rows.specs.Whole.{HasRowids, ShowsTable};
 
 use crate::rows::read_all;
 use mf_base::Fault;
-use mf_store_records::{Table, ask};
+use mf_store_records::Table;
+use mf_store_tables::query;
 use sqlite::{Alter, Connection};
 use std::alloc::Global;
 
@@ -35,38 +35,40 @@ pub trait Whole: Table {
     /// The tree of its rows.
     ghost tree: { ℕ };
 
-    /// The text that shows the whole table in the order of its key.
-    fn every_text() -> &'static str
-        ensures plain { IsPlain (understood schema result.now) }
-        ensures shows { (db : Database) (rows : List SqlRow) → db.schema ≡ schema → IsSound schema db.trees → Answers result.now [] db rows
-            → ShowsTable Self.Table.stored by (db.trees tree) rows };
+    /// The schemas that have the table.
+    ghost IsUnder: { Schema → Type 0 };
 
-    // It is the tree of one of the program's tables.
-    ghost listed: { (trees : Trees) → HaveRowids trees → HasRowids (trees tree) };
+    /// The text that shows the whole table in the order of its key, under each of these schemas.
+    fn every_text() -> &'static str
+        ensures plain { (k : Schema) → IsUnder k → IsPlain (understood k result.now) }
+        ensures shows { (db : Database) (rows : List SqlRow) → IsUnder db.schema → IsSound db.schema db.trees → Answers result.now [] db rows
+            → ShowsTable Self.Table.stored by (db.trees tree) rows };
 }
 
 /// What the table keeps, and none where it keeps nothing that records can hold.
 ///
-/// The clauses on what is read speak of a connection whose tables are this program's, whatever rows stand there.
+/// The clauses on what is read speak of a connection whose tables are those of a schema with this table, whatever rows stand there.
 pub fn every<T: Whole + Drop, S: Alter>(
     alloc: Global,
     connection: &mut Connection<S>,
 ) -> Result<Option<Vec<T>>, Fault>
     requires alone { connection.old.in_transaction ≡ false }
-    ensures kept { IsUnchanged (state S.Store connection.old) (state S.Store connection.new) }
+    ensures kept { IsUnchangedUnder T.IsUnder (state S.Store connection.old) (state S.Store connection.new) }
     ensures gives_up { IfErr result (λ fault. fault ≡ F20) }
     ensures open { HasCleanDisk (state S.Store connection.new) → OnOk result (IsTrue (state S.Store connection.new).is_open) }
 
     // What the table keeps is this; and a table whose rowids are in order keeps this, if it rises by key.
-    ensures only { HasCleanDisk (state S.Store connection.new) → (state S.Store connection.old).now.schema ≡ schema
+    ensures only { HasCleanDisk (state S.Store connection.new) → T.IsUnder (state S.Store connection.old).now.schema
         → IfOk result (λ x. IfSome x (λ rs. (items : List T) → Keeps T.Table.stored T.by ((state S.Store connection.old).now.trees T.tree) items → rs.items ≡ items)) }
-    ensures keeps { HasCleanDisk (state S.Store connection.new) → (state S.Store connection.old).now.schema ≡ schema → HasRowids ((state S.Store connection.old).now.trees T.tree)
+    ensures keeps { HasCleanDisk (state S.Store connection.new) → T.IsUnder (state S.Store connection.old).now.schema → HasRowids ((state S.Store connection.old).now.trees T.tree)
         → IfOk result (λ x. IfSome x (λ rs. IsAscending (λ a b. T.by a b ≡ Less) rs.items → Keeps T.Table.stored T.by ((state S.Store connection.old).now.trees T.tree) rs.items)) }
-    ensures none { HasCleanDisk (state S.Store connection.new) → (state S.Store connection.old).now.schema ≡ schema
+    ensures none { HasCleanDisk (state S.Store connection.new) → T.IsUnder (state S.Store connection.old).now.schema
         → IfOk result (λ x. IfNone x ((items : List T) → AllByRecursion (HasFields T.Table.fields) (map T.Table.stored items) → ¬ Keeps T.Table.stored T.by ((state S.Store connection.old).now.trees T.tree) items)) }
     ensures mode { connection.new.in_transaction ≡ false }
 {
     let _schema = connection.schema();
-    let rows = ask(connection, T::every_text(), &[])?;
+    let Ok(rows) = query(connection, T::every_text(), &[]) else {
+        return Err(Fault::F20);
+    };
     read_all(alloc, &rows)
 }

@@ -3,9 +3,10 @@ use Rattle.std.proofs.Common.{◌≡◌, ◌<◌, ◌+◌, ◌∙◌, ℕ, List,
 use Rattle.std.specs.List.{AllByRecursion}
 use Rattle.mf_model.specs.Institution.{Catalogue, Ledger, Office}
 use Rattle.mf_model.specs.Tree.{Above, Ascending}
-use Rattle.mf_store_sound.specs.Accounts.{Placed, placed_loans, all_placed, rows_of, row_of, IsOther, AreApartLoans, IsPlainPlaced}
-use Rattle.mf_store_sound.specs.Flat.{numbered_from, all_rows, rows_of_loans, rows_by_loan, loans_of, loan_in}
-use Rattle.mf_store_sound.specs.Sound.{IsPlainLoan, IsPlainRows}
+use Rattle.mf_store_accounts.specs.Accounts.{Placed, placed_loans, all_placed, rows_of, row_of, IsOther, AreApartLoans, IsPlainPlaced}
+use Rattle.mf_store_accounts.specs.Flat.{numbered_from, all_rows, rows_of_loans, rows_by_loan, loans_of, loan_in}
+use Rattle.mf_store_accounts.specs.Ledgers.{IsPlainLoan}
+use Rattle.mf_store_sound.specs.Sound.{IsPlainRows}
 use Rattle.mf_store_sound.proofs.PartLemmas.{all_append}
 
 module _ {A R : Type 0} (make : ℕ → ℕ → A → R) (of : Ledger → List A) where

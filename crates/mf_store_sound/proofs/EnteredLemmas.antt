@@ -8,8 +8,9 @@ use Rattle.mf_account.specs.Loan.{IsEntry}
 use Rattle.mf_account.specs.Standing.{entry_at}
 use Rattle.mf_account.proofs.LawfulLemmas.{seals_last, seals_pass}
 use Rattle.mf_store_records.specs.declared.entries.EntryRow.{EntryRow}
-use Rattle.mf_store_sound.specs.Entries.{IsReadable, IsPlainEntry, AreEntryRows, IsEnteredBy, AreLoanEntries}
-use Rattle.mf_store_sound.specs.Flat.{entry_in}
+use Rattle.mf_store_accounts.specs.Ledgers.{IsReadable, IsEnteredBy}
+use Rattle.mf_store_sound.specs.Entries.{IsPlainEntry, AreEntryRows, AreLoanEntries}
+use Rattle.mf_store_accounts.specs.Flat.{entry_in}
 use Rattle.mf_store_sound.specs.Stored.{AllFrom}
 
 length_map : {A B : Type 0} (f : A → B) (xs : List A) → length (map f xs) ≡ length xs

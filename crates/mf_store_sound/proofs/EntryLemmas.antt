@@ -7,8 +7,8 @@ use Rattle.mf_model.specs.Institution.{Ledger, Office}
 use Rattle.mf_model.specs.Receipts.{use_of, uses_in, uses_from}
 use Rattle.mf_store_records.specs.declared.entries.EntryRow.{EntryRow}
 use Rattle.mf_store_sound.specs.Entries.{IsEntryRow, IsPlainEntry, AreEntryRows}
-use Rattle.mf_store_sound.specs.Flat.{entry_in, own_entries, rows_of_loans, entry_rows}
-use Rattle.mf_store_sound.specs.ReceiptRows.{receipt_in, carried, receipt_of, carried_by}
+use Rattle.mf_store_accounts.specs.Flat.{entry_in, own_entries, rows_of_loans, entry_rows}
+use Rattle.mf_store_accounts.specs.ReceiptRows.{receipt_in, carried, receipt_of, carried_by}
 use Rattle.mf_store_sound.specs.Stored.{AllFrom}
 
 -- rows of entries one by one, and all together

@@ -14,7 +14,4 @@ pub mod OfficePartLemmas
 pub mod ReceiptLemmas
 pub mod AllLoanLemmas
 pub mod SoundLemmas
-pub mod AccountLemmas
-pub mod KeptLemmas
-pub mod ShareLemmas
-pub mod AccountRowLemmas
+pub mod WholeLemmas

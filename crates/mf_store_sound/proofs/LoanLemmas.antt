@@ -13,10 +13,10 @@ use Rattle.mf_model.specs.declared.loan.Stage.{Stage}
 use Rattle.mf_model.specs.declared.loan.Stage.TheVariants.{Submitted, Approved, Disbursed, Withdrawn, Rejected}
 use Rattle.mf_store_records.specs.declared.loans.LoanRow.{LoanRow}
 use Rattle.mf_store_records.specs.declared.products.ProductRow.{ProductRow}
-use Rattle.mf_store_sound.specs.Flat.{loan_in, product_as, numbered_from, approval_text, disbursal_text}
+use Rattle.mf_store_accounts.specs.Flat.{loan_in, product_as, numbered_from, approval_text, disbursal_text}
 use Rattle.mf_store_sound.specs.Stages.{IsApproval, IsDisbursal, IsStageOf, AreEntriesOf}
 use Rattle.mf_store_sound.specs.Stored.{IsRowOf}
-use Rattle.mf_store_sound.proofs.ProductLemmas.{numbered_row}
+use Rattle.mf_store_accounts.proofs.NumberedLemmas.{numbered_row}
 
 -- a product that is there
 pub lent : (k : Catalogue) (rows : List ProductRow) (product : ProductRow) (row : LoanRow) (l : Loan) (b : Bool) → numbered_from product_as 1 k.products ≡ rows → Some product ≡ numbered rows row.product → loan_in row.office row.number l ≡ row

@@ -9,10 +9,12 @@ use Rattle.mf_model.specs.Stages.{disbursed_on}
 use Rattle.mf_model.specs.declared.loan.Loan.{Loan}
 use Rattle.mf_store_records.specs.declared.entries.EntryRow.{EntryRow}
 use Rattle.mf_store_records.specs.declared.loans.LoanRow.{LoanRow}
-use Rattle.mf_store_sound.specs.Flat.{numbered_from, loan_in, entry_in, own_entries, rows_of_loans}
+use Rattle.mf_store_accounts.specs.Flat.{numbered_from, loan_in, entry_in, own_entries, rows_of_loans}
 use Rattle.mf_store_sound.specs.Parts.{own_count, own, later}
-use Rattle.mf_store_sound.specs.Sound.{AreEntriesIn, IsPlainLoan, IsLoanPart, AreLoanParts}
-use Rattle.mf_store_sound.specs.Stages.{IsOwnLoan, AreEntriesOf}
+use Rattle.mf_store_accounts.specs.Ledgers.{AreEntriesIn, IsPlainLoan}
+use Rattle.mf_store_sound.specs.Sound.{IsLoanPart, AreLoanParts}
+use Rattle.mf_store_accounts.specs.Ledgers.{IsOwnLoan}
+use Rattle.mf_store_sound.specs.Stages.{AreEntriesOf}
 use Rattle.mf_store_sound.specs.Stored.{IsRowOf}
 use Rattle.mf_store_sound.proofs.PartLemmas.{own_of_loan, later_of_loan}
 

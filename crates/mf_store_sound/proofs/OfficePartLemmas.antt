@@ -10,7 +10,7 @@ use Rattle.mf_store_records.specs.declared.entries.EntryRow.{EntryRow}
 use Rattle.mf_store_records.specs.declared.loans.LoanRow.{LoanRow}
 use Rattle.mf_store_records.specs.declared.offices.OfficeRow.{OfficeRow}
 use Rattle.mf_store_records.specs.declared.staff.StaffRow.{StaffRow}
-use Rattle.mf_store_sound.specs.Flat.{numbered_from, all_rows, rows_of_loans, entry_rows, own_entries, loans_of, staff_in, client_in, loan_in, entry_in}
+use Rattle.mf_store_accounts.specs.Flat.{numbered_from, all_rows, rows_of_loans, entry_rows, own_entries, loans_of, staff_in, client_in, loan_in, entry_in}
 use Rattle.mf_store_sound.specs.Parts.{own_count, own, later, office_of, bare}
 use Rattle.mf_store_sound.specs.Sound.{AreLoanParts, IsPlainRows, IsOfficePart, AreOfficeParts}
 use Rattle.mf_store_sound.specs.Stored.{AreRowsOf}

@@ -1,5 +1,5 @@
 -- Rows of offices, one by one.
-use Rattle.std.proofs.Common.{◌≡◌, ◌≢◌, ◌↔◌, ◌<◌, ◌≤◌, ◌+◌, ◌∙◌, ℕ, zero, suc, Bool, true, List, [], ◌∷◌, length, get_or, drop, IsTrue, Option, Some, None, Result, Ok, Err, IfOk, refl, sym, ap, subst, arith, add-one, drop-cons, nat_cmp, ◌==◌}
+use Rattle.std.proofs.Common.{◌≡◌, ◌≢◌, ◌↔◌, ◌<◌, ◌≤◌, ◌+◌, ◌∙◌, ℕ, zero, suc, Bool, true, List, [], ◌∷◌, length, get_or, drop, IsTrue, Option, Some, None, Ok, Err, refl, sym, ap, subst, arith, add-one, drop-cons, nat_cmp, ◌==◌}
 use Rattle.std.specs.List.{AllByRecursion}
 use Rattle.std.specs.List.Sorted.{IsBinarySearchResult, IsNonDecreasingBy}
 use Rattle.std.specs.Ordering.{ordering_index}
@@ -8,14 +8,9 @@ use Rattle.std.proofs.lemmas.Cmp.{ranked}
 use Rattle.std.proofs.lemmas.List.{drop_all}
 use Rattle.std.proofs.lemmas.List.Recursion.{found_at, found_nowhere}
 use Rattle.std.proofs.lemmas.List.Sorted.{IsNonDecreasingBy-from_default}
-use Rattle.mf_base.specs.declared.fault.Fault.{Fault}
 use Rattle.mf_office.specs.Keys.{child_key}
 use Rattle.mf_store_records.specs.declared.offices.OfficeRow.{OfficeRow}
 use Rattle.mf_store_sound.specs.Offices.{AscendFrom, row_at, HasParentsText}
-
-pub weaker_if_ok : {A : Type 0} (r : Result A Fault) (P Q : A → Type 0) → ((a : A) → P a → Q a) → IfOk r P → IfOk r Q
-weaker_if_ok (Ok a) P Q h p = h a p
-weaker_if_ok (Err e) P Q h p = tt
 
 at_office : (rows : List OfficeRow) (i : ℕ) (o : OfficeRow) → i < length rows → o ≡ get_or rows i o → drop i rows ≡ o ∷ drop (i + 1) rows
 at_office rows i o h is = drop-cons rows i o h ∙ (λ t. sym is t ∷ drop (sym (add-one i) t) rows)

@@ -9,7 +9,7 @@ use Rattle.mf_office.specs.Tree.{IsTreeOf}
 use Rattle.mf_model.specs.Institution.{office_at}
 use Rattle.mf_model.specs.Tree.{Above, Ascending, parent_of, is_there}
 use Rattle.mf_store_records.specs.declared.offices.OfficeRow.{OfficeRow}
-use Rattle.mf_store_sound.specs.Flat.{office_under}
+use Rattle.mf_store_accounts.specs.Flat.{office_under}
 use Rattle.mf_store_sound.specs.Offices.{IsNumberedAndNamed, AreOffices, AscendFrom, row_at, HasParentsText, IsOfficeRow, AreOfficeRows}
 use Rattle.mf_store_sound.specs.Parts.{office_of}
 

@@ -5,7 +5,7 @@ use Rattle.std.proofs.lemmas.Bool.Decides.{nat_tests}
 use Rattle.std.proofs.lemmas.List.Sums.{take_while-cons}
 use Rattle.mf_model.specs.Institution.{Ledger, Office, Rows}
 use Rattle.mf_model.specs.Tree.{Above}
-use Rattle.mf_store_sound.specs.Flat.{numbered_from, all_rows, rows_of_loans, rows_by_loan}
+use Rattle.mf_store_accounts.specs.Flat.{numbered_from, all_rows, rows_of_loans, rows_by_loan}
 use Rattle.mf_store_sound.specs.Parts.{own_count, own, later}
 
 module _ {R : Type 0} (owner : R → ℕ) (x : ℕ) where

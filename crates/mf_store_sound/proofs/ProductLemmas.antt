@@ -1,29 +1,15 @@
 -- Rows of products, and the charges that they name.
-use Rattle.std.proofs.Common.{◌≡◌, ◌+◌, ◌-◌, ◌∙◌, ℕ, zero, suc, Bool, true, false, cond, ◌&&◌, List, [], ◌∷◌, slice_get, Option, Some, None, refl, sym, ap, arith, ◌==◌}
+use Rattle.std.proofs.Common.{◌≡◌, ◌∙◌, ℕ, Bool, false, ◌&&◌, List, Option, Some, None, refl, sym, ap, ◌==◌}
 use Rattle.std.specs.Option.{option_map}
-use Rattle.std.proofs.lemmas.Bool.Decides.{nat_tests}
 use Rattle.mf_catalog.specs.declared.charge.ChargeKind.{ChargeKind}
 use Rattle.mf_catalog.specs.declared.charge.ChargeKind.TheVariants.{Disbursement, Instalment, Overdue, DueDate}
 use Rattle.mf_catalog.specs.Product.{same_kind, has_kind, is_of_kind, kinds_right}
 use Rattle.mf_model.specs.Institution.{Catalogue, Charge, Offer, charge_in, charge_def, numbered}
 use Rattle.mf_store_records.specs.declared.charges.ChargeRow.{ChargeRow}
 use Rattle.mf_store_records.specs.declared.products.ProductRow.{ProductRow}
-use Rattle.mf_store_sound.specs.Flat.{charge_as, product_as, numbered_from}
+use Rattle.mf_store_accounts.specs.Flat.{charge_as, product_as, numbered_from}
+use Rattle.mf_store_accounts.proofs.NumberedLemmas.{numbered_row}
 use Rattle.mf_catalog.specs.Names.{kind_number}
-
--- the row of a number, by the value of that number
-module _ {A R : Type 0} (make : ℕ → A → R) where
-  at_place : (xs : List A) (m d n : ℕ) → n ≡ m + d → slice_get (numbered_from make m xs) d ≡ option_map (make n) (slice_get xs d)
-  at_place [] m d n e = refl
-  at_place (x ∷ xs) m zero n e = ap (λ j. Some (make j x)) (let same : m ≡ n = omega arith in same)
-  at_place (x ∷ xs) m (suc d) n e = at_place xs (m + 1) d n (omega arith)
-
-  pub numbered_row : (xs : List A) (n : ℕ) → numbered (numbered_from make 1 xs) n ≡ option_map (make n) (numbered xs n)
-  numbered_row xs n = go (n == 0) refl
-    where
-      go : (b : Bool) → (n == 0) ≡ b → cond b None (slice_get (numbered_from make 1 xs) (n - 1)) ≡ option_map (make n) (cond b None (slice_get xs (n - 1)))
-      go true e = refl
-      go false e = let some : n ≡ 1 + (n - 1) = grind (arith, nat_tests) in at_place xs 1 (n - 1) n some
 
 kinds_tested : (a b : ChargeKind) → (kind_number b == kind_number a) ≡ same_kind a b
 kinds_tested Disbursement Disbursement = refl

@@ -6,7 +6,7 @@ use Rattle.std.specs.Ordering.{ordering_reverse}
 use Rattle.std.specs.Str.{bytes_eq}
 use Rattle.std.proofs.lemmas.Bool.Decides.{nat_tests}
 use Rattle.std.proofs.lemmas.Cmp.{tied_itself}
-use Rattle.std.proofs.lemmas.List.{get_or_default, ext_get_or}
+use Rattle.std.proofs.lemmas.List.{get_or_default}
 use Rattle.std.proofs.lemmas.List.Sorted.{IsPermutation-sym, IsPermutation-trans, length_permutation}
 use Rattle.std.proofs.lemmas.Slice.Eq.{bytes_eq-Decides}
 use Rattle.sqlite_keyed.proofs.ListLemmas.{all_weaker, ascending_weaker, IsPermutation-filter, filter_none}
@@ -21,7 +21,7 @@ use Rattle.mf_store_records.specs.declared.entries.EntryRow.{EntryRow}
 use Rattle.mf_store_records.specs.declared.receipts.ReceiptRow.{ReceiptRow}
 use Rattle.mf_store_records.proofs.ReceiptLemmas.{before_later, is_receipt-bytes}
 use Rattle.mf_store_records.proofs.TableLemmas.{by_receipt_total}
-use Rattle.mf_store_sound.specs.ReceiptRows.{receipt_in, carried, carried_by, AreReceiptsOf}
+use Rattle.mf_store_accounts.specs.ReceiptRows.{receipt_in, carried, carried_by, AreReceiptsOf}
 use Rattle.mf_store_sound.proofs.PartLemmas.{all_append}
 use Rattle.mf_store_sound.proofs.StaffLemmas.{rising_is_sorted}
 
@@ -235,28 +235,3 @@ in_order_apart fs up apart = in_order_rises (sort_by by_receipt (carried fs)) (r
 
 pub apart_in_order : (fs : List Office) → AreReceiptsInOrder (sort_by by_receipt (carried fs)) → AreAllApart fs
 apart_in_order fs up = apart_of fs (none_tied by_receipt by_receipt_total (carried fs) (rises_in_order (sort_by by_receipt (carried fs)) up))
-
--- ---- two lists of rows, one by one
-
-abbrev pub SameTo : List ReceiptRow → List ReceiptRow → ℕ → Type 0
-SameTo rows others i = (k : ℕ) (d : ReceiptRow) → k < i → get_or rows k d ≡ get_or others k d
-
-pub same_on : (rows others : List ReceiptRow) (i : ℕ) (x y : ReceiptRow) → length rows ≡ length others → i < length rows → x ≡ get_or rows i x → y ≡ get_or others i y → x ≡ y → SameTo rows others i → SameTo rows others (i + 1)
-same_on rows others i x y many inside is_x is_y is so_far k d below = go (k == i) refl
-  where
-    go : (b : Bool) → (k == i) ≡ b → get_or rows k d ≡ get_or others k d
-    go true e =
-        let here : k ≡ i = grind (arith, nat_tests) in
-        get_or_default rows k d x (omega arith) ∙ (λ t. get_or rows (here t) x) ∙ sym is_x ∙ is ∙ is_y ∙ (λ t. get_or others (sym here t) y) ∙ get_or_default others k y d (omega arith)
-    go false e = let apart : k ≢ i = grind (arith, nat_tests) in so_far k d (omega arith)
-
-no_receipt : ReceiptRow
-no_receipt = record { office = 0; receipt = []; loan = 0; seq = 0 }
-
-pub same_all : (rows others : List ReceiptRow) (i : ℕ) → length rows ≡ length others → length rows ≤ i → SameTo rows others i → rows ≡ others
-same_all rows others i many h all = ext_get_or no_receipt rows others many (λ k below. all k no_receipt (omega arith))
-
-pub same_not : (rows others : List ReceiptRow) (i : ℕ) (x y : ReceiptRow) → i < length rows → x ≡ get_or rows i x → y ≡ get_or others i y → (x ≡ y → ⊥) → rows ≡ others → ⊥
-same_not rows others i x y inside is_x is_y apart is =
-    let many : length rows ≡ length others = ap length is in
-    apart (is_x ∙ (λ t. get_or (is t) i x) ∙ get_or_default others i x y (omega arith) ∙ sym is_y)

@@ -4,7 +4,7 @@ use Rattle.std.specs.List.{AllByRecursion, list_all}
 use Rattle.std.proofs.lemmas.List.{drop_all}
 use Rattle.mf_account.specs.declared.entry.Entry.{Entry}
 use Rattle.mf_store_records.specs.declared.entries.EntryRow.{EntryRow}
-use Rattle.mf_store_sound.specs.Flat.{entry_in}
+use Rattle.mf_store_accounts.specs.Flat.{entry_in}
 
 length_map : {A B : Type 0} (f : A → B) (xs : List A) → length (map f xs) ≡ length xs
 length_map f [] = refl

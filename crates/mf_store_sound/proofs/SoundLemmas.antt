@@ -22,22 +22,22 @@ use Rattle.mf_store_records.specs.Rows.{Lists, by_receipt, AreReceiptsInOrder}
 use Rattle.mf_store_records.specs.declared.charges.ChargeRow.{ChargeRow}
 use Rattle.mf_store_records.specs.declared.clients.ClientRow.{ClientRow}
 use Rattle.mf_store_records.specs.declared.entries.EntryRow.{EntryRow}
-use Rattle.mf_store_records.specs.declared.instalments.InstalmentRow.{InstalmentRow}
 use Rattle.mf_store_records.specs.declared.loans.LoanRow.{LoanRow}
 use Rattle.mf_store_records.specs.declared.meta.MetaRow.{MetaRow}
 use Rattle.mf_store_records.specs.declared.offices.OfficeRow.{OfficeRow}
 use Rattle.mf_store_records.specs.declared.products.ProductRow.{ProductRow}
 use Rattle.mf_store_records.specs.declared.receipts.ReceiptRow.{ReceiptRow}
-use Rattle.mf_store_records.specs.declared.shares.ShareRow.{ShareRow}
 use Rattle.mf_store_records.specs.declared.staff.StaffRow.{StaffRow}
-use Rattle.mf_store_sound.specs.Accounts.{instalments_of, shares_of, Placed, all_placed, AreLoansOf, AreAccounts}
+use Rattle.mf_store_accounts.specs.Accounts.{all_placed, AreLoansOf}
 use Rattle.mf_store_sound.specs.Callers.{is_named_staff, is_by_staff}
-use Rattle.mf_store_sound.specs.Entries.{IsEnteredBy}
-use Rattle.mf_store_sound.specs.Flat.{meta_on, charge_as, product_as, office_under, numbered_from, all_rows, staff_in, entry_in, instalment_in, share_in, own_entries, rows_of_loans, entry_rows}
+use Rattle.mf_store_accounts.specs.Ledgers.{IsEnteredBy}
+use Rattle.mf_store_accounts.specs.Flat.{charge_as, product_as, office_under, numbered_from, all_rows, staff_in, entry_in, own_entries, rows_of_loans, entry_rows}
 use Rattle.mf_store_sound.specs.Offices.{IsNumberedAndNamed, AreOffices}
 use Rattle.mf_store_sound.specs.Parts.{office_of, bare}
-use Rattle.mf_store_sound.specs.ReceiptRows.{carried_by, receipt_rows, AreReceiptsOf}
-use Rattle.mf_store_sound.specs.Sound.{AreEntriesIn, IsPlainLoan, IsPlainRows, AreOfficeParts, AreOfSound}
+use Rattle.mf_store_accounts.specs.ReceiptRows.{carried_by, receipt_rows, AreReceiptsOf}
+use Rattle.mf_store_accounts.specs.Ledgers.{AreEntriesIn, IsPlainLoan}
+use Rattle.mf_store_sound.specs.Schemas.{meta_under}
+use Rattle.mf_store_sound.specs.Sound.{IsPlainRows, AreOfficeParts, AreUnder}
 use Rattle.mf_store_sound.specs.Stored.{AreRowsOf}
 use Rattle.mf_store_sound.proofs.AllLoanLemmas.{all_rows_of, all_loan_rows, all_apart, all_plain}
 use Rattle.mf_store_sound.proofs.EntryLemmas.{carried_is}
@@ -277,8 +277,8 @@ each_row k s parents (f ∷ fs) a = (record { number = a.0.number; name = a.0.na
 
 -- ---- apart
 
-module _ (t : Lists) (h : AreOfSound t) where
-  pub meta_part : meta_on h.institution.catalogue.day ∷ [] ≡ t.meta
+module _ (schema : ℕ) (t : Lists) (h : AreUnder schema t) where
+  pub meta_part : meta_under schema h.institution.catalogue.day ∷ [] ≡ t.meta
   meta_part = ap (λ (l : Lists). l.meta) h.rows_are
 
   pub charges_are : numbered_from charge_as 1 h.institution.catalogue.charges ≡ t.charges
@@ -375,11 +375,11 @@ loans_of_parts k t s up = record {
   entries_are = all_rows_of entry_in own_entries s.offices ∙ s.entries_are;
 }
 
-module _ (t : Lists) (day : ℕ) (entered : day ≤ last_entered_day) (meta : meta_on day ∷ [] ≡ t.meta)
+module _ (schema : ℕ) (t : Lists) (day : ℕ) (entered : day ≤ last_entered_day) (meta : meta_under schema day ∷ [] ≡ t.meta)
     (c : (length t.charges ≤ 999) × AreRowsOf charge_as IsSoundCharge 1 t.charges)
     (p : (length t.products ≤ 999) × AreRowsOf product_as (IsSoundOffer (charge_in (catalogue_of day c.1.values []))) 1 t.products) where
-  pub all_of : AreOffices t.offices → (s : AreOfficeParts (catalogue_of day c.1.values p.1.values) t.offices t.staff t.clients t.loans t.entries) → list_all (is_by_staff s.offices) t.entries ≡ true → AreReceiptsOf t.receipts t.entries → IsSoundCatalogue (catalogue_of day c.1.values p.1.values) → AreAccounts (catalogue_of day c.1.values p.1.values) (all_placed s.offices) t.instalments t.shares → AreOfSound t
-  all_of o s named r catalogue kept =
+  pub all_of : AreOffices t.offices → (s : AreOfficeParts (catalogue_of day c.1.values p.1.values) t.offices t.staff t.clients t.loans t.entries) → list_all (is_by_staff s.offices) t.entries ≡ true → AreReceiptsOf t.receipts t.entries → IsSoundCatalogue (catalogue_of day c.1.values p.1.values) → AreUnder schema t
+  all_of o s named r catalogue =
       let k = catalogue_of day c.1.values p.1.values in
       let same = parents_same s.offices in
       let there : AreAllThere s.offices s.offices =
@@ -403,47 +403,44 @@ module _ (t : Lists) (day : ℕ) (entered : day ≤ last_entered_day) (meta : me
           loans = s.loans_are z;
           entries = s.entries_are z;
           receipts = receipts z;
-          instalments = (sym (all_rows_of instalment_in (instalments_of (catalogue_of day c.1.values p.1.values)) s.offices) ∙ kept.instalments_are) z;
-          shares = (sym (all_rows_of share_in (shares_of (catalogue_of day c.1.values p.1.values)) s.offices) ∙ kept.shares_are) z;
+          instalments = [];
+          shares = [];
         };
       }
 
 -- ---- decided
 
 -- the parts of the lists, for the lists
-pub of_parts : (B : Type 0) (t : Lists) (meta : List MetaRow) (offices : List OfficeRow) (staff : List StaffRow) (clients : List ClientRow) (charges : List ChargeRow) (products : List ProductRow) (loans : List LoanRow) (entries : List EntryRow) (receipts : List ReceiptRow) (instalments : List InstalmentRow) (shares : List ShareRow)
-    → meta ≡ t.meta → offices ≡ t.offices → staff ≡ t.staff → clients ≡ t.clients → charges ≡ t.charges → products ≡ t.products → loans ≡ t.loans → entries ≡ t.entries → receipts ≡ t.receipts → instalments ≡ t.instalments → shares ≡ t.shares
-    → (B ↔ AreOfSound (record { meta = meta; offices = offices; staff = staff; clients = clients; charges = charges; products = products; loans = loans; entries = entries; receipts = receipts; instalments = instalments; shares = shares })) → B ↔ AreOfSound t
-of_parts B t meta offices staff clients charges products loans entries receipts instalments shares m o s c h p l e r i a are =
-    let same : record { meta = meta; offices = offices; staff = staff; clients = clients; charges = charges; products = products; loans = loans; entries = entries; receipts = receipts; instalments = instalments; shares = shares } ≡ t =
-    λ z. record { meta = m z; offices = o z; staff = s z; clients = c z; charges = h z; products = p z; loans = l z; entries = e z; receipts = r z; instalments = i z; shares = a z } in
-    subst (λ (lists : Lists). B ↔ AreOfSound lists) same are
+pub of_parts : (schema : ℕ) (B : Type 0) (t : Lists) (meta : List MetaRow) (offices : List OfficeRow) (staff : List StaffRow) (clients : List ClientRow) (charges : List ChargeRow) (products : List ProductRow) (loans : List LoanRow) (entries : List EntryRow) (receipts : List ReceiptRow)
+    → meta ≡ t.meta → offices ≡ t.offices → staff ≡ t.staff → clients ≡ t.clients → charges ≡ t.charges → products ≡ t.products → loans ≡ t.loans → entries ≡ t.entries → receipts ≡ t.receipts
+    → (B ↔ AreUnder schema (record t { meta = meta; offices = offices; staff = staff; clients = clients; charges = charges; products = products; loans = loans; entries = entries; receipts = receipts })) → B ↔ AreUnder schema t
+of_parts schema B t meta offices staff clients charges products loans entries receipts m o s c h p l e r are =
+    subst (λ (lists : Lists). B ↔ AreUnder schema lists) (λ z. record t { meta = m z; offices = o z; staff = s z; clients = c z; charges = h z; products = p z; loans = l z; entries = e z; receipts = r z }) are
 
 -- the business day of an institution whose rows these are
-pub day_of : (t : Lists) (day : ℕ) (h : AreOfSound t) → ((d : ℕ) → d ≤ last_entered_day → meta_on d ∷ [] ≡ t.meta → Some day ≡ Some d) → h.institution.catalogue.day ≡ day
-day_of t day h only = let one : Some day ≡ Some h.institution.catalogue.day = only h.institution.catalogue.day h.sound.catalogue.day (meta_part t h) in let same : h.institution.catalogue.day ≡ day = cc in same
+pub day_of : (schema : ℕ) (t : Lists) (day : ℕ) (h : AreUnder schema t) → ((d : ℕ) → d ≤ last_entered_day → meta_under schema d ∷ [] ≡ t.meta → Some day ≡ Some d) → h.institution.catalogue.day ≡ day
+day_of schema t day h only = let one : Some day ≡ Some h.institution.catalogue.day = only h.institution.catalogue.day h.sound.catalogue.day (meta_part schema t h) in let same : h.institution.catalogue.day ≡ day = cc in same
 
-pub sound_is : (t : Lists) (day : ℕ) (B : Type 0) → day ≤ last_entered_day → meta_on day ∷ [] ≡ t.meta
+pub under_is : (schema : ℕ) (t : Lists) (day : ℕ) (B : Type 0) → day ≤ last_entered_day → meta_under schema day ∷ [] ≡ t.meta
     → (length t.charges ≤ 999) × AreRowsOf charge_as IsSoundCharge 1 t.charges
     → ((k : Catalogue) → numbered_from charge_as 1 k.charges ≡ t.charges → (length t.products ≤ 999) × AreRowsOf product_as (IsSoundOffer (charge_in k)) 1 t.products)
     → AreOffices t.offices
     → ((k : Catalogue) → k.day ≡ day → numbered_from product_as 1 k.products ≡ t.products → Ascending (map office_of t.offices) → AreOfficeParts k t.offices t.staff t.clients t.loans t.entries)
     → ((fs : List Office) → Ascending fs → all_rows staff_in (λ own. own.staff) fs ≡ t.staff → list_all (is_by_staff fs) t.entries ≡ true)
-    → AreReceiptsOf t.receipts t.entries
-    → ((k : Catalogue) → IsSoundCatalogue k → numbered_from charge_as 1 k.charges ≡ t.charges → numbered_from product_as 1 k.products ≡ t.products → (ps : List Placed) → AreLoansOf k t.loans t.entries ps → B ↔ AreAccounts k ps t.instalments t.shares)
-    → B ↔ AreOfSound t
+    → (B ↔ AreReceiptsOf t.receipts t.entries)
+    → B ↔ AreUnder schema t
 unfolding offices_parts
-sound_is t day B entered meta c p o parts named r kept = (
+under_is schema t day B entered meta c p o parts named r = (
   λ told.
       let q = p (catalogue_of day c.1.values []) c.1.rows_are in
       let s = parts (catalogue_of day c.1.values q.1.values) refl q.1.rows_are o.tree.ascending in
       let catalogue = sound_catalogue t day entered c q in
       let up = (tree_from_bare s.offices (subst IsTree (sym s.theirs) o.tree)).ascending in
-      all_of t day entered meta c q o s (named s.offices up s.staff_are) r catalogue
-      ((kept (catalogue_of day c.1.values q.1.values) catalogue c.1.rows_are q.1.rows_are (all_placed s.offices) (loans_of_parts (catalogue_of day c.1.values q.1.values) t s up)).0 told),
-  λ h.
-      (kept h.institution.catalogue h.sound.catalogue (charges_are t h) (products_are t h) (all_placed h.institution.offices) (loans_of_parts h.institution.catalogue t (offices_parts t h) h.sound.tree.ascending)).1 (record {
-        instalments_are = all_rows_of instalment_in (instalments_of h.institution.catalogue) h.institution.offices ∙ ap (λ (l : Lists). l.instalments) h.rows_are;
-        shares_are = all_rows_of share_in (shares_of h.institution.catalogue) h.institution.offices ∙ ap (λ (l : Lists). l.shares) h.rows_are;
-      }),
+      all_of schema t day entered meta c q o s (named s.offices up s.staff_are) (r.0 told) catalogue,
+  λ h. r.1 (receipts_part schema t h),
 )
+
+-- the loans of an institution whose rows these are
+pub loans_under : (schema : ℕ) (t : Lists) (u : AreUnder schema t) → AreLoansOf u.institution.catalogue t.loans t.entries (all_placed u.institution.offices)
+unfolding offices_parts
+loans_under schema t u = loans_of_parts u.institution.catalogue t (offices_parts schema t u) u.sound.tree.ascending

@@ -15,7 +15,7 @@ use Rattle.mf_model.specs.Tree.{Above, Ascending}
 use Rattle.mf_store_records.specs.Rows.{by_staff}
 use Rattle.mf_store_records.specs.declared.staff.StaffRow.{StaffRow}
 use Rattle.mf_store_records.proofs.TableLemmas.{by_staff_total}
-use Rattle.mf_store_sound.specs.Flat.{numbered_from, all_rows, staff_in}
+use Rattle.mf_store_accounts.specs.Flat.{numbered_from, all_rows, staff_in}
 
 -- ---- the rows rise by office and number
 

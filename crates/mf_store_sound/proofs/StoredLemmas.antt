@@ -1,20 +1,10 @@
 -- Rows of values, one by one: how a loop over rows decides them.
-use Rattle.std.proofs.Common.{◌≡◌, ◌↔◌, ◌<◌, ◌≤◌, ◌+◌, ◌∙◌, ℕ, suc, Bool, true, false, List, [], ◌∷◌, length, get_or, drop, IsTrue, refl, sym, subst, add-one, drop-cons, true≢false, arith, ◌==◌}
+use Rattle.std.proofs.Common.{◌≡◌, ◌↔◌, ◌<◌, ◌≤◌, ◌+◌, ◌∙◌, ℕ, suc, Bool, false, List, [], ◌∷◌, length, get_or, drop, IsTrue, refl, sym, subst, add-one, drop-cons, true≢false, arith, ◌==◌}
 use Rattle.std.specs.List.{AllByRecursion}
 use Rattle.std.proofs.lemmas.Bool.Decides.{nat_tests}
 use Rattle.std.proofs.lemmas.List.{drop_all}
-use Rattle.mf_store_sound.specs.Flat.{numbered_from}
+use Rattle.mf_store_accounts.specs.Flat.{numbered_from}
 use Rattle.mf_store_sound.specs.Stored.{IsRowOf, AreRowsOf, AllFrom}
-
--- a test that said no
-pub refuses : {P : Type 0} (b : Bool) → b ≡ false → (IsTrue b ↔ P) → P → ⊥
-refuses b e h p = absurd (true≢false (sym (h.1 p) ∙ e))
-
-pub no_answer : {P : Type 0} → (P → ⊥) → IsTrue false ↔ P
-no_answer h = (λ t. absurd (true≢false (sym t)), λ p. absurd (h p))
-
-pub yes_answer : {P : Type 0} → P → IsTrue true ↔ P
-yes_answer p = (λ t. p, λ q. refl)
 
 -- nothing is left
 pub nothing_is : {R : Type 0} (rows : List R) (b : Bool) → b ≡ (length rows == 0) → IsTrue b ↔ (rows ≡ [])

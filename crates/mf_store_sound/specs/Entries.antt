@@ -1,18 +1,13 @@
 -- Rows of entries.
 use Rattle.std.specs.Prelude.{◌≡◌, ℕ, ◌≤◌, List, map, IfSome}
 use Rattle.std.specs.List.{AllByRecursion}
-use Rattle.mf_base.specs.DayText.{last_entered_day}
-use Rattle.mf_office.specs.Texts.{IsCaller}
 use Rattle.mf_account.specs.declared.entry.Entry.{Entry}
 use Rattle.mf_account.specs.Loan.{IsEntry, AreEntries}
 use Rattle.mf_model.specs.Receipts.{IsReceipt}
 use Rattle.mf_store_records.specs.declared.entries.EntryRow.{EntryRow}
-use Rattle.mf_store_sound.specs.Flat.{entry_in}
+use Rattle.mf_store_accounts.specs.Flat.{entry_in}
+use Rattle.mf_store_accounts.specs.Ledgers.{IsReadable, IsEnteredBy}
 use Rattle.mf_store_sound.specs.Stored.{AllFrom}
-
--- an entry whose day can be entered, by a caller whose numbers are in range
-abbrev pub IsReadable : Entry → Type 0
-IsReadable e = (e.day ≤ last_entered_day) × IsCaller e.staff
 
 -- the row is that of an entry under this number, of a loan of n instalments that was disbursed on a day, whoever entered it
 pub record IsEntryRow (today day n office loan number : ℕ) (row : EntryRow) : Type 0 where
@@ -37,12 +32,6 @@ pub record AreEntryRows (today day n office loan first : ℕ) (rows : List Entry
   pub numbers : AllFrom (λ number (e : Entry). e.seq ≡ number) first entries
   pub each : AllByRecursion (IsPlainEntry today day n) entries
   pub rows_are : map (entry_in office loan) entries ≡ rows
-
--- what an entry keeps beside its own columns: its day can be entered and is not after today, its caller is in range, and its receipt is one
-pub record IsEnteredBy (today : ℕ) (e : Entry) : Type 0 where
-  pub readable : IsReadable e
-  pub entered : e.day ≤ today
-  pub receipt : IfSome e.receipt IsReceipt
 
 -- the rows are those of the entries of one loan of n instalments that was disbursed on a day; that their callers are there is left open
 pub record AreLoanEntries (today day n office loan : ℕ) (rows : List EntryRow) : Type 0 where

@@ -1,11 +1,8 @@
-pub mod ReceiptRows
-pub mod Flat
 pub mod Stored
 pub mod Parts
 pub mod Offices
 pub mod Entries
 pub mod Stages
 pub mod Callers
+pub mod Schemas
 pub mod Sound
-pub mod Kept
-pub mod Accounts

@@ -1,31 +1,18 @@
 -- Rows of loans with their entries, of offices, and of all tables: whether they are those of a sound institution.
-use Rattle.std.specs.Prelude.{◌≡◌, ℕ, ◌≤◌, length, List, [], map, Option, Some, None}
+use Rattle.std.specs.Prelude.{◌≡◌, ℕ, ◌≤◌, length, List, map}
 use Rattle.std.specs.List.{AllByRecursion}
-use Rattle.mf_account.specs.declared.entry.Entry.{Entry}
-use Rattle.mf_account.specs.Loan.{AreEntries}
 use Rattle.mf_model.specs.Institution.{Institution, Catalogue, Ledger, Office, Rows, Staff}
 use Rattle.mf_model.specs.Sound.{IsName, IsSound}
-use Rattle.mf_model.specs.Stages.{disbursed_on}
 use Rattle.mf_store_records.specs.Rows.{Lists}
 use Rattle.mf_store_records.specs.declared.clients.ClientRow.{ClientRow}
 use Rattle.mf_store_records.specs.declared.entries.EntryRow.{EntryRow}
 use Rattle.mf_store_records.specs.declared.loans.LoanRow.{LoanRow}
 use Rattle.mf_store_records.specs.declared.offices.OfficeRow.{OfficeRow}
 use Rattle.mf_store_records.specs.declared.staff.StaffRow.{StaffRow}
-use Rattle.mf_store_sound.specs.Entries.{IsEnteredBy}
-use Rattle.mf_store_sound.specs.Flat.{numbered_from, all_rows, rows_of_loans, entry_rows, own_entries, loans_of, staff_in, client_in, loan_in, entry_in, tables_of}
+use Rattle.mf_store_accounts.specs.Flat.{numbered_from, all_rows, rows_of_loans, entry_rows, own_entries, loans_of, staff_in, client_in, loan_in, entry_in, tables_of}
+use Rattle.mf_store_accounts.specs.Ledgers.{IsPlainLoan}
+use Rattle.mf_store_sound.specs.Schemas.{first_tables_of, tables_under, without_accounts}
 use Rattle.mf_store_sound.specs.Parts.{bare, office_of}
-use Rattle.mf_store_sound.specs.Stages.{IsOwnLoan}
-
--- the entries of a loan of so many periods, none before it is disbursed; who entered them is left open
-abbrev pub AreEntriesIn : ℕ → ℕ → Option ℕ → List Entry → Type 0
-AreEntriesIn today periods None entries = entries ≡ []
-AreEntriesIn today periods (Some day) entries = AreEntries periods day entries × AllByRecursion (IsEnteredBy today) entries
-
--- a sound loan, but for who entered its entries
-pub record IsPlainLoan (k : Catalogue) (clients : List (List ℕ)) (l : Ledger) : Type 0 where
-  pub own : IsOwnLoan k clients l.loan
-  pub entries : AreEntriesIn k.day l.loan.periods (disbursed_on l.loan.stage) l.entries
 
 -- the rows are those of one loan of an office, and of its entries
 pub record IsLoanPart (k : Catalogue) (clients : List (List ℕ)) (office number : ℕ) (row : LoanRow) (entries : List EntryRow) : Type 0 where
@@ -74,3 +61,15 @@ pub record AreOfSound (lists : Lists) : Type 0 where
   pub institution : Institution
   pub sound : IsSound institution
   pub rows_are : tables_of institution ≡ lists
+
+-- there is a sound institution whose rows the tables of the first schema hold
+pub record AreOfSoundFirst (lists : Lists) : Type 0 where
+  pub institution : Institution
+  pub sound : IsSound institution
+  pub rows_are : first_tables_of institution ≡ lists
+
+-- there is a sound institution whose rows these are, under this schema's number and but for the rows of accounts
+pub record AreUnder (schema : ℕ) (lists : Lists) : Type 0 where
+  pub institution : Institution
+  pub sound : IsSound institution
+  pub rows_are : tables_under schema institution ≡ without_accounts lists

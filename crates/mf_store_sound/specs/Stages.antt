@@ -1,14 +1,12 @@
 -- Rows of loans: what the texts of a loan's days say of its stage, and what a loan keeps by itself.
-use Rattle.std.specs.Prelude.{◌≡◌, ℕ, ◌≤◌, List, [], Option, Some, None, is_some, true}
+use Rattle.std.specs.Prelude.{◌≡◌, ℕ, ◌≤◌, List, [], Option, Some, None}
 use Rattle.mf_base.specs.DayText.{day_text}
-use Rattle.mf_model.specs.Institution.{Catalogue, numbered, product_in}
-use Rattle.mf_model.specs.Sound.{IsStageBy, lends}
-use Rattle.mf_model.specs.declared.loan.Loan.{Loan}
+use Rattle.mf_model.specs.Sound.{IsStageBy}
 use Rattle.mf_store_records.specs.declared.entries.EntryRow.{EntryRow}
 use Rattle.mf_store_sound.specs.Entries.{AreLoanEntries}
 use Rattle.mf_model.specs.Stages.{stage_number}
 use Rattle.mf_model.specs.declared.loan.Stage.{Stage}
-use Rattle.mf_store_sound.specs.Flat.{approval_text, disbursal_text}
+use Rattle.mf_store_accounts.specs.Flat.{approval_text, disbursal_text}
 
 -- the text of a day up to this one
 abbrev pub IsApproval : ℕ → List ℕ → Type 0
@@ -21,12 +19,6 @@ IsDisbursal today approved disbursed = (first : ℕ) × (second : ℕ) × (first
 -- a stage that a loan can have reached on this day has this number and these texts
 abbrev pub IsStageOf : ℕ → ℕ → Option (List ℕ) → Option (List ℕ) → Type 0
 IsStageOf today number approved disbursed = (s : Stage) × IsStageBy today s × (stage_number s ≡ number) × (approval_text s ≡ approved) × (disbursal_text s ≡ disbursed)
-
--- a loan's client is there, its product lends so, and its days are in order
-pub record IsOwnLoan (k : Catalogue) (clients : List (List ℕ)) (l : Loan) : Type 0 where
-  pub client : is_some (numbered clients l.client) ≡ true
-  pub product : lends (product_in k l.product) l.principal l.periods ≡ true
-  pub stage : IsStageBy k.day l.stage
 
 -- a loan that is not disbursed has no rows of entries
 abbrev pub AreEntriesOf : ℕ → ℕ → Option ℕ → ℕ → ℕ → List EntryRow → Type 0

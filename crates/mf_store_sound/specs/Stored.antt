@@ -1,7 +1,7 @@
 -- What it means that rows are those of values that pass.
 use Rattle.std.specs.Prelude.{◌≡◌, ◌+◌, ℕ, List, [], ◌∷◌}
 use Rattle.std.specs.List.{AllByRecursion}
-use Rattle.mf_store_sound.specs.Flat.{numbered_from}
+use Rattle.mf_store_accounts.specs.Flat.{numbered_from}
 
 module _ {A R : Type 0} (make : ℕ → A → R) (Passes : A → Type 0) where
   -- the row is a value's under this number, and the value passes

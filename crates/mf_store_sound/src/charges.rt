@@ -1,12 +1,12 @@
 ghost use Rattle.std.specs.Prelude.{◌≡◌, ℕ, pos, ◌≤◌, ◌↔◌, IsTrue, length};
 ghost use Rattle.mf_model.specs.Sound.{IsSoundCharge, IsValue};
-ghost use Rattle.mf_store_sound.specs.Flat.{charge_as};
+ghost use Rattle.mf_store_accounts.specs.Flat.{charge_as};
 ghost use Rattle.mf_store_sound.specs.Stored.{IsRowOf, AreRowsOf};
 
-use crate::numbers::amount_from;
 use mf_base::Choice;
 use mf_catalog::{Calc, ChargeKind, greatest_value};
 use mf_model::is_name;
+use mf_store_accounts::amount_from;
 use mf_store_records::ChargeRow;
 
 /// The most charges.

@@ -1,6 +1,6 @@
 ghost use Rattle.std.specs.Prelude.{◌≡◌, ◌≤◌, ◌↔◌, IsTrue, length};
 ghost use Rattle.mf_model.specs.Sound.{IsName};
-ghost use Rattle.mf_store_sound.specs.Flat.{client_in};
+ghost use Rattle.mf_store_accounts.specs.Flat.{client_in};
 ghost use Rattle.mf_store_sound.specs.Stored.{IsRowOf, AreRowsOf};
 
 use mf_model::is_name;

@@ -7,49 +7,18 @@ ghost use Rattle.mf_account.specs.declared.entry.Kind.{Kind as AnyKind};
 ghost use Rattle.mf_alloc.specs.declared.row.Portion.{Portion as AnyPortion};
 ghost use Rattle.mf_alloc.specs.declared.row.Portion.TheVariants.{Penalty as PenaltyPart, Fee as FeePart, Principal};
 ghost use Rattle.mf_model.specs.Receipts.{IsReceipt, is_printable};
-ghost use Rattle.mf_store_sound.specs.Entries.{IsReadable, IsEntryRow};
-ghost use Rattle.mf_store_sound.specs.Flat.{entry_in, entry_kind_number, portion_number};
+ghost use Rattle.mf_store_accounts.specs.Ledgers.{IsReadable};
+ghost use Rattle.mf_store_sound.specs.Entries.{IsEntryRow};
+ghost use Rattle.mf_store_accounts.specs.Flat.{entry_in, entry_kind_number, portion_number};
 ghost use Rattle.std.specs.List.{list_all};
 
-use crate::numbers::{amount_from, flag_from};
-use mf_account::Kind;
-use mf_alloc::Portion;
 use mf_base::Day;
 use mf_office::Caller;
+use mf_store_accounts::{amount_from, flag_from, kind_from, portion_from};
 use mf_store_records::{EntryRow, Text};
 
 /// The greatest amount of an entry, as rows keep it.
 const GREATEST_AMOUNT: i64 = 1_000_000_000_000;
-
-/// The kind of a number.
-pub(crate) fn kind_from(number: u32) -> Option<Kind>
-    ensures some { IfSome result (λ kind. entry_kind_number kind ≡ number) }
-    ensures every { (kind : AnyKind) → entry_kind_number kind ≡ number → result ≡ Some kind }
-{
-    match number {
-        1 => Some(Kind::Repay),
-        2 => Some(Kind::Fee),
-        3 => Some(Kind::Penalty),
-        4 => Some(Kind::Waive),
-        5 => Some(Kind::WriteOff),
-        6 => Some(Kind::Refund),
-        _ => None,
-    }
-}
-
-/// The portion of a number.
-pub(crate) fn portion_from(number: u32) -> Option<Portion>
-    ensures some { IfSome result (λ portion. portion_number portion ≡ number) }
-    ensures every { (portion : AnyPortion) → portion_number portion ≡ number → result ≡ Some portion }
-{
-    match number {
-        1 => Some(Portion::Penalty),
-        2 => Some(Portion::Fee),
-        3 => Some(Portion::Interest),
-        4 => Some(Portion::Principal),
-        _ => None,
-    }
-}
 
 /// Whether the numbers and texts of a row are those of an entry.
 pub(crate) fn is_readable(row: &EntryRow) -> bool

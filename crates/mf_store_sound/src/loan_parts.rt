@@ -3,7 +3,7 @@
 ghost use Rattle.std.specs.Prelude.{◌≡◌, ◌≤◌, ◌↔◌, ℕ, IsTrue, List, length};
 ghost use Rattle.mf_base.specs.DayText.{last_entered_day};
 ghost use Rattle.mf_model.specs.Institution.{Catalogue};
-ghost use Rattle.mf_store_sound.specs.Flat.{product_as, numbered_from};
+ghost use Rattle.mf_store_accounts.specs.Flat.{product_as, numbered_from};
 ghost use Rattle.mf_store_sound.specs.Sound.{IsLoanPart, AreLoanParts};
 
 use crate::loans::{are_entries_of, is_loan};

@@ -6,15 +6,15 @@ ghost use Rattle.mf_catalog.specs.Product.{allows};
 ghost use Rattle.mf_model.specs.Institution.{Catalogue, Offer, product_in, numbered};
 ghost use Rattle.mf_model.specs.Sound.{IsStageBy, lends};
 ghost use Rattle.mf_model.specs.declared.loan.Loan.{Loan};
-ghost use Rattle.mf_store_sound.specs.Flat.{loan_in, product_as, numbered_from};
-ghost use Rattle.mf_store_sound.specs.Stages.{IsApproval, IsDisbursal, IsStageOf, IsOwnLoan, AreEntriesOf};
+ghost use Rattle.mf_store_accounts.specs.Flat.{loan_in, product_as, numbered_from};
+ghost use Rattle.mf_store_sound.specs.Stages.{IsApproval, IsDisbursal, IsStageOf, AreEntriesOf};
+ghost use Rattle.mf_store_accounts.specs.Ledgers.{IsOwnLoan};
 ghost use Rattle.mf_model.specs.Stages.{disbursed_on};
 ghost use Rattle.mf_store_sound.specs.Stored.{IsRowOf};
 
 use crate::entered::are_loan_entries;
-use crate::numbers::amount_from;
-use crate::products::product_row;
 use mf_base::Day;
+use mf_store_accounts::{amount_from, product_row};
 use mf_store_records::{EntryRow, LoanRow, ProductRow, Text};
 
 /// Whether an approval's text is that of a day up to this one.

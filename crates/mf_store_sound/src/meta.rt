@@ -1,32 +1,29 @@
 ghost use Rattle.std.specs.Prelude.{◌≡◌, ℕ, [], ◌∷◌, ◌≤◌, Some, IfSome};
 ghost use Rattle.mf_base.specs.DayText.{last_entered_day, day_text};
-ghost use Rattle.mf_store_sound.specs.Flat.{meta_on};
+ghost use Rattle.mf_store_sound.specs.Schemas.{meta_under};
 
 use mf_base::Day;
 use mf_store_records::MetaRow;
 
-/// The number of the schema that these tables are.
-const SCHEMA: u32 = 2;
-
-/// The business day of the row of meta, where it is such a row.
-fn day_of_row(row: &MetaRow) -> Option<Day>
-    ensures some { IfSome result (λ day. (day ≤ last_entered_day) × (meta_on day ≡ row.now)) }
-    ensures every { (day : ℕ) → day ≤ last_entered_day → meta_on day ≡ row.now → result ≡ Some day }
+/// The business day of the row of meta, where it is such a row, with this schema's number.
+fn day_of_row(schema: u32, row: &MetaRow) -> Option<Day>
+    ensures some { IfSome result (λ day. (day ≤ last_entered_day) × (meta_under schema day ≡ row.now)) }
+    ensures every { (day : ℕ) → day ≤ last_entered_day → meta_under schema day ≡ row.now → result ≡ Some day }
 {
-    if row.one == 1 && row.schema == SCHEMA {
+    if row.one == 1 && row.schema == schema {
         Day::parse(row.day.as_str().as_bytes())
     } else {
         None
     }
 }
 
-/// The business day, where the rows are the one row of meta.
-pub(crate) fn business_day(rows: &[MetaRow]) -> Option<Day>
-    ensures some { IfSome result (λ day. (day ≤ last_entered_day) × (meta_on day ∷ [] ≡ rows.now)) }
-    ensures every { (day : ℕ) → day ≤ last_entered_day → meta_on day ∷ [] ≡ rows.now → result ≡ Some day }
+/// The business day, where the rows are the one row of meta, with this schema's number.
+pub(crate) fn business_day(schema: u32, rows: &[MetaRow]) -> Option<Day>
+    ensures some { IfSome result (λ day. (day ≤ last_entered_day) × (meta_under schema day ∷ [] ≡ rows.now)) }
+    ensures every { (day : ℕ) → day ≤ last_entered_day → meta_under schema day ∷ [] ≡ rows.now → result ≡ Some day }
 {
     match rows {
-        [row] => day_of_row(row),
+        [row] => day_of_row(schema, row),
         _ => None,
     }
 }

@@ -4,7 +4,7 @@ ghost use Rattle.std.specs.Prelude.{◌≡◌, ◌≤◌, ◌↔◌, IsTrue, [],
 ghost use Rattle.mf_base.specs.DayText.{last_entered_day};
 ghost use Rattle.mf_model.specs.Institution.{Catalogue};
 ghost use Rattle.mf_model.specs.Tree.{Ascending};
-ghost use Rattle.mf_store_sound.specs.Flat.{product_as, numbered_from};
+ghost use Rattle.mf_store_accounts.specs.Flat.{product_as, numbered_from};
 ghost use Rattle.mf_store_sound.specs.Parts.{office_of};
 ghost use Rattle.mf_store_sound.specs.Sound.{IsOfficePart, AreOfficeParts};
 

@@ -6,17 +6,17 @@ ghost use Rattle.mf_catalog.specs.Product.{AreMembersWithinLimits, limits_agree,
 ghost use Rattle.mf_catalog.specs.declared.charge.ChargeKind.{ChargeKind as AnyKind};
 ghost use Rattle.mf_model.specs.Institution.{Catalogue, Offer, charge_in, numbered};
 ghost use Rattle.mf_model.specs.Sound.{IsSoundOffer};
-ghost use Rattle.mf_store_sound.specs.Flat.{charge_as, product_as, numbered_from};
+ghost use Rattle.mf_store_accounts.specs.Flat.{charge_as, product_as, numbered_from};
 ghost use Rattle.mf_base.specs.Choices.{frequency_number};
 ghost use Rattle.mf_catalog.specs.Names.{kind_number};
 ghost use Rattle.mf_store_sound.specs.Stored.{IsRowOf, AreRowsOf};
 
-use crate::numbers::{amount_from, flag_from};
 use mf_base::{Choice, Freq};
 use mf_catalog::{
     GREATEST_RATE, MOST_GRACE, MOST_MONTHS, MOST_PERIODS, MOST_WEEKS, Method, StrategyName,
 };
 use mf_model::is_name;
+use mf_store_accounts::{amount_from, charge_row, flag_from};
 use mf_store_records::{ChargeRow, ProductRow};
 
 /// The most products.
@@ -90,26 +90,6 @@ fn do_limits_agree(row: &ProductRow) -> bool
         && row.min_periods <= row.max_periods
         && row.principal_grace < row.min_periods
         && row.interest_grace < row.min_periods
-}
-
-/// The row with this number, in rows by number from 1.
-pub(crate) fn charge_row(rows: &[ChargeRow], number: u32) -> Option<&ChargeRow>
-    ensures { option_copied result ≡ numbered rows.now number }
-{
-    if number == 0 {
-        return None;
-    }
-    rows.get(number as usize - 1)
-}
-
-/// The row with this number, in rows by number from 1.
-pub(crate) fn product_row(rows: &[ProductRow], number: u32) -> Option<&ProductRow>
-    ensures { option_copied result ≡ numbered rows.now number }
-{
-    if number == 0 {
-        return None;
-    }
-    rows.get(number as usize - 1)
 }
 
 /// Whether the charge is there and of the kind of this number, where one is named.

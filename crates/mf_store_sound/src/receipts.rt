@@ -3,9 +3,10 @@
 ghost use Rattle.std.specs.Prelude.{◌≡◌, ◌++◌, ◌↔◌, IsTrue, OnOk, IfOk, IfErr};
 ghost use Rattle.mf_base.specs.declared.fault.Fault.TheVariants.{F20};
 ghost use Rattle.mf_store_records.specs.Rows.{by_receipt, is_receipt_before, AreReceiptsInOrder};
-ghost use Rattle.mf_store_sound.specs.ReceiptRows.{receipt_of, carried_by, AreReceiptsOf};
+ghost use Rattle.mf_store_accounts.specs.ReceiptRows.{receipt_of, carried_by, AreReceiptsOf};
 
 use mf_base::Fault;
+use mf_store_accounts::are_same;
 use mf_store_records::{EntryRow, ReceiptRow, Text};
 use std::alloc::Global;
 use std::cmp::Ordering;
@@ -35,31 +36,6 @@ fn do_rise(rows: &[ReceiptRow]) -> bool
 {
     for place in 1..rows.len() {
         if !is_before(&rows[place - 1], &rows[place]) {
-            return false;
-        }
-    }
-    true
-}
-
-/// Whether two rows are the same.
-fn is_same(row: &ReceiptRow, other: &ReceiptRow) -> bool
-    ensures { IsTrue result ↔ (row.now ≡ other.now) }
-{
-    row.office == other.office
-        && row.loan == other.loan
-        && row.seq == other.seq
-        && row.receipt.as_str() == other.receipt.as_str()
-}
-
-/// Whether the rows are the same, one by one.
-fn are_same(rows: &[ReceiptRow], others: &[ReceiptRow]) -> bool
-    ensures { IsTrue result ↔ (rows.now ≡ others.now) }
-{
-    if rows.len() != others.len() {
-        return false;
-    }
-    for place in 0..rows.len() {
-        if !is_same(&rows[place], &others[place]) {
             return false;
         }
     }

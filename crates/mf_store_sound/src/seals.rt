@@ -6,8 +6,8 @@ ghost use Rattle.mf_account.specs.Kinds.{is_seal as is_seal_kind};
 ghost use Rattle.mf_account.specs.Lawful.{is_last_of, are_seals_last as are_all_seals_last};
 ghost use Rattle.mf_account.specs.Standing.{is_before as comes_before};
 ghost use Rattle.mf_account.specs.declared.entry.Entry.{Entry};
-ghost use Rattle.mf_store_sound.specs.Entries.{IsReadable};
-ghost use Rattle.mf_store_sound.specs.Flat.{entry_in};
+ghost use Rattle.mf_store_accounts.specs.Ledgers.{IsReadable};
+ghost use Rattle.mf_store_accounts.specs.Flat.{entry_in};
 
 use mf_base::Day;
 use mf_store_records::EntryRow;

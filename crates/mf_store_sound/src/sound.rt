@@ -1,8 +1,13 @@
+//! Whether rows of the tables are those of a sound institution, of either schema; and the rows of its accounts.
+
 ghost use Rattle.std.specs.Prelude.{◌≡◌, ◌↔◌, IsTrue, IfOk, IfErr};
 ghost use Rattle.mf_base.specs.declared.fault.Fault.TheVariants.{F20};
-ghost use Rattle.mf_store_sound.specs.Sound.{AreOfSound};
+ghost use Rattle.mf_model.specs.Institution.{Institution};
+ghost use Rattle.mf_model.specs.Sound.{IsSound};
+ghost use Rattle.mf_store_accounts.specs.Flat.{tables_of};
+ghost use Rattle.mf_store_sound.specs.Schemas.{first_tables_of};
+ghost use Rattle.mf_store_sound.specs.Sound.{AreOfSound, AreOfSoundFirst, AreUnder};
 
-use crate::account_rows::are_accounts;
 use crate::callers::are_by_staff;
 use crate::charges::are_charges;
 use crate::meta::business_day;
@@ -12,11 +17,19 @@ use crate::products::are_products;
 use crate::receipts::are_receipts;
 use crate::tables::Tables;
 use mf_base::Fault;
+use mf_store_accounts::{are_accounts, rows_of_accounts};
+use mf_store_records::{InstalmentRow, ShareRow};
 use std::alloc::Global;
 
-/// Whether there is a sound institution whose rows these are. The error is want of memory, F20.
-pub fn is_sound(alloc: Global, tables: &Tables) -> Result<bool, Fault>
-    ensures exact { IfOk result (λ yes. IsTrue yes ↔ AreOfSound tables.now) }
+/// The number of the schema whose tables keep no rows of accounts.
+const FIRST_SCHEMA: u32 = 1;
+
+/// The number of the schema whose tables keep rows of accounts too.
+const SCHEMA: u32 = 2;
+
+/// Whether there is a sound institution whose rows these are, with this schema's number and but for the rows of accounts.
+fn are_under(alloc: Global, schema: u32, tables: &Tables) -> Result<bool, Fault>
+    ensures exact { IfOk result (λ yes. IsTrue yes ↔ AreUnder schema tables.now) }
     ensures gives_up { IfErr result (λ fault. fault ≡ F20) }
 {
     let meta = tables.meta();
@@ -28,7 +41,7 @@ pub fn is_sound(alloc: Global, tables: &Tables) -> Result<bool, Fault>
     let loans = tables.loans();
     let entries = tables.entries();
     let receipts = tables.receipts();
-    let Some(today) = business_day(meta) else {
+    let Some(today) = business_day(schema, meta) else {
         return Ok(false);
     };
     if !are_charges(charges) {
@@ -46,18 +59,55 @@ pub fn is_sound(alloc: Global, tables: &Tables) -> Result<bool, Fault>
     if !are_by_staff(staff, entries) {
         return Ok(false);
     }
-    if !are_receipts(alloc, receipts, entries)? {
+    are_receipts(alloc, receipts, entries)
+}
+
+/// Whether there is a sound institution whose rows these are. The error is want of memory, F20.
+pub fn is_sound(alloc: Global, tables: &Tables) -> Result<bool, Fault>
+    ensures exact { IfOk result (λ yes. IsTrue yes ↔ AreOfSound tables.now) }
+    ensures gives_up { IfErr result (λ fault. fault ≡ F20) }
+{
+    if !are_under(alloc, SCHEMA, tables)? {
         return Ok(false);
     }
-    let instalments = tables.instalments();
-    let shares = tables.shares();
     are_accounts(
         alloc,
-        charges,
-        products,
-        loans,
-        entries,
-        instalments,
-        shares,
+        tables.charges(),
+        tables.products(),
+        tables.loans(),
+        tables.entries(),
+        tables.instalments(),
+        tables.shares(),
+    )
+}
+
+/// Whether there is a sound institution whose rows these are under the first schema, which keeps no rows of accounts. The
+/// error is want of memory, F20.
+pub fn is_sound_first(alloc: Global, tables: &Tables) -> Result<bool, Fault>
+    ensures exact { IfOk result (λ yes. IsTrue yes ↔ AreOfSoundFirst tables.now) }
+    ensures gives_up { IfErr result (λ fault. fault ≡ F20) }
+{
+    if !tables.has_no_accounts() {
+        return Ok(false);
+    }
+    are_under(alloc, FIRST_SCHEMA, tables)
+}
+
+/// The rows of instalments and of shares that the accounts of an institution have, by its rows under the first schema. The
+/// error is want of memory, F20.
+pub fn account_rows(
+    alloc: Global,
+    tables: &Tables,
+) -> Result<(Vec<InstalmentRow>, Vec<ShareRow>), Fault>
+    ensures rows { IfOk result (λ rows. (i : Institution) → IsSound i → first_tables_of i ≡ tables.now →
+        (rows.0.items ≡ (tables_of i).instalments) × (rows.1.items ≡ (tables_of i).shares)) }
+    ensures gives_up { IfErr result (λ fault. fault ≡ F20) }
+{
+    rows_of_accounts(
+        alloc,
+        tables.charges(),
+        tables.products(),
+        tables.loans(),
+        tables.entries(),
     )
 }

@@ -1,7 +1,7 @@
 ghost use Rattle.std.specs.Prelude.{◌≡◌, ◌≤◌, ◌↔◌, IsTrue, length};
 ghost use Rattle.mf_model.specs.Sound.{IsName};
 ghost use Rattle.mf_model.specs.Institution.{Staff};
-ghost use Rattle.mf_store_sound.specs.Flat.{staff_in};
+ghost use Rattle.mf_store_accounts.specs.Flat.{staff_in};
 ghost use Rattle.mf_store_sound.specs.Stored.{IsRowOf, AreRowsOf};
 
 use mf_base::Choice;

@@ -41,7 +41,7 @@ impl Model for Tables {
 }
 
 impl Tables {
-    ghost use Rattle.std.specs.Prelude.{◌≡◌};
+    ghost use Rattle.std.specs.Prelude.{◌≡◌, ◌↔◌, IsTrue, []};
 
     pub(crate) fn meta(&self) -> &[MetaRow]
         ensures { result.now ≡ self.now.meta }
@@ -107,5 +107,12 @@ impl Tables {
         ensures { result.now ≡ self.now.shares }
     {
         self.shares.as_slice()
+    }
+
+    /// Whether there are no rows of accounts.
+    pub(crate) fn has_no_accounts(&self) -> bool
+        ensures { IsTrue result ↔ ((self.now.instalments ≡ []) × (self.now.shares ≡ [])) }
+    {
+        self.instalments.is_empty() && self.shares.is_empty()
     }
 }

@@ -6,7 +6,7 @@ ghost use Rattle.mf_wire_messages.specs.Arrivals.{TellsBody};
 use mf_wire_lines::{ReadFault, Source};
 
 /// Reads until the room is full or the stream ends. It gives how many bytes were read.
-fn fill<R: Source>(source: &mut R, room: &mut [u8]) -> Result<usize, ReadFault>
+pub fn fill<R: Source>(source: &mut R, room: &mut [u8]) -> Result<usize, ReadFault>
     ensures within { IfOk result (λ n. n ≤ length room.new) }
     ensures read { IfOk result (λ n. Consumes (R.unread source.old) (R.unread source.new) (take n room.new)) }
     ensures end { IfOk result (λ n. n < length room.new → IsAtEnd (R.unread source.new)) }

@@ -11,6 +11,7 @@ mod messages;
 mod reading;
 mod responses;
 
+pub use bodies::fill;
 pub use laws::{one_message, worked_messages};
 pub use messages::Message;
 pub use reading::{Arrival, read_message};

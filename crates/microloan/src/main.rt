@@ -1,34 +1,30 @@
 //! The loan desk's program: reads its words, and does what they ask for.
 #![tactic(auto)]
 
+mod telling;
+mod working;
+
 ghost use Rattle.std.specs.Prelude.{◌≡◌, ◌≤◌, IfOk};
 ghost use Rattle.mf_base.specs.DayText.{last_entered_day};
-ghost use Rattle.microloan_words.specs.Asked.{IsWithinLimits};
+ghost use Rattle.microloan_words.specs.Asked.{IsWithinLimits, IsServeWithinLimits};
 ghost use Rattle.microloan_commands.specs.Printed.{HasLongGrace};
-ghost use Rattle.microloan.specs.Status.{IsStatusOf, IsPrintStatus, IsWordsStatus};
+ghost use Rattle.microloan.specs.Status.{IsPrintStatus};
 
-use mf_base::{Cause, StreamFault};
-use mf_wire_lines::{WatchedReader, WatchedWriter};
-use microloan_commands::{answer_lines, schedule};
-use microloan_words::{BatchWords, Command, ScheduleWords, Words, command};
+use crate::telling::{print_made, refuse_words, tell_refusal};
+use crate::working::{
+    answer_input, answer_input_in_memory, collect_input, print_report, serve_port,
+};
+use mf_store_files::open;
+use microloan_commands::schedule;
+use microloan_words::{
+    BatchWords, Command, ScheduleWords, ServeWords, StaffWords, Words, command, default_day,
+};
 use std::process::ExitCode;
-use std::{env, fmt, io};
-
-/// Done, refused requests included.
-const DONE: u8 = 0;
-/// A fault, which standard error names.
-const FAULT: u8 = 1;
-/// The words ask for nothing that the program does.
-const BAD_WORDS: u8 = 2;
+use std::{env, io};
 
 fn main(rt: HostRuntime) -> io::Result<ExitCode> {
-    let asked = match given_words(&rt) {
-        Ok(words) => command(rt.alloc(), &words),
-        Err(words) => Err(words),
-    };
-    let status = match asked {
-        Ok(Command::Batch(asked)) => answer_input(&rt, &asked)?,
-        Ok(Command::Schedule(asked)) => print_schedule(&rt, &asked)?,
+    let status = match given_words(&rt) {
+        Ok(words) => obey(&rt, &words)?,
         Err(words) => refuse_words(&rt, words)?,
     };
     Ok(ExitCode::from(status))
@@ -47,27 +43,60 @@ fn given_words(rt: &HostRuntime) -> Result<Vec<String>, Words> {
     }
 }
 
-/// Answers the request lines on standard input, and gives the program's status.
-fn answer_input<R: Print + Eprint + Input + AllocGlobal>(
-    rt: &R,
-    asked: &BatchWords,
-) -> io::Result<u8>
+/// Does what the words ask for, and gives the program's status.
+fn obey(rt: &HostRuntime, words: &[String]) -> io::Result<u8> {
+    match command(rt.alloc(), words) {
+        Ok(Command::Batch(asked)) => batch(rt, &asked),
+        Ok(Command::Serve(asked)) => serve(rt, &asked),
+        Ok(Command::Collect(asked)) => collect(rt, &asked),
+        Ok(Command::Report(asked)) => report(rt, &asked),
+        Ok(Command::Schedule(asked)) => print_schedule(rt, &asked),
+        Err(words) => refuse_words(rt, words),
+    }
+}
+
+/// Answers request lines over the file that is named, or over a new institution in memory.
+fn batch(rt: &HostRuntime, asked: &BatchWords<'_>) -> io::Result<u8>
     requires { asked.now.day ≤ last_entered_day }
     ensures { IfOk result IsPrintStatus }
 {
-    let mut source = WatchedReader::new(rt.reader());
-    let mut sink = WatchedWriter::new(io::writer(rt));
-    let ended = answer_lines(rt.alloc(), asked.day, &mut source, &mut sink);
-    tell_end(rt, &ended)
+    let Some(file) = &asked.file else {
+        return answer_input_in_memory(rt, asked.day);
+    };
+    match open(rt, file.as_str(), asked.day) {
+        Ok(mut store) => answer_input(rt, &mut store),
+        Err(fault) => tell_refusal(rt, fault),
+    }
 }
 
-/// Says which fault ended a run, if one did, and gives the program's status.
-fn tell_end<R: Eprint>(rt: &R, ended: &Result<u64, StreamFault>) -> io::Result<u8>
-    ensures { IfOk result (IsStatusOf ended.now) }
+/// Serves HTTP over a file, which is opened before the port.
+fn serve(rt: &HostRuntime, asked: &ServeWords<'_>) -> io::Result<u8>
+    requires { IsServeWithinLimits asked.now }
+    ensures { IfOk result IsPrintStatus }
 {
-    match ended {
-        Ok(_) => Ok(DONE),
-        Err(fault) => tell_fault(rt, name_of(fault.cause)),
+    match open(rt, asked.file.as_str(), asked.day) {
+        Ok(mut store) => serve_port(rt, &mut store, asked.port, asked.count),
+        Err(fault) => tell_refusal(rt, fault),
+    }
+}
+
+/// Collects a sheet over a file, which is opened before the sheet is read.
+fn collect(rt: &HostRuntime, asked: &StaffWords<'_>) -> io::Result<u8>
+    ensures { IfOk result IsPrintStatus }
+{
+    match open(rt, asked.file.as_str(), default_day()) {
+        Ok(mut store) => collect_input(rt, &mut store, asked.staff),
+        Err(fault) => tell_refusal(rt, fault),
+    }
+}
+
+/// Prints the report of arrears of a file.
+fn report(rt: &HostRuntime, asked: &StaffWords<'_>) -> io::Result<u8>
+    ensures { IfOk result IsPrintStatus }
+{
+    match open(rt, asked.file.as_str(), default_day()) {
+        Ok(mut store) => print_report(rt, &mut store, asked.staff),
+        Err(fault) => tell_refusal(rt, fault),
     }
 }
 
@@ -77,56 +106,5 @@ fn print_schedule<R: Print + Eprint + AllocGlobal>(rt: &R, asked: &ScheduleWords
     ensures status { IfOk result IsPrintStatus }
     ensures long_grace { HasLongGrace asked.now → IfOk result (λ status. status ≡ 1) }
 {
-    match schedule(rt.alloc(), asked) {
-        Ok(text) => print_text(rt, text),
-        Err(fault) => tell_fault(rt, format_args!("{fault:?}")),
-    }
-}
-
-/// Says what is wrong with words, or the help that they ask for, and gives the program's status.
-fn refuse_words<R: Print + Eprint>(rt: &R, words: Words) -> io::Result<u8>
-    ensures { IfOk result (IsWordsStatus words) }
-{
-    match words {
-        Words::Help(text) => print_text(rt, text),
-        Words::Bad(line) => {
-            rt.eprintln(line)?;
-            Ok(BAD_WORDS)
-        }
-        Words::Memory => tell_fault(rt, name_of(Cause::Memory)),
-    }
-}
-
-/// Prints a text, and gives the program's status.
-fn print_text<R: Print + Eprint>(rt: &R, text: String) -> io::Result<u8>
-    ensures { IfOk result IsPrintStatus }
-{
-    tell_printed(rt, &rt.print(text))
-}
-
-/// Says that a text was not printed, where it wasn't, and gives the program's status.
-fn tell_printed<R: Eprint>(rt: &R, printed: &io::Result<()>) -> io::Result<u8>
-    ensures { IfOk result (IsStatusOf printed.now) }
-{
-    match printed {
-        Ok(()) => Ok(DONE),
-        Err(_) => tell_fault(rt, name_of(Cause::Write)),
-    }
-}
-
-/// The name that standard error gives to a cause.
-fn name_of(cause: Cause) -> &'static str {
-    match cause {
-        Cause::Read => "read",
-        Cause::Write => "write",
-        Cause::Memory => "memory",
-    }
-}
-
-/// Says which fault it was, and gives the program's status.
-fn tell_fault<R: Eprint>(rt: &R, fault: impl fmt::Display + Drop) -> io::Result<u8>
-    ensures { IfOk result (λ status. status ≡ 1) }
-{
-    rt.eprintln(format_args!("microloan: {fault}"))?;
-    Ok(FAULT)
+    print_made(rt, schedule(rt.alloc(), asked))
 }

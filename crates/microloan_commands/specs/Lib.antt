@@ -1,2 +1,5 @@
 pub mod Printed
 pub mod Batch
+pub mod Reported
+pub mod Sheets
+pub mod Served

@@ -1,17 +1,23 @@
 -- What the program is asked to do, as it follows from the words.
-use Rattle.std.specs.Prelude.{◌≡◌, ℕ, ◌≤◌, List, codes, Some}
+use Rattle.std.specs.Prelude.{◌≡◌, ℕ, ◌≤◌, ◌==◌, List, codes, Option, Some, Result, Ok, IfOk, IfErr, if◌then◌else◌}
 use Rattle.std.specs.Str.Parse.{IsNumeral, digits_value, without_leading_plus}
 use Rattle.clap.specs.Words.{Row, Text, Kinds, first_of, subcommand_of, fault_of}
 use Rattle.mf_base.specs.Choices.{frequency_name}
 use Rattle.mf_base.specs.DayText.{day_text, last_entered_day}
 use Rattle.mf_catalog.specs.Limits.{greatest_amount, greatest_rate, most_grace, most_periods, longest_step}
 use Rattle.mf_catalog.specs.Names.{method_name}
+use Rattle.mf_office.specs.Texts.{IsCaller}
+use Rattle.mf_office.specs.Written.{caller_text}
+use Rattle.mf_office.specs.declared.caller.Caller.{Caller}
 use Rattle.microloan_words.specs.Options.{microloan_app}
+use Rattle.microloan_words.specs.declared.asked.BatchWords.{BatchWords}
+use Rattle.microloan_words.specs.declared.asked.ServeWords.{ServeWords}
+use Rattle.microloan_words.specs.declared.asked.StaffWords.{StaffWords}
 use Rattle.microloan_words.specs.declared.asked.ScheduleWords.{ScheduleWords}
 use Rattle.microloan_words.specs.declared.asked.Words.{Words}
 use Rattle.microloan_words.specs.declared.asked.Words.TheVariants.{Bad, Help, Memory}
 use Rattle.microloan_words.specs.declared.asked.Command.{Command}
-use Rattle.microloan_words.specs.declared.asked.Command.TheVariants.{Batch, Schedule}
+use Rattle.microloan_words.specs.declared.asked.Command.TheVariants.{Batch, Serve, Collect, Report, Schedule}
 
 -- the option's text is this number in decimal digits, and the number lies in its limits
 pub record IsNumberAt (rows : List Row) (id : Text) (least greatest number : ℕ) : Type 0 where
@@ -26,6 +32,42 @@ pub record IsNumberAt (rows : List Row) (id : Text) (least greatest number : ℕ
 pub record IsDayAt (rows : List Row) (id : Text) (day : ℕ) : Type 0 where
   pub given : first_of id rows ≡ Some (day_text day)
   pub entered : day ≤ last_entered_day
+
+-- the option's text is that of this member of staff
+pub record IsCallerAt (rows : List Row) (id : Text) (caller : Caller) : Type 0 where
+  pub given : first_of id rows ≡ Some (caller_text caller.office caller.staff)
+  pub valid : IsCaller caller
+
+-- the greatest count
+abbrev pub most_connections : ℕ
+most_connections = 18446744073709551615
+
+-- as many as a number says, and 0 says as many as can be counted
+abbrev pub connections : ℕ → ℕ
+connections number = if number == 0 then most_connections else number
+
+-- the option's text is a number, and asks for so many connections
+pub record IsCountAt (rows : List Row) (id : Text) (count : ℕ) : Type 0 where
+  pub number : ℕ
+  pub given : IsNumberAt rows id 0 most_connections number
+  pub asks : connections number ≡ count
+
+-- the options of `batch`: a file may be named
+pub record AreBatchWords (rows : List Row) (asked : BatchWords) : Type 0 where
+  pub file : first_of (codes "file") rows ≡ asked.file
+  pub day : IsDayAt rows (codes "day") asked.day
+
+-- the options of `serve`
+pub record AreServeWords (rows : List Row) (asked : ServeWords) : Type 0 where
+  pub file : first_of (codes "file") rows ≡ Some asked.file
+  pub port : IsNumberAt rows (codes "port") 1 65535 asked.port
+  pub count : IsCountAt rows (codes "count") asked.count
+  pub day : IsDayAt rows (codes "day") asked.day
+
+-- the options of `collect` and of `report`
+pub record AreStaffWords (rows : List Row) (asked : StaffWords) : Type 0 where
+  pub file : first_of (codes "file") rows ≡ Some asked.file
+  pub staff : IsCallerAt rows (codes "staff") asked.staff
 
 -- the options of `schedule`
 pub record AreScheduleWords (rows : List Row) (asked : ScheduleWords) : Type 0 where
@@ -49,19 +91,44 @@ pub record IsWithinLimits (asked : ScheduleWords) : Type 0 where
   pub some_step : 1 ≤ asked.every
   pub longest_step : asked.every ≤ longest_step asked.frequency
 
--- a command of the program with these options, as `clap` reads the words
-abbrev pub HasOptions : List Text → Text → List Row → Type 0
-HasOptions words name rows = subcommand_of microloan_app words ≡ Some (name, rows)
+-- a port that can be asked for, some connections, and a day that may be entered
+pub record IsServeWithinLimits (asked : ServeWords) : Type 0 where
+  pub some_port : 1 ≤ asked.port
+  pub most_port : asked.port ≤ 65535
+  pub some_count : 1 ≤ asked.count
+  pub day_entered : asked.day ≤ last_entered_day
 
 -- a command's numbers are within their limits
 abbrev pub HasLimits : Command → Type 0
 HasLimits (Batch asked) = asked.day ≤ last_entered_day
+HasLimits (Serve asked) = IsServeWithinLimits asked
+HasLimits (Collect asked) = IsCaller asked.staff
+HasLimits (Report asked) = IsCaller asked.staff
 HasLimits (Schedule asked) = IsWithinLimits asked
+
+-- the name of a command
+abbrev pub name_of : Command → Text
+name_of (Batch asked) = codes "batch"
+name_of (Serve asked) = codes "serve"
+name_of (Collect asked) = codes "collect"
+name_of (Report asked) = codes "report"
+name_of (Schedule asked) = codes "schedule"
+
+-- the options are those of the command
+abbrev pub AreWords : List Row → Command → Type 0
+AreWords rows (Batch asked) = AreBatchWords rows asked
+AreWords rows (Serve asked) = AreServeWords rows asked
+AreWords rows (Collect asked) = AreStaffWords rows asked
+AreWords rows (Report asked) = AreStaffWords rows asked
+AreWords rows (Schedule asked) = AreScheduleWords rows asked
+
+-- what a command and its options ask for, where `clap` found them
+abbrev pub IsAskedIn : Option (Text × List Row) → Command → Type 0
+IsAskedIn found asked = (rows : List Row) × (found ≡ Some (name_of asked, rows)) × AreWords rows asked
 
 -- what the words ask for
 abbrev pub IsAsked : List Text → Command → Type 0
-IsAsked words (Batch asked) = (rows : List Row) × HasOptions words (codes "batch") rows × IsDayAt rows (codes "day") asked.day
-IsAsked words (Schedule asked) = (rows : List Row) × HasOptions words (codes "schedule") rows × AreScheduleWords rows asked
+IsAsked words asked = IsAskedIn (subcommand_of microloan_app words) asked
 
 -- what `clap` finds wrong with the words: nothing, where it takes them
 abbrev pub faults_of : List Text → Kinds
@@ -78,3 +145,10 @@ abbrev pub IsBad : Words → Type 0
 IsBad (Help text) = ⊥
 IsBad (Bad line) = Unit {0}
 IsBad Memory = ⊥
+
+-- What is found is read as what it asks for, and refused, without help, where it asks for nothing.
+pub record Reads (found : Option (Text × List Row)) (result : Result Command Words) : Type 0 where
+  pub asked : IfOk result (IsAskedIn found)
+  pub limits : IfOk result HasLimits
+  pub every : (asked : Command) → IsAskedIn found asked → result ≡ Ok asked
+  pub help : IfErr result (λ refusal. IsHelp refusal → ⊥)

@@ -33,9 +33,23 @@ schedule_app =
     (default_rule (codes "principal-grace") (codes "0")))
     (default_rule (codes "interest-grace") (codes "0"))
 
--- `batch` with its option
+-- `batch` with its options
 abbrev pub batch_app : App
-batch_app = with_rule (new_app (codes "batch")) (default_rule (codes "day") (codes "2024-01-01"))
+batch_app = with_rule (with_rule (new_app (codes "batch"))
+    (option_rule (codes "file")))
+    (default_rule (codes "day") (codes "2024-01-01"))
+
+-- `serve` with its options
+abbrev pub serve_app : App
+serve_app = with_rule (with_rule (with_rule (with_rule (new_app (codes "serve"))
+    (required_rule (codes "file")))
+    (required_rule (codes "port")))
+    (default_rule (codes "count") (codes "0")))
+    (default_rule (codes "day") (codes "2024-01-01"))
+
+-- a command over a file, asked for by a member of staff
+abbrev pub staff_app : Text → App
+staff_app name = with_rule (with_rule (new_app name) (required_rule (codes "file"))) (required_rule (codes "staff"))
 
 -- the program, which wants a command
 abbrev pub bare_app : App
@@ -43,6 +57,11 @@ bare_app =
     let top = (new_app (codes "microloan")).top in
     record { top = record top { subcommand_required = true; disable_help_subcommand = true }; subs = [] }
 
+-- the program with the commands over an institution
+abbrev pub desk_app : App
+desk_app = with_subcommand (with_subcommand (with_subcommand (with_subcommand bare_app batch_app.top) serve_app.top)
+    (staff_app (codes "collect")).top) (staff_app (codes "report")).top
+
 -- the program with its commands
 abbrev pub microloan_app : App
-microloan_app = with_subcommand (with_subcommand bare_app batch_app.top) schedule_app.top
+microloan_app = with_subcommand desk_app schedule_app.top

@@ -1,21 +1,85 @@
 use mf_base::{Day, Freq};
 use mf_catalog::Method;
+use mf_office::Caller;
 use std::alloc::{AllocError, AllocFailed};
+use std::marker::Model;
 
 /// What the program is asked to do.
-#[derive(Clone, Copy, PartialEq, Eq, Debug)]
-pub enum Command {
-    /// Answer the request lines on standard input, over an institution in memory that begins on a day.
-    Batch(BatchWords),
+#[derive(Debug, Drop)]
+pub enum Command<'a> {
+    /// Answer the request lines on standard input.
+    Batch(BatchWords<'a>),
+    /// Answer HTTP messages, one a connection.
+    Serve(ServeWords<'a>),
+    /// Answer the collection sheet on standard input, and write the sheet of its results.
+    Collect(StaffWords<'a>),
+    /// Print the report of arrears.
+    Report(StaffWords<'a>),
     /// Print a schedule.
     Schedule(ScheduleWords),
 }
 
+/// The path of a file, as it stands in the words. Contracts see its bytes.
+#[derive(Debug, Drop)]
+pub struct FilePath<'a> {
+    text: &'a str,
+}
+
+impl<'a> Model for FilePath<'a> {
+    ghost use Rattle.std.specs.Prelude.{ℕ, List};
+
+    ghost Value = { List ℕ };
+
+    ghost view = { λ path. path.text.now };
+}
+
+impl<'a> FilePath<'a> {
+    ghost use Rattle.std.specs.Prelude.{◌≡◌};
+
+    /// The path that a text is.
+    pub fn new(text: &'a str) -> FilePath<'a>
+        ensures { result ≡ text.entry.now }
+    {
+        FilePath { text }
+    }
+
+    /// The path as a text.
+    pub fn as_str(&self) -> &'a str
+        ensures { result.now ≡ self.now }
+    {
+        self.text
+    }
+}
+
 /// The options of `batch`.
-#[derive(Clone, Copy, PartialEq, Eq, Debug)]
-pub struct BatchWords {
-    /// The first business day of the institution.
+#[derive(Debug, Drop)]
+pub struct BatchWords<'a> {
+    /// The file that holds the institution, or None for a new one in memory.
+    pub file: Option<FilePath<'a>>,
+    /// The first business day of an institution that is new.
     pub day: Day,
+}
+
+/// The options of `serve`.
+#[derive(Debug, Drop)]
+pub struct ServeWords<'a> {
+    /// The file that holds the institution.
+    pub file: FilePath<'a>,
+    /// The port on 127.0.0.1, from 1 to 65,535.
+    pub port: u16,
+    /// How many connections are served; 2^64 - 1 where the words ask for no end.
+    pub count: u64,
+    /// The first business day of an institution that is new.
+    pub day: Day,
+}
+
+/// The options of `collect` and of `report`.
+#[derive(Debug, Drop)]
+pub struct StaffWords<'a> {
+    /// The file that holds the institution.
+    pub file: FilePath<'a>,
+    /// The member of staff who asks.
+    pub staff: Caller,
 }
 
 /// The options of `schedule`.

@@ -1,14 +1,13 @@
-ghost use Rattle.std.specs.Prelude.{◌≡◌, ◌≢◌, ◌⊎◌, [], ◌∷◌, map, true, IfOk, IfErr, IsErrOf, string_bytes, Ok, Err};
-ghost use Rattle.clap.specs.Words.{subcommand_of, subcommand_rows_of, takes, kind_of, HasKind, IsAmong};
+ghost use Rattle.std.specs.Prelude.{◌≡◌, ◌≢◌, ◌⊎◌, List, [], ◌∷◌, map, true, is_some, codes, Some, IfSome, IfOk, IfErr, IsErrOf, string_bytes, Ok, Err};
+ghost use Rattle.clap.specs.Words.{Row, found_of, rows_of, subcommand_of, subcommand_rows_of, takes, kind_of, HasKind, IsAmong};
 ghost use Rattle.microloan_words.specs.Options.{microloan_app};
-ghost use Rattle.microloan_words.specs.Asked.{HasLimits, IsAsked, IsHelp, IsBad, faults_of};
+ghost use Rattle.microloan_words.specs.Asked.{HasLimits, IsAsked, IsHelp, IsBad, Reads, faults_of};
 ghost use Rattle.microloan_words.specs.declared.asked.Command.{Command};
 
-use crate::asked::{BatchWords, Command, Words};
+use crate::asked::{Command, Words};
 use crate::options::microloan_command;
-use crate::reading::{Wrong, schedule_words};
+use crate::reading::{batch_words, schedule_words, serve_words, staff_words};
 use crate::refusal::{no_command, refused_by_clap, wrong_option};
-use crate::values::day_at;
 use clap::error::ErrorKind;
 use clap::{ArgMatches, Error};
 use std::alloc::Global;
@@ -24,33 +23,96 @@ fn matches_of<'a>(alloc: Global, words: &'a [String]) -> Result<ArgMatches<'a>, 
     command.try_get_matches_from(words)
 }
 
+/// The options of a command, where it is the one that `clap` found.
+fn options_of<'m, 'a>(matches: &'m ArgMatches<'a>, name: &str) -> Option<&'m ArgMatches<'a>>
+    ensures found { IfSome result (λ m. subcommand_rows_of matches.now ≡ Some (name.now, rows_of (found_of m.now))) }
+    ensures none { (rows : List Row) → subcommand_rows_of matches.now ≡ Some (name.now, rows) → is_some result ≡ true }
+{
+    matches.subcommand_matches(name)
+}
+
+fn batch_asked<'a>(alloc: Global, options: &ArgMatches<'a>) -> Result<Command<'a>, Words>
+    ensures { Reads (Some (codes "batch", rows_of (found_of options.now))) result }
+{
+    match batch_words(options) {
+        Ok(asked) => Ok(Command::Batch(asked)),
+        Err(wrong) => Err(wrong_option(alloc, "batch", wrong)),
+    }
+}
+
+fn serve_asked<'a>(alloc: Global, options: &ArgMatches<'a>) -> Result<Command<'a>, Words>
+    ensures { Reads (Some (codes "serve", rows_of (found_of options.now))) result }
+{
+    match serve_words(options) {
+        Ok(asked) => Ok(Command::Serve(asked)),
+        Err(wrong) => Err(wrong_option(alloc, "serve", wrong)),
+    }
+}
+
+fn collect_asked<'a>(alloc: Global, options: &ArgMatches<'a>) -> Result<Command<'a>, Words>
+    ensures { Reads (Some (codes "collect", rows_of (found_of options.now))) result }
+{
+    match staff_words(options) {
+        Ok(asked) => Ok(Command::Collect(asked)),
+        Err(wrong) => Err(wrong_option(alloc, "collect", wrong)),
+    }
+}
+
+fn report_asked<'a>(alloc: Global, options: &ArgMatches<'a>) -> Result<Command<'a>, Words>
+    ensures { Reads (Some (codes "report", rows_of (found_of options.now))) result }
+{
+    match staff_words(options) {
+        Ok(asked) => Ok(Command::Report(asked)),
+        Err(wrong) => Err(wrong_option(alloc, "report", wrong)),
+    }
+}
+
+fn schedule_asked<'a>(alloc: Global, options: &ArgMatches<'a>) -> Result<Command<'a>, Words>
+    ensures { Reads (Some (codes "schedule", rows_of (found_of options.now))) result }
+{
+    match schedule_words(options) {
+        Ok(asked) => Ok(Command::Schedule(asked)),
+        Err(wrong) => Err(wrong_option(alloc, "schedule", wrong)),
+    }
+}
+
+/// What the command asks for that `clap` found.
+fn command_asked<'a>(alloc: Global, matches: &ArgMatches<'a>) -> Result<Command<'a>, Words>
+    ensures { Reads (subcommand_rows_of matches.now) result }
+{
+    if let Some(options) = options_of(matches, "batch") {
+        return batch_asked(alloc, options);
+    }
+    if let Some(options) = options_of(matches, "serve") {
+        return serve_asked(alloc, options);
+    }
+    if let Some(options) = options_of(matches, "collect") {
+        return collect_asked(alloc, options);
+    }
+    if let Some(options) = options_of(matches, "report") {
+        return report_asked(alloc, options);
+    }
+    match options_of(matches, "schedule") {
+        Some(options) => schedule_asked(alloc, options),
+        None => Err(no_command(alloc)),
+    }
+}
+
 /// What the words ask for; the first of them is the program's own name.
 ///
 /// Words that `clap` takes, and whose options are as they should be, are refused for want of memory alone. Help is told
 /// only where `clap` finds that it is asked for; where that is all it finds, the words are not told to be wrong.
-pub fn command(alloc: Global, words: &[String]) -> Result<Command, Words>
-    ensures asked { IfOk result (IsAsked (map string_bytes words.now)) }
+pub fn command<'a>(alloc: Global, words: &'a [String]) -> Result<Command<'a>, Words>
+    ensures asked { IfOk result (IsAsked (map string_bytes words.entry.now)) }
     ensures limits { IfOk result HasLimits }
-    ensures every { (asked : Command) → takes microloan_app (map string_bytes words.now) ≡ true →
-        IsAsked (map string_bytes words.now) asked → (result ≡ Ok asked) ⊎ (result ≡ Err Words.Memory) }
-    ensures help { IfErr result (λ refusal. IsHelp refusal → IsAmong ErrorKind.DisplayHelp (faults_of (map string_bytes words.now))) }
-    ensures bad { IfErr result (λ refusal. IsBad refusal → faults_of (map string_bytes words.now) ≢ ErrorKind.DisplayHelp ∷ []) }
+    ensures every { (asked : Command) → takes microloan_app (map string_bytes words.entry.now) ≡ true →
+        IsAsked (map string_bytes words.entry.now) asked → (result ≡ Ok asked) ⊎ (result ≡ Err Words.Memory) }
+    ensures help { IfErr result (λ refusal. IsHelp refusal → IsAmong ErrorKind.DisplayHelp (faults_of (map string_bytes words.entry.now))) }
+    ensures bad { IfErr result (λ refusal. IsBad refusal → faults_of (map string_bytes words.entry.now) ≢ ErrorKind.DisplayHelp ∷ []) }
 {
     let matches = match matches_of(alloc, words) {
         Ok(matches) => matches,
         Err(error) => return Err(refused_by_clap(alloc, words, &error)),
     };
-    if let Some(options) = matches.subcommand_matches("batch") {
-        return match day_at(options, "day") {
-            Some(day) => Ok(Command::Batch(BatchWords { day })),
-            None => Err(wrong_option(alloc, "batch", Wrong::Day)),
-        };
-    }
-    let Some(options) = matches.subcommand_matches("schedule") else {
-        return Err(no_command(alloc));
-    };
-    match schedule_words(options) {
-        Ok(asked) => Ok(Command::Schedule(asked)),
-        Err(wrong) => Err(wrong_option(alloc, "schedule", wrong)),
-    }
+    command_asked(alloc, &matches)
 }

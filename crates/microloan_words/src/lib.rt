@@ -8,5 +8,6 @@ mod reading;
 mod refusal;
 mod values;
 
-pub use asked::{BatchWords, Command, ScheduleWords, Words};
+pub use asked::{BatchWords, Command, FilePath, ScheduleWords, ServeWords, StaffWords, Words};
 pub use asking::command;
+pub use values::default_day;

@@ -1,8 +1,9 @@
 ghost use Rattle.std.specs.Prelude.{◌≡◌, codes, IfOk, false};
-ghost use Rattle.clap.specs.Words.{app_of, rule_of, new_app, with_rule};
+ghost use Rattle.clap.specs.Words.{app_of, rule_of, new_app, with_rule, with_subcommand};
 ghost use Rattle.clap.specs.declared.Command.TheViews.{out-Command as fields_of};
-ghost use Rattle.microloan_words.specs.Options.{option_rule, required_rule, default_rule, batch_app, loan_app, schedule_app, microloan_app};
+ghost use Rattle.microloan_words.specs.Options.{option_rule, required_rule, default_rule, batch_app, serve_app, staff_app, loan_app, schedule_app, bare_app, desk_app, microloan_app};
 
+use crate::values::DEFAULT_DAY;
 use clap::{Arg, Command};
 use std::alloc::{AllocError, Global};
 
@@ -137,24 +138,152 @@ fn schedule_command<'a>(alloc: Global) -> Result<Command<'a>, AllocError>
     with_option(command, interest_grace)
 }
 
+/// The option that names the file of an institution, which must be given.
+fn file_option<'a>(alloc: Global) -> Arg<'a>
+    ensures rule { rule_of result ≡ required_rule (codes "file") }
+    ensures local { result.global ≡ false }
+{
+    required_option(alloc, "file", "PATH", "The file that holds the institution")
+}
+
+/// The option of the day on which a new institution begins.
+fn day_option<'a>(alloc: Global) -> Arg<'a>
+    ensures rule { rule_of result ≡ default_rule (codes "day") (codes "2024-01-01") }
+    ensures local { result.global ≡ false }
+{
+    default_option(
+        alloc,
+        "day",
+        "DAY",
+        DEFAULT_DAY,
+        "First day of a new institution",
+    )
+}
+
 /// The command `batch`.
 fn batch_command<'a>(alloc: Global) -> Result<Command<'a>, AllocError>
     ensures app { IfOk result (λ c. app_of c ≡ batch_app) }
     ensures local { IfOk result (λ c. (fields_of c).has_globals ≡ false) }
 {
-    let day = default_option(
+    let file = plain_option(
         alloc,
-        "day",
-        "DAY",
-        "2024-01-01",
-        "First business day of the institution",
+        "file",
+        "PATH",
+        "The file that holds the institution; none: memory",
     );
     let command = Command::new(alloc, "batch")
-        .about("Answer request lines, over an institution in memory")
+        .about("Answer request lines")
         .after_help(
-            "Each line of standard input is `caller method path`, then a space and a JSON\nbody where the request has one. Each reply is a status, a space and a body.\ndocs/routes.md has every request with its members and replies.\n\nDays are 2000-01-01 to 2099-12-31.\n\nExample:\n  echo '1/1 POST /clients {\"office\":1,\"name\":\"Amina\"}' | microloan batch",
+            "Each line of standard input is `caller method path`, then a space and a JSON\nbody where the request has one. Each reply is a status, a space and a body.\ndocs/routes.md has every request with its members and replies.\n\nA file that is missing or empty gets a new institution. Days are 2000-01-01 to\n2099-12-31.\n\nExample:\n  echo '1/1 POST /clients {\"office\":1,\"name\":\"Amina\"}' | microloan batch",
         );
-    with_option(command, day)
+    let command = with_option(command, file)?;
+    with_option(command, day_option(alloc))
+}
+
+/// The command `serve`.
+fn serve_command<'a>(alloc: Global) -> Result<Command<'a>, AllocError>
+    ensures app { IfOk result (λ c. app_of c ≡ serve_app) }
+    ensures local { IfOk result (λ c. (fields_of c).has_globals ≡ false) }
+{
+    let port = required_option(alloc, "port", "PORT", "The port on 127.0.0.1: 1 to 65535");
+    let count = default_option(
+        alloc,
+        "count",
+        "COUNT",
+        "0",
+        "Connections to serve; 0: without end",
+    );
+    let command = Command::new(alloc, "serve")
+        .about("Answer HTTP messages, one a connection")
+        .after_help(
+            "Each message names who asks in its field X-Staff, as 1/1. Connections are served\none after the other, so a slow client holds up the others.\n\nA file that is missing or empty gets a new institution. Days are 2000-01-01 to\n2099-12-31.\n\nExample:\n  microloan serve --file desk.db --port 8080\n  curl -H 'X-Staff: 1/1' http://127.0.0.1:8080/offices",
+        );
+    let command = with_option(command, file_option(alloc))?;
+    let command = with_option(command, port)?;
+    let command = with_option(command, count)?;
+    with_option(command, day_option(alloc))
+}
+
+/// The options of a command over a file that a member of staff asks for.
+fn with_staff<'a>(
+    alloc: Global,
+    command: Command<'a>,
+    name: &str,
+) -> Result<Command<'a>, AllocError>
+    requires app { app_of command ≡ new_app name.now }
+    requires local { (fields_of command).has_globals ≡ false }
+    ensures app { IfOk result (λ c. app_of c ≡ staff_app name.now) }
+    ensures local { IfOk result (λ c. (fields_of c).has_globals ≡ false) }
+{
+    let staff = required_option(
+        alloc,
+        "staff",
+        "STAFF",
+        "Who asks: an office, a slash and a member of its staff",
+    );
+    let command = with_option(command, file_option(alloc))?;
+    with_option(command, staff)
+}
+
+/// The command `collect`.
+fn collect_command<'a>(alloc: Global) -> Result<Command<'a>, AllocError>
+    ensures app { IfOk result (λ c. app_of c ≡ staff_app (codes "collect")) }
+    ensures local { IfOk result (λ c. (fields_of c).has_globals ≡ false) }
+{
+    let command = Command::new(alloc, "collect")
+        .about("Enter the repayments of a collection sheet")
+        .after_help(
+            "Standard input is the sheet, CSV with the columns receipt,loan,date,amount, at\nmost 1048576 bytes. Standard output is the sheet with a fifth column, result:\nentered, repeated or the number of a refusal. A sheet may be sent again.\n\nExample:\n  microloan collect --file desk.db --staff 1/1 < sheet.csv > results.csv",
+        );
+    with_staff(alloc, command, "collect")
+}
+
+/// The command `report`.
+fn report_command<'a>(alloc: Global) -> Result<Command<'a>, AllocError>
+    ensures app { IfOk result (λ c. app_of c ≡ staff_app (codes "report")) }
+    ensures local { IfOk result (λ c. (fields_of c).has_globals ≡ false) }
+{
+    let command = Command::new(alloc, "report")
+        .about("Print the report of arrears")
+        .after_help(
+            "A line for the office of the one who asks and for each office below it, by\nnumber, and a line for all. The columns: office, active loans, outstanding\nprincipal, then that of loans 1-30, 31-60, 61-90 and over 90 days overdue, and\nthe percentage more than 30 days overdue.\n\nExample:\n  microloan report --file desk.db --staff 1/1",
+        );
+    with_staff(alloc, command, "report")
+}
+
+/// The program with one more command.
+fn with_command<'a>(program: Command<'a>, command: Command<'a>) -> Result<Command<'a>, AllocError>
+    requires program { (fields_of program).has_globals ≡ false }
+    requires command { (fields_of command).has_globals ≡ false }
+    ensures app { IfOk result (λ c. app_of c ≡ with_subcommand (app_of program.entry) (app_of command.entry).top) }
+    ensures local { IfOk result (λ c. (fields_of c).has_globals ≡ false) }
+{
+    program.subcommand(command)
+}
+
+/// The program without commands, one of which it wants.
+fn bare_program<'a>(alloc: Global) -> Command<'a>
+    ensures app { app_of result ≡ bare_app }
+    ensures local { (fields_of result).has_globals ≡ false }
+{
+    Command::new(alloc, "microloan")
+        .about("The loan desk of a microfinance institution")
+        .after_help(
+            "A command's options: microloan batch --help, and so on\n\nExit status: 0 done (refused requests included), 1 a fault, 2 wrong words.",
+        )
+        .subcommand_required(true)
+        .disable_help_subcommand(true)
+}
+
+/// The program with the commands over an institution.
+fn desk_program<'a>(alloc: Global) -> Result<Command<'a>, AllocError>
+    ensures app { IfOk result (λ c. app_of c ≡ desk_app) }
+    ensures local { IfOk result (λ c. (fields_of c).has_globals ≡ false) }
+{
+    let program = with_command(bare_program(alloc), batch_command(alloc)?)?;
+    let program = with_command(program, serve_command(alloc)?)?;
+    let program = with_command(program, collect_command(alloc)?)?;
+    with_command(program, report_command(alloc)?)
 }
 
 /// The program with its commands.
@@ -162,15 +291,6 @@ pub(crate) fn microloan_command<'a>(alloc: Global) -> Result<Command<'a>, AllocE
     ensures app { IfOk result (λ c. app_of c ≡ microloan_app) }
     ensures local { IfOk result (λ c. (fields_of c).has_globals ≡ false) }
 {
-    let batch = batch_command(alloc)?;
-    let schedule = schedule_command(alloc)?;
-    let program = Command::new(alloc, "microloan")
-        .about("The loan desk of a microfinance institution")
-        .after_help(
-            "A command's options: microloan batch --help, microloan schedule --help\n\nExit status: 0 done (refused requests included), 1 a fault, 2 wrong words.",
-        )
-        .subcommand_required(true)
-        .disable_help_subcommand(true)
-        .subcommand(batch)?;
-    program.subcommand(schedule)
+    let program = desk_program(alloc)?;
+    with_command(program, schedule_command(alloc)?)
 }

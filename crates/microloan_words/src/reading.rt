@@ -1,16 +1,29 @@
-ghost use Rattle.std.specs.Prelude.{◌≡◌, IfOk};
+ghost use Rattle.std.specs.Prelude.{◌≡◌, ◌≤◌, IfOk};
 ghost use Rattle.clap.specs.Words.{found_of, rows_of};
-ghost use Rattle.microloan_words.specs.Asked.{AreScheduleWords, IsWithinLimits};
+ghost use Rattle.mf_base.specs.DayText.{last_entered_day};
+ghost use Rattle.microloan_words.specs.Asked.{AreBatchWords, AreServeWords, AreStaffWords, AreScheduleWords, IsWithinLimits};
+ghost use Rattle.microloan_words.specs.Asked.{IsServeWithinLimits};
+ghost use Rattle.mf_office.specs.Texts.{IsCaller};
+ghost use Rattle.microloan_words.specs.declared.asked.BatchWords.{BatchWords};
+ghost use Rattle.microloan_words.specs.declared.asked.ServeWords.{ServeWords};
+ghost use Rattle.microloan_words.specs.declared.asked.StaffWords.{StaffWords};
 ghost use Rattle.microloan_words.specs.declared.asked.ScheduleWords.{ScheduleWords};
 
-use crate::asked::ScheduleWords;
-use crate::values::{count_at, day_at, frequency_at, method_at, number_at};
+use crate::asked::{BatchWords, ScheduleWords, ServeWords, StaffWords};
+use crate::values::{
+    connections_at, count_at, day_at, file_at, frequency_at, method_at, number_at, port_at,
+    staff_at,
+};
 use clap::ArgMatches;
 use mf_catalog::{GREATEST_AMOUNT, GREATEST_RATE, MOST_GRACE, MOST_PERIODS, longest_step};
 
 /// An option whose text isn't what the option wants.
 #[derive(Clone, Copy, PartialEq, Eq, Debug)]
 pub(crate) enum Wrong {
+    File,
+    Port,
+    Count,
+    Staff,
     Method,
     Principal,
     Rate,
@@ -20,6 +33,46 @@ pub(crate) enum Wrong {
     Every,
     PrincipalGrace,
     InterestGrace,
+}
+
+/// The options of `batch`, or the first that isn't what it should be.
+pub(crate) fn batch_words<'a>(options: &ArgMatches<'a>) -> Result<BatchWords<'a>, Wrong>
+    ensures read { IfOk result (λ asked. AreBatchWords (rows_of (found_of options.now)) asked) }
+    ensures limits { IfOk result (λ asked. asked.day ≤ last_entered_day) }
+    ensures every { (asked : BatchWords) → AreBatchWords (rows_of (found_of options.now)) asked → result ≡ Ok asked }
+{
+    let file = file_at(options);
+    let day = day_at(options, "day").ok_or(Wrong::Day)?;
+    Ok(BatchWords { file, day })
+}
+
+/// The options of `serve`, or the first that isn't what it should be.
+pub(crate) fn serve_words<'a>(options: &ArgMatches<'a>) -> Result<ServeWords<'a>, Wrong>
+    ensures read { IfOk result (λ asked. AreServeWords (rows_of (found_of options.now)) asked) }
+    ensures limits { IfOk result IsServeWithinLimits }
+    ensures every { (asked : ServeWords) → AreServeWords (rows_of (found_of options.now)) asked → result ≡ Ok asked }
+{
+    let file = file_at(options).ok_or(Wrong::File)?;
+    let port = port_at(options).ok_or(Wrong::Port)?;
+    let count = connections_at(options).ok_or(Wrong::Count)?;
+    let day = day_at(options, "day").ok_or(Wrong::Day)?;
+    Ok(ServeWords {
+        file,
+        port,
+        count,
+        day,
+    })
+}
+
+/// The options of `collect` or `report`, or the first that isn't what it should be.
+pub(crate) fn staff_words<'a>(options: &ArgMatches<'a>) -> Result<StaffWords<'a>, Wrong>
+    ensures read { IfOk result (λ asked. AreStaffWords (rows_of (found_of options.now)) asked) }
+    ensures limits { IfOk result (λ asked. IsCaller asked.staff) }
+    ensures every { (asked : StaffWords) → AreStaffWords (rows_of (found_of options.now)) asked → result ≡ Ok asked }
+{
+    let file = file_at(options).ok_or(Wrong::File)?;
+    let staff = staff_at(options).ok_or(Wrong::Staff)?;
+    Ok(StaffWords { file, staff })
 }
 
 /// The options of `schedule`, or the first that isn't what it should be.

@@ -11,6 +11,10 @@ use std::alloc::{AllocError, Global};
 /// What an option wants, in one line.
 fn wants(wrong: Wrong) -> &'static str {
     match wrong {
+        Wrong::File => "--file wants the path of a file",
+        Wrong::Port => "--port wants a number from 1 to 65535",
+        Wrong::Count => "--count wants a number of connections, or 0 for no end",
+        Wrong::Staff => "--staff wants an office and a member of its staff, as 2/1",
         Wrong::Method => {
             "--method wants flat, declining-equal-principal or declining-equal-instalments"
         }
@@ -64,7 +68,7 @@ pub(crate) fn refused_by_clap(alloc: Global, words: &[String], error: &Error) ->
         },
         ErrorKind::MissingSubcommand => {
             bad(format!(in alloc;
-                "microloan: name a command, batch or schedule; see 'microloan --help'"
+                "microloan: name a command: batch, serve, collect, report or schedule; see 'microloan --help'"
             ))
         }
         _ => bad(one_line(alloc, words, error)),
@@ -76,6 +80,9 @@ fn help_on(words: &[String]) -> &'static str {
     let command = words.get(1).map_or("", |word| word.as_str());
     match command {
         "batch" => "microloan batch --help",
+        "serve" => "microloan serve --help",
+        "collect" => "microloan collect --help",
+        "report" => "microloan report --help",
         "schedule" => "microloan schedule --help",
         _ => "microloan --help",
     }

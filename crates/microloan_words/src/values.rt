@@ -1,14 +1,32 @@
-ghost use Rattle.std.specs.Prelude.{◌≡◌, ℕ, codes, IfSome, option_map};
+ghost use Rattle.std.specs.Prelude.{◌≡◌, ◌≤◌, ℕ, codes, IfSome, option_map};
+ghost use Rattle.mf_base.specs.DayText.{day_text, last_entered_day};
 ghost use Rattle.clap.specs.Words.{first_of, found_of, rows_of};
 ghost use Rattle.mf_base.specs.Choices.{frequency_name};
 ghost use Rattle.mf_catalog.specs.Names.{method_name};
-ghost use Rattle.microloan_words.specs.Asked.{IsNumberAt, IsDayAt};
+ghost use Rattle.microloan_words.specs.Asked.{IsNumberAt, IsDayAt, IsCallerAt, IsCountAt};
+ghost use Rattle.mf_office.specs.declared.caller.Caller.{Caller};
 ghost use Rattle.mf_catalog.specs.declared.terms.Method.{Method};
 ghost use Rattle.mf_base.specs.declared.day.Freq.{Freq};
 
+use crate::asked::FilePath;
 use clap::ArgMatches;
 use mf_base::{Choice, Day, Freq};
 use mf_catalog::Method;
+use mf_office::Caller;
+
+/// The day on which a new institution begins where the words name none.
+pub(crate) const DEFAULT_DAY: &str = "2024-01-01";
+
+/// The same as a day.
+pub fn default_day() -> Day
+    ensures text { day_text result ≡ codes "2024-01-01" }
+    ensures entered { result ≤ last_entered_day }
+{
+    match Day::parse(DEFAULT_DAY.as_bytes()) {
+        Some(day) => day,
+        None => unreachable!(),
+    }
+}
 
 /// The text of an option.
 pub(crate) fn text_at<'a>(options: &ArgMatches<'a>, id: &str) -> Option<&'a str>
@@ -68,4 +86,42 @@ pub(crate) fn day_at(options: &ArgMatches<'_>, id: &str) -> Option<Day>
     ensures every { (day : ℕ) → IsDayAt (rows_of (found_of options.now)) id.now day → result ≡ Some day }
 {
     Day::parse(text_at(options, id)?.as_bytes())
+}
+
+/// The path of the file that is named, if one is.
+pub(crate) fn file_at<'a>(options: &ArgMatches<'a>) -> Option<FilePath<'a>>
+    ensures { result ≡ first_of (codes "file") (rows_of (found_of options.now)) }
+{
+    match text_at(options, "file") {
+        Some(text) => Some(FilePath::new(text)),
+        None => None,
+    }
+}
+
+/// The port that is asked for.
+pub(crate) fn port_at(options: &ArgMatches<'_>) -> Option<u16>
+    ensures read { IfSome result (λ port. IsNumberAt (rows_of (found_of options.now)) (codes "port") 1 65535 port) }
+    ensures every { (port : ℕ) → IsNumberAt (rows_of (found_of options.now)) (codes "port") 1 65535 port → result ≡ Some port }
+{
+    match number_at(options, "port", 1, 65535) {
+        Some(number) => Some(number as u16),
+        None => None,
+    }
+}
+
+/// How many connections are asked for: 0 asks for as many as can be counted.
+pub(crate) fn connections_at(options: &ArgMatches<'_>) -> Option<u64>
+    ensures read { IfSome result (λ count. IsCountAt (rows_of (found_of options.now)) (codes "count") count) }
+    ensures every { (count : ℕ) → IsCountAt (rows_of (found_of options.now)) (codes "count") count → result ≡ Some count }
+{
+    let count = number_at(options, "count", 0, u64::MAX)?;
+    Some(if count == 0 { u64::MAX } else { count })
+}
+
+/// The member of staff who asks.
+pub(crate) fn staff_at(options: &ArgMatches<'_>) -> Option<Caller>
+    ensures read { IfSome result (λ staff. IsCallerAt (rows_of (found_of options.now)) (codes "staff") staff) }
+    ensures every { (staff : Caller) → IsCallerAt (rows_of (found_of options.now)) (codes "staff") staff → result ≡ Some staff }
+{
+    Caller::parse(text_at(options, "staff")?.as_bytes())
 }

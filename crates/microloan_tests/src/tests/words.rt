@@ -1,7 +1,8 @@
 //! The words that are read, and what is said of those that are not.
 use mf_base::{Day, Freq};
 use mf_catalog::Method;
-use microloan_words::{BatchWords, Command, ScheduleWords, Words, command};
+use mf_office::Caller;
+use microloan_words::{Command, ScheduleWords, Words, command};
 use std::alloc::{AllocError, Global};
 use std::process::Abort;
 use std::test::Fail;
@@ -12,6 +13,14 @@ fn words_of(alloc: Global, line: &str) -> Result<Vec<String>, AllocError> {
         all.push(String::from_str(alloc, word)?)?;
     }
     Ok(all)
+}
+
+/// The schedule that words ask for, where they do.
+fn schedule_asked(alloc: Global, words: &[String]) -> Option<ScheduleWords> {
+    match command(alloc, words) {
+        Ok(Command::Schedule(asked)) => Some(asked),
+        _ => None,
+    }
 }
 
 /// The line that is said of words that are wrong.
@@ -33,8 +42,8 @@ fn reads_a_schedule(rt: HostRuntime) -> Result<(), Fail> {
         alloc,
         "microloan schedule --method declining-equal-principal --principal 100000 --rate 1200 --periods 3 --day 2024-01-31",
     )?;
-    let asked = command(alloc, &words).ok().ok_or("read")?;
-    let wanted = Command::Schedule(ScheduleWords {
+    let asked = schedule_asked(alloc, &words).ok_or("read")?;
+    let wanted = ScheduleWords {
         method: Method::EqualPrincipal,
         principal: 100000,
         rate: 1200,
@@ -44,7 +53,7 @@ fn reads_a_schedule(rt: HostRuntime) -> Result<(), Fail> {
         every: 1,
         principal_grace: 0,
         interest_grace: 0,
-    });
+    };
     assert!(rt; asked == wanted);
     Ok(())
 }
@@ -56,8 +65,8 @@ fn reads_every_option(rt: HostRuntime) -> Result<(), Fail> {
         alloc,
         "microloan schedule --interest-grace=1 --principal-grace 2 --every 52 --frequency weeks --day 2099-12-31 --periods 360 --rate 100000 --principal 1000000000000 --method flat",
     )?;
-    let asked = command(alloc, &words).ok().ok_or("read")?;
-    let wanted = Command::Schedule(ScheduleWords {
+    let asked = schedule_asked(alloc, &words).ok_or("read")?;
+    let wanted = ScheduleWords {
         method: Method::Flat,
         principal: 1_000_000_000_000,
         rate: 100_000,
@@ -67,27 +76,142 @@ fn reads_every_option(rt: HostRuntime) -> Result<(), Fail> {
         every: 52,
         principal_grace: 2,
         interest_grace: 1,
-    });
+    };
     assert!(rt; asked == wanted);
     Ok(())
 }
 
 #[test]
-fn reads_the_day_of_a_batch(rt: HostRuntime) -> Result<(), Fail> {
+fn reads_a_batch(rt: HostRuntime) -> Result<(), Fail> {
     let alloc = rt.alloc();
     let words = words_of(alloc, "microloan batch")?;
-    let asked = command(alloc, &words).ok().ok_or("read")?;
-    let day = Day::parse(b"2024-01-01").ok_or("a day")?;
-    assert!(rt; asked == Command::Batch(BatchWords { day }));
-    let words = words_of(alloc, "microloan batch --day 2024-01-31")?;
-    let asked = command(alloc, &words).ok().ok_or("read")?;
-    let day = Day::parse(b"2024-01-31").ok_or("a day")?;
-    assert!(rt; asked == Command::Batch(BatchWords { day }));
-    let said = line_of(&rt, alloc, "microloan batch --day 2100-01-01")?;
-    assert_eq!(rt;
-        said.as_str(),
-        "microloan: --day wants a day from 2000-01-01 to 2099-12-31, as 2024-01-31; see 'microloan batch --help'"
-    );
+    let Ok(Command::Batch(asked)) = command(alloc, &words) else {
+        return Err(Fail::from("a batch"));
+    };
+    assert!(rt; asked.file.is_none());
+    assert_eq!(rt; Some(asked.day), Day::parse(b"2024-01-01"));
+    let words = words_of(alloc, "microloan batch --day 2024-01-31 --file desk.db")?;
+    let Ok(Command::Batch(asked)) = command(alloc, &words) else {
+        return Err(Fail::from("a batch"));
+    };
+    let file = asked.file.ok_or("a file")?;
+    assert_eq!(rt; file.as_str(), "desk.db");
+    assert_eq!(rt; Some(asked.day), Day::parse(b"2024-01-31"));
+    Ok(())
+}
+
+#[test]
+fn reads_what_is_served(rt: HostRuntime) -> Result<(), Fail> {
+    let alloc = rt.alloc();
+    let words = words_of(alloc, "microloan serve --file desk.db --port 65535")?;
+    let Ok(Command::Serve(asked)) = command(alloc, &words) else {
+        return Err(Fail::from("a server"));
+    };
+    assert_eq!(rt; asked.file.as_str(), "desk.db");
+    assert_eq!(rt; asked.port, 65535);
+    assert_eq!(rt; asked.count, u64::MAX);
+    assert_eq!(rt; Some(asked.day), Day::parse(b"2024-01-01"));
+    let words = words_of(
+        alloc,
+        "microloan serve --file desk.db --port 1 --count 18446744073709551615 --day 2099-12-31",
+    )?;
+    let Ok(Command::Serve(asked)) = command(alloc, &words) else {
+        return Err(Fail::from("a server"));
+    };
+    assert_eq!(rt; asked.port, 1);
+    assert_eq!(rt; asked.count, u64::MAX);
+    assert_eq!(rt; Some(asked.day), Day::parse(b"2099-12-31"));
+    let words = words_of(alloc, "microloan serve --file desk.db --port 80 --count 7")?;
+    let Ok(Command::Serve(asked)) = command(alloc, &words) else {
+        return Err(Fail::from("a server"));
+    };
+    assert_eq!(rt; asked.count, 7);
+    Ok(())
+}
+
+#[test]
+fn reads_who_asks(rt: HostRuntime) -> Result<(), Fail> {
+    let alloc = rt.alloc();
+    let words = words_of(alloc, "microloan collect --file desk.db --staff 2/1")?;
+    let Ok(Command::Collect(asked)) = command(alloc, &words) else {
+        return Err(Fail::from("a collection"));
+    };
+    assert_eq!(rt; asked.file.as_str(), "desk.db");
+    assert_eq!(rt; Some(asked.staff), Caller::parse(b"2/1"));
+    let words = words_of(alloc, "microloan report --staff 9999/9999 --file desk.db")?;
+    let Ok(Command::Report(asked)) = command(alloc, &words) else {
+        return Err(Fail::from("a report"));
+    };
+    assert_eq!(rt; asked.file.as_str(), "desk.db");
+    assert_eq!(rt; Some(asked.staff), Caller::parse(b"9999/9999"));
+    Ok(())
+}
+
+/// Words that are wrong, and what is said of them.
+const WRONG: [(&str, &str); 9] = [
+    (
+        "microloan batch --day 2100-01-01",
+        "microloan: --day wants a day from 2000-01-01 to 2099-12-31, as 2024-01-31; see 'microloan batch --help'",
+    ),
+    (
+        "microloan serve --file f --port 0",
+        "microloan: --port wants a number from 1 to 65535; see 'microloan serve --help'",
+    ),
+    (
+        "microloan serve --file f --port 65536",
+        "microloan: --port wants a number from 1 to 65535; see 'microloan serve --help'",
+    ),
+    (
+        "microloan serve --file f --port 80 --count all",
+        "microloan: --count wants a number of connections, or 0 for no end; see 'microloan serve --help'",
+    ),
+    (
+        "microloan serve --file f --port 80 --count 18446744073709551616",
+        "microloan: --count wants a number of connections, or 0 for no end; see 'microloan serve --help'",
+    ),
+    (
+        "microloan serve --file f --port 80 --day 2024-02-30",
+        "microloan: --day wants a day from 2000-01-01 to 2099-12-31, as 2024-01-31; see 'microloan serve --help'",
+    ),
+    (
+        "microloan collect --file f --staff 1",
+        "microloan: --staff wants an office and a member of its staff, as 2/1; see 'microloan collect --help'",
+    ),
+    (
+        "microloan report --file f --staff 0/1",
+        "microloan: --staff wants an office and a member of its staff, as 2/1; see 'microloan report --help'",
+    ),
+    (
+        "microloan report --file f --staff 01/1",
+        "microloan: --staff wants an office and a member of its staff, as 2/1; see 'microloan report --help'",
+    ),
+];
+
+#[test]
+fn says_what_the_commands_of_a_file_want(rt: HostRuntime) -> Result<(), Fail> {
+    for (line, wanted) in WRONG {
+        let said = line_of(&rt, rt.alloc(), line)?;
+        assert_eq!(rt; said.as_str(), wanted);
+    }
+    Ok(())
+}
+
+/// Words without an option that must be given, and that option.
+const MISSING: [(&str, &str); 5] = [
+    ("microloan serve --port 80", "--file"),
+    ("microloan serve --file f", "--port"),
+    ("microloan collect --staff 1/1", "--file"),
+    ("microloan collect --file f", "--staff"),
+    ("microloan report --file f", "--staff"),
+];
+
+#[test]
+fn says_which_option_is_missing(rt: HostRuntime) -> Result<(), Fail> {
+    for (line, option) in MISSING {
+        let said = line_of(&rt, rt.alloc(), line)?;
+        assert!(rt; said.as_str().find(option).is_some());
+        assert!(rt; said.as_str().lines().count() == 1);
+    }
     Ok(())
 }
 
@@ -139,7 +263,7 @@ fn says_what_is_wrong_in_one_line(rt: HostRuntime) -> Result<(), Fail> {
     let said = line_of(&rt, alloc, "microloan")?;
     assert_eq!(rt;
         said.as_str(),
-        "microloan: name a command, batch or schedule; see 'microloan --help'"
+        "microloan: name a command: batch, serve, collect, report or schedule; see 'microloan --help'"
     );
     let said = line_of(&rt, alloc, "microloan schedule --method flat")?;
     assert!(rt; said.as_str().find("--principal").is_some());
@@ -179,7 +303,11 @@ fn shows_help(rt: HostRuntime) -> Result<(), Fail> {
     let help = help_of(&rt, alloc, "microloan --help")?;
     assert!(rt; help.as_str().find("schedule").is_some());
     assert!(rt; help.as_str().lines().all(|line| line.len() <= 80));
-    let help = help_of(&rt, alloc, "microloan batch --help")?;
-    assert!(rt; help.as_str().lines().all(|line| line.len() <= 80));
+    for command in ["batch", "serve", "collect", "report"] {
+        let line = format!(in alloc; "microloan {command} --help")?;
+        let help = help_of(&rt, alloc, line.as_str())?;
+        assert!(rt; help.as_str().find("Example:").is_some());
+        assert!(rt; help.as_str().lines().all(|line| line.len() <= 80));
+    }
     Ok(())
 }

@@ -1,7 +1,7 @@
 use Rattle.std.proofs.Common.{◌≡◌, ℕ, ◌++◌, map, take}
 use Rattle.mf_alloc.specs.Rows.{row_at}
 use Rattle.mf_store_records.specs.declared.writes.StoreWrite.TheVariants.{PutInstalment}
-use Rattle.mf_store_sound.specs.Flat.{instalment_in}
+use Rattle.mf_store_accounts.specs.Flat.{instalment_in}
 use Rattle.mf_store.proofs.changes.put_instalments.Given as goal
 
 abbrev pub invariant-loop-number : goal.invariant-loop-number

@@ -4,7 +4,7 @@ use Rattle.mf_account.specs.declared.settled.Settled.{Settled}
 use Rattle.mf_account.specs.Applicable.{no_settled}
 use Rattle.mf_store_records.specs.declared.shares.ShareRow.{ShareRow}
 use Rattle.mf_store_records.specs.declared.writes.StoreWrite.TheVariants.{PutShare}
-use Rattle.mf_store_sound.specs.Flat.{share_in}
+use Rattle.mf_store_accounts.specs.Flat.{share_in}
 use Rattle.mf_store.proofs.PushLemmas.{numbered_pushed}
 use Rattle.mf_store.proofs.changes.put_parts.Goals as goal
 

@@ -1,7 +1,7 @@
 use Rattle.std.proofs.Common.{◌≡◌, ℕ, ◌++◌, map, take}
 use Rattle.mf_account.specs.declared.settled.Settled.{Settled}
 use Rattle.mf_store_records.specs.declared.writes.StoreWrite.TheVariants.{PutShare}
-use Rattle.mf_store_sound.specs.Flat.{share_in, placed_parts}
+use Rattle.mf_store_accounts.specs.Flat.{share_in, placed_parts}
 use Rattle.mf_store.proofs.changes.put_parts.Given as goal
 
 abbrev pub invariant-loop-part : goal.invariant-loop-part

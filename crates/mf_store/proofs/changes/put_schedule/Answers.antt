@@ -2,7 +2,7 @@ use Rattle.std.proofs.Common.{◌+◌, ℕ, ap, ◌∙◌, ◌++◌, ◌∷◌, 
 use Rattle.mf_alloc.specs.Sums.{Sums}
 use Rattle.mf_store_records.specs.declared.instalments.InstalmentRow.{InstalmentRow}
 use Rattle.mf_store_records.specs.declared.writes.StoreWrite.TheVariants.{PutInstalment}
-use Rattle.mf_store_sound.specs.Flat.{instalment_in}
+use Rattle.mf_store_accounts.specs.Flat.{instalment_in}
 use Rattle.mf_store.proofs.PushLemmas.{numbered_pushed}
 use Rattle.mf_store.proofs.changes.put_schedule.Goals as goal
 

@@ -1,6 +1,6 @@
 use Rattle.std.proofs.Common.{◌≡◌, ◌++◌, take}
 use Rattle.mf_store.specs.ChangeWrites.{schedule_put}
-use Rattle.mf_store_sound.specs.Flat.{numbered_from}
+use Rattle.mf_store_accounts.specs.Flat.{numbered_from}
 use Rattle.mf_store.proofs.changes.put_schedule.Given as goal
 
 abbrev pub invariant-loop-row : goal.invariant-loop-row

@@ -2,7 +2,7 @@ use Rattle.std.proofs.Common.{◌∙◌}
 use Rattle.mf_account.specs.declared.entry.Entry.{Entry as ModelEntry}
 use Rattle.mf_office.specs.Texts.{IsCaller}
 use Rattle.mf_store_records.specs.Rows.{entry_row as entry_stored}
-use Rattle.mf_store_sound.specs.Flat.{entry_in}
+use Rattle.mf_store_accounts.specs.Flat.{entry_in}
 use Rattle.mf_store.proofs.LoanLemmas.{mapped_more, mapped_all, map_self}
 use Rattle.mf_store.proofs.entries.entries_from.Goals as goal
 

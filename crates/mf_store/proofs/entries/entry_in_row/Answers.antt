@@ -2,7 +2,7 @@ use Rattle.std.proofs.Common.{◌≡◌, ℕ}
 use Rattle.mf_account.specs.declared.entry.Entry.{Entry as ModelEntry}
 use Rattle.mf_office.specs.Texts.{IsCaller}
 use Rattle.mf_store_records.specs.Rows.{entry_row as entry_stored}
-use Rattle.mf_store_sound.specs.Flat.{entry_in}
+use Rattle.mf_store_accounts.specs.Flat.{entry_in}
 use Rattle.mf_store.proofs.StandLemmas.{weaker_if_ok}
 use Rattle.mf_store.proofs.entries.entry_in_row.Goals as goal
 

@@ -1,4 +1,4 @@
-use Rattle.mf_store_sound.specs.Flat.{instalment_in}
+use Rattle.mf_store_accounts.specs.Flat.{instalment_in}
 use Rattle.mf_store.proofs.StandLemmas.{weaker_if_ok}
 use Rattle.mf_store.proofs.kept.instalment_in_row.Goals as goal
 

@@ -2,7 +2,7 @@ use Rattle.std.proofs.Common.{◌≡◌, ℕ, List, map, take}
 use Rattle.std.specs.List.{AllByRecursion}
 use Rattle.mf_alloc.specs.Sums.{Sums, IsWhole}
 use Rattle.mf_store_records.specs.Rows.{instalment_row as instalment_stored}
-use Rattle.mf_store_sound.specs.Flat.{instalment_in}
+use Rattle.mf_store_accounts.specs.Flat.{instalment_in}
 use Rattle.mf_store.proofs.kept.instalments_from.Given as goal
 
 abbrev pub invariant-loop-row : goal.invariant-loop-row

@@ -1,5 +1,5 @@
 use Rattle.mf_store_records.specs.Rows.{client_row}
-use Rattle.mf_store_sound.specs.Flat.{client_in}
+use Rattle.mf_store_accounts.specs.Flat.{client_in}
 use Rattle.mf_store.proofs.OfficeRowsLemmas.{read_more, read_all}
 use Rattle.mf_store.proofs.office_rows.names_from.Goals as goal
 

@@ -1,4 +1,4 @@
-use Rattle.mf_store_sound.specs.Flat.{office_under}
+use Rattle.mf_store_accounts.specs.Flat.{office_under}
 use Rattle.mf_store.proofs.VisibleLemmas.{line_from}
 use Rattle.mf_store.proofs.visible.office_from.Goals as goal
 

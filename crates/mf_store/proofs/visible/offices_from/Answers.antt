@@ -1,6 +1,6 @@
 use Rattle.mf_model.specs.Desk.{line_of}
 use Rattle.mf_store_records.specs.Rows.{office_row}
-use Rattle.mf_store_sound.specs.Flat.{office_under}
+use Rattle.mf_store_accounts.specs.Flat.{office_under}
 use Rattle.mf_store.proofs.VisibleLemmas.{lines_more}
 use Rattle.mf_store.proofs.visible.offices_from.Goals as goal
 

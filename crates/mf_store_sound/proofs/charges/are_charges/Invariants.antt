@@ -1,6 +1,6 @@
 use Rattle.std.proofs.Common.{◌≡◌, ◌↔◌, ◌+◌, drop}
 use Rattle.mf_model.specs.Sound.{IsSoundCharge}
-use Rattle.mf_store_sound.specs.Flat.{charge_as}
+use Rattle.mf_store_accounts.specs.Flat.{charge_as}
 use Rattle.mf_store_sound.specs.Stored.{AreRowsOf}
 use Rattle.mf_store_sound.proofs.charges.are_charges.Given as goal
 

@@ -1,7 +1,8 @@
 use Rattle.std.proofs.Common.{arith}
 use Rattle.mf_model.specs.Sound.{IsName}
-use Rattle.mf_store_sound.specs.Flat.{client_in}
-use Rattle.mf_store_sound.proofs.StoredLemmas.{refuses, no_answer, row_passed, row_refused}
+use Rattle.mf_store_accounts.specs.Flat.{client_in}
+use Rattle.mf_store_accounts.proofs.AnswerLemmas.{refuses, no_answer}
+use Rattle.mf_store_sound.proofs.StoredLemmas.{row_passed, row_refused}
 use Rattle.mf_store_sound.proofs.clients.are_clients.Goals as goal
 
 pub returns-then-not-is_client : goal.returns-then-not-is_client

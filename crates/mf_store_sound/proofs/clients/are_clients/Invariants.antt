@@ -1,6 +1,6 @@
 use Rattle.std.proofs.Common.{◌≡◌, ◌↔◌, ◌+◌, drop}
 use Rattle.mf_model.specs.Sound.{IsName}
-use Rattle.mf_store_sound.specs.Flat.{client_in}
+use Rattle.mf_store_accounts.specs.Flat.{client_in}
 use Rattle.mf_store_sound.specs.Stored.{AreRowsOf}
 use Rattle.mf_store_sound.proofs.clients.are_clients.Given as goal
 

@@ -1,6 +1,7 @@
 use Rattle.std.proofs.Common.{arith}
 use Rattle.mf_store_sound.specs.Entries.{IsEntryRow}
-use Rattle.mf_store_sound.proofs.StoredLemmas.{refuses, no_answer, from_passed, from_refused}
+use Rattle.mf_store_accounts.proofs.AnswerLemmas.{refuses, no_answer}
+use Rattle.mf_store_sound.proofs.StoredLemmas.{from_passed, from_refused}
 use Rattle.mf_store_sound.proofs.entered.are_entry_rows.Goals as goal
 
 pub returns-then-not-is_entry : goal.returns-then-not-is_entry

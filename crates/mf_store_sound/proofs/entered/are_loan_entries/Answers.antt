@@ -1,5 +1,5 @@
 use Rattle.mf_store_sound.proofs.EnteredLemmas.{loan_entries, entry_rows_of, seals_of}
-use Rattle.mf_store_sound.proofs.StoredLemmas.{refuses, no_answer}
+use Rattle.mf_store_accounts.proofs.AnswerLemmas.{refuses, no_answer}
 use Rattle.mf_store_sound.proofs.entered.are_loan_entries.Goals as goal
 
 pub returns-then-not-are_entries : goal.returns-then-not-are_entries

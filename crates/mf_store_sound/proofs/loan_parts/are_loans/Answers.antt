@@ -1,6 +1,7 @@
 use Rattle.std.proofs.Common.{IsTrue, arith}
 use Rattle.mf_store_sound.proofs.LoanPartLemmas.{loan_passed, loan_refused, loans_passed}
-use Rattle.mf_store_sound.proofs.StoredLemmas.{refuses, no_answer, nothing_is}
+use Rattle.mf_store_accounts.proofs.AnswerLemmas.{refuses, no_answer}
+use Rattle.mf_store_sound.proofs.StoredLemmas.{nothing_is}
 use Rattle.mf_store_sound.proofs.loan_parts.are_loans.Goals as goal
 
 pub returns-then-not-is_loan_part : goal.returns-then-not-is_loan_part

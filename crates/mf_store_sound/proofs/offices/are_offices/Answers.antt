@@ -1,4 +1,4 @@
-use Rattle.mf_store_sound.proofs.OfficeRowLemmas.{weaker_if_ok}
+use Rattle.mf_store_accounts.proofs.AnswerLemmas.{weaker_if_ok}
 use Rattle.mf_store_sound.proofs.OfficeTreeLemmas.{offices_from_rows, rows_from_offices}
 use Rattle.mf_store_sound.proofs.offices.are_offices.Goals as goal
 

@@ -1,4 +1,5 @@
-use Rattle.mf_store_sound.proofs.OfficeRowLemmas.{weaker_if_ok, child_text_is}
+use Rattle.mf_store_accounts.proofs.AnswerLemmas.{weaker_if_ok}
+use Rattle.mf_store_sound.proofs.OfficeRowLemmas.{child_text_is}
 use Rattle.mf_store_sound.proofs.offices.has_parents_text.Goals as goal
 
 pub returns-in-Some-find_office-clause-text : goal.returns-in-Some-find_office-clause-text

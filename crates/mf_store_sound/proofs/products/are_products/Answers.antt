@@ -1,8 +1,9 @@
 use Rattle.std.proofs.Common.{arith}
 use Rattle.mf_model.specs.Institution.{charge_in}
 use Rattle.mf_model.specs.Sound.{IsSoundOffer}
-use Rattle.mf_store_sound.specs.Flat.{product_as}
-use Rattle.mf_store_sound.proofs.StoredLemmas.{refuses, no_answer, row_passed, row_refused}
+use Rattle.mf_store_accounts.specs.Flat.{product_as}
+use Rattle.mf_store_accounts.proofs.AnswerLemmas.{refuses, no_answer}
+use Rattle.mf_store_sound.proofs.StoredLemmas.{row_passed, row_refused}
 use Rattle.mf_store_sound.proofs.products.are_products.Goals as goal
 
 pub returns-then-not-is_product : goal.returns-then-not-is_product

@@ -1,7 +1,7 @@
 use Rattle.std.proofs.Common.{◌≡◌, ◌↔◌, ◌+◌, drop}
 use Rattle.mf_model.specs.Institution.{Catalogue, charge_in}
 use Rattle.mf_model.specs.Sound.{IsSoundOffer}
-use Rattle.mf_store_sound.specs.Flat.{charge_as, product_as, numbered_from}
+use Rattle.mf_store_accounts.specs.Flat.{charge_as, product_as, numbered_from}
 use Rattle.mf_store_sound.specs.Stored.{AreRowsOf}
 use Rattle.mf_store_sound.proofs.products.are_products.Given as goal
 

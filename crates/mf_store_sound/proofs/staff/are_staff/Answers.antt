@@ -1,8 +1,9 @@
 use Rattle.std.proofs.Common.{arith}
 use Rattle.mf_model.specs.Institution.{Staff}
 use Rattle.mf_model.specs.Sound.{IsName}
-use Rattle.mf_store_sound.specs.Flat.{staff_in}
-use Rattle.mf_store_sound.proofs.StoredLemmas.{refuses, no_answer, row_passed, row_refused}
+use Rattle.mf_store_accounts.specs.Flat.{staff_in}
+use Rattle.mf_store_accounts.proofs.AnswerLemmas.{refuses, no_answer}
+use Rattle.mf_store_sound.proofs.StoredLemmas.{row_passed, row_refused}
 use Rattle.mf_store_sound.proofs.staff.are_staff.Goals as goal
 
 pub returns-then-not-is_member : goal.returns-then-not-is_member

@@ -1,7 +1,7 @@
 use Rattle.std.proofs.Common.{◌≡◌, ◌↔◌, ◌+◌, drop}
 use Rattle.mf_model.specs.Institution.{Staff}
 use Rattle.mf_model.specs.Sound.{IsName}
-use Rattle.mf_store_sound.specs.Flat.{staff_in}
+use Rattle.mf_store_accounts.specs.Flat.{staff_in}
 use Rattle.mf_store_sound.specs.Stored.{AreRowsOf}
 use Rattle.mf_store_sound.proofs.staff.are_staff.Given as goal
 

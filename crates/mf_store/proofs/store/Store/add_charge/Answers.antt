@@ -2,7 +2,7 @@ use Rattle.std.proofs.Common.{◌+◌, [], ◌∷◌, ap, ◌∙◌}
 use Rattle.mf_model.specs.declared.store.CatalogueCounts.{CatalogueCounts}
 use Rattle.mf_model.specs.Institution.{Charge}
 use Rattle.mf_model.specs.declared.commit.Commit.TheVariants.{AddCharge}
-use Rattle.mf_store_sound.specs.Flat.{charge_as}
+use Rattle.mf_store_accounts.specs.Flat.{charge_as}
 use Rattle.mf_store_records.specs.declared.writes.StoreWrite.TheVariants.{PutCharge}
 use Rattle.mf_store.proofs.CatalogueLemmas.{charge_becomes}
 use Rattle.mf_store.proofs.CommitLemmas.{made_by}

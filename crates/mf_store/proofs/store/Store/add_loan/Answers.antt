@@ -4,7 +4,7 @@ use Rattle.mf_model.specs.declared.commit.Commit.TheVariants.{AddLoan}
 use Rattle.mf_model.specs.Store.{rows_at}
 use Rattle.mf_model.specs.declared.store.Counts.{Counts}
 use Rattle.mf_model.specs.Tree.{is_there}
-use Rattle.mf_store_sound.specs.Flat.{loan_in}
+use Rattle.mf_store_accounts.specs.Flat.{loan_in}
 use Rattle.mf_store_records.specs.declared.writes.StoreWrite.TheVariants as write
 use Rattle.mf_model.specs.Stages.{disbursed_on}
 use Rattle.mf_store.proofs.CommitLemmas.{made_by, none_there}

@@ -2,7 +2,7 @@ use Rattle.std.proofs.Common.{◌+◌, false, [], ◌∷◌, ap, ◌∙◌}
 use Rattle.mf_model.specs.declared.store.CatalogueCounts.{CatalogueCounts}
 use Rattle.mf_model.specs.Institution.{Offer}
 use Rattle.mf_model.specs.declared.commit.Commit.TheVariants.{AddProduct}
-use Rattle.mf_store_sound.specs.Flat.{product_as}
+use Rattle.mf_store_accounts.specs.Flat.{product_as}
 use Rattle.mf_store_records.specs.declared.writes.StoreWrite.TheVariants as write
 use Rattle.mf_store.proofs.CatalogueLemmas.{product_becomes}
 use Rattle.mf_store.proofs.CommitLemmas.{made_by}

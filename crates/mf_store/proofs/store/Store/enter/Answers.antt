@@ -4,8 +4,8 @@ use Rattle.mf_account.specs.Standing.{entry_at}
 use Rattle.mf_model.specs.Store.{committed}
 use Rattle.mf_model.specs.declared.commit.Commit.TheVariants.{Enter}
 use Rattle.mf_store.specs.ChangeWrites.{change_writes}
-use Rattle.mf_store_sound.specs.Flat.{entry_in}
-use Rattle.mf_store_sound.specs.ReceiptRows.{entry_added}
+use Rattle.mf_store_accounts.specs.Flat.{entry_in}
+use Rattle.mf_store_accounts.specs.ReceiptRows.{entry_added}
 use Rattle.mf_store.specs.Stands.{Becomes}
 use Rattle.mf_store.specs.declared.known.News.TheVariants.{Nothing}
 use Rattle.mf_store.proofs.CommitLemmas.{made_by}

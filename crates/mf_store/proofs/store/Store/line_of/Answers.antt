@@ -1,7 +1,7 @@
 use Rattle.std.proofs.Common.{sym, ap, ◌∙◌}
 use Rattle.mf_model.specs.Store.{ledger_at}
 use Rattle.mf_store_records.specs.declared.loans.LoanRow.{LoanRow}
-use Rattle.mf_store_sound.specs.Flat.{loan_in}
+use Rattle.mf_store_accounts.specs.Flat.{loan_in}
 use Rattle.mf_store.proofs.LoanLemmas.{line_is}
 use Rattle.mf_store.proofs.store.Store.line_of.Goals as goal
 

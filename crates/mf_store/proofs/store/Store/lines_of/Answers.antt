@@ -1,7 +1,7 @@
 use Rattle.std.proofs.Common.{ℕ, ◌∙◌}
 use Rattle.mf_model.specs.Institution.{Ledger}
 use Rattle.mf_store_records.specs.Rows.{loan_row}
-use Rattle.mf_store_sound.specs.Flat.{loan_in, line_in}
+use Rattle.mf_store_accounts.specs.Flat.{loan_in, line_in}
 use Rattle.mf_store.proofs.KeptLemmas.{stays_then}
 use Rattle.mf_store.proofs.LoanLemmas.{IsLoanOf, no_loan, mapped_more, mapped_all}
 use Rattle.mf_store.proofs.store.Store.lines_of.Goals as goal

@@ -1,7 +1,7 @@
 use Rattle.std.proofs.Common.{Some, sym, ap, ◌∙◌}
 use Rattle.mf_model.specs.Institution.{numbered}
 use Rattle.mf_model.specs.Store.{rows_at}
-use Rattle.mf_store_sound.specs.Flat.{loan_in, loans_of, loan_row_at}
+use Rattle.mf_store_accounts.specs.Flat.{loan_in, loans_of, loan_row_at}
 use Rattle.mf_store.proofs.CatalogueLemmas.{known}
 use Rattle.mf_store.proofs.LoanLemmas.{numbered_loan}
 use Rattle.mf_store.proofs.store.Store.loan_at.Goals as goal

@@ -1,7 +1,7 @@
 use Rattle.std.proofs.Common.{[], ◌∷◌, ap, ◌∙◌}
 use Rattle.mf_model.specs.Institution.{numbered}
 use Rattle.mf_model.specs.declared.commit.Commit.TheVariants.{RetireProduct}
-use Rattle.mf_store_sound.specs.Flat.{product_as}
+use Rattle.mf_store_accounts.specs.Flat.{product_as}
 use Rattle.mf_store_records.specs.declared.products.ProductRow.{ProductRow}
 use Rattle.mf_store_records.specs.declared.writes.StoreWrite.TheVariants.{PutProduct}
 use Rattle.mf_store.proofs.CatalogueLemmas.{known, retired_becomes}

@@ -5,7 +5,7 @@ use Rattle.mf_model.specs.Store.{committed}
 use Rattle.mf_model.specs.declared.commit.Commit.TheVariants.{Reverse}
 use Rattle.mf_store_records.specs.declared.writes.StoreWrite.TheVariants.{ChangeEntry}
 use Rattle.mf_store.specs.ChangeWrites.{change_writes}
-use Rattle.mf_store_sound.specs.Flat.{entry_in}
+use Rattle.mf_store_accounts.specs.Flat.{entry_in}
 use Rattle.mf_store.specs.Stands.{Becomes}
 use Rattle.mf_store.specs.declared.known.News.TheVariants.{Nothing}
 use Rattle.mf_store.proofs.CommitLemmas.{made_by}

@@ -1,4 +1,4 @@
-use Rattle.mf_store_sound.specs.Flat.{tables_of}
+use Rattle.mf_store_accounts.specs.Flat.{tables_of}
 use Rattle.mf_store.proofs.KeptLemmas.{known_stays}
 use Rattle.mf_store.proofs.StandLemmas.{unchanged_stays}
 use Rattle.mf_store.proofs.store.Store.rows_within.Goals as goal

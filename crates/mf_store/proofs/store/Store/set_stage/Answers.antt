@@ -7,7 +7,7 @@ use Rattle.mf_model.specs.Store.{committed, ledger_at}
 use Rattle.mf_model.specs.declared.loan.Loan.{Loan}
 use Rattle.mf_store_records.specs.declared.writes.StoreWrite.TheVariants.{PutLoan}
 use Rattle.mf_store.specs.ChangeWrites.{schedule_put}
-use Rattle.mf_store_sound.specs.Flat.{instalments_kept, kept_of, loan_in}
+use Rattle.mf_store_accounts.specs.Flat.{instalments_kept, kept_of, loan_in}
 use Rattle.mf_store.specs.Stands.{Becomes}
 use Rattle.mf_store.specs.declared.known.News.TheVariants.{Nothing}
 use Rattle.mf_store.proofs.CommitLemmas.{made_by, none_there}

@@ -1,0 +1,7 @@
+pub mod AnswerLemmas
+pub mod NumberedLemmas
+pub mod SameLemmas
+pub mod AccountLemmas
+pub mod MadeLemmas
+pub mod ShareLemmas
+pub mod AccountRowLemmas

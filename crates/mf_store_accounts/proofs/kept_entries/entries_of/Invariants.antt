@@ -1,0 +1,9 @@
+use Rattle.std.proofs.Common.{◌≡◌, ◌++◌, ℕ, List, map, drop}
+use Rattle.std.specs.List.{AllByRecursion}
+use Rattle.mf_account.specs.declared.entry.Entry.{Entry}
+use Rattle.mf_store_accounts.specs.Ledgers.{IsReadable}
+use Rattle.mf_store_accounts.specs.Flat.{entry_in}
+use Rattle.mf_store_accounts.proofs.kept_entries.entries_of.Given as goal
+
+abbrev pub invariant-loop-row : goal.invariant-loop-row
+invariant-loop-row l = (office loan : ℕ) (es : List Entry) → AllByRecursion IsReadable es → map (entry_in office loan) es ≡ l.rows → l.entries.items ++ drop l.row-index es ≡ es

@@ -1,0 +1,5 @@
+pub mod ReceiptRows
+pub mod Flat
+pub mod Ledgers
+pub mod Kept
+pub mod Accounts

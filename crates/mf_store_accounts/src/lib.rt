@@ -1,0 +1,23 @@
+//! Which rows an institution has, and those of instalments and of shares, made and checked by the rows of loans and of
+//! their entries. It knows rows and no database.
+#![tactic(auto)]
+
+mod account_rows;
+mod accounts;
+mod catalogue_rows;
+mod instalments;
+mod kept_entries;
+mod numbers;
+mod same;
+mod shares;
+mod terms;
+
+pub use account_rows::{are_accounts, rows_of_accounts};
+pub use accounts::account_of;
+pub use catalogue_rows::{charge_row, product_row};
+pub use instalments::instalment_row;
+pub use numbers::{
+    amount_from, flag_from, kind_from, number_of_how, number_of_portion, portion_from, signed,
+};
+pub use same::{Same, are_same};
+pub use shares::share_row;

@@ -1,0 +1,117 @@
+-- The rows of a sound institution: what reading the tables asks of them, and what it shows.
+use Rattle.std.proofs.Common.{◌≡◌, Some, refl, sym, subst, arith}
+use Rattle.sqlite.specs.Tree.{Trees}
+use Rattle.mf_model.specs.Institution.{Institution}
+use Rattle.mf_model.specs.Sound.{IsSound}
+use Rattle.mf_store_records.specs.Rows.{Lists}
+use Rattle.mf_store_records.specs.Writes.{Holds}
+use Rattle.mf_store_accounts.specs.Flat.{tables_of}
+use Rattle.mf_base.specs.DayText.{day_text}
+use Rattle.mf_store_sound.specs.Schemas.{first_tables_of, without_accounts}
+use Rattle.mf_store_sound.specs.Sound.{AreOfSound, AreOfSoundFirst}
+use Rattle.mf_store_upgrade.specs.Upgrade.{HoldsFirst}
+use Rattle.mf_store_files.specs.Held.{CanBeHeld, DoRise, HoldsSound, HoldsSoundFirst}
+use Rattle.mf_store_files.proofs.HeldAccountLemmas.{held_instalments, held_shares}
+use Rattle.mf_store_files.proofs.HeldLemmas.{is_number, is_text, day_utf8, held_meta, held_offices, held_staff, held_clients, held_charges, held_products, held_loans, held_entries, held_receipts}
+use Rattle.mf_store_files.proofs.RiseLemmas.{meta_rises, offices_rise, staff_rise, clients_rise, charges_rise, products_rise, loans_rise, entries_rise, receipts_rise, instalments_rise, shares_rise}
+
+pub can_be_held : (i : Institution) → IsSound i → CanBeHeld (tables_of i)
+can_be_held i sound = record {
+  meta = held_meta i sound;
+  offices = held_offices i sound;
+  staff = held_staff i sound;
+  clients = held_clients i sound;
+  charges = held_charges i sound;
+  products = held_products i sound;
+  loans = held_loans i sound;
+  entries = held_entries i sound;
+  receipts = held_receipts i sound;
+  instalments = held_instalments i sound;
+  shares = held_shares i sound;
+}
+
+do_rise : (i : Institution) → IsSound i → DoRise (tables_of i)
+do_rise i sound = record {
+  meta = meta_rises i sound;
+  offices = offices_rise i sound;
+  staff = staff_rise i sound;
+  clients = clients_rise i sound;
+  charges = charges_rise i sound;
+  products = products_rise i sound;
+  loans = loans_rise i sound;
+  entries = entries_rise i sound;
+  receipts = receipts_rise i sound;
+  instalments = instalments_rise i sound;
+  shares = shares_rise i sound;
+}
+
+module _ (trees : Trees) (lists : Lists) where
+  -- trees that keep the lists read, as they rise, hold the institution whose rows these are
+  pub holds_sound : (DoRise lists → Holds trees (Some lists)) → AreOfSound lists → HoldsSound trees
+  holds_sound keeps are = record {
+    institution = are.institution;
+    sound = are.sound;
+    holds = subst (λ l. Holds trees (Some l)) (sym are.rows_are) (keeps (subst DoRise are.rows_are (do_rise are.institution are.sound)));
+  }
+
+  -- where trees hold a sound institution and the lists read are all that they hold, these are its rows
+  pub are_of_sound : ((l : Lists) → Holds trees (Some l) → lists ≡ l) → HoldsSound trees → AreOfSound lists
+  are_of_sound only h = record {
+    institution = h.institution;
+    sound = h.sound;
+    rows_are = sym (only (tables_of h.institution) h.holds);
+  }
+
+-- ---- under the first schema
+
+pub first_can_be_held : (i : Institution) → IsSound i → CanBeHeld (first_tables_of i)
+first_can_be_held i sound =
+    let held = can_be_held i sound in
+    record {
+      meta = (record { width = refl; values = (is_number 1 (omega arith), (is_number 1 (omega arith), (is_text (day_text i.catalogue.day) (day_utf8 i.catalogue.day sound.catalogue.day), tt))) }, tt);
+      offices = held.offices;
+      staff = held.staff;
+      clients = held.clients;
+      charges = held.charges;
+      products = held.products;
+      loans = held.loans;
+      entries = held.entries;
+      receipts = held.receipts;
+      instalments = tt;
+      shares = tt;
+    }
+
+first_do_rise : (i : Institution) → IsSound i → DoRise (first_tables_of i)
+first_do_rise i sound =
+    let rise = do_rise i sound in
+    record {
+      meta = (tt, tt);
+      offices = rise.offices;
+      staff = rise.staff;
+      clients = rise.clients;
+      charges = rise.charges;
+      products = rise.products;
+      loans = rise.loans;
+      entries = rise.entries;
+      receipts = rise.receipts;
+      instalments = tt;
+      shares = tt;
+    }
+
+module _ (trees : Trees) (lists : Lists) where
+  pub holds_sound_first : (DoRise lists → HoldsFirst trees lists) → AreOfSoundFirst lists → HoldsSoundFirst trees
+  holds_sound_first keeps are = record {
+    institution = are.institution;
+    sound = are.sound;
+    holds = subst (HoldsFirst trees) (sym are.rows_are) (keeps (subst DoRise are.rows_are (first_do_rise are.institution are.sound)));
+  }
+
+  pub first_rows_are : ((l : Lists) → HoldsFirst trees l → lists ≡ without_accounts l) → (h : HoldsSoundFirst trees) → first_tables_of h.institution ≡ lists
+  first_rows_are only h = sym (only (first_tables_of h.institution) h.holds)
+
+  pub are_of_sound_first : ((l : Lists) → HoldsFirst trees l → lists ≡ without_accounts l) → HoldsSoundFirst trees → AreOfSoundFirst lists
+  are_of_sound_first only h = record {
+    institution = h.institution;
+    sound = h.sound;
+    rows_are = first_rows_are only h;
+  }

@@ -1,0 +1,254 @@
+-- The rows of a sound institution rise by the key of their table.
+use Rattle.std.proofs.Common.{◌≡◌, ◌<◌, ◌≤◌, ◌+◌, ◌∙◌, ℕ, zero, suc, length, Bool, false, List, [], ◌∷◌, ◌++◌, map, Option, None, Some, refl, sym, subst, arith, Ordering, Less, is_eq, nat_cmp}
+use Rattle.std.specs.List.{AllByRecursion}
+use Rattle.std.specs.Ordering.{ordering_then}
+use Rattle.std.proofs.lemmas.Bool.Decides.{nat_tests}
+use Rattle.sqlite_trees.specs.Tree.{IsAscending}
+use Rattle.mf_office.specs.declared.caller.Caller.{Caller}
+use Rattle.mf_account.specs.Change.{settled_in}
+use Rattle.mf_account.specs.Loan.{Loan as Running, state_of_loan, settled_of_loan}
+use Rattle.mf_account.specs.declared.entry.Entry.{Entry}
+use Rattle.mf_account.specs.declared.settled.Settled.{Settled}
+use Rattle.mf_alloc.specs.Sums.{Sums}
+use Rattle.mf_model.specs.Accounts.{account_in, of_account}
+use Rattle.mf_model.specs.Institution.{Institution, Ledger, Office, Rows}
+use Rattle.mf_model.specs.Receipts.{Use, AreApart, uses_from}
+use Rattle.mf_model.specs.Sound.{IsSound, IsSoundOffice, IsSoundLoan, AreEntriesBy, is_staff}
+use Rattle.mf_model.specs.Stages.{disbursed_on}
+use Rattle.mf_model.specs.Tree.{Above, Ascending, parent_of}
+use Rattle.mf_store_records.specs.Rows.{by_meta, by_office, by_staff, by_client, by_charge, by_product, by_loan, by_entry, by_receipt, by_instalment, by_share}
+use Rattle.mf_store_records.specs.declared.offices.OfficeRow.{OfficeRow}
+use Rattle.mf_store_records.specs.declared.receipts.ReceiptRow.{ReceiptRow}
+use Rattle.mf_store_records.proofs.TableLemmas.{by_receipt_total}
+use Rattle.mf_store_accounts.specs.Flat.{numbered_from, all_rows, tables_of, office_under, staff_in, client_in, charge_as, product_as, loan_in, entry_in, instalment_in, share_in, instalments_kept, placed_parts, parts_from, shares_kept, kept_of, loans_of, rows_of_loans, rows_by_loan, own_entries}
+use Rattle.mf_store_accounts.specs.ReceiptRows.{receipt_in, carried}
+use Rattle.mf_store_files.proofs.HeldLemmas.{AreNumberedFrom, numbers_by_place}
+use Rattle.mf_store.proofs.LoanRowLemmas.{all_append, all_map, all_weaker, all_loans, all_offices}
+use Rattle.mf_store.proofs.ReceiptRowLemmas.{AreOthers, AreAllApart, all_apart, others_of, others_above}
+use Rattle.mf_store.proofs.SortedLemmas.{rises_sorted}
+
+-- ---- orders of keys
+
+lower : (n m : ℕ) → n < m → nat_cmp n m ≡ Less
+lower n m h = grind (arith, nat_tests)
+
+greater_office : (x y : ℕ) (o : Ordering) → x < y → ordering_then (nat_cmp x y) o ≡ Less
+greater_office x y o h = grind (arith, nat_tests)
+
+greater_number : (x n m : ℕ) (o : Ordering) → n < m → ordering_then (nat_cmp x x) (ordering_then (nat_cmp n m) o) ≡ Less
+greater_number x n m o h = grind (arith, nat_tests)
+
+same_number : (x n : ℕ) (o : Ordering) → ordering_then (nat_cmp x x) (ordering_then (nat_cmp n n) o) ≡ o
+same_number x n o = grind (arith, nat_tests)
+
+second_number : (x n m : ℕ) → n < m → ordering_then (nat_cmp x x) (nat_cmp n m) ≡ Less
+second_number x n m h = grind (arith, nat_tests)
+
+-- ---- rows by one number
+
+module _ {A R : Type 0} (make : ℕ → A → R) (cmp : R → R → Ordering) (ranks : (n m : ℕ) (a b : A) → cmp (make n a) (make m b) ≡ nat_cmp n m) where
+  numbered_after : (n : ℕ) (a : A) (m : ℕ) (xs : List A) → n < m → AllByRecursion (λ r. cmp (make n a) r ≡ Less) (numbered_from make m xs)
+  numbered_after n a m [] h = tt
+  numbered_after n a m (x ∷ xs) h = (ranks n m a x ∙ lower n m h, numbered_after n a (m + 1) xs (omega (arith, h)))
+
+  numbered_rise : (n : ℕ) (xs : List A) → IsAscending (λ a b. cmp a b ≡ Less) (numbered_from make n xs)
+  numbered_rise n [] = tt
+  numbered_rise n (x ∷ xs) = (numbered_after n x (n + 1) xs (omega arith), numbered_rise (n + 1) xs)
+
+module _ (parents : ℕ → Option ℕ) where
+  office_after : (f : Office) (fs : List Office) → Above f.number fs → AllByRecursion (λ (r : OfficeRow). by_office (office_under parents f) r ≡ Less) (map (office_under parents) fs)
+  office_after f [] h = tt
+  office_after f (g ∷ fs) h = (lower f.number g.number h.0, office_after f fs h.1)
+
+  under_rise : (fs : List Office) → Ascending fs → IsAscending (λ a b. by_office a b ≡ Less) (map (office_under parents) fs)
+  under_rise [] up = tt
+  under_rise (f ∷ fs) up = (office_after f fs up.0, under_rise fs up.1)
+
+-- ---- rows by office and number
+
+module _ {A R : Type 0} (make : ℕ → ℕ → A → R) (of : Rows → List A) (cmp : R → R → Ordering) (ranks : (x n y m : ℕ) (a b : A) → cmp (make x n a) (make y m b) ≡ ordering_then (nat_cmp x y) (nat_cmp n m)) where
+  abbrev IsFirst : ℕ → ℕ → A → R → Type 0
+  IsFirst x n a r = cmp (make x n a) r ≡ Less
+
+  -- rows of a greater office, and of the same under greater numbers, come later
+  after_office : (x n : ℕ) (a : A) (y m : ℕ) (xs : List A) (rest : List R) → x < y → AllByRecursion (IsFirst x n a) rest → AllByRecursion (IsFirst x n a) (numbered_from (make y) m xs ++ rest)
+  after_office x n a y m [] rest lt all = all
+  after_office x n a y m (b ∷ xs) rest lt all = (ranks x n y m a b ∙ greater_office x y (nat_cmp n m) lt, after_office x n a y (m + 1) xs rest lt all)
+
+  after_number : (x n : ℕ) (a : A) (m : ℕ) (xs : List A) (rest : List R) → n < m → AllByRecursion (IsFirst x n a) rest → AllByRecursion (IsFirst x n a) (numbered_from (make x) m xs ++ rest)
+  after_number x n a m [] rest lt all = all
+  after_number x n a m (b ∷ xs) rest lt all = (
+    ranks x n x m a b ∙ second_number x n m lt,
+    after_number x n a (m + 1) xs rest (omega (arith, lt)) all,
+  )
+
+  all_after : (x n : ℕ) (a : A) (fs : List Office) → Above x fs → AllByRecursion (IsFirst x n a) (all_rows make of fs)
+  all_after x n a [] h = tt
+  all_after x n a (f ∷ fs) h = after_office x n a f.number 1 (of f.rows) (all_rows make of fs) h.0 (all_after x n a fs h.1)
+
+  block_rises : (x n : ℕ) (xs : List A) (rest : List R) → ((k : ℕ) (a : A) → AllByRecursion (IsFirst x k a) rest) → IsAscending (λ a b. cmp a b ≡ Less) rest → IsAscending (λ a b. cmp a b ≡ Less) (numbered_from (make x) n xs ++ rest)
+  block_rises x n [] rest all up = up
+  block_rises x n (a ∷ xs) rest all up = (after_number x n a (n + 1) xs rest (omega arith) (all n a), block_rises x (n + 1) xs rest all up)
+
+  rows_rise : (fs : List Office) → Ascending fs → IsAscending (λ a b. cmp a b ≡ Less) (all_rows make of fs)
+  rows_rise [] up = tt
+  rows_rise (f ∷ fs) up = block_rises f.number 1 (of f.rows) (all_rows make of fs) (λ k a. all_after f.number k a fs up.0) (rows_rise fs up.1)
+
+-- ---- rows by office, loan and what follows
+
+append_rises : {R : Type 0} (P : R → R → Type 0) (xs ys : List R) → IsAscending P xs → IsAscending P ys → AllByRecursion (λ x. AllByRecursion (P x) ys) xs → IsAscending P (xs ++ ys)
+append_rises P [] ys a b c = b
+append_rises P (x ∷ xs) ys a b c = (all_append (P x) xs ys a.0 c.0, append_rises P xs ys a.1 b c.1)
+
+module _ {A R : Type 0} (make : ℕ → ℕ → A → R) (of : Ledger → List A) (cmp : R → R → Ordering) (key : A → A → Ordering)
+    (ranks : (x n y m : ℕ) (a b : A) → cmp (make x n a) (make y m b) ≡ ordering_then (nat_cmp x y) (ordering_then (nat_cmp n m) (key a b))) where
+  abbrev Rises : List R → Type 0
+  Rises = IsAscending (λ a b. cmp a b ≡ Less)
+
+  abbrev AreRising : List A → Type 0
+  AreRising = IsAscending (λ a b. key a b ≡ Less)
+
+  one_after : (x n : ℕ) (a : A) (items : List A) → AllByRecursion (λ b. key a b ≡ Less) items → AllByRecursion (λ r. cmp (make x n a) r ≡ Less) (map (make x n) items)
+  one_after x n a [] h = tt
+  one_after x n a (b ∷ items) h = (ranks x n x n a b ∙ same_number x n (key a b) ∙ h.0, one_after x n a items h.1)
+
+  one_loan : (x n : ℕ) (items : List A) → AreRising items → Rises (map (make x n) items)
+  one_loan x n [] up = tt
+  one_loan x n (a ∷ items) up = (one_after x n a items up.0, one_loan x n items up.1)
+
+  each_loan : (x n : ℕ) (ls : List Ledger) → AllByRecursion (λ (l : Ledger). AreRising (of l)) ls → Rises (rows_of_loans make of x n ls)
+  each_loan x n [] up = tt
+  each_loan x n (l ∷ ls) up =
+      let rest = rows_of_loans make of x (n + 1) ls in
+      append_rises (λ a b. cmp a b ≡ Less) (map (make x n) (of l)) rest (one_loan x n (of l) up.0) (each_loan x (n + 1) ls up.1)
+      (all_map (λ r. AllByRecursion (λ s. cmp r s ≡ Less) rest) (make x n) (of l) (λ a. all_loans make of (λ s. cmp (make x n a) s ≡ Less) x (n + 1) ls (λ m b low. ranks x n x m a b ∙ greater_number x n m (key a b) (omega (arith, low)))))
+
+  -- the rows that each loan has rise, loan by loan and office by office, where those of one loan do
+  pub by_loan_rise : (fs : List Office) → Ascending fs → AllByRecursion (λ (f : Office). AllByRecursion (λ (l : Ledger). AreRising (of l)) f.rows.loans) fs → Rises (rows_by_loan make of fs)
+  by_loan_rise [] up each = tt
+  by_loan_rise (f ∷ fs) up each =
+      let rest = rows_by_loan make of fs in
+      append_rises (λ a b. cmp a b ≡ Less) (rows_of_loans make of f.number 1 f.rows.loans) rest (each_loan f.number 1 f.rows.loans each.0) (by_loan_rise fs up.1 each.1)
+      (all_loans make of (λ r. AllByRecursion (λ s. cmp r s ≡ Less) rest) f.number 1 f.rows.loans (λ m a low. all_offices make of (λ s. cmp (make f.number m a) s ≡ Less) f.number fs up.0
+      (λ y k b lt. ranks f.number m y k a b ∙ greater_office f.number y (ordering_then (nat_cmp m k) (key a b)) lt)))
+
+-- ---- entries
+
+entry_after : (n m : ℕ) (es : List Entry) → n < m → AreNumberedFrom m es → AllByRecursion (λ (e : Entry). nat_cmp n e.seq ≡ Less) es
+entry_after n m [] lt own = tt
+entry_after n m (e ∷ es) lt own = (let number = own.0 in lower n e.seq (omega (arith, number, lt)), entry_after n (m + 1) es (omega (arith, lt)) own.1)
+
+entries_up : (n : ℕ) (es : List Entry) → AreNumberedFrom n es → IsAscending (λ (a b : Entry). nat_cmp a.seq b.seq ≡ Less) es
+entries_up n [] own = tt
+entries_up n (e ∷ es) own = (let number = own.0 in entry_after e.seq (n + 1) es (omega (arith, number)) own.1, entries_up (n + 1) es own.1)
+
+entries_by : (today : ℕ) (staffed : Caller → Bool) (periods : ℕ) (o : Option ℕ) (es : List Entry) → AreEntriesBy today staffed periods o es → IsAscending (λ (a b : Entry). nat_cmp a.seq b.seq ≡ Less) es
+entries_by today staffed periods None es none = subst (IsAscending (λ (a b : Entry). nat_cmp a.seq b.seq ≡ Less)) (sym none) tt
+entries_by today staffed periods (Some day) es are = entries_up 1 es (numbers_by_place 1 es are.lawful.numbers)
+
+-- ---- what accounts leave
+
+of_all_loans : (Q : Ledger → Type 0) → ((l : Ledger) → Q l) → (fs : List Office) → AllByRecursion (λ (f : Office). AllByRecursion Q f.rows.loans) fs
+of_all_loans Q h [] = tt
+of_all_loans Q h (f ∷ fs) = (each f.rows.loans, of_all_loans Q h fs)
+  where
+    each : (ls : List Ledger) → AllByRecursion Q ls
+    each [] = tt
+    each (l ∷ ls) = (h l, each ls)
+
+rises_if_there : {A : Type 0} (cmp : A → A → Ordering) (read : Running → List A) → ((a : Running) → IsAscending (λ x y. cmp x y ≡ Less) (read a)) → (o : Option Running) → IsAscending (λ x y. cmp x y ≡ Less) (of_account [] read o)
+rises_if_there cmp read h None = tt
+rises_if_there cmp read h (Some a) = h a
+
+abbrev numbered_cmp : ℕ × Sums → ℕ × Sums → Ordering
+numbered_cmp a b = nat_cmp a.0 b.0
+
+kept_instalments_rise : (a : Running) → IsAscending (λ x y. numbered_cmp x y ≡ Less) (instalments_kept a)
+kept_instalments_rise a = numbered_rise (λ n row. (n, row)) numbered_cmp (λ n m x y. refl) 1 (state_of_loan a).rows
+
+-- by entry, and then by place
+abbrev placed_cmp : ℕ × (ℕ × Settled) → ℕ × (ℕ × Settled) → Ordering
+placed_cmp a b = ordering_then (nat_cmp a.0 b.0) (nat_cmp a.1.0 b.1.0)
+
+same_entry : (seq : ℕ) (o : Ordering) → ordering_then (nat_cmp seq seq) o ≡ o
+same_entry seq o = grind (arith, nat_tests)
+
+all_placed : (Q : ℕ × (ℕ × Settled) → Type 0) (seq place : ℕ) (parts : List Settled) → ((p : ℕ × Settled) → Q (seq, p)) → AllByRecursion Q (numbered_from (λ at part. (seq, (at, part))) place parts)
+all_placed Q seq place [] h = tt
+all_placed Q seq place (part ∷ parts) h = (h (place, part), all_placed Q seq (place + 1) parts h)
+
+all_parts : (Q : ℕ × (ℕ × Settled) → Type 0) (parts : ℕ → List Settled) (seq count : ℕ) → ((s : ℕ) (p : ℕ × Settled) → seq ≤ s → Q (s, p)) → AllByRecursion Q (parts_from parts seq count)
+all_parts Q parts seq zero h = tt
+all_parts Q parts seq (suc count) h =
+    all_append Q (placed_parts seq (parts seq)) (parts_from parts (seq + 1) count) (all_placed Q seq 1 (parts seq) (λ p. h seq p (omega arith))) (all_parts Q parts (seq + 1) count (λ s p low. h s p (omega (arith, low))))
+
+parts_rise : (parts : ℕ → List Settled) (seq count : ℕ) → IsAscending (λ x y. placed_cmp x y ≡ Less) (parts_from parts seq count)
+parts_rise parts seq zero = tt
+parts_rise parts seq (suc count) =
+    let rest = parts_from parts (seq + 1) count in
+    append_rises (λ x y. placed_cmp x y ≡ Less) (placed_parts seq (parts seq)) rest
+    (numbered_rise (λ at part. (seq, (at, part))) placed_cmp (λ n m x y. same_entry seq (nat_cmp n m)) 1 (parts seq)) (parts_rise parts (seq + 1) count)
+    (all_placed (λ x. AllByRecursion (λ y. placed_cmp x y ≡ Less) rest) seq 1 (parts seq) (λ p. all_parts (λ y. placed_cmp (seq, p) y ≡ Less) parts (seq + 1) count (λ s q low. greater_office seq s (nat_cmp p.0 q.0) (omega (arith, low)))))
+
+kept_shares_rise : (a : Running) → IsAscending (λ x y. placed_cmp x y ≡ Less) (shares_kept a)
+kept_shares_rise a = parts_rise (λ seq. settled_in seq (settled_of_loan a)) 1 (length a.entries)
+
+-- ---- receipts
+
+-- no key comes twice
+abbrev HaveNoTies : List ReceiptRow → Type 0
+HaveNoTies = IsAscending (λ a b. is_eq (by_receipt a b) ≡ false)
+
+no_ties_in : (x : ℕ) (us : List Use) (rest : List ReceiptRow) → AreApart us → ((u : Use) → AreOthers x u.receipt rest) → HaveNoTies rest → HaveNoTies (map (receipt_in x) us ++ rest)
+no_ties_in x [] rest apart others none = none
+no_ties_in x (u ∷ us) rest apart others none =
+    (all_append (λ (row : ReceiptRow). is_eq (by_receipt (receipt_in x u) row) ≡ false) (map (receipt_in x) us) rest (others_of x u.receipt u us refl apart.0) (others u), no_ties_in x us rest apart.1 others none)
+
+no_ties : (fs : List Office) → Ascending fs → AreAllApart fs → HaveNoTies (carried fs)
+no_ties [] up apart = tt
+no_ties (f ∷ fs) up apart = no_ties_in f.number (uses_from 1 f.rows.loans) (carried fs) apart.0 (λ u. others_above f.number u.receipt fs up.0) (no_ties fs up.1 apart.1)
+
+-- ---- the tables
+
+pub meta_rises : (i : Institution) → IsSound i → IsAscending (λ a b. by_meta a b ≡ Less) (tables_of i).meta
+meta_rises i sound = (tt, tt)
+
+pub offices_rise : (i : Institution) → IsSound i → IsAscending (λ a b. by_office a b ≡ Less) (tables_of i).offices
+offices_rise i sound = under_rise (parent_of i.offices) i.offices sound.tree.ascending
+
+pub staff_rise : (i : Institution) → IsSound i → IsAscending (λ a b. by_staff a b ≡ Less) (tables_of i).staff
+staff_rise i sound = rows_rise staff_in (λ rows. rows.staff) by_staff (λ x n y m a b. refl) i.offices sound.tree.ascending
+
+pub clients_rise : (i : Institution) → IsSound i → IsAscending (λ a b. by_client a b ≡ Less) (tables_of i).clients
+clients_rise i sound = rows_rise client_in (λ rows. rows.clients) by_client (λ x n y m a b. refl) i.offices sound.tree.ascending
+
+pub charges_rise : (i : Institution) → IsSound i → IsAscending (λ a b. by_charge a b ≡ Less) (tables_of i).charges
+charges_rise i sound = numbered_rise charge_as by_charge (λ n m a b. refl) 1 i.catalogue.charges
+
+pub products_rise : (i : Institution) → IsSound i → IsAscending (λ a b. by_product a b ≡ Less) (tables_of i).products
+products_rise i sound = numbered_rise product_as by_product (λ n m a b. refl) 1 i.catalogue.products
+
+pub loans_rise : (i : Institution) → IsSound i → IsAscending (λ a b. by_loan a b ≡ Less) (tables_of i).loans
+loans_rise i sound = rows_rise loan_in loans_of by_loan (λ x n y m a b. refl) i.offices sound.tree.ascending
+
+pub entries_rise : (i : Institution) → IsSound i → IsAscending (λ a b. by_entry a b ≡ Less) (tables_of i).entries
+entries_rise i sound =
+    let staffed = is_staff i.offices in
+    let k = i.catalogue in
+    by_loan_rise entry_in own_entries by_entry (λ (a b : Entry). nat_cmp a.seq b.seq) (λ x n y m a b. refl) i.offices sound.tree.ascending
+    (all_weaker (IsSoundOffice k staffed) (λ (f : Office). AllByRecursion (λ (l : Ledger). IsAscending (λ (a b : Entry). nat_cmp a.seq b.seq ≡ Less) l.entries) f.rows.loans) i.offices
+    (λ f is. all_weaker (IsSoundLoan k staffed f.rows.clients) (λ (l : Ledger). IsAscending (λ (a b : Entry). nat_cmp a.seq b.seq ≡ Less) l.entries) f.rows.loans
+    (λ l one. entries_by k.day staffed l.loan.periods (disbursed_on l.loan.stage) l.entries one.entries) is.rows.loans) sound.each)
+
+pub receipts_rise : (i : Institution) → IsSound i → IsAscending (λ a b. by_receipt a b ≡ Less) (tables_of i).receipts
+receipts_rise i sound = rises_sorted by_receipt by_receipt_total (carried i.offices) (no_ties i.offices sound.tree.ascending (all_apart i sound))
+
+pub instalments_rise : (i : Institution) → IsSound i → IsAscending (λ a b. by_instalment a b ≡ Less) (tables_of i).instalments
+instalments_rise i sound =
+    by_loan_rise instalment_in (kept_of instalments_kept i.catalogue) by_instalment numbered_cmp (λ x n y m a b. refl) i.offices sound.tree.ascending
+    (of_all_loans (λ (l : Ledger). IsAscending (λ a b. numbered_cmp a b ≡ Less) (kept_of instalments_kept i.catalogue l)) (λ l. rises_if_there numbered_cmp instalments_kept kept_instalments_rise (account_in i.catalogue l)) i.offices)
+
+pub shares_rise : (i : Institution) → IsSound i → IsAscending (λ a b. by_share a b ≡ Less) (tables_of i).shares
+shares_rise i sound =
+    by_loan_rise share_in (kept_of shares_kept i.catalogue) by_share placed_cmp (λ x n y m a b. refl) i.offices sound.tree.ascending
+    (of_all_loans (λ (l : Ledger). IsAscending (λ a b. placed_cmp a b ≡ Less) (kept_of shares_kept i.catalogue l)) (λ l. rises_if_there placed_cmp shares_kept kept_shares_rise (account_in i.catalogue l)) i.offices)

@@ -1,0 +1,34 @@
+-- The rows of a sound institution under the first schema, and those that it has under the second.
+use Rattle.std.proofs.Common.{◌≡◌, [], ◌∷◌, List, refl, sym, ap, ◌∙◌, subst}
+use Rattle.std.specs.declared.cmp.Ordering.TheVariants.{Less}
+use Rattle.sqlite_trees.specs.Tree.{IsAscending}
+use Rattle.mf_model.specs.Institution.{Institution}
+use Rattle.mf_model.specs.Sound.{IsSound}
+use Rattle.mf_store_records.specs.Rows.{Lists, by_instalment, by_share}
+use Rattle.mf_store_records.specs.declared.instalments.InstalmentRow.{InstalmentRow}
+use Rattle.mf_store_records.specs.declared.meta.MetaRow.{MetaRow}
+use Rattle.mf_store_records.specs.declared.shares.ShareRow.{ShareRow}
+use Rattle.mf_store_upgrade.specs.Upgrade.{upgraded, CanUpgrade}
+use Rattle.mf_store_accounts.specs.Flat.{tables_of, meta_on}
+use Rattle.mf_store_sound.specs.Schemas.{first_tables_of, meta_under}
+use Rattle.mf_store_files.proofs.RiseLemmas.{instalments_rise, shares_rise}
+
+head_is : (a b : MetaRow) (rest : List MetaRow) → a ∷ [] ≡ b ∷ rest → a ≡ b
+head_is a b rest e = cc
+
+-- the row of meta, with the new schema's number
+pub meta_is : (i : Institution) (tables : Lists) (row : MetaRow) (rest : List MetaRow) → first_tables_of i ≡ tables → tables.meta ≡ row ∷ rest → record row { schema = 2 } ≡ meta_on i.catalogue.day
+meta_is i tables row rest are first = ap (λ (r : MetaRow). record r { schema = 2 }) (sym (head_is (meta_under 1 i.catalogue.day) row rest (ap (λ (l : Lists). l.meta) are ∙ first)))
+
+module _ (i : Institution) (meta : MetaRow) (instalments : List InstalmentRow) (shares : List ShareRow) (meta_same : meta ≡ meta_on i.catalogue.day) (instalments_same : instalments ≡ (tables_of i).instalments) (shares_same : shares ≡ (tables_of i).shares) where
+  pub can_upgrade : IsSound i → CanUpgrade meta instalments shares (first_tables_of i)
+  can_upgrade sound = record {
+    old = meta_under 1 i.catalogue.day;
+    one = refl;
+    same_key = ap (λ (r : MetaRow). r.one) meta_same;
+    instalments_rise = subst (IsAscending (λ a b. by_instalment a b ≡ Less)) (sym instalments_same) (instalments_rise i sound);
+    shares_rise = subst (IsAscending (λ a b. by_share a b ≡ Less)) (sym shares_same) (shares_rise i sound);
+  }
+
+  pub upgraded_is : upgraded meta instalments shares (first_tables_of i) ≡ tables_of i
+  upgraded_is = λ t. upgraded (meta_same t) (instalments_same t) (shares_same t) (first_tables_of i)

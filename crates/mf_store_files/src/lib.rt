@@ -1,0 +1,10 @@
+//! Stores over tables that were found, such as those of a file.
+#![tactic(auto)]
+
+mod adopted;
+mod files;
+mod judged;
+mod upgraded;
+
+pub use adopted::adopt;
+pub use files::{open, open_with};

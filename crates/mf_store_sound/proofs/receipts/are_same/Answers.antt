@@ -1,6 +1,0 @@
-use Rattle.mf_store_sound.proofs.ReceiptLemmas.{same_all}
-use Rattle.mf_store_sound.proofs.StoredLemmas.{yes_answer}
-use Rattle.mf_store_sound.proofs.receipts.are_same.Goals as goal
-
-pub returns : goal.returns
-returns c = yes_answer (same_all c.args.rows.now c.args.others.now c.loop-place.place c.if-rows-others.false c.loop-place-test.false c.loop-place.invariant)

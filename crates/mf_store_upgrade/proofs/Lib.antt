@@ -1,0 +1,4 @@
+pub mod UpgradeLemmas
+pub mod LawLemmas
+pub mod PutLemmas
+pub mod CommitLemmas

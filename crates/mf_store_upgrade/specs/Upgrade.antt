@@ -1,0 +1,81 @@
+-- The tables of the first schema, which has none of instalments and of shares, and the writes that bring them to the second.
+use Rattle.std.specs.Prelude.{◌≡◌, List, [], ◌∷◌, ◌++◌, map, Option, Some}
+use Rattle.std.specs.declared.cmp.Ordering.TheVariants.{Less}
+use Rattle.sqlite.specs.Schema.{Schema}
+use Rattle.sqlite.specs.Tree.{Trees}
+use Rattle.sqlite_catalog.specs.Listing.{IsSound}
+use Rattle.sqlite_trees.specs.Tree.{IsAscending}
+use Rattle.mf_store_tables.specs.Keep.{Keeps}
+use Rattle.mf_store_tables.specs.Writes.{AllFit, after_all}
+use Rattle.mf_store_records.specs.Rows.{Lists, meta_row, office_row, staff_row, client_row, charge_row, product_row, loan_row, entry_row, receipt_row, by_meta, by_office, by_staff, by_client, by_charge, by_product, by_loan, by_entry, by_receipt, by_instalment, by_share}
+use Rattle.mf_store_records.specs.declared.instalments.InstalmentRow.{InstalmentRow}
+use Rattle.mf_store_records.specs.declared.meta.MetaRow.{MetaRow}
+use Rattle.mf_store_records.specs.declared.shares.ShareRow.{ShareRow}
+use Rattle.mf_store_records.specs.declared.writes.StoreWrite.TheVariants.{PutInstalment, PutMeta, PutShare}
+use Rattle.mf_store_records.specs.Writes.{schema_of, Holds as HoldsOwn, Fits as FitsOwn, after as after_own}
+use Rattle.mf_store_rows.specs.Schemas.{first_schema}
+use Rattle.mf_store_upgrade.specs.declared.UpgradeWrite.{UpgradeWrite}
+use Rattle.mf_store_upgrade.specs.declared.UpgradeWrite.TheVariants.{MakeAccountTables, Put}
+
+-- the trees list the first schema and obey it, and keep these lists, of which those of accounts are no tables
+pub record HoldsFirst (trees : Trees) (lists : Lists) : Type 0 where
+  pub sound : IsSound first_schema trees
+  pub meta : Keeps meta_row by_meta (trees 0) lists.meta
+  pub offices : Keeps office_row by_office (trees 2) lists.offices
+  pub staff : Keeps staff_row by_staff (trees 5) lists.staff
+  pub clients : Keeps client_row by_client (trees 7) lists.clients
+  pub charges : Keeps charge_row by_charge (trees 9) lists.charges
+  pub products : Keeps product_row by_product (trees 11) lists.products
+  pub loans : Keeps loan_row by_loan (trees 13) lists.loans
+  pub entries : Keeps entry_row by_entry (trees 15) lists.entries
+  pub receipts : Keeps receipt_row by_receipt (trees 17) lists.receipts
+
+-- what a database keeps: the lists of the first schema, or those of the program's own, if it has tables
+pub data Kept : Type 0 where
+  First : Lists → Kept
+  Own : Option Lists → Kept
+
+abbrev pub schema_kept : Kept → Schema
+schema_kept (First lists) = first_schema
+schema_kept (Own lists) = schema_of lists
+
+abbrev pub Holds : Trees → Kept → Type 0
+Holds trees (First lists) = HoldsFirst trees lists
+Holds trees (Own lists) = HoldsOwn trees lists
+
+-- tables of instalments and of shares are made beside those of the first schema; a row is put where both are there
+abbrev pub Fits : UpgradeWrite → Kept → Type 0
+Fits MakeAccountTables (First lists) = Unit {0}
+Fits MakeAccountTables (Own lists) = ⊥
+Fits (Put write) (First lists) = ⊥
+Fits (Put write) (Own lists) = FitsOwn write lists
+
+abbrev pub after : UpgradeWrite → Kept → Kept
+after MakeAccountTables (First lists) = Own (Some (record lists { instalments = []; shares = [] }))
+after MakeAccountTables (Own lists) = Own lists
+after (Put write) (First lists) = First lists
+after (Put write) (Own lists) = Own (after_own write lists)
+
+-- the writes that bring the first schema to the second: the two tables, their rows, and the row of meta
+abbrev pub upgrade_writes : MetaRow → List InstalmentRow → List ShareRow → List UpgradeWrite
+upgrade_writes meta instalments shares = MakeAccountTables ∷ (map (λ x. Put (PutInstalment x)) instalments ++ (map (λ x. Put (PutShare x)) shares ++ Put (PutMeta meta) ∷ []))
+
+-- the lists once these are made
+abbrev pub upgraded : MetaRow → List InstalmentRow → List ShareRow → Lists → Lists
+upgraded meta instalments shares lists = record lists { meta = meta ∷ []; instalments = instalments; shares = shares }
+
+-- the rows rise by key, and the row of meta stands in place of the only one
+pub record CanUpgrade (meta : MetaRow) (instalments : List InstalmentRow) (shares : List ShareRow) (lists : Lists) : Type 0 where
+  pub old : MetaRow
+  pub one : lists.meta ≡ old ∷ []
+  pub same_key : meta.one ≡ old.one
+  pub instalments_rise : IsAscending (λ a b. by_instalment a b ≡ Less) instalments
+  pub shares_rise : IsAscending (λ a b. by_share a b ≡ Less) shares
+
+-- these writes can be made over the lists of the first schema, and bring them there
+pub record DoUpgrade (meta : MetaRow) (instalments : List InstalmentRow) (shares : List ShareRow) (lists : Lists) : Type 0 where
+  pub fit : AllFit after Fits (upgrade_writes meta instalments shares) (First lists)
+  pub become : after_all after (upgrade_writes meta instalments shares) (First lists) ≡ Own (Some (upgraded meta instalments shares lists))
+
+abbrev pub UpgradesFirst : Type 0
+UpgradesFirst = (meta : MetaRow) (instalments : List InstalmentRow) (shares : List ShareRow) (lists : Lists) → CanUpgrade meta instalments shares lists → DoUpgrade meta instalments shares lists

@@ -1,0 +1,99 @@
+//! The first schema brought to the second in one commit.
+
+ghost use Rattle.std.specs.Prelude.{◌≡◌, ◌⊎◌, ◌++◌, map, false, Some, IsTrue, OnOk, OnErr, IfOk, IfErr};
+ghost use Rattle.mf_base.specs.declared.fault.Fault.TheVariants.{F20};
+ghost use Rattle.sqlite.specs.Held.{state};
+ghost use Rattle.sqlite.specs.State.{HasCleanDisk};
+ghost use Rattle.sqlite.specs.Tree.{Trees};
+ghost use Rattle.mf_store_records.specs.Calls.{OnlyFaultsShut};
+ghost use Rattle.mf_store_records.specs.Rows.{Lists};
+ghost use Rattle.mf_store_records.specs.Writes.{Holds as HoldsOwn};
+ghost use Rattle.mf_store_records.specs.declared.writes.StoreWrite.TheVariants.{PutInstalment, PutShare};
+ghost use Rattle.mf_store_upgrade.specs.Upgrade.{upgrade_writes, upgraded, CanUpgrade};
+ghost use Rattle.mf_store_upgrade.specs.Upgraded.{IsKeepingFirst, IsUpgradedTo};
+ghost use Rattle.mf_store_upgrade.specs.declared.UpgradeWrite.TheVariants.{Put};
+
+use crate::UpgradeWrite;
+use mf_base::Fault;
+use mf_store_records::{InstalmentRow, MetaRow, ShareRow, StoreWrite};
+use mf_store_tables::apply;
+use sqlite::{Alter, Connection};
+use std::alloc::Global;
+
+/// Adds the puts of the rows of instalments.
+fn put_instalments(rows: Vec<InstalmentRow>, writes: &mut Vec<UpgradeWrite>) -> Result<(), Fault>
+    ensures writes { OnOk result (writes.new.items ≡ writes.old.items ++ map (λ x. Put (PutInstalment x)) rows.items) }
+    ensures gives_up { IfErr result (λ fault. fault ≡ F20) }
+{
+    for row in rows {
+        writes.push(UpgradeWrite::Put(StoreWrite::PutInstalment(row)))?;
+    }
+    Ok(())
+}
+
+/// Adds the puts of the rows of shares.
+fn put_shares(rows: Vec<ShareRow>, writes: &mut Vec<UpgradeWrite>) -> Result<(), Fault>
+    ensures writes { OnOk result (writes.new.items ≡ writes.old.items ++ map (λ x. Put (PutShare x)) rows.items) }
+    ensures gives_up { IfErr result (λ fault. fault ≡ F20) }
+{
+    for row in rows {
+        writes.push(UpgradeWrite::Put(StoreWrite::PutShare(row)))?;
+    }
+    Ok(())
+}
+
+/// The two tables, their rows, and the row of meta.
+fn all_writes(
+    alloc: Global,
+    meta: MetaRow,
+    instalments: Vec<InstalmentRow>,
+    shares: Vec<ShareRow>,
+) -> Result<Vec<UpgradeWrite>, Fault>
+    ensures writes { IfOk result (λ writes. writes.items ≡ upgrade_writes meta instalments.items shares.items) }
+    ensures gives_up { IfErr result (λ fault. fault ≡ F20) }
+{
+    let mut writes = Vec::new(alloc);
+    writes.push(UpgradeWrite::MakeAccountTables)?;
+    put_instalments(instalments, &mut writes)?;
+    put_shares(shares, &mut writes)?;
+    writes.push(UpgradeWrite::Put(StoreWrite::PutMeta(meta)))?;
+    Ok(writes)
+}
+
+/// Brings tables of the first schema to the second, in one commit: tables of instalments and of shares with these rows, and this
+/// row of meta in place of the old one.
+///
+/// The clauses speak of rows that rise by key, and of one row of meta under the key of the new one. The error is F20.
+pub fn upgrade<S: Alter>(
+    alloc: Global,
+    connection: &mut Connection<S>,
+    meta: MetaRow,
+    instalments: Vec<InstalmentRow>,
+    shares: Vec<ShareRow>,
+) -> Result<(), Fault>
+    requires alone { connection.old.in_transaction ≡ false }
+    ensures premise { HasCleanDisk (state S.Store connection.new) → HasCleanDisk (state S.Store connection.old) }
+    ensures gives_up { IfErr result (λ fault. fault ≡ F20) }
+    ensures shuts { OnlyFaultsShut (state S.Store connection.old) (state S.Store connection.new) }
+    ensures open { HasCleanDisk (state S.Store connection.new) → OnOk result (IsTrue (state S.Store connection.new).is_open) }
+    ensures was_open { HasCleanDisk (state S.Store connection.new) → IsTrue (state S.Store connection.new).is_open → IsTrue (state S.Store connection.old).is_open }
+
+    ensures made { HasCleanDisk (state S.Store connection.new) → OnOk result ((lists : Lists) → CanUpgrade meta instalments.items shares.items lists → IsKeepingFirst (state S.Store connection.old) lists
+        → IsUpgradedTo (state S.Store connection.new) (upgraded meta instalments.items shares.items lists)) }
+    ensures same { HasCleanDisk (state S.Store connection.new) → IsTrue (state S.Store connection.new).is_open → OnErr result ((state S.Store connection.new).now ≡ (state S.Store connection.old).now) }
+
+    // A stop leaves what it could leave before, or the second schema whole.
+    ensures stop { HasCleanDisk (state S.Store connection.new) → (lists : Lists) → CanUpgrade meta instalments.items shares.items lists → IsKeepingFirst (state S.Store connection.old) lists
+        → (trees : Trees) → (state S.Store connection.new).may_leave trees → (state S.Store connection.old).may_leave trees ⊎ HoldsOwn trees (Some (upgraded meta instalments.items shares.items lists)) }
+    ensures mode { connection.new.in_transaction ≡ false }
+{
+    let _settled = connection.is_autocommit();
+    let writes = match all_writes(alloc, meta, instalments, shares) {
+        Ok(writes) => writes,
+        Err(fault) => return Err(fault),
+    };
+    match apply(connection, &writes) {
+        Ok(()) => Ok(()),
+        Err(_) => Err(Fault::F20),
+    }
+}

@@ -1,0 +1,83 @@
+// The commands over a store, between standard input and output or on a port.
+ghost use Rattle.std.specs.Prelude.{◌≤◌, IfOk};
+ghost use Rattle.mf_base.specs.DayText.{last_entered_day};
+ghost use Rattle.microloan.specs.Status.{IsPrintStatus};
+
+use crate::telling::{print_made, tell_cause, tell_end, tell_sheet};
+use mf_base::{Cause, Day};
+use mf_model::InstitutionStore;
+use mf_office::Caller;
+use mf_wire::run;
+use mf_wire_lines::{WatchedReader, WatchedWriter};
+use microloan_commands::{answer_lines, collect_sheet, report, serve_connections};
+use std::io;
+use std::net::{Ipv4Addr, TcpListener};
+
+/// Answers the request lines on standard input over a new institution in memory, and gives the program's status.
+pub fn answer_input_in_memory<R: Print + Eprint + Input + AllocGlobal>(
+    rt: &R,
+    day: Day,
+) -> io::Result<u8>
+    requires { day ≤ last_entered_day }
+    ensures { IfOk result IsPrintStatus }
+{
+    let mut source = WatchedReader::new(rt.reader());
+    let mut sink = WatchedWriter::new(io::writer(rt));
+    let ended = answer_lines(rt.alloc(), day, &mut source, &mut sink);
+    tell_end(rt, &ended)
+}
+
+/// Answers the request lines on standard input, and gives the program's status.
+pub fn answer_input<R: Print + Eprint + Input + AllocGlobal, S: InstitutionStore>(
+    rt: &R,
+    store: &mut S,
+) -> io::Result<u8>
+    ensures { IfOk result IsPrintStatus }
+{
+    let mut source = WatchedReader::new(rt.reader());
+    let mut sink = WatchedWriter::new(io::writer(rt));
+    let ended = run(rt.alloc(), store, &mut source, &mut sink);
+    tell_end(rt, &ended)
+}
+
+/// Answers the HTTP messages of so many connections to a port of this machine, and gives the program's status. A port
+/// that can't be had can't be read.
+pub fn serve_port<S: InstitutionStore>(
+    rt: &HostRuntime,
+    store: &mut S,
+    port: u16,
+    connections: u64,
+) -> io::Result<u8>
+    ensures { IfOk result IsPrintStatus }
+{
+    let Ok(listener) = TcpListener::bind(rt, (Ipv4Addr::LOCALHOST, port)) else {
+        return tell_cause(rt, Cause::Read);
+    };
+    let ended = serve_connections(rt.alloc(), store, &listener, connections);
+    tell_end(rt, &ended)
+}
+
+/// Collects the sheet on standard input, and gives the program's status.
+pub fn collect_input<R: Print + Eprint + Input + AllocGlobal, S: InstitutionStore>(
+    rt: &R,
+    store: &mut S,
+    staff: Caller,
+) -> io::Result<u8>
+    ensures { IfOk result IsPrintStatus }
+{
+    let mut source = WatchedReader::new(rt.reader());
+    let mut sink = WatchedWriter::new(io::writer(rt));
+    let ended = collect_sheet(rt.alloc(), store, staff, &mut source, &mut sink);
+    tell_sheet(rt, &ended)
+}
+
+/// Prints the report of arrears, and gives the program's status.
+pub fn print_report<R: Print + Eprint + AllocGlobal, S: InstitutionStore>(
+    rt: &R,
+    store: &mut S,
+    staff: Caller,
+) -> io::Result<u8>
+    ensures { IfOk result IsPrintStatus }
+{
+    print_made(rt, report(rt.alloc(), store, staff))
+}

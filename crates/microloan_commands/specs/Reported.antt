@@ -1,0 +1,22 @@
+-- The report that a caller is shown.
+use Rattle.std.specs.Prelude.{ℕ, List, String, string_bytes, Result, Ok, Err}
+use Rattle.mf_base.specs.declared.fault.Fault.{Fault}
+use Rattle.mf_office.specs.declared.caller.Caller.{Caller}
+use Rattle.mf_arrears.specs.Line.{Line}
+use Rattle.mf_arrears.specs.Report.{report_bytes}
+use Rattle.mf_model.specs.Institution.{Institution}
+use Rattle.mf_desk.specs.Answers.{arrears_told}
+
+-- the text of a report's lines, or the refusal
+abbrev pub shown : Result (List Line) Fault → Result (List ℕ) Fault
+shown (Ok lines) = Ok (report_bytes lines)
+shown (Err fault) = Err fault
+
+-- the text of the arrears that a caller sees; F2 where there is no such member of staff
+abbrev pub report_told : Caller → Institution → Result (List ℕ) Fault
+report_told c i = shown (arrears_told c i)
+
+-- the bytes of a text, or its refusal
+abbrev pub bytes_of : {Z : Type 0} → Result (String Z) Fault → Result (List ℕ) Fault
+bytes_of (Ok text) = Ok (string_bytes text)
+bytes_of (Err fault) = Err fault

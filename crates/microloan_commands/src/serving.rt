@@ -1,0 +1,80 @@
+ghost use Rattle.std.specs.Prelude.{◌≡◌, IfOk, IfErr};
+ghost use Rattle.mf_base.specs.declared.fault.Cause.TheVariants as cause;
+ghost use Rattle.microloan_commands.specs.Served.{Serves, whole_of};
+
+use mf_base::{Cause, StreamFault};
+use mf_model::InstitutionStore;
+use mf_wire::{Desk, serve_one};
+use mf_wire_lines::{WatchedReader, WatchedWriter};
+use std::alloc::Global;
+use std::io::{Read, Write};
+use std::net::{OpenListener, TcpStream};
+
+/// How many responses were written whole.
+fn whole(served: Result<bool, StreamFault>) -> u64
+    ensures { result ≡ whole_of served }
+{
+    match served {
+        Ok(true) => 1,
+        Ok(false) => 0,
+        Err(_) => 0,
+    }
+}
+
+/// Answers the message of a connection, which is read and written, and gives how many responses were written whole.
+/// A fault of its streams ends the connection and nothing else.
+fn serve_streams<S: InstitutionStore, R: Read + Drop, W: Write + Drop>(
+    alloc: Global,
+    desk: &Desk,
+    store: &mut S,
+    reader: R,
+    writer: W,
+) -> u64
+    ensures { Serves S.stands S.clean S.leaves 1 store.old store.new result }
+{
+    let mut source = WatchedReader::new(reader);
+    let mut sink = WatchedWriter::new(writer);
+    whole(serve_one(alloc, desk, store, &mut source, &mut sink))
+}
+
+/// Serves the next connection, where it can be accepted, and gives how many responses were written whole.
+fn serve_next<S: InstitutionStore, L: OpenListener<Stream = TcpStream>>(
+    alloc: Global,
+    desk: &Desk,
+    store: &mut S,
+    listener: &L,
+) -> u64
+    ensures { Serves S.stands S.clean S.leaves 1 store.old store.new result }
+{
+    let Ok((stream, _)) = listener.accept() else {
+        return 0;
+    };
+    serve_streams(alloc, desk, store, &stream, &stream)
+}
+
+/// Accepts so many connections, one after another, and answers the HTTP message of each over a store, as
+/// `mf_wire::serve_one` does. It gives how many responses were written whole.
+///
+/// A connection that can't be accepted counts as one, and so does one whose streams fail; the next is served. Memory is
+/// told where there is none for the routes, which are made first: nothing is accepted or answered then.
+pub fn serve_connections<S: InstitutionStore, L: OpenListener<Stream = TcpStream>>(
+    alloc: Global,
+    store: &mut S,
+    listener: &L,
+    connections: u64,
+) -> Result<u64, StreamFault>
+    ensures served { IfOk result (Serves S.stands S.clean S.leaves connections store.old store.new) }
+    ensures memory { IfErr result (λ fault. (fault ≡ record { answered = 0; cause = cause.Memory }) × (store.new ≡ store.old)) }
+{
+    let Ok(desk) = Desk::new(alloc) else {
+        return Err(StreamFault {
+            answered: 0,
+            cause: Cause::Memory,
+        });
+    };
+    let mut answered = 0u64;
+    for _ in 0..connections {
+        answered += serve_next(alloc, &desk, store, listener);
+    }
+    Ok(answered)
+}

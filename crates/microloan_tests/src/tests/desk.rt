@@ -1,0 +1,233 @@
+//! The commands over an institution in vectors: a sheet from a source, the report's text, connections to a port.
+
+use mf_base::{Cause, Day, Fault, StreamFault};
+use mf_desk_books::Books;
+use mf_office::Caller;
+use mf_wire::run;
+use mf_wire_lines::{WatchedReader, WatchedWriter};
+use microloan_commands::{SheetFault, collect_sheet, report, serve_connections};
+use std::alloc::Global;
+use std::io;
+use std::io::{Read, Write};
+use std::net::{Ipv4Addr, Net, OpenListener, Shutdown, TcpListener, TcpStream};
+use std::process::Abort;
+use std::test::Fail;
+
+/// A client has a loan of 100000 cents at 12 percent for three months, paid out on 2024-01-31. The business day becomes
+/// 2024-03-31.
+const LENT: &str =
+    "1/1 POST /products {\"name\":\"P\",\"method\":\"declining-equal-principal\",\"rate\":1200,\"frequency\":\"months\",\"every\":1,\"principal_grace\":0,\"interest_grace\":0,\"min_principal\":1,\"max_principal\":1000000,\"min_periods\":1,\"max_periods\":12,\"strategy\":\"mifos-standard-strategy\"}\n\
+1/1 POST /clients {\"office\":1,\"name\":\"Amina\"}\n\
+1/1 POST /loans {\"client\":\"0001-000001\",\"product\":1,\"principal\":100000,\"periods\":3}\n\
+1/1 POST /loans/0001-000001/approve\n\
+1/1 POST /loans/0001-000001/disburse {\"day\":\"2024-01-31\"}\n\
+1/1 PUT /business-day {\"day\":\"2024-03-31\"}\n";
+
+/// The first instalment is paid; the second is 30 days overdue.
+const AGED: &str =
+    "1/1 POST /loans/0001-000001/repayments {\"amount\":34333,\"day\":\"2024-02-29\"}\n\
+1/1 PUT /business-day {\"day\":\"2024-04-30\"}\n";
+
+/// A day later.
+const NEXT_DAY: &str = "1/1 PUT /business-day {\"day\":\"2024-05-01\"}\n";
+
+const THIRTY_DAYS: &str =
+    "   1           1                  666.67                  666.67                    0.00                    0.00                    0.00    0.00
+ all           1                  666.67                  666.67                    0.00                    0.00                    0.00    0.00\n";
+
+const THIRTY_ONE_DAYS: &str =
+    "   1           1                  666.67                    0.00                  666.67                    0.00                    0.00  100.00
+ all           1                  666.67                    0.00                  666.67                    0.00                    0.00  100.00\n";
+
+/// Two repayments of the loan, and one of a loan that isn't there.
+const SHEET: &str = "receipt,loan,date,amount\n\
+R-1,0001-000001,2024-02-29,200\n\
+R-2,0001-000001,2024-03-31,500.00\n\
+R-3,0001-000009,2024-03-31,1.5\n";
+
+const ENTERED: &str = "receipt,loan,date,amount,result\n\
+R-1,0001-000001,2024-02-29,200,entered\n\
+R-2,0001-000001,2024-03-31,500.00,entered\n\
+R-3,0001-000009,2024-03-31,1.5,F4\n";
+
+/// A message that makes a client, and its response.
+const CLIENT: &str = "POST /clients HTTP/1.1\r\n\
+Host: localhost\r\n\
+X-Staff: 1/1\r\n\
+Content-Length: 27\r\n\
+\r\n\
+{\"office\":1,\"name\":\"Amina\"}";
+
+const CREATED: &str = "HTTP/1.1 201 Created\r\n\
+Content-Type: application/json\r\n\
+Content-Length: 24\r\n\
+Connection: close\r\n\
+\r\n\
+{\"client\":\"0001-000001\"}";
+
+/// The response to a head that is cut.
+const CUT: &str = "HTTP/1.1 400 Bad Request\r\n\
+Content-Type: application/json\r\n\
+Content-Length: 14\r\n\
+Connection: close\r\n\
+\r\n\
+{\"fault\":\"F1\"}";
+
+/// An institution that begins on 2024-01-31, after these request lines.
+fn books_after(alloc: Global, lines: &str) -> Result<Books, Fail> {
+    let day = Day::parse(b"2024-01-31").ok_or("a day")?;
+    let mut books = Books::new(alloc, day)?;
+    send(alloc, &mut books, lines)?;
+    Ok(books)
+}
+
+/// Sends request lines.
+fn send(alloc: Global, books: &mut Books, lines: &str) -> Result<(), Fail> {
+    let mut source = WatchedReader::new(lines.as_bytes());
+    let mut sink = WatchedWriter::new(Vec::new(alloc));
+    run(alloc, books, &mut source, &mut sink)?;
+    Ok(())
+}
+
+fn caller(staff: &str) -> Result<Caller, Fail> {
+    Ok(Caller::parse(staff.as_bytes()).ok_or("a caller")?)
+}
+
+#[test]
+fn the_report_has_fixed_columns(rt: HostRuntime) -> Result<(), Fail> {
+    let alloc = rt.alloc();
+    let mut books = books_after(alloc, LENT)?;
+    send(alloc, &mut books, AGED)?;
+    let text = report(alloc, &mut books, caller("1/1")?)?;
+    assert_eq!(rt; text.as_str(), THIRTY_DAYS);
+    send(alloc, &mut books, NEXT_DAY)?;
+    let text = report(alloc, &mut books, caller("1/1")?)?;
+    assert_eq!(rt; text.as_str(), THIRTY_ONE_DAYS);
+    let refused = report(alloc, &mut books, caller("9/9")?);
+    assert_eq!(rt; refused.err(), Some(Fault::F2));
+    Ok(())
+}
+
+/// How a sheet of these bytes ends where a member of staff sends it, and what is written.
+fn collected<R: Read + Drop>(
+    alloc: Global,
+    books: &mut Books,
+    staff: Caller,
+    sheet: R,
+) -> (Result<(), SheetFault>, Vec<u8>) {
+    let mut source = WatchedReader::new(sheet);
+    let mut sink = WatchedWriter::new(Vec::new(alloc));
+    let ended = collect_sheet(alloc, books, staff, &mut source, &mut sink);
+    (ended, sink.into_inner())
+}
+
+#[test]
+fn a_sheet_is_read_to_its_end(rt: HostRuntime) -> Result<(), Fail> {
+    let alloc = rt.alloc();
+    let mut books = books_after(alloc, LENT)?;
+    let (ended, written) = collected(alloc, &mut books, caller("1/1")?, SHEET.as_bytes());
+    assert!(rt; ended.is_ok());
+    assert_eq!(rt; written.as_slice(), ENTERED.as_bytes());
+    let (ended, written) = collected(
+        alloc,
+        &mut books,
+        caller("9/9")?,
+        "R-1,0001-000001,2024-02-29,200".as_bytes(),
+    );
+    assert!(rt; ended.is_ok());
+    assert_eq!(rt;
+        written.as_slice(),
+        b"receipt,loan,date,amount,result\nR-1,0001-000001,2024-02-29,200,F2\n".as_slice()
+    );
+    Ok(())
+}
+
+/// A sheet of 1,048,576 bytes is collected, and one of a byte more is refused whole.
+#[test]
+fn the_longest_sheet(rt: HostRuntime) -> Result<(), Fail> {
+    let alloc = rt.alloc();
+    let mut books = books_after(alloc, LENT)?;
+    let mut sheet = vec![in alloc; b'\n'; 1048576]?;
+    let (ended, written) = collected(alloc, &mut books, caller("1/1")?, sheet.as_slice());
+    assert!(rt; ended.is_ok());
+    assert_eq!(rt;
+        written.as_slice(),
+        b"receipt,loan,date,amount,result\n".as_slice()
+    );
+    sheet.push(b'\n')?;
+    let (ended, written) = collected(alloc, &mut books, caller("1/1")?, sheet.as_slice());
+    assert_eq!(rt; ended.err(), Some(SheetFault::TooLong));
+    assert!(rt; written.is_empty());
+    Ok(())
+}
+
+/// Gives some bytes, and then fails.
+#[derive(Drop)]
+struct Torn<'a> {
+    bytes: &'a [u8],
+}
+
+impl<'a> Read for Torn<'a> {
+    fn read(&mut self, buf: &mut [u8]) -> io::Result<usize> {
+        if self.bytes.is_empty() {
+            return Err(io::Error::from(io::ErrorKind::BrokenPipe));
+        }
+        self.bytes.read(buf)
+    }
+}
+
+/// Nothing is answered of a sheet that can't be read to its end.
+#[test]
+fn a_sheet_that_is_torn(rt: HostRuntime) -> Result<(), Fail> {
+    let alloc = rt.alloc();
+    let mut books = books_after(alloc, LENT)?;
+    let torn = Torn {
+        bytes: SHEET.as_bytes(),
+    };
+    let (ended, written) = collected(alloc, &mut books, caller("1/1")?, torn);
+    let fault = StreamFault {
+        answered: 0,
+        cause: Cause::Read,
+    };
+    assert_eq!(rt; ended.err(), Some(SheetFault::Stream(fault)));
+    assert!(rt; written.is_empty());
+    let (ended, written) = collected(alloc, &mut books, caller("1/1")?, SHEET.as_bytes());
+    assert!(rt; ended.is_ok());
+    assert_eq!(rt; written.as_slice(), ENTERED.as_bytes());
+    Ok(())
+}
+
+/// A client that sends these bytes, and no more.
+fn sent<R: Net<Stream = TcpStream>>(rt: &R, port: u16, bytes: &str) -> io::Result<TcpStream> {
+    let stream = TcpStream::connect(rt, (Ipv4Addr::LOCALHOST, port))?;
+    (&stream).write_all(bytes.as_bytes())?;
+    stream.shutdown(Shutdown::Write)?;
+    Ok(stream)
+}
+
+/// What a client is sent.
+fn answer(alloc: Global, stream: &TcpStream) -> io::Result<String> {
+    io::read_to_string(alloc, stream)
+}
+
+/// Of four clients one sends nothing, one half a head, one a message and one comes too late: as many are served as are
+/// asked for, each answered for itself.
+#[test]
+fn connections_are_served_in_turn(rt: HostRuntime) -> Result<(), Fail> {
+    let alloc = rt.alloc();
+    let mut books = books_after(alloc, "")?;
+    let listener = TcpListener::bind(&rt, (Ipv4Addr::LOCALHOST, 0))?;
+    let port = listener.local_addr()?.port();
+    let silent = sent(&rt, port, "")?;
+    let cut = sent(&rt, port, "POST /clients HTTP/1.1\r\nX-Sta")?;
+    let whole = sent(&rt, port, CLIENT)?;
+    let _late = sent(&rt, port, CLIENT)?;
+    let served = serve_connections(alloc, &mut books, &listener, 3)?;
+    assert_eq!(rt; served, 2);
+    assert_eq!(rt; answer(alloc, &silent)?.as_str(), "");
+    assert_eq!(rt; answer(alloc, &cut)?.as_str(), CUT);
+    assert_eq!(rt; answer(alloc, &whole)?.as_str(), CREATED);
+    let served = serve_connections(alloc, &mut books, &listener, 0)?;
+    assert_eq!(rt; served, 0);
+    Ok(())
+}
