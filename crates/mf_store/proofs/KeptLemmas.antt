@@ -16,7 +16,7 @@ use Rattle.mf_office.specs.declared.caller.Caller.{Caller}
 use Rattle.mf_catalog.specs.declared.product.Product.{Product}
 use Rattle.mf_model.specs.Store.{counts_at, catalogue_counts, role_of}
 use Rattle.mf_store_records.specs.Calls.{OnlyFaultsShut}
-use Rattle.mf_store.specs.Facts.{Facts, Kept, AreTrueOf, caller_number}
+use Rattle.mf_store.specs.Facts.{Facts, Kept, AreTrueOf, caller_number, nothing_known}
 use Rattle.mf_store_accounts.specs.Flat.{key_at}
 use Rattle.mf_store.specs.Learning.{Tells}
 use Rattle.mf_store.specs.declared.known.News.TheVariants.{OfficeCounts, Catalogue, BusinessDay}
@@ -173,7 +173,7 @@ module _ {S : Type 0} (g : Ghosts S) where
   known_unmade old new f same i s = let t = same i (tabled g (record { connection = old; known = f }) i s) in record { sound = t.sound; serves = t.serves; knows = s.knows }
 
   -- nothing is known at first
-  pub first_known : (h : Held S) (f : Facts) (i : Institution) → f ≡ record { counts = []; catalogue = None; day = None; roles = []; keys = []; products = [] } → IsTabled g h i → StandsFor g (record { connection = h; known = f }) i
+  pub first_known : (h : Held S) (f : Facts) (i : Institution) → f ≡ nothing_known → IsTabled g h i → StandsFor g (record { connection = h; known = f }) i
   first_known h f i is t = record {
     sound = t.sound;
     serves = t.serves;

@@ -1,5 +1,5 @@
 -- What a store knows beside its tables.
-use Rattle.std.specs.Prelude.{◌≡◌, ◌≤◌, ◌+◌, ◌*◌, ℕ, List, Option, Some, nat_eq, refl}
+use Rattle.std.specs.Prelude.{◌≡◌, ◌≤◌, ◌+◌, ◌*◌, ℕ, List, [], Option, None, Some, nat_eq, refl}
 use Rattle.std.specs.Map.{lookup}
 use Rattle.std.specs.Coded.{Coded, code_by, coded×, coded_ℕ, coded_list, coded_option}
 use Rattle.sqlite.specs.Held.{Held, held_code}
@@ -28,6 +28,10 @@ pub record Facts : Type 0 where
   pub roles : List (ℕ × Role)
   pub keys : List (ℕ × List ℕ)
   pub products : List (ℕ × Product)
+
+-- no fact is known
+abbrev pub nothing_known : Facts
+nothing_known = record { counts = []; catalogue = None; day = None; roles = []; keys = []; products = [] }
 
 abbrev pub facts_code : Coded Facts
 facts_code =

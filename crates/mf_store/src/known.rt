@@ -6,7 +6,7 @@ ghost use Rattle.std.specs.Map.{lookup};
 ghost use Rattle.mf_base.specs.declared.fault.Fault.TheVariants.{F20};
 ghost use Rattle.mf_model.specs.Institution.{Institution, product_in};
 ghost use Rattle.mf_model.specs.Store.{role_of};
-ghost use Rattle.mf_store.specs.Facts.{AreTrueOf, caller_number};
+ghost use Rattle.mf_store.specs.Facts.{AreTrueOf, caller_number, nothing_known};
 ghost use Rattle.mf_store_accounts.specs.Flat.{key_at};
 ghost use Rattle.mf_store.specs.Learning.{Tells};
 
@@ -30,9 +30,9 @@ pub(crate) enum News {
     Retirement,
 }
 
-/// What is known.
+/// What a store knows of its institution, in bounded memory.
 #[derive(Drop)]
-pub(crate) struct Known {
+pub struct Known {
     counts: LruCache<u32, Counts>,
     catalogue: Option<CatalogueCounts>,
     day: Option<Day>,
@@ -100,9 +100,9 @@ fn copied_product(product: &Product) -> Option<Product>
 }
 
 impl Known {
-    /// Nothing is known.
-    pub(crate) fn nothing(alloc: Global) -> Result<Known, Fault>
-        ensures nothing { IfOk result (λ known. known ≡ record { counts = []; catalogue = None; day = None; roles = []; keys = []; products = [] }) }
+    /// Nothing is known, and there is room for what comes to be. The error is F20.
+    pub fn nothing(alloc: Global) -> Result<Known, Fault>
+        ensures nothing { IfOk result (λ known. known ≡ nothing_known) }
         ensures gives_up { IfErr result (λ fault. fault ≡ F20) }
     {
         let counts = nothing_of(alloc, MOST_OFFICES)?;

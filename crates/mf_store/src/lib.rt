@@ -24,6 +24,7 @@ mod store;
 mod stored;
 mod visible;
 
+pub use known::Known;
 pub use laws::one_institution;
 pub use office_rows::{Ledger, OfficeRows, StaffMember};
 pub use store::Store;

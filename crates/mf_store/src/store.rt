@@ -10,6 +10,7 @@ ghost use Rattle.mf_store_accounts.specs.Flat.{key_at, tables_of};
 ghost use Rattle.mf_store_records.specs.Rows.{loan_row, office_row, is_loan_above, is_in_range};
 ghost use Rattle.mf_store_records.specs.Calls.{OnlyFaultsShut};
 ghost use Rattle.mf_store_records.specs.Writes.{schema_of, Holds};
+ghost use Rattle.mf_store.specs.Facts.{nothing_known};
 ghost use Rattle.mf_store.specs.Learning.{Tells};
 ghost use Rattle.mf_store.specs.Stands.{IsTabled, HasGoodDisk, LeavesTables, IsUnfounded, StandsFor, IsClean, Leaves, Stays, Becomes, IsOpen, FaultsAloneShut};
 
@@ -149,23 +150,16 @@ impl<S: Alter> Store<S> {
         }
     }
 
-    /// A store over tables that hold an institution, which it doesn't ask for anything. The error is F20, want of memory, and the
-    /// connection comes back.
-    pub fn over(
-        alloc: Global,
-        connection: Connection<S>,
-    ) -> Result<Store<S>, (Fault, Connection<S>)>
+    /// A store over tables that hold an institution, which it doesn't ask for anything, with room for what it comes to know of it.
+    pub fn over(connection: Connection<S>, known: Known) -> Store<S>
         requires alone { connection.in_transaction ≡ false }
-        ensures same { IfOk result (λ store. store.connection ≡ connection) }
-        ensures stands { IfOk result (λ store. (i : Institution) → IsTabled S.Store connection i → StandsFor S.Store store i) }
-        ensures leaves { IfOk result (λ store. IsOpen S.Store store → (i : Institution) → IsTabled S.Store connection i → Leaves S.Store store (i ∷ [])) }
-        ensures gives_up { IfErr result (λ e. (e.0 ≡ F20) × (e.1 ≡ connection)) }
+        requires nothing { known ≡ nothing_known }
+        ensures same { result.connection ≡ connection }
+        ensures stands { (i : Institution) → IsTabled S.Store connection i → StandsFor S.Store result i }
+        ensures leaves { IsOpen S.Store result → (i : Institution) → IsTabled S.Store connection i → Leaves S.Store result (i ∷ []) }
     {
         let _settled = connection.is_autocommit();
-        match Known::nothing(alloc) {
-            Ok(known) => Ok(Store { connection, known }),
-            Err(fault) => Err((fault, connection)),
-        }
+        Store { connection, known }
     }
 
     /// The connection to the tables, which hold what the store stood for.

@@ -1,37 +1,109 @@
 -- A store over tables that were judged, from the connection as it was before.
-use Rattle.std.proofs.Common.{◌≡◌, [], ◌∷◌, Result, Ok, Err, IfOk, IsTrue, sym, ap, ◌∙◌, subst}
+use Rattle.std.proofs.Common.{◌≡◌, ◌⊎◌, inl, inr, [], ◌∷◌, Some, Result, Ok, Err, IfOk, IsTrue, sym, ◌∙◌, subst}
 use Rattle.sqlite.specs.Held.{Held, state}
+use Rattle.sqlite.specs.Tree.{Trees}
 use Rattle.sqlite_trees.specs.declared.store.Store.{Ghosts}
-use Rattle.sqlite.specs.Schema.{Schema}
 use Rattle.mf_model.specs.Institution.{Institution}
-use Rattle.mf_store_records.specs.Tables.{schema}
-use Rattle.mf_store_records.specs.Calls.{IsUnchanged}
+use Rattle.mf_model.specs.Sound.{IsSound}
+use Rattle.mf_store_records.specs.Calls.{IsUnchanged, OnlyFaultsShut}
+use Rattle.mf_store_records.specs.Rows.{Lists}
+use Rattle.mf_store_records.specs.Writes.{Holds}
+use Rattle.mf_store_accounts.specs.Flat.{tables_of}
+use Rattle.mf_store_rows.specs.Schemas.{first_schema, IsFirst, IsUnchangedUnder}
+use Rattle.mf_store_rows.specs.Whole.{HaveFirstRowids}
+use Rattle.mf_store_sound.specs.Schemas.{first_tables_of}
+use Rattle.mf_store_tables.specs.Writes.{Serves}
+use Rattle.mf_store_upgrade.specs.Upgrade.{First as Kept_first, schema_kept, Holds as HoldsKept}
+use Rattle.mf_store_upgrade.specs.Upgraded.{IsKeepingFirst, IsUpgradedTo}
 use Rattle.mf_store.specs.Facts.{Kept}
 use Rattle.mf_store.specs.Stands.{HasGoodDisk, IsTabled, StandsFor, IsClean, IsOpen, Leaves}
 use Rattle.mf_store.proofs.StandLemmas.{unchanged_stays}
+use Rattle.mf_store_files.specs.declared.adopted.Found.{Found}
+use Rattle.mf_store_files.specs.declared.adopted.Found.TheVariants.{Nothing, Present, First}
+use Rattle.mf_store_files.specs.First.{IsTabledFirst, IsLeftFirst}
+use Rattle.mf_store_files.specs.Held.{HoldsSoundFirst}
 
-module _ {S E : Type 0} (g : Ghosts S) (new : Held S) where
-  pub known_over : (r : Result (Kept S) E) (P : Type 0) → IfOk r (λ store. store.connection ≡ new) → (HasGoodDisk g new → P) → IfOk r (λ store. IsClean g store → P)
-  known_over (Ok store) P same known = λ clean. known (subst (HasGoodDisk g) same clean)
-  known_over (Err e) P same known = tt
+module _ {S : Type 0} (g : Ghosts S) (old new : Held S) (u : IsUnchanged (state g old) (state g new)) (store : Kept S) (same : store.connection ≡ new) where
+  pub stands_over : ((i : Institution) → IsTabled g new i → StandsFor g store i) → IsClean g store → (i : Institution) → IsTabled g old i → StandsFor g store i
+  stands_over stands clean i was = stands i ((unchanged_stays g old new u).same (subst (HasGoodDisk g) same clean) i was)
 
-  module _ (old : Held S) (u : IsUnchanged (state g old) (state g new)) where
-    pub stands_over : (r : Result (Kept S) E) → IfOk r (λ store. store.connection ≡ new) → IfOk r (λ store. (i : Institution) → IsTabled g new i → StandsFor g store i) → IfOk r (λ store. IsClean g store → (i : Institution) → IsTabled g old i → StandsFor g store i)
-    stands_over (Ok store) same stands = λ clean i was. stands i ((unchanged_stays g old new u).same (subst (HasGoodDisk g) same clean) i was)
-    stands_over (Err e) same stands = tt
+  pub leaves_over : (IsOpen g store → (i : Institution) → IsTabled g new i → Leaves g store (i ∷ [])) → (HasGoodDisk g new → IsTrue (state g new).is_open) → IsClean g store → (i : Institution) → IsTabled g old i → Leaves g store (i ∷ [])
+  leaves_over leaves live clean i was =
+      let good = subst (HasGoodDisk g) same clean in
+      leaves (subst (λ h. IsTrue (state g h).is_open) (sym same) (live good)) i ((unchanged_stays g old new u).same good i was)
 
-    pub leaves_over : (r : Result (Kept S) E) → IfOk r (λ store. store.connection ≡ new) → IfOk r (λ store. IsOpen g store → (i : Institution) → IsTabled g new i → Leaves g store (i ∷ []))
-        → (HasGoodDisk g new → IsTrue (state g new).is_open) → IfOk r (λ store. IsClean g store → (i : Institution) → IsTabled g old i → Leaves g store (i ∷ []))
-    leaves_over (Ok store) same leaves live = λ clean i was.
-        let good = subst (HasGoodDisk g) same clean in
-        leaves (subst (λ h. IsTrue (state g h).is_open) (sym same) (live good)) i ((unchanged_stays g old new u).same good i was)
-    leaves_over (Err e) same leaves live = tt
+-- ---- tables of the first schema
+
+module _ {S : Type 0} (g : Ghosts S) (old mid : Held S) (u : IsUnchangedUnder IsFirst (state g old) (state g mid)) where
+  -- where nothing was written, nothing is left but what was
+  pub left_as_it_was : (state g old).now.schema ≡ first_schema → IsLeftFirst g old mid
+  left_as_it_was its = record {
+    premise = u.premise;
+    was_open = u.was_open;
+    same = λ clean live. u.same clean live its;
+    shuts = u.shuts;
+    stop = λ clean i was trees may. inl (u.stop clean (λ live. its) trees may);
+    refused = λ clean rowids none_held trees may. u.stop clean (λ live. its) trees may;
+  }
+
+  module _ (lists : Lists) (live : HasGoodDisk g mid → IsTrue (state g mid).is_open) (rows : HasGoodDisk g mid → (state g old).now.schema ≡ first_schema → (held : HoldsSoundFirst (state g old).now.trees) → first_tables_of held.institution ≡ lists) where
+    still_keeps : HasGoodDisk g mid → (i : Institution) → IsTabledFirst g old i → IsKeepingFirst (state g mid) (first_tables_of i)
+    still_keeps clean i was now =
+        let before = was.keeps (u.was_open clean now) in
+        subst (λ d. Serves schema_kept HoldsKept d (Kept_first (first_tables_of i))) (sym (u.same clean now before.schema_is)) before
+
+    -- the lists read are the rows of the institution that the tables hold
+    are_its : HasGoodDisk g mid → (i : Institution) → IsTabledFirst g old i → first_tables_of i ≡ lists
+    are_its clean i was =
+        let before = was.keeps (u.was_open clean (live clean)) in
+        rows clean before.schema_is (record { institution = i; sound = was.sound; holds = before.holds })
+
+    module _ (new : Held S) (premise : HasGoodDisk g new → HasGoodDisk g mid) where
+      module _ (made : HasGoodDisk g new → (i : Institution) → IsSound i → first_tables_of i ≡ lists → IsKeepingFirst (state g mid) (first_tables_of i) → IsUpgradedTo (state g new) (tables_of i)) where
+        pub upgraded_tabled : HasGoodDisk g new → (i : Institution) → IsTabledFirst g old i → IsTabled g new i
+        upgraded_tabled clean i was =
+            let up = made clean i was.sound (are_its (premise clean) i was) (still_keeps (premise clean) i was) in
+            record { sound = was.sound; serves = λ now. up.serves }
+
+        module _ (store : Kept S) (same : store.connection ≡ new) where
+          pub stands_upgraded : ((i : Institution) → IsTabled g new i → StandsFor g store i) → IsClean g store → (i : Institution) → IsTabledFirst g old i → StandsFor g store i
+          stands_upgraded stands clean i was = stands i (upgraded_tabled (subst (HasGoodDisk g) same clean) i was)
+
+          pub leaves_upgraded : (IsOpen g store → (i : Institution) → IsTabled g new i → Leaves g store (i ∷ [])) → (HasGoodDisk g new → IsTrue (state g new).is_open) → IsClean g store → (i : Institution) → IsTabledFirst g old i → Leaves g store (i ∷ [])
+          leaves_upgraded leaves is_live clean i was =
+              let good = subst (HasGoodDisk g) same clean in
+              leaves (subst (λ h. IsTrue (state g h).is_open) (sym same) (is_live good)) i (upgraded_tabled good i was)
+
+      module _ (shuts : OnlyFaultsShut (state g mid) (state g new)) (was_open : HasGoodDisk g new → IsTrue (state g new).is_open → IsTrue (state g mid).is_open)
+          (unmade : HasGoodDisk g new → IsTrue (state g new).is_open → (state g new).now ≡ (state g mid).now)
+          (stop : HasGoodDisk g new → (i : Institution) → IsSound i → first_tables_of i ≡ lists → IsKeepingFirst (state g mid) (first_tables_of i)
+          → (trees : Trees) → (state g new).may_leave trees → (state g mid).may_leave trees ⊎ Holds trees (Some (tables_of i)))
+          (sound : HasGoodDisk g mid → (state g old).now.schema ≡ first_schema → HaveFirstRowids (state g old).now.trees → HoldsSoundFirst (state g old).now.trees) where
+        pub left_first : (state g old).now.schema ≡ first_schema → IsLeftFirst g old new
+        left_first its = record {
+          premise = λ clean. u.premise (premise clean);
+          was_open = λ clean now. u.was_open (premise clean) (was_open clean now);
+          same = λ clean now. unmade clean now ∙ u.same (premise clean) (was_open clean now) its;
+          shuts = λ faults few up_to. shuts faults few (u.shuts faults few up_to);
+          stop = λ clean i was trees may. elim (stop clean i was.sound (are_its (premise clean) i was) (still_keeps (premise clean) i was) trees may) [
+            | inl before ↦ inl (u.stop (premise clean) (λ now. its) trees before)
+            | inr made ↦ inr made
+          ];
+          refused = λ clean rowids none_held trees may. absurd (none_held (sound (premise clean) its rowids));
+        }
 
 -- what holds of each store holds of the one that there is
 pub of_any : {A E : Type 0} (r : Result A E) (P : A → Type 0) → ((x : A) → P x) → IfOk r P
 of_any (Ok x) P all = all x
 of_any (Err e) P all = tt
 
--- a schema without a table is not the program's
-pub not_ours : (found its : Schema) → found ≡ its → found.tables ≡ [] → its ≡ schema → ⊥
-not_ours found its same none ours = let all : schema.tables ≡ [] = ap (λ (s : Schema). s.tables) (sym ours ∙ sym same) ∙ none in cc
+-- ---- tables are found to be one thing alone
+
+pub nothing_present : (f : Found) → f ≡ Nothing → f ≡ Present → ⊥
+nothing_present f is also = let both : Nothing ≡ Present = sym is ∙ also in cc
+
+pub nothing_first : (f : Found) → f ≡ Nothing → f ≡ First → ⊥
+nothing_first f is also = let both : Nothing ≡ First = sym is ∙ also in cc
+
+pub present_first : (f : Found) → f ≡ Present → f ≡ First → ⊥
+present_first f is also = let both : Present ≡ First = sym is ∙ also in cc

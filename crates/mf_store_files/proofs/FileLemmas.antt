@@ -1,6 +1,7 @@
 -- What a connection to a file shows, by what the file held.
-use Rattle.std.proofs.Common.{◌≡◌, inl, inr, None, [], refl, sym, ap, ◌∙◌, subst}
+use Rattle.std.proofs.Common.{◌≡◌, inl, inr, None, [], sym, ap, ◌∙◌, subst}
 use Rattle.sqlite.specs.Effect.{Database}
+use Rattle.sqlite.specs.Schema.{Schema}
 use Rattle.sqlite.specs.Files.{HoldsDatabase}
 use Rattle.sqlite.specs.Start.{FindsIn}
 use Rattle.sqlite.specs.State.{State, Opens, IsLive}
@@ -9,7 +10,6 @@ use Rattle.sqlite_trees.specs.Objects.{catalog_tree}
 use Rattle.sqlite_catalog.specs.Listing.{IsSound}
 use Rattle.sqlite_wal.specs.Recovery.{Image}
 use Rattle.mf_store_tables.specs.Writes.{Serves}
-use Rattle.mf_store_records.specs.Tables.{schema}
 use Rattle.mf_store_records.specs.Writes.{schema_of, Holds}
 use Rattle.mf_store_files.specs.Files.{HasNoTables}
 use Rattle.mf_store_files.proofs.BlankLemmas.{empty_if_nothing}
@@ -29,8 +29,9 @@ module _ (image : Image) (s : State) (opens : Opens s) (live : IsLive s) (found 
   no_tables (inl nothing) = unlisted (ap (λ (db : Database). db.trees catalog_tree) opens.clean ∙ (empty_if_nothing image s.committed.trees nothing found.reads).1)
   no_tables (inr held) = unlisted (ap (λ (trees : Trees). trees catalog_tree) (now_are held.0 held.1) ∙ held.2.1)
 
-  pub our_tables : (trees : Trees) → HoldsDatabase image trees → IsSound schema trees → s.now ≡ record { schema = schema; trees = trees }
-  our_tables trees held sound =
+  -- the schema is the one that the trees list, which has no views
+  pub tables_under : (own : Schema) → own.views ≡ [] → (trees : Trees) → HoldsDatabase image trees → IsSound own trees → s.now ≡ record { schema = own; trees = trees }
+  tables_under own bare trees held sound =
       let are = now_are trees held in
-      let own = one_schema s.now.trees s.now.schema schema refl (live opens.is_open).0 (subst (IsSound schema) (sym are) sound) in
-      λ t. record { schema = own t; trees = are t }
+      let same = one_schema s.now.trees s.now.schema own bare (live opens.is_open).0 (subst (IsSound own) (sym are) sound) in
+      λ t. record { schema = same t; trees = are t }

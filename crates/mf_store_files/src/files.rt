@@ -14,10 +14,11 @@ ghost use Rattle.mf_model.specs.Institution.{newly_made};
 ghost use Rattle.mf_store_accounts.specs.Flat.{tables_of};
 ghost use Rattle.mf_store_records.specs.Tables.{schema};
 ghost use Rattle.mf_store_records.specs.Writes.{schema_of, Holds};
-ghost use Rattle.mf_store_rows.specs.Whole.{HaveRowids};
+ghost use Rattle.mf_store_rows.specs.Schemas.{first_schema};
+ghost use Rattle.mf_store_rows.specs.Whole.{HaveRowids, HaveFirstRowids};
 ghost use Rattle.mf_store.specs.Stands.{StandsFor, IsClean, Leaves, IsOpen};
 ghost use Rattle.mf_store_files.specs.Files.{HasNoTables};
-ghost use Rattle.mf_store_files.specs.Held.{HoldsSound};
+ghost use Rattle.mf_store_files.specs.Held.{HoldsSound, HoldsSoundFirst};
 
 use crate::adopted::adopt;
 use mf_base::{Day, Fault};
@@ -42,7 +43,9 @@ fn connect<S: Start>(
 ) -> Result<Connection<FileStore<FileFrom<S>>>, Fault>
     ensures none { IfOk result (λ c. HasCleanDisk (file_state c) → HasNoTables (image_at S.Start) → Serves schema_of Holds (file_state c).now None) }
     ensures ours { IfOk result (λ c. HasCleanDisk (file_state c) → (trees : Trees) → HoldsDatabase (image_at S.Start) trees → IsSound schema trees → (file_state c).now ≡ record { schema = schema; trees = trees }) }
+    ensures ours_first { IfOk result (λ c. HasCleanDisk (file_state c) → (trees : Trees) → HoldsDatabase (image_at S.Start) trees → IsSound first_schema trees → (file_state c).now ≡ record { schema = first_schema; trees = trees }) }
     ensures rowids { IfOk result (λ c. HasCleanDisk (file_state c) → (file_state c).now.schema ≡ schema → HaveRowids (file_state c).now.trees) }
+    ensures first_rowids { IfOk result (λ c. HasCleanDisk (file_state c) → (file_state c).now.schema ≡ first_schema → HaveFirstRowids (file_state c).now.trees) }
     ensures open { IfOk result (λ c. HasCleanDisk (file_state c) → IsTrue (file_state c).is_open) }
     ensures leaves { IfOk result (λ c. HasCleanDisk (file_state c) → (left : Trees) → (file_state c).may_leave left → left ≡ (file_state c).now.trees) }
     ensures alone { IfOk result (λ c. c.in_transaction ≡ false) }
@@ -59,6 +62,7 @@ fn connect<S: Start>(
 
 /// A store over the file at a path, where `start` stands for what the file held: where it had no tables, which is so too of one that
 /// is missing, those of a new institution on this day, made in one commit; else the institution that it holds, whatever the day.
+/// Tables of the first schema are brought to the second, in one commit.
 ///
 /// The day is at most 2099-12-31. F19 tells that no sound institution has the rows of the file, and F20 want of memory, a file that
 /// could not be opened, or a failure of the disk. The connection comes back once there is one. Of other tables than this program
@@ -84,10 +88,19 @@ pub fn open_with<S: Start>(
     ensures unchanged { IfErr result (λ e. IfSome e.1 (λ c. HasCleanDisk (file_state c) → (trees : Trees) → HoldsDatabase (image_at S.Start) trees → IsSound schema trees
         → (left : Trees) → (file_state c).may_leave left → left ≡ trees)) }
 
+    // Where there were those of the first schema, whatever rows stood there.
+    ensures sound_first { IfOk result (λ store. IsClean over_files store → (trees : Trees) → HoldsDatabase (image_at S.Start) trees → IsSound first_schema trees → HoldsSoundFirst trees) }
+    ensures stands_first { IfOk result (λ store. IsClean over_files store → (trees : Trees) → HoldsDatabase (image_at S.Start) trees → (held : HoldsSoundFirst trees) → StandsFor over_files store held.institution) }
+    ensures leaves_first { IfOk result (λ store. IsClean over_files store → (trees : Trees) → HoldsDatabase (image_at S.Start) trees → (held : HoldsSoundFirst trees) → Leaves over_files store (held.institution ∷ [])) }
+    ensures left_first { IfErr result (λ e. IfSome e.1 (λ c. HasCleanDisk (file_state c) → (trees : Trees) → HoldsDatabase (image_at S.Start) trees → (held : HoldsSoundFirst trees)
+        → (left : Trees) → (file_state c).may_leave left → left ≡ trees ⊎ Holds left (Some (tables_of held.institution)))) }
+    ensures refused_first { IfErr result (λ e. IfSome e.1 (λ c. HasCleanDisk (file_state c) → (trees : Trees) → HoldsDatabase (image_at S.Start) trees → IsSound first_schema trees → ¬ HoldsSoundFirst trees
+        → (left : Trees) → (file_state c).may_leave left → left ≡ trees)) }
+
     ensures open { IfOk result (λ store. IsClean over_files store → IsOpen over_files store) }
     ensures errors { IfErr result (λ e. (e.0 ≡ F19) ⊎ (e.0 ≡ F20)) }
     ensures refused { IfErr result (λ e. e.0 ≡ F19 → IsSomeAnd e.1 (λ c. HasCleanDisk (file_state c)
-        → (¬ HasNoTables (image_at S.Start)) × ((trees : Trees) → HoldsDatabase (image_at S.Start) trees → ¬ HoldsSound trees))) }
+        → (¬ HasNoTables (image_at S.Start)) × ((trees : Trees) → HoldsDatabase (image_at S.Start) trees → (¬ HoldsSound trees) × (¬ HoldsSoundFirst trees)))) }
 {
     let connection = match connect(rt, path, start) {
         Ok(connection) => connection,

@@ -1,11 +1,12 @@
 //! Tables that are adopted again, and files that are opened again after a stop.
 
 mod adopted;
+mod first_schema;
 mod stops;
 
 ghost use Rattle.std.specs.Prelude.{◌≡◌, false};
 
-use mf_base::Day;
+use mf_base::{Day, Fault};
 use mf_store_files::adopt;
 use mf_wire::run;
 use mf_wire_lines::{WatchedReader, WatchedWriter};
@@ -33,5 +34,19 @@ fn answered_over<S: Alter>(
             (sink.into_inner(), store.release())
         }
         Err((_, connection)) => (Vec::new(alloc), connection),
+    }
+}
+
+/// Whether the tables of a connection are refused as those of no institution, and the connection after.
+fn refused_over<S: Alter>(alloc: Global, connection: Connection<S>) -> (bool, Connection<S>)
+    requires { connection.in_transaction ≡ false }
+    ensures { result.1.in_transaction ≡ false }
+{
+    let Some(day) = Day::parse(b"2024-01-31") else {
+        return (false, connection);
+    };
+    match adopt(alloc, connection, day) {
+        Ok(store) => (false, store.release()),
+        Err((fault, connection)) => (fault == Fault::F19, connection),
     }
 }

@@ -1,9 +1,6 @@
-//! From request lines and words down to the tables.
+//! From request lines down to the tables.
 
 mod batch;
-mod desk;
 mod pages;
-mod printed;
 mod store;
 mod tables;
-mod words;

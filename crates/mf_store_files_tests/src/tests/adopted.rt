@@ -2,12 +2,85 @@
 
 ghost use Rattle.std.specs.Prelude.{◌≡◌, false, IfOk};
 
-use super::answered_over;
+use super::{answered_over, refused_over};
 use mf_store_pages::{PageStore, open};
-use sqlite::{Connection, Error};
+use sqlite::{Alter, Connection, Error};
 use std::alloc::Global;
 use std::rt::HostRuntime;
 use std::test::Fail;
+
+/// An institution with rows in each table.
+const INSTITUTION: &str = "\
+1/1 POST /offices {\"number\":2,\"parent\":1,\"name\":\"North\"}\n\
+1/1 POST /staff {\"office\":2,\"name\":\"Ben\",\"role\":\"officer\"}\n\
+1/1 POST /charges {\"name\":\"Visit\",\"kind\":\"due-date\",\"calc\":\"flat\",\"value\":500}\n\
+1/1 POST /products {\"name\":\"P\",\"method\":\"declining-equal-principal\",\"rate\":1200,\"frequency\":\"months\",\"every\":1,\
+\"principal_grace\":0,\"interest_grace\":0,\"min_principal\":1,\"max_principal\":1000000,\"min_periods\":1,\"max_periods\":12,\
+\"strategy\":\"mifos-standard-strategy\"}\n\
+1/1 PUT /business-day {\"day\":\"2024-02-01\"}\n\
+1/1 POST /clients {\"office\":1,\"name\":\"Amina\"}\n\
+1/1 POST /loans {\"client\":\"0001-000001\",\"product\":1,\"principal\":100000,\"periods\":3}\n\
+1/1 POST /loans/0001-000001/approve\n\
+1/1 POST /loans/0001-000001/disburse {\"day\":\"2024-02-01\"}\n\
+1/1 PUT /business-day {\"day\":\"2024-03-31\"}\n\
+1/1 POST /loans/0001-000001/repayments {\"amount\":20000,\"day\":\"2024-02-29\",\"receipt\":\"R-1\"}\n\
+1/1 POST /loans/0001-000001/repayments {\"amount\":50000,\"day\":\"2024-03-31\"}\n";
+
+/// Changes of a row, each of which leaves what no institution has.
+const CHANGES: [&str; 52] = [
+    "DELETE FROM meta",
+    "UPDATE meta SET schema = 1",
+    "UPDATE meta SET schema = 3",
+    "UPDATE meta SET day = '2024-02-30'",
+    "UPDATE meta SET day = '2100-01-01'",
+    "UPDATE meta SET day = '2024-03-30'",
+    "UPDATE offices SET parent = 2 WHERE number = 1",
+    "UPDATE offices SET parent = 77 WHERE number = 2",
+    "UPDATE offices SET parent = 2 WHERE number = 2",
+    "UPDATE offices SET hkey = '.3.' WHERE number = 2",
+    "UPDATE offices SET name = '' WHERE number = 2",
+    "UPDATE staff SET role = 4 WHERE office = 2",
+    "UPDATE staff SET role = 4294967297 WHERE office = 2",
+    "UPDATE staff SET number = 2 WHERE office = 2",
+    "INSERT INTO staff VALUES (77, 1, 'Ghost', 1)",
+    "UPDATE clients SET number = 2",
+    "UPDATE clients SET number = -1",
+    "UPDATE clients SET office = 77",
+    "UPDATE charges SET number = 2",
+    "UPDATE charges SET kind = 5",
+    "UPDATE charges SET value = 0",
+    "UPDATE products SET overdue_charge = 1",
+    "UPDATE products SET overdue_charge = 2",
+    "UPDATE products SET rate = 100001",
+    "UPDATE products SET min_principal = 1000001",
+    "UPDATE products SET retired = 2",
+    "UPDATE loans SET number = 2",
+    "UPDATE loans SET principal = 1000001",
+    "UPDATE loans SET periods = 13",
+    "UPDATE loans SET client = 2",
+    "UPDATE loans SET product = 2",
+    "UPDATE loans SET stage = 250",
+    "UPDATE loans SET stage = 200, disbursed = NULL",
+    "UPDATE loans SET disbursed = NULL",
+    "UPDATE loans SET approved = '2024-02-02'",
+    "UPDATE loans SET disbursed = '2024-03-01'",
+    "UPDATE entries SET seq = 9 WHERE seq = 2",
+    "UPDATE entries SET kind = 7 WHERE seq = 2",
+    "UPDATE entries SET amount = 0 WHERE seq = 2",
+    "UPDATE entries SET day = '2024-01-31' WHERE seq = 1",
+    "UPDATE entries SET day = '2024-04-01' WHERE seq = 2",
+    "UPDATE entries SET staff = '1/9' WHERE seq = 2",
+    "UPDATE entries SET reversed = 1 WHERE seq = 2",
+    "UPDATE entries SET receipt = 'R-2' WHERE seq = 2",
+    "DELETE FROM receipts",
+    "UPDATE receipts SET seq = 2",
+    "UPDATE instalments SET paid_principal = 1 WHERE number = 1",
+    "UPDATE instalments SET due = '2024-03-02' WHERE number = 1",
+    "DELETE FROM instalments WHERE number = 3",
+    "UPDATE shares SET amount = 1 WHERE seq = 1 AND place = 1",
+    "DELETE FROM shares WHERE seq = 1 AND place = 1",
+    "UPDATE shares SET place = 9 WHERE seq = 1 AND place = 2",
+];
 
 /// The tables of a new institution, of which the business day was set.
 fn set_tables(alloc: Global) -> Result<Connection<PageStore>, Fail>
@@ -30,6 +103,35 @@ fn the_old_day_stands(rt: HostRuntime) -> Result<(), Fail> {
     let tables = set_tables(rt.alloc())?;
     let (told, _) = answered_over(rt.alloc(), tables, b"1/1 GET /business-day\n");
     assert!(rt; told.as_slice() == "200 {\"day\":\"2024-03-31\"}\n".as_bytes());
+    Ok(())
+}
+
+/// Whether the institution is adopted again, and refused once a row is changed so.
+fn is_refused<S: Alter + Drop>(
+    alloc: Global,
+    connection: Connection<S>,
+    change: &str,
+) -> Result<bool, Error>
+    requires { connection.in_transaction ≡ false }
+{
+    let (replies, connection) = answered_over(alloc, connection, INSTITUTION.as_bytes());
+    let (refused, mut connection) = refused_over(alloc, connection);
+    let changed = connection.execute(change, &[])?;
+    if replies.is_empty() || refused || changed != 1 || !connection.is_autocommit() {
+        return Ok(false);
+    }
+    let (refused, _) = refused_over(alloc, connection);
+    Ok(refused)
+}
+
+#[test]
+fn each_changed_row_is_refused(rt: HostRuntime) -> Result<(), Fail> {
+    for change in CHANGES.iter() {
+        let Ok(tables) = open(rt.alloc()) else {
+            return Err(Fail::new("a connection"));
+        };
+        assert!(rt; is_refused(rt.alloc(), tables, *change)?);
+    }
     Ok(())
 }
 

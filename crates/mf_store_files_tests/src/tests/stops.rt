@@ -32,7 +32,7 @@ const SEEN: &str = "1/1 GET /offices\n\
 1/1 GET /loans/0001-000001/entries\n";
 
 /// The loan after its two repayments.
-const PAID: &str =
+pub(super) const PAID: &str =
     "200 {\"client\":\"0001-000001\",\"day\":\"2024-01-31\",\"disbursement_fee\":0,\"loan\":\"0001-000001\",\
 \"outstanding\":{\"fees\":0,\"interest\":0,\"penalties\":0,\"principal\":32000},\"overpaid\":0,\
 \"paid\":{\"fees\":0,\"interest\":2000,\"penalties\":0,\"principal\":68000},\"periods\":3,\"principal\":100000,\"product\":1,\
@@ -40,12 +40,12 @@ const PAID: &str =
 \"written_off\":{\"fees\":0,\"interest\":0,\"penalties\":0,\"principal\":0}}\n";
 
 /// More calls of one file than these lines take.
-const MOST_CALLS: u64 = 100_000;
+pub(super) const MOST_CALLS: u64 = 100_000;
 
-type Disks = Files<Fuse<Memory>>;
+pub(super) type Disks = Files<Fuse<Memory>>;
 
 /// Empty files that fail after so many calls each.
-fn fused(alloc: Global, log: u64, db: u64) -> Disks {
+pub(super) fn fused(alloc: Global, log: u64, db: u64) -> Disks {
     Files {
         log: Fuse::new(Memory::new(alloc), log),
         db: Fuse::new(Memory::new(alloc), db),
@@ -53,7 +53,11 @@ fn fused(alloc: Global, log: u64, db: u64) -> Disks {
 }
 
 /// The replies to lines over what files hold, up to where they fail, and the files after.
-fn answered(alloc: Global, mut files: Disks, lines: &[u8]) -> Result<(Vec<u8>, Disks), Fail> {
+pub(super) fn answered(
+    alloc: Global,
+    mut files: Disks,
+    lines: &[u8],
+) -> Result<(Vec<u8>, Disks), Fail> {
     if !files.log.may_be_used() || !files.db.may_be_used() {
         return Err(Fail::new("a file that can be used"));
     }
@@ -67,7 +71,7 @@ fn answered(alloc: Global, mut files: Disks, lines: &[u8]) -> Result<(Vec<u8>, D
 }
 
 /// The files after a stop: what was not synced is lost, and they work again.
-fn stopped(mut files: Disks) -> Disks {
+pub(super) fn stopped(mut files: Disks) -> Disks {
     files.log.crash();
     files.db.crash();
     files

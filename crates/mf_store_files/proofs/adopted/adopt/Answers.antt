@@ -1,17 +1,52 @@
-use Rattle.std.proofs.Common.{sym, ap, ◌∙◌, true≢false}
-use Rattle.sqlite.specs.Schema.{Schema}
+use Rattle.std.proofs.Common.{◌∙◌}
 use Rattle.mf_store.proofs.StandLemmas.{weaker_if_ok}
-use Rattle.mf_store_files.proofs.AdoptLemmas.{of_any, not_ours}
+use Rattle.mf_store_files.proofs.AdoptLemmas.{of_any, nothing_present, nothing_first, present_first}
 use Rattle.mf_store_files.proofs.adopted.adopt.Goals as goal
 
-pub returns-then-is_empty-clause-sound : goal.returns-then-is_empty-clause-sound
-returns-then-is_empty-clause-sound g c =
-    of_any c.found.result _ (λ store clean ours rowids. absurd (not_ours c.schema.result.now c.args.connection.schema c.schema.ensures.value (c.is_empty.ensures.0 c.if-is_empty.true) ours))
+pub returns-in-Nothing-clause-sound : goal.returns-in-Nothing-clause-sound
+returns-in-Nothing-clause-sound g c =
+    of_any c.found.result _ (λ store clean ours rowids. absurd (nothing_present _ c.in-Nothing.is (c.tables_found.ensures.present (c.schema.ensures.value ∙ ours))))
 
-pub returns-then-is_empty-clause-stands : goal.returns-then-is_empty-clause-stands
-returns-then-is_empty-clause-stands g c =
-    weaker_if_ok c.found.result _ _ (λ store was_open clean i tabled. absurd (not_ours c.schema.result.now c.args.connection.schema c.schema.ensures.value (c.is_empty.ensures.0 c.if-is_empty.true) (tabled.serves (was_open clean)).schema_is)) c.found.ensures.was_open
+pub returns-in-Nothing-clause-stands : goal.returns-in-Nothing-clause-stands
+returns-in-Nothing-clause-stands g c =
+    weaker_if_ok c.found.result _ _ (λ store was_open clean i tabled. absurd (nothing_present _ c.in-Nothing.is (c.tables_found.ensures.present (c.schema.ensures.value ∙ (tabled.serves (was_open clean)).schema_is)))) c.found.ensures.was_open
 
-pub returns-clause-made_leaves : goal.returns-clause-made_leaves
-returns-clause-made_leaves g c =
-    of_any c.take_over.result _ (λ store clean none. absurd (true≢false (sym (c.is_empty.ensures.1 (ap (λ (s : Schema). s.tables) (c.schema.ensures.value ∙ none.schema_is))) ∙ c.if-is_empty.false)))
+pub returns-in-Nothing-clause-sound_first : goal.returns-in-Nothing-clause-sound_first
+returns-in-Nothing-clause-sound_first g c =
+    of_any c.found.result _ (λ store clean ours rowids. absurd (nothing_first _ c.in-Nothing.is (c.tables_found.ensures.first (c.schema.ensures.value ∙ ours))))
+
+pub returns-in-Nothing-clause-stands_first : goal.returns-in-Nothing-clause-stands_first
+returns-in-Nothing-clause-stands_first g c =
+    weaker_if_ok c.found.result _ _ (λ store was_open clean i tabled. absurd (nothing_first _ c.in-Nothing.is (c.tables_found.ensures.first (c.schema.ensures.value ∙ (tabled.keeps (was_open clean)).schema_is)))) c.found.ensures.was_open
+
+pub returns-in-Present-clause-made_leaves : goal.returns-in-Present-clause-made_leaves
+returns-in-Present-clause-made_leaves g c =
+    of_any c.take_over.result _ (λ store clean none. absurd (nothing_present _ (c.tables_found.ensures.nothing (c.schema.ensures.value ∙ none.schema_is)) c.in-Present.is))
+
+pub returns-in-Present-clause-sound_first : goal.returns-in-Present-clause-sound_first
+returns-in-Present-clause-sound_first g c =
+    of_any c.take_over.result _ (λ store clean ours rowids. absurd (present_first _ c.in-Present.is (c.tables_found.ensures.first (c.schema.ensures.value ∙ ours))))
+
+pub returns-in-Present-clause-stands_first : goal.returns-in-Present-clause-stands_first
+returns-in-Present-clause-stands_first g c =
+    weaker_if_ok c.take_over.result _ _ (λ store was_open clean i tabled. absurd (present_first _ c.in-Present.is (c.tables_found.ensures.first (c.schema.ensures.value ∙ (tabled.keeps (was_open clean)).schema_is)))) c.take_over.ensures.was_open
+
+pub returns-in-Present-clause-leaves_first : goal.returns-in-Present-clause-leaves_first
+returns-in-Present-clause-leaves_first g c =
+    weaker_if_ok c.take_over.result _ _ (λ store was_open clean i tabled. absurd (present_first _ c.in-Present.is (c.tables_found.ensures.first (c.schema.ensures.value ∙ (tabled.keeps (was_open clean)).schema_is)))) c.take_over.ensures.was_open
+
+pub returns-in-First-clause-made_leaves : goal.returns-in-First-clause-made_leaves
+returns-in-First-clause-made_leaves g c =
+    of_any c.take_over_first.result _ (λ store clean none. absurd (nothing_first _ (c.tables_found.ensures.nothing (c.schema.ensures.value ∙ none.schema_is)) c.in-First.is))
+
+pub returns-in-First-clause-sound : goal.returns-in-First-clause-sound
+returns-in-First-clause-sound g c =
+    of_any c.take_over_first.result _ (λ store clean ours rowids. absurd (present_first _ (c.tables_found.ensures.present (c.schema.ensures.value ∙ ours)) c.in-First.is))
+
+pub returns-in-First-clause-stands : goal.returns-in-First-clause-stands
+returns-in-First-clause-stands g c =
+    weaker_if_ok c.take_over_first.result _ _ (λ store was_open clean i tabled. absurd (present_first _ (c.tables_found.ensures.present (c.schema.ensures.value ∙ (tabled.serves (was_open clean)).schema_is)) c.in-First.is)) c.take_over_first.ensures.was_open
+
+pub returns-in-First-clause-leaves : goal.returns-in-First-clause-leaves
+returns-in-First-clause-leaves g c =
+    weaker_if_ok c.take_over_first.result _ _ (λ store was_open clean i tabled. absurd (present_first _ (c.tables_found.ensures.present (c.schema.ensures.value ∙ (tabled.serves (was_open clean)).schema_is)) c.in-First.is)) c.take_over_first.ensures.was_open

@@ -1,0 +1,216 @@
+//! Tables of the first schema, as the program made them before it kept instalments, are adopted.
+
+ghost use Rattle.std.specs.Prelude.{◌≡◌, false, IsTrue, IfOk};
+
+use super::stops::{Disks, MOST_CALLS, PAID, answered, fused, stopped};
+use super::{answered_over, refused_over};
+use mf_store_pages::{PageStore, open};
+use sqlite::{Alter, Connection, Error, Options};
+use sqlite_disk::Disk;
+use std::alloc::Global;
+use std::rt::HostRuntime;
+use std::test::Fail;
+
+/// Makes the tables, with a loan of 100000 cents over three months, of which 20000 and 50000 cents were paid back.
+const FIRST: &str = "\
+BEGIN; \
+CREATE TABLE meta (one INT NOT NULL, schema INTEGER NOT NULL, day TEXT NOT NULL, PRIMARY KEY (one)) STRICT; \
+CREATE TABLE offices (number INT NOT NULL, parent INTEGER, hkey TEXT NOT NULL UNIQUE, name TEXT NOT NULL, PRIMARY KEY \
+(number)) STRICT; \
+CREATE TABLE staff (office INTEGER NOT NULL, number INTEGER NOT NULL, name TEXT NOT NULL, role INTEGER NOT NULL, \
+PRIMARY KEY (office, number)) STRICT; \
+CREATE TABLE clients (office INTEGER NOT NULL, number INTEGER NOT NULL, name TEXT NOT NULL, PRIMARY KEY (office, \
+number)) STRICT; \
+CREATE TABLE charges (number INT NOT NULL, name TEXT NOT NULL, kind INTEGER NOT NULL, calc INTEGER NOT NULL, value \
+INTEGER NOT NULL, PRIMARY KEY (number)) STRICT; \
+CREATE TABLE products (number INT NOT NULL, name TEXT NOT NULL, method INTEGER NOT NULL, rate INTEGER NOT NULL, \
+frequency INTEGER NOT NULL, every INTEGER NOT NULL, principal_grace INTEGER NOT NULL, interest_grace INTEGER NOT NULL, \
+min_principal INTEGER NOT NULL, max_principal INTEGER NOT NULL, min_periods INTEGER NOT NULL, max_periods INTEGER NOT \
+NULL, strategy INTEGER NOT NULL, disbursement_charge INTEGER, instalment_charge INTEGER, overdue_charge INTEGER, \
+retired INTEGER NOT NULL, PRIMARY KEY (number)) STRICT; \
+CREATE TABLE loans (office INTEGER NOT NULL, number INTEGER NOT NULL, client INTEGER NOT NULL, product INTEGER NOT \
+NULL, principal INTEGER NOT NULL, periods INTEGER NOT NULL, stage INTEGER NOT NULL, approved TEXT, disbursed TEXT, \
+PRIMARY KEY (office, number)) STRICT; \
+CREATE TABLE entries (office INTEGER NOT NULL, loan INTEGER NOT NULL, seq INTEGER NOT NULL, kind INTEGER NOT NULL, day \
+TEXT NOT NULL, amount INTEGER NOT NULL, instalment INTEGER NOT NULL, portion INTEGER NOT NULL, receipt TEXT, staff \
+TEXT NOT NULL, reversed INTEGER NOT NULL, PRIMARY KEY (office, loan, seq)) STRICT; \
+CREATE TABLE receipts (office INTEGER NOT NULL, receipt TEXT NOT NULL, loan INTEGER NOT NULL, seq INTEGER NOT NULL, \
+PRIMARY KEY (office, receipt)) STRICT; \
+INSERT INTO meta VALUES (1, 1, '2024-03-31'); \
+INSERT INTO offices VALUES (1, NULL, '.', 'Head Office'); \
+INSERT INTO staff VALUES (1, 1, 'Head Manager', 3); \
+INSERT INTO products VALUES (1, 'P', 2, 1200, 2, 1, 0, 0, 1, 1000000, 1, 12, 1, NULL, NULL, NULL, 0); \
+INSERT INTO clients VALUES (1, 1, 'Amina'); \
+INSERT INTO loans VALUES (1, 1, 1, 1, 100000, 3, 300, '2024-01-31', '2024-01-31'); \
+INSERT INTO entries VALUES (1, 1, 1, 1, '2024-02-29', 20000, 0, 4, NULL, '1/1', 0); \
+INSERT INTO entries VALUES (1, 1, 2, 1, '2024-03-31', 50000, 0, 4, NULL, '1/1', 0); \
+COMMIT";
+
+/// What the repayments settle: the entry, the place, the instalment, the portion, how, and the cents.
+const SHARES: [[i64; 6]; 7] = [
+    [1, 1, 1, 3, 1, 1000],
+    [1, 2, 1, 4, 1, 19000],
+    [2, 1, 1, 4, 1, 14333],
+    [2, 2, 2, 3, 1, 667],
+    [2, 3, 2, 4, 1, 33333],
+    [2, 4, 3, 3, 1, 333],
+    [2, 5, 3, 4, 1, 1334],
+];
+
+const LOAN: &[u8] = b"1/1 GET /loans/0001-000001\n";
+
+/// Whether the tables could be made.
+fn makes_first<S: Alter>(connection: &mut Connection<S>) -> bool
+    ensures { IsTrue result → connection.new.in_transaction ≡ false }
+{
+    connection.execute_batch(FIRST).is_ok() && connection.is_autocommit()
+}
+
+fn number<S: Alter>(connection: &mut Connection<S>, sql: &str) -> Result<i64, Error>
+    ensures { connection.old.in_transaction ≡ false → connection.new.in_transaction ≡ false }
+{
+    connection.query_row(sql, &[])?.get(0)
+}
+
+/// Whether the table of shares holds just those of the two repayments.
+fn has_shares<S: Alter>(connection: &mut Connection<S>) -> Result<bool, Error>
+    ensures { connection.old.in_transaction ≡ false → connection.new.in_transaction ≡ false }
+{
+    let rows = connection.query_all(
+        "SELECT seq, place, instalment, portion, how, amount FROM shares ORDER BY seq, place",
+        &[],
+    )?;
+    for (row, wanted) in rows.iter().zip(SHARES.iter()) {
+        for (at, column) in wanted.iter().enumerate() {
+            let found: i64 = row.get(at)?;
+            if found != *column {
+                return Ok(false);
+            }
+        }
+    }
+    Ok(rows.len() == SHARES.len())
+}
+
+/// Whether the loan is told as it was paid back, and the tables are those of the second schema with the shares.
+fn is_brought_up<S: Alter + Drop>(
+    alloc: Global,
+    connection: Connection<S>,
+) -> Result<(bool, Connection<S>), Error>
+    requires { connection.in_transaction ≡ false }
+    ensures { IfOk result (λ r. r.1.in_transaction ≡ false) }
+{
+    let (told, mut connection) = answered_over(alloc, connection, LOAN);
+    let schema = number(&mut connection, "SELECT schema FROM meta")?;
+    let shares = has_shares(&mut connection)?;
+    Ok((
+        told.as_slice() == PAID.as_bytes() && schema == 2 && shares,
+        connection,
+    ))
+}
+
+/// Whether the tables are refused once they are changed so, and then stand as they were.
+fn is_refused<S: Alter + Drop>(
+    alloc: Global,
+    mut connection: Connection<S>,
+    change: &str,
+) -> Result<bool, Error> {
+    if !makes_first(&mut connection) {
+        return Ok(false);
+    }
+    let _changed = connection.execute(change, &[])?;
+    if !connection.is_autocommit() {
+        return Ok(false);
+    }
+    let schema = number(&mut connection, "SELECT schema FROM meta")?;
+    let (refused, mut connection) = refused_over(alloc, connection);
+    let after = number(&mut connection, "SELECT schema FROM meta")?;
+    Ok(refused && after == schema && connection.schema().tables.len() == 9)
+}
+
+fn new_tables(alloc: Global) -> Result<Connection<PageStore>, Fail>
+    ensures { IfOk result (λ connection. connection.in_transaction ≡ false) }
+{
+    match open(alloc) {
+        Ok(connection) => Ok(connection),
+        Err(_) => Err(Fail::new("a connection")),
+    }
+}
+
+#[test]
+fn tables_are_brought_up_once(rt: HostRuntime) -> Result<(), Fail> {
+    let mut tables = new_tables(rt.alloc())?;
+    if !makes_first(&mut tables) {
+        return Err(Fail::new("tables of the first schema"));
+    }
+    let (is_first, tables) = is_brought_up(rt.alloc(), tables)?;
+    assert!(rt; is_first);
+    let (is_second, _) = is_brought_up(rt.alloc(), tables)?;
+    assert!(rt; is_second);
+    Ok(())
+}
+
+#[test]
+fn rows_of_no_institution_are_refused(rt: HostRuntime) -> Result<(), Fail> {
+    let changes = [
+        "UPDATE entries SET staff = '1/9' WHERE seq = 2",
+        "UPDATE meta SET schema = 3",
+        "UPDATE meta SET schema = 2",
+        "UPDATE offices SET hkey = '.1.'",
+        "UPDATE entries SET day = '2024-04-01' WHERE seq = 2",
+    ];
+    for change in changes.iter() {
+        let tables = new_tables(rt.alloc())?;
+        assert!(rt; is_refused(rt.alloc(), tables, *change)?);
+    }
+    Ok(())
+}
+
+/// The files with the tables, and whether these were made before a file failed.
+fn with_first(alloc: Global, files: Disks) -> Result<(bool, Disks), Fail> {
+    if !files.log.may_be_used() || !files.db.may_be_used() {
+        return Err(Fail::new("a file that can be used"));
+    }
+    match Connection::open_files(alloc, files, Options::new(1)) {
+        Ok(mut connection) => {
+            let made = makes_first(&mut connection);
+            Ok((made, connection.into_store().close()))
+        }
+        Err((_, left)) => Ok((false, left.into_files())),
+    }
+}
+
+/// Whether the files, stopped where they failed, hold the loan if its tables were made; and whether they were adopted.
+fn holds_a_schema(alloc: Global, files: Disks) -> Result<(bool, bool), Fail> {
+    let (made, files) = with_first(alloc, files)?;
+    if !made {
+        let (seen, _) = answered(alloc, stopped(files), LOAN)?;
+        return Ok((!seen.is_empty(), false));
+    }
+    let (told, files) = answered(alloc, files, LOAN)?;
+    let (seen, _) = answered(alloc, stopped(files), LOAN)?;
+    Ok((seen.as_slice() == PAID.as_bytes(), !told.is_empty()))
+}
+
+#[test]
+fn each_stop_of_the_log_leaves_a_schema(rt: HostRuntime) -> Result<(), Fail> {
+    for calls in 0..MOST_CALLS {
+        let (holds, adopted) = holds_a_schema(rt.alloc(), fused(rt.alloc(), calls, u64::MAX))?;
+        assert!(rt; holds);
+        if adopted {
+            return Ok(());
+        }
+    }
+    Err(Fail::new("a run without a stop"))
+}
+
+#[test]
+fn each_stop_of_the_file_leaves_a_schema(rt: HostRuntime) -> Result<(), Fail> {
+    for calls in 0..MOST_CALLS {
+        let (holds, adopted) = holds_a_schema(rt.alloc(), fused(rt.alloc(), u64::MAX, calls))?;
+        assert!(rt; holds);
+        if adopted {
+            return Ok(());
+        }
+    }
+    Err(Fail::new("a run without a stop"))
+}

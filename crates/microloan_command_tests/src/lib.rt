@@ -1,0 +1,6 @@
+//! What the program's words ask for, and what its commands print, collect and serve, over an institution in vectors. They stand apart
+//! from the tests that need tables, so that the gate proves both side by side.
+#![tactic(auto)]
+
+#[cfg(test)]
+mod tests;

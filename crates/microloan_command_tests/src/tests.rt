@@ -1,0 +1,5 @@
+//! The command line and the commands.
+
+mod desk;
+mod printed;
+mod words;
