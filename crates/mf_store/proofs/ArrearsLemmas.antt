@@ -1,14 +1,10 @@
--- Offices' lines of active loans, as they are counted in turn.
-use Rattle.std.proofs.Common.{◌≡◌, ◌<◌, ◌+◌, ℕ, Bool, true, false, cond, ◌==◌, List, [], ◌∷◌, ◌++◌, map, length, take, get_or, slice_get, Option, Some, None, refl, sym, ap, ap₂, ◌∙◌, arith}
-use Rattle.std.specs.List.{AllByRecursion, flat_map, list_any}
+-- A loan as the report counts it, and offices' lines in turn.
+use Rattle.std.proofs.Common.{◌≡◌, ◌<◌, ◌+◌, ℕ, Bool, true, false, cond, ◌==◌, List, [], ◌∷◌, ◌++◌, map, length, take, get_or, Option, Some, None, refl, sym, ap, ap₂, ◌∙◌, arith}
+use Rattle.std.specs.List.{AllByRecursion, list_any}
 use Rattle.std.proofs.lemmas.Bool.Decides.{nat_tests}
-use Rattle.std.proofs.lemmas.Grind.{flat_map-append}
 use Rattle.std.proofs.lemmas.List.{take_more, map-append}
-use Rattle.std.proofs.lemmas.List.Concat.{flat_map-cons}
-use Rattle.std.proofs.lemmas.Option.{slice_get-get_or}
 use Rattle.mf_office.specs.declared.office.Office.{Office as OfficeShown}
-use Rattle.mf_arrears.specs.Line.{Loan as Aged, Line, line_of as line_of_loans}
-use Rattle.mf_model.specs.declared.loan.Stage.TheVariants.{Submitted}
+use Rattle.mf_arrears.specs.Line.{line_of as line_of_loans}
 use Rattle.mf_alloc.specs.Sums.{Sums, is_open}
 use Rattle.mf_model.specs.Accounts.{account_in, of_account, status_in}
 use Rattle.mf_model.specs.Stages.{stage_number}
@@ -22,25 +18,8 @@ use Rattle.mf_model.specs.Tree.{kept, seen_by, parent_of, Above, Ascending}
 use Rattle.mf_office.specs.Tree.{is_at_or_below}
 use Rattle.mf_store.specs.Arrears.{aged_rows, line_at}
 
--- ---- the loans of one office
+-- ---- one loan
 
-no_ledger : Ledger
-no_ledger = record { loan = record { client = 0; product = 0; principal = 0; periods = 0; stage = Submitted }; entries = [] }
-
-append_none : {A : Type 0} (xs : List A) → xs ++ [] ≡ xs
-append_none [] = refl
-append_none (x ∷ xs) = ap (λ l. x ∷ l) (append_none xs)
-
-one_more : (k : Catalogue) (ls : List Ledger) (d : ℕ) (found : List Aged) → d < length ls → ((l : Ledger) → slice_get ls d ≡ Some l → found ≡ if_active k.day (account_in k l)) → active_in k (take (d + 1) ls) ≡ active_in k (take d ls) ++ found
-one_more k ls d found low is =
-    ap (flat_map counts) (take_more ls d no_ledger low)
-    ∙ flat_map-append counts (take d ls) (get_or ls d no_ledger ∷ [])
-    ∙ ap (λ xs. flat_map counts (take d ls) ++ xs) (flat_map-cons counts (get_or ls d no_ledger) [] ∙ append_none (counts (get_or ls d no_ledger)) ∙ sym (is (get_or ls d no_ledger) (slice_get-get_or ls d no_ledger low)))
-  where
-    counts : Ledger → List Aged
-    counts l = if_active k.day (account_in k l)
-
--- what is told of an account that was handed out, and of none
 -- an account's instalments as they stand
 abbrev pub rows_of_account : Running → List Sums
 rows_of_account a = (state_of_loan a).rows
@@ -57,11 +36,6 @@ active_status k l sound open_is = go (account_in k l) refl open_is
     go : (o : Option Running) → account_in k l ≡ o → list_any is_open (of_account [] rows_of_account o) ≡ true → 300 ≡ of_account (stage_number l.loan.stage) status_of_loan o
     go None e h = absurd (let never : false ≡ true = h in cc)
     go (Some a) e h = let is : (status_of_loan a == 300) ≡ true = active-where_open a (sound a e) ∙ h in grind (arith, nat_tests)
-
--- one more loan is counted
-pub next_line : (k : Catalogue) (office : ℕ) (ls : List Ledger) (d : ℕ) (line new : Line) (found : List Aged) → d < length ls → ((l : Ledger) → slice_get ls d ≡ Some l → found ≡ if_active k.day (account_in k l))
-    → ((x : ℕ) (loans : List Aged) → line ≡ line_of_loans x loans → new ≡ line_of_loans x (loans ++ found)) → line ≡ line_of_loans office (active_in k (take d ls)) → new ≡ line_of_loans office (active_in k (take (d + 1) ls))
-next_line k office ls d line new found low is added before = added office (active_in k (take d ls)) before ∙ ap (line_of_loans office) (sym (one_more k ls d found low is))
 
 -- ---- office by office
 

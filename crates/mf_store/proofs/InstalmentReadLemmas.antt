@@ -54,7 +54,7 @@ pub sums_kept : (o : Option Running) → map sums_of (of_account [] instalments_
 sums_kept None = refl
 sums_kept (Some a) = numbered_sums 1 (state_of_loan a).rows
 
-numbered_whole : (n : ℕ) (rows : List Sums) → AreWhole rows → AllByRecursion (λ item. IsWhole (sums_of item)) (numbered_from (λ k row. (k, row)) n rows)
+pub numbered_whole : (n : ℕ) (rows : List Sums) → AreWhole rows → AllByRecursion (λ item. IsWhole (sums_of item)) (numbered_from (λ k row. (k, row)) n rows)
 numbered_whole n [] whole = tt
 numbered_whole n (row ∷ rows) whole = (All-head IsWhole row rows whole, numbered_whole (n + 1) rows (All-tail IsWhole row rows whole))
 

@@ -18,6 +18,8 @@ pub mod UseLemmas
 pub mod FirstLemmas
 pub mod VisibleLemmas
 pub mod OfficeRowsLemmas
+pub mod FoldLemmas
+pub mod RowsLemmas
 pub mod ArrearsLemmas
 pub mod CatalogueLemmas
 pub mod LoanLemmas
@@ -25,3 +27,5 @@ pub mod OneInstitution
 pub mod ChangedRowLemmas
 pub mod AccountCommitLemmas
 pub mod InstalmentReadLemmas
+pub mod OfficeLoansLemmas
+pub mod StatusLemmas

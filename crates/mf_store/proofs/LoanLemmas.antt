@@ -22,7 +22,7 @@ use Rattle.mf_model.specs.declared.loan.Loan.{Loan}
 use Rattle.mf_model.specs.declared.loan.LoanLine.{LoanLine}
 use Rattle.mf_model.specs.declared.loan.Stage.{Stage}
 use Rattle.mf_model.specs.declared.loan.Stage.TheVariants.{Submitted, Approved, Disbursed, Withdrawn, Rejected}
-use Rattle.mf_model.specs.Accounts.{account_in, of_account, running, running_from, status_in, terms_in}
+use Rattle.mf_model.specs.Accounts.{of_account, running, running_from, status_in, terms_in}
 use Rattle.mf_model.specs.Desk.{loan_added, loan_staged, loan_entered}
 use Rattle.mf_model.specs.Institution.{Institution, Catalogue, Ledger, Office, Rows, numbered, with_numbered, with_rows}
 use Rattle.mf_model.specs.Loans.{staged, reversed, with_entries, lines_from, lines_above}
@@ -427,17 +427,6 @@ account_replayed i account loan day entries a entered is there disbursed = go (l
         let same : l.loan ≡ loan = cc in
         (λ t. option_map replayed (running_from (same t) l.entries (disbursed_on (same t).stage) (terms_in k (same t).product)))
         ∙ (λ t. option_map replayed (running_from loan (sym e t) (disbursed t) (terms_in k loan.product))) ∙ is
-
--- the status of a disbursed loan
-pub status_is : (i : Institution) (account : Account) (l : Ledger) (a : Replayed) → ledger_at account i ≡ Some l → account_at account i ≡ Some a → status_of_loan a.loan ≡ status_in i.catalogue l
-status_is i account l a there is = go (account_in k l) refl (sym (ap (λ o. option_map replayed (account_of k o)) there) ∙ is)
-  where
-    k : Catalogue
-    k = i.catalogue
-
-    go : (o : Option Running) → account_in k l ≡ o → option_map replayed o ≡ Some a → status_of_loan a.loan ≡ of_account (stage_number l.loan.stage) status_of_loan o
-    go None e h = absurd (let never : None ≡ Some a = h in cc)
-    go (Some r) e h = let found : Some (replayed r) ≡ Some a = h in let same : replayed r ≡ a = cc in ap (λ (b : Replayed). status_of_loan b.loan) (sym same)
 
 -- the status of one that is not disbursed
 pub status_before : (k : Catalogue) (l : Ledger) (loan : Loan) → l.loan ≡ loan → disbursed_on loan.stage ≡ None → stage_number loan.stage ≡ status_in k l

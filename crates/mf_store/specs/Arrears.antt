@@ -1,7 +1,8 @@
 -- What the report of arrears is made of, a loan and an office at a time.
-use Rattle.std.specs.Prelude.{ℕ, cond, List, [], ◌∷◌, pos, Option, Some, None}
-use Rattle.std.specs.List.{list_any}
-use Rattle.mf_alloc.specs.Sums.{Sums, is_open}
+use Rattle.std.specs.Prelude.{◌≡◌, ◌<◌, ℕ, cond, List, [], ◌∷◌, map, pos}
+use Rattle.std.specs.List.{AllByRecursion, flat_map, list_any}
+use Rattle.sqlite.specs.Order.{Row}
+use Rattle.mf_alloc.specs.Sums.{Sums, IsWhole, is_open}
 use Rattle.mf_account.specs.Balance.{open_in}
 use Rattle.mf_office.specs.declared.office.Office.{Office}
 use Rattle.mf_arrears.specs.Ageing.{days_overdue}
@@ -9,12 +10,9 @@ use Rattle.mf_arrears.specs.Line.{Loan as Aged, Line, line_of}
 use Rattle.mf_model.specs.Arrears.{active_in}
 use Rattle.mf_model.specs.Institution.{Institution}
 use Rattle.mf_model.specs.Store.{rows_at}
-use Rattle.mf_store.specs.declared.arrears.ActiveLoan.{ActiveLoan}
-
--- a loan that counts in its office's line; none where there is none
-abbrev pub active_told : Option ActiveLoan → List Aged
-active_told None = []
-active_told (Some loan) = record { principal = loan.principal; days = loan.days } ∷ []
+use Rattle.mf_store_records.specs.Rows.{instalment_row as instalment_stored}
+use Rattle.mf_store_records.specs.declared.instalments.InstalmentRow.{InstalmentRow}
+use Rattle.mf_store_accounts.specs.Flat.{instalment_in}
 
 -- the line of an office as it is shown
 abbrev pub line_at : Institution → Office → Line
@@ -23,3 +21,32 @@ line_at i f = line_of f.number (active_in i.catalogue (rows_at f.number i).loans
 -- a loan as the report counts it, by its instalments; none where nothing is outstanding
 abbrev pub aged_rows : ℕ → List Sums → List Aged
 aged_rows today rows = cond (list_any is_open rows) (record { principal = open_in 3 rows; days = pos (days_overdue rows today) } ∷ []) []
+
+-- a loan by its number, with its instalments and their numbers
+abbrev pub Numbered : Type 0
+Numbered = ℕ × List (ℕ × Sums)
+
+-- the rows of a loan's instalments: office
+abbrev pub rows_of_loan : ℕ → Numbered → List InstalmentRow
+rows_of_loan office loan = map (instalment_in office loan.0) loan.1
+
+-- the rows of an office's instalments, by loan and number: loan by loan, those of the loan
+abbrev pub rows_of_office : ℕ → List Numbered → List InstalmentRow
+rows_of_office office loans = flat_map (rows_of_loan office) loans
+
+-- the numbers of the loans are above this one, and ascend
+abbrev pub AreAbove : ℕ → List Numbered → Type 0
+AreAbove n [] = Unit {0}
+AreAbove n (l ∷ ls) = (n < l.0) × AreAbove l.0 ls
+
+-- each instalment has its four sums of each kind
+abbrev pub AreWholeLoans : List Numbered → Type 0
+AreWholeLoans loans = AllByRecursion (λ loan. AllByRecursion (λ item. IsWhole item.1) loan.1) loans
+
+-- the loans that count on a day: those where something is outstanding in one of their instalments
+abbrev pub aged_loans : ℕ → List Numbered → List Aged
+aged_loans today loans = flat_map (λ loan. aged_rows today (map (λ item. item.1) loan.1)) loans
+
+-- rows that are those of an office's instalments make of an empty line the line of its loans on that day
+abbrev pub IsLineOf : ℕ → List Row → Line → Line → Type 0
+IsLineOf today rows empty line = (office : ℕ) (loans : List Numbered) → AreAbove 0 loans → AreWholeLoans loans → rows ≡ map instalment_stored (rows_of_office office loans) → empty ≡ line_of office [] → line ≡ line_of office (aged_loans today loans)

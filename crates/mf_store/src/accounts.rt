@@ -1,4 +1,5 @@
-//! The accounts of loans: each is replayed from the loan's row, its product's terms and its entries.
+//! The accounts of loans: each is replayed from the loan's row, its product's terms and its entries. In a list of loans
+//! none is.
 
 ghost use Rattle.std.specs.Prelude.{◌≡◌, ◌≤◌, ◌-◌, ◌++◌, ℕ, List, [], length, map, option_map, Some, OnOk, IfOk, IfErr};
 ghost use Rattle.std.specs.List.{AllByRecursion};
@@ -20,6 +21,7 @@ use crate::kept::is_active;
 use crate::known::News;
 use crate::loans::{account_number, disbursal_day, loan_from};
 use crate::receipts::writes_of;
+use crate::statuses::settled_status;
 use crate::store::Store;
 use crate::stored::stored;
 use crate::visible::office_number;
@@ -196,27 +198,21 @@ impl<S: Alter> Store<S> {
         Ok(Some(replayed))
     }
 
-    /// The status of a loan that is there and was disbursed on this day. Only where nothing is outstanding in the instalments
-    /// that are kept are its entries replayed.
-    fn disbursed_status(
-        &mut self,
-        alloc: Global,
-        account: Account,
-        loan: &Loan,
-        day: Day,
-    ) -> Result<u16, Fault>
+    /// The status of a loan that is there and was disbursed. Its entries are asked for only where nothing is outstanding in the
+    /// instalments that are kept, and they are not replayed.
+    fn disbursed_status(&mut self, alloc: Global, account: Account) -> Result<u16, Fault>
         ensures kept { Stays S.Store self.old self.new }
         ensures gives_up { IfErr result (λ fault. fault ≡ F20) }
         ensures open { IsClean S.Store self.new → OnOk result (IsOpen S.Store self.new) }
-        ensures value { IsClean S.Store self.new → (i : Institution) → StandsFor S.Store self.old i → (l : ModelLedger) → ledger_at account i ≡ Some l → l.loan ≡ loan.now → disbursed_on loan.now.stage ≡ Some day → IfOk result (λ status. status ≡ status_in i.catalogue l) }
+        ensures value { IsClean S.Store self.new → (i : Institution) → StandsFor S.Store self.old i → (l : ModelLedger) → ledger_at account i ≡ Some l → (day : ℕ) → disbursed_on l.loan.stage ≡ Some day → IfOk result (λ status. status ≡ status_in i.catalogue l) }
     {
         let Account { office, number } = account;
         let rows = self.instalments_at(alloc, Account { office, number })?;
         if is_active(&rows) {
             return Ok(ACTIVE);
         }
-        let replayed = self.replay(alloc, Account { office, number }, loan, day)?;
-        Ok(replayed.status())
+        let entries = self.entries_at(alloc, Account { office, number })?;
+        settled_status(&entries, &rows)
     }
 
     /// The status of a loan that is there: its stage's number, or what its account says.
@@ -228,7 +224,7 @@ impl<S: Alter> Store<S> {
     {
         match disbursal_day(loan) {
             None => Ok(loan.stage.status()),
-            Some(day) => self.disbursed_status(alloc, account, loan, day),
+            Some(_) => self.disbursed_status(alloc, account),
         }
     }
 
@@ -267,7 +263,7 @@ impl<S: Alter> Store<S> {
     }
 
     /// The first 100 loans of an office whose number is above one, by number: one query over the range of their keys,
-    /// and each disbursed one's account.
+    /// and for each disbursed one that of its instalments, and of its entries where none of these is open.
     pub fn loans_above(
         &mut self,
         alloc: Global,

@@ -83,7 +83,7 @@ fn instalment_of(
 }
 
 /// The instalment of a row.
-fn instalment_from(row: &InstalmentRow) -> Result<Instalment, Fault>
+pub(crate) fn instalment_from(row: &InstalmentRow) -> Result<Instalment, Fault>
     ensures row { IfOk result (λ found. (office loan number : ℕ) (sums : Sums) → IsWhole sums → row.now ≡ instalment_in office loan (number, sums) → found ≡ sums) }
     ensures gives_up { IfErr result (λ fault. fault ≡ F20) }
 {

@@ -7,7 +7,9 @@ ghost use Rattle.mf_model.specs.Institution.{Institution, newly_made, product_in
 ghost use Rattle.mf_model.specs.Store.{counts_at, catalogue_counts, role_of};
 ghost use Rattle.mf_model.specs.Tree.{is_there};
 ghost use Rattle.mf_store_accounts.specs.Flat.{key_at, tables_of};
-ghost use Rattle.mf_store_records.specs.Rows.{loan_row, office_row, is_loan_above, is_in_range};
+ghost use Rattle.mf_store_records.specs.Rows.{loan_row, office_row, is_loan_above, is_in_range, is_instalment_in};
+ghost use Rattle.mf_arrears.specs.Line.{line_of as line_of_loans};
+ghost use Rattle.mf_store.specs.Arrears.{Numbered, AreAbove, AreWholeLoans, rows_of_office, aged_loans};
 ghost use Rattle.mf_store_records.specs.Calls.{OnlyFaultsShut};
 ghost use Rattle.mf_store_records.specs.Writes.{schema_of, Holds};
 ghost use Rattle.mf_store.specs.Facts.{nothing_known};
@@ -16,10 +18,12 @@ ghost use Rattle.mf_store.specs.Stands.{IsTabled, HasGoodDisk, LeavesTables, IsU
 
 use crate::first::first_writes;
 use crate::known::{Known, News};
+use crate::office_line::read_line;
+use mf_arrears::OfficeLine;
 use mf_base::{Day, Fault};
 use mf_catalog::Product;
 use mf_model::{CatalogueCounts, Counts, laws};
-use mf_office::{Caller, Key, Role};
+use mf_office::{Caller, Key, OfficeNo, Role};
 use mf_store_records::{
     Listed, StoreWrite, Table, find_row, list_rows, loans_above, offices_within,
 };
@@ -115,6 +119,17 @@ impl<S: Alter> Store<S> {
         ensures rows { IsClean S.Store self.new → (i : Institution) → StandsFor S.Store self.old i → IfOk result (λ rows. rows.items ≡ map office_row (filter (is_in_range low.now high.now) (tables_of i).offices)) }
     {
         offices_within(&mut self.connection, low, high)
+    }
+
+    /// An office's line on a day, by one query over the instalments of its loans.
+    pub(crate) fn read_line(&mut self, office: OfficeNo, today: Day) -> Result<OfficeLine, Fault>
+        ensures kept { Stays S.Store self.old self.new }
+        ensures gives_up { IfErr result (λ fault. fault ≡ F20) }
+        ensures open { IsClean S.Store self.new → OnOk result (IsOpen S.Store self.new) }
+        ensures line { IsClean S.Store self.new → (i : Institution) → StandsFor S.Store self.old i → (loans : List Numbered) → AreAbove 0 loans → AreWholeLoans loans
+            → filter (is_instalment_in office) (tables_of i).instalments ≡ rows_of_office office loans → IfOk result (λ line. line ≡ line_of_loans office (aged_loans today loans)) }
+    {
+        read_line(&mut self.connection, office, today)
     }
 
     /// A new institution on this business day where there are no tables yet, made in one commit. The day is at most 2099-12-31. The
