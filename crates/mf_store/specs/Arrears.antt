@@ -26,7 +26,7 @@ aged_rows today rows = cond (list_any is_open rows) (record { principal = open_i
 abbrev pub Numbered : Type 0
 Numbered = ℕ × List (ℕ × Sums)
 
--- the rows of a loan's instalments: office
+-- the rows of a loan's instalments, in this office
 abbrev pub rows_of_loan : ℕ → Numbered → List InstalmentRow
 rows_of_loan office loan = map (instalment_in office loan.0) loan.1
 
