@@ -4,6 +4,7 @@ mod arrears;
 mod branches;
 mod charged;
 mod corrected;
+mod listed;
 mod paid;
 mod refused;
 mod rows;
