@@ -15,14 +15,6 @@ fn words_of(alloc: Global, line: &str) -> Result<Vec<String>, AllocError> {
     Ok(all)
 }
 
-/// The schedule that words ask for, where they do.
-fn schedule_asked(alloc: Global, words: &[String]) -> Option<ScheduleWords> {
-    match command(alloc, words) {
-        Ok(Command::Schedule(asked)) => Some(asked),
-        _ => None,
-    }
-}
-
 /// The line that is said of words that are wrong.
 fn line_of(rt: &impl Abort, alloc: Global, line: &str) -> Result<String, AllocError> {
     let words = words_of(alloc, line)?;
@@ -42,7 +34,9 @@ fn reads_a_schedule(rt: HostRuntime) -> Result<(), Fail> {
         alloc,
         "microloan schedule --method declining-equal-principal --principal 100000 --rate 1200 --periods 3 --day 2024-01-31",
     )?;
-    let asked = schedule_asked(alloc, &words).ok_or("read")?;
+    let Ok(Command::Schedule(asked)) = command(alloc, &words) else {
+        return Err(Fail::new("a schedule"));
+    };
     let wanted = ScheduleWords {
         method: Method::EqualPrincipal,
         principal: 100000,
@@ -65,7 +59,9 @@ fn reads_every_option(rt: HostRuntime) -> Result<(), Fail> {
         alloc,
         "microloan schedule --interest-grace=1 --principal-grace 2 --every 52 --frequency weeks --day 2099-12-31 --periods 360 --rate 100000 --principal 1000000000000 --method flat",
     )?;
-    let asked = schedule_asked(alloc, &words).ok_or("read")?;
+    let Ok(Command::Schedule(asked)) = command(alloc, &words) else {
+        return Err(Fail::new("a schedule"));
+    };
     let wanted = ScheduleWords {
         method: Method::Flat,
         principal: 1_000_000_000_000,
