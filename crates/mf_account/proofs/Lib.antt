@@ -25,3 +25,4 @@ pub mod ClearingLemmas
 pub mod ActiveLemmas
 pub mod LawfulLemmas
 pub mod ToldLemmas
+pub mod ByDayLemmas

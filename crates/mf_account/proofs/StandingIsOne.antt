@@ -195,18 +195,22 @@ fold-placed k order (x ∷ xs) up earlier numbers =
           })
     ]
 
-pub standing-is-one : StandingIsOne
-standing-is-one n day entries are =
+standing-placed : (entries : List Entry) → ((i : ℕ) → i < length entries → (entry_at entries i).seq ≡ i + 1) → IsStandingOf entries (standing entries)
+standing-placed entries numbers =
     let all : IsPlaced [] entries (standing entries) =
-    fold-placed 1 [] entries tt (λ e among. absurd among) (numbered-from 1 entries (λ i within. let number = are.numbers i within in omega (arith, number))) in
-    let own : IsStandingOf entries (standing entries) = record {
+    fold-placed 1 [] entries tt (λ e among. absurd among) (numbered-from 1 entries (λ i within. let number = numbers i within in omega (arith, number))) in
+    record {
       ascends = all.up;
       from = λ e among. elim (all.from e among) [ inl before ↦ absurd before | inr later ↦ later ];
       to = all.to;
-    } in (
-      own,
-      λ others is.
-          ascending-unique others (standing entries) is.ascends own.ascends
-          (λ e among. let both = is.from e among in own.to e both.0 both.1)
-          (λ e among. let both = own.from e among in is.to e both.0 both.1),
-    )
+    }
+
+pub standing-alone : (entries : List Entry) → ((i : ℕ) → i < length entries → (entry_at entries i).seq ≡ i + 1) → (others : List Entry) → IsStandingOf entries others → others ≡ standing entries
+standing-alone entries numbers others is =
+    let own = standing-placed entries numbers in
+    ascending-unique others (standing entries) is.ascends own.ascends
+    (λ e among. let both = is.from e among in own.to e both.0 both.1)
+    (λ e among. let both = own.from e among in is.to e both.0 both.1)
+
+pub standing-is-one : StandingIsOne
+standing-is-one n day entries are = (standing-placed entries are.numbers, standing-alone entries are.numbers)

@@ -1,8 +1,9 @@
 -- The standing entries of a loan, in order.
-use Rattle.std.specs.Prelude.{◌≡◌, ℕ, Bool, ◌&&◌, ◌||◌, ◌==◌, nat_lt, if◌then◌else◌, List, [], ◌∷◌, fold, map, slice_index_or, slice_set, None, false}
+use Rattle.std.specs.Prelude.{◌≡◌, ℕ, Bool, ◌&&◌, ◌||◌, ◌==◌, nat_lt, if◌then◌else◌, List, [], ◌∷◌, fold, map, slice_index_or, slice_set, None, false, ◌+◌}
 use Rattle.mf_alloc.specs.declared.row.Portion.TheVariants.{Principal}
 use Rattle.mf_account.specs.declared.entry.Kind.TheVariants.{Repay}
 use Rattle.mf_account.specs.declared.entry.Entry.{Entry}
+use Rattle.mf_account.specs.declared.replay.Place.{Place}
 
 -- by day, then by number
 abbrev pub is_before : Entry → Entry → Bool
@@ -55,3 +56,8 @@ NoneBefore e (x ∷ xs) = (is_before x e ≡ false) × NoneBefore e xs
 abbrev pub IsInOrder : List Entry → Type 0
 IsInOrder [] = Unit {0}
 IsInOrder (x ∷ xs) = NoneBefore x xs × IsInOrder xs
+
+-- the places of the entries not reversed, in a list whose first has the place k
+abbrev pub places_from : ℕ → List Entry → List Place
+places_from k [] = []
+places_from k (e ∷ es) = if e.reversed then places_from (k + 1) es else record { day = e.day; at = k } ∷ places_from (k + 1) es

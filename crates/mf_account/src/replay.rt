@@ -1,14 +1,15 @@
-ghost use Rattle.std.specs.Prelude.{◌≡◌, ℕ, ◌<◌, ◌≤◌, ◌∷◌, [], ◌++◌, IfOk, OnOk, IsOkUnless, length, map, All, insert, slice_index};
+ghost use Rattle.std.specs.Prelude.{◌≡◌, ℕ, ◌+◌, ◌<◌, ◌≤◌, ◌∷◌, [], ◌++◌, IfOk, OnOk, IsOkUnless, length, map, All, insert, slice_index};
 ghost use Rattle.std.specs.List.{Contains};
 ghost use Rattle.mf_account.specs.Account.{row_of as first_row, first_state, state_of, settled_of, after_all, settled_by, orders_by};
-ghost use Rattle.mf_account.specs.Standing.{is_before as comes_before, placed, standing, entries_at, with_mark, IsInOrder};
+ghost use Rattle.mf_account.specs.Standing.{is_before as comes_before, placed, standing, entry_at, entries_at, with_mark, IsInOrder, places_from};
 ghost use Rattle.mf_account.specs.Applicable.{AreApplicable};
+ghost use Rattle.mf_account.specs.declared.replay.Place.{Place as PlaceRecord};
 
 use crate::apply::apply_entry;
 use crate::entry::Entry;
 use crate::settled::{Book, Settled};
 use mf_alloc::{Row, Strategy};
-use mf_base::Fault;
+use mf_base::{Day, Fault};
 use mf_schedule::Instalment;
 use std::alloc::Global;
 
@@ -53,19 +54,49 @@ pub(crate) fn place_in(order: &[usize], at: usize) -> usize
     0
 }
 
-/// The places of the standing entries, in their order.
+/// A standing entry's day, and where it is among all entries.
+#[derive(Clone, Copy, Debug)]
+struct Place {
+    day: Day,
+    at: usize,
+}
+
+/// The places of the standing entries, in the order of their numbers.
+fn standing_places(alloc: Global, entries: &[Entry]) -> Result<Vec<Place>, Fault>
+    ensures places { IfOk result (λ places. places.items ≡ places_from 0 entries.now) }
+    ensures only { IsOkUnless result Fault.F20 }
+{
+    let mut places = Vec::new(alloc);
+    for k in 0..entries.len() {
+        if !entries[k].reversed {
+            places.push(Place {
+                day: entries[k].day,
+                at: k,
+            })?;
+        }
+    }
+    Ok(places)
+}
+
+/// Where places are among all entries.
+fn all_at(alloc: Global, places: &[Place]) -> Result<Vec<usize>, Fault>
+    ensures all { IfOk result (λ order. order.items ≡ map (λ (place : PlaceRecord). place.at) places.now) }
+    ensures only { IsOkUnless result Fault.F20 }
+{
+    let order = places.iter().map(|place| place.at).collect(alloc)?;
+    Ok(order)
+}
+
+/// The places of the standing entries, in their order. It sorts them by day, so that no entry is held against all others.
 pub(crate) fn standing_order(alloc: Global, entries: &[Entry]) -> Result<Vec<usize>, Fault>
+    requires numbers { (i : ℕ) → i < length entries.now → (entry_at entries.now i).seq ≡ i + 1 }
     ensures within { IfOk result (λ order. All (λ i. i < length entries.now) order.items) }
     ensures order { IfOk result (λ order. entries_at entries.now order.items ≡ standing entries.now) }
     ensures only { IsOkUnless result Fault.F20 }
 {
-    let mut order = Vec::new(alloc);
-    for k in 0..entries.len() {
-        if !entries[k].reversed {
-            let at = position(entries, &order, &entries[k]);
-            order.insert(at, k)?;
-        }
-    }
+    let mut places = standing_places(alloc, entries)?;
+    places.sort_by_key(|place| place.day)?;
+    let order = all_at(alloc, &places)?;
     Ok(order)
 }
 
