@@ -7,7 +7,7 @@ use std::alloc::{AllocError, Global};
 use std::test::Fail;
 
 /// Sheets, each collected over a new institution, and their results without the heading.
-const FORMS: [(&[u8], &[u8]); 16] = [
+const FORMS: [(&[u8], &[u8]); 17] = [
     // nothing, and the heading alone, in any case of ASCII and with spaces and tabs
     (b"", b""),
     (b"receipt,loan,date,amount", b""),
@@ -40,6 +40,15 @@ const FORMS: [(&[u8], &[u8]); 16] = [
     (
         b"\"R\n1\",0001-000001,2024-02-29,200\nR-2,0001-000001,2024-02-29,200\n",
         b"\"R\n1\",0001-000001,2024-02-29,200,F1\nR-2,0001-000001,2024-02-29,200,entered\n",
+    ),
+    // all that LibreOffice writes at once, with a decimal comma in an amount and a line after the broken one
+    (
+        b"\xef\xbb\xbfreceipt,loan,date,amount\r\n\"R,1\",0001-000001,2024-02-29,200\r\n\
+\"R\"\"2\",0001-000001,2024-02-29,1.5\r\n\"R\n3\",0001-000001,2024-02-29,200\r\n\
+R-4,0001-000001,2024-02-29,\"1,50\"\r\nR-5,0001-000001,2024-03-31,500\r\n",
+        b"\"R,1\",0001-000001,2024-02-29,200,entered\n\"R\"\"2\",0001-000001,2024-02-29,1.5,entered\n\
+\"R\n3\",0001-000001,2024-02-29,200,F1\nR-4,0001-000001,2024-02-29,\"1,50\",F1\n\
+R-5,0001-000001,2024-03-31,500,entered\n",
     ),
     // spaces and tabs round a field don't count, and stand in the results
     (
