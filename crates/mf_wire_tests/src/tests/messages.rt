@@ -54,14 +54,14 @@ fn gives_up_before_reading(rt: HostRuntime) -> Result<(), Fail> {
 fn assert_response(
     rt: &impl Abort,
     alloc: Global,
-    stream: &str,
+    stream: &[u8],
     status_line: &str,
     body: &str,
     is_sent: bool,
 ) -> Result<(), Fail> {
     let desk = Desk::new(alloc)?;
     let mut books = new_books(alloc)?;
-    let (answered, written) = served(alloc, &desk, &mut books, stream.as_bytes())?;
+    let (answered, written) = served(alloc, &desk, &mut books, stream)?;
     assert!(rt; answered);
     let length = body.len();
     let sent = if is_sent { body } else { "" };
@@ -76,7 +76,7 @@ fn assert_response(
 const OFFICES: &str = "{\"offices\":[{\"name\":\"Head Office\",\"number\":1,\"parent\":null}]}";
 
 /// A message that changes nothing, the status that answers it with its phrase, and the body.
-const ANSWERED: [(&str, &str, &str); 11] = [
+const ANSWERED: [(&str, &str, &str); 16] = [
     (
         "GET /offices HTTP/1.0\r\nX-Staff: 1/1\r\n\r\n",
         "200 OK",
@@ -118,6 +118,31 @@ const ANSWERED: [(&str, &str, &str); 11] = [
         "{\"fault\":\"F1\"}",
     ),
     (
+        "GET /offices HTTP/1.1\r\nX-Staff: 1/1\r\nX-Staff: 1/1\r\n\r\n",
+        "400 Bad Request",
+        "{\"fault\":\"F1\"}",
+    ),
+    (
+        "POST /clients HTTP/1.1\r\nX-Staff: 1/1\r\nContent-Length: 27, 27\r\n\r\n{\"office\":1,\"name\":\"Amina\"}",
+        "400 Bad Request",
+        "{\"fault\":\"F1\"}",
+    ),
+    (
+        "GET /offices HTTP/1.1\r\nX-Staff: 1/1\r\nContent-Length: +5\r\n\r\nabcde",
+        "400 Bad Request",
+        "{\"fault\":\"F1\"}",
+    ),
+    (
+        "GET /offices HTTP/1.1\r\nX-Staff: 1/1\r\nContent-Length: 1048577\r\n\r\n",
+        "400 Bad Request",
+        "{\"fault\":\"F1\"}",
+    ),
+    (
+        "GET /offices HTTP/1.1\r\nX-Staff: 1/1\r\nTransfer-Encoding: identity\r\n\r\n",
+        "400 Bad Request",
+        "{\"fault\":\"F1\"}",
+    ),
+    (
         "POST /clients HTTP/1.1\r\nX-Sta",
         "400 Bad Request",
         "{\"fault\":\"F1\"}",
@@ -137,7 +162,27 @@ const ANSWERED: [(&str, &str, &str); 11] = [
 #[test]
 fn messages_without_a_change(rt: HostRuntime) -> Result<(), Fail> {
     for (stream, status_line, body) in ANSWERED {
-        assert_response(&rt, rt.alloc(), stream, status_line, body, true)?;
+        assert_response(&rt, rt.alloc(), stream.as_bytes(), status_line, body, true)?;
+    }
+    Ok(())
+}
+
+/// A body of 1,048,576 bytes arrives, and of one of a byte more the head is refused.
+#[test]
+fn the_longest_body(rt: HostRuntime) -> Result<(), Fail> {
+    let alloc = rt.alloc();
+    for (length, status_line, body) in [
+        (1048576usize, "200 OK", OFFICES),
+        (1048577, "400 Bad Request", "{\"fault\":\"F1\"}"),
+    ] {
+        let head = format!(in alloc;
+            "GET /offices HTTP/1.1\r\nX-Staff: 1/1\r\nContent-Length: {length}\r\n\r\n"
+        )?;
+        let mut stream = Vec::from_slice(alloc, head.as_bytes())?;
+        for _ in 0..length {
+            stream.push(b' ')?;
+        }
+        assert_response(&rt, alloc, stream.as_slice(), status_line, body, true)?;
     }
     Ok(())
 }
@@ -170,13 +215,13 @@ const ANSWERED_TO_HEAD: [(&str, &str, &str); 4] = [
 #[test]
 fn responses_to_head(rt: HostRuntime) -> Result<(), Fail> {
     for (stream, status_line, body) in ANSWERED_TO_HEAD {
-        assert_response(&rt, rt.alloc(), stream, status_line, body, false)?;
+        assert_response(&rt, rt.alloc(), stream.as_bytes(), status_line, body, false)?;
     }
     let cut = "HEAD /offices HTTP/1.1\r\nX-Sta";
     assert_response(
         &rt,
         rt.alloc(),
-        cut,
+        cut.as_bytes(),
         "400 Bad Request",
         "{\"fault\":\"F1\"}",
         true,
@@ -282,22 +327,35 @@ fn one_byte_a_call(rt: HostRuntime) -> Result<(), Fail> {
     Ok(())
 }
 
-/// The store gives up at its first call: the message is answered by F20, and the same message is served afterwards.
-#[test]
-fn a_store_that_gives_up(rt: HostRuntime) -> Result<(), Fail> {
-    let alloc = rt.alloc();
+const GIVEN_UP: &str =
+    "HTTP/1.1 503 Service Unavailable\r\nContent-Type: application/json\r\nContent-Length: 15\r\nConnection: close\r\n\r\n{\"fault\":\"F20\"}";
+
+/// Whether a message is answered by F20 where the store gives up after so many calls. If so there is no client, and the
+/// same message is served afterwards.
+fn is_given_up(rt: &impl Abort, alloc: Global, calls: u32) -> Result<bool, Fail> {
     let desk = Desk::new(alloc)?;
     let mut books = new_books(alloc)?;
-    books.refuse_after(0);
+    books.refuse_after(calls);
     let (answered, written) = served(alloc, &desk, &mut books, CLIENT.as_bytes())?;
     assert!(rt; answered);
-    assert!(rt;
-        written
-            .as_slice()
-            .starts_with(b"HTTP/1.1 503 Service Unavailable\r\n")
-    );
-    assert!(rt; written.as_slice().ends_with(b"\r\n\r\n{\"fault\":\"F20\"}"));
+    if written.as_slice() == CREATED.as_bytes() {
+        return Ok(false);
+    }
+    assert_eq!(rt; written.as_slice(), GIVEN_UP.as_bytes());
+    assert_no_client(rt, alloc, &mut books);
     let (_, written) = served(alloc, &desk, &mut books, CLIENT.as_bytes())?;
     assert_eq!(rt; written.as_slice(), CREATED.as_bytes());
-    Ok(())
+    Ok(true)
+}
+
+/// Each call of the store gives up in turn: at least the one that finds the caller, and the one that adds the client.
+#[test]
+fn a_store_that_gives_up(rt: HostRuntime) -> Result<(), Fail> {
+    for calls in 0..1000 {
+        if !is_given_up(&rt, rt.alloc(), calls)? {
+            assert!(rt; calls > 1);
+            return Ok(());
+        }
+    }
+    Err(Fail::from("every message was refused"))
 }
