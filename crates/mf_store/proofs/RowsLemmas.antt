@@ -23,7 +23,7 @@ use Rattle.mf_store.proofs.StandLemmas.{both_on_ok}
 use Rattle.sqlite_trees.specs.declared.store.Store.{Ghosts}
 use Rattle.sqlite.specs.Tree.{Trees}
 use Rattle.mf_store.specs.Arrears.{Numbered, AreAbove, AreWholeLoans, rows_of_office, aged_loans, IsLineOf}
-use Rattle.mf_store.specs.Folding.{IsKept, Folds}
+use Rattle.mf_store.specs.Folding.{IsKept, Folds, Refuses}
 
 -- what begins an answer begins it over the same tables
 begins_same : (sql : List ℕ) (params : Row) (was is : State) (rows : List Row) → is.now ≡ was.now → Begins sql params is rows → Begins sql params was rows
@@ -98,6 +98,32 @@ module _ {S : Type 0} (g : Ghosts S) where
         record { is = subst (λ (d : Database). understood d.schema sql ≡ Ok shown.0) same.0.now_is shown.1.is; whole = shown.1.whole; given = shown.1.given; now = shown.1.now },
         rw none (it.0, subst (λ (d : Database). IsSourceOf (reads_listing d.schema sql) d it.0) same.0.now_is it.1, it.2, unchanged_then (state g old) (state g mid) (state g new) same it.3),
       )
+
+  -- the query refuses another row
+  pub folds_refused : {A E : Type 0} (today : ℕ) (so_far : List Row) (old mid new : Held S) (empty line : Line) (r : Result A E) → IsErr r → Survives (state g mid) (state g new) (λ _. ⊥)
+      → (HasCleanDisk (state g mid) → (sql : List ℕ) (params : Row) → HasGiven g sql params old [] → HasGiven g sql params mid so_far × IsUnchanged (state g old) (state g mid))
+      → Refuses g mid new → Folds g today old new empty line r
+  folds_refused today so_far old mid new empty line r err survives before (inl more) = record {
+    taken = so_far ++ more.0 ∷ [];
+    given = λ clean sql params has. inl ((more.1 clean).0 sql params so_far (before (clean_before (state g mid) (state g new) survives clean) sql params has).0);
+    begins = λ clean sql params has.
+        let was = before (clean_before (state g mid) (state g new) survives clean) sql params has in
+        given_begins sql params old new (so_far ++ more.0 ∷ []) (unchanged_then (state g old) (state g mid) (state g new) was.1 (more.1 clean).1) ((more.1 clean).0 sql params so_far was.0);
+    whole = λ clean sql params has. no_ok r _ err;
+    line_is = no_ok r _ err;
+  }
+  folds_refused today so_far old mid new empty line r err survives before (inr fails) = record {
+    taken = so_far;
+    given = λ clean sql params has.
+        let was = before (clean_before (state g mid) (state g new) survives clean) sql params has in
+        let failed = fails clean in
+        inr (inr (mid, was.0, was.1, (failed.0, failed.1 sql params so_far was.0)));
+    begins = λ clean sql params has.
+        let was = before (clean_before (state g mid) (state g new) survives clean) sql params has in
+        given_begins sql params old mid so_far was.1 was.0;
+    whole = λ clean sql params has. no_ok r _ err;
+    line_is = no_ok r _ err;
+  }
 
   -- what was folded of a plain query
   pub folded_line : {A E : Type 0} (today : ℕ) (sql : List ℕ) (params : Row) (old mid new : Held S) (empty line : Line) (r : Result A E) → IsPlain (understood old.schema sql) → (HasCleanDisk (state g mid) → HasBegun g sql params old mid) → Survives (state g mid) (state g new) (λ _. ⊥)

@@ -1,9 +1,10 @@
 -- What is known of rows that a query gives one at a time, and of the line that is made of them.
 use Rattle.std.specs.Prelude.{◌≡◌, ◌⊎◌, ℕ, ◌+◌, cond, ◌==◌, List, [], ◌∷◌, ◌++◌, pos, Option, None, Some, Result, OnOk, IsTrue}
 use Rattle.sqlite.specs.Order.{Row}
-use Rattle.sqlite.specs.Given.{HasGiven, Advances}
+use Rattle.sqlite.specs.Given.{HasGiven, Advances, FailsToAdvance}
 use Rattle.sqlite.specs.Held.{Held, state}
-use Rattle.sqlite.specs.State.{HasCleanDisk, Begins, Shown}
+use Rattle.sqlite.specs.State.{HasCleanDisk, IsUnchanged, Begins, Shown, FailsToQuery}
+use Rattle.sqlite.specs.declared.error.Error.{Error}
 use Rattle.sqlite_trees.specs.declared.store.Store.{Ghosts}
 use Rattle.mf_alloc.specs.Sums.{Sums, IsWhole, open_at, is_open}
 use Rattle.mf_account.specs.Balance.{open_in}
@@ -62,9 +63,25 @@ module _ {S : Type 0} (g : Ghosts S) where
   Takes old new None = HasCleanDisk (state g new) → Advances g old new None
   Takes old new (Some found) = (row : Row) × (HasCleanDisk (state g new) → Advances g old new (Some row)) × IsReadAs row found
 
-  -- The rows that are taken begin the answer of the query that gives them; at Ok they are all of it, and the line is that of the loans whose rows they are.
+  -- the next row is taken and is no instalment's, or the query fails
+  abbrev pub Refuses : Held S → Held S → Type 0
+  Refuses old new =
+      ((row : Row) × (HasCleanDisk (state g new) → Advances g old new (Some row) × IsUnchanged (state g old) (state g new)))
+      ⊎ (HasCleanDisk (state g new) → (e : Error) × FailsToAdvance g old new e)
+
+  -- the query gave these rows and no more: it failed when it was asked for the next
+  abbrev pub HasFailed : List ℕ → Row → List Row → Held S → Held S → Type 0
+  HasFailed sql params taken old new =
+      (last : Held S) × HasGiven g sql params last taken × IsUnchanged (state g old) (state g last) × ((e : Error) × FailsToQuery sql params (state g last) (state g new) e)
+
+  -- how a query is left that has given these rows: under way, at its end, or failed
+  abbrev pub HasTaken : List ℕ → Row → List Row → Held S → Held S → Type 0
+  HasTaken sql params taken old new = HasGiven g sql params new taken ⊎ (Shown sql params (state g old) (state g new) taken ⊎ HasFailed sql params taken old new)
+
+  -- The rows that are taken begin the answer of the query that gives them, and it has given no others; at Ok they are all of it, and the line is that of the loans whose rows they are.
   pub record Folds (today : ℕ) (old new : Held S) (empty line : Line) {A E : Type 0} (result : Result A E) : Type 0 where
     pub taken : List Row
+    pub given : HasCleanDisk (state g new) → (sql : List ℕ) (params : Row) → HasGiven g sql params old [] → HasTaken sql params taken old new
     pub begins : HasCleanDisk (state g new) → (sql : List ℕ) (params : Row) → HasGiven g sql params old [] → Begins sql params (state g old) taken
     pub whole : HasCleanDisk (state g new) → (sql : List ℕ) (params : Row) → HasGiven g sql params old [] → OnOk result (Shown sql params (state g old) (state g new) taken)
     pub line_is : OnOk result (IsLineOf today taken empty line)

@@ -10,10 +10,11 @@ ghost use Rattle.mf_store_accounts.specs.Flat.{charge_as, product_as};
 use crate::counts::{Kind, MOST};
 use crate::known::News;
 use crate::store::Store;
-use crate::stored::{flag_from, signed, stored, unsigned};
+use crate::stored::{stored, unsigned};
 use mf_base::{Choice, Day, Fault, Freq, Name};
 use mf_catalog::{Calc, ChargeDef, ChargeKind, Method, Product, ProductMembers, StrategyName};
 use mf_model::CatalogueCounts;
+use mf_store_accounts::{flag_from, signed};
 use mf_store_records::{ChargeRow, MetaRow, ProductRow, StoreWrite, Text};
 use sqlite::Alter;
 use std::alloc::Global;
@@ -66,7 +67,7 @@ fn product_from(row: ProductRow) -> Result<Product, Fault>
     let strategy = stored(StrategyName::from_number(row.strategy))?;
     let min_principal = unsigned(row.min_principal)?;
     let max_principal = unsigned(row.max_principal)?;
-    let retired = flag_from(row.retired)?;
+    let retired = stored(flag_from(row.retired))?;
     Ok(Product {
         number: row.number,
         members: ProductMembers {

@@ -5,70 +5,15 @@ ghost use Rattle.mf_base.specs.declared.fault.Fault.TheVariants.{F20};
 ghost use Rattle.mf_alloc.specs.Rows.{row_at};
 ghost use Rattle.mf_account.specs.Loan.{settled_of_loan};
 ghost use Rattle.mf_store_records.specs.declared.writes.StoreWrite.TheVariants.{PutShare};
-ghost use Rattle.mf_store_accounts.specs.Flat.{how_number, instalment_in, numbered_from, share_in, placed_parts};
+ghost use Rattle.mf_store_accounts.specs.Flat.{instalment_in, numbered_from, share_in, placed_parts};
 ghost use Rattle.mf_store.specs.ChangeWrites.{schedule_put, instalments_put, shares_replaced, shares_put, change_writes};
 
-use crate::entries::number_of_portion;
-use crate::loans::text_of_day;
-use crate::stored::signed;
-use mf_account::{How, LoanAccount, Settled};
+use mf_account::{LoanAccount, Settled};
 use mf_alloc::Row;
 use mf_base::Fault;
-use mf_store_records::{EntryKey, InstalmentRow, ShareRow, StoreWrite};
+use mf_store_accounts::{instalment_row, share_row};
+use mf_store_records::{EntryKey, InstalmentRow, StoreWrite};
 use std::alloc::Global;
-
-/// The number by which a way of settling is kept.
-fn number_of_how(how: How) -> u32
-    ensures { result ≡ how_number how }
-{
-    match how {
-        How::Paid => 1,
-        How::Waived => 2,
-        How::WrittenOff => 3,
-    }
-}
-
-/// The row of an instalment.
-fn instalment_row(
-    alloc: Global,
-    office: u32,
-    loan: u32,
-    number: u32,
-    row: &Row,
-) -> Result<InstalmentRow, Fault>
-    ensures row { IfOk result (λ stored. stored ≡ instalment_in office loan (number, row.now)) }
-    ensures gives_up { IfErr result (λ fault. fault ≡ F20) }
-{
-    let Row {
-        due,
-        owed,
-        paid,
-        waived,
-        written_off,
-    } = *row;
-    Ok(InstalmentRow {
-        office,
-        loan,
-        number,
-        due: text_of_day(alloc, due)?,
-        owed_penalty: signed(owed[0])?,
-        paid_penalty: signed(paid[0])?,
-        waived_penalty: signed(waived[0])?,
-        written_off_penalty: signed(written_off[0])?,
-        owed_fee: signed(owed[1])?,
-        paid_fee: signed(paid[1])?,
-        waived_fee: signed(waived[1])?,
-        written_off_fee: signed(written_off[1])?,
-        owed_interest: signed(owed[2])?,
-        paid_interest: signed(paid[2])?,
-        waived_interest: signed(waived[2])?,
-        written_off_interest: signed(written_off[2])?,
-        owed_principal: signed(owed[3])?,
-        paid_principal: signed(paid[3])?,
-        waived_principal: signed(waived[3])?,
-        written_off_principal: signed(written_off[3])?,
-    })
-}
 
 /// Adds the puts of all instalments of a loan.
 pub(crate) fn put_schedule(
@@ -128,30 +73,6 @@ pub(crate) fn put_instalments(
         writes.push(StoreWrite::PutInstalment(row))?;
     }
     Ok(())
-}
-
-/// The row of what an entry settles in a cell.
-fn share_row(
-    office: u32,
-    loan: u32,
-    seq: u32,
-    place: u32,
-    part: &Settled,
-) -> Result<ShareRow, Fault>
-    ensures row { IfOk result (λ stored. stored ≡ share_in office loan (seq, (place, part.now))) }
-    ensures gives_up { IfErr result (λ fault. fault ≡ F20) }
-{
-    let amount = signed(part.amount)?;
-    Ok(ShareRow {
-        office,
-        loan,
-        seq,
-        place,
-        instalment: part.cell.instalment,
-        portion: number_of_portion(part.cell.portion),
-        how: number_of_how(part.how),
-        amount,
-    })
 }
 
 /// Adds the puts of what an entry settles.

@@ -8,14 +8,14 @@ ghost use Rattle.mf_office.specs.Written.{caller_text};
 ghost use Rattle.mf_office.specs.declared.caller.Caller.{Caller as ModelCaller};
 ghost use Rattle.mf_account.specs.declared.entry.Entry.{Entry as ModelEntry};
 ghost use Rattle.mf_store_records.specs.Rows.{entry_row as entry_stored};
-ghost use Rattle.mf_store_accounts.specs.Flat.{entry_in, entry_kind_number, portion_number, flag_number};
+ghost use Rattle.mf_store_accounts.specs.Flat.{entry_in, entry_kind_number};
 
 use crate::loans::{day_from, text_of_day};
-use crate::stored::{flag_from, signed, unsigned};
+use crate::stored::{stored, unsigned};
 use mf_account::{Entry, Kind, Receipt};
-use mf_alloc::Portion;
 use mf_base::Fault;
 use mf_office::Caller;
+use mf_store_accounts::{flag_from, kind_from, number_of_portion, portion_from, signed};
 use mf_store_records::{EntryRow, Text, read_row};
 use sqlite::Row;
 use std::alloc::Global;
@@ -31,48 +31,6 @@ fn kind_number(kind: Kind) -> u32
         Kind::Waive => 4,
         Kind::WriteOff => 5,
         Kind::Refund => 6,
-    }
-}
-
-/// The kind of a number.
-fn kind_from(number: u32) -> Result<Kind, Fault>
-    ensures kind { IfOk result (λ kind. entry_kind_number kind ≡ number) }
-    ensures gives_up { IfErr result (λ fault. fault ≡ F20) }
-{
-    match number {
-        1 => Ok(Kind::Repay),
-        2 => Ok(Kind::Fee),
-        3 => Ok(Kind::Penalty),
-        4 => Ok(Kind::Waive),
-        5 => Ok(Kind::WriteOff),
-        6 => Ok(Kind::Refund),
-        _ => Err(Fault::F20),
-    }
-}
-
-/// The number by which a portion is kept.
-pub(crate) fn number_of_portion(portion: Portion) -> u32
-    ensures { result ≡ portion_number portion }
-{
-    match portion {
-        Portion::Penalty => 1,
-        Portion::Fee => 2,
-        Portion::Interest => 3,
-        Portion::Principal => 4,
-    }
-}
-
-/// The portion of a number.
-fn portion_from(number: u32) -> Result<Portion, Fault>
-    ensures portion { IfOk result (λ portion. portion_number portion ≡ number) }
-    ensures gives_up { IfErr result (λ fault. fault ≡ F20) }
-{
-    match number {
-        1 => Ok(Portion::Penalty),
-        2 => Ok(Portion::Fee),
-        3 => Ok(Portion::Interest),
-        4 => Ok(Portion::Principal),
-        _ => Err(Fault::F20),
     }
 }
 
@@ -116,12 +74,12 @@ fn entry_from(row: EntryRow) -> Result<Entry, Fault>
     ensures entry { IfOk result (λ entry. (office loan : ℕ) (e : ModelEntry) → IsCaller e.staff → row ≡ entry_in office loan e → entry ≡ e) }
     ensures gives_up { IfErr result (λ fault. fault ≡ F20) }
 {
-    let kind = kind_from(row.kind)?;
+    let kind = stored(kind_from(row.kind))?;
     let day = day_from(&row.day)?;
     let amount = unsigned(row.amount)?;
-    let portion = portion_from(row.portion)?;
+    let portion = stored(portion_from(row.portion))?;
     let staff = caller_from(&row.staff)?;
-    let reversed = flag_from(row.reversed)?;
+    let reversed = stored(flag_from(row.reversed))?;
     Ok(Entry {
         seq: row.seq,
         kind,

@@ -1,13 +1,13 @@
 //! An office's line of arrears from the rows of its loans' instalments, which a query gives by loan and number: one row
 //! is held at a time, and of the loan that is read what is outstanding of its principal and the earliest due day.
 
-ghost use Rattle.std.specs.Prelude.{◌≡◌, false, ℕ, List, ◌++◌, pos, None, Some, IsTrue, OnOk, IfOk, IfErr};
+ghost use Rattle.std.specs.Prelude.{◌≡◌, false, ℕ, List, ◌++◌, pos, None, Some, IsTrue, OnOk, OnErr, IfOk, IfErr};
 ghost use Rattle.mf_base.specs.declared.fault.Fault.TheVariants.{F20};
 ghost use Rattle.mf_arrears.specs.Ageing.{earlier as earlier_of, days_since};
 ghost use Rattle.mf_arrears.specs.Line.{Loan as Aged, line_of as line_of_loans};
 ghost use Rattle.sqlite.specs.State.{HasCleanDisk, IsUnchanged, Survives};
 ghost use Rattle.sqlite.specs.Held.{state};
-ghost use Rattle.mf_store.specs.Folding.{aged_by, with_row, Progress, step, IsAt, IsReadAs, IsKept, Takes, Folds};
+ghost use Rattle.mf_store.specs.Folding.{aged_by, with_row, Progress, step, IsAt, IsReadAs, IsKept, Takes, Refuses, Folds};
 
 use crate::kept::instalment_from;
 use crate::stored::stored;
@@ -129,6 +129,7 @@ fn placed_in_row(row: &Row) -> Result<(u32, Instalment), Fault>
 fn next_instalment<S: Alter>(rows: &mut Rows<'_, S>) -> Result<Option<(u32, Instalment)>, Fault>
     ensures same_reference { rows.new.conn.ghost_name ≡ rows.old.conn.ghost_name }
     ensures takes { IfOk result (λ found. Takes S.Store rows.old.conn.now rows.new.conn.now found) }
+    ensures refuses { OnErr result (Refuses S.Store rows.old.conn.now rows.new.conn.now) }
     ensures same { HasCleanDisk (state S.Store rows.new.conn.now) → OnOk result (IsUnchanged (state S.Store rows.old.conn.now) (state S.Store rows.new.conn.now)) }
     ensures kept { HasCleanDisk (state S.Store rows.new.conn.now) → IsKept S.Store rows.old.conn.now rows.new.conn.now }
     ensures gives_up { IfErr result (λ fault. fault ≡ F20) }

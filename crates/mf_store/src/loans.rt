@@ -14,10 +14,11 @@ ghost use Rattle.mf_store_accounts.specs.Flat.{loan_in, approval_text, disbursal
 use crate::counts::MOST;
 use crate::known::News;
 use crate::store::Store;
-use crate::stored::{signed, unsigned};
+use crate::stored::unsigned;
 use mf_base::{Day, Fault, texts_of_days};
 use mf_model::{Counts, Loan, Stage};
 use mf_office::{Account, AccountNo, OfficeNo};
+use mf_store_accounts::signed;
 use mf_store_records::{LoanRow, StoreWrite, Text};
 use sqlite::Alter;
 use std::alloc::Global;

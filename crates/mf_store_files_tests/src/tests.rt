@@ -2,16 +2,30 @@
 
 mod adopted;
 mod first_schema;
+mod opened;
+mod records;
 mod stops;
 
-ghost use Rattle.std.specs.Prelude.{◌≡◌, false};
+ghost use Rattle.std.specs.Prelude.{◌≡◌, false, IfOk};
 
 use mf_base::{Day, Fault};
 use mf_store_files::adopt;
+use mf_store_pages::{PageStore, open};
 use mf_wire::run;
 use mf_wire_lines::{WatchedReader, WatchedWriter};
 use sqlite::{Alter, Connection};
 use std::alloc::Global;
+use std::test::Fail;
+
+/// A connection to memory without a table.
+fn new_tables(alloc: Global) -> Result<Connection<PageStore>, Fail>
+    ensures { IfOk result (λ connection. connection.in_transaction ≡ false) }
+{
+    match open(alloc) {
+        Ok(connection) => Ok(connection),
+        Err(_) => Err(Fail::new("a connection")),
+    }
+}
 
 /// The replies to lines over the tables of a connection, which are adopted on 2024-01-31, and the connection after; none where
 /// they are refused. Over any store, so that it is proved once.

@@ -2,15 +2,15 @@
 
 ghost use Rattle.std.specs.Prelude.{◌≡◌, false, IfOk};
 
-use super::{answered_over, refused_over};
-use mf_store_pages::{PageStore, open};
+use super::{answered_over, new_tables, refused_over};
+use mf_store_pages::PageStore;
 use sqlite::{Alter, Connection, Error};
 use std::alloc::Global;
 use std::rt::HostRuntime;
 use std::test::Fail;
 
 /// An institution with rows in each table.
-const INSTITUTION: &str = "\
+pub(super) const INSTITUTION: &str = "\
 1/1 POST /offices {\"number\":2,\"parent\":1,\"name\":\"North\"}\n\
 1/1 POST /staff {\"office\":2,\"name\":\"Ben\",\"role\":\"officer\"}\n\
 1/1 POST /charges {\"name\":\"Visit\",\"kind\":\"due-date\",\"calc\":\"flat\",\"value\":500}\n\
@@ -25,6 +25,14 @@ const INSTITUTION: &str = "\
 1/1 PUT /business-day {\"day\":\"2024-03-31\"}\n\
 1/1 POST /loans/0001-000001/repayments {\"amount\":20000,\"day\":\"2024-02-29\",\"receipt\":\"R-1\"}\n\
 1/1 POST /loans/0001-000001/repayments {\"amount\":50000,\"day\":\"2024-03-31\"}\n";
+
+/// What comes after: an office below, more clients, and what is left of the loan.
+pub(super) const MORE: &str = "\
+1/1 POST /offices {\"number\":3,\"parent\":2,\"name\":\"Mill\"}\n\
+1/1 POST /clients {\"office\":2,\"name\":\"Musa\"}\n\
+1/1 POST /clients {\"office\":2,\"name\":\"Sara\"}\n\
+1/1 POST /clients {\"office\":3,\"name\":\"Omar\"}\n\
+1/1 POST /loans/0001-000001/repayments {\"amount\":32000,\"day\":\"2024-03-31\"}\n";
 
 /// Changes of a row, each of which leaves what no institution has.
 const CHANGES: [&str; 52] = [
@@ -82,13 +90,44 @@ const CHANGES: [&str; 52] = [
     "UPDATE shares SET place = 9 WHERE seq = 1 AND place = 2",
 ];
 
+/// Changes that come after these lines too, and of how many rows. Each leaves what no institution has: a client whom another office
+/// alone has, two offices each below the other, the amounts of two entries or of two shares swapped, and a write-off that stands with
+/// a refund after it, though nothing was left to write off or to refund.
+const LATER_CHANGES: [(&str, usize); 5] = [
+    ("UPDATE loans SET client = 2", 1),
+    ("UPDATE offices SET parent = 5 - number WHERE number > 1", 2),
+    (
+        "UPDATE entries SET amount = 70000 - amount WHERE seq < 3",
+        2,
+    ),
+    ("UPDATE shares SET amount = 20000 - amount WHERE seq = 1", 2),
+    (
+        "INSERT INTO entries VALUES (1, 1, 4, 5, '2024-03-31', 0, 0, 4, NULL, '1/1', 0), \
+(1, 1, 5, 6, '2024-03-31', 0, 0, 4, NULL, '1/1', 0)",
+        2,
+    ),
+];
+
+/// Each table whole.
+const TABLES: [&str; 11] = [
+    "SELECT * FROM meta",
+    "SELECT * FROM offices",
+    "SELECT * FROM staff",
+    "SELECT * FROM charges",
+    "SELECT * FROM products",
+    "SELECT * FROM clients",
+    "SELECT * FROM loans",
+    "SELECT * FROM entries",
+    "SELECT * FROM receipts",
+    "SELECT * FROM instalments",
+    "SELECT * FROM shares",
+];
+
 /// The tables of a new institution, of which the business day was set.
 fn set_tables(alloc: Global) -> Result<Connection<PageStore>, Fail>
     ensures { IfOk result (λ connection. connection.in_transaction ≡ false) }
 {
-    let Ok(connection) = open(alloc) else {
-        return Err(Fail::new("a connection"));
-    };
+    let connection = new_tables(alloc)?;
     let set = b"1/1 PUT /business-day {\"day\":\"2024-03-31\"}\n";
     let (_, connection) = answered_over(alloc, connection, set);
     Ok(connection)
@@ -106,31 +145,62 @@ fn the_old_day_stands(rt: HostRuntime) -> Result<(), Fail> {
     Ok(())
 }
 
-/// Whether the institution is adopted again, and refused once a row is changed so.
+/// All rows of the tables, as a text.
+fn shown<S: Alter>(alloc: Global, connection: &mut Connection<S>) -> Result<String, Error> {
+    let mut text = String::new(alloc);
+    for table in TABLES {
+        let rows = connection.query_all(table, &[])?;
+        write!(text, "{rows:?};")?;
+    }
+    Ok(text)
+}
+
+/// Whether the institution of these lines is adopted again, and refused once so many rows are changed so; all rows then stand as they
+/// were.
 fn is_refused<S: Alter + Drop>(
     alloc: Global,
     connection: Connection<S>,
+    lines: &str,
     change: &str,
+    rows: usize,
 ) -> Result<bool, Error>
     requires { connection.in_transaction ≡ false }
 {
-    let (replies, connection) = answered_over(alloc, connection, INSTITUTION.as_bytes());
+    let (replies, connection) = answered_over(alloc, connection, lines.as_bytes());
     let (refused, mut connection) = refused_over(alloc, connection);
     let changed = connection.execute(change, &[])?;
-    if replies.is_empty() || refused || changed != 1 || !connection.is_autocommit() {
+    let before = shown(alloc, &mut connection)?;
+    if replies.is_empty() || refused || changed != rows || !connection.is_autocommit() {
         return Ok(false);
     }
-    let (refused, _) = refused_over(alloc, connection);
-    Ok(refused)
+    let (refused, mut connection) = refused_over(alloc, connection);
+    let after = shown(alloc, &mut connection)?;
+    Ok(refused && before.as_str() == after.as_str())
 }
 
 #[test]
 fn each_changed_row_is_refused(rt: HostRuntime) -> Result<(), Fail> {
-    for change in CHANGES.iter() {
-        let Ok(tables) = open(rt.alloc()) else {
-            return Err(Fail::new("a connection"));
-        };
-        assert!(rt; is_refused(rt.alloc(), tables, *change)?);
+    let alloc = rt.alloc();
+    for change in CHANGES {
+        let tables = new_tables(alloc)?;
+        assert!(rt;
+            is_refused(alloc, tables, INSTITUTION, change, 1)?,
+            "{change}"
+        );
+    }
+    Ok(())
+}
+
+#[test]
+fn each_later_change_is_refused(rt: HostRuntime) -> Result<(), Fail> {
+    let alloc = rt.alloc();
+    let lines = format!(in alloc; "{INSTITUTION}{MORE}")?;
+    for (change, rows) in LATER_CHANGES {
+        let tables = new_tables(alloc)?;
+        assert!(rt;
+            is_refused(alloc, tables, lines.as_str(), change, rows)?,
+            "{change}"
+        );
     }
     Ok(())
 }

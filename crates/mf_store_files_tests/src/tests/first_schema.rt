@@ -3,8 +3,7 @@
 ghost use Rattle.std.specs.Prelude.{◌≡◌, false, IsTrue, IfOk};
 
 use super::stops::{Disks, MOST_CALLS, PAID, answered, fused, stopped};
-use super::{answered_over, refused_over};
-use mf_store_pages::{PageStore, open};
+use super::{answered_over, new_tables, refused_over};
 use sqlite::{Alter, Connection, Error, Options};
 use sqlite_disk::Disk;
 use std::alloc::Global;
@@ -57,6 +56,29 @@ const SHARES: [[i64; 6]; 7] = [
     [2, 5, 3, 4, 1, 1334],
 ];
 
+/// The instalments of the loan: its office, its number and the instalment's; for penalties, fees, interest and principal what is
+/// owed, paid, waived and written off; and the day on which it is due.
+const INSTALMENTS: [([i64; 19], &str); 3] = [
+    (
+        [
+            1, 1, 1, 0, 0, 0, 0, 0, 0, 0, 0, 1000, 1000, 0, 0, 33333, 33333, 0, 0,
+        ],
+        "2024-02-29",
+    ),
+    (
+        [
+            1, 1, 2, 0, 0, 0, 0, 0, 0, 0, 0, 667, 667, 0, 0, 33333, 33333, 0, 0,
+        ],
+        "2024-03-31",
+    ),
+    (
+        [
+            1, 1, 3, 0, 0, 0, 0, 0, 0, 0, 0, 333, 333, 0, 0, 33334, 1334, 0, 0,
+        ],
+        "2024-04-30",
+    ),
+];
+
 const LOAN: &[u8] = b"1/1 GET /loans/0001-000001\n";
 
 /// Whether the tables could be made.
@@ -91,7 +113,33 @@ fn has_shares<S: Alter>(connection: &mut Connection<S>) -> Result<bool, Error>
     Ok(rows.len() == SHARES.len())
 }
 
-/// Whether the loan is told as it was paid back, and the tables are those of the second schema with the shares.
+/// Whether the table of instalments holds just those of the loan.
+fn has_instalments<S: Alter>(connection: &mut Connection<S>) -> Result<bool, Error>
+    ensures { connection.old.in_transaction ≡ false → connection.new.in_transaction ≡ false }
+{
+    let rows = connection.query_all(
+        "SELECT office, loan, number, owed_penalty, paid_penalty, waived_penalty, written_off_penalty, owed_fee, paid_fee, \
+waived_fee, written_off_fee, owed_interest, paid_interest, waived_interest, written_off_interest, owed_principal, \
+paid_principal, waived_principal, written_off_principal, due FROM instalments ORDER BY office, loan, number",
+        &[],
+    )?;
+    for (row, wanted) in rows.iter().zip(INSTALMENTS.iter()) {
+        for (at, column) in wanted.0.iter().enumerate() {
+            let found: i64 = row.get(at)?;
+            if found != *column {
+                return Ok(false);
+            }
+        }
+        let due: String = row.get(19)?;
+        if due.as_str() != wanted.1 {
+            return Ok(false);
+        }
+    }
+    Ok(rows.len() == INSTALMENTS.len())
+}
+
+/// Whether the loan is told as it was paid back, and the tables are those of the second schema with its instalments and
+/// shares.
 fn is_brought_up<S: Alter + Drop>(
     alloc: Global,
     connection: Connection<S>,
@@ -101,9 +149,10 @@ fn is_brought_up<S: Alter + Drop>(
 {
     let (told, mut connection) = answered_over(alloc, connection, LOAN);
     let schema = number(&mut connection, "SELECT schema FROM meta")?;
+    let instalments = has_instalments(&mut connection)?;
     let shares = has_shares(&mut connection)?;
     Ok((
-        told.as_slice() == PAID.as_bytes() && schema == 2 && shares,
+        told.as_slice() == PAID.as_bytes() && schema == 2 && instalments && shares,
         connection,
     ))
 }
@@ -125,15 +174,6 @@ fn is_refused<S: Alter + Drop>(
     let (refused, mut connection) = refused_over(alloc, connection);
     let after = number(&mut connection, "SELECT schema FROM meta")?;
     Ok(refused && after == schema && connection.schema().tables.len() == 9)
-}
-
-fn new_tables(alloc: Global) -> Result<Connection<PageStore>, Fail>
-    ensures { IfOk result (λ connection. connection.in_transaction ≡ false) }
-{
-    match open(alloc) {
-        Ok(connection) => Ok(connection),
-        Err(_) => Err(Fail::new("a connection")),
-    }
 }
 
 #[test]

@@ -7,9 +7,10 @@ use mf_wire::run;
 use mf_wire_lines::{WatchedReader, WatchedWriter};
 use microloan_commands::{SheetFault, collect_sheet, report, serve_connections};
 use std::alloc::Global;
+use std::cell::Cell;
 use std::io;
 use std::io::{Read, Write};
-use std::net::{Ipv4Addr, Net, OpenListener, Shutdown, TcpListener, TcpStream};
+use std::net::{Ipv4Addr, Net, OpenListener, Shutdown, SocketAddr, TcpListener, TcpStream};
 use std::process::Abort;
 use std::test::Fail;
 
@@ -229,5 +230,51 @@ fn connections_are_served_in_turn(rt: HostRuntime) -> Result<(), Fail> {
     assert_eq!(rt; answer(alloc, &whole)?.as_str(), CREATED);
     let served = serve_connections(alloc, &mut books, &listener, 0)?;
     assert_eq!(rt; served, 0);
+    Ok(())
+}
+
+/// Accepts the connections of a listener, but for two: the first isn't accepted, and the next fails where it would wait for
+/// more than was sent.
+#[derive(Drop)]
+struct Unsteady<'a> {
+    listener: &'a TcpListener,
+    calls: &'a Cell<u8>,
+}
+
+impl OpenListener for Unsteady<'_> {
+    type Stream = TcpStream;
+
+    fn accept(&self) -> io::Result<(TcpStream, SocketAddr)> {
+        let call = self.calls.get();
+        self.calls.set(call.saturating_add(1));
+        if call == 0 {
+            return Err(io::Error::from(io::ErrorKind::ConnectionAborted));
+        }
+        let (stream, address) = self.listener.accept()?;
+        stream.set_nonblocking(call == 1)?;
+        Ok((stream, address))
+    }
+}
+
+/// Of three connections one isn't accepted, one fails within its head, and one is answered. Each counts, so that the client
+/// that comes after them is not served.
+#[test]
+fn connections_that_fail_count(rt: HostRuntime) -> Result<(), Fail> {
+    let alloc = rt.alloc();
+    let mut books = books_after(alloc, "")?;
+    let listener = TcpListener::bind(&rt, (Ipv4Addr::LOCALHOST, 0))?;
+    let port = listener.local_addr()?.port();
+    let torn = TcpStream::connect(&rt, (Ipv4Addr::LOCALHOST, port))?;
+    (&torn).write_all(b"POST /clients HTTP/1.1\r\nX-Sta")?;
+    let whole = sent(&rt, port, CLIENT)?;
+    let _late = sent(&rt, port, CLIENT)?;
+    let calls = Cell::new(0);
+    let unsteady = Unsteady {
+        listener: &listener,
+        calls: &calls,
+    };
+    let served = serve_connections(alloc, &mut books, &unsteady, 3)?;
+    assert_eq!(rt; served, 1);
+    assert_eq!(rt; answer(alloc, &whole)?.as_str(), CREATED);
     Ok(())
 }

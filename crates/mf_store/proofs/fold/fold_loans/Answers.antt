@@ -1,9 +1,9 @@
-use Rattle.std.proofs.Common.{[], ◌∷◌, ◌++◌, refl, ◌∙◌}
+use Rattle.std.proofs.Common.{[], ◌∷◌, ◌++◌, refl, inl, inr, ◌∙◌}
 use Rattle.sqlite.specs.Held.{state}
 use Rattle.sqlite.proofs.Callers.{unchanged_then}
 use Rattle.mf_store_records.proofs.CallLemmas.{goes_on}
 use Rattle.mf_store.proofs.FoldLemmas.{tells_none, tells_more, tells_line}
-use Rattle.mf_store.proofs.RowsLemmas.{no_ok, clean_before, survives_same, kept_same, kept_then, given_begins, given_open, given_shown}
+use Rattle.mf_store.proofs.RowsLemmas.{no_ok, clean_before, survives_same, kept_same, kept_then, given_begins, given_open, given_shown, folds_refused}
 use Rattle.mf_store.proofs.StandLemmas.{at_ok, weaker_on_ok}
 use Rattle.mf_store.proofs.fold.fold_loans.Goals as goal
 
@@ -24,14 +24,7 @@ returns-in_err-next_instalment-clause-folds g c =
     let mid = c.rows.rows.conn.now in
     let new = c.next_instalment.new.rows.conn.now in
     let so_far = c.rows.invariant.given in
-    record {
-      taken = so_far.0;
-      begins = λ clean sql params has.
-          let before = so_far.1 (clean_before (state g.S.Store mid) (state g.S.Store new) c.next_instalment.ensures.survives clean) sql params has in
-          given_begins g.S.Store sql params old mid so_far.0 before.1 before.0;
-      whole = λ clean sql params has. no_ok c.from_residual.result _ c.from_residual.ensures.0;
-      line_is = no_ok c.from_residual.result _ c.from_residual.ensures.0;
-    }
+    folds_refused g.S.Store c.args.day so_far.0 old mid new c.args.line.now c.rows.line c.from_residual.result c.from_residual.ensures.0 c.next_instalment.ensures.survives so_far.1 c.in_err-next_instalment.ensures.refuses
 
 pub returns-in-None-clause-folds : goal.returns-in-None-clause-folds
 returns-in-None-clause-folds g c =
@@ -42,6 +35,9 @@ returns-in-None-clause-folds g c =
     let takes = rw c.in-None.is at c.in_ok-next_instalment.ensures.takes in
     record {
       taken = so_far.0;
+      given = λ clean sql params has.
+          let before = so_far.1 (clean_before (state g.S.Store mid) (state g.S.Store new) c.next_instalment.ensures.survives clean) sql params has in
+          inr (inl (given_shown g.S.Store sql params old mid new so_far.0 so_far.0 before.1 before.0 (takes clean sql params so_far.0 before.0)));
       begins = λ clean sql params has.
           let before = so_far.1 (clean_before (state g.S.Store mid) (state g.S.Store new) c.next_instalment.ensures.survives clean) sql params has in
           given_begins g.S.Store sql params old mid so_far.0 before.1 before.0;
@@ -63,6 +59,9 @@ returns-in_err-take-in-Some-clause-folds g c =
     let takes = rw c.in-Some.is at c.in_ok-next_instalment.ensures.takes in
     record {
       taken = so_far.0 ++ takes.0 ∷ [];
+      given = λ clean sql params has.
+          let before = so_far.1 (clean_before (state g.S.Store mid) (state g.S.Store new) c.next_instalment.ensures.survives clean) sql params has in
+          inl (takes.1 clean sql params so_far.0 before.0);
       begins = λ clean sql params has.
           let before = so_far.1 (clean_before (state g.S.Store mid) (state g.S.Store new) c.next_instalment.ensures.survives clean) sql params has in
           given_begins g.S.Store sql params old new (so_far.0 ++ takes.0 ∷ []) (unchanged_then (state g.S.Store old) (state g.S.Store mid) (state g.S.Store new) before.1 (c.in_ok-next_instalment.ensures.same clean)) (takes.1 clean sql params so_far.0 before.0);
@@ -98,6 +97,7 @@ returns-clause-folds g c =
     let so_far = c.rows.invariant.given in
     record {
       taken = so_far.0;
+      given = λ clean sql params has. inl (so_far.1 clean sql params has).0;
       begins = λ clean sql params has. let before = so_far.1 clean sql params has in given_begins g.S.Store sql params c.args.rows.now.conn.now c.rows.rows.conn.now so_far.0 before.1 before.0;
       whole = λ clean sql params has. tt;
       line_is = tt;

@@ -241,14 +241,20 @@ const RECEIPTS: Stream = Stream {
 200 {\"entries\":[{\"amount\":20000,\"day\":\"2024-03-31\",\"entry\":1,\"instalment\":null,\"kind\":\"repayment\",\"portion\":null,\"receipt\":\"R-1\",\"reversed\":false,\"shares\":[{\"amount\":1000,\"instalment\":1,\"portion\":\"interest\"},{\"amount\":19000,\"instalment\":1,\"portion\":\"principal\"}],\"staff\":\"1/1\"}]}\n",
 };
 
-/// Whether a new institution gives these replies to these lines, one stream after the other.
-pub fn are_replies(alloc: Global, streams: &[Stream]) -> Result<bool, Fail> {
+/// The lines of streams, one stream after the other, and the replies to them.
+pub fn joined(alloc: Global, streams: &[Stream]) -> Result<(String, String), Fail> {
     let mut lines = String::new(alloc);
     let mut replies = String::new(alloc);
     for stream in streams {
         lines.push_str(stream.lines)?;
         replies.push_str(stream.replies)?;
     }
+    Ok((lines, replies))
+}
+
+/// Whether a new institution gives these replies to these lines, one stream after the other.
+pub fn are_replies(alloc: Global, streams: &[Stream]) -> Result<bool, Fail> {
+    let (lines, replies) = joined(alloc, streams)?;
     let written = written(alloc, lines.as_str().as_bytes())?;
     Ok(written.as_slice() == replies.as_str().as_bytes())
 }
