@@ -1,5 +1,5 @@
 -- What rows that are taken one at a time leave of the connection that gives them.
-use Rattle.std.proofs.Common.{◌≡◌, ◌⊎◌, pos, false, map, filter, IsTrue, IfOk, ℕ, Result, IfErr, OnOk, true≢false, inl, inr, List, [], ◌∷◌, None, Ok, Err, refl, sym, ap, subst, ◌∙◌, arith}
+use Rattle.std.proofs.Common.{◌≡◌, ◌⊎◌, pos, false, map, filter, IsTrue, IfOk, ℕ, Result, IfErr, OnOk, true≢false, inl, inr, List, [], ◌∷◌, None, Ok, Err, refl, sym, ap, subst, ◌∙◌, arith, ◌++◌}
 use Rattle.std.specs.Result.{IsErr, is_err}
 use Rattle.sqlite.specs.Order.{Row}
 use Rattle.sqlite.specs.Effect.{Database}
