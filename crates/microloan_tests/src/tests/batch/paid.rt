@@ -1,7 +1,7 @@
 //! Loans that are paid out and paid back. The replies are those of the rules, and not of the program.
 
 use super::written;
-use std::alloc::Global;
+use std::alloc::{AllocError, Global};
 use std::test::Fail;
 
 /// Lines, and the replies to them.
@@ -242,7 +242,7 @@ const RECEIPTS: Stream = Stream {
 };
 
 /// The lines of streams, one stream after the other, and the replies to them.
-pub fn joined(alloc: Global, streams: &[Stream]) -> Result<(String, String), Fail> {
+pub fn joined(alloc: Global, streams: &[Stream]) -> Result<(String, String), AllocError> {
     let mut lines = String::new(alloc);
     let mut replies = String::new(alloc);
     for stream in streams {
