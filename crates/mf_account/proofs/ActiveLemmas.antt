@@ -21,7 +21,7 @@ use Rattle.mf_account.specs.Loan.{Loan, IsSound, schedule_of, orders_of, state_o
 use Rattle.mf_account.specs.Rewind.{state_before}
 use Rattle.mf_account.proofs.ClearingLemmas.{writes-off_by_cells}
 use Rattle.mf_account.proofs.ConserveLemmas.{whole-acted, portion-at}
-use Rattle.mf_account.proofs.GoodLemmas.{IsGood}
+use Rattle.mf_account.specs.Safe.{IsBounded}
 use Rattle.mf_account.proofs.OnceLemmas.{length-acted}
 use Rattle.mf_account.proofs.SealLemmas.{written_off-none, written_off-last}
 use Rattle.mf_account.proofs.SoundLemmas.{lawful, due_at, due_at-le}
@@ -31,7 +31,7 @@ use Rattle.mf_account.proofs.TailLemmas.{after_all-append, good-before}
 abbrev AreClosed : List Sums → Type 0
 AreClosed rows = (i p : ℕ) → i < length rows → p < 4 → open_at (get_or rows i no_row) p ≡ 0
 
-written_off-closed : (n used : ℕ) (name : StrategyName) (due : ℕ) (entry : Entry) (before : State) → due ≤ n → IsGood n used before → entry.kind ≡ WriteOff → AreClosed (after (cell_by name due) entry before).rows
+written_off-closed : (n used : ℕ) (name : StrategyName) (due : ℕ) (entry : Entry) (before : State) → due ≤ n → IsBounded n used before → entry.kind ≡ WriteOff → AreClosed (after (cell_by name due) entry before).rows
 written_off-closed n used name due entry before few good is i p within small =
     let order : ℕ → Cell = cell_by name due in
     let place : Cell → ℕ = place_by name due in

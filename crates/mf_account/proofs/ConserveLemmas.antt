@@ -33,14 +33,15 @@ use Rattle.mf_account.specs.Standing.{standing}
 use Rattle.mf_account.specs.Applicable.{IsSettleable}
 use Rattle.mf_account.specs.Undo.{paid_by, paid_in}
 use Rattle.mf_account.specs.Loan.{Loan, HasColumns, IsEntry, IsSound, schedule_of, orders_of, cell_places_of, state_of_loan}
-use Rattle.mf_account.specs.Balance.{balances_of, repaid, HasRoom}
+use Rattle.mf_account.specs.Balance.{balances_of, repaid, HasRoom, balances_by}
 use Rattle.mf_account.proofs.EffectLemmas.{with_settled-paid}
 use Rattle.mf_account.proofs.OnceLemmas.{rows-after, money-after, refunded-after, length-acted}
 use Rattle.mf_account.proofs.UndoLemmas.{money_out-le}
 use Rattle.mf_alloc.specs.Sums.{IsRowWithin, AreWithin}
 use Rattle.mf_account.specs.Applicable.{HasInstalment}
-use Rattle.mf_account.proofs.GoodLemmas.{IsGood, IsReplayable, settleable-after, good-after, whole-with_settled, whole-with_charge}
-use Rattle.mf_account.proofs.SoundLemmas.{lawful, lawful-of, due_at, due_at-le, first-good, each-standing, All-standing, good-sound, standing-amounts}
+use Rattle.mf_account.specs.Safe.{most_kept, IsBounded}
+use Rattle.mf_account.proofs.GoodLemmas.{IsReplayable, settleable-after, good-after, whole-with_settled, whole-with_charge}
+use Rattle.mf_account.proofs.SoundLemmas.{lawful, lawful-of, due_at, due_at-le, first-good, each-standing, All-standing, good-sound}
 
 -- in each portion of rows, what is settled and what is outstanding make up what is owed
 abbrev pub column : (Sums → List ℕ) → ℕ → Sums → ℕ
@@ -115,7 +116,7 @@ money_held s = total_paid s.rows + s.overpaid + s.refunded
 abbrev pub brought : List Entry → ℕ
 brought entries = sum_by (λ (e : Entry). money_in e.kind e.amount) entries
 
-held-after : (n used : ℕ) (order : ℕ → Cell) (place : Cell → ℕ) (entry : Entry) (before : State) → IsOrder n order place → HasInstalment entry.kind entry n → IsGood n used before → money_held (after order entry before) ≡ money_held before + money_in entry.kind entry.amount
+held-after : (n used : ℕ) (order : ℕ → Cell) (place : Cell → ℕ) (entry : Entry) (before : State) → IsOrder n order place → HasInstalment entry.kind entry n → IsBounded n used before → money_held (after order entry before) ≡ money_held before + money_in entry.kind entry.amount
 held-after n used order place entry before is has good =
     let line : IsLine n order place before.rows = record { size = good.size; is = is; whole = good.whole } in
     let charged : List Sums = rows_charged entry before in
@@ -128,7 +129,7 @@ held-after n used order place entry before is has good =
     let out = money_out-le entry.kind before.overpaid in
     omega (arith, rows, settled, charge, money, given, out)
 
-held-all : (n used : ℕ) (orders : Orders) (places : Entry → Cell → ℕ) (entries : List Entry) (before : State) → ((e : Entry) → IsOrder n (orders e) (places e)) → All (IsReplayable n) entries → IsGood n used before → money_held (after_all orders entries before) ≡ money_held before + brought entries
+held-all : (n used : ℕ) (orders : Orders) (places : Entry → Cell → ℕ) (entries : List Entry) (before : State) → ((e : Entry) → IsOrder n (orders e) (places e)) → All (IsReplayable n) entries → IsBounded n used before → money_held (after_all orders entries before) ≡ money_held before + brought entries
 held-all n used orders places [] before is each good = omega arith
 held-all n used orders places (entry ∷ entries) before is each good =
     let one : IsReplayable n entry = All-head (IsReplayable n) entry entries each in
@@ -316,7 +317,7 @@ portion-at (suc (suc zero)) small = refl
 portion-at (suc (suc (suc zero))) small = refl
 portion-at (suc (suc (suc (suc p)))) small = absurd (omega arith)
 
-closed-after : (n used : ℕ) (name : StrategyName) (due : ℕ) (entry : Entry) (before : State) → due ≤ n → IsGood n used before → IsClosed (after (cell_by name due) entry before)
+closed-after : (n used : ℕ) (name : StrategyName) (due : ℕ) (entry : Entry) (before : State) → due ≤ n → IsBounded n used before → IsClosed (after (cell_by name due) entry before)
 closed-after n used name due entry before few good some i p within small =
     let order : ℕ → Cell = cell_by name due in
     let place : Cell → ℕ = place_by name due in
@@ -333,7 +334,7 @@ closed-after n used name due entry before few good some i p within small =
     ∙ ap (λ x. open_at (get_or (after order entry before).rows (i + 1 - 1) no_row) x) (sym (portion-at p small))
     ∙ at
 
-closed-all : (n used : ℕ) (name : StrategyName) (dues : Entry → ℕ) (entries : List Entry) (before : State) → ((e : Entry) → dues e ≤ n) → All (IsReplayable n) entries → IsGood n used before → IsClosed before → IsClosed (after_all (λ e. cell_by name (dues e)) entries before)
+closed-all : (n used : ℕ) (name : StrategyName) (dues : Entry → ℕ) (entries : List Entry) (before : State) → ((e : Entry) → dues e ≤ n) → All (IsReplayable n) entries → IsBounded n used before → IsClosed before → IsClosed (after_all (λ e. cell_by name (dues e)) entries before)
 closed-all n used name dues [] before few each good closed = closed
 closed-all n used name dues (entry ∷ entries) before few each good closed =
     let one : IsReplayable n entry = All-head (IsReplayable n) entry entries each in
@@ -366,13 +367,6 @@ balances-repaid loan sound =
 balance-at : (loan : Loan) → IsSound loan → (p : ℕ) → p < 4 → sum_at (λ r. r.paid) p (state_of_loan loan).rows + sum_at (λ r. r.waived) p (state_of_loan loan).rows + sum_at (λ r. r.written_off) p (state_of_loan loan).rows + sum_by (λ (r : Sums). open_at r p) (state_of_loan loan).rows ≡ sum_at (λ r. r.owed) p (state_of_loan loan).rows
 balance-at loan sound p small = balanced p (state_of_loan loan).rows small (good-sound loan sound).within
 
-pub balances-whole : (loan : Loan) → IsSound loan → (p : ℕ) → p < 4 → get_or (balances_of loan).paid p 0 + get_or (balances_of loan).waived p 0 + get_or (balances_of loan).written_off p 0 + get_or (balances_of loan).outstanding p 0 ≡ get_or (balances_of loan).owed p 0
-balances-whole loan sound zero small = balance-at loan sound 0 small
-balances-whole loan sound (suc zero) small = balance-at loan sound 1 (omega arith)
-balances-whole loan sound (suc (suc zero)) small = balance-at loan sound 2 (omega arith)
-balances-whole loan sound (suc (suc (suc zero))) small = balance-at loan sound 3 (omega arith)
-balances-whole loan sound (suc (suc (suc (suc p)))) small = absurd (omega arith)
-
 pub balances-principal : (loan : Loan) → IsSound loan → get_or (balances_of loan).paid 3 0 + get_or (balances_of loan).written_off 3 0 + get_or (balances_of loan).outstanding 3 0 ≡ loan.principal
 balances-principal loan sound =
     let all = balance-at loan sound 3 (omega arith) in
@@ -390,17 +384,31 @@ balances-apart loan sound some =
     let four = sum-four (balances_of loan).outstanding refl in
     omega (arith, a, b, c, d, four)
 
--- and every sum is far below 64 bits
-pub balances-room : (loan : Loan) → IsSound loan → HasRoom (state_of_loan loan).rows
-balances-room loan sound p small =
-    let good = good-sound loan sound in
-    let owed = good.owed p in
-    let most = standing-amounts loan sound in
-    let all = balance-at loan sound p small in
+-- in each portion the sums of any state add up, and they are far below 64 bits where it comes to no more than is kept
+pub balances_by-whole : (fee : ℕ) (state : State) → AreWithin state.rows → (p : ℕ) → p < 4 → get_or (balances_by fee state).paid p 0 + get_or (balances_by fee state).waived p 0 + get_or (balances_by fee state).written_off p 0 + get_or (balances_by fee state).outstanding p 0 ≡ get_or (balances_by fee state).owed p 0
+balances_by-whole fee state within zero small = balanced 0 state.rows small within
+balances_by-whole fee state within (suc zero) small = balanced 1 state.rows (omega arith) within
+balances_by-whole fee state within (suc (suc zero)) small = balanced 2 state.rows (omega arith) within
+balances_by-whole fee state within (suc (suc (suc zero))) small = balanced 3 state.rows (omega arith) within
+balances_by-whole fee state within (suc (suc (suc (suc p)))) small = absurd (omega arith)
+
+pub room-bounded : (n : ℕ) (state : State) → IsBounded n most_kept state → HasRoom state.rows
+room-bounded n state is p small =
+    let owed = is.owed p in
+    let all = balanced p state.rows small is.within in
     record {
-      owed = omega (arith, owed, most);
-      paid = omega (arith, owed, most, all);
-      waived = omega (arith, owed, most, all);
-      written_off = omega (arith, owed, most, all);
-      outstanding = omega (arith, owed, most, all);
+      owed = omega (arith, owed);
+      paid = omega (arith, owed, all);
+      waived = omega (arith, owed, all);
+      written_off = omega (arith, owed, all);
+      outstanding = omega (arith, owed, all);
     }
+
+-- what is paid in all is at most what is owed
+pub paid-bounded : (n : ℕ) (state : State) → IsBounded n most_kept state → sum_at (λ r. r.paid) 0 state.rows + sum_at (λ r. r.paid) 1 state.rows + sum_at (λ r. r.paid) 2 state.rows + sum_at (λ r. r.paid) 3 state.rows ≤ 4 * most_kept
+paid-bounded n state is =
+    let a = balanced 0 state.rows (omega arith) is.within in
+    let b = balanced 1 state.rows (omega arith) is.within in
+    let c = balanced 2 state.rows (omega arith) is.within in
+    let d = balanced 3 state.rows (omega arith) is.within in
+    omega (arith, a, b, c, d, is.owed 0, is.owed 1, is.owed 2, is.owed 3)

@@ -21,6 +21,7 @@ use Rattle.mf_account.specs.Kinds.{money_in}
 use Rattle.mf_account.specs.Effect.{State, Part, after, settle, settle_row, owe_row, with_settled, with_charge, parts_cleared, parts_of}
 use Rattle.mf_account.specs.AtOnce.{paid_part, rows_charged, rows_cleared, money_to_pay, shares_at_once}
 use Rattle.mf_account.specs.Account.{Orders, after_all}
+use Rattle.mf_account.specs.Safe.{IsBounded, IsShaped}
 use Rattle.mf_account.specs.Applicable.{HasInstalment, HasRow, HasCell, AreApplicable, IsSettleable}
 use Rattle.mf_account.proofs.EffectLemmas.{cleared_settleable, length-with_charge, length-with_settled}
 use Rattle.mf_account.proofs.OnceLemmas.{rows-after, parts-once, money-after, refunded-after}
@@ -34,7 +35,7 @@ changed-keeps P rows instalment change now here =
       | inr past ↦ subst P (sym (set_past rows (instalment - 1) (change (row_at rows instalment)) past)) now
     ]
 
-whole-changed : (rows : List Sums) (instalment : ℕ) (change : Sums → Sums) → ((row : Sums) → IsWhole row → IsWhole (change row)) → AreWhole rows → AreWhole (changed rows instalment change)
+pub whole-changed : (rows : List Sums) (instalment : ℕ) (change : Sums → Sums) → ((row : Sums) → IsWhole row → IsWhole (change row)) → AreWhole rows → AreWhole (changed rows instalment change)
 whole-changed rows instalment change keeps whole =
     changed-keeps AreWhole rows instalment change whole
     (λ within. All-set IsWhole rows (instalment - 1) (change (row_at rows instalment)) (keeps (row_at rows instalment) (whole (instalment - 1) no_row within)) whole)
@@ -62,7 +63,7 @@ whole-with_charge WriteOff entry rows whole = whole
 whole-with_charge Refund entry rows whole = whole
 
 -- one sum raised, read at any place
-read-plus_at : (sums : List ℕ) (p amount q : ℕ) → p < length sums → (get_or (plus_at sums p amount) q 0 ≡ get_or sums q 0 + amount) × (q ≡ p) ⊎ (get_or (plus_at sums p amount) q 0 ≡ get_or sums q 0) × (q ≢ p)
+pub read-plus_at : (sums : List ℕ) (p amount q : ℕ) → p < length sums → (get_or (plus_at sums p amount) q 0 ≡ get_or sums q 0 + amount) × (q ≡ p) ⊎ (get_or (plus_at sums p amount) q 0 ≡ get_or sums q 0) × (q ≢ p)
 read-plus_at sums p amount q within =
     elim (cases_eq q p) [
       | inl here ↦ inl (ap (λ x. get_or (plus_at sums p amount) x 0) here ∙ get_or-set_same sums p (get_or sums p 0 + amount) 0 within ∙ ap (λ x. get_or sums x 0 + amount) (sym here), here)
@@ -159,7 +160,7 @@ settleable-after n order place entry before line has =
 abbrev owed_at : ℕ → Sums → ℕ
 owed_at q row = get_or row.owed q 0
 
-sum-changed : (f : Sums → ℕ) (rows : List Sums) (instalment more : ℕ) (change : Sums → Sums) → ((row : Sums) → f (change row) ≤ f row + more) → sum_by f (changed rows instalment change) ≤ sum_by f rows + more
+pub sum-changed : (f : Sums → ℕ) (rows : List Sums) (instalment more : ℕ) (change : Sums → Sums) → ((row : Sums) → f (change row) ≤ f row + more) → sum_by f (changed rows instalment change) ≤ sum_by f rows + more
 sum-changed f rows instalment more change grows =
     changed-keeps (λ x. sum_by f x ≤ sum_by f rows + more) rows instalment change (omega arith)
     (λ within.
@@ -195,14 +196,6 @@ owed-with_settled q rows (part ∷ parts) =
     let one = sum-changed (owed_at q) rows part.cell.instalment 0 (settle_row part.how p part.amount) (owed-settle_row part.how p part.amount q) in
     omega (arith, rest, one)
 
--- a state of n instalments with so much room used at most
-pub record IsGood (n used : ℕ) (state : State) : Type 0 where
-  pub size : length state.rows ≡ n
-  pub whole : AreWhole state.rows
-  pub within : AreWithin state.rows
-  pub owed : (q : ℕ) → sum_by (owed_at q) state.rows ≤ used
-  pub money : state.overpaid + state.refunded ≤ used
-
 money_in-most : (kind : Kind) (amount : ℕ) → money_in kind amount ≤ amount
 money_in-most Repay amount = omega arith
 money_in-most Fee amount = omega arith
@@ -211,7 +204,7 @@ money_in-most Waive amount = omega arith
 money_in-most WriteOff amount = omega arith
 money_in-most Refund amount = omega arith
 
-pub good-after : (n used : ℕ) (order : ℕ → Cell) (place : Cell → ℕ) (entry : Entry) (before : State) → IsOrder n order place → HasInstalment entry.kind entry n → IsGood n used before → IsGood n (used + entry.amount) (after order entry before)
+pub good-after : (n used : ℕ) (order : ℕ → Cell) (place : Cell → ℕ) (entry : Entry) (before : State) → IsOrder n order place → HasInstalment entry.kind entry n → IsBounded n used before → IsBounded n (used + entry.amount) (after order entry before)
 good-after n used order place entry before is has good =
     let line : IsLine n order place before.rows = record { size = good.size; is = is; whole = good.whole } in
     let charged : List Sums = rows_charged entry before in
@@ -241,7 +234,7 @@ owed-row q [] i within = absurd (omega arith)
 owed-row q (row ∷ rows) zero within = let all = sum_by-append (owed_at q) (row ∷ []) rows in omega (arith, all)
 owed-row q (row ∷ rows) (suc i) within = let all = sum_by-append (owed_at q) (row ∷ []) rows in let rest = owed-row q rows i (omega arith) in omega (arith, all, rest)
 
-has_row : (kind : Kind) (n used : ℕ) (entry : Entry) (before : State) → HasInstalment kind entry n → IsGood n used before → used + entry.amount < 2 ^ 63 → HasRow kind entry before.rows
+has_row : (kind : Kind) (n used : ℕ) (entry : Entry) (before : State) → HasInstalment kind entry n → IsBounded n used before → used + entry.amount < 2 ^ 63 → HasRow kind entry before.rows
 has_row Fee n used entry before has good room =
     let row = owed-row 1 before.rows (entry.instalment - 1) (omega (arith, has.0, has.1, good.size)) in
     let all = good.owed 1 in
@@ -267,13 +260,13 @@ amounts-cons : (entry : Entry) (entries : List Entry) → amounts (entry ∷ ent
 amounts-cons entry entries = let all = sum_by-append (λ (e : Entry). e.amount) (entry ∷ []) entries in omega (arith, all)
 
 -- so every entry can be applied in its turn
-pub applicable-all : (n used : ℕ) (orders : Orders) (places : Entry → Cell → ℕ) (entries : List Entry) (before : State) → ((e : Entry) → IsOrder n (orders e) (places e)) → All (IsReplayable n) entries → IsGood n used before → used + amounts entries < 2 ^ 63 → AreApplicable orders entries before
+pub applicable-all : (n used : ℕ) (orders : Orders) (places : Entry → Cell → ℕ) (entries : List Entry) (before : State) → ((e : Entry) → IsOrder n (orders e) (places e)) → All (IsReplayable n) entries → IsBounded n used before → used + amounts entries < 2 ^ 63 → AreApplicable orders entries before
 applicable-all n used orders places [] before is each good room = tt
 applicable-all n used orders places (entry ∷ entries) before is each good room =
     let sum = amounts-cons entry entries in
     let one : IsReplayable n entry = All-head (IsReplayable n) entry entries each in
     let here : used + entry.amount < 2 ^ 63 = omega (arith, sum, room) in
-    let next : IsGood n (used + entry.amount) (after (orders entry) entry before) = good-after n used (orders entry) (places entry) entry before (is entry) one.there good in (
+    let next : IsBounded n (used + entry.amount) (after (orders entry) entry before) = good-after n used (orders entry) (places entry) entry before (is entry) one.there good in (
       record {
         row = has_row entry.kind n used entry before one.there good here;
         money = omega (arith, good.money, here);
@@ -283,23 +276,17 @@ applicable-all n used orders places (entry ∷ entries) before is each good room
       applicable-all n (used + entry.amount) orders places entries (after (orders entry) entry before) is (All-tail (IsReplayable n) entry entries each) next (omega (arith, sum, room)),
     )
 
-pub good-all : (n used : ℕ) (orders : Orders) (places : Entry → Cell → ℕ) (entries : List Entry) (before : State) → ((e : Entry) → IsOrder n (orders e) (places e)) → All (IsReplayable n) entries → IsGood n used before → IsGood n (used + amounts entries) (after_all orders entries before)
-good-all n used orders places [] before is each good = subst (λ (x : ℕ). IsGood n x before) (omega arith) good
+pub good-all : (n used : ℕ) (orders : Orders) (places : Entry → Cell → ℕ) (entries : List Entry) (before : State) → ((e : Entry) → IsOrder n (orders e) (places e)) → All (IsReplayable n) entries → IsBounded n used before → IsBounded n (used + amounts entries) (after_all orders entries before)
+good-all n used orders places [] before is each good = subst (λ (x : ℕ). IsBounded n x before) (omega arith) good
 good-all n used orders places (entry ∷ entries) before is each good =
     let sum = amounts-cons entry entries in
     let one : IsReplayable n entry = All-head (IsReplayable n) entry entries each in
-    let next : IsGood n (used + entry.amount) (after (orders entry) entry before) = good-after n used (orders entry) (places entry) entry before (is entry) one.there good in
+    let next : IsBounded n (used + entry.amount) (after (orders entry) entry before) = good-after n used (orders entry) (places entry) entry before (is entry) one.there good in
     let room : used + entry.amount + amounts entries ≡ used + amounts (entry ∷ entries) = omega (arith, sum) in
-    subst (λ (x : ℕ). IsGood n x (after_all orders (entry ∷ entries) before)) room
+    subst (λ (x : ℕ). IsBounded n x (after_all orders (entry ∷ entries) before)) room
     (good-all n (used + entry.amount) orders places entries (after (orders entry) entry before) is (All-tail (IsReplayable n) entry entries each) next)
 
--- the rows of a state are such as a book can hold
-pub record IsStill (n : ℕ) (state : State) : Type 0 where
-  pub size : length state.rows ≡ n
-  pub whole : AreWhole state.rows
-  pub within : AreWithin state.rows
-
-pub still-after : (n : ℕ) (order : ℕ → Cell) (place : Cell → ℕ) (entry : Entry) (before : State) → IsOrder n order place → HasInstalment entry.kind entry n → IsStill n before → IsStill n (after order entry before)
+pub still-after : (n : ℕ) (order : ℕ → Cell) (place : Cell → ℕ) (entry : Entry) (before : State) → IsOrder n order place → HasInstalment entry.kind entry n → IsShaped n before → IsShaped n (after order entry before)
 still-after n order place entry before is has still =
     let line : IsLine n order place before.rows = record { size = still.size; is = is; whole = still.whole } in
     let charged : List Sums = rows_charged entry before in

@@ -9,6 +9,7 @@ pub mod StandingIsOne
 pub mod InOrder
 pub mod WorkedRows
 pub mod ReplayLemmas
+pub mod BoundLemmas
 pub mod RewindLemmas
 pub mod ChangeLemmas
 pub mod DifferLemmas
@@ -26,3 +27,5 @@ pub mod ActiveLemmas
 pub mod LawfulLemmas
 pub mod ToldLemmas
 pub mod ByDayLemmas
+mod OrderedLemmas
+mod SafeLemmas

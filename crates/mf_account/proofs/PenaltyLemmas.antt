@@ -26,7 +26,8 @@ use Rattle.mf_account.specs.StandingLaw.{IsAmong}
 use Rattle.mf_account.specs.Loan.{Loan, HasColumns, IsEntry, IsSound, schedule_of, orders_of, cell_places_of, state_of_loan}
 use Rattle.mf_account.specs.Refusals.{is_penalty_on, has_penalty}
 use Rattle.mf_account.proofs.OnceLemmas.{rows-after}
-use Rattle.mf_account.proofs.GoodLemmas.{IsGood, IsReplayable, good-after}
+use Rattle.mf_account.specs.Safe.{IsBounded}
+use Rattle.mf_account.proofs.GoodLemmas.{IsReplayable, good-after}
 use Rattle.mf_account.proofs.SoundLemmas.{lawful-of, each-standing, first-good}
 use Rattle.mf_account.proofs.StandingIsOne.{standing-is-one}
 use Rattle.mf_account.proofs.TailLemmas.{among-index, at-among}
@@ -107,13 +108,13 @@ charge-owes Waive instalment e rows whole first has = omega arith
 charge-owes WriteOff instalment e rows whole first has = omega arith
 charge-owes Refund instalment e rows whole first has = omega arith
 
-after-owes : (n used instalment : ℕ) (order : ℕ → Cell) (e : Entry) (before : State) → 1 ≤ instalment → HasInstalment e.kind e n → IsGood n used before → penalties_owed instalment (after order e before).rows ≡ penalties_owed instalment before.rows + adds instalment e
+after-owes : (n used instalment : ℕ) (order : ℕ → Cell) (e : Entry) (before : State) → 1 ≤ instalment → HasInstalment e.kind e n → IsBounded n used before → penalties_owed instalment (after order e before).rows ≡ penalties_owed instalment before.rows + adds instalment e
 after-owes n used instalment order e before first has good =
     ap (penalties_owed instalment) (rows-after order e before)
     ∙ settled-owes instalment (rows_charged e before) (parts_of order e before)
     ∙ charge-owes e.kind instalment e before.rows good.whole first (subst (HasInstalment e.kind e) (sym good.size) has)
 
-all-owes : (n used instalment : ℕ) (orders : Orders) (places : Entry → Cell → ℕ) (entries : List Entry) (before : State) → 1 ≤ instalment → ((e : Entry) → IsOrder n (orders e) (places e)) → All (IsReplayable n) entries → IsGood n used before → penalties_owed instalment (after_all orders entries before).rows ≡ penalties_owed instalment before.rows + added instalment entries
+all-owes : (n used instalment : ℕ) (orders : Orders) (places : Entry → Cell → ℕ) (entries : List Entry) (before : State) → 1 ≤ instalment → ((e : Entry) → IsOrder n (orders e) (places e)) → All (IsReplayable n) entries → IsBounded n used before → penalties_owed instalment (after_all orders entries before).rows ≡ penalties_owed instalment before.rows + added instalment entries
 all-owes n used instalment orders places [] before first is each good = omega arith
 all-owes n used instalment orders places (e ∷ entries) before first is each good =
     let one : IsReplayable n e = All-head (IsReplayable n) e entries each in

@@ -12,6 +12,7 @@ use Rattle.mf_account.specs.Account.{after_all, first_state, sum_at}
 use Rattle.mf_account.specs.Standing.{standing, no_entry, entry_at, entries_at}
 use Rattle.mf_account.specs.Loan.{Loan, IsSound, schedule_of, orders_of, state_of_loan}
 use Rattle.mf_account.specs.Rewind.{state_before}
+use Rattle.mf_account.specs.Safe.{most_kept}
 use Rattle.mf_account.proofs.GoodLemmas.{amounts}
 use Rattle.mf_account.proofs.SoundLemmas.{good-sound, standing-amounts}
 use Rattle.mf_account.proofs.OnceLemmas.{money-after}
@@ -31,6 +32,12 @@ brought-most (e ∷ entries) =
 
 pub brought-room : (loan : Loan) → IsSound loan → brought (standing loan.entries) < 2 ^ 63
 brought-room loan sound =
+    let most = brought-most (standing loan.entries) in
+    let all = standing-amounts loan sound in
+    omega (arith, most, all)
+
+pub brought-kept : (loan : Loan) → IsSound loan → brought (standing loan.entries) ≤ most_kept
+brought-kept loan sound =
     let most = brought-most (standing loan.entries) in
     let all = standing-amounts loan sound in
     omega (arith, most, all)

@@ -32,7 +32,8 @@ use Rattle.mf_account.specs.Effect.{settle}
 use Rattle.mf_account.specs.Applicable.{IsSettleable}
 use Rattle.mf_alloc.proofs.LeftOpen.{IsLine}
 use Rattle.mf_account.proofs.EffectLemmas.{length-with_settled, length-with_charge}
-use Rattle.mf_account.proofs.GoodLemmas.{IsStill, still-after, settleable-after}
+use Rattle.mf_account.specs.Safe.{IsShaped}
+use Rattle.mf_account.proofs.GoodLemmas.{still-after, settleable-after}
 use Rattle.mf_account.proofs.UndoLemmas.{before_entry-after, no_refund, money_out-le}
 use Rattle.mf_account.proofs.OnceLemmas.{money-after, refunded-after}
 use Rattle.mf_account.proofs.ReplayLemmas.{length-after}
@@ -123,7 +124,7 @@ length-after_all orders [] from = refl
 length-after_all orders (entry ∷ entries) from = length-after_all orders entries (after (orders entry) entry from) ∙ length-after orders entry from
 
 -- the rows after entries are such as a book can hold
-still-all : (n : ℕ) (orders : Orders) (places : Entry → Cell → ℕ) (entries : List Entry) (from : State) → ((e : Entry) → IsOrder n (orders e) (places e)) → ((j : ℕ) → j < length entries → HasInstalment (entry_at entries j).kind (entry_at entries j) n) → IsStill n from → IsStill n (after_all orders entries from)
+still-all : (n : ℕ) (orders : Orders) (places : Entry → Cell → ℕ) (entries : List Entry) (from : State) → ((e : Entry) → IsOrder n (orders e) (places e)) → ((j : ℕ) → j < length entries → HasInstalment (entry_at entries j).kind (entry_at entries j) n) → IsShaped n from → IsShaped n (after_all orders entries from)
 still-all n orders places [] from lawful there still = still
 still-all n orders places (entry ∷ entries) from lawful there still =
     still-all n orders places entries (after (orders entry) entry from) lawful (λ j less. there (suc j) (omega arith))
@@ -137,7 +138,7 @@ cells-numbered n rows seq place (part ∷ parts) fits size =
     (subst (λ (x : ℕ). IsCell x part.cell) size fits.0)
     (cells-numbered n (settle rows part) seq (place + 1) parts fits.2 (length-with_settled rows (part ∷ []) ∙ size))
 
-cells-settled_by : (n : ℕ) (orders : Orders) (places : Entry → Cell → ℕ) (entries : List Entry) (from : State) → ((e : Entry) → IsOrder n (orders e) (places e)) → ((j : ℕ) → j < length entries → HasInstalment (entry_at entries j).kind (entry_at entries j) n) → IsStill n from → AreInRows n (settled_by orders entries from)
+pub cells-settled_by : (n : ℕ) (orders : Orders) (places : Entry → Cell → ℕ) (entries : List Entry) (from : State) → ((e : Entry) → IsOrder n (orders e) (places e)) → ((j : ℕ) → j < length entries → HasInstalment (entry_at entries j).kind (entry_at entries j) n) → IsShaped n from → AreInRows n (settled_by orders entries from)
 cells-settled_by n orders places [] from lawful there still = All-nil (λ (s : Settled). IsCell n s.cell)
 cells-settled_by n orders places (entry ∷ entries) from lawful there still =
     let line : IsLine n (orders entry) (places entry) from.rows = record { size = still.size; is = lawful entry; whole = still.whole } in
@@ -207,7 +208,7 @@ step_back orders places from first now tail settled own i k start is back within
     let refunded : now.refunded ≡ past.refunded + money_out entry.kind past.overpaid = ap (λ (x : State). x.refunded) state ∙ refunded-after entry.kind order entry past in
     let all : now.overpaid + paid_in (map part_of own) + now.refunded ≤ from.overpaid + amounts tail = omega (arith, money, brings, out, under, upto, parts_sum, paid, overpaid, refunded, none) in
     let next : before_entry entry (map part_of own) now ≡ past = ap (λ x. before_entry entry x now) own_parts ∙ ap (before_entry entry parts) state ∙ before_entry-after order entry past none in
-    let still : IsStill (length from.rows) past =
+    let still : IsShaped (length from.rows) past =
     still-all (length from.rows) orders places (take i tail) from is.lawful
     (λ j less. subst (λ (x : Entry). HasInstalment x.kind x (length from.rows)) (sym (read j (omega (arith, left_size, less)))) (is.instalments j (omega (arith, left_size, less, within))))
     (record { size = refl; whole = is.whole; within = is.within }) in

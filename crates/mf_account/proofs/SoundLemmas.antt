@@ -1,15 +1,14 @@
 -- A sound loan can be replayed, and stays sound when an entry is entered or reversed.
-use Rattle.std.proofs.Common.{◌≡◌, ◌≢◌, ℕ, zero, suc, ◌+◌, ◌-◌, ◌*◌, ◌^◌, ◌<◌, ◌≤◌, Bool, true, false, not, ◌&&◌, ◌||◌, cond, eqb, leb, ltb, true≢false, ◌==◌, List, [], ◌∷◌, ◌++◌, length, map, get_or, Option, Some, None, inl, inr, arith, refl, ◌∙◌, ap, subst, sym, length-append}
-use Rattle.std.specs.Prelude.{sum_by, All, fold, is_some}
+use Rattle.std.proofs.Common.{◌≡◌, ◌≢◌, ℕ, zero, suc, ◌+◌, ◌-◌, ◌*◌, ◌^◌, ◌<◌, ◌≤◌, Bool, true, false, not, ◌&&◌, ◌||◌, cond, eqb, ltb, true≢false, ◌==◌, List, [], ◌∷◌, ◌++◌, length, map, get_or, Option, Some, None, inl, inr, arith, refl, ◌∙◌, ap, subst, sym, length-append}
+use Rattle.std.specs.Prelude.{sum_by, All, fold}
 use Rattle.std.proofs.Math.ListN.{get_or-append}
-use Rattle.std.proofs.lemmas.Bool.{cases_lt, cases_eq, cond_both, cond-true, cond-false, leb-true, leb-false, ltb-false, eqb-false, eq-eqb, lt-ltb, and_parts}
+use Rattle.std.proofs.lemmas.Bool.{cases_lt, cases_eq, cond_both, cond-true, cond-false, ltb-false, eqb-false, eq-eqb, lt-ltb}
 use Rattle.std.proofs.lemmas.List.{length-map, get_or-append_right, get_or-set_same, get_or-set_other, length-set}
 use Rattle.std.proofs.lemmas.List.FromFn.{length-map-range_with_len}
 use Rattle.std.proofs.lemmas.List.Folds.{list_any_at}
 use Rattle.std.proofs.lemmas.List.Elements.{All-nil, All-cons, All-head, All-tail, All-append, All-set, All-weaker}
 use Rattle.std.proofs.lemmas.List.Sums.{sum_by-append}
 use Rattle.mf_base.specs.declared.fault.Fault.{Fault}
-use Rattle.mf_base.specs.declared.fault.Fault.TheVariants.{F8, F9, F10, F11, F14, F18}
 use Rattle.mf_catalog.specs.declared.terms.StrategyName.{StrategyName}
 use Rattle.mf_schedule.specs.declared.instalment.Instalment.{Instalment}
 use Rattle.mf_schedule.specs.Fresh.{total_owed, instalment_of}
@@ -25,12 +24,13 @@ use Rattle.mf_account.specs.Kinds.{is_seal}
 use Rattle.mf_account.specs.Account.{first_state, row_of}
 use Rattle.mf_account.specs.Standing.{is_before, placed, with_entry, standing, no_entry, entry_at, with_mark}
 use Rattle.mf_account.specs.Applicable.{AreApplicable}
-use Rattle.mf_account.specs.Loan.{Loan, HasColumns, IsEntry, SealIsLast, AreEntries, IsSound, schedule_of, orders_of, cell_places_of, state_of_loan, status_of_loan}
-use Rattle.mf_account.specs.Refusals.{is_standing_seal, is_sealed, admits, is_out_of_order, is_there, is_forbidden, is_out_of_limits, refusal_of, HasForm, IsOffered}
+use Rattle.mf_account.specs.Loan.{Loan, HasColumns, IsEntry, SealIsLast, AreEntries, IsSound, schedule_of, orders_of, cell_places_of, state_of_loan}
+use Rattle.mf_account.specs.Refusals.{is_standing_seal, is_sealed, is_out_of_order, is_out_of_limits, HasForm, IsOffered, IsAdmitted}
 use Rattle.mf_alloc.specs.Sums.{IsRowWithin, AreWithin}
 use Rattle.mf_account.specs.Applicable.{HasInstalment}
 use Rattle.mf_account.proofs.DueLemmas.{due_by-le}
-use Rattle.mf_account.proofs.GoodLemmas.{IsGood, IsReplayable, amounts, applicable-all, good-all}
+use Rattle.mf_account.specs.Safe.{IsBounded}
+use Rattle.mf_account.proofs.GoodLemmas.{IsReplayable, amounts, applicable-all, good-all}
 
 pub lawful : (name : StrategyName) (n due : ℕ) → due ≤ n → IsOrder n (cell_by name due) (place_by name due)
 lawful name n due few = record { is_cell = λ k within. is_cell-cell_by name n due k few within; back = λ k within. back-cell_by name due k }
@@ -70,7 +70,7 @@ owed-all q (i ∷ schedule) =
     let right = sum_by-append row_total (i ∷ []) schedule in
     omega (arith, rest, one, left, right)
 
-good-first : (schedule : List Instalment) (used : ℕ) → total_owed schedule ≤ used → IsGood (length schedule) used (first_state schedule)
+good-first : (schedule : List Instalment) (used : ℕ) → total_owed schedule ≤ used → IsBounded (length schedule) used (first_state schedule)
 good-first schedule used room = record {
   size = length-map schedule row_of;
   whole = whole-first schedule;
@@ -151,7 +151,7 @@ length-fold order (x ∷ xs) =
 pub length-standing-le : (entries : List Entry) → length (standing entries) ≤ length entries
 length-standing-le entries = let all = length-fold [] entries in omega (arith, all)
 
-amounts-most : (n : ℕ) (entries : List Entry) → All (IsReplayable n) entries → amounts entries ≤ 10 ^ 12 * length entries
+pub amounts-most : (n : ℕ) (entries : List Entry) → All (IsReplayable n) entries → amounts entries ≤ 10 ^ 12 * length entries
 amounts-most n [] each = omega arith
 amounts-most n (e ∷ entries) each =
     let one : IsReplayable n e = All-head (IsReplayable n) e entries each in
@@ -171,10 +171,10 @@ standing-amounts loan sound =
     let few = length-standing-le loan.entries in
     omega (arith, most, few, sound.entries.few)
 
-pub first-good : (loan : Loan) → IsSound loan → IsGood loan.periods (2 ^ 54) (first_state (schedule_of loan))
+pub first-good : (loan : Loan) → IsSound loan → IsBounded loan.periods (2 ^ 54) (first_state (schedule_of loan))
 first-good loan sound =
     let owed = scheduled_owed-le loan.terms loan.principal loan.periods loan.day sound.limits in
-    subst (λ (n : ℕ). IsGood n (2 ^ 54) (first_state (schedule_of loan))) (length-schedule loan) (good-first (schedule_of loan) (2 ^ 54) (omega (arith, owed)))
+    subst (λ (n : ℕ). IsBounded n (2 ^ 54) (first_state (schedule_of loan))) (length-schedule loan) (good-first (schedule_of loan) (2 ^ 54) (omega (arith, owed)))
 
 -- no sum overflows on the way
 pub applicable-sound : (loan : Loan) → IsSound loan → AreApplicable (orders_of loan) (standing loan.entries) (first_state (schedule_of loan))
@@ -183,7 +183,7 @@ applicable-sound loan sound =
     applicable-all loan.periods (2 ^ 54) (orders_of loan) (cell_places_of loan) (standing loan.entries) (first_state (schedule_of loan))
     (lawful-of loan) (each-standing loan sound) (first-good loan sound) (omega (arith, sum))
 
-pub good-sound : (loan : Loan) → IsSound loan → IsGood loan.periods (2 ^ 54 + amounts (standing loan.entries)) (state_of_loan loan)
+pub good-sound : (loan : Loan) → IsSound loan → IsBounded loan.periods (2 ^ 54 + amounts (standing loan.entries)) (state_of_loan loan)
 good-sound loan sound =
     good-all loan.periods (2 ^ 54) (orders_of loan) (cell_places_of loan) (standing loan.entries) (first_state (schedule_of loan))
     (lawful-of loan) (each-standing loan sound) (first-good loan sound)
@@ -208,49 +208,23 @@ not_none : (b : Bool) → not b ≡ false → b ≡ true
 not_none true none = refl
 not_none false none = absurd (true≢false none)
 
-pub record IsAdmitted (loan : Loan) (e : Entry) (business_day : ℕ) : Type 0 where
-  pub unsealed : is_sealed loan.entries ≡ false
-  pub in_order : is_out_of_order e.kind loan.day business_day e.day ≡ false
-  pub allowed : is_forbidden e.kind (is_some loan.terms.overdue) (state_of_loan loan).rows loan.entries e business_day ≡ false
-  pub within : is_out_of_limits e.kind e.amount ≡ false
-  pub few : leb 9999 (length loan.entries) ≡ false
-
-pub admitted : (loan : Loan) (e : Entry) (business_day : ℕ) → refusal_of loan e business_day ≡ None → IsAdmitted loan e business_day
-admitted loan e business_day none =
-    let sealed = none-of (is_sealed loan.entries) F11 _ none in
-    let status = none-of (not (admits e.kind (status_of_loan loan))) F9 _ sealed.1 in
-    let order = none-of (is_out_of_order e.kind loan.day business_day e.day) F10 _ status.1 in
-    let forbidden = none-of (is_forbidden e.kind (is_some loan.terms.overdue) (state_of_loan loan).rows loan.entries e business_day) F14 _ order.1 in
-    let limits = none-of (is_out_of_limits e.kind e.amount) F8 _ forbidden.1 in
-    let many = none-of (leb 9999 (length loan.entries)) F18 _ limits.1 in
-    record { unsealed = sealed.0; in_order = order.0; allowed = forbidden.0; within = limits.0; few = many.0 }
-
-there-from : (n instalment : ℕ) → not (is_there n instalment) ≡ false → (1 ≤ instalment) × (instalment ≤ n)
-there-from n instalment none =
-    let both = and_parts (leb 1 instalment) (leb instalment n) (not_none (is_there n instalment) none) in
-    (leb-true 1 instalment both.0, leb-true instalment n both.1)
-
 limits-from : (amount : ℕ) → ((amount == 0) || ltb (10 ^ 12) amount) ≡ false → (1 ≤ amount) × (amount ≤ 10 ^ 12)
 limits-from amount none =
     let both = or_none (eqb amount 0) (ltb (10 ^ 12) amount) none in
     let some : amount ≢ 0 = eqb-false amount 0 both.0 in
     (omega (arith, some), ltb-false (10 ^ 12) amount both.1)
 
-columns-by : (kind : Kind) (charged : Bool) (rows : List Sums) (entries : List Entry) (e : Entry) (business_day n : ℕ) → HasForm kind business_day e → is_forbidden kind charged rows entries e business_day ≡ false → is_out_of_limits kind e.amount ≡ false → length rows ≡ n → HasColumns kind n e
-columns-by Repay charged rows entries e business_day n form allowed within size = form
-columns-by Fee charged rows entries e business_day n form allowed within size =
-    let there = there-from (length rows) e.instalment allowed in
+columns-by : (kind : Kind) (e : Entry) (business_day n : ℕ) → HasForm kind business_day e → HasInstalment kind e n → is_out_of_limits kind e.amount ≡ false → HasColumns kind n e
+columns-by Repay e business_day n form there within = form
+columns-by Fee e business_day n form there within =
     let amount = limits-from e.amount within in
-    (amount.0, amount.1, there.0, omega (arith, there.1, size), form.1, form.2)
-columns-by Penalty charged rows entries e business_day n form allowed within size =
-    let there = there-from (length rows) e.instalment (or_none _ _ allowed).0 in
+    (amount.0, amount.1, there.0, there.1, form.1, form.2)
+columns-by Penalty e business_day n form there within =
     let amount = limits-from e.amount within in
-    (amount.0, amount.1, there.0, omega (arith, there.1, size), form.1, form.2)
-columns-by Waive charged rows entries e business_day n form allowed within size =
-    let there = there-from (length rows) e.instalment (or_none _ _ allowed).0 in
-    (form.1, there.0, omega (arith, there.1, size), form.2, form.3)
-columns-by WriteOff charged rows entries e business_day n form allowed within size = (form.1, form.2, form.3, form.4)
-columns-by Refund charged rows entries e business_day n form allowed within size = (form.1, form.2, form.3, form.4)
+    (amount.0, amount.1, there.0, there.1, form.1, form.2)
+columns-by Waive e business_day n form there within = (form.1, there.0, there.1, form.2, form.3)
+columns-by WriteOff e business_day n form there within = (form.1, form.2, form.3, form.4)
+columns-by Refund e business_day n form there within = (form.1, form.2, form.3, form.4)
 
 from-by : (kind : Kind) (first business_day : ℕ) (e : Entry) → HasForm kind business_day e → is_out_of_order kind first business_day e.day ≡ false → first ≤ business_day → first ≤ e.day
 from-by Repay first business_day e form in_order disbursed = ltb-false e.day first (or_none (ltb e.day first) (ltb business_day e.day) in_order).0
@@ -319,16 +293,13 @@ seal-entered n day business_day entries e are unsealed next latest form i j belo
     ]
 
 -- a sound loan with an entry that nothing refuses
-pub sound-entered : (loan : Loan) (e : Entry) (business_day : ℕ) → IsSound loan → IsOffered loan e business_day → refusal_of loan e business_day ≡ None → IsSound (record loan { entries = loan.entries ++ e ∷ [] })
-sound-entered loan e business_day sound offered none =
-    let is : IsAdmitted loan e business_day = admitted loan e business_day none in
-    let rows = (good-sound loan sound).size in
+pub sound-entered : (loan : Loan) (e : Entry) (business_day : ℕ) → IsSound loan → IsOffered loan e business_day → IsAdmitted loan e business_day → IsSound (record loan { entries = loan.entries ++ e ∷ [] })
+sound-entered loan e business_day sound offered is =
     let own : IsEntry loan.periods loan.day e = record {
       from = from-by e.kind loan.day business_day e offered.form is.in_order offered.disbursed;
-      columns = columns-by e.kind (is_some loan.terms.overdue) (state_of_loan loan).rows loan.entries e business_day loan.periods offered.form is.allowed is.within rows;
+      columns = columns-by e.kind e business_day loan.periods offered.form is.there is.within;
     } in
     let size : length (loan.entries ++ e ∷ []) ≡ length loan.entries + 1 = length-append loan.entries (e ∷ []) in
-    let room : length loan.entries < 9999 = leb-false 9999 (length loan.entries) is.few in
     record {
       limits = sound.limits;
       day = sound.day;
@@ -340,7 +311,7 @@ sound-entered loan e business_day sound offered none =
                   let last : i ≡ length loan.entries = omega (arith, size, below, past) in
                   ap (λ (x : Entry). x.seq) (entry_at-last loan.entries e i last) ∙ omega (arith, last, offered.next)
             ];
-        few = omega (arith, size, room);
+        few = omega (arith, size, is.few);
         each = All-append (IsEntry loan.periods loan.day) loan.entries (e ∷ []) sound.entries.each (All-cons (IsEntry loan.periods loan.day) e [] own (All-nil (IsEntry loan.periods loan.day)));
         seal_last = seal-entered loan.periods loan.day business_day loan.entries e sound.entries is.unsealed offered.next offered.latest offered.form;
       };

@@ -15,7 +15,8 @@ use Rattle.mf_account.specs.Standing.{is_before, standing, no_entry, entry_at}
 use Rattle.mf_account.specs.StandingLaw.{IsAmong, Precedes, Ascends, IsStandingOf}
 use Rattle.mf_account.specs.Loan.{Loan, AreEntries, IsSound, schedule_of, orders_of, cell_places_of, state_of_loan, settled_of_loan}
 use Rattle.mf_account.specs.Rewind.{IsRewindable, state_before, tail_of, settled_from, settled_upto, TailsCanBeRewound, IsBack}
-use Rattle.mf_account.proofs.GoodLemmas.{IsGood, IsReplayable, amounts, good-all}
+use Rattle.mf_account.specs.Safe.{IsBounded}
+use Rattle.mf_account.proofs.GoodLemmas.{IsReplayable, amounts, good-all}
 use Rattle.mf_account.proofs.SoundLemmas.{lawful-of, each-standing, first-good, standing-amounts}
 use Rattle.mf_account.proofs.StandingIsOne.{before-asym, standing-is-one}
 use Rattle.mf_account.proofs.RewindLemmas.{none-refunded}
@@ -99,7 +100,7 @@ settled_by-append orders (x ∷ xs) ys from =
     ap (λ z. own ++ z) (settled_by-append orders xs ys (after (orders x) x from))
     ∙ sym (append_assoc own (settled_by orders xs (after (orders x) x from)) (settled_by orders ys (after_all orders xs (after (orders x) x from))))
 
-pub good-before : (loan : Loan) (k : ℕ) → IsSound loan → IsGood loan.periods (2 ^ 54 + amounts (take k (standing loan.entries))) (state_before loan k)
+pub good-before : (loan : Loan) (k : ℕ) → IsSound loan → IsBounded loan.periods (2 ^ 54 + amounts (take k (standing loan.entries))) (state_before loan k)
 good-before loan k sound =
     good-all loan.periods (2 ^ 54) (orders_of loan) (cell_places_of loan) (take k (standing loan.entries)) (first_state (schedule_of loan))
     (lawful-of loan) (All-take (IsReplayable loan.periods) k (standing loan.entries) (each-standing loan sound)) (first-good loan sound)
@@ -109,7 +110,7 @@ pub rewindable-from : (loan : Loan) (k : ℕ) → IsSound loan → (state_before
 rewindable-from loan k sound none =
     let all : List Entry = standing loan.entries in
     let from : State = state_before loan k in
-    let good : IsGood loan.periods (2 ^ 54 + amounts (take k all)) from = good-before loan k sound in
+    let good : IsBounded loan.periods (2 ^ 54 + amounts (take k all)) from = good-before loan k sound in
     let parted = sum_by-take-drop (λ (e : Entry). e.amount) all k in
     let most = standing-amounts loan sound in
     let size = length-drop k all in

@@ -20,11 +20,13 @@ use Rattle.mf_account.specs.Effect.{State, Part, after, settle, settle_row, owe_
 use Rattle.mf_account.specs.AtOnce.{rows_charged}
 use Rattle.mf_account.specs.Account.{Orders, after_all, numbered, settled_by, first_state, row_of, sum_at}
 use Rattle.mf_account.specs.Standing.{standing, no_entry, entry_at}
-use Rattle.mf_account.specs.Applicable.{HasInstalment, IsSettleable}
+use Rattle.mf_account.specs.Applicable.{HasInstalment, IsSettleable, AreInRows}
 use Rattle.mf_account.specs.Loan.{Loan, IsSound, schedule_of, orders_of, cell_places_of, state_of_loan, settled_of_loan}
 use Rattle.mf_account.specs.Told.{settled_amount, IsNumberedTo, AreNumberedTo, AreRowsSmall}
 use Rattle.mf_account.proofs.OnceLemmas.{rows-after}
-use Rattle.mf_account.proofs.GoodLemmas.{IsGood, IsReplayable, settleable-after, good-after, whole-with_charge, amounts}
+use Rattle.mf_account.specs.Safe.{most_kept, IsBounded, IsSafe}
+use Rattle.mf_account.proofs.GoodLemmas.{IsReplayable, settleable-after, good-after, whole-with_charge}
+use Rattle.mf_account.proofs.RewindLemmas.{cells-settled_by}
 use Rattle.mf_account.proofs.SoundLemmas.{All-standing, lawful-of, first-good, each-standing, good-sound, standing-amounts}
 use Rattle.mf_account.proofs.ConserveLemmas.{sum-plus_at, whole-settled, sum-same, sum-four}
 
@@ -65,7 +67,7 @@ settled-with_charge Waive entry rows = refl
 settled-with_charge WriteOff entry rows = refl
 settled-with_charge Refund entry rows = refl
 
-settled-after : (n used : ℕ) (order : ℕ → Cell) (place : Cell → ℕ) (entry : Entry) (before : State) → IsOrder n order place → HasInstalment entry.kind entry n → IsGood n used before → total_settled (after order entry before).rows ≡ total_settled before.rows + parts_amount (parts_of order entry before)
+settled-after : (n used : ℕ) (order : ℕ → Cell) (place : Cell → ℕ) (entry : Entry) (before : State) → IsOrder n order place → HasInstalment entry.kind entry n → IsBounded n used before → total_settled (after order entry before).rows ≡ total_settled before.rows + parts_amount (parts_of order entry before)
 settled-after n used order place entry before is has good =
     let line : IsLine n order place before.rows = record { size = good.size; is = is; whole = good.whole } in
     let charged : List Sums = rows_charged entry before in
@@ -83,7 +85,7 @@ amount-numbered seq place (part ∷ parts) =
     let right = sum_by-append (λ (x : Part). x.amount) (part ∷ []) parts in
     omega (arith, rest, left, right)
 
-settled-all : (n used : ℕ) (orders : Orders) (places : Entry → Cell → ℕ) (entries : List Entry) (before : State) → ((e : Entry) → IsOrder n (orders e) (places e)) → All (IsReplayable n) entries → IsGood n used before → total_settled (after_all orders entries before).rows ≡ total_settled before.rows + settled_amount (settled_by orders entries before)
+settled-all : (n used : ℕ) (orders : Orders) (places : Entry → Cell → ℕ) (entries : List Entry) (before : State) → ((e : Entry) → IsOrder n (orders e) (places e)) → All (IsReplayable n) entries → IsBounded n used before → total_settled (after_all orders entries before).rows ≡ total_settled before.rows + settled_amount (settled_by orders entries before)
 settled-all n used orders places [] before is each good = omega arith
 settled-all n used orders places (entry ∷ entries) before is each good =
     let one : IsReplayable n entry = All-head (IsReplayable n) entry entries each in
@@ -129,9 +131,9 @@ settled-owed (row ∷ rows) whole within =
     let d = sum_by-append (λ (r : Sums). get_or r.owed 3 0) (row ∷ []) rows in
     omega (arith, own, rest, all, a, b, c, d)
 
--- so the parts come to less than 2^64
-pub amount-small : (loan : Loan) → IsSound loan → settled_amount (settled_of_loan loan) < 2 ^ 64
-amount-small loan sound =
+-- so the parts come to no more than is kept
+pub amount-kept : (loan : Loan) → IsSound loan → settled_amount (settled_of_loan loan) ≤ most_kept
+amount-kept loan sound =
     let good = good-sound loan sound in
     let most = standing-amounts loan sound in
     let is = amount-sound loan sound in
@@ -161,20 +163,16 @@ open-here rows i p used default within room =
     omega (arith, here, less, room)
 
 -- so it fits 64 bits
-pub rows-small : (loan : Loan) → IsSound loan → AreRowsSmall (state_of_loan loan).rows
-rows-small loan sound i default within =
-    let rows : List Sums = (state_of_loan loan).rows in
-    let good = good-sound loan sound in
-    let most = standing-amounts loan sound in
-    let used : ℕ = 2 ^ 54 + amounts (standing loan.entries) in
-    let a = open-here rows i 0 used default within (good.owed 0) in
-    let b = open-here rows i 1 used default within (good.owed 1) in
-    let c = open-here rows i 2 used default within (good.owed 2) in
-    let d = open-here rows i 3 used default within (good.owed 3) in
-    omega (arith, most, a, b, c, d)
+pub rows-small : (n : ℕ) (state : State) → IsBounded n most_kept state → AreRowsSmall state.rows
+rows-small n state is i default within =
+    let a = open-here state.rows i 0 most_kept default within (is.owed 0) in
+    let b = open-here state.rows i 1 most_kept default within (is.owed 1) in
+    let c = open-here state.rows i 2 most_kept default within (is.owed 2) in
+    let d = open-here state.rows i 3 most_kept default within (is.owed 3) in
+    omega (arith, a, b, c, d)
 
 -- each part has its entry's number
-abbrev IsEntryTo : ℕ → Entry → Type 0
+abbrev pub IsEntryTo : ℕ → Entry → Type 0
 IsEntryTo n e = (1 ≤ e.seq) × (e.seq ≤ n)
 
 numbers-numbered : (n seq place : ℕ) (parts : List Part) → (1 ≤ seq) × (seq ≤ n) → AreNumberedTo n (numbered seq place parts)
@@ -183,7 +181,7 @@ numbers-numbered n seq place (part ∷ parts) is =
     All-cons (IsNumberedTo n) (record { seq = seq; place = place; cell = part.cell; how = part.how; amount = part.amount }) (numbered seq (place + 1) parts) is
     (numbers-numbered n seq (place + 1) parts is)
 
-numbers-settled : (n : ℕ) (orders : Orders) (entries : List Entry) (before : State) → All (IsEntryTo n) entries → AreNumberedTo n (settled_by orders entries before)
+pub numbers-settled : (n : ℕ) (orders : Orders) (entries : List Entry) (before : State) → All (IsEntryTo n) entries → AreNumberedTo n (settled_by orders entries before)
 numbers-settled n orders [] before each = All-nil (IsNumberedTo n)
 numbers-settled n orders (entry ∷ entries) before each =
     All-append (IsNumberedTo n) (numbered entry.seq 1 (parts_of (orders entry) entry before)) (settled_by orders entries (after (orders entry) entry before))
@@ -199,3 +197,20 @@ parts-numbered loan sound =
     let is = ap (λ (e : Entry). e.seq) same ∙ sound.entries.numbers k within in
     (omega (arith, is), omega (arith, is, within)) in
     numbers-settled n (orders_of loan) (standing loan.entries) (first_state (schedule_of loan)) (All-standing (IsEntryTo n) loan.entries each)
+
+-- each part of a loan is of one of its cells
+cells-sound : (loan : Loan) → IsSound loan → AreInRows loan.periods (settled_of_loan loan)
+cells-sound loan sound =
+    let good = first-good loan sound in
+    cells-settled_by loan.periods (orders_of loan) (cell_places_of loan) (standing loan.entries) (first_state (schedule_of loan)) (lawful-of loan)
+    (λ j below. (each-standing loan sound j no_entry below).there) (record { size = good.size; whole = good.whole; within = good.within })
+
+-- what a replay gives is safe
+pub safe-sound : (loan : Loan) → IsSound loan → IsSafe loan.periods (length loan.entries) (state_of_loan loan) (settled_of_loan loan)
+safe-sound loan sound =
+    let good = good-sound loan sound in
+    let most = standing-amounts loan sound in
+    record {
+      bounded = record { size = good.size; whole = good.whole; within = good.within; owed = λ p. (let owed = good.owed p in omega (arith, owed, most)); money = (let money = good.money in omega (arith, money, most)) };
+      placed = record { cells = cells-sound loan sound; numbers = parts-numbered loan sound; amount = amount-kept loan sound };
+    }

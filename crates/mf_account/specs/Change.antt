@@ -1,10 +1,11 @@
 -- What an entry or a reversal changed.
-use Rattle.std.specs.Prelude.{◌≢◌, ℕ, ◌≤◌, ◌==◌, List, [], length, filter, All}
+use Rattle.std.specs.Prelude.{◌≡◌, ◌≢◌, ℕ, ◌≤◌, ◌==◌, List, [], length, filter, All}
 use Rattle.std.specs.List.{Contains}
 use Rattle.std.specs.List.Sorted.{IsStrictlyIncreasing}
 use Rattle.mf_alloc.specs.Sums.{Sums}
 use Rattle.mf_alloc.specs.Rows.{row_at}
 use Rattle.mf_account.specs.declared.settled.Settled.{Settled}
+use Rattle.mf_account.specs.Effect.{State}
 use Rattle.mf_account.specs.Loan.{Loan, state_of_loan, settled_of_loan}
 
 -- instalments and entries, by their numbers
@@ -12,13 +13,34 @@ pub record Changed : Type 0 where
   pub rows : List ℕ
   pub seqs : List ℕ
 
--- an account: its loan, and what the last entry or reversal changed
+-- an account: its loan, its state and what its standing entries settled as they are kept, and what the last entry or
+-- reversal changed
 pub record Account : Type 0 where
   pub loan : Loan
+  pub state : State
+  pub settled : List Settled
   pub change : Changed
 
 abbrev pub no_change : Changed
 no_change = record { rows = []; seqs = [] }
+
+-- the account of a loan: what replaying its standing entries over its fresh schedule gives, and nothing changed since
+abbrev pub replayed : Loan → Account
+replayed loan = record { loan = loan; state = state_of_loan loan; settled = settled_of_loan loan; change = no_change }
+
+-- what is kept of an account is what a replay gives
+pub record IsReplayed (a : Account) : Type 0 where
+  pub state : a.state ≡ state_of_loan a.loan
+  pub settled : a.settled ≡ settled_of_loan a.loan
+
+-- the parts of one entry
+abbrev pub settled_in : ℕ → List Settled → List Settled
+settled_in seq settled = filter (λ (s : Settled). s.seq == seq) settled
+
+-- rows and parts as they are kept of a loan: those of a replay, the parts by entry in any order of the entries
+pub record AreKeptOf (loan : Loan) (rows : List Sums) (parts : List Settled) : Type 0 where
+  pub rows_are : rows ≡ (state_of_loan loan).rows
+  pub parts_are : (seq : ℕ) → settled_in seq parts ≡ settled_in seq (settled_of_loan loan)
 
 -- the numbers from 1 to n of which something holds, all of them and no other, ascending
 pub record AreThose (n : ℕ) (P : ℕ → Type 0) (xs : List ℕ) : Type 0 where
@@ -31,10 +53,6 @@ pub record AreAll (P : ℕ → Type 0) (xs : List ℕ) : Type 0 where
   pub ascend : IsStrictlyIncreasing xs
   pub each : All P xs
   pub all : (i : ℕ) → P i → Contains xs i
-
--- the parts of one entry
-abbrev pub settled_in : ℕ → List Settled → List Settled
-settled_in seq settled = filter (λ (s : Settled). s.seq == seq) settled
 
 abbrev pub HasOtherRow : List Sums → List Sums → ℕ → Type 0
 HasOtherRow before after i = row_at before i ≢ row_at after i

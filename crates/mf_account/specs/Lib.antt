@@ -5,6 +5,8 @@ pub mod Effect
 pub mod AtOnce
 pub mod Account
 pub mod Applicable
+pub mod Told
+pub mod Safe
 pub mod Loan
 pub mod Change
 pub mod Charges
@@ -14,4 +16,3 @@ pub mod Balance
 pub mod Undo
 pub mod Rewind
 pub mod ClearingLaw
-pub mod Told

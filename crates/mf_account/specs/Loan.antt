@@ -15,6 +15,7 @@ use Rattle.mf_account.specs.Kinds.{is_seal}
 use Rattle.mf_account.specs.Effect.{State}
 use Rattle.mf_account.specs.Account.{Orders, orders_by, first_state, state_of, settled_of, status_of}
 use Rattle.mf_account.specs.Standing.{is_before, standing, entry_at, entries_at}
+use Rattle.mf_account.specs.Safe.{IsSafe}
 
 pub record Loan : Type 0 where
   pub terms : Terms
@@ -82,12 +83,11 @@ abbrev pub status_of_loan : Loan → ℕ
 status_of_loan loan = status_of loan.entries (state_of_loan loan)
 
 -- what is kept of a loan beside its entries: where its standing entries are among them, in their order, its fresh
--- schedule and fee, its state, and what the standing entries settle
-pub record IsKept (loan : Loan) (order : List ℕ) (schedule : List Instalment) (fee : ℕ) (book : State) (settled : List Settled) : Type 0 where
+-- schedule and fee; and a state and parts, of which no more is known than that they are safe
+pub record IsKept (loan : Loan) (order : List ℕ) (schedule : List Instalment) (fee : ℕ) (state : State) (settled : List Settled) : Type 0 where
   pub sound : IsSound loan
   pub within : All (λ at. at < length loan.entries) order
   pub order_is : entries_at loan.entries order ≡ standing loan.entries
   pub schedule_is : schedule ≡ schedule_of loan
   pub fee_is : fee ≡ fee_of_loan loan
-  pub book_is : book ≡ state_of_loan loan
-  pub settled_is : settled ≡ settled_of_loan loan
+  pub safe : IsSafe loan.periods (length loan.entries) state settled

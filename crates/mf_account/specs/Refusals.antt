@@ -2,7 +2,7 @@
 use Rattle.std.specs.Prelude.{◌≡◌, ◌≢◌, ℕ, ◌+◌, ◌-◌, ◌<◌, ◌≤◌, ◌^◌, Bool, false, not, ◌&&◌, ◌||◌, ◌==◌, nat_lt, nat_le, if◌then◌else◌, List, length, Option, Some, None, is_some}
 use Rattle.std.specs.List.{list_any}
 use Rattle.mf_base.specs.declared.fault.Fault.{Fault}
-use Rattle.mf_base.specs.declared.fault.Fault.TheVariants.{F8, F9, F10, F11, F12, F13, F14, F18}
+use Rattle.mf_base.specs.declared.fault.Fault.TheVariants.{F8, F9, F10, F11, F12, F13, F14, F18, F19}
 use Rattle.mf_alloc.specs.declared.row.Portion.TheVariants.{Penalty as PenaltyPart, Fee as FeePart, Principal}
 use Rattle.mf_alloc.specs.Sums.{Sums, is_open}
 use Rattle.mf_alloc.specs.Rows.{outstanding, row_at}
@@ -10,6 +10,7 @@ use Rattle.mf_account.specs.declared.entry.Entry.{Entry}
 use Rattle.mf_account.specs.declared.entry.Kind.{Kind}
 use Rattle.mf_account.specs.declared.entry.Kind.TheVariants.{Repay, Fee, Penalty, Waive, WriteOff, Refund}
 use Rattle.mf_account.specs.Kinds.{is_seal, is_penalty}
+use Rattle.mf_account.specs.Applicable.{HasInstalment}
 use Rattle.mf_account.specs.Standing.{entry_at}
 use Rattle.mf_account.specs.Loan.{Loan, state_of_loan, status_of_loan}
 
@@ -112,3 +113,15 @@ pub record IsOffered (loan : Loan) (e : Entry) (business_day : ℕ) : Type 0 whe
   pub disbursed : loan.day ≤ business_day
   pub latest : (i : ℕ) → i < length loan.entries → (entry_at loan.entries i).day ≤ business_day
   pub form : HasForm e.kind business_day e
+
+-- what no refusal says of an entry, whatever is kept of the account
+pub record IsAdmitted (loan : Loan) (e : Entry) (business_day : ℕ) : Type 0 where
+  pub unsealed : is_sealed loan.entries ≡ false
+  pub in_order : is_out_of_order e.kind loan.day business_day e.day ≡ false
+  pub there : HasInstalment e.kind e loan.periods
+  pub within : is_out_of_limits e.kind e.amount ≡ false
+  pub few : length loan.entries < 9999
+
+-- the refusals of an entry or a reversal, and want of memory
+abbrev pub IsEntryFault : Fault → Type 0
+IsEntryFault fault = fault ≢ F19

@@ -1,5 +1,5 @@
 -- The standing entries of a loan, in order.
-use Rattle.std.specs.Prelude.{◌≡◌, ℕ, Bool, ◌&&◌, ◌||◌, ◌==◌, nat_lt, if◌then◌else◌, List, [], ◌∷◌, fold, map, slice_index_or, slice_set, None, false, ◌+◌}
+use Rattle.std.specs.Prelude.{◌≡◌, ◌≢◌, ℕ, ◌<◌, length, slice_index, Bool, ◌&&◌, ◌||◌, ◌==◌, nat_lt, if◌then◌else◌, List, [], ◌∷◌, fold, map, slice_index_or, slice_set, None, false, ◌+◌}
 use Rattle.mf_alloc.specs.declared.row.Portion.TheVariants.{Principal}
 use Rattle.mf_account.specs.declared.entry.Kind.TheVariants.{Repay}
 use Rattle.mf_account.specs.declared.entry.Entry.{Entry}
@@ -61,3 +61,7 @@ IsInOrder (x ∷ xs) = NoneBefore x xs × IsInOrder xs
 abbrev pub places_from : ℕ → List Entry → List Place
 places_from k [] = []
 places_from k (e ∷ es) = if e.reversed then places_from (k + 1) es else record { day = e.day; at = k } ∷ places_from (k + 1) es
+
+-- no place stands twice
+abbrev pub AreApart : List ℕ → Type 0
+AreApart order = (i j : ℕ) → i < j → j < length order → slice_index order i ≢ slice_index order j

@@ -1,16 +1,18 @@
-ghost use Rattle.std.specs.Prelude.{◌≡◌, ◌≢◌, ℕ, ◌+◌, ◌-◌, ◌<◌, ◌≤◌, ◌^◌, ◌∷◌, [], ◌++◌, IfOk, IfSome, IsTrue, OnOk, OnErr, IsOkUnless, None, Some, true, false, length, take, insert, sum, slice_index};
+ghost use Rattle.std.specs.Prelude.{◌≡◌, ◌≢◌, ℕ, ◌+◌, ◌-◌, ◌*◌, ◌<◌, ◌≤◌, ◌^◌, ◌∷◌, [], ◌++◌, IfOk, IfErr, IfSome, IsTrue, OnOk, OnErr, IsOkUnless, None, Some, true, false, length, take, insert, sum, slice_index};
 ghost use Rattle.mf_base.specs.declared.fault.Fault.{Fault as FaultNumber};
 ghost use Rattle.mf_base.specs.DayText.{last_entered_day};
 ghost use Rattle.mf_catalog.specs.Limits.{IsChargeWithinLimits};
 ghost use Rattle.mf_schedule.specs.Fresh.{IsLoanWithinLimits};
 ghost use Rattle.mf_account.specs.Standing.{entry_at, standing, placed, with_mark};
-ghost use Rattle.mf_account.specs.Account.{shares_in};
+ghost use Rattle.mf_alloc.specs.Sums.{AreWhole, AreWithin};
+ghost use Rattle.mf_account.specs.Account.{shares_in, status_of};
 ghost use Rattle.mf_account.specs.Charges.{fee_amount as fee_amount_of, fee_instalment as fee_instalment_of, fee_refused, penalty_amount as penalty_amount_of};
-ghost use Rattle.mf_account.specs.Change.{Account, IsChange, no_change, settled_in};
-ghost use Rattle.mf_account.specs.Loan.{Loan, IsKept, IsSound, AreEntries, state_of_loan, settled_of_loan, status_of_loan};
+ghost use Rattle.mf_account.specs.Change.{Account, IsChange, IsReplayed, AreKeptOf, replayed, settled_in};
+ghost use Rattle.mf_account.specs.Loan.{Loan, IsKept, IsSound, AreEntries, settled_of_loan, fee_of_loan};
 ghost use Rattle.mf_account.specs.Rewind.{IsRedone, state_before, settled_upto};
-ghost use Rattle.mf_account.specs.Balance.{balances_of, repaid};
-ghost use Rattle.mf_account.specs.Refusals.{refusal_of, reversal_refused, is_sealed as is_sealed_by, IsOffered};
+ghost use Rattle.mf_account.specs.Balance.{balances_by, open_in, repaid};
+ghost use Rattle.mf_account.specs.Safe.{most_kept, IsShaped, IsBounded, IsSafe};
+ghost use Rattle.mf_account.specs.Refusals.{refusal_of, reversal_refused, is_sealed as is_sealed_by, IsOffered, IsAdmitted, IsEntryFault};
 ghost use Rattle.mf_account.specs.Told.{settled_amount, AreRowsSmall, AreNumbered, AreNumberedTo};
 
 use crate::balances::{Balances, book_sums};
@@ -24,9 +26,12 @@ use crate::lawful::{
 use crate::refusal::{
     admits, is_forbidden, is_out_of_limits, is_out_of_order, is_sealed, reversal, status,
 };
-use crate::replay::{apply_all, apply_with, mark_in, place_in, position, replayed, standing_order};
+use crate::replay::{
+    apply_all, apply_with, in_order, mark_in, place_in, position, replayed, standing_order,
+};
 use crate::resume::resumed_book;
 use crate::rewind::rewind_to;
+use crate::safe::{is_amount_within, is_bounded};
 use crate::settled::{Book, Settled, put_behind, put_in};
 use mf_alloc::{Portion, Row, Share};
 use mf_base::{Day, Fault};
@@ -35,8 +40,10 @@ use mf_schedule::{Instalment, disbursement_fee, fresh};
 use std::alloc::Global;
 use std::marker::Model;
 
-/// The account of a disbursed loan. It is what its terms, its day of disbursement and its entries make it: the effects
-/// of the standing entries, in order of day and number, on the fresh schedule with nothing paid.
+/// The account of a disbursed loan: its terms, its day of disbursement and its entries, and beside them the instalments and what
+/// the entries settled, as they are kept. Where these are what a replay gives (`IsReplayed`) they are the effects of the standing
+/// entries, in order of day and number, on the fresh schedule with nothing paid; and so they stay. No call rests on that to be
+/// safe.
 #[derive(Debug, Drop)]
 pub struct LoanAccount {
     terms: Terms,
@@ -56,7 +63,7 @@ pub struct LoanAccount {
 impl Model for LoanAccount {
     ghost Value = { Account };
 
-    ghost view = { λ a. record { loan = record { terms = a.terms; principal = a.principal; periods = a.periods; day = a.day; entries = a.entries.items }; change = a.change } };
+    ghost view = { λ a. record { loan = record { terms = a.terms; principal = a.principal; periods = a.periods; day = a.day; entries = a.entries.items }; state = a.book; settled = a.settled.items; change = a.change } };
 
     ghost invariant = { λ a. IsKept (record { terms = a.terms; principal = a.principal; periods = a.periods; day = a.day; entries = a.entries.items }) a.order.items a.schedule.items a.disbursement_fee a.book a.settled.items };
 }
@@ -75,7 +82,7 @@ impl LoanAccount {
         requires limits { IsLoanWithinLimits terms principal periods }
         requires day { day ≤ last_entered_day }
         requires entries { AreEntries periods day entries.items }
-        ensures account { IfOk result (λ account. account ≡ record { loan = record { terms = terms; principal = principal; periods = periods; day = day; entries = entries.items }; change = no_change }) }
+        ensures account { IfOk result (λ account. account ≡ replayed (record { terms = terms; principal = principal; periods = periods; day = day; entries = entries.items })) }
         ensures only { IsOkUnless result Fault.F20 }
     {
         let schedule = fresh(alloc, &terms, principal, periods, day)?;
@@ -107,7 +114,7 @@ impl LoanAccount {
         day: Day,
         entries: Vec<Entry>,
     ) -> Result<Option<LoanAccount>, Fault>
-        ensures account { IfOk result (λ found. IfSome found (λ account. account ≡ record { loan = record { terms = terms; principal = principal; periods = periods; day = day; entries = entries.items }; change = no_change })) }
+        ensures account { IfOk result (λ found. IfSome found (λ account. account ≡ replayed (record { terms = terms; principal = principal; periods = periods; day = day; entries = entries.items }))) }
         ensures none { IfOk result (λ found. IsSound (record { terms = terms; principal = principal; periods = periods; day = day; entries = entries.items }) → found ≢ None) }
         ensures only { IsOkUnless result Fault.F20 }
     {
@@ -122,7 +129,10 @@ impl LoanAccount {
         }
     }
 
-    /// The account of `replay`, where its rows and settled parts are known. Only a want of memory is refused.
+    /// The account of what is kept of a loan: its entries, its instalments and what its entries settled, the parts of an entry in
+    /// their order. It is the account of `replay` where the instalments and the parts are what that gives. None where what is kept
+    /// can be no loan's: as in `of_entries`; or more or fewer instalments than periods, a part without an instalment or an entry, or
+    /// sums far above the limits of loans. Only a want of memory is refused.
     pub fn resume(
         alloc: Global,
         terms: Terms,
@@ -132,20 +142,57 @@ impl LoanAccount {
         entries: Vec<Entry>,
         rows: Vec<Row>,
         settled: Vec<Settled>,
-    ) -> Result<LoanAccount, Fault>
+    ) -> Result<Option<LoanAccount>, Fault>
+        requires whole { AreWhole rows.items }
+        requires apart { AreWithin rows.items }
+        ensures account { IsSound (record { terms = terms; principal = principal; periods = periods; day = day; entries = entries.items }) → AreKeptOf (record { terms = terms; principal = principal; periods = periods; day = day; entries = entries.items }) rows.items settled.items → IfOk result (λ found. found ≡ Some (replayed (record { terms = terms; principal = principal; periods = periods; day = day; entries = entries.items }))) }
+        ensures only { IsOkUnless result Fault.F20 }
+    {
+        if is_loan_within_limits(&terms, principal, periods)
+            && can_be_entered(day)
+            && are_entries(&entries, periods, day)
+        {
+            LoanAccount::resume_sound(
+                alloc, terms, principal, periods, day, entries, rows, settled,
+            )
+        } else {
+            Ok(None)
+        }
+    }
+
+    /// The same for a loan whose terms, day and entries are those of a loan.
+    fn resume_sound(
+        alloc: Global,
+        terms: Terms,
+        principal: u64,
+        periods: u32,
+        day: Day,
+        entries: Vec<Entry>,
+        rows: Vec<Row>,
+        settled: Vec<Settled>,
+    ) -> Result<Option<LoanAccount>, Fault>
         requires limits { IsLoanWithinLimits terms principal periods }
         requires day { day ≤ last_entered_day }
         requires entries { AreEntries periods day entries.items }
-        requires rows { rows.items ≡ (state_of_loan (record { terms = terms; principal = principal; periods = periods; day = day; entries = entries.items })).rows }
-        requires settled { settled.items ≡ settled_of_loan (record { terms = terms; principal = principal; periods = periods; day = day; entries = entries.items }) }
-        ensures account { IfOk result (λ account. account ≡ record { loan = record { terms = terms; principal = principal; periods = periods; day = day; entries = entries.items }; change = no_change }) }
+        requires whole { AreWhole rows.items }
+        requires apart { AreWithin rows.items }
+        ensures account { AreKeptOf (record { terms = terms; principal = principal; periods = periods; day = day; entries = entries.items }) rows.items settled.items → IfOk result (λ found. found ≡ Some (replayed (record { terms = terms; principal = principal; periods = periods; day = day; entries = entries.items }))) }
         ensures only { IsOkUnless result Fault.F20 }
     {
+        if rows.len() != periods as usize {
+            return Ok(None);
+        }
         let schedule = fresh(alloc, &terms, principal, periods, day)?;
         let first_fee = disbursement_fee(&terms, principal, &schedule);
         let order = standing_order(alloc, &entries)?;
-        let book = resumed_book(&entries, &order, rows);
-        Ok(LoanAccount {
+        let placed = in_order(alloc, &order, entries.len(), rows.len(), &settled)?;
+        let Some(settled) = placed else {
+            return Ok(None);
+        };
+        let Some(book) = resumed_book(&entries, &order, rows) else {
+            return Ok(None);
+        };
+        Ok(Some(LoanAccount {
             terms,
             principal,
             periods,
@@ -157,20 +204,22 @@ impl LoanAccount {
             book,
             settled,
             change: unchanged(alloc),
-        })
+        }))
     }
 
     /// Enters one entry more. The refusals are, the first that holds: F11 where a write-off or refund stands; F9 where
     /// the loan is not at status 300, or at 700 for a refund; F10 for a repayment before disbursement or after the
     /// business day; F14 where the instalment does not allow it; F8 for a fee or penalty of 0 or over 10^12 cents; F18
     /// where the loan has 9,999 entries; and F20 for want of memory. A refused entry is given up, and the account is
-    /// as before.
+    /// as before. An account that is no replay's may be refused with F20 too, where sums would leave all bounds.
     pub fn enter(&mut self, alloc: Global, entry: Entry, business_day: Day) -> Result<(), Fault>
         requires { IsOffered self.old.loan entry business_day }
         ensures ok { OnOk result (self.new.loan ≡ record self.old.loan { entries = self.old.loan.entries ++ entry ∷ [] }) }
-        ensures refused { (fault : FaultNumber) → refusal_of self.old.loan entry business_day ≡ Some fault → result ≡ Err fault }
-        ensures accepted { refusal_of self.old.loan entry business_day ≡ None → IsOkUnless result Fault.F20 }
-        ensures change { OnOk result (IsChange self.old.loan self.new.loan self.new.change) }
+        ensures replayed { IsReplayed self.old → OnOk result (IsReplayed self.new) }
+        ensures refused { IsReplayed self.old → (fault : FaultNumber) → refusal_of self.old.loan entry business_day ≡ Some fault → result ≡ Err fault }
+        ensures accepted { IsReplayed self.old → refusal_of self.old.loan entry business_day ≡ None → IsOkUnless result Fault.F20 }
+        ensures change { IsReplayed self.old → OnOk result (IsChange self.old.loan self.new.loan self.new.change) }
+        ensures faults { IfErr result IsEntryFault }
         ensures err { OnErr result (self.new ≡ self.old) }
     {
         match self.refusal(&entry, business_day) {
@@ -184,8 +233,9 @@ impl LoanAccount {
         requires sound { IsSound (record self.old.loan { entries = self.old.loan.entries ++ entry ∷ [] }) }
         requires stands { entry.reversed ≡ false }
         ensures ok { OnOk result (self.new.loan ≡ record self.old.loan { entries = self.old.loan.entries ++ entry ∷ [] }) }
+        ensures replayed { IsReplayed self.old → OnOk result (IsReplayed self.new) }
         ensures only { IsOkUnless result Fault.F20 }
-        ensures change { OnOk result (IsChange self.old.loan self.new.loan self.new.change) }
+        ensures change { IsReplayed self.old → OnOk result (IsChange self.old.loan self.new.loan self.new.change) }
         ensures err { OnErr result (self.new ≡ self.old) }
     {
         let place = self.place_of(&entry);
@@ -222,14 +272,31 @@ impl LoanAccount {
         requires stands { entry.now.reversed ≡ false }
         requires within { place ≤ length (standing self.now.loan.entries) }
         requires place { placed entry.now (standing self.now.loan.entries) ≡ insert (standing self.now.loan.entries) place entry.now }
-        ensures redone { IfOk result (λ r. IsRedone self.now.loan (record self.now.loan { entries = self.now.loan.entries ++ entry.now ∷ [] }) r.0 r.1 r.2.items) }
+        ensures redone { IsReplayed self.now → IfOk result (λ r. IsRedone self.now.loan (record self.now.loan { entries = self.now.loan.entries ++ entry.now ∷ [] }) r.0 r.1 r.2.items) }
+        ensures kept { IfOk result (λ r. r.1 ≤ length self.now.settled) }
+        ensures safe { IfOk result (λ r. IsSafe self.now.loan.periods (length self.now.loan.entries + 1) r.0 (take r.1 self.now.settled ++ r.2.items)) }
         ensures only { IsOkUnless result Fault.F20 }
     {
         let (mut book, kept) = self.rewound(alloc, place)?;
         let later = &self.order[place..];
         let strategy = &self.terms.strategy;
         let parts = apply_with(alloc, strategy, &mut book, entry, &self.entries, later)?;
+        self.bounded(&book, kept, &parts)?;
         Ok((book, kept, parts))
+    }
+
+    /// F20 where a book, or parts behind the first ones, of which so many stay, come to more than is kept.
+    fn bounded(&self, book: &Book, kept: usize, parts: &[Settled]) -> Result<(), Fault>
+        requires within { kept ≤ length self.now.settled }
+        ensures book { (n : ℕ) → IsShaped n book.now → OnOk result (IsBounded n most_kept book.now) }
+        ensures parts { OnOk result (settled_amount (take kept self.now.settled ++ parts.now) ≤ most_kept) }
+        ensures only { IsOkUnless result Fault.F20 }
+    {
+        if is_bounded(book) && is_amount_within(&self.settled[..kept], parts) {
+            Ok(())
+        } else {
+            Err(Fault::F20)
+        }
     }
 
     /// What a change that leads to a book and parts changes.
@@ -240,8 +307,9 @@ impl LoanAccount {
         kept: usize,
         parts: &[Settled],
     ) -> Result<Change, Fault>
-        requires { (new : Loan) × IsSound new × (new.periods ≡ self.now.loan.periods) × (length self.now.loan.entries ≤ length new.entries) × IsRedone self.now.loan new book.now kept parts.now }
-        ensures change { (new : Loan) → IsSound new → new.periods ≡ self.now.loan.periods → length self.now.loan.entries ≤ length new.entries → IsRedone self.now.loan new book.now kept parts.now → IfOk result (IsChange self.now.loan new) }
+        requires size { length book.now.rows ≡ self.now.loan.periods }
+        requires within { kept ≤ length self.now.settled }
+        ensures change { IsReplayed self.now → (new : Loan) → IsSound new → new.periods ≡ self.now.loan.periods → length self.now.loan.entries ≤ length new.entries → IsRedone self.now.loan new book.now kept parts.now → IfOk result (IsChange self.now.loan new) }
         ensures only { IsOkUnless result Fault.F20 }
     {
         let before = &self.settled[kept..];
@@ -252,18 +320,23 @@ impl LoanAccount {
     /// The book before the standing entries from a place on, and how many parts are settled by then.
     fn rewound(&self, alloc: Global, place: usize) -> Result<(Book, usize), Fault>
         requires place { place ≤ length (standing self.now.loan.entries) }
-        ensures within { IfOk result (λ both. both.1 ≤ length (settled_of_loan self.now.loan)) }
-        ensures back { IfOk result (λ both. (both.0 ≡ state_before self.now.loan place) × (take both.1 (settled_of_loan self.now.loan) ≡ settled_upto self.now.loan place)) }
+        ensures within { IfOk result (λ both. both.1 ≤ length self.now.settled) }
+        ensures bounded { IfOk result (λ both. IsBounded self.now.loan.periods (2 * most_kept) both.0) }
+        ensures back { IsReplayed self.now → IfOk result (λ both. (both.0 ≡ state_before self.now.loan place) × (take both.1 (settled_of_loan self.now.loan) ≡ settled_upto self.now.loan place)) }
         ensures only { IsOkUnless result Fault.F20 }
     {
         let mut book = self.book.copied(alloc)?;
-        let kept = rewind_to(&mut book, &self.entries, &self.order, place, &self.settled);
-        Ok((book, kept))
+        match rewind_to(&mut book, &self.entries, &self.order, place, &self.settled) {
+            Some(kept) => Ok((book, kept)),
+            None => Err(Fault::F20),
+        }
     }
 
     /// Why an entry is refused, if it is. It takes no memory.
     fn refusal(&self, entry: &Entry, business_day: Day) -> Option<Fault>
-        ensures value { result ≡ refusal_of self.now.loan entry.now business_day }
+        ensures value { IsReplayed self.now → result ≡ refusal_of self.now.loan entry.now business_day }
+        ensures admitted { result ≡ None → IsAdmitted self.now.loan entry.now business_day }
+        ensures faults { IfSome result IsEntryFault }
         ensures sound { IsSound self.now.loan }
     {
         let book = &self.book;
@@ -290,12 +363,14 @@ impl LoanAccount {
     }
 
     /// Reverses entry `seq`. The refusals are, the first that holds: F12 where there is no such entry; F13 where it is
-    /// reversed; F11 where another entry seals the loan; and F20 for want of memory. The account is then as before.
+    /// reversed; F11 where another entry seals the loan; and F20 for want of memory. The account is then as before. F20 comes for
+    /// an account that is no replay's as in `enter`.
     pub fn reverse(&mut self, alloc: Global, seq: u32) -> Result<(), Fault>
         ensures ok { OnOk result (self.new.loan ≡ record self.old.loan { entries = with_mark self.old.loan.entries (seq - 1) true }) }
+        ensures replayed { IsReplayed self.old → OnOk result (IsReplayed self.new) }
         ensures refused { (fault : FaultNumber) → reversal_refused self.old.loan.entries seq ≡ Some fault → result ≡ Err fault }
         ensures accepted { reversal_refused self.old.loan.entries seq ≡ None → IsOkUnless result Fault.F20 }
-        ensures change { OnOk result (IsChange self.old.loan self.new.loan self.new.change) }
+        ensures change { IsReplayed self.old → OnOk result (IsChange self.old.loan self.new.loan self.new.change) }
         ensures err { OnErr result (self.new ≡ self.old) }
     {
         let sealed = self.is_sealed();
@@ -310,8 +385,9 @@ impl LoanAccount {
         requires there { at < length self.old.loan.entries }
         requires stands { (entry_at self.old.loan.entries at).reversed ≡ false }
         ensures ok { OnOk result (self.new.loan ≡ record self.old.loan { entries = with_mark self.old.loan.entries at true }) }
+        ensures replayed { IsReplayed self.old → OnOk result (IsReplayed self.new) }
         ensures only { IsOkUnless result Fault.F20 }
-        ensures change { OnOk result (IsChange self.old.loan self.new.loan self.new.change) }
+        ensures change { IsReplayed self.old → OnOk result (IsChange self.old.loan self.new.loan self.new.change) }
         ensures err { OnErr result (self.new ≡ self.old) }
     {
         let place = self.place_at(at);
@@ -343,12 +419,15 @@ impl LoanAccount {
         place: usize,
     ) -> Result<(Book, usize, Vec<Settled>), Fault>
         requires within { place < length (standing self.now.loan.entries) }
-        ensures redone { (at : ℕ) → at < length self.now.loan.entries → entry_at (standing self.now.loan.entries) place ≡ entry_at self.now.loan.entries at → IfOk result (λ r. IsRedone self.now.loan (record self.now.loan { entries = with_mark self.now.loan.entries at true }) r.0 r.1 r.2.items) }
+        ensures redone { IsReplayed self.now → (at : ℕ) → at < length self.now.loan.entries → entry_at (standing self.now.loan.entries) place ≡ entry_at self.now.loan.entries at → IfOk result (λ r. IsRedone self.now.loan (record self.now.loan { entries = with_mark self.now.loan.entries at true }) r.0 r.1 r.2.items) }
+        ensures kept { IfOk result (λ r. r.1 ≤ length self.now.settled) }
+        ensures safe { IfOk result (λ r. IsSafe self.now.loan.periods (length self.now.loan.entries) r.0 (take r.1 self.now.settled ++ r.2.items)) }
         ensures only { IsOkUnless result Fault.F20 }
     {
         let (mut book, kept) = self.rewound(alloc, place)?;
         let later = &self.order[place + 1..];
         let parts = apply_all(alloc, &self.terms.strategy, &mut book, &self.entries, later)?;
+        self.bounded(&book, kept, &parts)?;
         Ok((book, kept, parts))
     }
 
@@ -363,7 +442,8 @@ impl LoanAccount {
     /// Why a fee that is due on a day is refused before it is worked out, if it is: F11 where the loan is sealed, F9 for a
     /// status that takes no fee, F10 where the day is before disbursement. It takes no memory.
     pub fn fee_refusal(&self, due: Day) -> Option<Fault>
-        ensures { result ≡ fee_refused self.now.loan due }
+        ensures value { IsReplayed self.now → result ≡ fee_refused self.now.loan due }
+        ensures faults { IfSome result IsEntryFault }
     {
         if self.is_sealed() {
             Some(Fault::F11)
@@ -415,7 +495,7 @@ impl LoanAccount {
     /// The loan's status: 601 where a write-off stands, else 300 where anything is outstanding, else 700 where
     /// something is overpaid, else 600.
     pub fn status(&self) -> u16
-        ensures { result ≡ status_of_loan self.now.loan }
+        ensures { result ≡ status_of self.now.loan.entries self.now.state }
     {
         let book = &self.book;
         status(&self.entries, &self.order, &book.rows, book.overpaid)
@@ -428,23 +508,23 @@ impl LoanAccount {
         is_sealed(&self.entries, &self.order)
     }
 
-    /// The loan's sums over all instalments. The standing repayments add up to all that is paid, overpaid and refunded;
-    /// the principal disbursed is paid, written off or outstanding; where something is overpaid nothing is outstanding;
-    /// and in each portion what is paid, waived, written off and outstanding is what is owed.
+    /// The loan's sums over all instalments. In each portion what is paid, waived, written off and outstanding is what is owed.
+    /// Where the account is a replay's, the standing repayments add up to all that is paid, overpaid and refunded; the principal
+    /// disbursed is paid, written off or outstanding; and where something is overpaid nothing is outstanding.
     pub fn balances(&self) -> Balances
-        ensures value { result ≡ balances_of self.now.loan }
-        ensures repaid { sum result.paid + result.overpaid + result.refunded ≡ repaid self.now.loan.entries }
-        ensures principal { slice_index result.paid 3 + slice_index result.written_off 3 + slice_index result.outstanding 3 ≡ self.now.loan.principal }
-        ensures apart { 0 < result.overpaid → sum result.outstanding ≡ 0 }
+        ensures value { result ≡ balances_by (fee_of_loan self.now.loan) self.now.state }
+        ensures repaid { IsReplayed self.now → sum result.paid + result.overpaid + result.refunded ≡ repaid self.now.loan.entries }
+        ensures principal { IsReplayed self.now → slice_index result.paid 3 + slice_index result.written_off 3 + slice_index result.outstanding 3 ≡ self.now.loan.principal }
+        ensures apart { IsReplayed self.now → 0 < result.overpaid → sum result.outstanding ≡ 0 }
         ensures whole { (p : ℕ) → p < 4 → slice_index result.paid p + slice_index result.waived p + slice_index result.written_off p + slice_index result.outstanding p ≡ slice_index result.owed p }
     {
         self.sums()
     }
 
-    /// What is outstanding of the principal, at most 10^12 cents.
+    /// What is outstanding of the principal; where the account is a replay's, at most 10^12 cents.
     pub fn principal_left(&self) -> u64
-        ensures value { result ≡ slice_index (balances_of self.now.loan).outstanding 3 }
-        ensures most { result ≤ 10 ^ 12 }
+        ensures value { result ≡ open_in 3 self.now.state.rows }
+        ensures most { IsReplayed self.now → result ≤ 10 ^ 12 }
     {
         let sums = self.sums();
         sums.outstanding[Portion::Principal.index()]
@@ -452,7 +532,8 @@ impl LoanAccount {
 
     /// The sums, as they are kept.
     fn sums(&self) -> Balances
-        ensures value { result ≡ balances_of self.now.loan }
+        ensures value { result ≡ balances_by (fee_of_loan self.now.loan) self.now.state }
+        ensures apart { AreWithin self.now.state.rows }
         ensures sound { IsSound self.now.loan }
     {
         let book = &self.book;
@@ -466,7 +547,7 @@ impl LoanAccount {
 
     /// The instalments as they stand, at most 360. What is outstanding in each is below 2^64 cents.
     pub fn rows(&self) -> &[Row]
-        ensures rows { result.now ≡ (state_of_loan self.now.loan).rows }
+        ensures rows { result.now ≡ self.now.state.rows }
         ensures few { length result.now ≤ 360 }
         ensures small { AreRowsSmall result.now }
     {
@@ -515,7 +596,7 @@ impl LoanAccount {
     /// What the standing entries settle, entry by entry in their order. In all it is below 2^64 cents, and each part has
     /// the number of one of the entries.
     pub fn settled_parts(&self) -> &[Settled]
-        ensures parts { result.now ≡ settled_of_loan self.now.loan }
+        ensures parts { result.now ≡ self.now.settled }
         ensures small { settled_amount result.now < 2 ^ 64 }
         ensures numbers { AreNumberedTo (length self.now.loan.entries) result.now }
     {
@@ -524,7 +605,7 @@ impl LoanAccount {
 
     /// What an entry settles, with places from 1 in the strategy's order of cells.
     pub fn settled(&self, alloc: Global, seq: u32) -> Result<Vec<Settled>, Fault>
-        ensures settled { IfOk result (λ settled. settled.items ≡ settled_in seq (settled_of_loan self.now.loan)) }
+        ensures settled { IfOk result (λ settled. settled.items ≡ settled_in seq self.now.settled) }
         ensures only { IsOkUnless result Fault.F20 }
     {
         let settled = self
@@ -539,7 +620,7 @@ impl LoanAccount {
     /// What an entry settles, cell by cell in the strategy's order, zero ones left out. A reversed entry and a refund
     /// settle nothing.
     pub fn shares(&self, alloc: Global, seq: u32) -> Result<Vec<Share>, Fault>
-        ensures shares { IfOk result (λ shares. shares.items ≡ shares_in seq (settled_of_loan self.now.loan)) }
+        ensures shares { IfOk result (λ shares. shares.items ≡ shares_in seq self.now.settled) }
         ensures only { IsOkUnless result Fault.F20 }
     {
         let shares = self

@@ -15,6 +15,7 @@ mod refusal;
 mod replay;
 mod resume;
 mod rewind;
+mod safe;
 mod settled;
 
 pub use account::LoanAccount;

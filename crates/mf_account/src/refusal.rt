@@ -1,6 +1,7 @@
 ghost use Rattle.std.specs.Prelude.{◌≡◌, ℕ, ◌-◌, ◌<◌, ◌≤◌, ◌&&◌, not, false, IsTrue, IfNone, length, is_some, All};
 ghost use Rattle.mf_account.specs.Standing.{entry_at, entries_at, standing};
 ghost use Rattle.mf_alloc.specs.Rows.{row_at};
+ghost use Rattle.mf_account.specs.Applicable.{HasInstalment};
 ghost use Rattle.mf_account.specs.Loan.{Loan, AreEntries, IsSound, state_of_loan};
 ghost use Rattle.mf_account.specs.Kinds.{is_write_off as is_write_off_kind};
 ghost use Rattle.std.specs.List.{list_any};
@@ -121,7 +122,8 @@ fn forbids_penalty(charged: bool, row: &Row, business_day: Day) -> bool
 /// Whether the instalment that an entry names does not allow it. `charged` says whether the product has an overdue
 /// charge.
 pub(crate) fn is_forbidden(charged: bool, rows: &[Row], entry: &Entry, business_day: Day) -> bool
-    ensures { (loan : Loan) → IsSound loan → rows.now ≡ (state_of_loan loan).rows → result ≡ is_forbidden_there entry.now.kind charged rows.now loan.entries entry.now business_day }
+    ensures there { result ≡ false → HasInstalment entry.now.kind entry.now (length rows.now) }
+    ensures value { (loan : Loan) → IsSound loan → rows.now ≡ (state_of_loan loan).rows → result ≡ is_forbidden_there entry.now.kind charged rows.now loan.entries entry.now business_day }
 {
     match entry.kind {
         Kind::Repay | Kind::WriteOff | Kind::Refund => false,

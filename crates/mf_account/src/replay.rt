@@ -1,12 +1,19 @@
-ghost use Rattle.std.specs.Prelude.{◌≡◌, ℕ, ◌+◌, ◌<◌, ◌≤◌, ◌∷◌, [], ◌++◌, IfOk, OnOk, IsOkUnless, length, map, All, insert, slice_index};
+ghost use Rattle.std.specs.Prelude.{◌≡◌, ◌≢◌, ℕ, ◌+◌, ◌-◌, ◌<◌, ◌≤◌, ◌∷◌, [], ◌++◌, None, IfOk, IfSome, OnOk, IsOkUnless, length, map, All, insert, slice_index};
 ghost use Rattle.std.specs.List.{Contains};
 ghost use Rattle.mf_account.specs.Account.{row_of as first_row, first_state, state_of, settled_of, after_all, settled_by, orders_by};
-ghost use Rattle.mf_account.specs.Standing.{is_before as comes_before, placed, standing, entry_at, entries_at, with_mark, IsInOrder, places_from};
+ghost use Rattle.mf_account.specs.Standing.{is_before as comes_before, placed, standing, entry_at, entries_at, with_mark, IsInOrder, places_from, AreApart};
 ghost use Rattle.mf_account.specs.Applicable.{AreApplicable};
 ghost use Rattle.mf_account.specs.declared.replay.Place.{Place as PlaceRecord};
+ghost use Rattle.mf_account.specs.declared.replay.Standing.{Standing as StandingRecord};
+ghost use Rattle.mf_account.specs.declared.settled.Settled.{Settled as SettledRecord};
+ghost use Rattle.mf_account.specs.Change.{settled_in};
+ghost use Rattle.mf_account.specs.Loan.{Loan, IsSound, settled_of_loan};
+ghost use Rattle.mf_account.specs.Safe.{ArePlaced};
+ghost use Rattle.mf_account.specs.Told.{AreNumberedTo};
 
 use crate::apply::apply_entry;
 use crate::entry::Entry;
+use crate::safe::{are_numbered_to, are_placed};
 use crate::settled::{Book, Settled};
 use mf_alloc::{Row, Strategy};
 use mf_base::{Day, Fault};
@@ -98,6 +105,96 @@ pub(crate) fn standing_order(alloc: Global, entries: &[Entry]) -> Result<Vec<usi
     places.sort_by_key(|place| place.day)?;
     let order = all_at(alloc, &places)?;
     Ok(order)
+}
+
+/// A part of an entry, and where the entry stands in an order.
+#[derive(Clone, Copy, Debug)]
+struct Standing {
+    place: usize,
+    part: Settled,
+}
+
+/// Where each of so many entries stands in an order; 0 for those that it leaves out.
+fn places_in(alloc: Global, order: &[usize], entries: usize) -> Result<Vec<usize>, Fault>
+    requires within { All (λ at. at < entries) order.now }
+    ensures size { IfOk result (λ places. length places.items ≡ entries) }
+    ensures places { AreApart order.now → IfOk result (λ places. (k : ℕ) → k < length order.now → slice_index places.items (slice_index order.now k) ≡ k) }
+    ensures only { IsOkUnless result Fault.F20 }
+{
+    let mut places = Vec::new(alloc);
+    places.resize(entries, 0)?;
+    for k in 0..order.len() {
+        places[order[k]] = k;
+    }
+    Ok(places)
+}
+
+/// The parts, each with the place of its entry.
+fn parts_placed(alloc: Global, places: &[usize], settled: &[Settled]) -> Result<Vec<Standing>, Fault>
+    requires numbers { AreNumberedTo (length places.now) settled.now }
+    ensures placed { IfOk result (λ placed. placed.items ≡ map (λ (s : SettledRecord). record { place = slice_index places.now (s.seq - 1); part = s }) settled.now) }
+    ensures only { IsOkUnless result Fault.F20 }
+{
+    let mut placed = Vec::new(alloc);
+    for part in settled {
+        placed.push(Standing {
+            place: places[part.seq as usize - 1],
+            part: *part,
+        })?;
+    }
+    Ok(placed)
+}
+
+/// The parts alone.
+fn parts_of(alloc: Global, placed: &[Standing]) -> Result<Vec<Settled>, Fault>
+    ensures parts { IfOk result (λ parts. parts.items ≡ map (λ (s : StandingRecord). s.part) placed.now) }
+    ensures only { IsOkUnless result Fault.F20 }
+{
+    let parts = placed.iter().map(|standing| standing.part).collect(alloc)?;
+    Ok(parts)
+}
+
+/// Parts in the order of their entries; those of one entry stay as they stand.
+fn sorted_parts(
+    alloc: Global,
+    order: &[usize],
+    entries: usize,
+    settled: &[Settled],
+) -> Result<Vec<Settled>, Fault>
+    requires within { All (λ at. at < entries) order.now }
+    requires numbers { AreNumberedTo entries settled.now }
+    ensures loan { (loan : Loan) → IsSound loan → length loan.entries ≡ entries → entries_at loan.entries order.now ≡ standing loan.entries → ((seq : ℕ) → settled_in seq settled.now ≡ settled_in seq (settled_of_loan loan)) → IfOk result (λ sorted. sorted.items ≡ settled_of_loan loan) }
+    ensures only { IsOkUnless result Fault.F20 }
+{
+    let places = places_in(alloc, order, entries)?;
+    let mut placed = parts_placed(alloc, &places, settled)?;
+    placed.sort_by_key(|standing| standing.place)?;
+    parts_of(alloc, &placed)
+}
+
+/// Parts that are kept, in the order of their entries. None where one is of none of so many instalments or entries, or where
+/// they come to more than is kept.
+pub(crate) fn in_order(
+    alloc: Global,
+    order: &[usize],
+    entries: usize,
+    instalments: usize,
+    settled: &[Settled],
+) -> Result<Option<Vec<Settled>>, Fault>
+    requires within { All (λ at. at < entries) order.now }
+    ensures placed { IfOk result (λ found. IfSome found (λ parts. ArePlaced instalments entries parts.items)) }
+    ensures loan { (loan : Loan) → IsSound loan → length loan.entries ≡ entries → entries_at loan.entries order.now ≡ standing loan.entries → ((seq : ℕ) → settled_in seq settled.now ≡ settled_in seq (settled_of_loan loan)) → IfOk result (λ found. IfSome found (λ parts. parts.items ≡ settled_of_loan loan)) }
+    ensures some { (loan : Loan) → IsSound loan → length loan.entries ≡ entries → loan.periods ≡ instalments → entries_at loan.entries order.now ≡ standing loan.entries → ((seq : ℕ) → settled_in seq settled.now ≡ settled_in seq (settled_of_loan loan)) → IfOk result (λ found. found ≢ None) }
+    ensures only { IsOkUnless result Fault.F20 }
+{
+    if !are_numbered_to(settled, entries) {
+        return Ok(None);
+    }
+    let parts = sorted_parts(alloc, order, entries, settled)?;
+    if !are_placed(&parts, instalments, entries) {
+        return Ok(None);
+    }
+    Ok(Some(parts))
 }
 
 /// An instalment of the fresh schedule, with nothing paid.

@@ -1,5 +1,5 @@
-ghost use Rattle.std.specs.Prelude.{◌≡◌, ℕ, ◌+◌, ◌-◌, ◌<◌, ◌^◌, ◌↔◌, true, length, sum_by, All};
-ghost use Rattle.mf_alloc.specs.Sums.{Sums};
+ghost use Rattle.std.specs.Prelude.{◌≡◌, ◌≢◌, ℕ, ◌+◌, ◌-◌, ◌<◌, ◌^◌, ◌↔◌, None, true, IfSome, length, sum_by, All};
+ghost use Rattle.mf_alloc.specs.Sums.{Sums, AreWhole, AreWithin};
 ghost use Rattle.mf_account.specs.declared.entry.Entry.{Entry as EntryRecord};
 ghost use Rattle.mf_account.specs.declared.entry.Kind.TheVariants.{Refund};
 ghost use Rattle.mf_account.specs.Kinds.{money_in as money_of};
@@ -7,10 +7,12 @@ ghost use Rattle.mf_account.specs.Account.{sum_at};
 ghost use Rattle.mf_account.specs.Balance.{HasRoom};
 ghost use Rattle.mf_account.specs.Standing.{entries_at, entry_at, standing};
 ghost use Rattle.mf_account.specs.Loan.{Loan, IsSound, state_of_loan};
+ghost use Rattle.mf_account.specs.Safe.{most_kept, IsBounded};
 
 use crate::balances::{Column, sum_by_portion};
 use crate::effect::money_in;
 use crate::entry::{Entry, Kind};
+use crate::safe::is_bounded;
 use crate::settled::Book;
 use mf_alloc::Row;
 
@@ -51,22 +53,35 @@ fn ends_in_refund(entries: &[Entry], order: &[usize]) -> bool
 }
 
 /// The book of a loan whose rows and order are known: what its repayments bring beyond what is paid is overpaid, or refunded
-/// where a refund stands, which is then the last.
-pub(crate) fn resumed_book(entries: &[Entry], order: &[usize], rows: Vec<Row>) -> Book
+/// where a refund stands, which is then the last. None where the rows come to more than is kept.
+pub(crate) fn resumed_book(entries: &[Entry], order: &[usize], rows: Vec<Row>) -> Option<Book>
     requires within { All (λ i. i < length entries.now) order.now }
     requires order { entries_at entries.now order.now ≡ standing entries.now }
-    requires loan { (loan : Loan) × IsSound loan × (entries.now ≡ loan.entries) × (rows.items ≡ (state_of_loan loan).rows) }
-    ensures { (loan : Loan) → IsSound loan → entries.now ≡ loan.entries → rows.items ≡ (state_of_loan loan).rows → result ≡ state_of_loan loan }
+    requires sound { (loan : Loan) × IsSound loan × (entries.now ≡ loan.entries) }
+    requires whole { AreWhole rows.items }
+    requires apart { AreWithin rows.items }
+    ensures bounded { IfSome result (IsBounded (length rows.items) most_kept) }
+    ensures book { (loan : Loan) → IsSound loan → entries.now ≡ loan.entries → rows.items ≡ (state_of_loan loan).rows → IfSome result (λ book. book ≡ state_of_loan loan) }
+    ensures some { (loan : Loan) → IsSound loan → rows.items ≡ (state_of_loan loan).rows → result ≢ None }
 {
-    let rest = money_brought(entries, order) - money_paid(&rows);
+    let book = Book {
+        rows,
+        overpaid: 0,
+        refunded: 0,
+    };
+    if !is_bounded(&book) {
+        return None;
+    }
+    let brought = money_brought(entries, order);
+    let rest = brought.saturating_sub(money_paid(&book.rows));
     let (overpaid, refunded) = if ends_in_refund(entries, order) {
         (0, rest)
     } else {
         (rest, 0)
     };
-    Book {
-        rows,
+    Some(Book {
         overpaid,
         refunded,
-    }
+        ..book
+    })
 }

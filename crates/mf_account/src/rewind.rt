@@ -1,4 +1,4 @@
-ghost use Rattle.std.specs.Prelude.{◌≡◌, ◌≢◌, ℕ, ◌+◌, ◌-◌, ◌<◌, ◌≤◌, ◌^◌, length, map, slice_index_or, All};
+ghost use Rattle.std.specs.Prelude.{◌≡◌, ◌≢◌, ℕ, ◌+◌, ◌-◌, ◌<◌, ◌≤◌, ◌^◌, ◌↔◌, None, IsTrue, IfSome, length, map, slice_index_or, All};
 ghost use Rattle.mf_alloc.specs.declared.row.Cell.{Cell as CellRecord};
 ghost use Rattle.mf_alloc.specs.Sums.{IsRowWithin, AreWithin};
 ghost use Rattle.mf_alloc.specs.Rows.{IsCell, place_in_row};
@@ -9,37 +9,46 @@ ghost use Rattle.mf_account.specs.Effect.{State};
 ghost use Rattle.mf_account.specs.Rewind.{IsRewindable, IsBack};
 ghost use Rattle.mf_account.specs.Standing.{entries_at, entry_at};
 ghost use Rattle.mf_account.specs.Applicable.{HasCharge, no_settled, AreInRows};
+ghost use Rattle.mf_account.specs.Safe.{IsBounded};
+ghost use Rattle.mf_account.specs.Told.{settled_amount};
 
 use crate::effect::money_in;
 use crate::entry::{Entry, Kind};
 use crate::settled::{Book, How, Settled};
 use mf_alloc::{Portion, Row};
 
-/// Takes a charge back from what a portion of a row owes.
-fn lower_owed(row: &mut Row, portion: Portion, amount: u64)
-    requires { IsRowWithin (unowe_row (place_in_row portion) amount row.old) }
-    ensures { row.new ≡ unowe_row (place_in_row portion) amount row.old }
+/// Takes a charge back from what a portion of a row owes. False where more is settled of it than would be owed: the row is then
+/// as it was.
+fn lower_owed(row: &mut Row, portion: Portion, amount: u64) -> bool
+    ensures whether { IsTrue result ↔ IsRowWithin (unowe_row (place_in_row portion) amount row.old) }
+    ensures lowered { IsTrue result → row.new ≡ unowe_row (place_in_row portion) amount row.old }
 {
     let p = portion.index();
-    row.owed[p] = row.owed[p].saturating_sub(amount);
+    let owed = row.owed[p].saturating_sub(amount);
+    if owed < row.paid[p] + row.waived[p] + row.written_off[p] {
+        return false;
+    }
+    row.owed[p] = owed;
+    true
 }
 
-/// Takes a fee or penalty back.
-fn uncharge(rows: &mut [Row], entry: &Entry)
+/// Takes a fee or penalty back. False where more is settled of it than would be owed.
+fn uncharge(rows: &mut [Row], entry: &Entry) -> bool
     requires there { HasCharge entry.now.kind entry.now (length rows.old) }
-    requires within { AreWithin (without_charge entry.now.kind entry.now rows.old) }
-    ensures { rows.new ≡ without_charge entry.now.kind entry.now rows.old }
+    ensures whether { AreWithin (without_charge entry.now.kind entry.now rows.old) → IsTrue result }
+    ensures back { IsTrue result → rows.new ≡ without_charge entry.now.kind entry.now rows.old }
+    ensures apart { IsTrue result → AreWithin rows.old → AreWithin (without_charge entry.now.kind entry.now rows.old) }
 {
     match entry.kind {
         Kind::Fee => {
             let row = &mut rows[(entry.instalment - 1) as usize];
-            lower_owed(row, Portion::Fee, entry.amount);
+            lower_owed(row, Portion::Fee, entry.amount)
         }
         Kind::Penalty => {
             let row = &mut rows[(entry.instalment - 1) as usize];
-            lower_owed(row, Portion::Penalty, entry.amount);
+            lower_owed(row, Portion::Penalty, entry.amount)
         }
-        Kind::Repay | Kind::Waive | Kind::WriteOff | Kind::Refund => {}
+        Kind::Repay | Kind::Waive | Kind::WriteOff | Kind::Refund => true,
     }
 }
 
@@ -87,30 +96,35 @@ fn paid_all(parts: &[Settled]) -> u64
     parts.iter().map(|part| paid_by(*part)).sum()
 }
 
-/// Takes an entry's parts and its charge back.
-fn take_back_rows(rows: &mut Vec<Row>, entry: &Entry, own: &[Settled])
-    requires charge { HasCharge entry.now.kind entry.now (length rows.old.items) }
-    requires cells { AreInRows (length rows.old.items) own.now }
-    requires within { AreWithin (without_charge entry.now.kind entry.now (without_settled rows.old.items (map part_of own.now))) }
-    ensures { rows.new.items ≡ without_charge entry.now.kind entry.now (without_settled rows.old.items (map part_of own.now)) }
+/// Takes an entry's parts and its charge back. False where more is settled than would be owed.
+fn take_back_rows(rows: &mut [Row], entry: &Entry, own: &[Settled]) -> bool
+    requires charge { HasCharge entry.now.kind entry.now (length rows.old) }
+    requires cells { AreInRows (length rows.old) own.now }
+    ensures whether { AreWithin (without_charge entry.now.kind entry.now (without_settled rows.old (map part_of own.now))) → IsTrue result }
+    ensures back { IsTrue result → rows.new ≡ without_charge entry.now.kind entry.now (without_settled rows.old (map part_of own.now)) }
+    ensures apart { IsTrue result → AreWithin rows.old → AreWithin (without_charge entry.now.kind entry.now (without_settled rows.old (map part_of own.now))) }
 {
     unsettle_all(rows, own);
-    uncharge(rows, entry);
+    uncharge(rows, entry)
 }
 
-/// Takes an entry back by what it settled.
-fn take_back(book: &mut Book, entry: &Entry, own: &[Settled])
+/// Takes an entry back by what it settled. False where more is settled than would be owed: the book is then given up.
+fn take_back(book: &mut Book, entry: &Entry, own: &[Settled]) -> bool
     requires charge { HasCharge entry.now.kind entry.now (length book.old.rows) }
     requires cells { AreInRows (length book.old.rows) own.now }
-    requires within { AreWithin (without_charge entry.now.kind entry.now (without_settled book.old.rows (map part_of own.now))) }
     requires money { book.old.overpaid + paid_in (map part_of own.now) + book.old.refunded < 2 ^ 64 }
-    ensures { book.new ≡ before_entry entry.now (map part_of own.now) book.old }
+    ensures whether { AreWithin (without_charge entry.now.kind entry.now (without_settled book.old.rows (map part_of own.now))) → IsTrue result }
+    ensures back { IsTrue result → book.new ≡ before_entry entry.now (map part_of own.now) book.old }
+    ensures apart { IsTrue result → AreWithin book.old.rows → AreWithin (without_charge entry.now.kind entry.now (without_settled book.old.rows (map part_of own.now))) }
 {
     let paid = paid_all(own);
-    take_back_rows(&mut book.rows, entry, own);
+    if !take_back_rows(&mut book.rows, entry, own) {
+        return false;
+    }
     let money = money_in(entry.kind, entry.amount);
     book.overpaid = (book.overpaid + paid + book.refunded).saturating_sub(money);
     book.refunded = 0;
+    true
 }
 
 /// Where the last run of parts with a number begins.
@@ -137,7 +151,7 @@ pub(crate) fn rewind_book(book: &mut Book, tail: &[Entry], settled: &[Settled])
     while i > 0 {
         i -= 1;
         let start = own_start(settled, k, tail[i].seq);
-        take_back(book, &tail[i], &settled[start..k]);
+        let _back = take_back(book, &tail[i], &settled[start..k]);
         k = start;
     }
 }
@@ -151,20 +165,25 @@ fn entry_in<'a>(entries: &'a [Entry], order: &[usize], i: usize) -> &'a Entry
     &entries[order[i]]
 }
 
-/// Takes back the entries from a place of an order on, the last first, and answers where their parts begin. Neither
-/// the entries before that place nor their parts are looked at.
+/// Takes back the entries from a place of an order on, the last first, and answers where their parts begin. None where more
+/// is settled of an instalment than would be owed: the book is then given up. Neither the entries before that place nor their
+/// parts are looked at.
 pub(crate) fn rewind_to(
     book: &mut Book,
     entries: &[Entry],
     order: &[usize],
     place: usize,
     settled: &[Settled],
-) -> usize
+) -> Option<usize>
     requires within { All (λ at. at < length entries.now) order.now }
     requires there { place ≤ length order.now }
-    requires rewindable { (orders : Orders) × (places : EntryRecord → CellRecord → ℕ) × (from : State) × IsRewindable orders places from (entries_at entries.now order.now) settled.now book.old }
-    ensures within { result ≤ length settled.now }
-    ensures back { (orders : Orders) (places : EntryRecord → CellRecord → ℕ) (from : State) → IsRewindable orders places from (entries_at entries.now order.now) settled.now book.old → IsBack orders from (entries_at entries.now order.now) settled.now place result book.new }
+    requires charges { All (λ (e : EntryRecord). HasCharge e.kind e (length book.old.rows)) (entries_at entries.now order.now) }
+    requires cells { AreInRows (length book.old.rows) settled.now }
+    requires money { book.old.overpaid + book.old.refunded + settled_amount settled.now < 2 ^ 64 }
+    ensures within { IfSome result (λ kept. kept ≤ length settled.now) }
+    ensures bounded { (n most : ℕ) → IsBounded n most book.old → IfSome result (λ kept. IsBounded n (most + settled_amount settled.now) book.new) }
+    ensures back { (orders : Orders) (places : EntryRecord → CellRecord → ℕ) (from : State) → IsRewindable orders places from (entries_at entries.now order.now) settled.now book.old → IfSome result (λ kept. IsBack orders from (entries_at entries.now order.now) settled.now place kept book.new) }
+    ensures some { (orders : Orders) (places : EntryRecord → CellRecord → ℕ) (from : State) → IsRewindable orders places from (entries_at entries.now order.now) settled.now book.old → result ≢ None }
 {
     let mut k = settled.len();
     let mut i = order.len();
@@ -172,10 +191,12 @@ pub(crate) fn rewind_to(
         i -= 1;
         let entry = entry_in(entries, order, i);
         let start = own_start(settled, k, entry.seq);
-        take_back(book, entry, &settled[start..k]);
+        if !take_back(book, entry, &settled[start..k]) {
+            return None;
+        }
         k = start;
     }
-    k
+    Some(k)
 }
 
 impl Book {

@@ -11,7 +11,8 @@ use Rattle.mf_account.specs.declared.entry.Entry.{Entry}
 use Rattle.mf_account.specs.Loan.{Loan as Running, state_of_loan, status_of_loan}
 use Rattle.mf_account.specs.Refusals.{is_sealed, admits, is_out_of_order, is_forbidden, is_out_of_limits, refusal_of, reversal_refused}
 use Rattle.mf_account.specs.Standing.{with_mark}
-use Rattle.mf_account.specs.Change.{Account as Replayed, IsChange}
+use Rattle.mf_account.specs.Balance.{balances_of}
+use Rattle.mf_account.specs.Change.{Account as Kept, IsChange, IsReplayed, replayed}
 use Rattle.mf_model.specs.declared.request.LoanRequest.{LoanRequest}
 use Rattle.mf_model.specs.declared.request.Request.TheVariants as request
 use Rattle.mf_model.specs.declared.loan.Loan.{Loan}
@@ -23,19 +24,20 @@ use Rattle.mf_model.specs.declared.reply.Reply.TheVariants as reply
 use Rattle.mf_model.specs.Institution.{Institution, Catalogue, Office, Rows, Ledger, Rows_become, charge_in, office_at, numbered}
 use Rattle.mf_model.specs.Tree.{parent_of}
 use Rattle.mf_model.specs.Outcomes.{where_found}
-use Rattle.mf_model.specs.Accounts.{account_in}
+use Rattle.mf_model.specs.Accounts.{account_in, of_account, no_balances, statement}
+use Rattle.mf_model.specs.Stages.{stage_number}
 use Rattle.mf_model.specs.Receipts.{Use, uses_from, used_before, repeated}
 use Rattle.mf_model.specs.declared.loan.ReceiptUse.{ReceiptUse}
 use Rattle.mf_model.specs.declared.request.Repayment.{Repayment}
 use Rattle.mf_model.specs.declared.request.LoanRequest.TheVariants.{Repay, ChargeFee}
 use Rattle.mf_model.specs.Loans.{LedgerChange, entered, reversed, with_entries, unless_fault, fault_or, none_first, fee_first, enter, reverse, fee, on_loan, loan_changed, loan_entered, of_loan, in_loan, repayment, repeat_of, unless_known}
 use Rattle.mf_model.specs.Desk.{Outcome, of_office, in_office}
-use Rattle.mf_model.specs.Store.{Reads, rows_of, rows_at, ledger_at, account_of, account_at, replayed, IsHanded, IsHandedOn, OneMore, OneReversed}
+use Rattle.mf_model.specs.Store.{Reads, rows_of, rows_at, ledger_at, account_of, account_at, IsHanded, IsHandedOn, OneMore, OneReversed}
 use Rattle.mf_model.proofs.Growing.{with_same_at}
 use Rattle.mf_model.proofs.AccountLemmas.{account_is}
 use Rattle.mf_desk.specs.declared.decision.Decision.{Decision}
 use Rattle.mf_desk.specs.Answers.{Asks, Decides, decision_outcome, request_outcome, sight, if_there, if_disbursed, loan_there, account_there, use_named, loan_outcome, in_ledger}
-use Rattle.mf_desk.specs.Statements.{of_replayed}
+use Rattle.mf_desk.specs.Statements.{of_kept, statement_by}
 use Rattle.mf_desk.proofs.Decisions.{Learns, learns, learns_both, learned_refuses}
 
 abbrev where_seen : Option Office → Result (Unit {0}) Fault
@@ -71,12 +73,20 @@ pub in_found : (loan : Account) (found : Loan) (act : Catalogue → Ledger → R
 in_found loan found act i f = ap (λ (o : Option Ledger). of_office loan.office (where_found o (λ l. of_loan loan (rows_at loan.office i) (act i.catalogue l)))) f.ledger_is
 
 -- its account
-pub account_found : (loan : Account) (found : Loan) (r : Option Replayed) (i : Institution) (f : IsFound loan found i) → r ≡ account_at loan i → account_in i.catalogue f.ledger ≡ of_replayed r
-account_found loan found r i f h = sym (ap of_replayed (h ∙ ap (λ (o : Option Ledger). option_map replayed (account_of i.catalogue o)) f.ledger_is) ∙ same (account_in i.catalogue f.ledger))
+pub account_found : (loan : Account) (found : Loan) (r : Option Kept) (i : Institution) (f : IsFound loan found i) → r ≡ account_at loan i → r ≡ option_map replayed (account_in i.catalogue f.ledger)
+account_found loan found r i f h = h ∙ ap (λ (o : Option Ledger). option_map replayed (account_of i.catalogue o)) f.ledger_is
+
+-- what is told of a loan's account is told of what is kept of it
+pub told_of_kept : {A : Type 0} (none : A) (told : Kept → A) (o : Option Running) → of_account none (λ a. told (replayed a)) o ≡ of_kept none told (option_map replayed o)
+told_of_kept none told None = refl
+told_of_kept none told (Some a) = refl
+
+pub statement_is : (k : Catalogue) (l : Ledger) → statement k l ≡ statement_by l.loan (option_map replayed (account_in k l))
+statement_is k l = go (account_in k l)
   where
-    same : (o : Option Running) → of_replayed (option_map replayed o) ≡ o
-    same None = refl
-    same (Some a) = refl
+    go : (o : Option Running) → record (statement k l) { status = of_account (stage_number l.loan.stage) status_of_loan o; balances = of_account no_balances balances_of o } ≡ statement_by l.loan (option_map replayed o)
+    go None = refl
+    go (Some a) = refl
 
 -- a disbursed loan that was found, with its account
 pub record IsAccountOf (loan : Account) (a : Running) (i : Institution) : Type 0 where
@@ -84,12 +94,24 @@ pub record IsAccountOf (loan : Account) (a : Running) (i : Institution) : Type 0
   pub ledger_is : ledger_at loan i ≡ Some ledger
   pub account_is : account_in i.catalogue ledger ≡ Some a
 
-pub is_account_of : (loan : Account) (a : Replayed) (i : Institution) → account_there loan i ≡ Ok a → IsAccountOf loan a.loan i
+-- the account of a loan that is there keeps what a replay gives
+pub is_replayed : (loan : Account) (a : Kept) (i : Institution) → account_there loan i ≡ Ok a → IsReplayed a
+is_replayed loan a i h = at (ledger_at loan i) h
+  where
+    running : (o : Option Running) → if_disbursed (option_map replayed o) ≡ Ok a → IsReplayed a
+    running None h = absurd (cc)
+    running (Some r) h = let same : replayed r ≡ a = cc in subst IsReplayed same (record { state = refl; settled = refl })
+
+    at : (o : Option Ledger) → where_found (option_map (λ (l : Ledger). l.loan) o) (λ found. if_disbursed (option_map replayed (account_of i.catalogue o))) ≡ Ok a → IsReplayed a
+    at None h = absurd (cc)
+    at (Some l) h = running (account_in i.catalogue l) h
+
+pub is_account_of : (loan : Account) (a : Kept) (i : Institution) → account_there loan i ≡ Ok a → IsAccountOf loan a.loan i
 is_account_of loan a i h = at (ledger_at loan i) refl h
   where
     running : (l : Ledger) (o : Option Running) → account_in i.catalogue l ≡ o → ledger_at loan i ≡ Some l → if_disbursed (option_map replayed o) ≡ Ok a → IsAccountOf loan a.loan i
     running l None is e h = absurd (cc)
-    running l (Some r) is e h = let same : replayed r ≡ a = cc in record { ledger = l; ledger_is = e; account_is = is ∙ ap (λ (x : Replayed). Some x.loan) same }
+    running l (Some r) is e h = let same : replayed r ≡ a = cc in record { ledger = l; ledger_is = e; account_is = is ∙ ap (λ (x : Kept). Some x.loan) same }
 
     at : (o : Option Ledger) → ledger_at loan i ≡ o → where_found (option_map (λ (l : Ledger). l.loan) o) (λ found. if_disbursed (option_map replayed (account_of i.catalogue o))) ≡ Ok a → IsAccountOf loan a.loan i
     at None e h = absurd (cc)
@@ -125,7 +147,7 @@ account_missing loan act fault i undisbursed h = at (ledger_at loan i) h
     at (Some l) h = running (account_in i.catalogue l) h
 
 -- its account refuses the entry
-pub entering_refused : (loan : Account) (first : Running → Option Fault) (make : ℕ → Running → Entry) (a : Replayed) (today : ℕ) (fault : Fault) (i : Institution) → account_there loan i ≡ Ok a → today ≡ i.catalogue.day → refuses first make a.loan today ≡ Some fault → entering loan first make i ≡ Err fault
+pub entering_refused : (loan : Account) (first : Running → Option Fault) (make : ℕ → Running → Entry) (a : Kept) (today : ℕ) (fault : Fault) (i : Institution) → account_there loan i ≡ Ok a → today ≡ i.catalogue.day → refuses first make a.loan today ≡ Some fault → entering loan first make i ≡ Err fault
 entering_refused loan first make a today fault i h day refused =
     account_acted loan (enter first make) a.loan i (is_account_of loan a i h)
     ∙ ap (λ (n : ℕ). of_office loan.office (of_loan loan (rows_at loan.office i) (unless_fault (refuses first make a.loan n) (Entered (make n a.loan).seq) (entered (make n a.loan))))) (sym day)
@@ -139,7 +161,7 @@ commit_is loan a change after i f same =
     (with_same_at loan.number change (with_entries after) (rows_at loan.office i).loans f.ledger f.ledger_is (same f.ledger is))
 
 -- its account takes the entry
-pub entering_accepted : (loan : Account) (first : Running → Option Fault) (make : ℕ → Running → Entry) (a new : Replayed) (today : ℕ) (i : Institution) → account_there loan i ≡ Ok a → today ≡ i.catalogue.day → refuses first make a.loan today ≡ None → new.loan.entries ≡ a.loan.entries ++ make today a.loan ∷ []
+pub entering_accepted : (loan : Account) (first : Running → Option Fault) (make : ℕ → Running → Entry) (a new : Kept) (today : ℕ) (i : Institution) → account_there loan i ≡ Ok a → today ≡ i.catalogue.day → refuses first make a.loan today ≡ None → new.loan.entries ≡ a.loan.entries ++ make today a.loan ∷ []
     → entering loan first make i ≡ decision_outcome (record { reply = reply.Loan loan (Entered (make today a.loan).seq); commit = Some (Enter loan new) }) i
 entering_accepted loan first make a new today i h day accepted entries =
     let f = is_account_of loan a i h in
@@ -151,13 +173,13 @@ entering_accepted loan first make a new today i h day accepted entries =
     ∙ ap (λ (rows : Rows). Ok (reply.Loan loan (Entered e.seq), Some (Rows_become loan.office rows))) (commit_is loan a.loan (entered e) new.loan.entries i f one_more)
 
 -- its account keeps the entry
-pub reversing_refused : (loan : Account) (seq : ℕ) (a : Replayed) (fault : Fault) (i : Institution) → account_there loan i ≡ Ok a → reversal_refused a.loan.entries seq ≡ Some fault → on_account loan (λ k. reverse seq) i ≡ Err fault
+pub reversing_refused : (loan : Account) (seq : ℕ) (a : Kept) (fault : Fault) (i : Institution) → account_there loan i ≡ Ok a → reversal_refused a.loan.entries seq ≡ Some fault → on_account loan (λ k. reverse seq) i ≡ Err fault
 reversing_refused loan seq a fault i h refused =
     account_acted loan (λ k. reverse seq) a.loan i (is_account_of loan a i h)
     ∙ ap (λ (o : Option Fault). of_office loan.office (of_loan loan (rows_at loan.office i) (unless_fault o (Reversed seq) (reversed seq)))) refused
 
 -- its account lets the entry go
-pub reversing_accepted : (loan : Account) (seq : ℕ) (a new : Replayed) (i : Institution) → account_there loan i ≡ Ok a → reversal_refused a.loan.entries seq ≡ None → new.loan.entries ≡ with_mark a.loan.entries (seq - 1) true
+pub reversing_accepted : (loan : Account) (seq : ℕ) (a new : Kept) (i : Institution) → account_there loan i ≡ Ok a → reversal_refused a.loan.entries seq ≡ None → new.loan.entries ≡ with_mark a.loan.entries (seq - 1) true
     → on_account loan (λ k. reverse seq) i ≡ decision_outcome (record { reply = reply.Loan loan (Reversed seq); commit = Some (Reverse loan seq new) }) i
 reversing_accepted loan seq a new i h accepted entries =
     let f = is_account_of loan a i h in
@@ -167,14 +189,15 @@ reversing_accepted loan seq a new i h accepted entries =
     ∙ ap (λ (rows : Rows). Ok (reply.Loan loan (Reversed seq), Some (Rows_become loan.office rows))) (commit_is loan a.loan (reversed seq) new.loan.entries i f marked)
 
 -- the account is handed on with other entries
-handed_on : (loan : Account) (becomes : List Entry → List Entry → Type 0) (a new : Replayed) (entries : List Entry) (i : Institution) → account_there loan i ≡ Ok a → new.loan ≡ record a.loan { entries = entries } → becomes a.loan.entries new.loan.entries → IsChange a.loan new.loan new.change → IsHandedOn loan becomes new i
-handed_on loan becomes a new entries i h is became change =
+handed_on : (loan : Account) (becomes : List Entry → List Entry → Type 0) (a new : Kept) (entries : List Entry) (i : Institution) → account_there loan i ≡ Ok a → new.loan ≡ record a.loan { entries = entries } → becomes a.loan.entries new.loan.entries → IsReplayed new → IsChange a.loan new.loan new.change → IsHandedOn loan becomes new i
+handed_on loan becomes a new entries i h is became kept change =
     let f = is_account_of loan a i h in
     record {
       before = a.loan;
       there = ap (account_of i.catalogue) f.ledger_is ∙ f.account_is;
       entries = became;
       others = is ∙ ap (λ (es : List Entry). record a.loan { entries = es }) (sym (ap (λ (x : Running). x.entries) is));
+      kept = kept;
       change = change;
     }
 
@@ -216,20 +239,6 @@ repay_is c loan asked r i h = at (numbered (rows_at loan.office i).loans loan.nu
     at None = refl
     at (Some l) = ap (λ x. of_office loan.office (of_loan loan (rows_at loan.office i) x)) (known_is loan.number asked (used_before asked.receipt (uses_from 1 (rows_at loan.office i).loans)) r (enter none_first (λ today. repayment asked c) i.catalogue (account_in i.catalogue l)) (named_is loan.office asked.receipt r i h))
 
--- no account refuses with F19
-pub never_unfit : (a : Running) (e : Entry) (today : ℕ) → refusal_of a e today ≡ Some F19 → ⊥
-never_unfit a e today h =
-    one_of (is_sealed a.entries) _ _ (λ h. cc)
-    (one_of (not (admits e.kind (status_of_loan a))) _ _ (λ h. cc)
-    (one_of (is_out_of_order e.kind a.day today e.day) _ _ (λ h. cc)
-    (one_of (is_forbidden e.kind (is_some a.terms.overdue) (state_of_loan a).rows a.entries e today) _ _ (λ h. cc)
-    (one_of (is_out_of_limits e.kind e.amount) _ _ (λ h. cc)
-    (one_of (nat_le 9999 (length a.entries)) _ _ (λ h. cc) (λ h. cc)))))) h
-  where
-    one_of : (b : Bool) (x y : Option Fault) → (x ≡ Some F19 → ⊥) → (y ≡ Some F19 → ⊥) → cond b x y ≡ Some F19 → ⊥
-    one_of true x y p q h = p h
-    one_of false x y p q h = q h
-
 -- what is known of the refusal of a call on an account by what came of it
 pub taken : {A : Type 0} (x : A) (o : Option Fault) → ((fault : Fault) → o ≡ Some fault → Ok x ≡ Err fault) → o ≡ None
 taken x None h = refl
@@ -241,10 +250,6 @@ refusal A fault = Err fault
 pub refused : {A : Type 0} (f : Fault) (o : Option Fault) → ((fault : Fault) → o ≡ Some fault → refusal A f ≡ refusal A fault) → (o ≡ None → f ≡ F20) → (f ≡ F20) ⊎ (o ≡ Some f)
 refused f None h k = inl (k refl)
 refused {A = A} f (Some fault) h k = let same : refusal A f ≡ refusal A fault = h fault refl in inr (cc)
-
-pub ruled : (fault : Fault) (a : Running) (e : Entry) (today : ℕ) → (fault ≡ F20) ⊎ (refusal_of a e today ≡ Some fault) → fault ≢ F19
-ruled fault a e today (inl given_up) = λ is. absurd (cc)
-ruled fault a e today (inr refused) = λ is. never_unfit a e today (refused ∙ ap Some is)
 
 module _ {S : Type 0} (stands : S → Institution → Type 0) (clean : S → Type 0) (leaves : S → List Institution → Type 0) where
   pub learns_value : {R : Type 0} (value : Institution → R) (old new : S) (r : R) → Reads stands clean leaves value old new (Ok r) → Learns stands clean leaves (λ i. r ≡ value i) old new
@@ -263,8 +268,8 @@ module _ {S : Type 0} (stands : S → Institution → Type 0) (clean : S → Typ
   }
 
   -- what is told of a loan that was found, with its account
-  pub told_of_found : (loan : Account) (found : Loan) (r : Option Replayed) (act : Catalogue → Ledger → Result (LoanReply × Option LedgerChange) Fault) (old mid new : S) (d : Decision) → Asks stands clean leaves (loan_there loan) old mid (Ok found) → Reads stands clean leaves (account_at loan) mid new (Ok r)
-      → ((i : Institution) (l : Ledger) → l.loan ≡ found → account_in i.catalogue l ≡ of_replayed r → of_office loan.office (of_loan loan (rows_at loan.office i) (act i.catalogue l)) ≡ decision_outcome d i)
+  pub told_of_found : (loan : Account) (found : Loan) (r : Option Kept) (act : Catalogue → Ledger → Result (LoanReply × Option LedgerChange) Fault) (old mid new : S) (d : Decision) → Asks stands clean leaves (loan_there loan) old mid (Ok found) → Reads stands clean leaves (account_at loan) mid new (Ok r)
+      → ((i : Institution) (l : Ledger) → l.loan ≡ found → r ≡ option_map replayed (account_in i.catalogue l) → of_office loan.office (of_loan loan (rows_at loan.office i) (act i.catalogue l)) ≡ decision_outcome d i)
       → d.commit ≡ None → Decides stands clean leaves (in_ledger loan act) old new (Ok d)
   told_of_found loan found r act old mid new d ask read leads shown =
       learned_tells (λ i. (loan_there loan i ≡ Ok found) × (r ≡ account_at loan i)) (in_ledger loan act) old new d
@@ -274,39 +279,39 @@ module _ {S : Type 0} (stands : S → Institution → Type 0) (clean : S → Typ
       (λ i h. subst (λ (o : Option Commit). IfSome o (λ c. IsHanded c i)) (sym shown) tt)
 
   -- what is entered into the account of a loan
-  abbrev Known : Account → Replayed → ℕ → Institution → Type 0
+  abbrev Known : Account → Kept → ℕ → Institution → Type 0
   Known loan a today i = (account_there loan i ≡ Ok a) × (today ≡ i.catalogue.day)
 
-  known : (loan : Account) (a : Replayed) (today : ℕ) (old mid new : S) → Asks stands clean leaves (account_there loan) old mid (Ok a) → Reads stands clean leaves (λ i. i.catalogue.day) mid new (Ok today) → Learns stands clean leaves (Known loan a today) old new
+  known : (loan : Account) (a : Kept) (today : ℕ) (old mid new : S) → Asks stands clean leaves (account_there loan) old mid (Ok a) → Reads stands clean leaves (λ i. i.catalogue.day) mid new (Ok today) → Learns stands clean leaves (Known loan a today) old new
   known loan a today old mid new ask read =
       learns_both stands clean leaves (λ i. account_there loan i ≡ Ok a) (λ i. today ≡ i.catalogue.day) old mid new
       (learns stands clean leaves (account_there loan) old mid a ask) (learns_value (λ i. i.catalogue.day) mid new today read)
 
-  pub then_entered : (loan : Account) (first : Running → Option Fault) (make : ℕ → Running → Entry) (a after : Replayed) (today : ℕ) (old mid new : S) → Asks stands clean leaves (account_there loan) old mid (Ok a) → Reads stands clean leaves (λ i. i.catalogue.day) mid new (Ok today)
-      → refuses first make a.loan today ≡ None → after.loan ≡ record a.loan { entries = a.loan.entries ++ make today a.loan ∷ [] } → IsChange a.loan after.loan after.change
+  pub then_entered : (loan : Account) (first : Running → Option Fault) (make : ℕ → Running → Entry) (a after : Kept) (today : ℕ) (old mid new : S) → Asks stands clean leaves (account_there loan) old mid (Ok a) → Reads stands clean leaves (λ i. i.catalogue.day) mid new (Ok today)
+      → (IsReplayed a → refuses first make a.loan today ≡ None) → after.loan ≡ record a.loan { entries = a.loan.entries ++ make today a.loan ∷ [] } → (IsReplayed a → IsReplayed after) → (IsReplayed a → IsChange a.loan after.loan after.change)
       → Decides stands clean leaves (in_ledger loan (λ k l. enter first make k (account_in k l))) old new (Ok (record { reply = reply.Loan loan (Entered (make today a.loan).seq); commit = Some (Enter loan after) }))
-  then_entered loan first make a after today old mid new ask read accepted is change =
+  then_entered loan first make a after today old mid new ask read accepted is kept change =
       let entries = ap (λ (x : Running). x.entries) is in
-      learned_tells (Known loan a today) (entering loan first make) old new _ (known loan a today old mid new ask read) (λ i h. entering_accepted loan first make a after today i h.0 h.1 accepted entries)
-      (λ i h. handed_on loan OneMore a after (a.loan.entries ++ make today a.loan ∷ []) i h.0 is (make today a.loan, entries) change)
+      learned_tells (Known loan a today) (entering loan first make) old new _ (known loan a today old mid new ask read) (λ i h. entering_accepted loan first make a after today i h.0 h.1 (accepted (is_replayed loan a i h.0)) entries)
+      (λ i h. let true_to = is_replayed loan a i h.0 in handed_on loan OneMore a after (a.loan.entries ++ make today a.loan ∷ []) i h.0 is (make today a.loan, entries) (kept true_to) (change true_to))
 
-  pub then_refused : (loan : Account) (first : Running → Option Fault) (make : ℕ → Running → Entry) (a : Replayed) (today : ℕ) (fault : Fault) (old mid new : S) → Asks stands clean leaves (account_there loan) old mid (Ok a) → Reads stands clean leaves (λ i. i.catalogue.day) mid new (Ok today)
-      → (fault ≡ F20) ⊎ (refuses first make a.loan today ≡ Some fault)
+  pub then_refused : (loan : Account) (first : Running → Option Fault) (make : ℕ → Running → Entry) (a : Kept) (today : ℕ) (fault : Fault) (old mid new : S) → Asks stands clean leaves (account_there loan) old mid (Ok a) → Reads stands clean leaves (λ i. i.catalogue.day) mid new (Ok today)
+      → (IsReplayed a → (fault ≡ F20) ⊎ (refuses first make a.loan today ≡ Some fault))
       → Decides stands clean leaves (in_ledger loan (λ k l. enter first make k (account_in k l))) old new (Err fault)
   then_refused loan first make a today fault old mid new ask read refused =
       learned_refuses stands clean leaves (Known loan a today) (entering loan first make) old new fault (known loan a today old mid new ask read)
-      (λ i h. elim refused [ inl given_up ↦ inl given_up | inr is ↦ inr (entering_refused loan first make a today fault i h.0 h.1 is) ])
+      (λ i h. elim (refused (is_replayed loan a i h.0)) [ inl given_up ↦ inl given_up | inr is ↦ inr (entering_refused loan first make a today fault i h.0 h.1 is) ])
 
   -- what is reversed in the account of a loan
-  pub then_reversed : (loan : Account) (seq : ℕ) (a after : Replayed) (old new : S) → Asks stands clean leaves (account_there loan) old new (Ok a)
-      → reversal_refused a.loan.entries seq ≡ None → after.loan ≡ record a.loan { entries = with_mark a.loan.entries (seq - 1) true } → IsChange a.loan after.loan after.change
+  pub then_reversed : (loan : Account) (seq : ℕ) (a after : Kept) (old new : S) → Asks stands clean leaves (account_there loan) old new (Ok a)
+      → reversal_refused a.loan.entries seq ≡ None → after.loan ≡ record a.loan { entries = with_mark a.loan.entries (seq - 1) true } → (IsReplayed a → IsReplayed after) → (IsReplayed a → IsChange a.loan after.loan after.change)
       → Decides stands clean leaves (in_ledger loan (λ k l. reverse seq (account_in k l))) old new (Ok (record { reply = reply.Loan loan (Reversed seq); commit = Some (Reverse loan seq after) }))
-  then_reversed loan seq a after old new ask accepted is change =
+  then_reversed loan seq a after old new ask accepted is kept change =
       let entries = ap (λ (x : Running). x.entries) is in
       learned_tells (λ i. account_there loan i ≡ Ok a) (on_account loan (λ k. reverse seq)) old new _ (learns stands clean leaves (account_there loan) old new a ask) (λ i h. reversing_accepted loan seq a after i h accepted entries)
-      (λ i h. handed_on loan (OneReversed seq) a after (with_mark a.loan.entries (seq - 1) true) i h is (record { allowed = accepted; marked = entries }) change)
+      (λ i h. let true_to = is_replayed loan a i h in handed_on loan (OneReversed seq) a after (with_mark a.loan.entries (seq - 1) true) i h is (record { allowed = accepted; marked = entries }) (kept true_to) (change true_to))
 
-  pub then_kept : (loan : Account) (seq : ℕ) (a : Replayed) (fault : Fault) (old new : S) → Asks stands clean leaves (account_there loan) old new (Ok a)
+  pub then_kept : (loan : Account) (seq : ℕ) (a : Kept) (fault : Fault) (old new : S) → Asks stands clean leaves (account_there loan) old new (Ok a)
       → (fault ≡ F20) ⊎ (reversal_refused a.loan.entries seq ≡ Some fault)
       → Decides stands clean leaves (in_ledger loan (λ k l. reverse seq (account_in k l))) old new (Err fault)
   then_kept loan seq a fault old new ask refused =

@@ -4,7 +4,7 @@ use Rattle.mf_base.specs.declared.fault.Fault.{Fault}
 use Rattle.mf_base.specs.declared.fault.Fault.TheVariants.{F2, F4, F9, F20}
 use Rattle.mf_office.specs.declared.account.Account.{Account}
 use Rattle.mf_office.specs.declared.caller.Caller.{Caller}
-use Rattle.mf_account.specs.Change.{Account as Replayed}
+use Rattle.mf_account.specs.Change.{Account as Kept}
 use Rattle.mf_model.specs.declared.request.Call.{Call}
 use Rattle.mf_model.specs.declared.request.Request.{Request}
 use Rattle.mf_model.specs.declared.loan.Loan.{Loan}
@@ -69,12 +69,12 @@ abbrev pub loan_there : Account → Institution → Result Loan Fault
 loan_there loan i = if_there (loan_at loan i)
 
 -- an account that there is; F9 where there is none
-abbrev pub if_disbursed : Option Replayed → Result Replayed Fault
+abbrev pub if_disbursed : Option Kept → Result Kept Fault
 if_disbursed None = Err F9
 if_disbursed (Some a) = Ok a
 
 -- the account of a loan; F4 where the loan isn't there, F9 where it isn't disbursed
-abbrev pub account_there : Account → Institution → Result Replayed Fault
+abbrev pub account_there : Account → Institution → Result Kept Fault
 account_there loan i = where_found (loan_at loan i) (λ found. if_disbursed (account_at loan i))
 
 -- what a request on a loan comes to, where its office is seen

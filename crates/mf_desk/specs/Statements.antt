@@ -1,25 +1,28 @@
 -- What is told of a loan, worked out from the loan and its account.
-use Rattle.std.specs.Prelude.{option_map, Option}
-use Rattle.mf_account.specs.Balance.{balances_of}
-use Rattle.mf_account.specs.Loan.{Loan as Running, status_of_loan}
-use Rattle.mf_account.specs.Change.{Account as Replayed}
+use Rattle.std.specs.Prelude.{ℕ, Option, None, Some}
+use Rattle.mf_account.specs.Account.{status_of}
+use Rattle.mf_account.specs.Balance.{balances_by}
+use Rattle.mf_account.specs.declared.balances.Balances.{Balances}
+use Rattle.mf_account.specs.Loan.{fee_of_loan}
+use Rattle.mf_account.specs.Change.{Account as Kept}
 use Rattle.mf_model.specs.declared.loan.Loan.{Loan}
 use Rattle.mf_model.specs.declared.loan.Statement.{Statement}
 use Rattle.mf_model.specs.Stages.{stage_number, disbursed_on}
-use Rattle.mf_model.specs.Accounts.{of_account, no_balances}
+use Rattle.mf_model.specs.Accounts.{no_balances}
 
--- the account that was handed out
-abbrev pub of_replayed : Option Replayed → Option Running
-of_replayed account = option_map (λ (a : Replayed). a.loan) account
+-- what is told of an account, or this where there is none
+abbrev pub of_kept : {A : Type 0} → A → (Kept → A) → Option Kept → A
+of_kept none told None = none
+of_kept none told (Some account) = told account
 
 -- a loan with its account, as it is shown
-abbrev pub statement_by : Loan → Option Running → Statement
+abbrev pub statement_by : Loan → Option Kept → Statement
 statement_by loan account = record {
   client = loan.client;
   product = loan.product;
   principal = loan.principal;
   periods = loan.periods;
   day = disbursed_on loan.stage;
-  status = of_account (stage_number loan.stage) status_of_loan account;
-  balances = of_account no_balances balances_of account;
+  status = of_kept (stage_number loan.stage) (λ (a : Kept). status_of a.loan.entries a.state) account;
+  balances = of_kept no_balances (λ (a : Kept). balances_by (fee_of_loan a.loan) a.state) account;
 }

@@ -2,7 +2,7 @@
 
 ghost use Rattle.std.specs.Prelude.{◌≡◌, ◌≢◌, ◌⊎◌, ℕ, ◌+◌, ◌∷◌, [], ◌++◌, false, length, None, Some, IfOk, IfErr};
 ghost use Rattle.mf_base.specs.declared.fault.Fault.TheVariants.{F20};
-ghost use Rattle.mf_account.specs.Change.{IsChange};
+ghost use Rattle.mf_account.specs.Change.{IsChange, IsReplayed};
 ghost use Rattle.mf_account.specs.Refusals.{refusal_of, HasForm};
 ghost use Rattle.mf_model.specs.declared.request.LoanRequest.TheVariants.{Repay};
 ghost use Rattle.mf_model.specs.declared.commit.Commit.TheVariants.{Enter};
@@ -68,10 +68,12 @@ pub fn entered(
     requires next { entry.seq ≡ length account.loan.entries + 1 }
     requires stands { entry.reversed ≡ false }
     requires form { HasForm entry.kind today entry }
-    ensures accepted { IfOk result (λ after. refusal_of account.loan entry today ≡ None) }
+    ensures accepted { IsReplayed account → IfOk result (λ after. refusal_of account.loan entry today ≡ None) }
     ensures loan { IfOk result (λ after. after.loan ≡ record account.loan { entries = account.loan.entries ++ entry ∷ [] }) }
-    ensures change { IfOk result (λ after. IsChange account.loan after.loan after.change) }
-    ensures refused { IfErr result (λ f. (f ≡ F20) ⊎ (refusal_of account.loan entry today ≡ Some f)) }
+    ensures kept { IsReplayed account → IfOk result IsReplayed }
+    ensures change { IsReplayed account → IfOk result (λ after. IsChange account.loan after.loan after.change) }
+    ensures refused { IsReplayed account → IfErr result (λ f. (f ≡ F20) ⊎ (refusal_of account.loan entry today ≡ Some f)) }
+    ensures refusal { IfErr result (λ f. f ≢ Fault.F19) }
 {
     let mut account = account;
     if !account.is_by(today) {

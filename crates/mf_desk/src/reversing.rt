@@ -3,7 +3,7 @@
 ghost use Rattle.std.specs.Prelude.{◌≡◌, ◌≢◌, ◌⊎◌, ◌-◌, None, Some, IfOk, IfErr, true};
 ghost use Rattle.mf_base.specs.declared.fault.Fault.TheVariants.{F20};
 ghost use Rattle.mf_office.specs.declared.caller.Caller.{Caller as AnyCaller};
-ghost use Rattle.mf_account.specs.Change.{IsChange};
+ghost use Rattle.mf_account.specs.Change.{IsChange, IsReplayed};
 ghost use Rattle.mf_account.specs.Standing.{with_mark};
 ghost use Rattle.mf_account.specs.Refusals.{reversal_refused};
 ghost use Rattle.mf_model.specs.declared.request.LoanRequest.TheVariants.{Reverse};
@@ -21,7 +21,8 @@ use std::alloc::Global;
 fn reversed(alloc: Global, account: LoanAccount, seq: u32) -> Result<LoanAccount, Fault>
     ensures accepted { IfOk result (λ after. reversal_refused account.loan.entries seq ≡ None) }
     ensures loan { IfOk result (λ after. after.loan ≡ record account.loan { entries = with_mark account.loan.entries (seq - 1) true }) }
-    ensures change { IfOk result (λ after. IsChange account.loan after.loan after.change) }
+    ensures kept { IsReplayed account → IfOk result IsReplayed }
+    ensures change { IsReplayed account → IfOk result (λ after. IsChange account.loan after.loan after.change) }
     ensures refused { IfErr result (λ f. (f ≡ F20) ⊎ (reversal_refused account.loan.entries seq ≡ Some f)) }
 {
     let mut account = account;

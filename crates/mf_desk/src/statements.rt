@@ -3,10 +3,10 @@
 ghost use Rattle.std.specs.Prelude.{◌≡◌, ◌≢◌, [], IfOk, IfErr, IsOkUnless};
 ghost use Rattle.mf_office.specs.declared.caller.Caller.{Caller};
 ghost use Rattle.mf_model.specs.declared.request.LoanRequest.TheVariants.{Show, ShowInstalments, ShowEntries};
-ghost use Rattle.mf_statement.specs.Lines.{instalments_of, entries_of};
-ghost use Rattle.mf_model.specs.Accounts.{of_account, no_balances};
+ghost use Rattle.mf_statement.specs.Lines.{instalments_from, entries_kept};
+ghost use Rattle.mf_model.specs.Accounts.{no_balances};
 ghost use Rattle.mf_desk.specs.Answers.{Decides, loan_outcome};
-ghost use Rattle.mf_desk.specs.Statements.{statement_by, of_replayed};
+ghost use Rattle.mf_desk.specs.Statements.{statement_by, of_kept};
 
 use crate::decision::Decision;
 use crate::loans::find_loan;
@@ -36,7 +36,7 @@ fn no_balances() -> Balances
 
 /// A loan as it is shown, with its account where it is disbursed.
 fn statement(loan: &Loan, account: &Option<LoanAccount>) -> Statement
-    ensures { result ≡ statement_by loan.now (of_replayed account.now) }
+    ensures { result ≡ statement_by loan.now account.now }
 {
     let (status, balances) = match account {
         None => (status_number(&loan.stage), no_balances()),
@@ -73,7 +73,7 @@ pub fn show_loan<S: InstitutionStore>(
 
 /// The instalments of an account; none where there is no account.
 fn instalments(alloc: Global, account: &Option<LoanAccount>) -> Result<InstalmentList, Fault>
-    ensures lines { IfOk result (λ lines. lines ≡ of_account [] instalments_of (of_replayed account.now)) }
+    ensures lines { IfOk result (λ lines. lines ≡ of_kept [] (λ a. instalments_from 1 a.state.rows) account.now) }
     ensures only { IsOkUnless result Fault.F20 }
 {
     match account {
@@ -103,7 +103,7 @@ pub fn show_instalments<S: InstitutionStore>(
 
 /// The entries of an account; none where there is no account.
 fn entries(alloc: Global, account: Option<LoanAccount>) -> Result<EntryList, Fault>
-    ensures lines { IfOk result (λ lines. lines ≡ of_account [] entries_of (of_replayed account)) }
+    ensures lines { IfOk result (λ lines. lines ≡ of_kept [] entries_kept account) }
     ensures only { IsOkUnless result Fault.F20 }
 {
     match account {

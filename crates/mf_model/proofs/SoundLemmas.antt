@@ -48,7 +48,7 @@ use Rattle.mf_account.specs.Loan.{Loan as Running, AreEntries, IsSound as IsSoun
 use Rattle.mf_account.specs.Kinds.{is_seal}
 use Rattle.mf_account.specs.Refusals.{refusal_of, reversal_refused, is_sealed, is_there as is_there_among, HasForm, IsOffered}
 use Rattle.mf_account.specs.Standing.{entry_at, with_mark}
-use Rattle.mf_account.proofs.SoundLemmas.{admitted, sound-entered, sound-reversed}
+use Rattle.mf_account.proofs.SoundLemmas.{sound-entered, sound-reversed}
 use Rattle.mf_catalog.specs.Product.{charges_there, is_consistent, allows, lending}
 use Rattle.mf_model.specs.declared.loan.Stage.{Stage}
 use Rattle.mf_model.specs.declared.loan.Stage.TheVariants.{Submitted, Approved, Disbursed}
@@ -61,6 +61,7 @@ use Rattle.mf_model.specs.Loans.{LedgerChange, staged, entered, reversed, repaym
 use Rattle.mf_model.specs.Desk.{Plan, plan, on_office, in_office, of_office, of_catalogue, change_in, sender_effect, outcome, staff_at, where_permitted, sent_by}
 use Rattle.mf_model.specs.Run.{Line, next, last}
 use Rattle.mf_model.specs.Sound.{IsName, AreMembers, IsSoundCharge, IsSoundOffer, IsSoundCatalogue, IsSoundLoan, IsStageBy, IsEntryBy, AreEntered, AreEntriesBy, is_staff, lends, IsSoundRows, IsSoundOffice, IsSound, IsCatalogueInRange, IsOfficeInRange, IsRepayment, IsLoanInRange, IsInRange, AreInRange}
+use Rattle.mf_model.proofs.AdmittedLemmas.{admitted, dated_in_order}
 use Rattle.mf_model.proofs.Views.{IsTree_after}
 use Rattle.mf_model.proofs.Steps.{known_line}
 use Rattle.mf_model.proofs.Confined.{IsTree_new}
@@ -382,7 +383,7 @@ entered_sound : (k : Catalogue) (s : Caller → Bool) (clients : List (List ℕ)
 entered_sound k s clients l a e c was h offered none by =
     let is : IsRunning k l a = account_is k l a h in
     let sound : IsSoundAccount a = account_sound k s clients l a c was h in
-    let taken : IsSoundAccount (record a { entries = a.entries ++ e ∷ [] }) = sound-entered a e k.day sound offered none in
+    let taken : IsSoundAccount (record a { entries = a.entries ++ e ∷ [] }) = sound-entered a e k.day sound offered (admitted a e k.day sound none) in
     let lawful : AreEntries l.loan.periods is.day (l.entries ++ e ∷ []) = subst (λ (x : Running). AreEntries x.periods x.day (x.entries ++ e ∷ [])) (sym is.account_is) taken.entries in
     let all : AreEntered k.day s l.loan.periods is.day (l.entries ++ e ∷ []) = record {
       lawful = lawful;
@@ -436,8 +437,7 @@ posting_by Refund staff today s a there = (record { day = omega arith; staff = t
 
 in_order : (a : Running) (asked : Repayment) (staff : Caller) (today : ℕ) → refusal_of a (repayment asked staff a) today ≡ None → asked.day ≤ today
 in_order a asked staff today h =
-    let is = admitted a (repayment asked staff a) today h in
-    let order : (nat_lt asked.day a.day || nat_lt today asked.day) ≡ false = is.in_order in
+    let order : (nat_lt asked.day a.day || nat_lt today asked.day) ≡ false = dated_in_order a (repayment asked staff a) today h in
     grind (arith, nat_tests)
 
 -- an entry that its account may take

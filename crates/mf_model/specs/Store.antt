@@ -12,7 +12,7 @@ use Rattle.mf_model.specs.declared.loan.LoanLine.{LoanLine}
 use Rattle.mf_model.specs.declared.store.CatalogueCounts.{CatalogueCounts}
 use Rattle.mf_model.specs.declared.store.Counts.{Counts}
 use Rattle.mf_account.specs.declared.entry.Entry.{Entry}
-use Rattle.mf_account.specs.Change.{Account as Replayed, IsChange, no_change}
+use Rattle.mf_account.specs.Change.{Account as Kept, IsChange, IsReplayed, replayed}
 use Rattle.mf_account.specs.Loan.{Loan as Running}
 use Rattle.mf_account.specs.Refusals.{reversal_refused}
 use Rattle.mf_account.specs.Standing.{with_mark}
@@ -64,12 +64,8 @@ abbrev pub account_of : Catalogue → Option Ledger → Option Running
 account_of k None = None
 account_of k (Some l) = account_in k l
 
--- an account that was replayed, and has not changed since
-abbrev pub replayed : Running → Replayed
-replayed a = record { loan = a; change = no_change }
-
 -- the account of a loan; none where it is not there or not disbursed
-abbrev pub account_at : Account → Institution → Option Replayed
+abbrev pub account_at : Account → Institution → Option Kept
 account_at loan i = option_map replayed (account_of i.catalogue (ledger_at loan i))
 
 -- where a receipt was used in an office
@@ -111,12 +107,13 @@ pub record OneReversed (seq : ℕ) (entries after : List Entry) : Type 0 where
   pub allowed : reversal_refused entries seq ≡ None
   pub marked : after ≡ with_mark entries (seq - 1) true
 
--- An account that a commit hands on is that of the loan before it but for its entries, which become these; and it tells what that changed.
-pub record IsHandedOn (loan : Account) (becomes : List Entry → List Entry → Type 0) (account : Replayed) (i : Institution) : Type 0 where
+-- An account that a commit hands on is that of the loan before it but for its entries, which become these; what it keeps is what a replay gives, and it tells what changed.
+pub record IsHandedOn (loan : Account) (becomes : List Entry → List Entry → Type 0) (account : Kept) (i : Institution) : Type 0 where
   pub before : Running
   pub there : account_of i.catalogue (ledger_at loan i) ≡ Some before
   pub entries : becomes before.entries account.loan.entries
   pub others : account.loan ≡ record before { entries = account.loan.entries }
+  pub kept : IsReplayed account
   pub change : IsChange before account.loan account.change
 
 -- what is known of the account that a commit hands on

@@ -8,6 +8,7 @@ use Rattle.mf_account.specs.declared.settled.Settled.{Settled}
 use Rattle.mf_account.specs.declared.settled.How.{How}
 use Rattle.mf_account.specs.declared.settled.How.TheVariants.{Paid, Waived, WrittenOff}
 use Rattle.mf_account.specs.Account.{shares_in}
+use Rattle.mf_account.specs.Change.{Account}
 use Rattle.mf_account.specs.Loan.{Loan, state_of_loan, settled_of_loan}
 use Rattle.mf_statement.specs.declared.lines.EntryLine.{EntryLine}
 use Rattle.mf_statement.specs.declared.lines.InstalmentLine.{InstalmentLine}
@@ -21,7 +22,7 @@ abbrev pub instalments_from : ℕ → List Sums → List InstalmentLine
 instalments_from n [] = []
 instalments_from n (row ∷ rows) = instalment_line n row ∷ instalments_from (n + 1) rows
 
--- the instalments of an account
+-- the instalments of a loan
 abbrev pub instalments_of : Loan → List InstalmentLine
 instalments_of a = instalments_from 1 (state_of_loan a).rows
 
@@ -55,10 +56,14 @@ line_among settled refunded e = record {
   shares = shares_in e.seq settled;
 }
 
--- an entry of an account
+-- an entry of a loan
 abbrev pub entry_line : Loan → Entry → EntryLine
 entry_line a e = line_among (settled_of_loan a) (state_of_loan a).refunded e
 
--- the entries of an account
+-- the entries of a loan
 abbrev pub entries_of : Loan → List EntryLine
 entries_of a = map (entry_line a) a.entries
+
+-- the entries of an account, by what it keeps of them
+abbrev pub entries_kept : Account → List EntryLine
+entries_kept a = map (line_among a.settled a.state.refunded) a.loan.entries

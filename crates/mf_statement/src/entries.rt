@@ -1,7 +1,7 @@
 ghost use Rattle.std.specs.Prelude.{◌≡◌, ◌+◌, ◌-◌, ◌<◌, ◌^◌, [], length, map, slice_set, slice_index_or, IfOk, OnOk, IsOkUnless};
 ghost use Rattle.std.specs.List.{zip};
 ghost use Rattle.mf_account.specs.Told.{settled_amount, IsNumberedTo, AreNumberedTo};
-ghost use Rattle.mf_statement.specs.Lines.{cleared as cleared_part, amount_told, entries_of};
+ghost use Rattle.mf_statement.specs.Lines.{cleared as cleared_part, amount_told, entries_kept};
 ghost use Rattle.mf_statement.specs.Parts.{no_parts, with_part, table, line_with};
 
 use crate::lines::{EntryLine, EntryList};
@@ -125,7 +125,7 @@ fn lines_with(
 
 /// The entries of an account as they stand, by number. Only a want of memory is refused.
 pub fn entry_lines(alloc: Global, account: LoanAccount) -> Result<EntryList, Fault>
-    ensures lines { IfOk result (λ lines. lines ≡ entries_of account.loan) }
+    ensures lines { IfOk result (λ lines. lines ≡ entries_kept account) }
     ensures only { IsOkUnless result Fault.F20 }
 {
     let parts = parts_by_entry(alloc, account.settled_parts(), account.entry_count())?;

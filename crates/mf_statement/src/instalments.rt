@@ -1,7 +1,7 @@
 ghost use Rattle.std.specs.Prelude.{◌≡◌, ◌≤◌, ◌<◌, ◌^◌, length, IfOk, IsOkUnless};
 ghost use Rattle.mf_alloc.specs.Sums.{row_outstanding};
 ghost use Rattle.mf_account.specs.Told.{IsRowSmall, AreRowsSmall};
-ghost use Rattle.mf_statement.specs.Lines.{instalment_line as line_of, instalments_from, instalments_of};
+ghost use Rattle.mf_statement.specs.Lines.{instalment_line as line_of, instalments_from};
 
 use crate::lines::{InstalmentLine, InstalmentList};
 use crate::listing::Listing;
@@ -50,7 +50,7 @@ fn lines_of(alloc: Global, rows: &[Row]) -> Result<Vec<InstalmentLine>, Fault>
 
 /// The instalments of an account as they stand, by number. Only a want of memory is refused.
 pub fn instalment_lines(alloc: Global, account: &LoanAccount) -> Result<InstalmentList, Fault>
-    ensures lines { IfOk result (λ lines. lines ≡ instalments_of account.now.loan) }
+    ensures lines { IfOk result (λ lines. lines ≡ instalments_from 1 account.now.state.rows) }
     ensures only { IsOkUnless result Fault.F20 }
 {
     let lines = lines_of(alloc, account.rows())?;

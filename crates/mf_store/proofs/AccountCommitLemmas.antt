@@ -1,10 +1,11 @@
 -- What the commits that change a loan's account make of all rows of instalments and of shares.
-use Rattle.std.proofs.Common.{◌≡◌, ◌≤◌, ℕ, List, [], map, length, Option, None, Some, refl, sym, ap, ap₂, ◌∙◌, nat_cmp}
+use Rattle.std.proofs.Common.{◌≡◌, ◌≤◌, ◌++◌, ℕ, List, [], map, length, Option, None, Some, refl, sym, ap, ap₂, ◌∙◌, nat_cmp}
 use Rattle.mf_alloc.specs.Rows.{row_at}
 use Rattle.mf_alloc.specs.Sums.{Sums}
 use Rattle.mf_account.specs.declared.entry.Entry.{Entry}
 use Rattle.mf_account.specs.declared.settled.Settled.{Settled}
-use Rattle.mf_account.specs.Change.{Account as Replayed, IsChange, settled_in}
+use Rattle.mf_account.specs.Effect.{State}
+use Rattle.mf_account.specs.Change.{Account as Kept, IsChange, IsReplayed, settled_in}
 use Rattle.mf_account.specs.Loan.{Loan as Running, IsSound as IsSoundAccount, state_of_loan, settled_of_loan}
 use Rattle.mf_store_tables.specs.Writes.{after_all}
 use Rattle.mf_model.specs.Accounts.{account_in, of_account, running_from}
@@ -35,7 +36,7 @@ account_with k l before es there =
     ap₂ (λ d t. running_from l.loan es d t) is.day_is is.terms_is ∙ ap (λ (r : Running). Some (record r { entries = es })) is.account_is
 
 -- a loan's account has other entries, and what that changed is told
-pub record IsChanged (k : Catalogue) (l : Ledger) (account : Replayed) : Type 0 where
+pub record IsChanged (k : Catalogue) (l : Ledger) (account : Kept) : Type 0 where
   pub before : Running
   pub was : account_in k l ≡ Some before
   pub now : account_in k (with_entries account.loan.entries l) ≡ Some account.loan
@@ -43,13 +44,14 @@ pub record IsChanged (k : Catalogue) (l : Ledger) (account : Replayed) : Type 0 
   pub then : IsSoundAccount account.loan
   pub same : before.periods ≡ account.loan.periods
   pub more : length before.entries ≤ length account.loan.entries
+  pub kept : IsReplayed account
   pub change : IsChange before account.loan account.change
 
 -- what is kept of an account that is there
 kept_where : {A : Type 0} (read : Running → List A) (k : Catalogue) (l : Ledger) (a : Running) → account_in k l ≡ Some a → kept_of read k l ≡ read a
 kept_where read k l a is = ap (of_account [] read) is
 
-module _ (k : Catalogue) (x n : ℕ) (l : Ledger) (account : Replayed) (changed : IsChanged k l account) (new : Rows) (fs : List Office) (up : Ascending fs) (at : numbered (rows_of (office_at x fs)).loans n ≡ Some l) (is : new.loans ≡ with_numbered n (with_entries account.loan.entries) (rows_of (office_at x fs)).loans) where
+module _ (k : Catalogue) (x n : ℕ) (l : Ledger) (account : Kept) (changed : IsChanged k l account) (new : Rows) (fs : List Office) (up : Ascending fs) (at : numbered (rows_of (office_at x fs)).loans n ≡ Some l) (is : new.loans ≡ with_numbered n (with_entries account.loan.entries) (rows_of (office_at x fs)).loans) where
   abbrev later : Ledger
   later = with_entries account.loan.entries l
 
@@ -79,7 +81,8 @@ module _ (k : Catalogue) (x n : ℕ) (l : Ledger) (account : Replayed) (changed 
   pub change_written : (lists : Lists) → lists.instalments ≡ instalment_rows k fs → lists.shares ≡ share_rows k fs
       → after_all after (change_writes x n account) (Some lists) ≡ Some (record lists { instalments = instalment_rows k (with_rows x new fs); shares = share_rows k (with_rows x new fs) })
   change_written lists instalments shares =
-      after_both (instalments_put x n rows account.change.rows) (shares_put x n (settled_of_loan account.loan) account.change.seqs) (Some lists)
+      ap (λ ws. after_all after ws (Some lists)) (ap₂ (λ r s. instalments_put x n r account.change.rows ++ shares_put x n s account.change.seqs) (ap (λ (s : State). s.rows) changed.kept.state) changed.kept.settled)
+      ∙ after_both (instalments_put x n rows account.change.rows) (shares_put x n (settled_of_loan account.loan) account.change.seqs) (Some lists)
       ∙ ap (after_all after (shares_put x n (settled_of_loan account.loan) account.change.seqs)) (instalments_written x n rows account.change.rows lists)
       ∙ shares_written x n (settled_of_loan account.loan) account.change.seqs _
       ∙ (λ t. Some (record lists {

@@ -7,7 +7,7 @@ use Rattle.mf_alloc.specs.Sums.{Sums}
 use Rattle.mf_account.specs.declared.settled.How.{How}
 use Rattle.mf_account.specs.declared.settled.How.TheVariants.{Paid, Waived, WrittenOff}
 use Rattle.mf_account.specs.declared.settled.Settled.{Settled}
-use Rattle.mf_account.specs.Change.{Account as Replayed, Changed, AreThose, HasOtherRow, HasOtherParts, IsChange, settled_in}
+use Rattle.mf_account.specs.Change.{Account as Kept, Changed, AreThose, HasOtherRow, HasOtherParts, IsChange, settled_in}
 use Rattle.mf_account.specs.Loan.{Loan as Running, IsSound, state_of_loan, settled_of_loan}
 use Rattle.mf_account.proofs.ChangeLemmas.{none-in}
 use Rattle.mf_account.proofs.SoundLemmas.{good-sound}
@@ -170,7 +170,7 @@ shares_fit x n settled (s ∷ ss) lists =
     fit_both (shares_replaced x n settled s) (shares_put x n settled ss) (Some lists) (refl, parts_fit x n (placed_parts s (settled_in s settled)) _)
     (subst (AllFit after Fits (shares_put x n settled ss)) (sym (parts_written x n (placed_parts s (settled_in s settled)) _)) (shares_fit x n settled ss _))
 
-pub change_fits : (x n : ℕ) (a : Replayed) (lists : Lists) → AllFit after Fits (change_writes x n a) (Some lists)
+pub change_fits : (x n : ℕ) (a : Kept) (lists : Lists) → AllFit after Fits (change_writes x n a) (Some lists)
 change_fits x n a lists =
-    fit_both (instalments_put x n (state_of_loan a.loan).rows a.change.rows) (shares_put x n (settled_of_loan a.loan) a.change.seqs) (Some lists) (instalments_fit x n (state_of_loan a.loan).rows a.change.rows lists)
-    (subst (AllFit after Fits (shares_put x n (settled_of_loan a.loan) a.change.seqs)) (sym (instalments_written x n (state_of_loan a.loan).rows a.change.rows lists)) (shares_fit x n (settled_of_loan a.loan) a.change.seqs _))
+    fit_both (instalments_put x n a.state.rows a.change.rows) (shares_put x n a.settled a.change.seqs) (Some lists) (instalments_fit x n a.state.rows a.change.rows lists)
+    (subst (AllFit after Fits (shares_put x n a.settled a.change.seqs)) (sym (instalments_written x n a.state.rows a.change.rows lists)) (shares_fit x n a.settled a.change.seqs _))

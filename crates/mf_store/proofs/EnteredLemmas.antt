@@ -12,7 +12,7 @@ use Rattle.mf_model.specs.Accounts.{account_in}
 use Rattle.std.specs.List.{AllByRecursion}
 use Rattle.std.specs.Option.{is_some}
 use Rattle.mf_account.specs.declared.entry.Entry.{Entry}
-use Rattle.mf_account.specs.Change.{Account as Replayed, IsChange}
+use Rattle.mf_account.specs.Change.{Account as Kept, IsChange, IsReplayed}
 use Rattle.mf_office.specs.Numbers.{IsNumberUpTo}
 use Rattle.mf_office.specs.Texts.{IsCaller}
 use Rattle.mf_office.specs.declared.account.Account.{Account}
@@ -144,11 +144,11 @@ there_of x n l fs at = go (office_at x fs) at
     go (Some f) h = refl
 
 -- the staff after a change of a loan's entries
-abbrev pub staff_after : Account → Replayed → Institution → Caller → Bool
+abbrev pub staff_after : Account → Kept → Institution → Caller → Bool
 staff_after loan account i = is_staff (with_rows loan.office (loan_entered loan.number account.loan.entries (rows_at loan.office i)) i.offices)
 
 -- the rows of its office are sound where the institution is
-rows_after : (loan : Account) (account : Replayed) (l : Ledger) (i : Institution) → IsSound (committed (Enter loan account) i) → ledger_at loan i ≡ Some l → IsSoundRows i.catalogue (staff_after loan account i) (loan_entered loan.number account.loan.entries (rows_at loan.office i))
+rows_after : (loan : Account) (account : Kept) (l : Ledger) (i : Institution) → IsSound (committed (Enter loan account) i) → ledger_at loan i ≡ Some l → IsSoundRows i.catalogue (staff_after loan account i) (loan_entered loan.number account.loan.entries (rows_at loan.office i))
 rows_after loan account l i sound there =
     let x = loan.office in
     let new = loan_entered loan.number account.loan.entries (rows_at x i) in
@@ -156,7 +156,7 @@ rows_after loan account l i sound there =
     subst (IsSoundRows i.catalogue s) (own_rows x new i.offices (there_of x loan.number l i.offices there)) (office_sound i.catalogue s x (with_rows x new i.offices) sound.each)
 
 -- and so is the loan with these entries
-loan_after : (loan : Account) (account : Replayed) (l : Ledger) (i : Institution) → IsSound (committed (Enter loan account) i) → ledger_at loan i ≡ Some l → IsSoundLoan i.catalogue (staff_after loan account i) (rows_at loan.office i).clients (with_entries account.loan.entries l)
+loan_after : (loan : Account) (account : Kept) (l : Ledger) (i : Institution) → IsSound (committed (Enter loan account) i) → ledger_at loan i ≡ Some l → IsSoundLoan i.catalogue (staff_after loan account i) (rows_at loan.office i).clients (with_entries account.loan.entries l)
 loan_after loan account l i sound there =
     let ls = (rows_at loan.office i).loans in
     let change = with_entries account.loan.entries in
@@ -167,14 +167,14 @@ pub no_entries : (loan : Account) (l : Ledger) (i : Institution) → IsSound i �
 no_entries loan l i sound there none = subst (λ d. AreEntriesBy i.catalogue.day (is_staff i.offices) l.loan.periods d l.entries) none (loan_sound loan l i sound there).entries
 
 -- where a loan with one entry more is sound, that entry has the greatest number
-pub entry_last : (loan : Account) (account : Replayed) (e : Entry) (l : Ledger) (i : Institution) → IsSound (committed (Enter loan account) i) → ledger_at loan i ≡ Some l → account.loan.entries ≡ l.entries ++ e ∷ [] → AreEarlier e.seq l.entries
+pub entry_last : (loan : Account) (account : Kept) (e : Entry) (l : Ledger) (i : Institution) → IsSound (committed (Enter loan account) i) → ledger_at loan i ≡ Some l → account.loan.entries ≡ l.entries ++ e ∷ [] → AreEarlier e.seq l.entries
 entry_last loan account e l i sound there are =
     let s = staff_after loan account i in
     let day = disbursed_on l.loan.stage in
     entered_earlier i.catalogue.day s l.loan.periods day l.entries e (subst (AreEntriesBy i.catalogue.day s l.loan.periods day) are (loan_after loan account l i sound there).entries)
 
 -- where an office with one entry more is sound, no receipt stands twice in it
-pub entry_apart : (loan : Account) (account : Replayed) (l : Ledger) (i : Institution) → IsSound (committed (Enter loan account) i) → ledger_at loan i ≡ Some l → AreApart (uses_from 1 (loan_entered loan.number account.loan.entries (rows_at loan.office i)).loans)
+pub entry_apart : (loan : Account) (account : Kept) (l : Ledger) (i : Institution) → IsSound (committed (Enter loan account) i) → ledger_at loan i ≡ Some l → AreApart (uses_from 1 (loan_entered loan.number account.loan.entries (rows_at loan.office i)).loans)
 entry_apart loan account l i sound there = (rows_after loan account l i sound there).receipts
 
 -- ---- what the tables show of one loan
@@ -218,9 +218,9 @@ pub as_long : (es after : List Entry) (seq : ℕ) → after ≡ with_mark es (se
 as_long es after seq is = let long = length-set es (seq - 1) (record (entry_at es (seq - 1)) { reversed = true }) in let size : length after ≡ length (with_mark es (seq - 1) true) = ap length is in omega (arith, long, size)
 
 -- what the stored rows of its account become
-pub handed_changed : (loan : Account) (account : Replayed) (before : Running) (i : Institution) → IsSound i → IsSound (committed (Enter loan account) i) → (of : IsAccountOf loan before i)
-    → account.loan ≡ record before { entries = account.loan.entries } → length before.entries ≤ length account.loan.entries → IsChange before account.loan account.change → IsChanged i.catalogue of.ledger account
-handed_changed loan account before i sound then of others more change = record {
+pub handed_changed : (loan : Account) (account : Kept) (before : Running) (i : Institution) → IsSound i → IsSound (committed (Enter loan account) i) → (of : IsAccountOf loan before i)
+    → account.loan ≡ record before { entries = account.loan.entries } → length before.entries ≤ length account.loan.entries → IsReplayed account → IsChange before account.loan account.change → IsChanged i.catalogue of.ledger account
+handed_changed loan account before i sound then of others more kept change = record {
   before = before;
   was = of.account;
   now = now;
@@ -228,6 +228,7 @@ handed_changed loan account before i sound then of others more change = record {
   then = account_sound k (staff_after loan account i) (rows_at loan.office i).clients (with_entries account.loan.entries of.ledger) account.loan sound.catalogue (loan_after loan account of.ledger i then of.there) now;
   same = sym (ap (λ (r : Running). r.periods) others);
   more = more;
+  kept = kept;
   change = change;
 }
   where

@@ -27,5 +27,6 @@ pub mod OneInstitution
 pub mod ChangedRowLemmas
 pub mod AccountCommitLemmas
 pub mod InstalmentReadLemmas
+pub mod PartReadLemmas
 pub mod OfficeLoansLemmas
 pub mod StatusLemmas

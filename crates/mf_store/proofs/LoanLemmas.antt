@@ -9,7 +9,7 @@ use Rattle.std.proofs.lemmas.Option.{slice_get-map}
 use Rattle.sqlite.specs.Order.{Row}
 use Rattle.sqlite_keyed.proofs.ListLemmas.{filter-filter}
 use Rattle.mf_account.specs.declared.entry.Entry.{Entry}
-use Rattle.mf_account.specs.Change.{Account as Replayed, no_change}
+use Rattle.mf_account.specs.Change.{Account as Kept, replayed}
 use Rattle.mf_account.specs.Loan.{Loan as Running, status_of_loan}
 use Rattle.mf_account.specs.Standing.{entry_at, with_mark}
 use Rattle.mf_catalog.specs.declared.terms.Terms.{Terms}
@@ -29,7 +29,7 @@ use Rattle.mf_model.specs.Loans.{staged, reversed, with_entries, lines_from, lin
 use Rattle.mf_model.specs.Receipts.{uses_from, AreApart}
 use Rattle.mf_model.specs.Sound.{IsSound}
 use Rattle.mf_model.specs.Stages.{stage_number, disbursed_on}
-use Rattle.mf_model.specs.Store.{committed, rows_at, ledger_at, loan_at, account_at, account_of, replayed}
+use Rattle.mf_model.specs.Store.{committed, rows_at, ledger_at, loan_at, account_at, account_of}
 use Rattle.mf_model.specs.Tree.{is_there}
 use Rattle.mf_model.proofs.Growing.{with_same_at}
 use Rattle.mf_model.proofs.ReceiptLemmas.{uses_with, uses_marked, uses_push}
@@ -199,7 +199,7 @@ module _ (account : Account) (stage : Stage) (l : Ledger) (i : Institution) (bef
   }
 
 -- what a change of a loan's entries leaves of the rows of its office
-module _ (loan : Account) (account : Replayed) (l : Ledger) (i : Institution) (before : IsSound i) (there : ledger_at loan i ≡ Some l) (changed : IsChanged i.catalogue l account) where
+module _ (loan : Account) (account : Kept) (l : Ledger) (i : Institution) (before : IsSound i) (there : ledger_at loan i ≡ Some l) (changed : IsChanged i.catalogue l account) where
   abbrev x : ℕ
   x = loan.office
 
@@ -396,24 +396,24 @@ map_self (x ∷ xs) = ap (λ l. x ∷ l) (map_self xs)
 -- ---- accounts
 
 -- what is replayed of a loan's terms and its entries
-pub replay_is : (named : Option Terms) (loan : Loan) (day : ℕ) (entries : List Entry) (terms : Terms) (found : Option Replayed) (a : Replayed) → named ≡ Some terms
-    → IfSome found (λ (b : Replayed). b ≡ record { loan = record { terms = terms; principal = loan.principal; periods = loan.periods; day = day; entries = entries }; change = no_change }) → found ≡ Some a
+pub replay_is : (named : Option Terms) (loan : Loan) (day : ℕ) (entries : List Entry) (terms : Terms) (found : Option Kept) (a : Kept) → named ≡ Some terms
+    → IfSome found (λ (b : Kept). b ≡ replayed (record { terms = terms; principal = loan.principal; periods = loan.periods; day = day; entries = entries })) → found ≡ Some a
     → option_map replayed (running_from loan entries (Some day) named) ≡ Some a
 replay_is named loan day entries terms found a term made is =
-    ap (λ t. option_map replayed (running_from loan entries (Some day) t)) term ∙ ap Some (sym (subst (λ o. IfSome o (λ (b : Replayed). b ≡ replayed (running loan entries day terms))) is made))
+    ap (λ t. option_map replayed (running_from loan entries (Some day) t)) term ∙ ap Some (sym (subst (λ o. IfSome o (λ (b : Kept). b ≡ replayed (running loan entries day terms))) is made))
 
 -- the instalments of a loan that was just disbursed
-pub fresh_rows : (k : Catalogue) (loan : Loan) (day : ℕ) (es : List Entry) (a : Replayed) → option_map replayed (running_from loan es (Some day) (terms_in k loan.product)) ≡ Some a → es ≡ [] → disbursed_on loan.stage ≡ Some day
-    → kept_of instalments_kept k (record { loan = loan; entries = [] }) ≡ instalments_kept a.loan
+pub fresh_rows : (k : Catalogue) (loan : Loan) (day : ℕ) (es : List Entry) (a : Kept) → option_map replayed (running_from loan es (Some day) (terms_in k loan.product)) ≡ Some a → es ≡ [] → disbursed_on loan.stage ≡ Some day
+    → kept_of instalments_kept k (record { loan = loan; entries = [] }) ≡ numbered_from (λ n row. (n, row)) 1 a.state.rows
 fresh_rows k loan day es a is none disbursed =
     (λ t. of_account [] instalments_kept (running_from loan (sym none t) (disbursed t) (terms_in k loan.product))) ∙ go (running_from loan es (Some day) (terms_in k loan.product)) is
   where
-    go : (o : Option Running) → option_map replayed o ≡ Some a → of_account [] instalments_kept o ≡ instalments_kept a.loan
+    go : (o : Option Running) → option_map replayed o ≡ Some a → of_account [] instalments_kept o ≡ numbered_from (λ n row. (n, row)) 1 a.state.rows
     go None e = absurd (let never : None ≡ Some a = e in cc)
-    go (Some r) e = let found : Some (replayed r) ≡ Some a = e in let same : replayed r ≡ a = cc in ap (λ (b : Replayed). instalments_kept b.loan) same
+    go (Some r) e = let found : Some (replayed r) ≡ Some a = e in let same : replayed r ≡ a = cc in ap (λ (b : Kept). numbered_from (λ n row. (n, row)) 1 b.state.rows) same
 
 -- what is replayed of a loan's row and its entries is its account
-pub account_replayed : (i : Institution) (account : Account) (loan : Loan) (day : ℕ) (entries : List Entry) (a : Replayed) → entries ≡ entries_of (ledger_at account i) → option_map replayed (running_from loan entries (Some day) (terms_in i.catalogue loan.product)) ≡ Some a
+pub account_replayed : (i : Institution) (account : Account) (loan : Loan) (day : ℕ) (entries : List Entry) (a : Kept) → entries ≡ entries_of (ledger_at account i) → option_map replayed (running_from loan entries (Some day) (terms_in i.catalogue loan.product)) ≡ Some a
     → loan_at account i ≡ Some loan → disbursed_on loan.stage ≡ Some day → account_at account i ≡ Some a
 account_replayed i account loan day entries a entered is there disbursed = go (ledger_at account i) entered there
   where

@@ -15,7 +15,7 @@ use Rattle.mf_model.specs.declared.store.CatalogueCounts.{CatalogueCounts}
 use Rattle.mf_model.specs.declared.commit.Commit.TheVariants.{AddOffice, AddStaff, AddClient, SetDay, AddCharge, AddProduct, RetireProduct, AddLoan, SetStage, Enter, Reverse}
 use Rattle.mf_model.specs.Institution.{Institution, Charge, Offer, Office, Rows, Staff, numbered, product_of, office_at, with_rows, with_office, new_office, after, Rows_become}
 use Rattle.mf_model.specs.Desk.{staff_added, client_added, loan_added, loan_staged, loan_entered}
-use Rattle.mf_account.specs.Change.{Account as Replayed}
+use Rattle.mf_account.specs.Change.{Account as Kept}
 use Rattle.mf_model.specs.Loans.{staged, with_entries}
 use Rattle.mf_model.specs.Store.{committed, rows_of, rows_at, counts_at, catalogue_counts, role_of}
 use Rattle.mf_model.specs.Sound.{IsSound}
@@ -167,7 +167,7 @@ stage_tells account stage i =
     (λ t. record { staff = length rows.staff; clients = length rows.clients; loans = length_with account.number (staged stage) rows.loans t })
     (λ n s h. h)
 
-pub entry_tells : (loan : Account) (account : Replayed) (i : Institution) → Tells Nothing i (committed (Enter loan account) i)
+pub entry_tells : (loan : Account) (account : Kept) (i : Institution) → Tells Nothing i (committed (Enter loan account) i)
 entry_tells loan account i =
     let rows = rows_at loan.office i in
     rows_tell_nothing loan.office (loan_entered loan.number account.loan.entries rows) i
@@ -175,7 +175,7 @@ entry_tells loan account i =
     (λ n s h. h)
 
 -- a reversal changes the same rows
-pub reversal_tells : (loan : Account) (seq : ℕ) (account : Replayed) (i : Institution) → Tells Nothing i (committed (Reverse loan seq account) i)
+pub reversal_tells : (loan : Account) (seq : ℕ) (account : Kept) (i : Institution) → Tells Nothing i (committed (Reverse loan seq account) i)
 reversal_tells loan seq account i = entry_tells loan account i
 
 new_rows : (new : Office) (fs : List Office) → office_at new.number fs ≡ None → rows_of (office_at new.number (with_office new fs)) ≡ new.rows

@@ -3,8 +3,7 @@ use Rattle.std.specs.Prelude.{ℕ, List, [], ◌∷◌, ◌++◌, map}
 use Rattle.mf_alloc.specs.Rows.{row_at}
 use Rattle.mf_alloc.specs.Sums.{Sums}
 use Rattle.mf_account.specs.declared.settled.Settled.{Settled}
-use Rattle.mf_account.specs.Change.{Account as Replayed, settled_in}
-use Rattle.mf_account.specs.Loan.{state_of_loan, settled_of_loan}
+use Rattle.mf_account.specs.Change.{Account as Kept, settled_in}
 use Rattle.mf_store_records.specs.declared.writes.StoreWrite.{StoreWrite}
 use Rattle.mf_store_records.specs.declared.writes.StoreWrite.TheVariants.{PutInstalment, PutShare, RemoveShares}
 use Rattle.mf_store_accounts.specs.Flat.{instalment_in, share_in, placed_parts}
@@ -28,5 +27,5 @@ shares_put office loan settled [] = []
 shares_put office loan settled (seq ∷ seqs) = shares_replaced office loan settled seq ++ shares_put office loan settled seqs
 
 -- what a change names is written: the instalments whose rows differ, and the entries that settle otherwise
-abbrev pub change_writes : ℕ → ℕ → Replayed → List StoreWrite
-change_writes office loan a = instalments_put office loan (state_of_loan a.loan).rows a.change.rows ++ shares_put office loan (settled_of_loan a.loan) a.change.seqs
+abbrev pub change_writes : ℕ → ℕ → Kept → List StoreWrite
+change_writes office loan a = instalments_put office loan a.state.rows a.change.rows ++ shares_put office loan a.settled a.change.seqs

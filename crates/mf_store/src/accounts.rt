@@ -1,15 +1,16 @@
-//! The accounts of loans: each is replayed from the loan's row, its product's terms and its entries. In a list of loans
-//! none is.
+//! The accounts of loans: each is resumed from the loan's row, its product's terms, its entries, and the instalments and
+//! shares that are kept of it. In a list of loans none is.
 
 ghost use Rattle.std.specs.Prelude.{◌≡◌, ◌≤◌, ◌-◌, ◌++◌, ℕ, List, [], length, map, option_map, Some, OnOk, IfOk, IfErr};
 ghost use Rattle.std.specs.List.{AllByRecursion};
 ghost use Rattle.mf_base.specs.declared.fault.Fault.TheVariants.{F20};
 ghost use Rattle.mf_account.specs.Standing.{entry_at};
+ghost use Rattle.mf_account.specs.Change.{replayed};
 ghost use Rattle.mf_catalog.specs.Product.{charge_of};
 ghost use Rattle.mf_model.specs.Accounts.{running_from, terms_in, status_in};
 ghost use Rattle.mf_model.specs.Institution.{Institution, Ledger as ModelLedger, charge_in};
 ghost use Rattle.mf_model.specs.Stages.{disbursed_on};
-ghost use Rattle.mf_model.specs.Store.{Commits, loan_at, ledger_at, account_at, replayed, loans_at};
+ghost use Rattle.mf_model.specs.Store.{Commits, loan_at, ledger_at, account_at, loans_at};
 ghost use Rattle.mf_model.specs.declared.commit.Commit.TheVariants.{Enter, Reverse};
 ghost use Rattle.mf_store.specs.ChangeWrites.{schedule_put};
 ghost use Rattle.mf_store_accounts.specs.Flat.{loan_in, line_in, entry_in, entries_of, instalments_kept, kept_of};
@@ -138,8 +139,9 @@ impl<S: Alter> Store<S> {
         stored(found)
     }
 
-    /// The account of a loan that is there and was disbursed on this day.
-    fn replay(
+    /// The account of a loan that is there and was disbursed on this day, resumed from what is kept of it: nothing is
+    /// replayed.
+    fn resume(
         &mut self,
         alloc: Global,
         account: Account,
@@ -149,10 +151,25 @@ impl<S: Alter> Store<S> {
         ensures kept { Stays S.Store self.old self.new }
         ensures gives_up { IfErr result (λ fault. fault ≡ F20) }
         ensures open { IsClean S.Store self.new → OnOk result (IsOpen S.Store self.new) }
-        ensures value { IsClean S.Store self.new → (i : Institution) → StandsFor S.Store self.old i → loan_at account i ≡ Some loan.now → disbursed_on loan.now.stage ≡ Some day → IfOk result (λ replayed. account_at account i ≡ Some replayed) }
+        ensures value { IsClean S.Store self.new → (i : Institution) → StandsFor S.Store self.old i → loan_at account i ≡ Some loan.now → disbursed_on loan.now.stage ≡ Some day → IfOk result (λ resumed. account_at account i ≡ Some resumed) }
     {
-        let entries = self.entries_at(alloc, account)?;
-        self.account_with(alloc, loan, day, entries)
+        let Account { office, number } = account;
+        let named = self.terms_of(loan.product)?;
+        let terms = stored(named)?;
+        let entries = self.entries_at(alloc, Account { office, number })?;
+        let rows = self.instalments_at(alloc, Account { office, number })?;
+        let parts = self.parts_at(alloc, Account { office, number })?;
+        let found = LoanAccount::resume(
+            alloc,
+            terms,
+            loan.principal,
+            loan.periods,
+            day,
+            entries,
+            rows,
+            parts,
+        )?;
+        stored(found)
     }
 
     /// Adds the puts of a loan's instalments as its disbursement leaves them; none where it is not disbursed.
@@ -194,8 +211,8 @@ impl<S: Alter> Store<S> {
         let Some(day) = disbursal_day(&loan) else {
             return Ok(None);
         };
-        let replayed = self.replay(alloc, Account { office, number }, &loan, day)?;
-        Ok(Some(replayed))
+        let resumed = self.resume(alloc, Account { office, number }, &loan, day)?;
+        Ok(Some(resumed))
     }
 
     /// The status of a loan that is there and was disbursed. Its entries are asked for only where nothing is outstanding in the

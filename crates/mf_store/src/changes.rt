@@ -3,7 +3,6 @@
 ghost use Rattle.std.specs.Prelude.{◌≡◌, ◌++◌, map, OnOk, IfOk, IfErr};
 ghost use Rattle.mf_base.specs.declared.fault.Fault.TheVariants.{F20};
 ghost use Rattle.mf_alloc.specs.Rows.{row_at};
-ghost use Rattle.mf_account.specs.Loan.{settled_of_loan};
 ghost use Rattle.mf_store_records.specs.declared.writes.StoreWrite.TheVariants.{PutShare};
 ghost use Rattle.mf_store_accounts.specs.Flat.{instalment_in, numbered_from, share_in, placed_parts};
 ghost use Rattle.mf_store.specs.ChangeWrites.{schedule_put, instalments_put, shares_replaced, shares_put, change_writes};
@@ -107,7 +106,7 @@ fn replace_shares(
     seq: u32,
     writes: &mut Vec<StoreWrite>,
 ) -> Result<(), Fault>
-    ensures writes { OnOk result (writes.new.items ≡ writes.old.items ++ shares_replaced office loan (settled_of_loan account.now.loan) seq) }
+    ensures writes { OnOk result (writes.new.items ≡ writes.old.items ++ shares_replaced office loan account.now.settled seq) }
     ensures gives_up { IfErr result (λ fault. fault ≡ F20) }
 {
     let parts = account.settled(alloc, seq)?;
@@ -124,7 +123,7 @@ fn put_shares(
     seqs: &[u32],
     writes: &mut Vec<StoreWrite>,
 ) -> Result<(), Fault>
-    ensures writes { OnOk result (writes.new.items ≡ writes.old.items ++ shares_put office loan (settled_of_loan account.now.loan) seqs.now) }
+    ensures writes { OnOk result (writes.new.items ≡ writes.old.items ++ shares_put office loan account.now.settled seqs.now) }
     ensures gives_up { IfErr result (λ fault. fault ≡ F20) }
 {
     for seq in seqs {

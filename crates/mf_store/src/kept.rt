@@ -4,7 +4,7 @@ ghost use Rattle.std.specs.Prelude.{◌≡◌, ◌+◌, ◌≤◌, ℕ, List, []
 ghost use Rattle.mf_base.specs.DayText.{day_text};
 ghost use Rattle.mf_base.specs.declared.fault.Fault.TheVariants.{F20};
 ghost use Rattle.std.specs.List.{AllByRecursion, list_any};
-ghost use Rattle.mf_alloc.specs.Sums.{Sums, IsWithin, IsWhole, is_open};
+ghost use Rattle.mf_alloc.specs.Sums.{Sums, AreWhole, AreWithin, IsRowWithin, IsWithin, IsWhole, is_open};
 ghost use Rattle.mf_account.specs.Loan.{state_of_loan};
 ghost use Rattle.mf_model.specs.Accounts.{account_in, of_account};
 ghost use Rattle.mf_model.specs.Institution.{Institution, Ledger as ModelLedger};
@@ -67,6 +67,7 @@ fn instalment_of(
     written_off: [u64; 4],
 ) -> Result<Instalment, Fault>
     ensures row { IfOk result (λ found. (due : ℕ) → row.now.due ≡ day_text due → found ≡ record { due = due; owed = owed; paid = paid; waived = waived; written_off = written_off }) }
+    ensures within { IfOk result (λ found. IsWhole found × IsRowWithin found) }
     ensures gives_up { IfErr result (λ fault. fault ≡ F20) }
 {
     let due = day_from(&row.due)?;
@@ -85,6 +86,7 @@ fn instalment_of(
 /// The instalment of a row.
 pub(crate) fn instalment_from(row: &InstalmentRow) -> Result<Instalment, Fault>
     ensures row { IfOk result (λ found. (office loan number : ℕ) (sums : Sums) → IsWhole sums → row.now ≡ instalment_in office loan (number, sums) → found ≡ sums) }
+    ensures within { IfOk result (λ found. IsWhole found × IsRowWithin found) }
     ensures gives_up { IfErr result (λ fault. fault ≡ F20) }
 {
     let owed = four(
@@ -117,6 +119,7 @@ pub(crate) fn instalment_from(row: &InstalmentRow) -> Result<Instalment, Fault>
 /// The instalment of a row as the tables give it.
 fn instalment_in_row(row: &Row) -> Result<Instalment, Fault>
     ensures row { IfOk result (λ found. (office loan number : ℕ) (sums : Sums) → IsWhole sums → row.now ≡ instalment_stored (instalment_in office loan (number, sums)) → found ≡ sums) }
+    ensures within { IfOk result (λ found. IsWhole found × IsRowWithin found) }
     ensures gives_up { IfErr result (λ fault. fault ≡ F20) }
 {
     let found = read_row::<InstalmentRow>(row)?;
@@ -126,6 +129,8 @@ fn instalment_in_row(row: &Row) -> Result<Instalment, Fault>
 /// The instalments of the rows, in order.
 fn instalments_from(alloc: Global, rows: &[Row]) -> Result<Vec<Instalment>, Fault>
     ensures rows { IfOk result (λ list. (office loan : ℕ) (all : List (ℕ × Sums)) → AllByRecursion (λ item. IsWhole item.1) all → rows.now ≡ map (λ item. instalment_stored (instalment_in office loan item)) all → list.items ≡ map (λ item. item.1) all) }
+    ensures whole { IfOk result (λ list. AreWhole list.items) }
+    ensures within { IfOk result (λ list. AreWithin list.items) }
     ensures gives_up { IfErr result (λ fault. fault ≡ F20) }
 {
     let mut instalments = Vec::new(alloc);
@@ -154,6 +159,8 @@ impl<S: Alter> Store<S> {
         ensures kept { Stays S.Store self.old self.new }
         ensures gives_up { IfErr result (λ fault. fault ≡ F20) }
         ensures open { IsClean S.Store self.new → OnOk result (IsOpen S.Store self.new) }
+        ensures whole { IfOk result (λ rows. AreWhole rows.items) }
+        ensures within { IfOk result (λ rows. AreWithin rows.items) }
         ensures value { IsClean S.Store self.new → (i : Institution) → StandsFor S.Store self.old i → (l : ModelLedger) → ledger_at loan i ≡ Some l → IfOk result (λ rows. rows.items ≡ of_account [] (λ a. (state_of_loan a).rows) (account_in i.catalogue l)) }
     {
         let rows = self.list::<InstalmentRow>((loan.office.get(), loan.number.get()))?;

@@ -20,6 +20,7 @@ mod laws;
 mod loans;
 mod office_line;
 mod office_rows;
+mod parts;
 mod reads;
 mod receipts;
 mod statuses;

@@ -8,10 +8,10 @@ use Rattle.mf_catalog.specs.Product.{terms_of}
 use Rattle.mf_catalog.specs.declared.charge.ChargeDef.{ChargeDef}
 use Rattle.mf_catalog.specs.declared.product.Product.{Product}
 use Rattle.mf_catalog.specs.declared.terms.Terms.{Terms}
-use Rattle.mf_account.specs.Change.{Account as Replayed, no_change}
+use Rattle.mf_account.specs.Change.{Account as Kept, replayed}
 use Rattle.mf_account.specs.Loan.{Loan as Running, IsSound as IsSoundAccount}
 use Rattle.mf_account.specs.declared.entry.Entry.{Entry}
-use Rattle.mf_model.specs.Accounts.{terms_in, running, running_from, account_in}
+use Rattle.mf_model.specs.Accounts.{terms_in, running, running_from, account_in, of_account}
 use Rattle.mf_model.specs.Institution.{Catalogue, Charge, Ledger, Offer, charge_def, charge_in, numbered, product_of}
 use Rattle.mf_model.specs.Sound.{IsSoundCatalogue}
 use Rattle.mf_model.specs.Stages.{disbursed_on}
@@ -89,14 +89,14 @@ readable_of today n (Some day) es are = each es are.1
     each [] all = tt
     each (e ∷ es) all = (all.0.readable, each es all.1)
 
-pub no_account : (k : Catalogue) (l : Ledger) → None ≡ disbursed_on l.loan.stage → ◌≡◌ {A = Option Running} None (account_in k l)
-no_account k l none = ap (λ d. running_from l.loan l.entries d (terms_in k l.loan.product)) none
+pub no_account : (k : Catalogue) (l : Ledger) → None ≡ disbursed_on l.loan.stage → ◌≡◌ {A = Option Kept} None (option_map replayed (account_in k l))
+no_account k l none = ap (λ d. option_map replayed (running_from l.loan l.entries d (terms_in k l.loan.product))) none
 
-pub no_account_without : (k : Catalogue) (l : Ledger) (day : ℕ) → Some day ≡ disbursed_on l.loan.stage → None ≡ terms_in k l.loan.product → ◌≡◌ {A = Option Running} None (account_in k l)
-no_account_without k l day on none = λ t. running_from l.loan l.entries (on t) (none t)
+pub no_account_without : (k : Catalogue) (l : Ledger) (day : ℕ) → Some day ≡ disbursed_on l.loan.stage → None ≡ terms_in k l.loan.product → ◌≡◌ {A = Option Kept} None (option_map replayed (account_in k l))
+no_account_without k l day on none = λ t. option_map replayed (running_from l.loan l.entries (on t) (none t))
 
-pub account_found : (k : Catalogue) (names : List (List ℕ)) (l : Ledger) (day : ℕ) (terms : Terms) (found : Option Replayed) → IsSoundCatalogue k → IsPlainLoan k names l → Some day ≡ disbursed_on l.loan.stage → Some terms ≡ terms_in k l.loan.product
-    → IfSome found (λ account. account ≡ record { loan = running l.loan l.entries day terms; change = no_change }) → (IsSoundAccount (running l.loan l.entries day terms) → found ≢ None) → option_map (λ (a : Replayed). a.loan) found ≡ account_in k l
+pub account_found : (k : Catalogue) (names : List (List ℕ)) (l : Ledger) (day : ℕ) (terms : Terms) (found : Option Kept) → IsSoundCatalogue k → IsPlainLoan k names l → Some day ≡ disbursed_on l.loan.stage → Some terms ≡ terms_in k l.loan.product
+    → IfSome found (λ account. account ≡ replayed (running l.loan l.entries day terms)) → (IsSoundAccount (running l.loan l.entries day terms) → found ≢ None) → found ≡ option_map replayed (account_in k l)
 account_found k names l day terms found sound plain on given is some = go found is some
   where
     late : day ≤ last_entered_day
@@ -109,6 +109,16 @@ account_found k names l day terms found sound plain on given is some = go found 
       entries = (subst (λ o. AreEntriesIn k.day l.loan.periods o l.entries) (sym on) plain.entries).0;
     }
 
-    go : (o : Option Replayed) → IfSome o (λ account. account ≡ record { loan = running l.loan l.entries day terms; change = no_change }) → (IsSoundAccount (running l.loan l.entries day terms) → o ≢ None) → option_map (λ (a : Replayed). a.loan) o ≡ account_in k l
+    go : (o : Option Kept) → IfSome o (λ account. account ≡ replayed (running l.loan l.entries day terms)) → (IsSoundAccount (running l.loan l.entries day terms) → o ≢ None) → o ≡ option_map replayed (account_in k l)
     go None is some = absurd (some right refl)
-    go (Some a) is some = ap (λ (b : Replayed). Some b.loan) is ∙ (λ t. running_from l.loan l.entries (on t) (given t))
+    go (Some a) is some = ap (λ (b : Kept). Some b) is ∙ (λ t. option_map replayed (running_from l.loan l.entries (on t) (given t)))
+
+-- ---- what is read off it
+
+pub read_none : {A : Type 0} (read : Running → List A) (o : Option Running) → ◌≡◌ {A = Option Kept} None (option_map replayed o) → of_account [] read o ≡ []
+read_none read None none = refl
+read_none read (Some a) none = absurd (let never : None ≡ Some (replayed a) = none in cc)
+
+pub read_some : {A : Type 0} (read : Running → List A) (shown : Kept → List A) (o : Option Running) (account : Kept) → ((a : Running) → shown (replayed a) ≡ read a) → Some account ≡ option_map replayed o → shown account ≡ of_account [] read o
+read_some read shown None account is found = absurd (let never : Some account ≡ None = found in cc)
+read_some read shown (Some a) account is found = let whole : Some account ≡ Some (replayed a) = found in let same : account ≡ replayed a = cc in ap shown same ∙ is a

@@ -5,3 +5,5 @@ pub mod AccountLemmas
 pub mod MadeLemmas
 pub mod ShareLemmas
 pub mod AccountRowLemmas
+pub mod PlaceLemmas
+pub mod KeptLemmas

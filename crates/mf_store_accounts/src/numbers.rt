@@ -4,6 +4,7 @@
 ghost use Rattle.std.specs.Prelude.{◌≡◌, ℕ, pos, Bool, Some, IfSome, IfOk, IfErr};
 ghost use Rattle.mf_base.specs.declared.fault.Fault.TheVariants.{F20};
 ghost use Rattle.mf_account.specs.declared.entry.Kind.{Kind as AnyKind};
+ghost use Rattle.mf_account.specs.declared.settled.How.{How as AnyHow};
 ghost use Rattle.mf_alloc.specs.declared.row.Portion.{Portion as AnyPortion};
 ghost use Rattle.mf_store_accounts.specs.Flat.{flag_number, entry_kind_number, portion_number, how_number};
 
@@ -96,5 +97,18 @@ pub fn number_of_how(how: How) -> u32
         How::Paid => 1,
         How::Waived => 2,
         How::WrittenOff => 3,
+    }
+}
+
+/// The way of settling of a number.
+pub fn how_from(number: u32) -> Option<How>
+    ensures some { IfSome result (λ how. how_number how ≡ number) }
+    ensures every { (how : AnyHow) → how_number how ≡ number → result ≡ Some how }
+{
+    match number {
+        1 => Some(How::Paid),
+        2 => Some(How::Waived),
+        3 => Some(How::WrittenOff),
+        _ => None,
     }
 }

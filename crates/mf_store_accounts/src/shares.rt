@@ -1,12 +1,12 @@
 //! The rows of shares, made of what an account's entries settle.
 
-ghost use Rattle.std.specs.Prelude.{◌≡◌, ◌++◌, ℕ, map, OnOk, IfOk, IfErr};
+ghost use Rattle.std.specs.Prelude.{◌≡◌, ◌++◌, ℕ, length, map, OnOk, IfOk, IfErr};
 ghost use Rattle.std.specs.List.Sorted.{IsSortedByKey, IsPermutation};
 ghost use Rattle.std.specs.Ordering.{nat_cmp};
 ghost use Rattle.mf_base.specs.declared.fault.Fault.TheVariants.{F20};
 ghost use Rattle.mf_account.specs.Change.{settled_in};
 ghost use Rattle.mf_account.specs.declared.settled.Settled.{Settled as Part};
-ghost use Rattle.mf_store_accounts.specs.Flat.{share_in, shares_kept};
+ghost use Rattle.mf_store_accounts.specs.Flat.{share_in, parts_from};
 ghost use Rattle.mf_store_accounts.specs.Kept.{next_place as place_after, placed_from};
 
 use crate::numbers::{number_of_how, number_of_portion, signed};
@@ -95,7 +95,7 @@ pub(crate) fn add_shares(
     account: &LoanAccount,
     made: &mut Vec<ShareRow>,
 ) -> Result<(), Fault>
-    ensures added { OnOk result (made.new.items ≡ made.old.items ++ map (share_in office loan) (shares_kept account.now.loan)) }
+    ensures added { OnOk result (made.new.items ≡ made.old.items ++ map (share_in office loan) (parts_from (λ seq. settled_in seq account.now.settled) 1 (length account.now.loan.entries))) }
     ensures gives_up { IfErr result (λ fault. fault ≡ F20) }
 {
     let parts = by_entry(alloc, account.settled_parts())?;

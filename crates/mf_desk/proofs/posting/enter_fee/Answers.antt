@@ -1,6 +1,7 @@
 use Rattle.std.proofs.Common.{◌≡◌, ℕ, ◌∷◌, [], ◌++◌, Option, Some, None, Err, inl, inr, refl, sym, ap, ◌∙◌, rules}
 use Rattle.mf_base.specs.declared.fault.Fault.{Fault}
 use Rattle.mf_account.specs.declared.entry.Entry.{Entry}
+use Rattle.mf_account.specs.Change.{IsReplayed}
 use Rattle.mf_account.specs.Charges.{fee_refused}
 use Rattle.mf_account.specs.Loan.{Loan as Running}
 use Rattle.mf_account.specs.Refusals.{refusal_of}
@@ -8,7 +9,7 @@ use Rattle.mf_model.specs.Loans.{fee, fee_first, fault_or}
 use Rattle.mf_model.specs.declared.commit.Commit.TheVariants.{Enter}
 use Rattle.mf_model.specs.declared.reply.LoanReply.TheVariants.{Entered}
 use Rattle.mf_model.specs.declared.reply.Reply.TheVariants as reply
-use Rattle.mf_desk.proofs.LoanLemmas.{then_entered, then_refused, ruled}
+use Rattle.mf_desk.proofs.LoanLemmas.{then_entered, then_refused}
 use Rattle.mf_desk.proofs.posting.enter_fee.Goals as goal
 
 none_of : (o : Option Fault) → ((fault : Fault) → o ≡ Some fault → ⊥) → o ≡ None
@@ -26,9 +27,8 @@ returns-in-Some-clause-decides g c =
     let today = c.in_ok-today.today in
     let make = fee c.args.charge.now c.args.due c.args.caller in
     let fault = c.in-Some.fault in
-    let first : fee_refused account.loan c.args.due ≡ Some fault = sym c.fee_refusal.ensures ∙ c.in-Some.is in
     then_refused s.stands s.clean s.leaves c.args.loan (fee_first c.args.due) make account today fault c.args.store.now c.find_account.new.store c.business_day.new.self c.in_ok-account.ensures.asks c.in_ok-today.ensures
-    (inr (ap (λ o. fault_or o (refusal_of account.loan (make today account.loan) today)) first))
+    (λ replayed. inr (ap (λ o. fault_or o (refusal_of account.loan (make today account.loan) today)) (sym (c.fee_refusal.ensures.value replayed) ∙ c.in-Some.is)))
 
 pub returns-in_err-account-2-clause-decides : goal.returns-in_err-account-2-clause-decides
 returns-in_err-account-2-clause-decides g c =
@@ -37,20 +37,14 @@ returns-in_err-account-2-clause-decides g c =
     let today = c.in_ok-today.today in
     let make = fee c.args.charge.now c.args.due c.args.caller in
     let fault = c.in_err-account-2.field-0.0 in
-    let none : fee_refused account.loan c.args.due ≡ None = sym c.fee_refusal.ensures ∙ none_of c.fee_refusal.result c.in_default.not-Some in
+    let none : IsReplayed account → fee_refused account.loan c.args.due ≡ None = λ replayed. sym (c.fee_refusal.ensures.value replayed) ∙ none_of c.fee_refusal.result c.in_default.not-Some in
     let made : c.in-Some-fee.entry ≡ make today account.loan = c.in-Some-fee.ensures in
     let e : c.from_residual-in_err-account-2.result ≡ Err fault = search rules in
     rw e (then_refused s.stands s.clean s.leaves c.args.loan (fee_first c.args.due) make account today fault c.args.store.now c.find_account.new.store c.business_day.new.self c.in_ok-account.ensures.asks c.in_ok-today.ensures
-    (elim c.in_err-account-2.ensures.refused [
+    (λ replayed. elim (c.in_err-account-2.ensures.refused replayed) [
       | inl given_up ↦ inl given_up
-      | inr refused ↦ inr (by_account c.args.due account.loan (refusal_of account.loan (make today account.loan) today) none ∙ ap (λ (x : Entry). refusal_of account.loan x today) (sym made) ∙ refused)
+      | inr refused ↦ inr (by_account c.args.due account.loan (refusal_of account.loan (make today account.loan) today) (none replayed) ∙ ap (λ (x : Entry). refusal_of account.loan x today) (sym made) ∙ refused)
     ]))
-
-pub returns-in_err-account-2-clause-refusal : goal.returns-in_err-account-2-clause-refusal
-returns-in_err-account-2-clause-refusal g c =
-    let fault = c.in_err-account-2.field-0.0 in
-    let e : c.from_residual-in_err-account-2.result ≡ Err fault = search rules in
-    rw e (ruled fault c.in_ok-account.account.loan c.in-Some-fee.entry c.in_ok-today.today c.in_err-account-2.ensures.refused)
 
 pub returns-clause-decides : goal.returns-clause-decides
 returns-clause-decides g c =
@@ -59,11 +53,11 @@ returns-clause-decides g c =
     let today = c.in_ok-today.today in
     let make = fee c.args.charge.now c.args.due c.args.caller in
     let after = c.in_ok-account-2.account in
-    let none : fee_refused account.loan c.args.due ≡ None = sym c.fee_refusal.ensures ∙ none_of c.fee_refusal.result c.in_default.not-Some in
+    let none : IsReplayed account → fee_refused account.loan c.args.due ≡ None = λ replayed. sym (c.fee_refusal.ensures.value replayed) ∙ none_of c.fee_refusal.result c.in_default.not-Some in
     let made : c.in-Some-fee.entry ≡ make today account.loan = c.in-Some-fee.ensures in
     let is : c.entering.result ≡ record { reply = reply.Loan c.args.loan (Entered (make today account.loan).seq); commit = Some (Enter c.args.loan after) } =
     c.entering.ensures ∙ ap (λ (x : Entry). record { reply = reply.Loan c.args.loan (Entered x.seq); commit = Some (Enter c.args.loan after) }) made
     in
     rw is (then_entered s.stands s.clean s.leaves c.args.loan (fee_first c.args.due) make account after today c.args.store.now c.find_account.new.store c.business_day.new.self c.in_ok-account.ensures.asks c.in_ok-today.ensures
-    (by_account c.args.due account.loan (refusal_of account.loan (make today account.loan) today) none ∙ ap (λ (x : Entry). refusal_of account.loan x today) (sym made) ∙ c.in_ok-account-2.ensures.accepted)
-    (c.in_ok-account-2.ensures.loan ∙ ap (λ (x : Entry). record account.loan { entries = account.loan.entries ++ x ∷ [] }) made) c.in_ok-account-2.ensures.change)
+    (λ replayed. by_account c.args.due account.loan (refusal_of account.loan (make today account.loan) today) (none replayed) ∙ ap (λ (x : Entry). refusal_of account.loan x today) (sym made) ∙ c.in_ok-account-2.ensures.accepted replayed)
+    (c.in_ok-account-2.ensures.loan ∙ ap (λ (x : Entry). record account.loan { entries = account.loan.entries ++ x ∷ [] }) made) c.in_ok-account-2.ensures.kept c.in_ok-account-2.ensures.change)

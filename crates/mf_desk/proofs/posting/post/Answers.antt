@@ -8,7 +8,7 @@ use Rattle.mf_model.specs.declared.commit.Commit.TheVariants.{Enter}
 use Rattle.mf_model.specs.declared.reply.LoanReply.TheVariants.{Entered}
 use Rattle.mf_model.specs.declared.reply.Reply.TheVariants as reply
 use Rattle.mf_model.proofs.SoundLemmas.{posting_is_next}
-use Rattle.mf_desk.proofs.LoanLemmas.{then_entered, then_refused, ruled}
+use Rattle.mf_desk.proofs.LoanLemmas.{then_entered, then_refused}
 use Rattle.mf_desk.proofs.posting.post.Goals as goal
 
 pub entered-requires-clause-next : goal.entered-requires-clause-next
@@ -27,13 +27,7 @@ returns-in_err-account-2-clause-decides g c =
     let fault = c.in_err-account-2.field-0.0 in
     let e : c.from_residual-in_err-account-2.result ≡ Err fault = search rules in
     rw e (then_refused s.stands s.clean s.leaves c.args.loan none_first (posting c.args.asked c.args.caller) account c.in_ok-today.today fault c.args.store.now c.find_account.new.store c.business_day.new.self c.in_ok-account.ensures.asks c.in_ok-today.ensures
-    (subst (λ (x : Entry). (fault ≡ F20) ⊎ (refusal_of account.loan x c.in_ok-today.today ≡ Some fault)) c.posting-entry.ensures c.in_err-account-2.ensures.refused))
-
-pub returns-in_err-account-2-clause-refusal : goal.returns-in_err-account-2-clause-refusal
-returns-in_err-account-2-clause-refusal g c =
-    let fault = c.in_err-account-2.field-0.0 in
-    let e : c.from_residual-in_err-account-2.result ≡ Err fault = search rules in
-    rw e (ruled fault c.in_ok-account.account.loan c.posting-entry.result c.in_ok-today.today c.in_err-account-2.ensures.refused)
+    (λ replayed. subst (λ (x : Entry). (fault ≡ F20) ⊎ (refusal_of account.loan x c.in_ok-today.today ≡ Some fault)) c.posting-entry.ensures (c.in_err-account-2.ensures.refused replayed)))
 
 pub returns-clause-decides : goal.returns-clause-decides
 returns-clause-decides g c =
@@ -46,5 +40,5 @@ returns-clause-decides g c =
     c.entering.ensures ∙ ap (λ (x : Entry). record { reply = reply.Loan c.args.loan (Entered x.seq); commit = Some (Enter c.args.loan after) }) c.posting-entry.ensures
     in
     rw is (then_entered s.stands s.clean s.leaves c.args.loan none_first make account after today c.args.store.now c.find_account.new.store c.business_day.new.self c.in_ok-account.ensures.asks c.in_ok-today.ensures
-    (ap (λ (x : Entry). refusal_of account.loan x today) (sym c.posting-entry.ensures) ∙ c.in_ok-account-2.ensures.accepted)
-    (c.in_ok-account-2.ensures.loan ∙ ap (λ (x : Entry). record account.loan { entries = account.loan.entries ++ x ∷ [] }) c.posting-entry.ensures) c.in_ok-account-2.ensures.change)
+    (λ replayed. ap (λ (x : Entry). refusal_of account.loan x today) (sym c.posting-entry.ensures) ∙ c.in_ok-account-2.ensures.accepted replayed)
+    (c.in_ok-account-2.ensures.loan ∙ ap (λ (x : Entry). record account.loan { entries = account.loan.entries ++ x ∷ [] }) c.posting-entry.ensures) c.in_ok-account-2.ensures.kept c.in_ok-account-2.ensures.change)

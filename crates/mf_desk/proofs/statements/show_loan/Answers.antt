@@ -1,5 +1,6 @@
 use Rattle.std.proofs.Common.{Option, None, Ok, ap, sym, ◌∙◌}
-use Rattle.mf_account.specs.Loan.{Loan as Running}
+use Rattle.std.specs.Prelude.{option_map}
+use Rattle.mf_account.specs.Change.{Account as Kept, replayed}
 use Rattle.mf_model.specs.declared.loan.Loan.{Loan}
 use Rattle.mf_model.specs.declared.loan.Statement.{Statement}
 use Rattle.mf_model.specs.declared.request.LoanRequest.TheVariants.{Show}
@@ -11,7 +12,7 @@ use Rattle.mf_model.specs.Loans.{on_loan}
 use Rattle.mf_desk.specs.declared.decision.Decision.{Decision}
 use Rattle.mf_desk.specs.Answers.{decision_outcome}
 use Rattle.mf_desk.specs.Statements.{statement_by}
-use Rattle.mf_desk.proofs.LoanLemmas.{told_of_found}
+use Rattle.mf_desk.proofs.LoanLemmas.{told_of_found, statement_is}
 use Rattle.mf_desk.proofs.statements.show_loan.Goals as goal
 
 pub returns-clause-decides : goal.returns-clause-decides
@@ -22,8 +23,9 @@ returns-clause-decides g c caller =
     let account = c.in_ok-account.account in
     told_of_found s.stands s.clean s.leaves loan found account (λ k. on_loan Show caller k no_rows 0) c.args.store.now c.find_loan.new.store c.account.new.self c.show.result c.in_ok-found.ensures.asks c.in_ok-account.ensures
     (λ i l loan_is account_is.
-    ap (λ (x : Loan). Ok (reply.Loan loan (Shown (statement_by x (account_in i.catalogue l))), None)) loan_is
-    ∙ ap (λ (a : Option Running). Ok (reply.Loan loan (Shown (statement_by found a)), None)) account_is
+    ap (λ (x : Statement). Ok (reply.Loan loan (Shown x), None)) (statement_is i.catalogue l)
+    ∙ ap (λ (x : Loan). Ok (reply.Loan loan (Shown (statement_by x (option_map replayed (account_in i.catalogue l)))), None)) loan_is
+    ∙ ap (λ (a : Option Kept). Ok (reply.Loan loan (Shown (statement_by found a)), None)) (sym account_is)
     ∙ ap (λ (x : Statement). Ok (reply.Loan loan (Shown x), None)) (sym c.statement.ensures)
     ∙ ap (λ (d : Decision). decision_outcome d i) (sym c.show.ensures))
     (ap (λ (d : Decision). d.commit) c.show.ensures)

@@ -3,7 +3,7 @@ use Rattle.std.specs.Prelude.{IfSome}
 use Rattle.std.proofs.lemmas.Int.{to_z-of_z}
 use mir.Syntax.{w64}
 use mir.Val.{SFits}
-use Rattle.mf_account.specs.Change.{no_change}
+use Rattle.mf_account.specs.Change.{replayed}
 use Rattle.mf_account.specs.Loan.{Loan as Running, IsSound as IsSoundAccount}
 use Rattle.mf_model.specs.Accounts.{account_in, running}
 use Rattle.mf_model.specs.Stages.{disbursed_on}
@@ -31,5 +31,5 @@ returns-clause-account c =
     let given = (c.in_ok-terms.ensures {u = tt}).terms k e f ∙ (λ t. Rattle.mf_model.specs.Accounts.terms_in k (ap (λ (r : LoanRow). r.product) (sym row_is) t)) in
     account_found k names l c.in-Some.day c.in-Some-2.terms found sound plain (c.in-Some.ensures k.day office number l.loan sound.day plain.own.stage row_is)
     (sym c.in-Some-2.is ∙ given)
-    (subst (λ (r : Running). IfSome found (λ account. account ≡ record { loan = r; change = no_change })) same is)
+    (subst (λ (r : Running). IfSome found (λ account. account ≡ replayed r)) same is)
     (subst (λ (r : Running). IsSoundAccount r → found ≢ None) same some))

@@ -6,7 +6,7 @@ use Rattle.mf_account.specs.Change.{Account}
 use Rattle.mf_account.specs.Effect.{State}
 use Rattle.mf_account.specs.Account.{status_of}
 use Rattle.mf_account.specs.Standing.{standing, entries_at}
-use Rattle.mf_account.specs.Loan.{AreEntries, status_of_loan}
+use Rattle.mf_account.specs.Loan.{AreEntries}
 use Rattle.mf_account.proofs.account.LoanAccount.status.Goals as goal
 
 pub status-requires-clause-within : goal.status-requires-clause-within
@@ -30,5 +30,5 @@ returns c =
     c.status.ensures
     ∙ ap (λ entries. at entries c.deref-3.result.now overpaid) c.deref.ensures.value
     ∙ ap (λ rows. at c.self.inside.entries.items rows overpaid) c.deref-3.ensures.value
-    ∙ ap (λ (s : State). status_of c.self.inside.entries.items s) (c.book.view_is ∙ c.self.invariant.book_is)
-    ∙ ap (λ (a : Account). status_of_loan a.loan) c.self.view_is
+    ∙ ap (λ (s : State). status_of c.self.inside.entries.items s) c.book.view_is
+    ∙ ap (λ (a : Account). status_of a.loan.entries a.state) c.self.view_is

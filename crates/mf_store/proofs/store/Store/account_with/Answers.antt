@@ -1,6 +1,6 @@
 use Rattle.std.proofs.Common.{◌≡◌, Some, sym, ap, ◌∙◌}
 use Rattle.mf_model.specs.Accounts.{running_from, terms_in}
-use Rattle.mf_model.specs.Store.{replayed}
+use Rattle.mf_account.specs.Change.{replayed}
 use Rattle.std.specs.Option.{option_map}
 use Rattle.mf_store.proofs.LoanLemmas.{replay_is}
 use Rattle.mf_store.proofs.StandLemmas.{weaker_if_ok}

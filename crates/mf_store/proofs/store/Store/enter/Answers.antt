@@ -31,7 +31,7 @@ returns-clause-commits g c =
     let one_more : entries ≡ of.ledger.entries ++ entry ∷ [] = handed.entries.1 ∙ ap (λ (es : List Entry). es ++ entry ∷ []) of.entries in
     let last = entry_last loan account entry of.ledger i admitted.sound of.there one_more in
     let apart = entry_apart loan account of.ledger i admitted.sound of.there in
-    let changed = handed_changed loan account handed.before i s.sound admitted.sound of handed.others (longer handed.before.entries entries entry handed.entries.1) handed.change in
+    let changed = handed_changed loan account handed.before i s.sound admitted.sound of handed.others (longer handed.before.entries entries entry handed.entries.1) handed.kept handed.change in
     let row_is = c.in_ok-row.ensures.row ∙ (λ t. entry_in (c.get-office.ensures.value t) (c.get-loan.ensures.value t) (entry_at entries (c.entry_count.ensures.count t - 1)))
     ∙ ap (λ (es : List Entry). entry_in loan.office loan.number (entry_at es (length es - 1))) one_more ∙ ap (entry_in loan.office loan.number) (last_entry of.ledger.entries entry)
     in

@@ -33,7 +33,7 @@ returns-clause-commits g c =
     let there = reversal_there handed.before.entries seq handed.entries.allowed in
     let first = there.0 in
     let last : seq ≤ length before = subst (λ (es : List Entry). seq ≤ length es) of.entries there.1 in
-    let changed = handed_changed loan account handed.before i s.sound admitted.sound of handed.others (as_long handed.before.entries account.loan.entries seq handed.entries.marked) handed.change in
+    let changed = handed_changed loan account handed.before i s.sound admitted.sound of handed.others (as_long handed.before.entries account.loan.entries seq handed.entries.marked) handed.kept handed.change in
     let row_is = c.in_ok-row.ensures.row ∙ (λ t. entry_in (c.get-office.ensures.value t) (c.get-loan.ensures.value t) (entry_at (marked t) (seq - 1))) ∙ ap (entry_in loan.office loan.number) (marked_entry before (seq - 1) (omega (arith, first, last))) in
     (subst (λ ws. Becomes ws i (committed (Reverse loan seq account) i)) (sym writes) (reversal_becomes loan account of.ledger i s.sound of.there changed seq admitted.sound (loan_numbered loan of.ledger i s.sound of.there) first last marked row row_is), reversal_tells loan seq account i))
     c.make.ensures.premise c.make.ensures.gives_up c.make.ensures.made c.make.ensures.left c.make.ensures.same c.make.ensures.stop
