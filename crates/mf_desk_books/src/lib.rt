@@ -1,12 +1,15 @@
-//! What tests share: an institution in vectors in place of a store, and streams of request lines with their replies.
+//! What tests share: an institution in vectors in place of a store, streams of request lines with their replies, a sheet with its
+//! results, and readers and writers that fail.
 #![tactic(auto)]
 
+mod devices;
 mod double;
 mod lines;
 mod product;
 mod row;
 pub mod streams;
 
+pub use devices::{Narrow, Torn};
 pub use double::{Books, name, office_no};
 pub use lines::{refused_line, without};
 pub use product::members;

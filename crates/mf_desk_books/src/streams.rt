@@ -98,3 +98,25 @@ pub const LENDING_REPLIES: &str = "201 {\"product\":1}\n\
 200 {\"product\":1}\n\
 409 {\"fault\":\"F7\"}\n\
 409 {\"fault\":\"F7\"}\n";
+
+/// A client has a loan of 100000 cents at 12 percent for three months, paid out on 2024-01-31. The business day becomes
+/// 2024-03-31.
+pub const LENT: &str =
+    "1/1 POST /products {\"name\":\"P\",\"method\":\"declining-equal-principal\",\"rate\":1200,\"frequency\":\"months\",\"every\":1,\"principal_grace\":0,\"interest_grace\":0,\"min_principal\":1,\"max_principal\":1000000,\"min_periods\":1,\"max_periods\":12,\"strategy\":\"mifos-standard-strategy\"}\n\
+1/1 POST /clients {\"office\":1,\"name\":\"Amina\"}\n\
+1/1 POST /loans {\"client\":\"0001-000001\",\"product\":1,\"principal\":100000,\"periods\":3}\n\
+1/1 POST /loans/0001-000001/approve\n\
+1/1 POST /loans/0001-000001/disburse {\"day\":\"2024-01-31\"}\n\
+1/1 PUT /business-day {\"day\":\"2024-03-31\"}\n";
+
+/// A collection sheet: two repayments of that loan, and one of a loan that isn't there.
+pub const SHEET: &str = "receipt,loan,date,amount\n\
+R-1,0001-000001,2024-02-29,200\n\
+R-2,0001-000001,2024-03-31,500.00\n\
+R-3,0001-000009,2024-03-31,1.5\n";
+
+/// The results of `SHEET`.
+pub const ENTERED: &str = "receipt,loan,date,amount,result\n\
+R-1,0001-000001,2024-02-29,200,entered\n\
+R-2,0001-000001,2024-03-31,500.00,entered\n\
+R-3,0001-000009,2024-03-31,1.5,F4\n";

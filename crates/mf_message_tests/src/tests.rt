@@ -1,11 +1,12 @@
 //! Messages over streams in memory, whole, in single bytes, and cut.
 
 use mf_base::{Cause, Fault, StreamFault};
+use mf_desk_books::Narrow;
 use mf_wire_lines::{WatchedReader, WatchedWriter};
 use mf_wire_messages::{Arrival, read_message, write_refusal, write_reply};
 use std::alloc::Global;
 use std::io;
-use std::io::{Read, Write};
+use std::io::Read;
 use std::process::Abort;
 use std::test::Fail;
 
@@ -41,29 +42,6 @@ impl Read for Drops<'_> {
         *place = *byte;
         self.bytes = &self.bytes[1..];
         Ok(1)
-    }
-}
-
-/// Takes at most so many bytes in all, seven a call, and then fails.
-#[derive(Drop)]
-struct Narrow {
-    taken: Vec<u8>,
-    room: usize,
-}
-
-impl Write for Narrow {
-    fn write(&mut self, buf: &[u8]) -> io::Result<usize> {
-        if self.room == 0 {
-            return Err(io::Error::from(io::ErrorKind::BrokenPipe));
-        }
-        let count = buf.len().min(7).min(self.room);
-        self.taken.extend_from_slice(&buf[..count])?;
-        self.room -= count;
-        Ok(count)
-    }
-
-    fn flush(&mut self) -> io::Result<()> {
-        Ok(())
     }
 }
 
@@ -248,10 +226,7 @@ fn responses_as_bytes(rt: HostRuntime) -> Result<(), Fail> {
 fn a_writer_that_fails(rt: HostRuntime) -> Result<(), Fail> {
     let alloc = rt.alloc();
     for room in [0usize, 9, 40, CREATED.len() - 1, CREATED.len()] {
-        let mut sink = WatchedWriter::new(Narrow {
-            taken: Vec::new(alloc),
-            room,
-        });
+        let mut sink = WatchedWriter::new(Narrow::new(alloc, 7, room));
         let told = write_reply(&mut sink, 201, b"{\"client\":\"0001-000001\"}", false);
         assert_eq!(rt; told.is_ok(), room == CREATED.len());
         assert_eq!(rt;

@@ -7,6 +7,7 @@ mod repeats;
 
 use mf_base::Day;
 use mf_desk_books::Books;
+use mf_desk_books::streams::{ENTERED, LENT};
 use mf_office::Caller;
 use mf_sheet::{LONGEST, collect};
 use mf_wire::run;
@@ -15,16 +16,6 @@ use std::alloc::Global;
 use std::process::Abort;
 use std::test::Fail;
 
-/// A client has a loan of 100000 cents at 12 percent for three months, paid out on 2024-01-31. The business day becomes
-/// 2024-03-31.
-const LENT: &str =
-    "1/1 POST /products {\"name\":\"P\",\"method\":\"declining-equal-principal\",\"rate\":1200,\"frequency\":\"months\",\"every\":1,\"principal_grace\":0,\"interest_grace\":0,\"min_principal\":1,\"max_principal\":1000000,\"min_periods\":1,\"max_periods\":12,\"strategy\":\"mifos-standard-strategy\"}\n\
-1/1 POST /clients {\"office\":1,\"name\":\"Amina\"}\n\
-1/1 POST /loans {\"client\":\"0001-000001\",\"product\":1,\"principal\":100000,\"periods\":3}\n\
-1/1 POST /loans/0001-000001/approve\n\
-1/1 POST /loans/0001-000001/disburse {\"day\":\"2024-01-31\"}\n\
-1/1 PUT /business-day {\"day\":\"2024-03-31\"}\n";
-
 const LENT_REPLIES: &str = "201 {\"product\":1}\n\
 201 {\"client\":\"0001-000001\"}\n\
 201 {\"loan\":\"0001-000001\"}\n\
@@ -32,19 +23,7 @@ const LENT_REPLIES: &str = "201 {\"product\":1}\n\
 200 {\"loan\":\"0001-000001\",\"status\":300}\n\
 200 {\"day\":\"2024-03-31\"}\n";
 
-/// Two repayments of that loan, and one of a loan that isn't there.
-const SHEET: &str = "receipt,loan,date,amount\n\
-R-1,0001-000001,2024-02-29,200\n\
-R-2,0001-000001,2024-03-31,500.00\n\
-R-3,0001-000009,2024-03-31,1.5\n";
-
-/// The results of that sheet.
-const ENTERED: &str = "receipt,loan,date,amount,result\n\
-R-1,0001-000001,2024-02-29,200,entered\n\
-R-2,0001-000001,2024-03-31,500.00,entered\n\
-R-3,0001-000009,2024-03-31,1.5,F4\n";
-
-/// Its results where its first line had been entered.
+/// The results of the sheet where its first line had been entered.
 const FIRST_REPEATED: &str = "receipt,loan,date,amount,result\n\
 R-1,0001-000001,2024-02-29,200,repeated\n\
 R-2,0001-000001,2024-03-31,500.00,entered\n\

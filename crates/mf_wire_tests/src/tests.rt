@@ -6,18 +6,16 @@ mod limits;
 mod messages;
 mod refused;
 mod requests;
-mod streams;
 mod texts;
 
 use mf_base::{Cause, Day, Fault, StreamFault};
-use mf_desk_books::Books;
 use mf_desk_books::streams::{BRANCHES, BRANCHES_REPLIES, FIRST, FIRST_REPLIES};
+use mf_desk_books::{Books, Narrow, Torn};
 use mf_wire::{answer_text, run};
 use mf_wire_lines::{WatchedReader, WatchedWriter, fault_text};
 use std::alloc::Global;
 use std::process::Abort;
 use std::test::Fail;
-use streams::{Narrow, Torn};
 
 const MALFORMED: &[u8] = b"hello\n\
 \r\n\

@@ -1,39 +1,15 @@
 //! A writer that fails, and a store that gives up.
 
-use super::{ENTERED, SHEET, lent, results, results_after};
+use super::{lent, results, results_after};
 use mf_base::{Cause, StreamFault};
-use mf_desk_books::Books;
+use mf_desk_books::streams::{ENTERED, SHEET};
+use mf_desk_books::{Books, Narrow};
 use mf_office::Caller;
 use mf_sheet::collect;
 use mf_wire_lines::WatchedWriter;
 use std::alloc::Global;
-use std::io;
-use std::io::Write;
 use std::process::Abort;
 use std::test::Fail;
-
-/// Takes at most so many bytes in all, seven a call, and then fails.
-#[derive(Drop)]
-struct Narrow {
-    taken: Vec<u8>,
-    room: usize,
-}
-
-impl Write for Narrow {
-    fn write(&mut self, buf: &[u8]) -> io::Result<usize> {
-        if self.room == 0 {
-            return Err(io::Error::from(io::ErrorKind::BrokenPipe));
-        }
-        let count = buf.len().min(7).min(self.room);
-        self.taken.extend_from_slice(&buf[..count])?;
-        self.room -= count;
-        Ok(count)
-    }
-
-    fn flush(&mut self) -> io::Result<()> {
-        Ok(())
-    }
-}
 
 /// How the sheet ends where the writer takes so many bytes and then fails, and the bytes that it took.
 fn collected_into(
@@ -42,10 +18,7 @@ fn collected_into(
     caller: Caller,
     room: usize,
 ) -> (Result<(), StreamFault>, Vec<u8>) {
-    let mut sink = WatchedWriter::new(Narrow {
-        taken: Vec::new(alloc),
-        room,
-    });
+    let mut sink = WatchedWriter::new(Narrow::new(alloc, 7, room));
     let told = collect(alloc, books, caller, SHEET.as_bytes(), &mut sink);
     (told, sink.into_inner().taken)
 }

@@ -1,9 +1,10 @@
 //! A sheet of which a request for memory is refused: `rt try --test --fail-alloc 1..` refuses each in turn.
 
 use super::faults::{given_up_at, whole_records};
-use super::{ENTERED, SHEET, collected, lent, made, results, results_after};
+use super::{collected, lent, made, results, results_after};
 use mf_base::{Cause, StreamFault};
 use mf_desk_books::Books;
+use mf_desk_books::streams::{ENTERED, SHEET};
 use mf_office::Caller;
 use mf_sheet::collect;
 use mf_wire_lines::WatchedWriter;

@@ -1,6 +1,7 @@
 //! Sheets that are sent again, and receipts that are used again.
 
-use super::{ENTERED, REPEATED, SHEET, assert_results, lent, replies};
+use super::{REPEATED, assert_results, lent, replies};
+use mf_desk_books::streams::{ENTERED, SHEET};
 use std::test::Fail;
 
 /// What is told of the loan after the sheet.

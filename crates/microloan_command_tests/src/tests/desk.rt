@@ -2,6 +2,7 @@
 
 use mf_base::{Cause, Day, Fault, StreamFault};
 use mf_desk_books::Books;
+use mf_desk_books::streams::{ENTERED, LENT, SHEET};
 use mf_office::Caller;
 use mf_wire::run;
 use mf_wire_lines::{WatchedReader, WatchedWriter};
@@ -13,16 +14,6 @@ use std::io::{Read, Write};
 use std::net::{Ipv4Addr, Net, OpenListener, Shutdown, SocketAddr, TcpListener, TcpStream};
 use std::process::Abort;
 use std::test::Fail;
-
-/// A client has a loan of 100000 cents at 12 percent for three months, paid out on 2024-01-31. The business day becomes
-/// 2024-03-31.
-const LENT: &str =
-    "1/1 POST /products {\"name\":\"P\",\"method\":\"declining-equal-principal\",\"rate\":1200,\"frequency\":\"months\",\"every\":1,\"principal_grace\":0,\"interest_grace\":0,\"min_principal\":1,\"max_principal\":1000000,\"min_periods\":1,\"max_periods\":12,\"strategy\":\"mifos-standard-strategy\"}\n\
-1/1 POST /clients {\"office\":1,\"name\":\"Amina\"}\n\
-1/1 POST /loans {\"client\":\"0001-000001\",\"product\":1,\"principal\":100000,\"periods\":3}\n\
-1/1 POST /loans/0001-000001/approve\n\
-1/1 POST /loans/0001-000001/disburse {\"day\":\"2024-01-31\"}\n\
-1/1 PUT /business-day {\"day\":\"2024-03-31\"}\n";
 
 /// The first instalment is paid; the second is 30 days overdue.
 const AGED: &str =
@@ -39,17 +30,6 @@ const THIRTY_DAYS: &str =
 const THIRTY_ONE_DAYS: &str =
     "   1           1                  666.67                    0.00                  666.67                    0.00                    0.00  100.00
  all           1                  666.67                    0.00                  666.67                    0.00                    0.00  100.00\n";
-
-/// Two repayments of the loan, and one of a loan that isn't there.
-const SHEET: &str = "receipt,loan,date,amount\n\
-R-1,0001-000001,2024-02-29,200\n\
-R-2,0001-000001,2024-03-31,500.00\n\
-R-3,0001-000009,2024-03-31,1.5\n";
-
-const ENTERED: &str = "receipt,loan,date,amount,result\n\
-R-1,0001-000001,2024-02-29,200,entered\n\
-R-2,0001-000001,2024-03-31,500.00,entered\n\
-R-3,0001-000009,2024-03-31,1.5,F4\n";
 
 /// A message that makes a client, and its response.
 const CLIENT: &str = "POST /clients HTTP/1.1\r\n\

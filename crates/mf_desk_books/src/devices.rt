@@ -33,6 +33,7 @@ pub struct Narrow {
 }
 
 impl Narrow {
+    /// A writer that has taken nothing.
     pub fn new(alloc: Global, step: usize, room: usize) -> Narrow {
         Narrow {
             taken: Vec::new(alloc),
