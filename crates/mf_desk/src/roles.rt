@@ -1,15 +1,30 @@
 ghost use Rattle.std.specs.Prelude.{◌≡◌};
-ghost use Rattle.mf_model.specs.Desk.{need, meets};
+ghost use Rattle.mf_model.specs.Desk.{need, meets, is_officer, is_manager};
 
-use mf_model::{CatalogueRequest, LoanRequest, LoanStep, OfficeRequest, Posting, Request};
+use crate::stages::may_take;
+use mf_model::{CatalogueRequest, LoanRequest, OfficeRequest, Posting, Request};
 use mf_office::{OfficeNo, Role};
+
+/// Whether a role is an officer's or a manager's.
+pub fn is_officer(role: Role) -> bool
+    ensures { result ≡ is_officer role }
+{
+    !matches!(role, Role::Teller)
+}
+
+/// Whether a role is a manager's.
+pub fn is_manager(role: Role) -> bool
+    ensures { result ≡ is_manager role }
+{
+    matches!(role, Role::Manager)
+}
 
 /// Whether a member of staff of an office may send this kind of request, by role and office alone.
 pub fn may_send(request: &Request, role: Role, office: OfficeNo) -> bool
     ensures { result ≡ meets (need request.now) role office }
 {
-    let is_officer = !matches!(role, Role::Teller);
-    let is_manager = matches!(role, Role::Manager);
+    let is_officer = is_officer(role);
+    let is_manager = is_manager(role);
     let is_head = is_manager && office.get() == 1;
     match request {
         Request::Unreadable(_) | Request::SeenOffices | Request::SeenArrears => true,
@@ -33,13 +48,7 @@ pub fn may_send(request: &Request, role: Role, office: OfficeNo) -> bool
             | LoanRequest::ShowInstalments
             | LoanRequest::ShowEntries
             | LoanRequest::Repay(_) => true,
-            LoanRequest::Take(step) => match step {
-                LoanStep::Withdraw => is_officer,
-                LoanStep::Approve
-                | LoanStep::Reject
-                | LoanStep::UndoApproval
-                | LoanStep::Disburse(_) => is_manager,
-            },
+            LoanRequest::Take(step) => may_take(step, role),
             LoanRequest::ChargeFee { .. } | LoanRequest::Post(Posting::Penalty { .. }) =>
                 is_officer,
             LoanRequest::Post(Posting::Waiver { .. } | Posting::WriteOff | Posting::Refund)

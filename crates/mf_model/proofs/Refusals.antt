@@ -16,7 +16,6 @@ use Rattle.mf_account.specs.Kinds.{is_seal}
 use Rattle.mf_account.specs.Standing.{entry_at}
 use Rattle.mf_account.specs.Refusals.{is_sealed, admits, is_out_of_order, is_there as is_there_among, is_forbidden, is_out_of_limits, refusal_of, reversal_refused}
 use Rattle.mf_model.specs.declared.loan.Stage.{Stage}
-use Rattle.mf_model.specs.declared.loan.Stage.TheVariants.{Submitted, Approved, Disbursed, Withdrawn, Rejected}
 use Rattle.mf_model.specs.declared.reply.Reply.{Reply}
 use Rattle.mf_model.specs.declared.reply.LoanReply.{LoanReply}
 use Rattle.mf_model.specs.declared.request.Call.{Call}
@@ -26,8 +25,6 @@ use Rattle.mf_model.specs.declared.request.CatalogueRequest.{CatalogueRequest}
 use Rattle.mf_model.specs.declared.request.CatalogueRequest.TheVariants.{ShowDay, SetDay, AddCharge, ShowCharge, AddProduct, ShowProduct, RetireProduct}
 use Rattle.mf_model.specs.declared.request.OfficeRequest.{OfficeRequest}
 use Rattle.mf_model.specs.declared.request.OfficeRequest.TheVariants.{AddStaff, AddClient, ShowClient, SubmitLoan, ListLoans}
-use Rattle.mf_model.specs.declared.request.LoanStep.{LoanStep}
-use Rattle.mf_model.specs.declared.request.LoanStep.TheVariants.{Approve, Reject, Withdraw, UndoApproval, Disburse}
 use Rattle.mf_model.specs.declared.request.Repayment.{Repayment}
 use Rattle.mf_model.specs.declared.request.LoanRequest.{LoanRequest}
 use Rattle.mf_model.specs.declared.request.LoanRequest.TheVariants.{Show, ShowInstalments, ShowEntries, Take, Repay, ChargeFee, Post, Reverse}
@@ -42,11 +39,7 @@ use Rattle.mf_model.specs.Accounts.{account_in}
 use Rattle.mf_model.specs.Receipts.{Use, uses_from, used_before, repeated}
 use Rattle.mf_model.specs.Loans.{LedgerChange, repayment, fee, posting, unless_fault, fault_or, none_first, fee_first, enter, reverse, repeat_of, unless_known, on_loan, of_loan, in_loan, lend}
 use Rattle.mf_model.specs.Desk.{Plan, on_office, plan, need, meets, Outcome, of_catalogue, of_office, in_office, carried_out, where_permitted, sent_by, staff_at, outcome, reply_in, reply}
-
--- any refusal but F20
-abbrev IsRuled : Fault → Type 0
-IsRuled F20 = ⊥
-IsRuled _ = Unit {0}
+use Rattle.mf_model.proofs.StepLemmas.{IsRuled, IsResultFrom, step_keeps}
 
 -- a success, or a refusal that isn't F20
 abbrev Ruled : {A : Type 0} → Result A Fault → Type 0
@@ -104,32 +97,9 @@ office_ruled (ShowClient client) x k rows = by_found (numbered rows.clients clie
 office_ruled (SubmitLoan asked) x k rows = where_it_is (numbered rows.clients asked.client) _ (λ name. lend_ruled x asked (product_in k asked.product) rows)
 office_ruled (ListLoans after) x k rows = tt
 
-step_ruled : (step : LoanStep) (today : ℕ) (stage : Stage) → Ruled (next_stage step today stage)
-step_ruled Approve today Submitted = tt
-step_ruled Approve today (Approved approved) = tt
-step_ruled Approve today (Disbursed approved day) = tt
-step_ruled Approve today Withdrawn = tt
-step_ruled Approve today Rejected = tt
-step_ruled Reject today Submitted = tt
-step_ruled Reject today (Approved approved) = tt
-step_ruled Reject today (Disbursed approved day) = tt
-step_ruled Reject today Withdrawn = tt
-step_ruled Reject today Rejected = tt
-step_ruled Withdraw today Submitted = tt
-step_ruled Withdraw today (Approved approved) = tt
-step_ruled Withdraw today (Disbursed approved day) = tt
-step_ruled Withdraw today Withdrawn = tt
-step_ruled Withdraw today Rejected = tt
-step_ruled UndoApproval today Submitted = tt
-step_ruled UndoApproval today (Approved approved) = tt
-step_ruled UndoApproval today (Disbursed approved day) = tt
-step_ruled UndoApproval today Withdrawn = tt
-step_ruled UndoApproval today Rejected = tt
-step_ruled (Disburse day) today Submitted = tt
-step_ruled (Disburse day) today (Approved approved) = one_of (nat_le approved day && nat_le day today) _ _ tt tt
-step_ruled (Disburse day) today (Disbursed approved on) = tt
-step_ruled (Disburse day) today Withdrawn = tt
-step_ruled (Disburse day) today Rejected = tt
+step_ruled : (today : ℕ) (from : Stage) (r : Result Stage Fault) → IsResultFrom today from r → Ruled r
+step_ruled today from (Ok to) h = tt
+step_ruled today from (Err fault) h = h
 
 -- a refusal, if there is one, that isn't F20
 abbrev IsRuledRefusal : Option Fault → Type 0
@@ -187,7 +157,7 @@ loan_ruled : (asked : LoanRequest) (c : Caller) (k : Catalogue) (rows : Rows) (n
 loan_ruled Show c k rows n l = tt
 loan_ruled ShowInstalments c k rows n l = tt
 loan_ruled ShowEntries c k rows n l = tt
-loan_ruled (Take step) c k rows n l = by_value (next_stage step k.day l.loan.stage) _ (step_ruled step k.day l.loan.stage)
+loan_ruled (Take step) c k rows n l = by_value (next_stage step k.day l.loan.stage) _ (step_ruled k.day l.loan.stage (next_stage step k.day l.loan.stage) (step_keeps step k.day l.loan.stage))
 loan_ruled (Repay asked) c k rows n l = known_ruled n asked (used_before asked.receipt (uses_from 1 rows.loans)) _ (enter_ruled none_first (λ today. repayment asked c) k (account_in k l) (λ a. tt))
 loan_ruled (ChargeFee charge due) c k rows n l = where_it_is (charge_in k charge) _ (λ d. enter_ruled (fee_first due) (fee d due c) k (account_in k l) (fee_ruled due))
 loan_ruled (Post asked) c k rows n l = enter_ruled none_first (posting asked c) k (account_in k l) (λ a. tt)

@@ -8,7 +8,7 @@ use Rattle.std.proofs.lemmas.Str.{IsUtf8-from_is_utf8}
 use Rattle.std.proofs.lemmas.Bool.Decides.{nat_tests}
 use Rattle.mf_base.specs.DayText.{last_entered_day}
 use Rattle.mf_base.specs.declared.fault.Fault.{Fault}
-use Rattle.mf_base.specs.declared.fault.Fault.TheVariants.{F4, F7, F8, F10, F11, F12, F13, F17, F18}
+use Rattle.mf_base.specs.declared.fault.Fault.TheVariants.{F4, F7, F8, F11, F12, F13, F17, F18}
 use Rattle.mf_office.specs.declared.staff.Role.{Role}
 use Rattle.mf_office.specs.declared.caller.Caller.{Caller}
 use Rattle.mf_office.specs.declared.account.Account.{Account}
@@ -29,7 +29,6 @@ use Rattle.mf_model.specs.Waivable.{portion_of}
 use Rattle.mf_model.specs.declared.request.Posting.{Posting}
 use Rattle.mf_model.specs.declared.request.Posting.TheVariants.{Penalty, Waiver, WriteOff, Refund}
 use Rattle.mf_model.specs.declared.request.LoanStep.{LoanStep}
-use Rattle.mf_model.specs.declared.request.LoanStep.TheVariants.{Approve, Reject, Withdraw, UndoApproval, Disburse}
 use Rattle.mf_model.specs.declared.request.Application.{Application}
 use Rattle.mf_model.specs.declared.request.Repayment.{Repayment}
 use Rattle.mf_model.specs.declared.reply.LoanReply.{LoanReply}
@@ -51,16 +50,16 @@ use Rattle.mf_account.specs.Standing.{entry_at, with_mark}
 use Rattle.mf_account.proofs.SoundLemmas.{sound-entered, sound-reversed}
 use Rattle.mf_catalog.specs.Product.{charges_there, is_consistent, allows, lending}
 use Rattle.mf_model.specs.declared.loan.Stage.{Stage}
-use Rattle.mf_model.specs.declared.loan.Stage.TheVariants.{Submitted, Approved, Disbursed}
 use Rattle.mf_model.specs.Outcomes.{next_of, with_value, with_found, where_found, unless_refused}
 use Rattle.mf_model.specs.Catalogue.{show_day, day_set, set_day, charge_added, add_charge, show_charge, product_added, add_product, show_product, product_retired, retire_product, on_catalogue}
 use Rattle.mf_model.specs.Offices.{staff_added, add_staff, client_added, add_client, show_client}
-use Rattle.mf_model.specs.Stages.{stage_number, disbursed_on, disbursed, next_stage}
+use Rattle.mf_model.specs.Stages.{stage_number, disbursed_on, next_stage}
 use Rattle.mf_model.specs.Accounts.{terms_in, account_in, statement, instalments_in, entries_in}
 use Rattle.mf_model.specs.Loans.{LedgerChange, staged, entered, reversed, repayment, fee, posting, unless_fault, fault_or, none_first, fee_first, enter, reverse, repeat_of, unless_known, on_loan, loan_changed, of_loan, in_loan, loan_added, new_loan, submit, lines_above, list_loans}
 use Rattle.mf_model.specs.Desk.{Plan, plan, on_office, in_office, of_office, of_catalogue, change_in, sender_effect, outcome, staff_at, where_permitted, sent_by}
 use Rattle.mf_model.specs.Run.{Line, next, last}
-use Rattle.mf_model.specs.Sound.{IsName, AreMembers, IsSoundCharge, IsSoundOffer, IsSoundCatalogue, IsSoundLoan, IsStageBy, IsEntryBy, AreEntered, AreEntriesBy, is_staff, lends, IsSoundRows, IsSoundOffice, IsSound, IsCatalogueInRange, IsOfficeInRange, IsRepayment, IsLoanInRange, IsInRange, AreInRange}
+use Rattle.mf_model.specs.Sound.{IsName, AreMembers, IsSoundCharge, IsSoundOffer, IsSoundCatalogue, IsSoundLoan, IsEntryBy, AreEntered, AreEntriesBy, is_staff, lends, IsSoundRows, IsSoundOffice, IsSound, IsCatalogueInRange, IsOfficeInRange, IsRepayment, IsLoanInRange, IsInRange, AreInRange}
+use Rattle.mf_model.proofs.StepLemmas.{IsResultFrom, step_keeps}
 use Rattle.mf_model.proofs.AdmittedLemmas.{admitted, dated_in_order}
 use Rattle.mf_model.proofs.Views.{IsTree_after}
 use Rattle.mf_model.proofs.Steps.{known_line}
@@ -313,31 +312,6 @@ office_keeps office (AddClient name) r = client_sound office name r.1
 office_keeps office (ShowClient client) r = shown_keeps office client
 office_keeps office (SubmitLoan asked) r = submit_sound office asked
 office_keeps office (ListLoans after) r = list_keeps office after
-
--- a step keeps a loan's days in order, and is taken before disbursement
-abbrev IsResultFrom : ℕ → Stage → Result Stage Fault → Type 0
-IsResultFrom today from (Err e) = Unit {0}
-IsResultFrom today from (Ok to) = IsStageBy today to × (disbursed_on from ≡ None)
-
-disbursed_keeps : (approved day today : ℕ) → IsResultFrom today (Approved approved) (disbursed approved day today)
-disbursed_keeps approved day today = either (nat_le approved day && nat_le day today) refl
-  where
-    either : (b : Bool) → (nat_le approved day && nat_le day today) ≡ b → IsResultFrom today (Approved approved) (cond b (Ok (Disbursed approved day)) (Err F10))
-    either false h = tt
-    either true h =
-        let first : nat_le approved day ≡ true = and_left (nat_le approved day) (nat_le day today) h in
-        let second : nat_le day today ≡ true = and_right (nat_le approved day) (nat_le day today) h in
-        let early : approved ≤ day = grind (arith, nat_tests) in
-        let late : day ≤ today = grind (arith, nat_tests) in
-        ((early, late), refl)
-
-step_keeps : (step : LoanStep) (today : ℕ) (from : Stage) → IsResultFrom today from (next_stage step today from)
-step_keeps Approve today Submitted = (omega arith, refl)
-step_keeps Reject today Submitted = (tt, refl)
-step_keeps Withdraw today Submitted = (tt, refl)
-step_keeps UndoApproval today (Approved approved) = (tt, refl)
-step_keeps (Disburse day) today (Approved approved) = disbursed_keeps approved day today
-step_keeps _ today _ = tt
 
 none_before : (today : ℕ) (s : Caller → Bool) (periods : ℕ) (d : Option ℕ) (es : List Entry) → d ≡ None → AreEntriesBy today s periods d es → es ≡ []
 none_before today s periods None es h i = i

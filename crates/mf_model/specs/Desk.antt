@@ -13,7 +13,6 @@ use Rattle.mf_model.specs.declared.request.CatalogueRequest.{CatalogueRequest}
 use Rattle.mf_model.specs.declared.request.CatalogueRequest.TheVariants.{ShowDay, SetDay, AddCharge, ShowCharge, AddProduct, ShowProduct, RetireProduct}
 use Rattle.mf_model.specs.declared.request.OfficeRequest.{OfficeRequest}
 use Rattle.mf_model.specs.declared.request.OfficeRequest.TheVariants.{AddStaff, AddClient, ShowClient, SubmitLoan, ListLoans}
-use Rattle.mf_model.specs.declared.request.LoanStep.TheVariants.{Approve, Reject, Withdraw, UndoApproval, Disburse}
 use Rattle.mf_model.specs.declared.request.LoanRequest.{LoanRequest}
 use Rattle.mf_model.specs.declared.request.LoanRequest.TheVariants.{Show, ShowInstalments, ShowEntries, Take, Repay, ChargeFee, Post, Reverse}
 use Rattle.mf_model.specs.declared.request.Posting.TheVariants.{Penalty, Waiver, WriteOff, Refund}
@@ -23,10 +22,12 @@ use Rattle.mf_model.specs.declared.reply.Reply.{Reply}
 use Rattle.mf_model.specs.declared.reply.Reply.TheVariants.{OfficeMade}
 use Rattle.mf_model.specs.Institution.{Institution, Catalogue, Office, Rows, Staff, Change, Catalogue_becomes, Rows_become, Office_added, office_at, staff_in}
 use Rattle.mf_model.specs.Tree.{parent_of, seen_office, seen_by, is_there}
+use Rattle.mf_model.specs.Stages.{step_need}
 use Rattle.mf_model.specs.Catalogue.{on_catalogue}
 use Rattle.mf_model.specs.Arrears.{list_arrears}
 use Rattle.mf_model.specs.Offices.{list_offices, add_staff, add_client, show_client}
 use Rattle.mf_model.specs.Loans.{on_loan, in_loan, submit, list_loans}
+pub use Rattle.mf_model.specs.Needs.{Need, A_teller, An_officer, A_manager, The_head}
 pub use Rattle.mf_model.specs.Offices.{line_of, staff_added, client_added}
 pub use Rattle.mf_model.specs.Loans.{loan_added, loan_staged, loan_entered}
 
@@ -61,13 +62,7 @@ plan request.SeenOffices = Ok (On_all_seen list_offices)
 plan request.SeenArrears = Ok (On_all_seen list_arrears)
 plan (request.NewOffice number parent name) = Ok (On_new_office number parent name)
 
--- who may send a request: any staff, officers and managers, managers, or managers of office 1
-pub data Need : Type 0 where
-  A_teller : Need
-  An_officer : Need
-  A_manager : Need
-  The_head : Need
-
+-- who may send a request on the catalogue
 abbrev pub catalogue_need : CatalogueRequest → Need
 catalogue_need ShowDay = A_teller
 catalogue_need (SetDay day) = The_head
@@ -77,6 +72,7 @@ catalogue_need (AddProduct members) = The_head
 catalogue_need (ShowProduct product) = A_teller
 catalogue_need (RetireProduct product) = The_head
 
+-- who may send a request on an office
 abbrev pub office_need : OfficeRequest → Need
 office_need (AddStaff name role) = A_manager
 office_need (AddClient name) = An_officer
@@ -84,15 +80,12 @@ office_need (ShowClient client) = A_teller
 office_need (SubmitLoan asked) = An_officer
 office_need (ListLoans after) = A_teller
 
+-- who may send a request on a loan
 abbrev pub loan_need : LoanRequest → Need
 loan_need Show = A_teller
 loan_need ShowInstalments = A_teller
 loan_need ShowEntries = A_teller
-loan_need (Take Approve) = A_manager
-loan_need (Take Reject) = A_manager
-loan_need (Take Withdraw) = An_officer
-loan_need (Take UndoApproval) = A_manager
-loan_need (Take (Disburse day)) = A_manager
+loan_need (Take step) = step_need step
 loan_need (Repay repayment) = A_teller
 loan_need (ChargeFee charge due) = An_officer
 loan_need (Post (Penalty instalment)) = An_officer

@@ -24,14 +24,12 @@ use Rattle.mf_model.specs.declared.request.OfficeRequest.{OfficeRequest}
 use Rattle.mf_model.specs.declared.request.OfficeRequest.TheVariants.{AddStaff, AddClient, ShowClient, SubmitLoan, ListLoans}
 use Rattle.mf_model.specs.declared.request.Application.{Application}
 use Rattle.mf_model.specs.declared.request.Repayment.{Repayment}
-use Rattle.mf_model.specs.declared.request.LoanStep.{LoanStep}
-use Rattle.mf_model.specs.declared.request.LoanStep.TheVariants.{Approve, Reject, Withdraw, UndoApproval, Disburse}
 use Rattle.mf_model.specs.declared.request.LoanRequest.{LoanRequest}
 use Rattle.mf_model.specs.declared.request.LoanRequest.TheVariants.{Show, ShowInstalments, ShowEntries, Take, Repay, ChargeFee, Post, Reverse}
 use Rattle.mf_model.specs.declared.request.Posting.{Posting}
 use Rattle.mf_model.specs.declared.request.Posting.TheVariants.{Penalty, Waiver, WriteOff, Refund}
 use Rattle.mf_model.specs.Institution.{Institution, Catalogue, Charge, Offer, Staff, Rows, Office, Ledger, staff_in, numbered, charge_in, product_in}
-use Rattle.mf_model.specs.Stages.{disbursed_on}
+use Rattle.mf_model.specs.Stages.{disbursed_on, IsStepInRange}
 use Rattle.mf_model.specs.Receipts.{uses_from, AreApart, IsReceipt}
 use Rattle.mf_model.specs.Tree.{IsTree}
 use Rattle.mf_model.specs.Run.{Line}
@@ -158,13 +156,6 @@ IsOfficeInRange office (AddClient name) = IsNumberUpTo 9999 office × IsName nam
 IsOfficeInRange office (ShowClient client) = IsNumberUpTo 9999 office × IsNumberUpTo 999999 client
 IsOfficeInRange office (SubmitLoan asked) = IsNumberUpTo 9999 office × IsApplication asked
 IsOfficeInRange office (ListLoans after) = (office ≤ 999999999) × (after ≤ 999999)
-
-abbrev pub IsStepInRange : LoanStep → Type 0
-IsStepInRange (Disburse day) = day ≤ last_entered_day
-IsStepInRange Approve = Unit {0}
-IsStepInRange Reject = Unit {0}
-IsStepInRange Withdraw = Unit {0}
-IsStepInRange UndoApproval = Unit {0}
 
 abbrev pub IsRepayment : Repayment → Type 0
 IsRepayment asked = ((1 ≤ asked.amount) × (asked.amount ≤ greatest_amount)) × (asked.day ≤ last_entered_day) × IfSome asked.receipt IsReceipt

@@ -18,7 +18,8 @@ use Rattle.mf_model.specs.declared.reply.LoanReply.TheVariants.{Shown, Instalmen
 use Rattle.mf_model.specs.declared.request.CatalogueRequest.TheVariants.{SetDay, AddProduct, RetireProduct}
 use Rattle.mf_model.specs.declared.request.LoanRequest.{LoanRequest}
 use Rattle.mf_model.specs.declared.request.LoanRequest.TheVariants.{Show, ShowInstalments, ShowEntries, Take, Repay}
-use Rattle.mf_model.specs.declared.request.LoanStep.TheVariants.{Approve, Disburse}
+use Rattle.mf_model.specs.declared.request.LoanStep.TheVariants.{Plain, Disburse}
+use Rattle.mf_model.specs.declared.request.PlainStep.TheVariants.{Approve}
 use Rattle.mf_model.specs.declared.request.OfficeRequest.TheVariants.{SubmitLoan, ListLoans}
 use Rattle.mf_model.specs.declared.request.Request.{Request}
 use Rattle.mf_model.specs.declared.request.Request.TheVariants.{Catalogue, Office, Loan, NewOffice}
@@ -48,10 +49,14 @@ approved_by product =
     ∷ row (staff 1 1) (take_step Approve) (status_reply 200)
     ∷ []
 
+-- the loan is disbursed, on a day
+abbrev pub disburse : ℕ → Request
+disburse day = Loan (account 1 1) (Take (Disburse day))
+
 -- the loan is disbursed, and the business day becomes 2024-03-31
 abbrev pub start_by : ProductMembers → List (Line × Result Reply Fault)
 start_by product = approved_by product ++ (
-    row (staff 1 1) (take_step (Disburse january)) (status_reply 300)
+    row (staff 1 1) (disburse january) (status_reply 300)
     ∷ row (staff 1 1) (Catalogue (SetDay march)) (Ok (DaySet march))
     ∷ []
     )
@@ -204,10 +209,10 @@ disbursing = approved_by (usual None) ++ (
     ∷ shown ShowInstalments (Instalments [])
     ∷ shown ShowEntries (Entries [])
     ∷ not_repaid 20000 february F9
-    ∷ row (staff 1 1) (take_step (Disburse (january - 1))) (Err F10)
-    ∷ row (staff 1 1) (take_step (Disburse (february + 1))) (Err F10)
-    ∷ row (staff 1 1) (take_step (Disburse february)) (status_reply 300)
-    ∷ row (staff 1 1) (take_step (Disburse february)) (Err F9)
+    ∷ row (staff 1 1) (disburse (january - 1)) (Err F10)
+    ∷ row (staff 1 1) (disburse (february + 1)) (Err F10)
+    ∷ row (staff 1 1) (disburse february) (status_reply 300)
+    ∷ row (staff 1 1) (disburse february) (Err F9)
     ∷ listed_at 300
     ∷ []
     )
@@ -235,7 +240,7 @@ receipts = common_start ++ (
     ∷ row (staff 1 1) (NewOffice 2 1 (codes "North")) (Ok (OfficeMade 2))
     ∷ row (staff 1 1) (add_client 2 (codes "Ben")) (Ok (ClientMade (account 2 1)))
     ∷ row (staff 1 1) (Office 2 (SubmitLoan (record { client = 1; product = 1; principal = 100000; periods = 3 }))) (Ok (LoanMade (account 2 1)))
-    ∷ row (staff 1 1) (Loan (account 2 1) (Take Approve)) (told 2 1 (Status 200))
+    ∷ row (staff 1 1) (Loan (account 2 1) (Take (Plain Approve))) (told 2 1 (Status 200))
     ∷ row (staff 1 1) (Loan (account 2 1) (Take (Disburse march))) (told 2 1 (Status 300))
     ∷ sent_with (codes "R-1") 2 1 20000 march (told 2 1 (Entered 1))
     ∷ []

@@ -10,8 +10,9 @@ use Rattle.mf_model.specs.declared.request.Flaw.TheVariants.{Malformed, NoRoute,
 use Rattle.mf_model.specs.declared.request.CatalogueRequest.TheVariants.{ShowDay, SetDay, AddCharge, ShowCharge, AddProduct, ShowProduct, RetireProduct}
 use Rattle.mf_model.specs.declared.request.OfficeRequest.TheVariants.{AddStaff, AddClient, ShowClient, SubmitLoan, ListLoans}
 use Rattle.mf_model.specs.declared.request.LoanRequest.TheVariants.{Show, Take}
-use Rattle.mf_model.specs.declared.request.LoanStep.{LoanStep}
-use Rattle.mf_model.specs.declared.request.LoanStep.TheVariants.{Approve, Reject, Withdraw, UndoApproval}
+use Rattle.mf_model.specs.declared.request.LoanStep.TheVariants.{Plain}
+use Rattle.mf_model.specs.declared.request.PlainStep.{PlainStep}
+use Rattle.mf_model.specs.declared.request.PlainStep.TheVariants.{Approve, Reject, Withdraw, UndoApproval}
 use Rattle.mf_model.specs.declared.request.Request.TheVariants.{Unreadable, Catalogue, Office, Loan, SeenOffices, NewOffice}
 use Rattle.mf_office.specs.declared.office.Office.{Office as OfficeLine}
 use Rattle.mf_model.specs.declared.loan.Statement.{Statement}
@@ -43,8 +44,8 @@ show_client x n = Office x (ShowClient n)
 abbrev pub submit : ℕ → ℕ → ℕ → Request
 submit product principal periods = Office 1 (SubmitLoan (record { client = 1; product = product; principal = principal; periods = periods }))
 
-abbrev pub take_step : LoanStep → Request
-take_step step = Loan (account 1 1) (Take step)
+abbrev pub take_step : PlainStep → Request
+take_step step = Loan (account 1 1) (Take (Plain step))
 
 abbrev pub status_reply : ℕ → Result Reply Fault
 status_reply status = Ok (LoanTold (account 1 1) (Status status))
@@ -170,8 +171,8 @@ abbrev pub submit_in_two : Request
 submit_in_two = Office 2 (SubmitLoan (record { client = 1; product = 1; principal = 100000; periods = 3 }))
 
 -- what is asked of loan n of office x
-abbrev pub of_loan : ℕ → ℕ → LoanStep → Request
-of_loan office n step = Loan (account office n) (Take step)
+abbrev pub of_loan : ℕ → ℕ → PlainStep → Request
+of_loan office n step = Loan (account office n) (Take (Plain step))
 
 -- Loans are withdrawn, rejected and approved in office 2. Its officer may not decide, and of a manager of office 20 each of them is hidden: the reply is that of a loan that isn't there.
 abbrev pub deciding : List (Line × Result Reply Fault)

@@ -18,8 +18,8 @@ pub use loan::{Loan, LoanLine, ReceiptUse, Stage, Statement};
 pub use names::is_name;
 pub use reply::{LoanReply, Reply};
 pub use request::{
-    Application, Call, CatalogueRequest, Flaw, LoanRequest, LoanStep, OfficeRequest, Posting,
-    Repayment, Request,
+    Application, Call, CatalogueRequest, Flaw, LoanRequest, LoanStep, OfficeRequest, PlainStep,
+    Posting, Repayment, Request,
 };
 pub use store::{CatalogueCounts, Counts, InstitutionStore};
 pub use waivable::Waivable;

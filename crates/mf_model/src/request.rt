@@ -92,9 +92,9 @@ pub enum OfficeRequest {
     ListLoans { after: u32 },
 }
 
-/// A step of a loan to another stage.
-#[derive(Clone, Copy, Debug)]
-pub enum LoanStep {
+/// A step of a loan to another stage that needs nothing beside its name.
+#[derive(Clone, Copy, PartialEq, Eq, Debug)]
+pub enum PlainStep {
     /// A submitted loan is approved.
     Approve,
     /// A submitted loan is rejected.
@@ -103,6 +103,13 @@ pub enum LoanStep {
     Withdraw,
     /// An approved loan is pending again.
     UndoApproval,
+}
+
+/// A step of a loan to another stage.
+#[derive(Clone, Copy, Debug)]
+pub enum LoanStep {
+    /// A step that names no day.
+    Plain(PlainStep),
     /// An approved loan is paid out, on a day.
     Disburse(Day),
 }

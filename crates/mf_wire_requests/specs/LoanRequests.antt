@@ -5,7 +5,7 @@ use Rattle.mf_catalog.specs.Limits.{greatest_amount, most_periods}
 use Rattle.mf_model.specs.declared.request.OfficeRequest.TheVariants.{SubmitLoan, ListLoans}
 use Rattle.mf_model.specs.declared.request.LoanRequest.{LoanRequest}
 use Rattle.mf_model.specs.declared.request.LoanRequest.TheVariants.{Show, ShowInstalments, ShowEntries, Take, Repay, ChargeFee, Post, Reverse}
-use Rattle.mf_model.specs.declared.request.LoanStep.TheVariants.{Approve, Reject, Withdraw, UndoApproval, Disburse}
+use Rattle.mf_model.specs.declared.request.LoanStep.TheVariants.{Plain, Disburse}
 use Rattle.mf_model.specs.declared.request.Posting.TheVariants.{Penalty, Waiver, WriteOff, Refund}
 use Rattle.mf_model.specs.declared.request.Request.{Request}
 use Rattle.mf_model.specs.declared.request.Request.TheVariants.{Office, Loan}
@@ -77,10 +77,7 @@ abbrev pub loan_request : LoanEndpoint → PathParts → List ℕ → Option Loa
 loan_request endpoint.Show parts body = Some Show
 loan_request endpoint.ShowInstalments parts body = Some ShowInstalments
 loan_request endpoint.ShowEntries parts body = Some ShowEntries
-loan_request endpoint.Approve parts body = Some (Take Approve)
-loan_request endpoint.Reject parts body = Some (Take Reject)
-loan_request endpoint.Withdraw parts body = Some (Take Withdraw)
-loan_request endpoint.UndoApproval parts body = Some (Take UndoApproval)
+loan_request (endpoint.Step step) parts body = Some (Take (Plain step))
 loan_request endpoint.Disburse parts body = option_and_then disbursement (json_of body)
 loan_request endpoint.Repay parts body = option_and_then repayment (json_of body)
 loan_request endpoint.ChargeFee parts body = option_and_then fee (json_of body)

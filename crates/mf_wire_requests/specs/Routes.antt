@@ -12,8 +12,9 @@ use Rattle.matchit.specs.Router.{RouteOf, route_from, nearest}
 use Rattle.matchit.specs.Seek.{first}
 use Rattle.matchit.specs.declared.error.InsertError.{InsertError}
 use Rattle.matchit.specs.declared.router.Match.{Match}
+use Rattle.mf_model.specs.declared.request.PlainStep.TheVariants.{Approve, Reject, Withdraw, UndoApproval}
 use Rattle.mf_wire_requests.specs.declared.routes.Endpoint.TheVariants.{ShowDay, SetDay, AddCharge, ShowCharge, AddProduct, ShowProduct, RetireProduct, ListOffices, AddOffice, AddStaff, AddClient, ShowClient, SubmitLoan, ListLoans, ShowArrears, OnLoan}
-use Rattle.mf_wire_requests.specs.declared.routes.LoanEndpoint.TheVariants.{Show, ShowInstalments, ShowEntries, Approve, Reject, Withdraw, UndoApproval, Disburse, Repay, ChargeFee, ChargePenalty, Waive, WriteOff, Refund, Reverse}
+use Rattle.mf_wire_requests.specs.declared.routes.LoanEndpoint.TheVariants.{Show, ShowInstalments, ShowEntries, Step, Disburse, Repay, ChargeFee, ChargePenalty, Waive, WriteOff, Refund, Reverse}
 use Rattle.mf_wire_requests.specs.declared.routes.Methods.{Methods}
 use Rattle.mf_wire_requests.specs.declared.routes.Methods.TheVariants.{Get, Post, GetAndPost, GetAndPut}
 use Rattle.mf_wire_requests.specs.PathParts.{PathParts}
@@ -60,10 +61,10 @@ desk_table =
     ∷ (codes "/loans/{loan}", Get (OnLoan Show))
     ∷ (codes "/loans/{loan}/schedule", Get (OnLoan ShowInstalments))
     ∷ (codes "/loans/{loan}/entries", Get (OnLoan ShowEntries))
-    ∷ (codes "/loans/{loan}/approve", Post (OnLoan Approve))
-    ∷ (codes "/loans/{loan}/reject", Post (OnLoan Reject))
-    ∷ (codes "/loans/{loan}/withdraw", Post (OnLoan Withdraw))
-    ∷ (codes "/loans/{loan}/undo-approval", Post (OnLoan UndoApproval))
+    ∷ (codes "/loans/{loan}/approve", Post (OnLoan (Step Approve)))
+    ∷ (codes "/loans/{loan}/reject", Post (OnLoan (Step Reject)))
+    ∷ (codes "/loans/{loan}/withdraw", Post (OnLoan (Step Withdraw)))
+    ∷ (codes "/loans/{loan}/undo-approval", Post (OnLoan (Step UndoApproval)))
     ∷ (codes "/loans/{loan}/disburse", Post (OnLoan Disburse))
     ∷ (codes "/loans/{loan}/repayments", Post (OnLoan Repay))
     ∷ (codes "/loans/{loan}/fees", Post (OnLoan ChargeFee))

@@ -4,6 +4,7 @@ ghost use Rattle.matchit.specs.declared.error.InsertError.TheVariants.{OutOfMemo
 ghost use Rattle.mf_wire_requests.specs.Routes.{with_route, takes_route, takes_table, routes_of, desk_routes, matched_route, route_at};
 
 use matchit::{InsertError, Match, Router};
+use mf_model::PlainStep;
 use std::alloc::Global;
 
 /// What a method of a path asks of the loan that the path names.
@@ -12,10 +13,7 @@ pub enum LoanEndpoint {
     Show,
     ShowInstalments,
     ShowEntries,
-    Approve,
-    Reject,
-    Withdraw,
-    UndoApproval,
+    Step(PlainStep),
     Disburse,
     Repay,
     ChargeFee,
@@ -92,19 +90,19 @@ pub const ROUTES: [(&str, Methods); 28] = [
     ),
     (
         "/loans/{loan}/approve",
-        Methods::Post(Endpoint::OnLoan(LoanEndpoint::Approve)),
+        Methods::Post(Endpoint::OnLoan(LoanEndpoint::Step(PlainStep::Approve))),
     ),
     (
         "/loans/{loan}/reject",
-        Methods::Post(Endpoint::OnLoan(LoanEndpoint::Reject)),
+        Methods::Post(Endpoint::OnLoan(LoanEndpoint::Step(PlainStep::Reject))),
     ),
     (
         "/loans/{loan}/withdraw",
-        Methods::Post(Endpoint::OnLoan(LoanEndpoint::Withdraw)),
+        Methods::Post(Endpoint::OnLoan(LoanEndpoint::Step(PlainStep::Withdraw))),
     ),
     (
         "/loans/{loan}/undo-approval",
-        Methods::Post(Endpoint::OnLoan(LoanEndpoint::UndoApproval)),
+        Methods::Post(Endpoint::OnLoan(LoanEndpoint::Step(PlainStep::UndoApproval))),
     ),
     (
         "/loans/{loan}/disburse",

@@ -2,12 +2,12 @@
 
 use super::requests::Asked::{self, *};
 use super::requests::Charge::*;
-use super::requests::Step::*;
 use super::requests::day;
 use super::{LENT, arrears_text, assert_told, told};
 use mf_base::Fault;
 use mf_desk::arrears_lines;
 use mf_desk_books::Books;
+use mf_model::PlainStep::*;
 use mf_office::{Caller, Role};
 use std::test::Fail;
 

@@ -2,8 +2,8 @@
 
 use super::requests::Asked::{self, *};
 use super::requests::Charge::*;
-use super::requests::Step::*;
 use super::{LENT, LOAN, REPAID, assert_told};
+use mf_model::PlainStep::*;
 use mf_model::Waivable::*;
 use mf_office::Role;
 use std::test::Fail;

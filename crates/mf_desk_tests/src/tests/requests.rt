@@ -8,19 +8,11 @@ use mf_base::{Day, Fault};
 use mf_catalog::{Calc, ChargeKind, StrategyName};
 use mf_desk_books::{members, name, office_no};
 use mf_model::{
-    Application, CatalogueRequest, Flaw, LoanRequest, LoanStep, OfficeRequest, Posting, Repayment,
-    Request, Waivable, is_name,
+    Application, CatalogueRequest, Flaw, LoanRequest, LoanStep, OfficeRequest, PlainStep, Posting,
+    Repayment, Request, Waivable, is_name,
 };
 use mf_office::{Account, AccountNo, Name, Role};
 use std::alloc::Global;
-
-/// A step of a loan that names no day, so that a row of constants can hold it.
-#[derive(Clone, Copy, Debug)]
-pub(crate) enum Step {
-    Approve,
-    Withdraw,
-    UndoApproval,
-}
 
 /// A charge.
 #[derive(Clone, Copy, Debug)]
@@ -58,7 +50,7 @@ pub(crate) enum Asked {
     SubmitIn(u32),
     ListLoans,
     /// A step of the first loan.
-    Take(Step),
+    Take(PlainStep),
     /// An office's first loan is approved.
     ApproveIn(u32),
     /// The first loan is disbursed on a day.
@@ -236,15 +228,10 @@ fn on_loan(asked: LoanRequest) -> Result<Request, Fault>
     on_loan_in(1, asked)
 }
 
-fn take(office: u32, step: Step) -> Result<Request, Fault>
+fn take(office: u32, step: PlainStep) -> Result<Request, Fault>
     ensures { IfOk result IsInRange }
 {
-    let step = match step {
-        Step::Approve => LoanStep::Approve,
-        Step::Withdraw => LoanStep::Withdraw,
-        Step::UndoApproval => LoanStep::UndoApproval,
-    };
-    on_loan_in(office, LoanRequest::Take(step))
+    on_loan_in(office, LoanRequest::Take(LoanStep::Plain(step)))
 }
 
 fn disburse(office: u32, text: &str) -> Result<Request, Fault>
@@ -322,7 +309,7 @@ fn loan_request(asked: Asked) -> Result<Request, Fault>
 {
     match asked {
         Asked::Take(step) => take(1, step),
-        Asked::ApproveIn(office) => take(office, Step::Approve),
+        Asked::ApproveIn(office) => take(office, PlainStep::Approve),
         Asked::Disburse(day) => disburse(1, day),
         Asked::DisburseIn(office, day) => disburse(office, day),
         Asked::Repay(amount, day) => repay(1, amount, day),
