@@ -1,5 +1,5 @@
 -- What requests on loans ask.
-use Rattle.std.specs.Prelude.{ℕ, List, codes, cond, Option, Some, None, option_map, option_and_then}
+use Rattle.std.specs.Prelude.{ℕ, List, codes, Option, Some, option_map, option_and_then}
 use Rattle.serde_json.specs.Data.{Data}
 use Rattle.mf_catalog.specs.Limits.{greatest_amount, most_periods}
 use Rattle.mf_model.specs.declared.request.OfficeRequest.TheVariants.{SubmitLoan, ListLoans}
