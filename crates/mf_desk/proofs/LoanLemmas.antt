@@ -1,15 +1,15 @@
 -- What was found of a loan, and what is decided of it.
-use Rattle.std.proofs.Common.{◌≡◌, ◌≢◌, ℕ, ◌-◌, Bool, true, false, cond, List, [], ◌∷◌, ◌++◌, length, Option, Some, None, Ok, Err, inl, inr, refl, sym, ap, ◌∙◌, subst}
-use Rattle.std.specs.Prelude.{Result, ◌⊎◌, not, nat_le, is_some, option_map, IfSome}
+use Rattle.std.proofs.Common.{◌≡◌, ℕ, ◌-◌, Bool, true, false, cond, List, [], ◌∷◌, ◌++◌, Option, Some, None, Ok, Err, inl, inr, refl, sym, ap, ◌∙◌, subst}
+use Rattle.std.specs.Prelude.{Result, ◌⊎◌, is_some, option_map, IfSome}
 use Rattle.mf_base.specs.declared.fault.Fault.{Fault}
-use Rattle.mf_base.specs.declared.fault.Fault.TheVariants.{F4, F9, F19, F20}
+use Rattle.mf_base.specs.declared.fault.Fault.TheVariants.{F4, F9, F20}
 use Rattle.mf_catalog.specs.declared.charge.ChargeDef.{ChargeDef}
 use Rattle.mf_office.specs.declared.caller.Caller.{Caller}
 use Rattle.mf_office.specs.declared.account.Account.{Account}
 use Rattle.mf_office.specs.Tree.{is_at_or_below}
 use Rattle.mf_account.specs.declared.entry.Entry.{Entry}
-use Rattle.mf_account.specs.Loan.{Loan as Running, state_of_loan, status_of_loan}
-use Rattle.mf_account.specs.Refusals.{is_sealed, admits, is_out_of_order, is_forbidden, is_out_of_limits, refusal_of, reversal_refused}
+use Rattle.mf_account.specs.Loan.{Loan as Running, status_of_loan}
+use Rattle.mf_account.specs.Refusals.{refusal_of, reversal_refused}
 use Rattle.mf_account.specs.Standing.{with_mark}
 use Rattle.mf_account.specs.Balance.{balances_of}
 use Rattle.mf_account.specs.Change.{Account as Kept, IsChange, IsReplayed, replayed}

@@ -1,5 +1,5 @@
 -- Calls that the desk answered, as lines of a run on the institution that its store stands for.
-use Rattle.std.specs.Prelude.{◌≡◌, Bool, List, Result}
+use Rattle.std.specs.Prelude.{Bool, List, Result}
 use Rattle.mf_base.specs.declared.fault.Fault.{Fault}
 use Rattle.mf_model.specs.declared.request.Call.{Call}
 use Rattle.mf_model.specs.declared.reply.Reply.{Reply}

@@ -1,8 +1,7 @@
 -- What is told of a loan, worked out from the loan and its account.
-use Rattle.std.specs.Prelude.{ℕ, Option, None, Some}
+use Rattle.std.specs.Prelude.{Option, None, Some}
 use Rattle.mf_account.specs.Account.{status_of}
 use Rattle.mf_account.specs.Balance.{balances_by}
-use Rattle.mf_account.specs.declared.balances.Balances.{Balances}
 use Rattle.mf_account.specs.Loan.{fee_of_loan}
 use Rattle.mf_account.specs.Change.{Account as Kept}
 use Rattle.mf_model.specs.declared.loan.Loan.{Loan}

@@ -1,6 +1,5 @@
 -- What the rows of shares tell of a sound loan is what its entries settle, by entry.
-use Rattle.std.proofs.Common.{◌≡◌, ◌≢◌, ◌⊎◌, ◌<◌, ◌≤◌, ◌+◌, ◌∙◌, ℕ, zero, suc, Bool, true, false, cond, eqb, List, [], ◌∷◌, ◌++◌, map, length, inl, inr, refl, sym, ap, subst, arith}
-use Rattle.std.specs.Prelude.{All}
+use Rattle.std.proofs.Common.{◌≡◌, ◌≢◌, ◌⊎◌, ◌<◌, ◌≤◌, ◌+◌, ◌∙◌, ℕ, zero, suc, Bool, cond, List, [], ◌∷◌, ◌++◌, map, length, inl, inr, refl, sym, ap, subst, arith}
 use Rattle.std.specs.List.{AllByRecursion}
 use Rattle.std.proofs.lemmas.Bool.{eq-eqb, ne_eqb, cases_order}
 use Rattle.std.proofs.lemmas.List.{map-append}
@@ -8,7 +7,7 @@ use Rattle.std.proofs.lemmas.List.Elements.{recursion_from_All}
 use Rattle.mf_account.specs.declared.settled.Settled.{Settled}
 use Rattle.mf_account.specs.Change.{settled_in}
 use Rattle.mf_account.specs.Loan.{Loan as Running, IsSound as IsSoundAccount, settled_of_loan}
-use Rattle.mf_account.specs.Told.{IsNumberedTo, AreNumberedTo}
+use Rattle.mf_account.specs.Told.{IsNumberedTo}
 use Rattle.mf_account.proofs.ChangeLemmas.{settled_in-append}
 use Rattle.mf_account.proofs.ToldLemmas.{parts-numbered}
 use Rattle.mf_store_accounts.specs.Flat.{numbered_from, placed_parts, parts_from, shares_kept}

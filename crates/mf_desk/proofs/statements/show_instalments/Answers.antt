@@ -1,4 +1,4 @@
-use Rattle.std.proofs.Common.{List, [], Option, None, Ok, ap, sym, ◌∙◌}
+use Rattle.std.proofs.Common.{List, [], None, Ok, ap, sym, ◌∙◌}
 use Rattle.mf_account.specs.Change.{Account as Kept}
 use Rattle.mf_statement.specs.declared.lines.InstalmentLine.{InstalmentLine}
 use Rattle.mf_statement.specs.Lines.{instalments_from}

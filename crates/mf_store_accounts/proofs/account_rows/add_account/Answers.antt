@@ -1,4 +1,4 @@
-use Rattle.std.proofs.Common.{◌≡◌, ◌++◌, List, map, length, refl, sym, ap, ◌∙◌}
+use Rattle.std.proofs.Common.{◌++◌, map, length, refl, sym, ap, ◌∙◌}
 use Rattle.std.proofs.lemmas.List.{append-nil}
 use Rattle.mf_account.specs.Change.{Account as Kept, settled_in}
 use Rattle.mf_model.specs.Accounts.{account_in}
