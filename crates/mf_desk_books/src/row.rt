@@ -1,6 +1,7 @@
 //! A loan as the institution in vectors keeps it.
 
-ghost use Rattle.std.specs.Prelude.{◌≡◌, IfErr};
+ghost use Rattle.std.specs.Prelude.{◌≡◌, IfErr, IfOk, IfSome};
+ghost use Rattle.mf_account.specs.Change.{IsReplayed};
 
 use mf_account::{Entry, LoanAccount, Receipt};
 use mf_arrears::{OfficeLine, arrears};
@@ -151,7 +152,8 @@ impl Row {
 
     /// Its account over the terms of its product; None before it is disbursed.
     pub(crate) fn account(&self, alloc: Global, terms: Terms) -> Result<Option<LoanAccount>, Fault>
-        ensures { IfErr result (λ fault. fault ≡ Fault.F20) }
+        ensures replayed { IfOk result (λ found. IfSome found IsReplayed) }
+        ensures gives_up { IfErr result (λ fault. fault ≡ Fault.F20) }
     {
         let Some(day) = self.disbursed else {
             return Ok(None);
