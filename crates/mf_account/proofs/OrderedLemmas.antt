@@ -24,7 +24,6 @@ use Rattle.mf_account.proofs.ToldLemmas.{parts-numbered}
 
 -- lists by ascending keys
 module _ {X : Type 0} (key : X → ℕ) where
-
   abbrev of_key : ℕ → List X → List X
   of_key q xs = filter (λ x. key x == q) xs
 
@@ -106,7 +105,6 @@ all_weaker P Q (x ∷ xs) weaker all = (weaker x all.0, all_weaker P Q xs weaker
 
 -- what entries settle has their numbers, in their order
 module _ (key : ℕ → ℕ) where
-
   abbrev part_key : Settled → ℕ
   part_key s = key s.seq
 
@@ -140,7 +138,6 @@ module _ (key : ℕ → ℕ) where
 
 -- what holds of the numbers of entries holds of those of their parts
 module _ (P : ℕ → Type 0) where
-
   all_numbered : (seq place : ℕ) (parts : List Part) (ys : List Settled) → P seq → AllByRecursion (λ (s : Settled). P s.seq) ys → AllByRecursion (λ (s : Settled). P s.seq) (numbered seq place parts ++ ys)
   all_numbered seq place [] ys own later = later
   all_numbered seq place (part ∷ parts) ys own later = (own, all_numbered seq (place + 1) parts ys own later)
@@ -170,16 +167,16 @@ module _ (P : ℕ → Type 0) where
       let size = ap length own in (
         has x.seq (omega (arith, size)),
         all_from_some xs (λ seq some.
-        elim (cases_eq x.seq seq) [
-          | inl same ↦
-              let here : settled_in seq (x ∷ xs) ≡ x ∷ settled_in seq xs = cond-true (x.seq == seq) (x ∷ settled_in seq xs) (settled_in seq xs) (eq-eqb x.seq seq same) in
-              let more = ap length here in
-              has seq (omega (arith, more))
-          | inr other ↦
-              let rest : settled_in seq (x ∷ xs) ≡ settled_in seq xs = cond-false (x.seq == seq) (x ∷ settled_in seq xs) (settled_in seq xs) (ne_eqb x.seq seq other) in
-              let same = ap length rest in
-              has seq (omega (arith, some, same))
-        ]),
+            elim (cases_eq x.seq seq) [
+              | inl same ↦
+                  let here : settled_in seq (x ∷ xs) ≡ x ∷ settled_in seq xs = cond-true (x.seq == seq) (x ∷ settled_in seq xs) (settled_in seq xs) (eq-eqb x.seq seq same) in
+                  let more = ap length here in
+                  has seq (omega (arith, more))
+              | inr other ↦
+                  let rest : settled_in seq (x ∷ xs) ≡ settled_in seq xs = cond-false (x.seq == seq) (x ∷ settled_in seq xs) (settled_in seq xs) (ne_eqb x.seq seq other) in
+                  let same = ap length rest in
+                  has seq (omega (arith, some, same))
+            ]),
       )
 
 -- the number of an entry that an order has
@@ -187,7 +184,6 @@ abbrev HasPlace : List ℕ → ℕ → Type 0
 HasPlace order seq = (k : ℕ) × (k < length order) × (seq ≡ get_or order k 0 + 1)
 
 module _ (order : List ℕ) (place : ℕ → ℕ) (at : (k : ℕ) → k < length order → place (get_or order k 0) ≡ k) where
-
   abbrev key_of : ℕ → ℕ
   key_of seq = place (seq - 1)
 

@@ -130,7 +130,11 @@ fn places_in(alloc: Global, order: &[usize], entries: usize) -> Result<Vec<usize
 }
 
 /// The parts, each with the place of its entry.
-fn parts_placed(alloc: Global, places: &[usize], settled: &[Settled]) -> Result<Vec<Standing>, Fault>
+fn parts_placed(
+    alloc: Global,
+    places: &[usize],
+    settled: &[Settled],
+) -> Result<Vec<Standing>, Fault>
     requires numbers { AreNumberedTo (length places.now) settled.now }
     ensures placed { IfOk result (λ placed. placed.items ≡ map (λ (s : SettledRecord). record { place = slice_index places.now (s.seq - 1); part = s }) settled.now) }
     ensures only { IsOkUnless result Fault.F20 }

@@ -109,6 +109,8 @@ fn is_placed(part: &Settled, instalments: usize, entries: usize) -> bool
 pub(crate) fn are_placed(parts: &[Settled], instalments: usize, entries: usize) -> bool
     ensures { IsTrue result ↔ ArePlaced instalments entries parts.now }
 {
-    parts.iter().all(|part| is_placed(part, instalments, entries))
+    parts
+        .iter()
+        .all(|part| is_placed(part, instalments, entries))
         && is_amount_within(parts, &[])
 }

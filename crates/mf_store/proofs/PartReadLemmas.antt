@@ -57,11 +57,13 @@ kept_is i account loan day entries terms rows parts sound there disbursed entere
     let of = ledger_of account loan i there in
     let own : entries ≡ of.l.entries = entered ∙ ap entries_of of.there in
     let is : account_in i.catalogue of.l ≡ Some (running loan entries day terms) = (λ t. running_from (of.its t) (sym own t) (disbursed_on (of.its t).stage) (terms_in i.catalogue (of.its t).product)) ∙ (λ t. running_from loan entries (disbursed t) (named t)) in
-    let whole = loan_account_sound account of.l i sound of.there (running loan entries day terms) is in
-    (whole, record {
-      rows_are = kept_rows of.l of.there ∙ ap (of_account [] (λ a. (state_of_loan a).rows)) is;
-      parts_are = λ seq. ap (settled_in seq) (kept_parts of.l of.there ∙ ap (λ o. map part_told (of_account [] shares_kept o)) is) ∙ shares_told (running loan entries day terms) seq whole;
-    })
+    let whole = loan_account_sound account of.l i sound of.there (running loan entries day terms) is in (
+      whole,
+      record {
+        rows_are = kept_rows of.l of.there ∙ ap (of_account [] (λ a. (state_of_loan a).rows)) is;
+        parts_are = λ seq. ap (settled_in seq) (kept_parts of.l of.there ∙ ap (λ o. map part_told (of_account [] shares_kept o)) is) ∙ shares_told (running loan entries day terms) seq whole;
+      },
+    )
 
 pub all_any : {A : Type 0} (xs : List A) → AllByRecursion (λ (x : A). Unit {0}) xs
 all_any [] = tt

@@ -60,7 +60,7 @@ places-by orders (e ∷ entries) before q apart =
           let whole : settled_in q (own ++ rest) ≡ own = settled_in-append q own rest ∙ ap (λ x. x ++ settled_in q rest) mine ∙ ap (λ x. own ++ x) others ∙ append-nil own in
           subst (AreAt 1) (sym whole) (at-numbered e.seq 1 parts)
       | inr way ↦
-          let differ : e.seq ≢ q = elim way [ | inl less ↦ (λ same. omega (arith, less, same)) | inr more ↦ (λ same. omega (arith, more, same)) ] in
+          let differ : e.seq ≢ q = elim way [ inl less ↦ (λ same. omega (arith, less, same)) | inr more ↦ (λ same. omega (arith, more, same)) ] in
           let whole : settled_in q (own ++ rest) ≡ settled_in q rest = settled_in-append q own rest ∙ ap (λ x. x ++ settled_in q rest) (none-own q e.seq 1 parts differ) in
           subst (AreAt 1) (sym whole) (places-by orders entries next q (λ i j less within. apart (suc i) (suc j) (omega (arith, less)) (omega (arith, within))))
     ]

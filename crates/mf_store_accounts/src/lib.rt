@@ -19,7 +19,8 @@ pub use catalogue_rows::{charge_row, product_row};
 pub use instalments::instalment_row;
 pub use kept_shares::part_of;
 pub use numbers::{
-    amount_from, flag_from, how_from, kind_from, number_of_how, number_of_portion, portion_from, signed,
+    amount_from, flag_from, how_from, kind_from, number_of_how, number_of_portion, portion_from,
+    signed,
 };
 pub use same::{Same, are_same};
 pub use shares::share_row;

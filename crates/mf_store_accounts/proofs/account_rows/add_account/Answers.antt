@@ -12,9 +12,10 @@ returns-in_default-clause-added c k sound e f names l plain is es =
     let row = c.args.row.now in
     let none = sym c.in_default.is ∙ c.in_ok-found.ensures.account k sound e f row.office row.number names l plain is es in
     let instalments = c.args.instalments.now.items in
-    let shares = c.args.shares.now.items in
-    (sym (ap (λ xs. instalments ++ map (instalment_in row.office row.number) xs) (read_none instalments_kept (account_in k l) none) ∙ append-nil instalments),
-     sym (ap (λ xs. shares ++ map (share_in row.office row.number) xs) (read_none shares_kept (account_in k l) none) ∙ append-nil shares))
+    let shares = c.args.shares.now.items in (
+      sym (ap (λ xs. instalments ++ map (instalment_in row.office row.number) xs) (read_none instalments_kept (account_in k l) none) ∙ append-nil instalments),
+      sym (ap (λ xs. shares ++ map (share_in row.office row.number) xs) (read_none shares_kept (account_in k l) none) ∙ append-nil shares),
+    )
 
 pub returns-clause-added : goal.returns-clause-added
 returns-clause-added c =
@@ -22,6 +23,7 @@ returns-clause-added c =
     let row = c.args.row.now in
     let some = sym c.in-Some.is ∙ c.in_ok-found.ensures.account k sound e f row.office row.number names l plain is es in
     let rows = read_some instalments_kept (λ (b : Kept). numbered_from (λ n r. (n, r)) 1 b.state.rows) (account_in k l) c.in-Some.account (λ a. refl) some in
-    let parts = read_some shares_kept (λ (b : Kept). parts_from (λ seq. settled_in seq b.settled) 1 (length b.loan.entries)) (account_in k l) c.in-Some.account (λ a. refl) some in
-    (c.in_ok-add_instalments.ensures.added ∙ ap (λ rs. c.args.instalments.now.items ++ map (instalment_in row.office row.number) (numbered_from (λ n r. (n, r)) 1 rs)) c.rows.ensures.rows ∙ ap (λ xs. c.args.instalments.now.items ++ map (instalment_in row.office row.number) xs) rows,
-     added ∙ ap (λ xs. c.args.shares.now.items ++ map (share_in row.office row.number) xs) parts)) c.add_shares.ensures.added
+    let parts = read_some shares_kept (λ (b : Kept). parts_from (λ seq. settled_in seq b.settled) 1 (length b.loan.entries)) (account_in k l) c.in-Some.account (λ a. refl) some in (
+      c.in_ok-add_instalments.ensures.added ∙ ap (λ rs. c.args.instalments.now.items ++ map (instalment_in row.office row.number) (numbered_from (λ n r. (n, r)) 1 rs)) c.rows.ensures.rows ∙ ap (λ xs. c.args.instalments.now.items ++ map (instalment_in row.office row.number) xs) rows,
+      added ∙ ap (λ xs. c.args.shares.now.items ++ map (share_in row.office row.number) xs) parts,
+    )) c.add_shares.ensures.added
