@@ -35,7 +35,7 @@ pub struct Books {
 }
 
 /// The name that a text is.
-pub fn name(alloc: Global, text: &str) -> Result<Name, Fault>
+fn name(alloc: Global, text: &str) -> Result<Name, Fault>
     ensures text { IfOk result (λ name. name ≡ text.now) }
     ensures err { IfErr result (λ fault. fault ≡ Fault.F20) }
 {
@@ -43,7 +43,7 @@ pub fn name(alloc: Global, text: &str) -> Result<Name, Fault>
 }
 
 /// The office of a number; F1 where no office can have it.
-pub fn office_no(number: u32) -> Result<OfficeNo, Fault>
+fn office_no(number: u32) -> Result<OfficeNo, Fault>
     ensures { IfOk result (IsNumberUpTo 9999) }
 {
     let Some(office) = OfficeNo::new(number) else {

@@ -4,12 +4,8 @@
 
 mod devices;
 mod double;
-mod lines;
-mod product;
 mod row;
 pub mod streams;
 
 pub use devices::{Narrow, Torn};
-pub use double::{Books, name, office_no};
-pub use lines::{refused_line, without};
-pub use product::members;
+pub use double::Books;

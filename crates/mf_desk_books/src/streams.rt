@@ -44,61 +44,6 @@ pub const BRANCHES_REPLIES: &str = "201 {\"office\":2}\n\
 403 {\"fault\":\"F3\"}\n\
 409 {\"fault\":\"F16\"}\n";
 
-/// Offices one below the other, and one too many.
-pub const CHAIN: &str = "1/1 POST /offices {\"number\":2,\"parent\":1,\"name\":\"A\"}\n\
-1/1 POST /offices {\"number\":3,\"parent\":2,\"name\":\"B\"}\n\
-1/1 POST /offices {\"number\":4,\"parent\":3,\"name\":\"C\"}\n\
-1/1 POST /offices {\"number\":5,\"parent\":4,\"name\":\"D\"}\n\
-1/1 POST /offices {\"number\":6,\"parent\":5,\"name\":\"E\"}\n\
-1/1 POST /offices {\"number\":7,\"parent\":6,\"name\":\"F\"}\n";
-
-/// The replies to `CHAIN`.
-pub const CHAIN_REPLIES: &str = "201 {\"office\":2}\n\
-201 {\"office\":3}\n\
-201 {\"office\":4}\n\
-201 {\"office\":5}\n\
-201 {\"office\":6}\n\
-409 {\"fault\":\"F18\"}\n";
-
-/// A product and a loan, up to the product's retirement.
-pub const LENDING: &str =
-    "1/1 POST /products {\"name\":\"P\",\"method\":\"declining-equal-principal\",\"rate\":1200,\"frequency\":\"months\",\"every\":1,\"principal_grace\":0,\"interest_grace\":0,\"min_principal\":1,\"max_principal\":1000000,\"min_periods\":1,\"max_periods\":12,\"strategy\":\"mifos-standard-strategy\"}\n\
-1/1 POST /clients {\"office\":1,\"name\":\"Amina\"}\n\
-1/1 POST /loans {\"client\":\"0001-000001\",\"product\":1,\"principal\":100000,\"periods\":3}\n\
-1/1 POST /charges {\"name\":\"Visit\",\"kind\":\"due-date\",\"calc\":\"flat\",\"value\":500}\n\
-1/1 POST /products {\"name\":\"P\",\"method\":\"declining-equal-principal\",\"rate\":1200,\"frequency\":\"months\",\"every\":1,\"principal_grace\":0,\"interest_grace\":0,\"min_principal\":1,\"max_principal\":1000000,\"min_periods\":1,\"max_periods\":12,\"strategy\":\"mifos-standard-strategy\",\"instalment_charge\":1}\n\
-1/1 POST /products {\"name\":\"P\",\"method\":\"declining-equal-principal\",\"rate\":1200,\"frequency\":\"months\",\"every\":1,\"principal_grace\":0,\"interest_grace\":0,\"min_principal\":1,\"max_principal\":1000000,\"min_periods\":1,\"max_periods\":12,\"strategy\":\"mifos-standard-strategy\",\"instalment_charge\":9}\n\
-1/1 POST /loans {\"client\":\"0001-000001\",\"product\":1,\"principal\":1000001,\"periods\":3}\n\
-1/1 POST /loans {\"client\":\"0001-000001\",\"product\":1,\"principal\":100000,\"periods\":13}\n\
-1/1 POST /loans {\"client\":\"0001-000001\",\"product\":1,\"principal\":0,\"periods\":3}\n\
-1/1 POST /loans/0001-000001/approve\n\
-1/1 POST /loans/0001-000001/approve\n\
-1/1 POST /loans/0001-000001/withdraw\n\
-1/1 POST /loans/0001-000001/undo-approval\n\
-1/1 GET /offices/1/loans/0\n\
-1/1 POST /products/1/retire\n\
-1/1 POST /products/1/retire\n\
-1/1 POST /loans {\"client\":\"0001-000001\",\"product\":1,\"principal\":1000001,\"periods\":3}\n";
-
-/// The replies to `LENDING`.
-pub const LENDING_REPLIES: &str = "201 {\"product\":1}\n\
-201 {\"client\":\"0001-000001\"}\n\
-201 {\"loan\":\"0001-000001\"}\n\
-201 {\"charge\":1}\n\
-409 {\"fault\":\"F8\"}\n\
-404 {\"fault\":\"F4\"}\n\
-409 {\"fault\":\"F8\"}\n\
-409 {\"fault\":\"F8\"}\n\
-400 {\"fault\":\"F1\"}\n\
-200 {\"loan\":\"0001-000001\",\"status\":200}\n\
-409 {\"fault\":\"F9\"}\n\
-409 {\"fault\":\"F9\"}\n\
-200 {\"loan\":\"0001-000001\",\"status\":100}\n\
-200 {\"loans\":[{\"loan\":\"0001-000001\",\"status\":100}]}\n\
-200 {\"product\":1}\n\
-409 {\"fault\":\"F7\"}\n\
-409 {\"fault\":\"F7\"}\n";
-
 /// A client has a loan of 100000 cents at 12 percent for three months, paid out on 2024-01-31. The business day becomes
 /// 2024-03-31.
 pub const LENT: &str =

@@ -3,25 +3,41 @@
 mod adopted;
 mod first_schema;
 mod opened;
-mod records;
 mod stops;
 
 ghost use Rattle.std.specs.Prelude.{◌≡◌, false, IfOk};
 
 use mf_base::{Day, Fault};
 use mf_store_files::adopt;
-use mf_store_pages::{PageStore, open};
 use mf_wire::run;
 use mf_wire_lines::{WatchedReader, WatchedWriter};
-use sqlite::{Alter, Connection};
+use sqlite::{Alter, Connection, FileStore, Files, Options};
+use sqlite_disk::{Disk, Fuse, Memory};
 use std::alloc::Global;
 use std::test::Fail;
 
-/// A connection to memory without a table.
-fn new_tables(alloc: Global) -> Result<Connection<PageStore>, Fail>
+type Disks = Files<Fuse<Memory>>;
+
+/// Tables in files in memory. All tests but one use this one kind of store, since a build costs as much again for each other kind.
+type Tables = Connection<FileStore<Fuse<Memory>>>;
+
+/// Empty files that fail after so many calls each.
+fn fused(alloc: Global, log: u64, db: u64) -> Disks {
+    Files {
+        log: Fuse::new(Memory::new(alloc), log),
+        db: Fuse::new(Memory::new(alloc), db),
+    }
+}
+
+/// A connection to files that don't fail, without a table.
+fn new_tables(alloc: Global) -> Result<Tables, Fail>
     ensures { IfOk result (λ connection. connection.in_transaction ≡ false) }
 {
-    match open(alloc) {
+    let files = fused(alloc, u64::MAX, u64::MAX);
+    if !files.log.may_be_used() || !files.db.may_be_used() {
+        return Err(Fail::new("a file that can be used"));
+    }
+    match Connection::open_files(alloc, files, Options::new(1)) {
         Ok(connection) => Ok(connection),
         Err(_) => Err(Fail::new("a connection")),
     }

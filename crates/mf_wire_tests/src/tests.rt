@@ -1,53 +1,16 @@
 //! Streams of request lines, run over an institution in vectors. Of that store nothing is proved but that it is safe.
 
-mod accounts;
-mod arrears;
-mod limits;
 mod messages;
 mod refused;
-mod requests;
-mod texts;
 
 use mf_base::{Cause, Day, Fault, StreamFault};
-use mf_desk_books::streams::{BRANCHES, BRANCHES_REPLIES, FIRST, FIRST_REPLIES};
+use mf_desk_books::streams::{FIRST, FIRST_REPLIES};
 use mf_desk_books::{Books, Narrow, Torn};
 use mf_wire::{answer_text, run};
 use mf_wire_lines::{WatchedReader, WatchedWriter, fault_text};
 use std::alloc::Global;
 use std::process::Abort;
 use std::test::Fail;
-
-const MALFORMED: &[u8] = b"hello\n\
-\r\n\
-\n\
-1/1 GET /nowhere\n\
-1/1  GET /offices\n\
-1/1 get /offices\n\
-1/1 GET /\xff\n\
-1/1 GET \n\
-1/1 GET /offices?a=1\n\
-1/1 POST /clients {\"office\":1.0,\"name\":\"A\"}\n\
-1/1 POST /clients {\"office\":18446744073709551616,\"name\":\"A\"}\n\
-1/1 POST /clients {\"office\":1,\"name\":\"\"}\n\
-1/1 POST /clients {\"office\":1,\"name\":\"\\u007f\"}\n\
-9/9 POST /clients {\"office\":1,\"na\n\
-9/9 GET /clients/0001-000000\n\
-1/1 GET /offices";
-
-const MALFORMED_REPLIES: &str = "400 {\"fault\":\"F1\"}\n\
-404 {\"fault\":\"F5\"}\n\
-400 {\"fault\":\"F1\"}\n\
-405 {\"fault\":\"F6\"}\n\
-404 {\"fault\":\"F5\"}\n\
-404 {\"fault\":\"F5\"}\n\
-404 {\"fault\":\"F5\"}\n\
-400 {\"fault\":\"F1\"}\n\
-400 {\"fault\":\"F1\"}\n\
-400 {\"fault\":\"F1\"}\n\
-400 {\"fault\":\"F1\"}\n\
-400 {\"fault\":\"F1\"}\n\
-400 {\"fault\":\"F1\"}\n\
-200 {\"offices\":[{\"name\":\"Head Office\",\"number\":1,\"parent\":null}]}\n";
 
 const LONGEST_REPLIES: &str =
     "200 {\"offices\":[{\"name\":\"Head Office\",\"number\":1,\"parent\":null}]}\n\
@@ -82,18 +45,6 @@ fn assert_replies(
     let (count, written) = replies(alloc, &mut books, stream)?;
     assert_eq!(rt; count, answered);
     assert_eq!(rt; written.as_slice(), expected.as_bytes());
-    Ok(())
-}
-
-#[test]
-fn each_line_gets_its_reply(rt: HostRuntime) -> Result<(), Fail> {
-    for (stream, answered, expected) in [
-        (FIRST.as_bytes(), 8, FIRST_REPLIES),
-        (BRANCHES.as_bytes(), 10, BRANCHES_REPLIES),
-        (MALFORMED, 14, MALFORMED_REPLIES),
-    ] {
-        assert_replies(&rt, rt.alloc(), stream, answered, expected)?;
-    }
     Ok(())
 }
 

@@ -2,15 +2,18 @@
 
 ghost use Rattle.std.specs.Prelude.{◌≡◌, false, IfOk};
 
-use super::{answered_over, new_tables, refused_over};
-use mf_store_pages::PageStore;
+use super::{Tables, answered_over, new_tables, refused_over};
+use mf_base::{Day, Fault};
+use mf_office::OfficeNo;
+use mf_store::Store;
+use mf_store_files::adopt;
 use sqlite::{Alter, Connection, Error};
 use std::alloc::Global;
 use std::rt::HostRuntime;
 use std::test::Fail;
 
 /// An institution with rows in each table.
-pub(super) const INSTITUTION: &str = "\
+const INSTITUTION: &str = "\
 1/1 POST /offices {\"number\":2,\"parent\":1,\"name\":\"North\"}\n\
 1/1 POST /staff {\"office\":2,\"name\":\"Ben\",\"role\":\"officer\"}\n\
 1/1 POST /charges {\"name\":\"Visit\",\"kind\":\"due-date\",\"calc\":\"flat\",\"value\":500}\n\
@@ -27,7 +30,7 @@ pub(super) const INSTITUTION: &str = "\
 1/1 POST /loans/0001-000001/repayments {\"amount\":50000,\"day\":\"2024-03-31\"}\n";
 
 /// What comes after: an office below, more clients, and what is left of the loan.
-pub(super) const MORE: &str = "\
+const MORE: &str = "\
 1/1 POST /offices {\"number\":3,\"parent\":2,\"name\":\"Mill\"}\n\
 1/1 POST /clients {\"office\":2,\"name\":\"Musa\"}\n\
 1/1 POST /clients {\"office\":2,\"name\":\"Sara\"}\n\
@@ -123,25 +126,51 @@ const TABLES: [&str; 11] = [
     "SELECT * FROM shares",
 ];
 
-/// The tables of a new institution, of which the business day was set.
-fn set_tables(alloc: Global) -> Result<Connection<PageStore>, Fail>
-    ensures { IfOk result (λ connection. connection.in_transaction ≡ false) }
-{
-    let connection = new_tables(alloc)?;
+/// The day of the tables stands, and not the one on which they are adopted.
+#[test]
+fn the_old_day_stands(rt: HostRuntime) -> Result<(), Fail> {
+    let tables: Tables = new_tables(rt.alloc())?;
     let set = b"1/1 PUT /business-day {\"day\":\"2024-03-31\"}\n";
-    let (_, connection) = answered_over(alloc, connection, set);
-    Ok(connection)
+    let (_, tables) = answered_over(rt.alloc(), tables, set);
+    let (told, _) = answered_over(rt.alloc(), tables, b"1/1 GET /business-day\n");
+    assert!(rt; told.as_slice() == "200 {\"day\":\"2024-03-31\"}\n".as_bytes());
+    Ok(())
 }
 
-fn number(connection: &mut Connection<PageStore>, sql: &str) -> Result<i64, Error> {
-    connection.query_row(sql, &[])?.get(0)
+/// The staff, the clients and the loans of an office, with how many entries each loan has.
+fn office_told<S: Alter>(
+    alloc: Global,
+    store: &mut Store<S>,
+    office: OfficeNo,
+) -> Result<String, Fault> {
+    let rows = store.office_rows(alloc, office)?;
+    let mut text = String::new(alloc);
+    for member in rows.staff() {
+        let (name, role) = (member.name.as_str(), member.role);
+        write!(text, "{name} {role:?};")?;
+    }
+    for client in rows.clients() {
+        let name = client.as_str();
+        write!(text, "{name};")?;
+    }
+    for loan in rows.loans() {
+        let (principal, entries) = (loan.loan.principal, loan.entries.len());
+        write!(text, "{principal} {entries};")?;
+    }
+    Ok(text)
 }
 
 #[test]
-fn the_old_day_stands(rt: HostRuntime) -> Result<(), Fail> {
-    let tables = set_tables(rt.alloc())?;
-    let (told, _) = answered_over(rt.alloc(), tables, b"1/1 GET /business-day\n");
-    assert!(rt; told.as_slice() == "200 {\"day\":\"2024-03-31\"}\n".as_bytes());
+fn the_rows_of_an_office(rt: HostRuntime) -> Result<(), Fail> {
+    let (alloc, tables) = (rt.alloc(), new_tables(rt.alloc())?);
+    let (_, tables) = answered_over(alloc, tables, INSTITUTION.as_bytes());
+    let day = Day::parse(b"2024-01-31").ok_or("a day")?;
+    let office = OfficeNo::new(1).ok_or("an office")?;
+    let Ok(mut store) = adopt(alloc, tables, day) else {
+        return Err(Fail::new("an institution"));
+    };
+    let told = office_told(alloc, &mut store, office)?;
+    assert_eq!(rt; told.as_str(), "Head Manager Manager;Amina;100000 2;");
     Ok(())
 }
 
@@ -202,18 +231,5 @@ fn each_later_change_is_refused(rt: HostRuntime) -> Result<(), Fail> {
             "{change}"
         );
     }
-    Ok(())
-}
-
-#[test]
-fn a_changed_row_is_refused(rt: HostRuntime) -> Result<(), Fail> {
-    let mut tables = set_tables(rt.alloc())?;
-    tables.execute("UPDATE staff SET role = 4", &[])?;
-    if !tables.is_autocommit() {
-        return Err(Fail::new("no transaction"));
-    }
-    let (told, mut tables) = answered_over(rt.alloc(), tables, b"1/1 GET /business-day\n");
-    assert!(rt; told.is_empty());
-    assert_eq!(rt; number(&mut tables, "SELECT role FROM staff")?, 4);
     Ok(())
 }

@@ -2,8 +2,8 @@
 
 ghost use Rattle.std.specs.Prelude.{◌≡◌, false, IsTrue, IfOk};
 
-use super::stops::{Disks, MOST_CALLS, PAID, answered, fused, stopped};
-use super::{answered_over, new_tables, refused_over};
+use super::stops::{MOST_CALLS, PAID, answered, failing_at, stopped};
+use super::{Disks, answered_over, new_tables, refused_over};
 use sqlite::{Alter, Connection, Error, Options};
 use sqlite_disk::Disk;
 use std::alloc::Global;
@@ -232,25 +232,18 @@ fn holds_a_schema(alloc: Global, files: Disks) -> Result<(bool, bool), Fail> {
 }
 
 #[test]
-fn each_stop_of_the_log_leaves_a_schema(rt: HostRuntime) -> Result<(), Fail> {
-    for calls in 0..MOST_CALLS {
-        let (holds, adopted) = holds_a_schema(rt.alloc(), fused(rt.alloc(), calls, u64::MAX))?;
-        assert!(rt; holds);
-        if adopted {
-            return Ok(());
+fn each_stop_leaves_a_schema(rt: HostRuntime) -> Result<(), Fail> {
+    for of_log in [true, false] {
+        let mut is_adopted = false;
+        for calls in 0..MOST_CALLS {
+            if !is_adopted {
+                let files = failing_at(rt.alloc(), of_log, calls);
+                let (holds, adopted) = holds_a_schema(rt.alloc(), files)?;
+                assert!(rt; holds);
+                is_adopted = adopted;
+            }
         }
+        assert!(rt; is_adopted);
     }
-    Err(Fail::new("a run without a stop"))
-}
-
-#[test]
-fn each_stop_of_the_file_leaves_a_schema(rt: HostRuntime) -> Result<(), Fail> {
-    for calls in 0..MOST_CALLS {
-        let (holds, adopted) = holds_a_schema(rt.alloc(), fused(rt.alloc(), u64::MAX, calls))?;
-        assert!(rt; holds);
-        if adopted {
-            return Ok(());
-        }
-    }
-    Err(Fail::new("a run without a stop"))
+    Ok(())
 }

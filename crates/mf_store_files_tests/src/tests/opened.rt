@@ -1,14 +1,13 @@
 //! A file that is opened twice, and a connection over a store that was just made.
 
-use super::answered_over;
+use super::{Tables, answered_over, fused};
 use mf_base::Day;
 use mf_store::Store;
 use mf_store_files::open;
 use mf_store_rows::open_store;
 use mf_wire::run;
 use mf_wire_lines::{WatchedReader, WatchedWriter};
-use sqlite::{Alter, Connection, FileStore, Files, Options};
-use sqlite_disk::Memory;
+use sqlite::{Alter, Options};
 use sqlite_pager::{PageSize, Pager};
 use sqlite_store::Unopened;
 use std::alloc::Global;
@@ -58,11 +57,8 @@ fn a_file_is_opened_twice(rt: HostRuntime) -> Result<(), Fail> {
 }
 
 /// A connection over a store in memory that was just made.
-fn newly_opened(alloc: Global) -> Result<Connection<FileStore<Memory>>, Fail> {
-    let files = Files {
-        log: Memory::new(alloc),
-        db: Memory::new(alloc),
-    };
+fn newly_opened(alloc: Global) -> Result<Tables, Fail> {
+    let files = fused(alloc, u64::MAX, u64::MAX);
     let Some(size) = PageSize::new(1024) else {
         return Err(Fail::new("a size of pages"));
     };

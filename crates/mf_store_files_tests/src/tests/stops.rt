@@ -1,8 +1,8 @@
 //! A stop at each call of each file, while an institution is made and its first requests are answered.
 
-use super::answered_over;
-use sqlite::{Connection, Files, Options};
-use sqlite_disk::{Crash, Disk, Fuse, Memory};
+use super::{Disks, answered_over, fused};
+use sqlite::{Connection, Options};
+use sqlite_disk::{Crash, Disk};
 use std::alloc::Global;
 use std::rt::HostRuntime;
 use std::test::Fail;
@@ -41,16 +41,6 @@ pub(super) const PAID: &str =
 
 /// More calls of one file than these lines take.
 pub(super) const MOST_CALLS: u64 = 100_000;
-
-pub(super) type Disks = Files<Fuse<Memory>>;
-
-/// Empty files that fail after so many calls each.
-pub(super) fn fused(alloc: Global, log: u64, db: u64) -> Disks {
-    Files {
-        log: Fuse::new(Memory::new(alloc), log),
-        db: Fuse::new(Memory::new(alloc), db),
-    }
-}
 
 /// The replies to lines over what files hold, up to where they fail, and the files after.
 pub(super) fn answered(
@@ -131,30 +121,30 @@ fn a_closed_institution_is_opened_again(rt: HostRuntime) -> Result<(), Fail> {
     Ok(())
 }
 
-#[test]
-fn each_stop_of_the_log_leaves_a_beginning(rt: HostRuntime) -> Result<(), Fail> {
-    let alloc = rt.alloc();
-    let told = beginnings(alloc)?;
-    for calls in 0..MOST_CALLS {
-        let (holds, done) = holds_a_beginning(alloc, &told, fused(alloc, calls, u64::MAX))?;
-        assert!(rt; holds);
-        if done == LINES.len() {
-            return Ok(());
-        }
+/// Empty files of which the log, or the one with the tables, fails after so many calls.
+pub(super) fn failing_at(alloc: Global, of_log: bool, calls: u64) -> Disks {
+    if of_log {
+        fused(alloc, calls, u64::MAX)
+    } else {
+        fused(alloc, u64::MAX, calls)
     }
-    Err(Fail::new("a run without a stop"))
 }
 
 #[test]
-fn each_stop_of_the_file_leaves_a_beginning(rt: HostRuntime) -> Result<(), Fail> {
+fn each_stop_leaves_a_beginning(rt: HostRuntime) -> Result<(), Fail> {
     let alloc = rt.alloc();
     let told = beginnings(alloc)?;
-    for calls in 0..MOST_CALLS {
-        let (holds, done) = holds_a_beginning(alloc, &told, fused(alloc, u64::MAX, calls))?;
-        assert!(rt; holds);
-        if done == LINES.len() {
-            return Ok(());
+    for of_log in [true, false] {
+        let mut is_whole = false;
+        for calls in 0..MOST_CALLS {
+            if !is_whole {
+                let files = failing_at(alloc, of_log, calls);
+                let (holds, done) = holds_a_beginning(alloc, &told, files)?;
+                assert!(rt; holds);
+                is_whole = done == LINES.len();
+            }
         }
+        assert!(rt; is_whole);
     }
-    Err(Fail::new("a run without a stop"))
+    Ok(())
 }

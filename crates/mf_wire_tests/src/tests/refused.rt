@@ -2,9 +2,27 @@
 
 use super::{new_books, replies};
 use mf_desk_books::streams::{BRANCHES, BRANCHES_REPLIES};
-use mf_desk_books::{refused_line, without};
-use std::alloc::Global;
+use std::alloc::{AllocError, Global};
 use std::test::Fail;
+
+/// Which line was refused for want of memory, if one was.
+fn refused_line(replies: &[u8]) -> Option<usize> {
+    replies
+        .split(|b| *b == b'\n')
+        .position(|reply| reply == b"503 {\"fault\":\"F20\"}".as_slice())
+}
+
+/// The lines of a text without one of them.
+fn without(alloc: Global, text: &[u8], place: usize) -> Result<Vec<u8>, AllocError> {
+    let mut kept = Vec::new(alloc);
+    for (at, line) in text.split(|b| *b == b'\n').enumerate() {
+        if at != place && !line.is_empty() {
+            kept.extend_from_slice(line)?;
+            kept.push(b'\n')?;
+        }
+    }
+    Ok(kept)
+}
 
 /// The replies where the store gives up after so many calls.
 fn told_after(alloc: Global, calls: u32) -> Result<Vec<u8>, Fail> {

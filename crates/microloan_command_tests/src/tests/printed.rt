@@ -1,24 +1,13 @@
 //! The schedules that words ask for. The texts were reckoned with exact fractions from what the methods are.
 
-ghost use Rattle.std.specs.Prelude.{◌≤◌};
-ghost use Rattle.mf_base.specs.DayText.{last_entered_day};
-ghost use Rattle.microloan_words.specs.Asked.{IsWithinLimits};
-
-use mf_base::{Day, Fault, Freq};
-use mf_catalog::Method;
+use mf_base::Fault;
 use microloan_commands::schedule;
-use microloan_words::{Command, ScheduleWords, command};
-use std::alloc::{AllocError, Global};
+use microloan_words::{Command, command};
+use std::alloc::Global;
 use std::test::Fail;
 
-const EQUAL_PRINCIPAL: &str = "  1 2024-02-29            333.33             10.00            343.33
-  2 2024-03-31            333.33              6.67            340.00
-  3 2024-04-30            333.34              3.33            336.67
-sum                      1000.00             20.00           1020.00
-";
-
-/// A line of words, and what they print.
-const EXAMPLES: [(&str, &str); 3] = [
+/// A line of words, and what they print: nothing where a grace is not below the periods.
+const EXAMPLES: [(&str, &str); 4] = [
     (
         "microloan schedule --method flat --principal 120000 --rate 1200 --periods 12 --day 2024-01-31",
         "  1 2024-02-29            100.00             12.00            112.00
@@ -38,7 +27,15 @@ sum                      1200.00            144.00           1344.00
     ),
     (
         "microloan schedule --method declining-equal-principal --principal 100000 --rate 1200 --periods 3 --day 2024-01-31",
-        EQUAL_PRINCIPAL,
+        "  1 2024-02-29            333.33             10.00            343.33
+  2 2024-03-31            333.33              6.67            340.00
+  3 2024-04-30            333.34              3.33            336.67
+sum                      1000.00             20.00           1020.00
+",
+    ),
+    (
+        "microloan schedule --method declining-equal-principal --principal 100000 --rate 1200 --periods 3 --day 2024-01-31 --principal-grace 3",
+        "",
     ),
     (
         "microloan schedule --method declining-equal-instalments --principal 100000 --rate 1200 --periods 3 --day 2024-01-31",
@@ -50,18 +47,19 @@ sum                      1000.00             20.07           1020.07
     ),
 ];
 
-/// What the words print, or nothing where they ask for no schedule.
-fn printed(alloc: Global, line: &str) -> Result<String, AllocError> {
+/// What the words print; nothing where the schedule is refused.
+fn printed(alloc: Global, line: &str) -> Result<String, Fail> {
     let mut words = Vec::new(alloc);
     for word in line.split_whitespace() {
         words.push(String::from_str(alloc, word)?)?;
     }
-    match command(alloc, &words) {
-        Ok(Command::Schedule(asked)) => match schedule(alloc, &asked) {
-            Ok(text) => Ok(text),
-            Err(_) => Ok(String::new(alloc)),
-        },
-        _ => Ok(String::new(alloc)),
+    let Ok(Command::Schedule(asked)) = command(alloc, &words) else {
+        return Err(Fail::new("a schedule"));
+    };
+    match schedule(alloc, &asked) {
+        Ok(text) => Ok(text),
+        Err(Fault::F8) => Ok(String::new(alloc)),
+        Err(fault) => Err(Fail::from(fault)),
     }
 }
 
@@ -70,38 +68,5 @@ fn prints_each_example(rt: HostRuntime) -> Result<(), Fail> {
     for (line, text) in EXAMPLES {
         assert_eq!(rt; printed(rt.alloc(), line)?.as_str(), text);
     }
-    Ok(())
-}
-
-fn asked(day: Day, principal_grace: u32) -> ScheduleWords
-    requires day { day ≤ last_entered_day }
-    ensures limits { IsWithinLimits result }
-{
-    ScheduleWords {
-        method: Method::EqualPrincipal,
-        principal: 100000,
-        rate: 1200,
-        periods: 3,
-        day,
-        frequency: Freq::Months,
-        every: 1,
-        principal_grace,
-        interest_grace: 0,
-    }
-}
-
-#[test]
-fn prints_a_schedule(rt: HostRuntime) -> Result<(), Fail> {
-    let day = Day::parse(b"2024-01-31").ok_or("a day")?;
-    let text = schedule(rt.alloc(), &asked(day, 0))?;
-    assert_eq!(rt; text.as_str(), EQUAL_PRINCIPAL);
-    Ok(())
-}
-
-#[test]
-fn wants_a_grace_below_the_periods(rt: HostRuntime) -> Result<(), Fail> {
-    let day = Day::parse(b"2024-01-31").ok_or("a day")?;
-    let refused = schedule(rt.alloc(), &asked(day, 3)).err();
-    assert!(rt; refused == Some(Fault::F8));
     Ok(())
 }

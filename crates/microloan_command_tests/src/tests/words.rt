@@ -27,16 +27,21 @@ fn line_of(rt: &impl Abort, alloc: Global, line: &str) -> Result<String, AllocEr
     }
 }
 
+/// The schedule that words ask for.
+fn schedule_of(alloc: Global, line: &str) -> Result<ScheduleWords, Fail> {
+    let words = words_of(alloc, line)?;
+    match command(alloc, &words) {
+        Ok(Command::Schedule(asked)) => Ok(asked),
+        _ => Err(Fail::new("a schedule")),
+    }
+}
+
 #[test]
 fn reads_a_schedule(rt: HostRuntime) -> Result<(), Fail> {
-    let alloc = rt.alloc();
-    let words = words_of(
-        alloc,
+    let asked = schedule_of(
+        rt.alloc(),
         "microloan schedule --method declining-equal-principal --principal 100000 --rate 1200 --periods 3 --day 2024-01-31",
     )?;
-    let Ok(Command::Schedule(asked)) = command(alloc, &words) else {
-        return Err(Fail::new("a schedule"));
-    };
     let wanted = ScheduleWords {
         method: Method::EqualPrincipal,
         principal: 100000,
@@ -49,19 +54,10 @@ fn reads_a_schedule(rt: HostRuntime) -> Result<(), Fail> {
         interest_grace: 0,
     };
     assert!(rt; asked == wanted);
-    Ok(())
-}
-
-#[test]
-fn reads_every_option(rt: HostRuntime) -> Result<(), Fail> {
-    let alloc = rt.alloc();
-    let words = words_of(
-        alloc,
+    let asked = schedule_of(
+        rt.alloc(),
         "microloan schedule --interest-grace=1 --principal-grace 2 --every 52 --frequency weeks --day 2099-12-31 --periods 360 --rate 100000 --principal 1000000000000 --method flat",
     )?;
-    let Ok(Command::Schedule(asked)) = command(alloc, &words) else {
-        return Err(Fail::new("a schedule"));
-    };
     let wanted = ScheduleWords {
         method: Method::Flat,
         principal: 1_000_000_000_000,
@@ -144,7 +140,27 @@ fn reads_who_asks(rt: HostRuntime) -> Result<(), Fail> {
 }
 
 /// Words that are wrong, and what is said of them.
-const WRONG: [(&str, &str); 9] = [
+const WRONG: [(&str, &str); 14] = [
+    (
+        "microloan",
+        "microloan: name a command: batch, serve, collect, report or schedule; see 'microloan --help'",
+    ),
+    (
+        "microloan schedule --method flat --principal 0 --rate 1200 --periods 3 --day 2024-01-31",
+        "microloan: --principal wants whole cents from 1 to 1000000000000; see 'microloan schedule --help'",
+    ),
+    (
+        "microloan schedule --method flat --principal 1 --rate 1200 --periods 361 --day 2024-01-31",
+        "microloan: --periods wants a number from 1 to 360; see 'microloan schedule --help'",
+    ),
+    (
+        "microloan schedule --method flat --principal 1 --rate 1200 --periods 12 --day 2024-02-30",
+        "microloan: --day wants a day from 2000-01-01 to 2099-12-31, as 2024-01-31; see 'microloan schedule --help'",
+    ),
+    (
+        "microloan schedule --method flat --principal 1 --rate 1200 --periods 12 --day 2024-01-31 --every 13",
+        "microloan: --every wants 1 to 52 weeks or 1 to 12 months; see 'microloan schedule --help'",
+    ),
     (
         "microloan batch --day 2100-01-01",
         "microloan: --day wants a day from 2000-01-01 to 2099-12-31, as 2024-01-31; see 'microloan batch --help'",
@@ -184,7 +200,7 @@ const WRONG: [(&str, &str); 9] = [
 ];
 
 #[test]
-fn says_what_the_commands_of_a_file_want(rt: HostRuntime) -> Result<(), Fail> {
+fn says_what_is_wanted(rt: HostRuntime) -> Result<(), Fail> {
     for (line, wanted) in WRONG {
         let said = line_of(&rt, rt.alloc(), line)?;
         assert_eq!(rt; said.as_str(), wanted);
@@ -192,86 +208,31 @@ fn says_what_the_commands_of_a_file_want(rt: HostRuntime) -> Result<(), Fail> {
     Ok(())
 }
 
-/// Words without an option that must be given, and that option.
-const MISSING: [(&str, &str); 5] = [
-    ("microloan serve --port 80", "--file"),
-    ("microloan serve --file f", "--port"),
-    ("microloan collect --staff 1/1", "--file"),
-    ("microloan collect --file f", "--staff"),
-    ("microloan report --file f", "--staff"),
+/// Words that are wrong, a part of what is said of them, and the command whose help it names.
+const UNCLEAR: [(&str, &str, &str); 8] = [
+    ("microloan serve --port 80", "--file", "serve "),
+    ("microloan serve --file f", "--port", "serve "),
+    ("microloan collect --staff 1/1", "--file", "collect "),
+    ("microloan collect --file f", "--staff", "collect "),
+    ("microloan report --file f", "--staff", "report "),
+    (
+        "microloan schedule --method flat",
+        "--principal",
+        "schedule ",
+    ),
+    ("microloan batch now", "'now'", "batch "),
+    ("microloan schedules", "schedules", ""),
 ];
 
 #[test]
-fn says_which_option_is_missing(rt: HostRuntime) -> Result<(), Fail> {
-    for (line, option) in MISSING {
-        let said = line_of(&rt, rt.alloc(), line)?;
-        assert!(rt; said.as_str().find(option).is_some());
-        assert!(rt; said.as_str().lines().count() == 1);
-    }
-    Ok(())
-}
-
-#[test]
-fn says_what_an_option_wants(rt: HostRuntime) -> Result<(), Fail> {
-    let alloc = rt.alloc();
-    let said = line_of(
-        &rt,
-        alloc,
-        "microloan schedule --method flat --principal 0 --rate 1200 --periods 3 --day 2024-01-31",
-    )?;
-    assert_eq!(rt;
-        said.as_str(),
-        "microloan: --principal wants whole cents from 1 to 1000000000000; see 'microloan schedule --help'"
-    );
-    let said = line_of(
-        &rt,
-        alloc,
-        "microloan schedule --method flat --principal 1 --rate 1200 --periods 361 --day 2024-01-31",
-    )?;
-    assert_eq!(rt;
-        said.as_str(),
-        "microloan: --periods wants a number from 1 to 360; see 'microloan schedule --help'"
-    );
-    let said = line_of(
-        &rt,
-        alloc,
-        "microloan schedule --method flat --principal 1 --rate 1200 --periods 12 --day 2024-02-30",
-    )?;
-    assert_eq!(rt;
-        said.as_str(),
-        "microloan: --day wants a day from 2000-01-01 to 2099-12-31, as 2024-01-31; see 'microloan schedule --help'"
-    );
-    let said = line_of(
-        &rt,
-        alloc,
-        "microloan schedule --method flat --principal 1 --rate 1200 --periods 12 --day 2024-01-31 --every 13",
-    )?;
-    assert_eq!(rt;
-        said.as_str(),
-        "microloan: --every wants 1 to 52 weeks or 1 to 12 months; see 'microloan schedule --help'"
-    );
-    Ok(())
-}
-
-#[test]
 fn says_what_is_wrong_in_one_line(rt: HostRuntime) -> Result<(), Fail> {
-    let alloc = rt.alloc();
-    let said = line_of(&rt, alloc, "microloan")?;
-    assert_eq!(rt;
-        said.as_str(),
-        "microloan: name a command: batch, serve, collect, report or schedule; see 'microloan --help'"
-    );
-    let said = line_of(&rt, alloc, "microloan schedule --method flat")?;
-    assert!(rt; said.as_str().find("--principal").is_some());
-    assert!(rt; said.as_str().ends_with("; see 'microloan schedule --help'"));
-    assert!(rt; said.as_str().lines().count() == 1);
-    let said = line_of(&rt, alloc, "microloan batch now")?;
-    assert!(rt; said.as_str().find("'now'").is_some());
-    assert!(rt; said.as_str().ends_with("; see 'microloan batch --help'"));
-    let said = line_of(&rt, alloc, "microloan schedules")?;
-    assert!(rt; said.as_str().find("schedules").is_some());
-    assert!(rt; said.as_str().ends_with("; see 'microloan --help'"));
-    assert!(rt; said.as_str().lines().count() == 1);
+    for (line, part, command) in UNCLEAR {
+        let said = line_of(&rt, rt.alloc(), line)?;
+        let end = format!(in rt.alloc(); "; see 'microloan {command}--help'")?;
+        assert!(rt; said.as_str().find(part).is_some(), "{line}");
+        assert!(rt; said.as_str().ends_with(end.as_str()), "{line}");
+        assert!(rt; said.as_str().lines().count() == 1, "{line}");
+    }
     Ok(())
 }
 

@@ -1,9 +1,8 @@
 //! One entry more after many, and the last of many reversed: only what it touches changes. How many requests for memory
 //! each makes is counted by `bench/count-requests`.
 
+use super::opened::OpenLoan;
 use super::opened::Step::{self, *};
-use super::opened::{OpenLoan, Overdue};
-use mf_catalog::StrategyName;
 use std::alloc::Global;
 use std::process::Abort;
 use std::test::Fail;
@@ -18,7 +17,7 @@ fn assert_told_after(
     steps: &[Step],
     expected: &str,
 ) -> Result<(), Fail> {
-    let mut loan = OpenLoan::new(alloc, StrategyName::MifosStandard, Overdue::Free)?;
+    let mut loan = OpenLoan::new(alloc)?;
     for _ in 0..cents {
         loan.told(alloc, &[CENT])?;
     }
@@ -43,13 +42,9 @@ fn short_undo_of_the_last(rt: HostRuntime) -> Result<(), Fail> {
 }
 
 #[test]
-fn a_cent_after_a_thousand(rt: HostRuntime) -> Result<(), Fail> {
+fn one_entry_more(rt: HostRuntime) -> Result<(), Fail> {
     let steps = [CENT, Change, Shares(1001)];
-    assert_told_after(&rt, rt.alloc(), 1000, &steps, "[1] [1001];1 Principal 1,;")
-}
-
-#[test]
-fn an_entry_among_others(rt: HostRuntime) -> Result<(), Fail> {
+    assert_told_after(&rt, rt.alloc(), 1000, &steps, "[1] [1001];1 Principal 1,;")?;
     let steps = [Repay("2024-02-29", 1000), Change, Shares(1)];
     let expected = "[1] [1, 2, 3, 4];1 Principal 1,;";
     assert_told_after(&rt, rt.alloc(), 3, &steps, expected)
