@@ -40,10 +40,11 @@ fn days_of(stage: &Stage) -> (Option<Day>, Option<Day>) {
 fn copy_receipt(alloc: Global, receipt: &Option<Receipt>) -> Result<Option<Receipt>, Fault>
     ensures { IfErr result (λ fault. fault ≡ Fault.F20) }
 {
-    match receipt {
-        None => Ok(None),
-        Some(receipt) => Ok(Some(Receipt::new(String::from_str(alloc, receipt.as_str())?))),
-    }
+    let Some(receipt) = receipt else {
+        return Ok(None);
+    };
+    let text = String::from_str(alloc, receipt.as_str())?;
+    Ok(Some(Receipt::new(text)))
 }
 
 /// A copy of an entry.
