@@ -5,46 +5,57 @@ mod first_schema;
 mod opened;
 mod stops;
 
-ghost use Rattle.std.specs.Prelude.{◌≡◌, false, IfOk};
+ghost use Rattle.std.specs.Prelude.{◌≡◌, false};
 
 use mf_base::{Day, Fault};
 use mf_store_files::adopt;
 use mf_wire::run;
 use mf_wire_lines::{WatchedReader, WatchedWriter};
-use sqlite::{Alter, Connection, FileStore, Files, Options};
-use sqlite_disk::{Disk, Fuse, Memory};
+use sqlite::{Alter, Connection, Files, Options};
+use sqlite_disk::{Crash, Disk, Fuse, Memory};
 use std::alloc::Global;
 use std::test::Fail;
 
-type Disks = Files<Fuse<Memory>>;
+/// A file that fails after so many calls.
+trait Failing: Crash + Drop {
+    fn failing_after(alloc: Global, calls: u64) -> Self;
+}
 
-/// Tables in files in memory. All tests but one use this one kind of store, since a build costs as much again for each other kind.
-type Tables = Connection<FileStore<Fuse<Memory>>>;
-
-/// Empty files that fail after so many calls each.
-fn fused(alloc: Global, log: u64, db: u64) -> Disks {
-    Files {
-        log: Fuse::new(Memory::new(alloc), log),
-        db: Fuse::new(Memory::new(alloc), db),
+impl Failing for Fuse<Memory> {
+    fn failing_after(alloc: Global, calls: u64) -> Fuse<Memory> {
+        Fuse::new(Memory::new(alloc), calls)
     }
 }
 
-/// A connection to files that don't fail, without a table.
-fn new_tables(alloc: Global) -> Result<Tables, Fail>
-    ensures { IfOk result (λ connection. connection.in_transaction ≡ false) }
-{
-    let files = fused(alloc, u64::MAX, u64::MAX);
+/// Empty files that fail after so many calls each.
+fn fused<D: Failing>(alloc: Global, log: u64, db: u64) -> Files<D> {
+    Files {
+        log: D::failing_after(alloc, log),
+        db: D::failing_after(alloc, db),
+    }
+}
+
+/// What is tried over a connection, of any store: a function that holds tables of a type that is known costs five times as much to
+/// prove.
+trait Trial {
+    fn holds<S: Alter + Drop>(&self, alloc: Global, connection: Connection<S>) -> Result<bool, Fail>
+        requires { connection.in_transaction ≡ false };
+}
+
+/// Whether a trial holds over files that don't fail, without a table.
+fn holds<T: Trial>(alloc: Global, trial: &T) -> Result<bool, Fail> {
+    let files = fused::<Fuse<Memory>>(alloc, u64::MAX, u64::MAX);
     if !files.log.may_be_used() || !files.db.may_be_used() {
         return Err(Fail::new("a file that can be used"));
     }
     match Connection::open_files(alloc, files, Options::new(1)) {
-        Ok(connection) => Ok(connection),
+        Ok(connection) => trial.holds(alloc, connection),
         Err(_) => Err(Fail::new("a connection")),
     }
 }
 
 /// The replies to lines over the tables of a connection, which are adopted on 2024-01-31, and the connection after; none where
-/// they are refused. Over any store, so that it is proved once.
+/// they are refused.
 fn answered_over<S: Alter>(
     alloc: Global,
     connection: Connection<S>,

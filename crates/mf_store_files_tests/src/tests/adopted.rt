@@ -1,8 +1,8 @@
 //! A store is given back, its tables are changed or not, and they are adopted again.
 
-ghost use Rattle.std.specs.Prelude.{◌≡◌, false, IfOk};
+ghost use Rattle.std.specs.Prelude.{◌≡◌, false};
 
-use super::{Tables, answered_over, new_tables, refused_over};
+use super::{Trial, answered_over, holds, refused_over};
 use mf_base::{Day, Fault};
 use mf_office::OfficeNo;
 use mf_store::Store;
@@ -37,63 +37,72 @@ const MORE: &str = "\
 1/1 POST /clients {\"office\":3,\"name\":\"Omar\"}\n\
 1/1 POST /loans/0001-000001/repayments {\"amount\":32000,\"day\":\"2024-03-31\"}\n";
 
-/// Changes of a row, each of which leaves what no institution has.
-const CHANGES: [&str; 52] = [
-    "DELETE FROM meta",
-    "UPDATE meta SET schema = 1",
-    "UPDATE meta SET schema = 3",
-    "UPDATE meta SET day = '2024-02-30'",
-    "UPDATE meta SET day = '2100-01-01'",
-    "UPDATE meta SET day = '2024-03-30'",
-    "UPDATE offices SET parent = 2 WHERE number = 1",
-    "UPDATE offices SET parent = 77 WHERE number = 2",
-    "UPDATE offices SET parent = 2 WHERE number = 2",
-    "UPDATE offices SET hkey = '.3.' WHERE number = 2",
-    "UPDATE offices SET name = '' WHERE number = 2",
-    "UPDATE staff SET role = 4 WHERE office = 2",
-    "UPDATE staff SET role = 4294967297 WHERE office = 2",
-    "UPDATE staff SET number = 2 WHERE office = 2",
-    "INSERT INTO staff VALUES (77, 1, 'Ghost', 1)",
-    "UPDATE clients SET number = 2",
-    "UPDATE clients SET number = -1",
-    "UPDATE clients SET office = 77",
-    "UPDATE charges SET number = 2",
-    "UPDATE charges SET kind = 5",
-    "UPDATE charges SET value = 0",
-    "UPDATE products SET overdue_charge = 1",
-    "UPDATE products SET overdue_charge = 2",
-    "UPDATE products SET rate = 100001",
-    "UPDATE products SET min_principal = 1000001",
-    "UPDATE products SET retired = 2",
-    "UPDATE loans SET number = 2",
-    "UPDATE loans SET principal = 1000001",
-    "UPDATE loans SET periods = 13",
-    "UPDATE loans SET client = 2",
-    "UPDATE loans SET product = 2",
-    "UPDATE loans SET stage = 250",
-    "UPDATE loans SET stage = 200, disbursed = NULL",
-    "UPDATE loans SET disbursed = NULL",
-    "UPDATE loans SET approved = '2024-02-02'",
-    "UPDATE loans SET disbursed = '2024-03-01'",
-    "UPDATE entries SET seq = 9 WHERE seq = 2",
-    "UPDATE entries SET kind = 7 WHERE seq = 2",
-    "UPDATE entries SET amount = 0 WHERE seq = 2",
-    "UPDATE entries SET day = '2024-01-31' WHERE seq = 1",
-    "UPDATE entries SET day = '2024-04-01' WHERE seq = 2",
-    "UPDATE entries SET staff = '1/9' WHERE seq = 2",
-    "UPDATE entries SET reversed = 1 WHERE seq = 2",
-    "UPDATE entries SET receipt = 'R-2' WHERE seq = 2",
-    "DELETE FROM receipts",
-    "UPDATE receipts SET seq = 2",
-    "UPDATE instalments SET paid_principal = 1 WHERE number = 1",
-    "UPDATE instalments SET due = '2024-03-02' WHERE number = 1",
-    "DELETE FROM instalments WHERE number = 3",
-    "UPDATE shares SET amount = 1 WHERE seq = 1 AND place = 1",
-    "DELETE FROM shares WHERE seq = 1 AND place = 1",
-    "UPDATE shares SET place = 9 WHERE seq = 1 AND place = 2",
+/// Changes of a row, each of which leaves what no institution has, and of how many rows.
+const CHANGES: [(&str, usize); 52] = [
+    ("DELETE FROM meta", 1),
+    ("UPDATE meta SET schema = 1", 1),
+    ("UPDATE meta SET schema = 3", 1),
+    ("UPDATE meta SET day = '2024-02-30'", 1),
+    ("UPDATE meta SET day = '2100-01-01'", 1),
+    ("UPDATE meta SET day = '2024-03-30'", 1),
+    ("UPDATE offices SET parent = 2 WHERE number = 1", 1),
+    ("UPDATE offices SET parent = 77 WHERE number = 2", 1),
+    ("UPDATE offices SET parent = 2 WHERE number = 2", 1),
+    ("UPDATE offices SET hkey = '.3.' WHERE number = 2", 1),
+    ("UPDATE offices SET name = '' WHERE number = 2", 1),
+    ("UPDATE staff SET role = 4 WHERE office = 2", 1),
+    ("UPDATE staff SET role = 4294967297 WHERE office = 2", 1),
+    ("UPDATE staff SET number = 2 WHERE office = 2", 1),
+    ("INSERT INTO staff VALUES (77, 1, 'Ghost', 1)", 1),
+    ("UPDATE clients SET number = 2", 1),
+    ("UPDATE clients SET number = -1", 1),
+    ("UPDATE clients SET office = 77", 1),
+    ("UPDATE charges SET number = 2", 1),
+    ("UPDATE charges SET kind = 5", 1),
+    ("UPDATE charges SET value = 0", 1),
+    ("UPDATE products SET overdue_charge = 1", 1),
+    ("UPDATE products SET overdue_charge = 2", 1),
+    ("UPDATE products SET rate = 100001", 1),
+    ("UPDATE products SET min_principal = 1000001", 1),
+    ("UPDATE products SET retired = 2", 1),
+    ("UPDATE loans SET number = 2", 1),
+    ("UPDATE loans SET principal = 1000001", 1),
+    ("UPDATE loans SET periods = 13", 1),
+    ("UPDATE loans SET client = 2", 1),
+    ("UPDATE loans SET product = 2", 1),
+    ("UPDATE loans SET stage = 250", 1),
+    ("UPDATE loans SET stage = 200, disbursed = NULL", 1),
+    ("UPDATE loans SET disbursed = NULL", 1),
+    ("UPDATE loans SET approved = '2024-02-02'", 1),
+    ("UPDATE loans SET disbursed = '2024-03-01'", 1),
+    ("UPDATE entries SET seq = 9 WHERE seq = 2", 1),
+    ("UPDATE entries SET kind = 7 WHERE seq = 2", 1),
+    ("UPDATE entries SET amount = 0 WHERE seq = 2", 1),
+    ("UPDATE entries SET day = '2024-01-31' WHERE seq = 1", 1),
+    ("UPDATE entries SET day = '2024-04-01' WHERE seq = 2", 1),
+    ("UPDATE entries SET staff = '1/9' WHERE seq = 2", 1),
+    ("UPDATE entries SET reversed = 1 WHERE seq = 2", 1),
+    ("UPDATE entries SET receipt = 'R-2' WHERE seq = 2", 1),
+    ("DELETE FROM receipts", 1),
+    ("UPDATE receipts SET seq = 2", 1),
+    (
+        "UPDATE instalments SET paid_principal = 1 WHERE number = 1",
+        1,
+    ),
+    (
+        "UPDATE instalments SET due = '2024-03-02' WHERE number = 1",
+        1,
+    ),
+    ("DELETE FROM instalments WHERE number = 3", 1),
+    (
+        "UPDATE shares SET amount = 1 WHERE seq = 1 AND place = 1",
+        1,
+    ),
+    ("DELETE FROM shares WHERE seq = 1 AND place = 1", 1),
+    ("UPDATE shares SET place = 9 WHERE seq = 1 AND place = 2", 1),
 ];
 
-/// Changes that come after these lines too, and of how many rows. Each leaves what no institution has: a client whom another office
+/// Changes that come after these lines too. Each leaves what no institution has: a client whom another office
 /// alone has, two offices each below the other, the amounts of two entries or of two shares swapped, and a write-off that stands with
 /// a refund after it, though nothing was left to write off or to refund.
 const LATER_CHANGES: [(&str, usize); 5] = [
@@ -126,14 +135,26 @@ const TABLES: [&str; 11] = [
     "SELECT * FROM shares",
 ];
 
-/// The day of the tables stands, and not the one on which they are adopted.
+/// The business day is set, and the tables are adopted again on an earlier one.
+#[derive(Drop)]
+struct DaySet;
+
+impl Trial for DaySet {
+    fn holds<S: Alter + Drop>(
+        &self,
+        alloc: Global,
+        connection: Connection<S>,
+    ) -> Result<bool, Fail> {
+        let set = b"1/1 PUT /business-day {\"day\":\"2024-03-31\"}\n";
+        let (_, tables) = answered_over(alloc, connection, set);
+        let (told, _) = answered_over(alloc, tables, b"1/1 GET /business-day\n");
+        Ok(told.as_slice() == "200 {\"day\":\"2024-03-31\"}\n".as_bytes())
+    }
+}
+
 #[test]
 fn the_old_day_stands(rt: HostRuntime) -> Result<(), Fail> {
-    let tables: Tables = new_tables(rt.alloc())?;
-    let set = b"1/1 PUT /business-day {\"day\":\"2024-03-31\"}\n";
-    let (_, tables) = answered_over(rt.alloc(), tables, set);
-    let (told, _) = answered_over(rt.alloc(), tables, b"1/1 GET /business-day\n");
-    assert!(rt; told.as_slice() == "200 {\"day\":\"2024-03-31\"}\n".as_bytes());
+    assert!(rt; holds(rt.alloc(), &DaySet)?);
     Ok(())
 }
 
@@ -160,17 +181,30 @@ fn office_told<S: Alter>(
     Ok(text)
 }
 
+/// The rows of the head office are read whole.
+#[derive(Drop)]
+struct HeadOffice;
+
+impl Trial for HeadOffice {
+    fn holds<S: Alter + Drop>(
+        &self,
+        alloc: Global,
+        connection: Connection<S>,
+    ) -> Result<bool, Fail> {
+        let (_, tables) = answered_over(alloc, connection, INSTITUTION.as_bytes());
+        let day = Day::parse(b"2024-01-31").ok_or("a day")?;
+        let office = OfficeNo::new(1).ok_or("an office")?;
+        let Ok(mut store) = adopt(alloc, tables, day) else {
+            return Ok(false);
+        };
+        let told = office_told(alloc, &mut store, office)?;
+        Ok(told.as_str() == "Head Manager Manager;Amina;100000 2;")
+    }
+}
+
 #[test]
 fn the_rows_of_an_office(rt: HostRuntime) -> Result<(), Fail> {
-    let (alloc, tables) = (rt.alloc(), new_tables(rt.alloc())?);
-    let (_, tables) = answered_over(alloc, tables, INSTITUTION.as_bytes());
-    let day = Day::parse(b"2024-01-31").ok_or("a day")?;
-    let office = OfficeNo::new(1).ok_or("an office")?;
-    let Ok(mut store) = adopt(alloc, tables, day) else {
-        return Err(Fail::new("an institution"));
-    };
-    let told = office_told(alloc, &mut store, office)?;
-    assert_eq!(rt; told.as_str(), "Head Manager Manager;Amina;100000 2;");
+    assert!(rt; holds(rt.alloc(), &HeadOffice)?);
     Ok(())
 }
 
@@ -184,52 +218,59 @@ fn shown<S: Alter>(alloc: Global, connection: &mut Connection<S>) -> Result<Stri
     Ok(text)
 }
 
-/// Whether the institution of these lines is adopted again, and refused once so many rows are changed so; all rows then stand as they
-/// were.
-fn is_refused<S: Alter + Drop>(
-    alloc: Global,
-    connection: Connection<S>,
-    lines: &str,
-    change: &str,
+/// The institution of these lines is adopted again, and refused once so many rows are changed so; all rows then stand as they were.
+#[derive(Drop)]
+struct Refusal<'a> {
+    lines: &'a str,
+    change: &'static str,
     rows: usize,
-) -> Result<bool, Error>
-    requires { connection.in_transaction ≡ false }
-{
-    let (replies, connection) = answered_over(alloc, connection, lines.as_bytes());
-    let (refused, mut connection) = refused_over(alloc, connection);
-    let changed = connection.execute(change, &[])?;
-    let before = shown(alloc, &mut connection)?;
-    if replies.is_empty() || refused || changed != rows || !connection.is_autocommit() {
-        return Ok(false);
+}
+
+impl Trial for Refusal<'_> {
+    fn holds<S: Alter + Drop>(
+        &self,
+        alloc: Global,
+        connection: Connection<S>,
+    ) -> Result<bool, Fail> {
+        let (replies, connection) = answered_over(alloc, connection, self.lines.as_bytes());
+        let (refused, mut connection) = refused_over(alloc, connection);
+        let changed = connection.execute(self.change, &[])?;
+        let before = shown(alloc, &mut connection)?;
+        if replies.is_empty() || refused || changed != self.rows || !connection.is_autocommit() {
+            return Ok(false);
+        }
+        let (refused, mut connection) = refused_over(alloc, connection);
+        let after = shown(alloc, &mut connection)?;
+        Ok(refused && before.as_str() == after.as_str())
     }
-    let (refused, mut connection) = refused_over(alloc, connection);
-    let after = shown(alloc, &mut connection)?;
-    Ok(refused && before.as_str() == after.as_str())
+}
+
+/// The first of the changes that is not refused after these lines.
+fn first_kept(
+    alloc: Global,
+    lines: &str,
+    changes: &[(&'static str, usize)],
+) -> Result<Option<&'static str>, Fail> {
+    for (change, rows) in changes {
+        let (change, rows) = (*change, *rows);
+        let refusal = Refusal {
+            lines,
+            change,
+            rows,
+        };
+        if !holds(alloc, &refusal)? {
+            return Ok(Some(change));
+        }
+    }
+    Ok(None)
 }
 
 #[test]
 fn each_changed_row_is_refused(rt: HostRuntime) -> Result<(), Fail> {
-    let alloc = rt.alloc();
-    for change in CHANGES {
-        let tables = new_tables(alloc)?;
-        assert!(rt;
-            is_refused(alloc, tables, INSTITUTION, change, 1)?,
-            "{change}"
-        );
-    }
-    Ok(())
-}
-
-#[test]
-fn each_later_change_is_refused(rt: HostRuntime) -> Result<(), Fail> {
-    let alloc = rt.alloc();
-    let lines = format!(in alloc; "{INSTITUTION}{MORE}")?;
-    for (change, rows) in LATER_CHANGES {
-        let tables = new_tables(alloc)?;
-        assert!(rt;
-            is_refused(alloc, tables, lines.as_str(), change, rows)?,
-            "{change}"
-        );
-    }
+    let kept = first_kept(rt.alloc(), INSTITUTION, &CHANGES)?;
+    assert!(rt; kept.is_none(), "{kept:?}");
+    let lines = format!(in rt.alloc(); "{INSTITUTION}{MORE}")?;
+    let kept = first_kept(rt.alloc(), lines.as_str(), &LATER_CHANGES)?;
+    assert!(rt; kept.is_none(), "{kept:?}");
     Ok(())
 }

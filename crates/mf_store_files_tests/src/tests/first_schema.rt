@@ -3,9 +3,9 @@
 ghost use Rattle.std.specs.Prelude.{◌≡◌, false, IsTrue, IfOk};
 
 use super::stops::{MOST_CALLS, PAID, answered, failing_at, stopped};
-use super::{Disks, answered_over, new_tables, refused_over};
-use sqlite::{Alter, Connection, Error, Options};
-use sqlite_disk::Disk;
+use super::{Failing, Trial, answered_over, holds, refused_over};
+use sqlite::{Alter, Connection, Error, Files, Options};
+use sqlite_disk::{Fuse, Memory};
 use std::alloc::Global;
 use std::rt::HostRuntime;
 use std::test::Fail;
@@ -157,56 +157,74 @@ fn is_brought_up<S: Alter + Drop>(
     ))
 }
 
-/// Whether the tables are refused once they are changed so, and then stand as they were.
-fn is_refused<S: Alter + Drop>(
-    alloc: Global,
-    mut connection: Connection<S>,
-    change: &str,
-) -> Result<bool, Error> {
-    if !makes_first(&mut connection) {
-        return Ok(false);
+/// The tables are brought up, and adopted again they are those of the second schema as before.
+#[derive(Drop)]
+struct BroughtUp;
+
+impl Trial for BroughtUp {
+    fn holds<S: Alter + Drop>(
+        &self,
+        alloc: Global,
+        mut connection: Connection<S>,
+    ) -> Result<bool, Fail> {
+        if !makes_first(&mut connection) {
+            return Ok(false);
+        }
+        let (is_first, connection) = is_brought_up(alloc, connection)?;
+        let (is_second, _) = is_brought_up(alloc, connection)?;
+        Ok(is_first && is_second)
     }
-    let _changed = connection.execute(change, &[])?;
-    if !connection.is_autocommit() {
-        return Ok(false);
-    }
-    let schema = number(&mut connection, "SELECT schema FROM meta")?;
-    let (refused, mut connection) = refused_over(alloc, connection);
-    let after = number(&mut connection, "SELECT schema FROM meta")?;
-    Ok(refused && after == schema && connection.schema().tables.len() == 9)
 }
 
 #[test]
 fn tables_are_brought_up_once(rt: HostRuntime) -> Result<(), Fail> {
-    let mut tables = new_tables(rt.alloc())?;
-    if !makes_first(&mut tables) {
-        return Err(Fail::new("tables of the first schema"));
-    }
-    let (is_first, tables) = is_brought_up(rt.alloc(), tables)?;
-    assert!(rt; is_first);
-    let (is_second, _) = is_brought_up(rt.alloc(), tables)?;
-    assert!(rt; is_second);
+    assert!(rt; holds(rt.alloc(), &BroughtUp)?);
     Ok(())
 }
 
+/// The tables are refused once they are changed so, and then stand as they were.
+#[derive(Drop)]
+struct Refusal(&'static str);
+
+impl Trial for Refusal {
+    fn holds<S: Alter + Drop>(
+        &self,
+        alloc: Global,
+        mut connection: Connection<S>,
+    ) -> Result<bool, Fail> {
+        if !makes_first(&mut connection) {
+            return Ok(false);
+        }
+        let _changed = connection.execute(self.0, &[])?;
+        if !connection.is_autocommit() {
+            return Ok(false);
+        }
+        let schema = number(&mut connection, "SELECT schema FROM meta")?;
+        let (refused, mut connection) = refused_over(alloc, connection);
+        let after = number(&mut connection, "SELECT schema FROM meta")?;
+        Ok(refused && after == schema && connection.schema().tables.len() == 9)
+    }
+}
+
+/// Changes of a row, each of which leaves what no institution of the first schema has.
+const CHANGES: [&str; 5] = [
+    "UPDATE entries SET staff = '1/9' WHERE seq = 2",
+    "UPDATE meta SET schema = 3",
+    "UPDATE meta SET schema = 2",
+    "UPDATE offices SET hkey = '.1.'",
+    "UPDATE entries SET day = '2024-04-01' WHERE seq = 2",
+];
+
 #[test]
 fn rows_of_no_institution_are_refused(rt: HostRuntime) -> Result<(), Fail> {
-    let changes = [
-        "UPDATE entries SET staff = '1/9' WHERE seq = 2",
-        "UPDATE meta SET schema = 3",
-        "UPDATE meta SET schema = 2",
-        "UPDATE offices SET hkey = '.1.'",
-        "UPDATE entries SET day = '2024-04-01' WHERE seq = 2",
-    ];
-    for change in changes.iter() {
-        let tables = new_tables(rt.alloc())?;
-        assert!(rt; is_refused(rt.alloc(), tables, *change)?);
+    for change in CHANGES {
+        assert!(rt; holds(rt.alloc(), &Refusal(change))?, "{change}");
     }
     Ok(())
 }
 
 /// The files with the tables, and whether these were made before a file failed.
-fn with_first(alloc: Global, files: Disks) -> Result<(bool, Disks), Fail> {
+fn with_first<D: Failing>(alloc: Global, files: Files<D>) -> Result<(bool, Files<D>), Fail> {
     if !files.log.may_be_used() || !files.db.may_be_used() {
         return Err(Fail::new("a file that can be used"));
     }
@@ -220,7 +238,7 @@ fn with_first(alloc: Global, files: Disks) -> Result<(bool, Disks), Fail> {
 }
 
 /// Whether the files, stopped where they failed, hold the loan if its tables were made; and whether they were adopted.
-fn holds_a_schema(alloc: Global, files: Disks) -> Result<(bool, bool), Fail> {
+fn holds_a_schema<D: Failing>(alloc: Global, files: Files<D>) -> Result<(bool, bool), Fail> {
     let (made, files) = with_first(alloc, files)?;
     if !made {
         let (seen, _) = answered(alloc, stopped(files), LOAN)?;
@@ -231,19 +249,21 @@ fn holds_a_schema(alloc: Global, files: Disks) -> Result<(bool, bool), Fail> {
     Ok((seen.as_slice() == PAID.as_bytes(), !told.is_empty()))
 }
 
+/// Whether each stop of the log, or of the file with the tables, leaves a schema, up to a run without a stop.
+fn leave_schemas<D: Failing>(alloc: Global, of_log: bool) -> Result<bool, Fail> {
+    for calls in 0..MOST_CALLS {
+        let files = failing_at::<D>(alloc, of_log, calls);
+        let (holds, is_adopted) = holds_a_schema(alloc, files)?;
+        if !holds || is_adopted {
+            return Ok(holds);
+        }
+    }
+    Ok(false)
+}
+
 #[test]
 fn each_stop_leaves_a_schema(rt: HostRuntime) -> Result<(), Fail> {
-    for of_log in [true, false] {
-        let mut is_adopted = false;
-        for calls in 0..MOST_CALLS {
-            if !is_adopted {
-                let files = failing_at(rt.alloc(), of_log, calls);
-                let (holds, adopted) = holds_a_schema(rt.alloc(), files)?;
-                assert!(rt; holds);
-                is_adopted = adopted;
-            }
-        }
-        assert!(rt; is_adopted);
-    }
+    assert!(rt; leave_schemas::<Fuse<Memory>>(rt.alloc(), true)?);
+    assert!(rt; leave_schemas::<Fuse<Memory>>(rt.alloc(), false)?);
     Ok(())
 }

@@ -1,13 +1,14 @@
 //! A file that is opened twice, and a connection over a store that was just made.
 
-use super::{Tables, answered_over, fused};
+use super::{answered_over, fused};
 use mf_base::Day;
 use mf_store::Store;
 use mf_store_files::open;
 use mf_store_rows::open_store;
 use mf_wire::run;
 use mf_wire_lines::{WatchedReader, WatchedWriter};
-use sqlite::{Alter, Options};
+use sqlite::{Alter, Connection, Options};
+use sqlite_disk::{Fuse, Memory};
 use sqlite_pager::{PageSize, Pager};
 use sqlite_store::Unopened;
 use std::alloc::Global;
@@ -25,7 +26,7 @@ const SHOW_DAY: &[u8] = b"1/1 GET /business-day\n";
 
 const FIRST_DAY: &str = "200 {\"day\":\"2024-01-31\"}\n";
 
-/// The replies of a store to lines. Over any store, so that it is proved once.
+/// The replies of a store to lines.
 fn told_by<S: Alter>(alloc: Global, store: &mut Store<S>, lines: &[u8]) -> Vec<u8> {
     let mut source = WatchedReader::new(lines);
     let mut sink = WatchedWriter::new(Vec::new(alloc));
@@ -56,9 +57,18 @@ fn a_file_is_opened_twice(rt: HostRuntime) -> Result<(), Fail> {
     Ok(())
 }
 
-/// A connection over a store in memory that was just made.
-fn newly_opened(alloc: Global) -> Result<Tables, Fail> {
-    let files = fused(alloc, u64::MAX, u64::MAX);
+/// What is told of the business day over a connection without tables, in which an institution is made.
+fn told_over<S: Alter + Drop>(alloc: Global, connection: Connection<S>) -> Result<Vec<u8>, Fail> {
+    if !connection.schema().tables.is_empty() || !connection.is_autocommit() {
+        return Err(Fail::new("no tables and no transaction"));
+    }
+    let (told, _) = answered_over(alloc, connection, SHOW_DAY);
+    Ok(told)
+}
+
+/// The same over a store in memory that was just made.
+fn told_newly_opened(alloc: Global) -> Result<Vec<u8>, Fail> {
+    let files = fused::<Fuse<Memory>>(alloc, u64::MAX, u64::MAX);
     let Some(size) = PageSize::new(1024) else {
         return Err(Fail::new("a size of pages"));
     };
@@ -70,22 +80,16 @@ fn newly_opened(alloc: Global) -> Result<Tables, Fail> {
     };
     match unopened.create() {
         Ok(store) => match open_store(alloc, store) {
-            Ok(connection) => Ok(connection),
+            Ok(connection) => told_over(alloc, connection),
             Err(_) => Err(Fail::new("a connection")),
         },
         Err(_) => Err(Fail::new("a store")),
     }
 }
 
-/// It has no tables, and those of an institution are made there.
 #[test]
 fn a_store_is_opened(rt: HostRuntime) -> Result<(), Fail> {
-    let connection = newly_opened(rt.alloc())?;
-    assert!(rt; connection.schema().tables.is_empty());
-    if !connection.is_autocommit() {
-        return Err(Fail::new("no transaction"));
-    }
-    let (told, _) = answered_over(rt.alloc(), connection, SHOW_DAY);
+    let told = told_newly_opened(rt.alloc())?;
     assert!(rt; told.as_slice() == FIRST_DAY.as_bytes());
     Ok(())
 }

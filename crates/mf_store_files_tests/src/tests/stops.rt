@@ -1,8 +1,8 @@
 //! A stop at each call of each file, while an institution is made and its first requests are answered.
 
-use super::{Disks, answered_over, fused};
-use sqlite::{Connection, Options};
-use sqlite_disk::{Crash, Disk};
+use super::{Failing, answered_over, fused};
+use sqlite::{Connection, Files, Options};
+use sqlite_disk::{Fuse, Memory};
 use std::alloc::Global;
 use std::rt::HostRuntime;
 use std::test::Fail;
@@ -43,11 +43,11 @@ pub(super) const PAID: &str =
 pub(super) const MOST_CALLS: u64 = 100_000;
 
 /// The replies to lines over what files hold, up to where they fail, and the files after.
-pub(super) fn answered(
+pub(super) fn answered<D: Failing>(
     alloc: Global,
-    mut files: Disks,
+    mut files: Files<D>,
     lines: &[u8],
-) -> Result<(Vec<u8>, Disks), Fail> {
+) -> Result<(Vec<u8>, Files<D>), Fail> {
     if !files.log.may_be_used() || !files.db.may_be_used() {
         return Err(Fail::new("a file that can be used"));
     }
@@ -61,7 +61,7 @@ pub(super) fn answered(
 }
 
 /// The files after a stop: what was not synced is lost, and they work again.
-pub(super) fn stopped(mut files: Disks) -> Disks {
+pub(super) fn stopped<D: Failing>(mut files: Files<D>) -> Files<D> {
     files.log.crash();
     files.db.crash();
     files
@@ -77,11 +77,11 @@ fn first_lines(alloc: Global, count: usize) -> Result<Vec<u8>, Fail> {
 }
 
 /// What is told of the institution after each beginning of the lines, none and all among them.
-fn beginnings(alloc: Global) -> Result<Vec<Vec<u8>>, Fail> {
+fn beginnings<D: Failing>(alloc: Global) -> Result<Vec<Vec<u8>>, Fail> {
     let mut told = Vec::new(alloc);
     for count in 0..=LINES.len() {
         let lines = first_lines(alloc, count)?;
-        let (_, files) = answered(alloc, fused(alloc, u64::MAX, u64::MAX), &lines)?;
+        let (_, files) = answered(alloc, fused::<D>(alloc, u64::MAX, u64::MAX), &lines)?;
         let (seen, _) = answered(alloc, files, SEEN.as_bytes())?;
         told.push(seen)?;
     }
@@ -98,7 +98,11 @@ fn successes(replies: &[u8]) -> usize {
 
 /// Whether the files, stopped where they failed, hold each request that was answered, and at most the next one; and how many
 /// were answered.
-fn holds_a_beginning(alloc: Global, told: &[Vec<u8>], files: Disks) -> Result<(bool, usize), Fail> {
+fn holds_a_beginning<D: Failing>(
+    alloc: Global,
+    told: &[Vec<u8>],
+    files: Files<D>,
+) -> Result<(bool, usize), Fail> {
     let lines = first_lines(alloc, LINES.len())?;
     let (replies, files) = answered(alloc, files, &lines)?;
     let (seen, _) = answered(alloc, stopped(files), SEEN.as_bytes())?;
@@ -111,18 +115,23 @@ fn holds_a_beginning(alloc: Global, told: &[Vec<u8>], files: Disks) -> Result<(b
     Ok((seen == *before || is_next, done))
 }
 
+/// What is told of the loan once the files were closed and opened again.
+fn told_again<D: Failing>(alloc: Global) -> Result<Vec<u8>, Fail> {
+    let lines = first_lines(alloc, 8)?;
+    let (_, files) = answered(alloc, fused::<D>(alloc, u64::MAX, u64::MAX), &lines)?;
+    let (told, _) = answered(alloc, files, b"1/1 GET /loans/0001-000001\n")?;
+    Ok(told)
+}
+
 #[test]
 fn a_closed_institution_is_opened_again(rt: HostRuntime) -> Result<(), Fail> {
-    let alloc = rt.alloc();
-    let lines = first_lines(alloc, 8)?;
-    let (_, files) = answered(alloc, fused(alloc, u64::MAX, u64::MAX), &lines)?;
-    let (told, _) = answered(alloc, files, b"1/1 GET /loans/0001-000001\n")?;
+    let told = told_again::<Fuse<Memory>>(rt.alloc())?;
     assert!(rt; told.as_slice() == PAID.as_bytes());
     Ok(())
 }
 
 /// Empty files of which the log, or the one with the tables, fails after so many calls.
-pub(super) fn failing_at(alloc: Global, of_log: bool, calls: u64) -> Disks {
+pub(super) fn failing_at<D: Failing>(alloc: Global, of_log: bool, calls: u64) -> Files<D> {
     if of_log {
         fused(alloc, calls, u64::MAX)
     } else {
@@ -130,21 +139,25 @@ pub(super) fn failing_at(alloc: Global, of_log: bool, calls: u64) -> Disks {
     }
 }
 
+/// Whether each stop of the log, or of the file with the tables, leaves a beginning, up to a run without a stop.
+fn leave_beginnings<D: Failing>(alloc: Global, of_log: bool) -> Result<bool, Fail> {
+    let told = beginnings::<D>(alloc)?;
+    for calls in 0..MOST_CALLS {
+        let files = failing_at::<D>(alloc, of_log, calls);
+        let (holds, done) = holds_a_beginning(alloc, &told, files)?;
+        if !holds {
+            return Ok(false);
+        }
+        if done == LINES.len() {
+            return Ok(true);
+        }
+    }
+    Ok(false)
+}
+
 #[test]
 fn each_stop_leaves_a_beginning(rt: HostRuntime) -> Result<(), Fail> {
-    let alloc = rt.alloc();
-    let told = beginnings(alloc)?;
-    for of_log in [true, false] {
-        let mut is_whole = false;
-        for calls in 0..MOST_CALLS {
-            if !is_whole {
-                let files = failing_at(alloc, of_log, calls);
-                let (holds, done) = holds_a_beginning(alloc, &told, files)?;
-                assert!(rt; holds);
-                is_whole = done == LINES.len();
-            }
-        }
-        assert!(rt; is_whole);
-    }
+    assert!(rt; leave_beginnings::<Fuse<Memory>>(rt.alloc(), true)?);
+    assert!(rt; leave_beginnings::<Fuse<Memory>>(rt.alloc(), false)?);
     Ok(())
 }
