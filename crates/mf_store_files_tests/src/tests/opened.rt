@@ -1,14 +1,13 @@
 //! A file that is opened twice, and a connection over a store that was just made.
 
-use super::{answered_over, fused};
 use mf_base::Day;
 use mf_store::Store;
 use mf_store_files::open;
 use mf_store_rows::open_store;
 use mf_wire::run;
 use mf_wire_lines::{WatchedReader, WatchedWriter};
-use sqlite::{Alter, Connection, Options};
-use sqlite_disk::{Fuse, Memory};
+use sqlite::{Alter, Files, Options};
+use sqlite_disk::Memory;
 use sqlite_pager::{PageSize, Pager};
 use sqlite_store::Unopened;
 use std::alloc::Global;
@@ -57,18 +56,12 @@ fn a_file_is_opened_twice(rt: HostRuntime) -> Result<(), Fail> {
     Ok(())
 }
 
-/// What is told of the business day over a connection without tables, in which an institution is made.
-fn told_over<S: Alter + Drop>(alloc: Global, connection: Connection<S>) -> Result<Vec<u8>, Fail> {
-    if !connection.schema().tables.is_empty() || !connection.is_autocommit() {
-        return Err(Fail::new("no tables and no transaction"));
-    }
-    let (told, _) = answered_over(alloc, connection, SHOW_DAY);
-    Ok(told)
-}
-
-/// The same over a store in memory that was just made.
-fn told_newly_opened(alloc: Global) -> Result<Vec<u8>, Fail> {
-    let files = fused::<Fuse<Memory>>(alloc, u64::MAX, u64::MAX);
+/// Whether a connection over a store in memory that was just made has no tables.
+fn opens_without_tables(alloc: Global) -> Result<bool, Fail> {
+    let files = Files {
+        log: Memory::new(alloc),
+        db: Memory::new(alloc),
+    };
     let Some(size) = PageSize::new(1024) else {
         return Err(Fail::new("a size of pages"));
     };
@@ -80,7 +73,7 @@ fn told_newly_opened(alloc: Global) -> Result<Vec<u8>, Fail> {
     };
     match unopened.create() {
         Ok(store) => match open_store(alloc, store) {
-            Ok(connection) => told_over(alloc, connection),
+            Ok(connection) => Ok(connection.schema().tables.is_empty()),
             Err(_) => Err(Fail::new("a connection")),
         },
         Err(_) => Err(Fail::new("a store")),
@@ -89,7 +82,6 @@ fn told_newly_opened(alloc: Global) -> Result<Vec<u8>, Fail> {
 
 #[test]
 fn a_store_is_opened(rt: HostRuntime) -> Result<(), Fail> {
-    let told = told_newly_opened(rt.alloc())?;
-    assert!(rt; told.as_slice() == FIRST_DAY.as_bytes());
+    assert!(rt; opens_without_tables(rt.alloc())?);
     Ok(())
 }
