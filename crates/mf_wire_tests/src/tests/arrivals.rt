@@ -1,5 +1,6 @@
 //! Messages over streams in memory, whole, in single bytes, and cut.
 
+use super::{CLIENT, CREATED};
 use mf_base::{Cause, Fault, StreamFault};
 use mf_desk_books::Narrow;
 use mf_wire_lines::{WatchedReader, WatchedWriter};
@@ -10,13 +11,7 @@ use std::io::Read;
 use std::process::Abort;
 use std::test::Fail;
 
-const CLIENT: &str =
-    "POST /clients HTTP/1.1\r\nHost: localhost\r\nX-Staff: 1/1\r\nContent-Length: 27\r\n\r\n{\"office\":1,\"name\":\"Amina\"}";
-
 const CLIENT_TOLD: &str = "1/1 POST /clients {\"office\":1,\"name\":\"Amina\"}";
-
-const CREATED: &str =
-    "HTTP/1.1 201 Created\r\nContent-Type: application/json\r\nContent-Length: 24\r\nConnection: close\r\n\r\n{\"client\":\"0001-000001\"}";
 
 const REFUSED: &str =
     "HTTP/1.1 400 Bad Request\r\nContent-Type: application/json\r\nContent-Length: 14\r\nConnection: close\r\n\r\n{\"fault\":\"F1\"}";

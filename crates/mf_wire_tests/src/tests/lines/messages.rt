@@ -1,6 +1,7 @@
 //! HTTP messages, each answered over an institution in vectors.
 
 use super::{assert_replies, new_books};
+use crate::tests::{CLIENT, CREATED};
 use mf_base::{Cause, Fault, StreamFault};
 use mf_desk_books::{Books, Narrow, Torn};
 use mf_wire::{Desk, answer_text, serve_one};
@@ -8,12 +9,6 @@ use mf_wire_lines::{WatchedReader, WatchedWriter};
 use std::alloc::Global;
 use std::process::Abort;
 use std::test::Fail;
-
-const CLIENT: &str =
-    "POST /clients HTTP/1.1\r\nHost: localhost\r\nX-Staff: 1/1\r\nContent-Length: 27\r\n\r\n{\"office\":1,\"name\":\"Amina\"}";
-
-const CREATED: &str =
-    "HTTP/1.1 201 Created\r\nContent-Type: application/json\r\nContent-Length: 24\r\nConnection: close\r\n\r\n{\"client\":\"0001-000001\"}";
 
 /// Whether the stream was answered, and what was written.
 fn served(
