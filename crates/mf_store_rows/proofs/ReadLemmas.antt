@@ -92,13 +92,3 @@ unchanged_then P Q a b c first second =
           let early = second.premise clean in
           first.stop early (λ live. (its live).0) trees (second.stop clean (λ live. kept (first.same early live (its (first.was_open early live)).0) (its (first.was_open early live)).1) trees may);
     }
-
--- a reading of the first of two groups
-pub unchanged_first : (P Q : Schema → Type 0) (a b : State) → IsUnchangedUnder P a b → IsUnchangedUnder (λ k. P k × Q k) a b
-unchanged_first P Q a b first = record {
-  premise = first.premise;
-  was_open = first.was_open;
-  same = λ clean live its. first.same clean live its.0;
-  shuts = first.shuts;
-  stop = λ clean its. first.stop clean (λ live. (its live).0);
-}

@@ -8,7 +8,7 @@ use Rattle.sqlite.specs.Files.{AreFoundIn}
 use Rattle.sqlite.specs.Order.{Row, column, value_cmp}
 use Rattle.sqlite_trees.specs.declared.store.Shape.{Shape}
 use Rattle.sqlite_trees.specs.Tree.{Trees, rowid, IsAscending}
-use Rattle.sqlite_trees.specs.View.{View, IsShaped, IsOrdered}
+use Rattle.sqlite_trees.specs.View.{IsShaped, IsOrdered}
 use Rattle.sqlite_trees.specs.Objects.{catalog_tree, IsListed}
 use Rattle.sqlite_trees.specs.Props.{IsOrdered-prop}
 use Rattle.sqlite_schema.specs.declared.schema.Column.{Column}
@@ -80,12 +80,6 @@ row_columns its t trees (e ∷ raw) keyless typed =
 each_table : (P : Table → Type 0) (ts : List Table) → ((t : Table) → Has ts t → P t) → AllByRecursion P ts
 each_table P [] h = tt
 each_table P (t ∷ ts) h = (h t (inl refl), each_table P ts (λ u there. h u (inr there)))
-
--- a store that is not broken
-pub rowids_of_store : (k : Schema) (v : View) (trees : Trees) → (v.is_broken ≡ false → IsListed (v.trees catalog_tree) v.shape v.reals) → (v.is_broken ≡ false → IsOrdered v.shape v.trees) → v.is_broken ≡ false → trees ≡ v.trees → IsSound k trees → HaveRowidsUnder k trees
-rowids_of_store k v trees listed ordered unbroken same sound =
-    let its = subst (IsSound k) same sound in
-    subst (HaveRowidsUnder k) (sym same) (each_table (λ (t : Table). HasRowids (v.trees t.tree)) k.tables (λ t there. rowids_in_order v.trees v.shape v.reals k t (listed unbroken) (ordered unbroken) its there))
 
 -- trees with no rows have these in order
 abbrev pub AreLow : Schema → Type 0

@@ -10,6 +10,6 @@ mod tables;
 mod whole;
 
 pub use groups::Group;
-pub use opened::{open_file, open_store};
+pub use opened::open_file;
 pub use rows::{read_all, read_any};
 pub use whole::{Whole, every};

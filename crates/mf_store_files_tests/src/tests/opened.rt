@@ -1,15 +1,11 @@
-//! A file that is opened twice, and a connection over a store that was just made.
+//! A file that is opened twice.
 
 use mf_base::Day;
 use mf_store::Store;
 use mf_store_files::open;
-use mf_store_rows::open_store;
 use mf_wire::run;
 use mf_wire_lines::{WatchedReader, WatchedWriter};
-use sqlite::{Alter, Files, Options};
-use sqlite_disk::Memory;
-use sqlite_pager::{PageSize, Pager};
-use sqlite_store::Unopened;
+use sqlite::Alter;
 use std::alloc::Global;
 use std::fs;
 use std::rt::HostRuntime;
@@ -53,35 +49,5 @@ fn a_file_is_opened_twice(rt: HostRuntime) -> Result<(), Fail> {
     assert!(rt; second.as_slice() == FIRST_DAY.as_bytes());
     fs::remove_file(&rt, LOG)?;
     fs::remove_file(&rt, FILE)?;
-    Ok(())
-}
-
-/// Whether a connection over a store in memory that was just made has no tables.
-fn opens_without_tables(alloc: Global) -> Result<bool, Fail> {
-    let files = Files {
-        log: Memory::new(alloc),
-        db: Memory::new(alloc),
-    };
-    let Some(size) = PageSize::new(1024) else {
-        return Err(Fail::new("a size of pages"));
-    };
-    let Ok(pager) = Pager::new(alloc, files, size, Options::new(1)) else {
-        return Err(Fail::new("a pager"));
-    };
-    let Ok(unopened) = Unopened::new(alloc, pager, &[]) else {
-        return Err(Fail::new("files"));
-    };
-    match unopened.create() {
-        Ok(store) => match open_store(alloc, store) {
-            Ok(connection) => Ok(connection.schema().tables.is_empty()),
-            Err(_) => Err(Fail::new("a connection")),
-        },
-        Err(_) => Err(Fail::new("a store")),
-    }
-}
-
-#[test]
-fn a_store_is_opened(rt: HostRuntime) -> Result<(), Fail> {
-    assert!(rt; opens_without_tables(rt.alloc())?);
     Ok(())
 }
