@@ -11,9 +11,8 @@ ghost use Rattle.microloan_commands.specs.Printed.{HasLongGrace};
 ghost use Rattle.microloan.specs.Status.{IsPrintStatus};
 
 use crate::telling::{print_made, refuse_words, tell_refusal};
-use crate::working::{
-    answer_input, answer_input_in_memory, collect_input, print_report, serve_port,
-};
+use crate::working::{Work, answer_input_in_memory, work_on};
+use mf_base::Day;
 use mf_store_files::open;
 use microloan_commands::schedule;
 use microloan_words::{
@@ -60,12 +59,9 @@ fn batch(rt: &HostRuntime, asked: &BatchWords<'_>) -> io::Result<u8>
     requires { asked.now.day ≤ last_entered_day }
     ensures { IfOk result IsPrintStatus }
 {
-    let Some(file) = &asked.file else {
-        return answer_input_in_memory(rt, asked.day);
-    };
-    match open(rt, file.as_str(), asked.day) {
-        Ok(mut store) => answer_input(rt, &mut store),
-        Err(fault) => tell_refusal(rt, fault),
+    match &asked.file {
+        None => answer_input_in_memory(rt, asked.day),
+        Some(file) => work_over(rt, file.as_str(), asked.day, Work::Answer),
     }
 }
 
@@ -74,28 +70,45 @@ fn serve(rt: &HostRuntime, asked: &ServeWords<'_>) -> io::Result<u8>
     requires { IsServeWithinLimits asked.now }
     ensures { IfOk result IsPrintStatus }
 {
-    match open(rt, asked.file.as_str(), asked.day) {
-        Ok(mut store) => serve_port(rt, &mut store, asked.port, asked.count),
-        Err(fault) => tell_refusal(rt, fault),
-    }
+    let work = Work::Serve {
+        port: asked.port,
+        connections: asked.count,
+    };
+    work_over(rt, asked.file.as_str(), asked.day, work)
 }
 
 /// Collects a sheet over a file, which is opened before the sheet is read.
 fn collect(rt: &HostRuntime, asked: &StaffWords<'_>) -> io::Result<u8>
     ensures { IfOk result IsPrintStatus }
 {
-    match open(rt, asked.file.as_str(), default_day()) {
-        Ok(mut store) => collect_input(rt, &mut store, asked.staff),
-        Err(fault) => tell_refusal(rt, fault),
-    }
+    work_over(
+        rt,
+        asked.file.as_str(),
+        default_day(),
+        Work::Collect(asked.staff),
+    )
 }
 
 /// Prints the report of arrears of a file.
 fn report(rt: &HostRuntime, asked: &StaffWords<'_>) -> io::Result<u8>
     ensures { IfOk result IsPrintStatus }
 {
-    match open(rt, asked.file.as_str(), default_day()) {
-        Ok(mut store) => print_report(rt, &mut store, asked.staff),
+    work_over(
+        rt,
+        asked.file.as_str(),
+        default_day(),
+        Work::Report(asked.staff),
+    )
+}
+
+/// Opens a file, works over the institution that it holds, and gives the program's status. The only function that holds a store
+/// of a known type: the prover reads all of `sqlite` for each.
+fn work_over(rt: &HostRuntime, file: &str, day: Day, work: Work) -> io::Result<u8>
+    requires { day ≤ last_entered_day }
+    ensures { IfOk result IsPrintStatus }
+{
+    match open(rt, file, day) {
+        Ok(mut store) => work_on(rt, &mut store, work),
         Err(fault) => tell_refusal(rt, fault),
     }
 }

@@ -13,6 +13,31 @@ use microloan_commands::{answer_lines, collect_sheet, report, serve_connections}
 use std::io;
 use std::net::{Ipv4Addr, TcpListener};
 
+/// What is done over a file.
+#[derive(Drop)]
+pub enum Work {
+    /// Request lines on standard input are answered.
+    Answer,
+    /// HTTP messages on a port of this machine are answered, one a connection.
+    Serve { port: u16, connections: u64 },
+    /// The sheet on standard input is collected, for this member of staff.
+    Collect(Caller),
+    /// The report of arrears is printed, as this member of staff sees it.
+    Report(Caller),
+}
+
+/// Works over the store of a file, and gives the program's status.
+pub fn work_on<S: InstitutionStore>(rt: &HostRuntime, store: &mut S, work: Work) -> io::Result<u8>
+    ensures { IfOk result IsPrintStatus }
+{
+    match work {
+        Work::Answer => answer_input(rt, store),
+        Work::Serve { port, connections } => serve_port(rt, store, port, connections),
+        Work::Collect(staff) => collect_input(rt, store, staff),
+        Work::Report(staff) => print_report(rt, store, staff),
+    }
+}
+
 /// Answers the request lines on standard input over a new institution in memory, and gives the program's status.
 pub fn answer_input_in_memory<R: Print + Eprint + Input + AllocGlobal>(
     rt: &R,
@@ -28,7 +53,7 @@ pub fn answer_input_in_memory<R: Print + Eprint + Input + AllocGlobal>(
 }
 
 /// Answers the request lines on standard input, and gives the program's status.
-pub fn answer_input<R: Print + Eprint + Input + AllocGlobal, S: InstitutionStore>(
+fn answer_input<R: Print + Eprint + Input + AllocGlobal, S: InstitutionStore>(
     rt: &R,
     store: &mut S,
 ) -> io::Result<u8>
@@ -42,7 +67,7 @@ pub fn answer_input<R: Print + Eprint + Input + AllocGlobal, S: InstitutionStore
 
 /// Answers the HTTP messages of so many connections to a port of this machine, and gives the program's status. A port
 /// that can't be had can't be read.
-pub fn serve_port<S: InstitutionStore>(
+fn serve_port<S: InstitutionStore>(
     rt: &HostRuntime,
     store: &mut S,
     port: u16,
@@ -58,7 +83,7 @@ pub fn serve_port<S: InstitutionStore>(
 }
 
 /// Collects the sheet on standard input, and gives the program's status.
-pub fn collect_input<R: Print + Eprint + Input + AllocGlobal, S: InstitutionStore>(
+fn collect_input<R: Print + Eprint + Input + AllocGlobal, S: InstitutionStore>(
     rt: &R,
     store: &mut S,
     staff: Caller,
@@ -72,7 +97,7 @@ pub fn collect_input<R: Print + Eprint + Input + AllocGlobal, S: InstitutionStor
 }
 
 /// Prints the report of arrears, and gives the program's status.
-pub fn print_report<R: Print + Eprint + AllocGlobal, S: InstitutionStore>(
+fn print_report<R: Print + Eprint + AllocGlobal, S: InstitutionStore>(
     rt: &R,
     store: &mut S,
     staff: Caller,

@@ -47,6 +47,14 @@ fn with_option<'a>(command: Command<'a>, option: Arg<'a>) -> Result<Command<'a>,
     command.arg(option)
 }
 
+/// A command with its line in help, and the text behind its options.
+fn described<'a>(alloc: Global, name: &'a str, about: &'a str, after: &'a str) -> Command<'a>
+    ensures app { app_of result ≡ new_app name.entry.now }
+    ensures local { (fields_of result).has_globals ≡ false }
+{
+    Command::new(alloc, name).about(about).after_help(after)
+}
+
 /// `schedule` with the options that say which loan.
 fn loan_options<'a>(alloc: Global) -> Result<Command<'a>, AllocError>
     ensures app { IfOk result (λ c. app_of c ≡ loan_app) }
@@ -89,14 +97,15 @@ fn schedule_named<'a>(alloc: Global) -> Command<'a>
     ensures app { app_of result ≡ new_app (codes "schedule") }
     ensures local { (fields_of result).has_globals ≡ false }
 {
-    Command::new(alloc, "schedule")
-        .about("Print the schedule of a loan, without charges")
-        .override_usage(
-            "microloan schedule --method <METHOD> --principal <CENTS> --rate <RATE>\n           --periods <COUNT> --day <DAY> [OPTIONS]",
-        )
-        .after_help(
-            "Methods:\n  flat                         equal principal, interest on the whole principal\n  declining-equal-principal    equal principal, interest on what is left\n  declining-equal-instalments  equal instalments, interest on what is left\n\nEach grace is 0 to 359 first instalments, and less than their number.\n\nExample: 1000.00 at 12 percent a year over three months\n  microloan schedule --method declining-equal-principal \\\n    --principal 100000 --rate 1200 --periods 3 --day 2024-01-31",
-        )
+    let command = described(
+        alloc,
+        "schedule",
+        "Print the schedule of a loan, without charges",
+        "Methods:\n  flat                         equal principal, interest on the whole principal\n  declining-equal-principal    equal principal, interest on what is left\n  declining-equal-instalments  equal instalments, interest on what is left\n\nEach grace is 0 to 359 first instalments, and less than their number.\n\nExample: 1000.00 at 12 percent a year over three months\n  microloan schedule --method declining-equal-principal \\\n    --principal 100000 --rate 1200 --periods 3 --day 2024-01-31",
+    );
+    command.override_usage(
+        "microloan schedule --method <METHOD> --principal <CENTS> --rate <RATE>\n           --periods <COUNT> --day <DAY> [OPTIONS]",
+    )
 }
 
 /// The command `schedule`.
@@ -171,11 +180,12 @@ fn batch_command<'a>(alloc: Global) -> Result<Command<'a>, AllocError>
         "PATH",
         "The file that holds the institution; none: memory",
     );
-    let command = Command::new(alloc, "batch")
-        .about("Answer request lines")
-        .after_help(
-            "Each line of standard input is `caller method path`, then a space and a JSON\nbody where the request has one. Each reply is a status, a space and a body.\ndocs/routes.md has every request with its members and replies.\n\nA file that is missing or empty gets a new institution. Days are 2000-01-01 to\n2099-12-31.\n\nExample:\n  echo '1/1 POST /clients {\"office\":1,\"name\":\"Amina\"}' | microloan batch",
-        );
+    let command = described(
+        alloc,
+        "batch",
+        "Answer request lines",
+        "Each line of standard input is `caller method path`, then a space and a JSON\nbody where the request has one. Each reply is a status, a space and a body.\ndocs/routes.md has every request with its members and replies.\n\nA file that is missing or empty gets a new institution. Days are 2000-01-01 to\n2099-12-31.\n\nExample:\n  echo '1/1 POST /clients {\"office\":1,\"name\":\"Amina\"}' | microloan batch",
+    );
     let command = with_option(command, file)?;
     with_option(command, day_option(alloc))
 }
@@ -193,12 +203,13 @@ fn serve_command<'a>(alloc: Global) -> Result<Command<'a>, AllocError>
         "0",
         "Connections to serve; 0: without end",
     );
-    let command = Command::new(alloc, "serve")
-        .about("Answer HTTP messages, one a connection")
-        .after_help(
-            "Each message names who asks in its field X-Staff, as 1/1. Connections are served\none after the other, so a slow client holds up the others.\n\nA file that is missing or empty gets a new institution. Days are 2000-01-01 to\n2099-12-31.\n\nExample:\n  microloan serve --file desk.db --port 8080\n  curl -H 'X-Staff: 1/1' http://127.0.0.1:8080/offices",
-        );
-    let command = with_option(command, file_option(alloc))?;
+    let texts = described(
+        alloc,
+        "serve",
+        "Answer HTTP messages, one a connection",
+        "Each message names who asks in its field X-Staff, as 1/1. Connections are served\none after the other, so a slow client holds up the others.\n\nA file that is missing or empty gets a new institution. Days are 2000-01-01 to\n2099-12-31.\n\nExample:\n  microloan serve --file desk.db --port 8080\n  curl -H 'X-Staff: 1/1' http://127.0.0.1:8080/offices",
+    );
+    let command = with_option(texts, file_option(alloc))?;
     let command = with_option(command, port)?;
     let command = with_option(command, count)?;
     with_option(command, day_option(alloc))
@@ -230,11 +241,12 @@ fn collect_command<'a>(alloc: Global) -> Result<Command<'a>, AllocError>
     ensures app { IfOk result (λ c. app_of c ≡ staff_app (codes "collect")) }
     ensures local { IfOk result (λ c. (fields_of c).has_globals ≡ false) }
 {
-    let command = Command::new(alloc, "collect")
-        .about("Enter the repayments of a collection sheet")
-        .after_help(
-            "Standard input is the sheet, CSV with the columns receipt,loan,date,amount, at\nmost 1048576 bytes. Standard output is the sheet with a fifth column, result:\nentered, repeated or the number of a refusal. A sheet may be sent again.\n\nExample:\n  microloan collect --file desk.db --staff 1/1 < sheet.csv > results.csv",
-        );
+    let command = described(
+        alloc,
+        "collect",
+        "Enter the repayments of a collection sheet",
+        "Standard input is the sheet, CSV with the columns receipt,loan,date,amount, at\nmost 1048576 bytes. Standard output is the sheet with a fifth column, result:\nentered, repeated or the number of a refusal. A sheet may be sent again.\n\nExample:\n  microloan collect --file desk.db --staff 1/1 < sheet.csv > results.csv",
+    );
     with_staff(alloc, command, "collect")
 }
 
@@ -243,11 +255,12 @@ fn report_command<'a>(alloc: Global) -> Result<Command<'a>, AllocError>
     ensures app { IfOk result (λ c. app_of c ≡ staff_app (codes "report")) }
     ensures local { IfOk result (λ c. (fields_of c).has_globals ≡ false) }
 {
-    let command = Command::new(alloc, "report")
-        .about("Print the report of arrears")
-        .after_help(
-            "A line for the office of the one who asks and for each office below it, by\nnumber, and a line for all. The columns: office, active loans, outstanding\nprincipal, then that of loans 1-30, 31-60, 61-90 and over 90 days overdue, and\nthe percentage more than 30 days overdue.\n\nExample:\n  microloan report --file desk.db --staff 1/1",
-        );
+    let command = described(
+        alloc,
+        "report",
+        "Print the report of arrears",
+        "A line for the office of the one who asks and for each office below it, by\nnumber, and a line for all. The columns: office, active loans, outstanding\nprincipal, then that of loans 1-30, 31-60, 61-90 and over 90 days overdue, and\nthe percentage more than 30 days overdue.\n\nExample:\n  microloan report --file desk.db --staff 1/1",
+    );
     with_staff(alloc, command, "report")
 }
 
@@ -266,11 +279,13 @@ fn bare_program<'a>(alloc: Global) -> Command<'a>
     ensures app { app_of result ≡ bare_app }
     ensures local { (fields_of result).has_globals ≡ false }
 {
-    Command::new(alloc, "microloan")
-        .about("The loan desk of a microfinance institution")
-        .after_help(
-            "A command's options: microloan batch --help, and so on\n\nExit status: 0 done (refused requests included), 1 a fault, 2 wrong words.",
-        )
+    let texts = described(
+        alloc,
+        "microloan",
+        "The loan desk of a microfinance institution",
+        "A command's options: microloan batch --help, and so on\n\nExit status: 0 done (refused requests included), 1 a fault, 2 wrong words.",
+    );
+    texts
         .subcommand_required(true)
         .disable_help_subcommand(true)
 }
