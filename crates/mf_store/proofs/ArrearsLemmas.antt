@@ -16,7 +16,7 @@ use Rattle.mf_account.proofs.ActiveLemmas.{active-where_open}
 use Rattle.mf_model.specs.Store.{rows_of}
 use Rattle.mf_model.specs.Tree.{kept, seen_by, parent_of, Above, Ascending}
 use Rattle.mf_office.specs.Tree.{is_at_or_below}
-use Rattle.mf_store.specs.Arrears.{aged_rows, line_at}
+use Rattle.mf_store_values.specs.Arrears.{aged_rows, line_at}
 
 -- ---- one loan
 

@@ -1,6 +1,5 @@
--- What the rows of a loan's instalments are read as.
-use Rattle.std.proofs.Common.{◌≡◌, ◌+◌, ℕ, pos, List, [], ◌∷◌, map, filter, length, Option, None, Some, refl, ap, ◌∙◌, arith}
-use Rattle.std.specs.Prelude.{slice_index}
+-- The rows of a loan's instalments.
+use Rattle.std.proofs.Common.{◌≡◌, ◌+◌, ℕ, List, [], ◌∷◌, map, filter, Option, None, Some, refl, ap, ◌∙◌}
 use Rattle.std.specs.List.{AllByRecursion}
 use Rattle.std.proofs.lemmas.List.Elements.{All-head, All-tail}
 use Rattle.mf_alloc.specs.Sums.{Sums, IsWhole, AreWhole}
@@ -14,30 +13,11 @@ use Rattle.mf_model.specs.Store.{ledger_at, rows_at}
 use Rattle.mf_model.proofs.AccountLemmas.{account_sound}
 use Rattle.mf_store_records.specs.Rows.{instalment_row, is_instalment_of}
 use Rattle.mf_store_accounts.specs.Flat.{tables_of, instalment_in, numbered_from, instalments_kept, kept_of, had_by}
-use Rattle.mf_store.proofs.CatalogueLemmas.{amount_is}
-use Rattle.mf_store.proofs.EnteredLemmas.{loan_sound, map_map}
-use Rattle.mf_store.proofs.LoanRowLemmas.{loan_shown}
+use Rattle.mf_store_changes.proofs.EnteredLemmas.{loan_sound}
+use Rattle.mf_store_accounts.proofs.ListLemmas.{map_map}
+use Rattle.mf_store_changes.proofs.LoanRowLemmas.{loan_shown}
 
 -- ---- four sums
-
-same_amounts : (xs ys : List ℕ) → map pos xs ≡ map pos ys → xs ≡ ys
-same_amounts [] [] e = refl
-same_amounts [] (y ∷ ys) e = absurd (let never : [] ≡ pos y ∷ map pos ys = e in cc)
-same_amounts (x ∷ xs) [] e = absurd (let never : pos x ∷ map pos xs ≡ [] = e in cc)
-same_amounts (x ∷ xs) (y ∷ ys) e =
-    let whole : pos x ∷ map pos xs ≡ pos y ∷ map pos ys = e in
-    let first : pos x ≡ pos y = cc in
-    let rest : map pos xs ≡ map pos ys = cc in
-    λ t. amount_is x y first t ∷ same_amounts xs ys rest t
-
--- four of them, one by one
-pub same_four : (xs ys : List ℕ) → length ys ≡ 4 → map pos xs ≡ pos (slice_index ys 0) ∷ pos (slice_index ys 1) ∷ pos (slice_index ys 2) ∷ pos (slice_index ys 3) ∷ [] → xs ≡ ys
-same_four xs [] four e = absurd (omega (arith, four))
-same_four xs (a ∷ []) four e = absurd (omega (arith, four))
-same_four xs (a ∷ b ∷ []) four e = absurd (omega (arith, four))
-same_four xs (a ∷ b ∷ c ∷ []) four e = absurd (omega (arith, four))
-same_four xs (a ∷ b ∷ c ∷ d ∷ []) four e = same_amounts xs (a ∷ b ∷ c ∷ d ∷ []) e
-same_four xs (a ∷ b ∷ c ∷ d ∷ f ∷ ys) four e = absurd (omega (arith, four))
 
 -- ---- the rows of one loan
 

@@ -10,17 +10,20 @@ use Rattle.sqlite.specs.Held.{Held, state}
 use Rattle.sqlite_trees.specs.declared.store.Store.{Ghosts}
 use Rattle.mf_model.specs.Institution.{Institution, product_in}
 use Rattle.mf_model.specs.declared.store.Counts.{Counts}
-use Rattle.mf_model.specs.declared.store.CatalogueCounts.{CatalogueCounts}
 use Rattle.mf_office.specs.declared.staff.Role.{Role}
 use Rattle.mf_office.specs.declared.caller.Caller.{Caller}
 use Rattle.mf_catalog.specs.declared.product.Product.{Product}
-use Rattle.mf_model.specs.Store.{counts_at, catalogue_counts, role_of}
+use Rattle.mf_base.specs.declared.fault.Fault.{Fault}
+use Rattle.mf_model.specs.declared.commit.Commit.{Commit}
+use Rattle.mf_model.specs.Store.{Commits, committed, counts_at, role_of}
 use Rattle.mf_store_records.specs.Calls.{OnlyFaultsShut}
 use Rattle.mf_store.specs.Facts.{Facts, Kept, AreTrueOf, caller_number, nothing_known}
 use Rattle.mf_store_accounts.specs.Flat.{key_at}
 use Rattle.mf_store.specs.Learning.{Tells}
-use Rattle.mf_store.specs.declared.known.News.TheVariants.{OfficeCounts, Catalogue, BusinessDay}
-use Rattle.mf_store.specs.Stands.{IsTabled, HasGoodDisk, LeavesTables, StayTabled, StandsFor, IsClean, IsOpenUntil, Stays}
+use Rattle.mf_store.specs.declared.known.News.TheVariants.{Nothing, OfficeCounts, BusinessDay}
+use Rattle.mf_store_commits.specs.Tabled.{IsTabled, HasGoodDisk, LeavesTables, StayTabled}
+use Rattle.mf_store_accounts.proofs.ResultLemmas.{weaker_on_ok, weaker_on_err}
+use Rattle.mf_store.specs.Stands.{StandsFor, IsClean, Leaves, IsOpenUntil, Stays}
 
 module _ {S : Type 0} (g : Ghosts S) where
   pub tabled : (k : Kept S) (i : Institution) → StandsFor g k i → IsTabled g k.connection i
@@ -148,6 +151,17 @@ forgotten {V} new cap n v P e h = absurd (let never : None ≡ Some v = sym (ap 
 
 -- ---- the store's calls
 
+-- what is known stays so where there is no news
+known_still : (f : Facts) (i j : Institution) → Tells Nothing i j → AreTrueOf f i → AreTrueOf f j
+known_still f i j t k = record {
+  counts = λ x c e. k.counts x c e ∙ sym (t.counts x);
+  catalogue = λ c e. k.catalogue c e ∙ sym t.catalogue;
+  day = λ d e. k.day d e ∙ sym t.day;
+  roles = λ c r b e. t.roles c r (k.roles c r b e);
+  keys = λ x l e. t.keys x l (k.keys x l e);
+  products = λ n p e. t.products refl n p (k.products n p e);
+}
+
 pub any_err : {A E : Type 0} (r : Result A E) (P : Type 0) → P → OnErr r P
 any_err (Ok x) P p = tt
 any_err (Err e) P p = p
@@ -171,6 +185,18 @@ module _ {S : Type 0} (g : Ghosts S) where
 
   pub known_unmade : (old new : Held S) (f : Facts) → ((i : Institution) → IsTabled g old i → IsTabled g new i) → (i : Institution) → StandsFor g (record { connection = old; known = f }) i → StandsFor g (record { connection = new; known = f }) i
   known_unmade old new f same i s = let t = same i (tabled g (record { connection = old; known = f }) i s) in record { sound = t.sound; serves = t.serves; knows = s.knows }
+
+  -- a commit over the tables, of which there is nothing new to know
+  pub known_commits : (commit : Commit) (old new : Held S) (f : Facts) (r : Result (Unit {0}) Fault) → ((i : Institution) → Tells Nothing i (committed commit i)) → Commits (IsTabled g) (HasGoodDisk g) (LeavesTables g) commit old new r
+      → Commits (StandsFor g) (IsClean g) (Leaves g) commit (record { connection = old; known = f }) (record { connection = new; known = f }) r
+  known_commits commit old new f r tells c = record {
+    premise = c.premise;
+    made = λ clean i s admitted. weaker_on_ok r _ _ (c.made clean i (tabled g (record { connection = old; known = f }) i s) admitted) (λ t. known_made old new f f i (committed commit i) s t (known_still f i (committed commit i) (tells i) s.knows));
+    kept = λ clean i s admitted. c.kept clean i (tabled g (record { connection = old; known = f }) i s) admitted;
+    same = λ clean i s. weaker_on_err r _ _ (c.same clean i (tabled g (record { connection = old; known = f }) i s)) (λ t. known_made old new f f i i s t s.knows);
+    gives_up = c.gives_up;
+    stop = λ clean i is s admitted l. c.stop clean i is (tabled g (record { connection = old; known = f }) i s) admitted l;
+  }
 
   -- nothing is known at first
   pub first_known : (h : Held S) (f : Facts) (i : Institution) → f ≡ nothing_known → IsTabled g h i → StandsFor g (record { connection = h; known = f }) i
@@ -211,9 +237,6 @@ tells_counts x c i is = record { counts = λ y. go y (x == y) refl; catalogue = 
     go : (y : ℕ) (b : Bool) → (x == y) ≡ b → counts_at y i ≡ cond b c (counts_at y i)
     go y true e = let same : x ≡ y = grind (arith, nat_tests) in sym (is ∙ ap (λ z. counts_at z i) same)
     go y false e = refl
-
-pub tells_catalogue : (c : CatalogueCounts) (i : Institution) → c ≡ catalogue_counts i → Tells (Catalogue c) i i
-tells_catalogue c i is = record { counts = λ y. refl; catalogue = sym is; day = refl; roles = λ c r h. h; keys = λ x k h. h; products = λ t n p h. h }
 
 pub tells_day : (d : ℕ) (i : Institution) → d ≡ i.catalogue.day → Tells (BusinessDay d) i i
 tells_day d i is = record { counts = λ y. refl; catalogue = refl; day = sym is; roles = λ c r h. h; keys = λ x k h. h; products = λ t n p h. h }

@@ -28,23 +28,15 @@ use Rattle.mf_store_records.specs.Rows.{is_office}
 use Rattle.mf_store_accounts.specs.Flat.{key_at, office_under}
 use Rattle.mf_store.specs.Learning.{Tells}
 use Rattle.mf_store.specs.declared.known.News.TheVariants.{Nothing, OfficeCounts, Catalogue, BusinessDay, Retirement}
-use Rattle.mf_store.proofs.CommitLemmas.{none_there, number_at, offices-with_rows, office_key_kept}
+use Rattle.mf_store_changes.proofs.CommitLemmas.{none_there, number_at, offices-with_rows, office_key_kept}
 use Rattle.mf_store.proofs.LookLemmas.{office_by_number}
+use Rattle.mf_store_changes.proofs.SoundLemmas.{own_rows}
 
 abbrev counts_in : Rows → Counts
 counts_in rows = record { staff = length rows.staff; clients = length rows.clients; loans = length rows.loans }
 
 one_more : {A : Type 0} (xs : List A) (x : A) → length xs + 1 ≡ length (xs ++ x ∷ [])
 one_more xs x = grind (arith, length-append xs (x ∷ []))
-
-pub own_rows : (x : ℕ) (new : Rows) (fs : List Office) → is_there fs x ≡ true → rows_of (office_at x (with_rows x new fs)) ≡ new
-own_rows x new [] there = absurd (true≢false (sym there))
-own_rows x new (f ∷ fs) there = go (f.number == x) there (λ h. own_rows x new fs h)
-  where
-    go : (b : Bool) → is_some (cond b (Some f) (office_at x fs)) ≡ true → (is_there fs x ≡ true → rows_of (office_at x (with_rows x new fs)) ≡ new)
-        → rows_of (cond b (Some (record f { rows = cond b new f.rows })) (office_at x (with_rows x new fs))) ≡ new
-    go true h more = refl
-    go false h more = more h
 
 -- the rows of an office after one office's became others
 rows_after : (x : ℕ) (new : Rows) (i : Institution) (y : ℕ) → (rows_at y (after (Rows_become x new) i) ≡ rows_at y i) ⊎ ((x ≡ y) × (rows_at y (after (Rows_become x new) i) ≡ new))

@@ -15,11 +15,12 @@ use Rattle.mf_model.specs.Tree.{Above, Ascending}
 use Rattle.mf_model.proofs.AccountLemmas.{account_sound}
 use Rattle.mf_store_records.specs.Rows.{is_instalment_in}
 use Rattle.mf_store_accounts.specs.Flat.{tables_of, instalment_in, instalments_kept, kept_of, rows_of_loans, rows_by_loan}
-use Rattle.mf_store.specs.Arrears.{Numbered, AreAbove, AreWholeLoans, rows_of_office, aged_rows, aged_loans}
+use Rattle.mf_store_values.specs.Arrears.{Numbered, AreAbove, AreWholeLoans, rows_of_office, aged_rows, aged_loans}
 use Rattle.mf_store.proofs.ArrearsLemmas.{aged_told}
 use Rattle.mf_store.proofs.InstalmentReadLemmas.{numbered_whole, sums_kept}
-use Rattle.mf_store.proofs.LoanRowLemmas.{all_loans, all_offices, all_weaker, append_none, kept_all, kept_none}
-use Rattle.mf_store.proofs.LookLemmas.{office_sound}
+use Rattle.mf_store_changes.proofs.LoanRowLemmas.{all_loans, all_offices}
+use Rattle.mf_store_accounts.proofs.ListLemmas.{all_weaker, append_none, kept_all, kept_none}
+use Rattle.mf_store_changes.proofs.SoundLemmas.{office_sound}
 
 -- ---- one office's rows among all, where they stand loan by loan
 

@@ -1,16 +1,13 @@
--- The rows of one office: those that the queries show, and what is read of them.
-use Rattle.std.proofs.Common.{◌≡◌, ◌<◌, ◌≤◌, ◌+◌, ℕ, zero, suc, Bool, true, false, cond, List, [], ◌∷◌, ◌++◌, map, filter, length, take, get_or, Some, refl, sym, ap, ap₂, ◌∙◌, subst, arith, is_eq, nat_cmp, ◌==◌}
+-- The rows of one office that the queries show.
+use Rattle.std.proofs.Common.{◌≡◌, ◌<◌, ◌+◌, ℕ, Bool, true, false, cond, List, [], ◌∷◌, ◌++◌, map, filter, Some, refl, sym, ap, ap₂, ◌∙◌, subst, arith, is_eq, nat_cmp, ◌==◌}
 use Rattle.std.proofs.lemmas.Bool.Decides.{nat_tests}
-use Rattle.std.proofs.lemmas.List.{take_more}
 use Rattle.std.proofs.lemmas.List.Elements.{filter-append}
 use Rattle.sqlite.specs.Order.{Row}
-use Rattle.mf_office.specs.declared.staff.Role.{Role}
-use Rattle.mf_model.specs.Institution.{Institution, Office, Rows, Staff, office_at, no_rows}
+use Rattle.mf_model.specs.Institution.{Institution, Office, Rows, office_at, no_rows}
 use Rattle.mf_model.specs.Sound.{IsSound}
 use Rattle.mf_model.specs.Store.{rows_of, rows_at}
 use Rattle.mf_model.specs.Tree.{Above, Ascending}
 use Rattle.mf_store_records.specs.Rows.{staff_row, client_row, is_staff_of, is_client_of}
-use Rattle.mf_store_records.specs.declared.staff.StaffRow.{StaffRow}
 use Rattle.mf_store_accounts.specs.Flat.{numbered_from, all_rows, staff_in, client_in, tables_of}
 
 -- ---- one office's rows among all
@@ -59,34 +56,4 @@ clients_shown x i sound = ap (map client_row) (rows_in_office client_in (λ rows
 
 -- ---- rows that are read in turn
 
-length_numbered : {A : Type 0} (row : ℕ → A → Row) (n : ℕ) (xs : List A) → length (numbered_from row n xs) ≡ length xs
-length_numbered row n [] = refl
-length_numbered row n (a ∷ xs) = ap suc (length_numbered row (n + 1) xs)
-
-numbered_at : {A : Type 0} (row : ℕ → A → Row) (n : ℕ) (xs : List A) (k : ℕ) (item : Row) (y : A) → k < length xs → get_or (numbered_from row n xs) k item ≡ row (n + k) (get_or xs k y)
-numbered_at row n [] k item y low = absurd (omega arith)
-numbered_at row n (a ∷ xs) zero item y low = ap (λ m. row m a) (let same : n ≡ n + 0 = omega arith in same)
-numbered_at row n (a ∷ xs) (suc k) item y low = numbered_at row (n + 1) xs k item y (omega arith) ∙ ap (λ m. row m (get_or xs k y)) (let same : n + 1 + k ≡ n + suc k = omega arith in same)
-
-pub read_more : {A : Type 0} (row : ℕ → A → Row) (rows : List Row) (k : ℕ) (item : Row) (y : A) (xs ys all : List A) → rows ≡ numbered_from row 1 all → k < length rows → item ≡ get_or rows k item → ys ≡ xs ++ y ∷ [] → xs ≡ take k all
-    → ((number : ℕ) (a : A) → item ≡ row number a → y ≡ a) → ys ≡ take (k + 1) all
-read_more row rows k item y xs ys all are low is more before reads =
-    let low' : k < length all = subst (λ m. k < m) (ap length are ∙ length_numbered row 1 all) low in
-    let here = reads (1 + k) (get_or all k y) (is ∙ ap (λ l. get_or l k item) are ∙ numbered_at row 1 all k item y low') in
-    more ∙ ap₂ ◌++◌ before (ap (λ a. a ∷ []) here) ∙ sym (take_more all k y low')
-
-pub take_whole : {A : Type 0} (k : ℕ) (xs : List A) → length xs ≤ k → take k xs ≡ xs
-take_whole zero [] h = refl
-take_whole (suc k) [] h = refl
-take_whole zero (x ∷ xs) h = absurd (omega arith)
-take_whole (suc k) (x ∷ xs) h = ap (λ l. x ∷ l) (take_whole k xs (omega arith))
-
-pub read_all : {A : Type 0} (row : ℕ → A → Row) (rows : List Row) (k : ℕ) (xs all : List A) → rows ≡ numbered_from row 1 all → length rows ≤ k → xs ≡ take k all → xs ≡ all
-read_all row rows k xs all are past is =
-    let same : length rows ≡ length all = ap length are ∙ length_numbered row 1 all in
-    is ∙ take_whole k all (omega (arith, same, past))
-
 -- ---- what a row is read as
-
-pub member_is : (found : StaffRow) (name : List ℕ) (role : Role) (x n : ℕ) (s : Staff) → found ≡ staff_in x n s → name ≡ found.name → role ≡ s.role → ◌≡◌ {A = Staff} (record { name = name; role = role }) s
-member_is found name role x n s e b d = λ k. record { name = (b ∙ ap (λ (r : StaffRow). r.name) e) k; role = d k }

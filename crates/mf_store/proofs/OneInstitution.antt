@@ -38,11 +38,13 @@ use Rattle.mf_store_records.specs.declared.charges.ChargeRow.{ChargeRow}
 use Rattle.mf_store_records.specs.declared.products.ProductRow.{ProductRow}
 use Rattle.mf_store_records.specs.declared.loans.LoanRow.{LoanRow}
 use Rattle.mf_store_records.specs.declared.entries.EntryRow.{EntryRow}
-use Rattle.mf_store.proofs.FlatLemmas.{portion_same}
+use Rattle.mf_store_changes.proofs.FlatLemmas.{portion_same}
 use Rattle.mf_store_accounts.specs.Flat.{flag_number, entry_kind_number, office_under, meta_on, staff_in, client_in, charge_as, product_as, loan_in, loans_of, entry_in, own_entries, numbered_from, all_rows, rows_of_loans, entry_rows, tables_of}
-use Rattle.mf_store.proofs.EnteredLemmas.{HaveCallers, AreCalled, all_called}
-use Rattle.mf_store.proofs.LoanRowLemmas.{all_map, all_loans, all_offices}
-use Rattle.mf_store.proofs.LoanLemmas.{loan_of, stage_is}
+use Rattle.mf_store_changes.proofs.EnteredLemmas.{HaveCallers, AreCalled, all_called}
+use Rattle.mf_store_accounts.proofs.ListLemmas.{all_map}
+use Rattle.mf_store_changes.proofs.LoanRowLemmas.{all_loans, all_offices}
+use Rattle.mf_store_changes.proofs.LoanLemmas.{loan_of}
+use Rattle.mf_store_values.proofs.LoanLemmas.{stage_is}
 use Rattle.mf_store_records.specs.Rows.{Lists}
 
 -- ---- rows in the order of their offices: those of the first office, and those of later ones

@@ -1,28 +1,26 @@
 -- What the rows of a loan's shares are read as, and what is resumed of a loan.
-use Rattle.std.proofs.Common.{◌≡◌, ℕ, List, [], ◌∷◌, map, filter, Option, None, Some, IfOk, refl, sym, ap, subst, ◌∙◌}
-use Rattle.std.specs.List.{AllByRecursion}
+use Rattle.std.proofs.Common.{◌≡◌, ℕ, List, [], map, filter, Option, None, Some, refl, sym, ap, ◌∙◌}
 use Rattle.std.specs.Option.{option_map}
 use Rattle.mf_alloc.specs.Sums.{Sums}
 use Rattle.mf_catalog.specs.declared.terms.Terms.{Terms}
 use Rattle.mf_account.specs.declared.entry.Entry.{Entry}
 use Rattle.mf_account.specs.declared.settled.Settled.{Settled}
-use Rattle.mf_account.specs.Change.{Account as Kept, AreKeptOf, replayed, settled_in}
-use Rattle.mf_account.specs.Loan.{Loan as Running, IsSound as IsSoundAccount, state_of_loan, settled_of_loan}
+use Rattle.mf_account.specs.Change.{AreKeptOf, settled_in}
+use Rattle.mf_account.specs.Loan.{IsSound as IsSoundAccount, state_of_loan}
 use Rattle.mf_office.specs.declared.account.Account.{Account}
 use Rattle.mf_model.specs.declared.loan.Loan.{Loan}
 use Rattle.mf_model.specs.Accounts.{account_in, of_account, running, running_from, terms_in}
 use Rattle.mf_model.specs.Institution.{Institution, Ledger}
 use Rattle.mf_model.specs.Sound.{IsSound}
 use Rattle.mf_model.specs.Stages.{disbursed_on}
-use Rattle.mf_model.specs.Store.{ledger_at, loan_at, account_at}
+use Rattle.mf_model.specs.Store.{ledger_at, loan_at}
 use Rattle.mf_store_records.specs.Rows.{share_row, is_share_of}
 use Rattle.mf_store_accounts.specs.Flat.{tables_of, share_in, shares_kept, kept_of, had_by, entries_of}
 use Rattle.mf_store_accounts.specs.Kept.{part_told}
 use Rattle.mf_store_accounts.proofs.KeptLemmas.{shares_told}
-use Rattle.mf_store.proofs.EnteredLemmas.{map_map}
+use Rattle.mf_store_accounts.proofs.ListLemmas.{map_map}
 use Rattle.mf_store.proofs.InstalmentReadLemmas.{loan_account_sound}
-use Rattle.mf_store.proofs.LoanLemmas.{account_replayed}
-use Rattle.mf_store.proofs.LoanRowLemmas.{loan_shown}
+use Rattle.mf_store_changes.proofs.LoanRowLemmas.{loan_shown}
 
 -- the rows of a loan are those of its account's shares
 pub shares_shown : (loan : Account) (l : Ledger) (i : Institution) → IsSound i → ledger_at loan i ≡ Some l
@@ -64,7 +62,3 @@ kept_is i account loan day entries terms rows parts sound there disbursed entere
         parts_are = λ seq. ap (settled_in seq) (kept_parts of.l of.there ∙ ap (λ o. map part_told (of_account [] shares_kept o)) is) ∙ shares_told (running loan entries day terms) seq whole;
       },
     )
-
-pub all_any : {A : Type 0} (xs : List A) → AllByRecursion (λ (x : A). Unit {0}) xs
-all_any [] = tt
-all_any (x ∷ xs) = (tt, all_any xs)

@@ -25,9 +25,9 @@ use Rattle.mf_model.specs.Sound.{IsSound}
 use Rattle.mf_model.specs.Stages.{stage_number, disbursed_on}
 use Rattle.mf_model.specs.Store.{ledger_at}
 use Rattle.mf_model.proofs.AccountLemmas.{account_is, account_there}
-use Rattle.mf_store.specs.Statuses.{is_refund, stands_by, any_stands, repaid_in_all, paid_in_all, is_overpaid, status_told}
+use Rattle.mf_store_values.specs.Statuses.{is_refund, stands_by, any_stands, repaid_in_all, paid_in_all, is_overpaid, status_told}
 use Rattle.mf_store.proofs.ArrearsLemmas.{rows_of_account}
-use Rattle.mf_store.proofs.EnteredLemmas.{loan_sound}
+use Rattle.mf_store_changes.proofs.EnteredLemmas.{loan_sound}
 use Rattle.mf_store.proofs.InstalmentReadLemmas.{loan_account_sound}
 
 -- ---- a sum over the standing entries is one over all entries, where those that are reversed count nothing

@@ -13,9 +13,9 @@ use Rattle.mf_model.specs.Store.{rows_at, use_at}
 use Rattle.mf_store_records.specs.Rows.{is_entry, is_entry_of}
 use Rattle.mf_store_records.specs.declared.entries.EntryRow.{EntryRow}
 use Rattle.mf_store_accounts.specs.Flat.{entry_in, entries_of, tables_of}
-use Rattle.mf_store.proofs.EnteredLemmas.{loan_numbered}
-use Rattle.mf_store.proofs.EntryLemmas.{AreNumbered, later_numbered, entries_shown}
-use Rattle.mf_store.proofs.FlatLemmas.{numbered-suc}
+use Rattle.mf_store_changes.proofs.EnteredLemmas.{loan_numbered}
+use Rattle.mf_store_changes.proofs.EntryLemmas.{AreNumbered, later_numbered, entries_shown}
+use Rattle.mf_store_changes.proofs.FlatLemmas.{numbered-suc}
 
 -- ---- an entry by its number
 

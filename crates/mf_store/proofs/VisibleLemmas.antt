@@ -1,26 +1,22 @@
 -- What an office sees, by the range of its hierarchy text and by parents.
-use Rattle.std.proofs.Common.{◌≡◌, ◌<◌, ◌+◌, ◌↔◌, ◌≤◌, ℕ, zero, suc, Bool, true, false, not, ◌&&◌, ◌||◌, cond, List, [], ◌∷◌, ◌++◌, map, filter, length, take, get_or, Option, None, Some, refl, sym, ap, ap₂, ◌∙◌, subst, arith, ◌==◌, nat_lt, nat_cmp, true≢false, nat_le, Ordering, Less, Equal, Greater, is_ge, is_lt}
+use Rattle.std.proofs.Common.{◌≡◌, ◌↔◌, ◌≤◌, ℕ, zero, suc, Bool, true, false, not, ◌&&◌, ◌||◌, cond, List, [], ◌∷◌, map, filter, Option, None, Some, refl, sym, ap, ap₂, ◌∙◌, arith, ◌==◌, nat_lt, nat_cmp, true≢false, nat_le, Ordering, Less, Equal, Greater, is_ge, is_lt}
 use Rattle.std.specs.Option.{is_some, option_map}
 use Rattle.std.specs.Ordering.{ordering_then}
 use Rattle.std.specs.Cmp.Lexicographic.{slice_cmp}
 use Rattle.std.specs.List.{AllByRecursion}
 use Rattle.std.proofs.lemmas.Bool.Decides.{nat_tests}
-use Rattle.std.proofs.lemmas.List.{take_more, map-append, length-map, get_or-map}
-use Rattle.sqlite.specs.Order.{Row}
 use Rattle.sqlite_keyed.proofs.ListLemmas.{filter-map}
 use Rattle.mf_office.specs.Keys.{key_of, key_depth, raised, is_before}
 use Rattle.mf_office.specs.Keys as office
 use Rattle.mf_office.specs.Tree.{is_within, is_at_or_below, option_any, IsTreeOf}
 use Rattle.mf_office.proofs.KeyLemmas.{range_below}
-use Rattle.mf_model.specs.Institution.{Institution, Office, office_at, new_office}
+use Rattle.mf_model.specs.Institution.{Institution, Office, office_at}
 use Rattle.mf_model.specs.Tree.{parent_of, is_there, seen_by, seen_office}
 use Rattle.mf_model.specs.Sound.{IsSound}
 use Rattle.mf_store_records.specs.Rows.{office_row, is_in_range}
 use Rattle.mf_store_records.specs.declared.offices.OfficeRow.{OfficeRow}
 use Rattle.mf_store_accounts.specs.Flat.{office_under, tables_of, key_at, sees, has_room}
-use Rattle.mf_office.specs.declared.office.Office.{Office as Shown}
-use Rattle.mf_model.specs.Desk.{line_of}
-use Rattle.mf_store.proofs.CommitLemmas.{number_at, all_there}
+use Rattle.mf_store_changes.proofs.CommitLemmas.{number_at, all_there}
 
 -- ---- ranges of texts
 
@@ -170,15 +166,3 @@ module _ (i : Institution) (sound : IsSound i) (tree : IsTreeOf (is_there i.offi
       ap₂ (λ a b. map office_row (filter (is_in_range a b) (tables_of i).offices)) (l ∙ known.1) (h ∙ ap raised known.1) ∙ rows_seen o known.0
 
 -- ---- rows that are read into lines
-
-pub line_from : (found : OfficeRow) (n : ℕ) (p : Option ℕ) (name : List ℕ) (ps : ℕ → Option ℕ) (f : Office) → found ≡ office_under ps f → n ≡ found.number → p ≡ found.parent → name ≡ found.name
-    → ◌≡◌ {A = Shown} (record { number = n; parent = p; name = name }) (line_of f)
-line_from found n p name ps f e a b d = λ k. record { number = (a ∙ ap (λ (r : OfficeRow). r.number) e) k; parent = (b ∙ ap (λ (r : OfficeRow). r.parent) e) k; name = (d ∙ ap (λ (r : OfficeRow). r.name) e) k }
-
-pub lines_more : {L : Type 0} (row : Office → Row) (line : Office → L) (rows : List Row) (n : ℕ) (item : Row) (x : L) (xs ys : List L) (fs : List Office) → rows ≡ map row fs → n < length rows → item ≡ get_or rows n item → ys ≡ xs ++ x ∷ [] → xs ≡ map line (take n fs)
-    → ((f : Office) → item ≡ row f → x ≡ line f) → ys ≡ map line (take (n + 1) fs)
-lines_more row line rows n item x xs ys fs are low is more before reads =
-    let low' : n < length fs = subst (λ m. n < m) (ap length are ∙ length-map fs row) low in
-    let d = new_office 0 0 [] in
-    let here = reads (get_or fs n d) (is ∙ ap (λ l. get_or l n item) are ∙ get_or-map row fs n d item low') in
-    more ∙ ap₂ ◌++◌ before (ap (λ y. y ∷ []) here) ∙ sym (ap (map line) (take_more fs n d low') ∙ map-append line (take n fs) (get_or fs n d ∷ []))

@@ -4,7 +4,6 @@
 ghost use Rattle.std.specs.Prelude.{◌≡◌, ◌≤◌, ◌-◌, ◌++◌, ℕ, List, [], length, map, option_map, Some, OnOk, IfOk, IfErr};
 ghost use Rattle.std.specs.List.{AllByRecursion};
 ghost use Rattle.mf_base.specs.declared.fault.Fault.TheVariants.{F20};
-ghost use Rattle.mf_account.specs.Standing.{entry_at};
 ghost use Rattle.mf_account.specs.Change.{replayed};
 ghost use Rattle.mf_catalog.specs.Product.{charge_of};
 ghost use Rattle.mf_model.specs.Accounts.{running_from, terms_in, status_in};
@@ -12,51 +11,28 @@ ghost use Rattle.mf_model.specs.Institution.{Institution, Ledger as ModelLedger,
 ghost use Rattle.mf_model.specs.Stages.{disbursed_on};
 ghost use Rattle.mf_model.specs.Store.{Commits, loan_at, ledger_at, account_at, loans_at};
 ghost use Rattle.mf_model.specs.declared.commit.Commit.TheVariants.{Enter, Reverse};
-ghost use Rattle.mf_store.specs.ChangeWrites.{schedule_put};
-ghost use Rattle.mf_store_accounts.specs.Flat.{loan_in, line_in, entry_in, entries_of, instalments_kept, kept_of};
+ghost use Rattle.mf_store_changes.specs.ChangeWrites.{schedule_put};
+ghost use Rattle.mf_store_accounts.specs.Flat.{loan_in, line_in, entries_of, instalments_kept, kept_of};
 ghost use Rattle.mf_store_records.specs.Rows.{loan_row as loan_stored};
 
-use crate::changes::{put_change, put_schedule};
-use crate::entries::{entries_from, entry_row};
-use crate::kept::is_active;
 use crate::known::News;
-use crate::loans::{account_number, disbursal_day, loan_from};
-use crate::receipts::writes_of;
-use crate::statuses::settled_status;
 use crate::store::Store;
-use crate::stored::stored;
-use crate::visible::office_number;
 use mf_account::{Entry, LoanAccount};
 use mf_base::{Day, Fault};
 use mf_catalog::{ChargeDef, Terms};
 use mf_model::{Loan, LoanLine, LoanList};
 use mf_office::{Account, OfficeNo};
+use mf_store_changes::{put_change, put_schedule, row_of_entry, writes_of};
 use mf_store_records::{EntryRow, LoanRow, StoreWrite, read_row};
+use mf_store_values::{
+    account_number, disbursal_day, entries_from, is_active, loan_from, office_number,
+    settled_status, stored,
+};
 use sqlite::{Alter, Row};
 use std::alloc::Global;
 
 /// The status of a loan that is disbursed and has something outstanding.
 const ACTIVE: u16 = 300;
-
-/// The row of an entry of a loan's account, by its number; F20 where there is none.
-fn row_of_entry(
-    alloc: Global,
-    office: u32,
-    loan: u32,
-    seq: u32,
-    account: &LoanAccount,
-) -> Result<EntryRow, Fault>
-    ensures there { OnOk result ((1 ≤ seq) × (seq ≤ length account.now.loan.entries)) }
-    ensures row { IfOk result (λ row. row ≡ entry_in office loan (entry_at account.now.loan.entries (seq - 1))) }
-    ensures gives_up { IfErr result (λ fault. fault ≡ F20) }
-{
-    let entries = account.entries();
-    if seq == 0 || entries.len() < seq as usize {
-        return Err(Fault::F20);
-    }
-    let entry = &entries[seq as usize - 1];
-    entry_row(alloc, office, loan, entry)
-}
 
 impl<S: Alter> Store<S> {
     ghost use Rattle.mf_store.specs.Stands.{StandsFor, IsClean, Leaves, Stays, IsOpen, FaultsAloneShut};
@@ -294,42 +270,5 @@ impl<S: Alter> Store<S> {
     {
         let rows = self.rows_above(office.get(), after)?;
         self.lines_of(alloc, &rows)
-    }
-
-    /// Adds the last entry of a loan's account to the loan, which has all the others and no more, and writes what that
-    /// changed of the loan's instalments and shares.
-    pub fn enter(&mut self, alloc: Global, loan: Account, account: LoanAccount) -> Result<(), Fault>
-        ensures commits { Commits (StandsFor S.Store) (IsClean S.Store) (Leaves S.Store) (Enter loan account) self.old self.new result }
-        ensures shuts { FaultsAloneShut S.Store self.old self.new }
-        ensures open { IsClean S.Store self.new → OnOk result (IsOpen S.Store self.new) }
-    {
-        let office = loan.office.get();
-        let loan = loan.number.get();
-        let row = row_of_entry(alloc, office, loan, account.entry_count(), &account)?;
-        let mut writes = writes_of(alloc, row)?;
-        put_change(alloc, office, loan, &account, &mut writes)?;
-        self.make(&writes, News::Nothing)
-    }
-
-    /// Writes an entry of a loan that is reversed in the loan's account, and what that changed of the loan's instalments
-    /// and shares. All other entries are the same in both. The row of the entry's receipt stays as it is.
-    pub fn reverse(
-        &mut self,
-        alloc: Global,
-        loan: Account,
-        seq: u32,
-        account: LoanAccount,
-    ) -> Result<(), Fault>
-        ensures commits { Commits (StandsFor S.Store) (IsClean S.Store) (Leaves S.Store) (Reverse loan seq account) self.old self.new result }
-        ensures shuts { FaultsAloneShut S.Store self.old self.new }
-        ensures open { IsClean S.Store self.new → OnOk result (IsOpen S.Store self.new) }
-    {
-        let office = loan.office.get();
-        let loan = loan.number.get();
-        let row = row_of_entry(alloc, office, loan, seq, &account)?;
-        let mut writes = Vec::new(alloc);
-        writes.push(StoreWrite::ChangeEntry(row))?;
-        put_change(alloc, office, loan, &account, &mut writes)?;
-        self.make(&writes, News::Nothing)
     }
 }

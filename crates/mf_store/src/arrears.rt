@@ -7,7 +7,7 @@ ghost use Rattle.mf_arrears.specs.Line.{line_of as line_of_loans};
 ghost use Rattle.mf_model.specs.Arrears.{active_in, arrears_seen};
 ghost use Rattle.mf_model.specs.Institution.{Institution};
 ghost use Rattle.mf_model.specs.Store.{rows_at};
-ghost use Rattle.mf_store.specs.Arrears.{line_at};
+ghost use Rattle.mf_store_values.specs.Arrears.{line_at};
 
 use crate::store::Store;
 use mf_arrears::OfficeLine;

@@ -1,132 +1,22 @@
 //! The catalogue: its charges and products by number, and the commits that change it.
 
-ghost use Rattle.std.specs.Prelude.{◌≡◌, ℕ, false, OnOk, IfOk, IfErr};
+ghost use Rattle.std.specs.Prelude.{◌≡◌, OnOk, IfOk, IfErr};
 ghost use Rattle.mf_base.specs.declared.fault.Fault.TheVariants.{F20};
-ghost use Rattle.mf_model.specs.Institution.{Institution, Charge, Offer, charge_def, charge_in, product_in, product_of as product_numbered};
+ghost use Rattle.mf_model.specs.Institution.{Institution, charge_in, product_in};
 ghost use Rattle.mf_model.specs.Store.{Commits, catalogue_counts};
 ghost use Rattle.mf_model.specs.declared.commit.Commit.TheVariants.{SetDay, AddCharge, AddProduct, RetireProduct};
-ghost use Rattle.mf_store_accounts.specs.Flat.{charge_as, product_as};
 
 use crate::counts::{Kind, MOST};
 use crate::known::News;
 use crate::store::Store;
-use crate::stored::{stored, unsigned};
-use mf_base::{Choice, Day, Fault, Freq, Name};
-use mf_catalog::{Calc, ChargeDef, ChargeKind, Method, Product, ProductMembers, StrategyName};
+use mf_base::{Day, Fault, Name};
+use mf_catalog::{Calc, ChargeDef, ChargeKind, Product, ProductMembers};
 use mf_model::CatalogueCounts;
-use mf_store_accounts::{flag_from, signed};
-use mf_store_records::{ChargeRow, MetaRow, ProductRow, StoreWrite, Text};
+use mf_store_changes::{charge_row, product_row, retired};
+use mf_store_records::{MetaRow, StoreWrite, Text};
+use mf_store_values::{charge_from, product_from};
 use sqlite::Alter;
 use std::alloc::Global;
-
-/// The charge of a row.
-fn charge_from(row: ChargeRow) -> Result<ChargeDef, Fault>
-    ensures charge { IfOk result (λ charge. (number : ℕ) (c : Charge) → row ≡ charge_as number c → charge ≡ charge_def number c) }
-    ensures gives_up { IfErr result (λ fault. fault ≡ F20) }
-{
-    let kind = stored(ChargeKind::from_number(row.kind))?;
-    let calc = stored(Calc::from_number(row.calc))?;
-    let value = unsigned(row.value)?;
-    Ok(ChargeDef {
-        number: row.number,
-        name: row.name.into_name(),
-        kind,
-        calc,
-        value,
-    })
-}
-
-/// The row of a charge.
-fn charge_row(
-    number: u32,
-    name: Name,
-    kind: ChargeKind,
-    calc: Calc,
-    value: u64,
-) -> Result<ChargeRow, Fault>
-    ensures row { IfOk result (λ row. row ≡ charge_as number (record { name = name; kind = kind; calc = calc; value = value })) }
-    ensures gives_up { IfErr result (λ fault. fault ≡ F20) }
-{
-    let cents = signed(value)?;
-    Ok(ChargeRow {
-        number,
-        name: Text::of_name(name),
-        kind: kind.number(),
-        calc: calc.number(),
-        value: cents,
-    })
-}
-
-/// The product of a row.
-fn product_from(row: ProductRow) -> Result<Product, Fault>
-    ensures product { IfOk result (λ product. (number : ℕ) (p : Offer) → row ≡ product_as number p → product ≡ product_numbered number p) }
-    ensures gives_up { IfErr result (λ fault. fault ≡ F20) }
-{
-    let method = stored(Method::from_number(row.method))?;
-    let freq = stored(Freq::from_number(row.frequency))?;
-    let strategy = stored(StrategyName::from_number(row.strategy))?;
-    let min_principal = unsigned(row.min_principal)?;
-    let max_principal = unsigned(row.max_principal)?;
-    let retired = stored(flag_from(row.retired))?;
-    Ok(Product {
-        number: row.number,
-        members: ProductMembers {
-            name: row.name.into_name(),
-            method,
-            rate: row.rate,
-            freq,
-            every: row.every,
-            principal_grace: row.principal_grace,
-            interest_grace: row.interest_grace,
-            min_principal,
-            max_principal,
-            min_periods: row.min_periods,
-            max_periods: row.max_periods,
-            strategy,
-            disbursement_charge: row.disbursement_charge,
-            instalment_charge: row.instalment_charge,
-            overdue_charge: row.overdue_charge,
-        },
-        retired,
-    })
-}
-
-/// The row of a new product.
-fn product_row(number: u32, members: ProductMembers) -> Result<ProductRow, Fault>
-    ensures row { IfOk result (λ row. row ≡ product_as number (record { members = members; retired = false })) }
-    ensures gives_up { IfErr result (λ fault. fault ≡ F20) }
-{
-    let min_principal = signed(members.min_principal)?;
-    let max_principal = signed(members.max_principal)?;
-    Ok(ProductRow {
-        number,
-        name: Text::of_name(members.name),
-        method: members.method.number(),
-        rate: members.rate,
-        frequency: members.freq.number(),
-        every: members.every,
-        principal_grace: members.principal_grace,
-        interest_grace: members.interest_grace,
-        min_principal,
-        max_principal,
-        min_periods: members.min_periods,
-        max_periods: members.max_periods,
-        strategy: members.strategy.number(),
-        disbursement_charge: members.disbursement_charge,
-        instalment_charge: members.instalment_charge,
-        overdue_charge: members.overdue_charge,
-        retired: 0,
-    })
-}
-
-/// The row of the same product, retired.
-fn retired(row: ProductRow) -> ProductRow
-    ensures { result ≡ record row { retired = 1 } }
-{
-    let mut row = row;
-    row.retired = 1;
-    row
-}
 
 impl<S: Alter> Store<S> {
     ghost use Rattle.mf_store.specs.Stands.{StandsFor, IsClean, Leaves, Stays, IsOpen, FaultsAloneShut};

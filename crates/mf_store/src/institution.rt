@@ -5,7 +5,6 @@ ghost use Rattle.mf_base.specs.declared.fault.Fault.TheVariants.{F20};
 ghost use Rattle.mf_model.specs.Institution.{Institution};
 
 use crate::store::Store;
-use crate::stored::stored;
 use mf_account::{LoanAccount, Receipt};
 use mf_base::{Choice, Day, Fault};
 use mf_catalog::{ChargeDef, Product};
@@ -14,6 +13,7 @@ use mf_model::{
     ReceiptUse,
 };
 use mf_office::{Account, Caller, Name, OfficeNo, Role};
+use mf_store_values::stored;
 use sqlite::Alter;
 use std::alloc::Global;
 

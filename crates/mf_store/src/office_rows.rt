@@ -3,138 +3,22 @@
 ghost use Rattle.std.specs.Prelude.{◌≡◌, ℕ, List, map, Some, OnOk, IfOk, IfErr};
 ghost use Rattle.std.specs.List.{AllByRecursion};
 ghost use Rattle.mf_base.specs.declared.fault.Fault.TheVariants.{F20};
-ghost use Rattle.mf_model.specs.Institution.{Institution, Ledger as ModelLedger, Staff};
+ghost use Rattle.mf_model.specs.Institution.{Institution, Ledger as ModelLedger};
 ghost use Rattle.mf_model.specs.Store.{rows_at, ledger_at};
-ghost use Rattle.mf_store_records.specs.Rows.{staff_row, client_row, loan_row};
-ghost use Rattle.mf_store_accounts.specs.Flat.{staff_in, client_in, loan_in, numbered_from};
+ghost use Rattle.mf_store_records.specs.Rows.{loan_row};
+ghost use Rattle.mf_store_accounts.specs.Flat.{loan_in};
 
-use crate::loans::{account_number, loan_from};
 use crate::store::Store;
-use crate::stored::stored;
-use crate::visible::office_number;
-use mf_account::Entry;
-use mf_base::{Choice, Fault};
-use mf_model::Loan;
-use mf_office::{Account, Name, OfficeNo, Role};
+use mf_base::Fault;
+use mf_office::{Account, Name, OfficeNo};
 use mf_store_records::{ClientRow, LoanRow, StaffRow, read_row};
+use mf_store_values::{
+    Ledger, OfficeRows, StaffMember, account_number, loan_from, names_from, office_number,
+    staff_from,
+};
 use sqlite::{Alter, Row};
 use std::alloc::Global;
 use std::marker::Model;
-
-/// A member of staff.
-#[derive(Debug, Drop)]
-pub struct StaffMember {
-    pub name: Name,
-    pub role: Role,
-}
-
-impl Model for StaffMember {
-    ghost use Rattle.mf_model.specs.Institution.{Staff};
-
-    ghost Value = { Staff };
-
-    ghost view = { λ member. record { name = member.name; role = member.role } };
-}
-
-/// A loan, and what was entered of it, in the order of the entries' numbers.
-#[derive(Debug, Drop)]
-pub struct Ledger {
-    pub loan: Loan,
-    pub entries: Vec<Entry>,
-}
-
-impl Model for Ledger {
-    ghost use Rattle.mf_model.specs.Institution.{Ledger};
-
-    ghost Value = { Ledger };
-
-    ghost view = { λ ledger. record { loan = ledger.loan; entries = ledger.entries.items } };
-}
-
-/// What belongs to one office: its staff, its clients' names and its loans, each by number from 1.
-#[derive(Debug, Drop)]
-pub struct OfficeRows {
-    staff: Vec<StaffMember>,
-    clients: Vec<Name>,
-    loans: Vec<Ledger>,
-}
-
-impl Model for OfficeRows {
-    ghost use Rattle.mf_model.specs.Institution.{Rows};
-
-    ghost Value = { Rows };
-
-    ghost view = { λ rows. record { staff = rows.staff.items; clients = rows.clients.items; loans = rows.loans.items } };
-}
-
-impl OfficeRows {
-    /// The staff: number 1 first.
-    pub fn staff(&self) -> &[StaffMember]
-        ensures { result.now ≡ self.now.staff }
-    {
-        self.staff.as_slice()
-    }
-
-    /// The clients' names: number 1 first.
-    pub fn clients(&self) -> &[Name]
-        ensures { result.now ≡ self.now.clients }
-    {
-        self.clients.as_slice()
-    }
-
-    /// The loans: number 1 first.
-    pub fn loans(&self) -> &[Ledger]
-        ensures { result.now ≡ self.now.loans }
-    {
-        self.loans.as_slice()
-    }
-}
-
-/// The member of staff of a row.
-fn member_from(row: &Row) -> Result<StaffMember, Fault>
-    ensures member { IfOk result (λ member. (office number : ℕ) (s : Staff) → row.now ≡ staff_row (staff_in office number s) → member ≡ s) }
-    ensures gives_up { IfErr result (λ fault. fault ≡ F20) }
-{
-    let found = read_row::<StaffRow>(row)?;
-    let role = stored(Role::from_number(found.role))?;
-    Ok(StaffMember {
-        name: found.name.into_name(),
-        role,
-    })
-}
-
-/// The staff of the rows, in order.
-fn staff_from(alloc: Global, rows: &[Row]) -> Result<Vec<StaffMember>, Fault>
-    ensures staff { IfOk result (λ list. (office : ℕ) (staff : List Staff) → rows.now ≡ numbered_from (λ number s. staff_row (staff_in office number s)) 1 staff → list.items ≡ staff) }
-    ensures gives_up { IfErr result (λ fault. fault ≡ F20) }
-{
-    let mut staff = Vec::new(alloc);
-    for row in rows {
-        staff.push(member_from(row)?)?;
-    }
-    Ok(staff)
-}
-
-/// The name of a client's row.
-fn name_from(row: &Row) -> Result<Name, Fault>
-    ensures name { IfOk result (λ found. (office number : ℕ) (name : List ℕ) → row.now ≡ client_row (client_in office number name) → found ≡ name) }
-    ensures gives_up { IfErr result (λ fault. fault ≡ F20) }
-{
-    let found = read_row::<ClientRow>(row)?;
-    Ok(found.name.into_name())
-}
-
-/// The names of the rows, in order.
-fn names_from(alloc: Global, rows: &[Row]) -> Result<Vec<Name>, Fault>
-    ensures names { IfOk result (λ list. (office : ℕ) (names : List (List ℕ)) → rows.now ≡ numbered_from (λ number name. client_row (client_in office number name)) 1 names → list.items ≡ names) }
-    ensures gives_up { IfErr result (λ fault. fault ≡ F20) }
-{
-    let mut names = Vec::new(alloc);
-    for row in rows {
-        names.push(name_from(row)?)?;
-    }
-    Ok(names)
-}
 
 impl<S: Alter> Store<S> {
     ghost use Rattle.mf_store.specs.Stands.{StandsFor, IsClean, Stays, IsOpen};
@@ -214,10 +98,6 @@ impl<S: Alter> Store<S> {
         let staff = self.staff_at(alloc, office)?;
         let clients = self.clients_at(alloc, office)?;
         let loans = self.ledgers_at(alloc, office)?;
-        Ok(OfficeRows {
-            staff,
-            clients,
-            loans,
-        })
+        Ok(OfficeRows::new(staff, clients, loans))
     }
 }

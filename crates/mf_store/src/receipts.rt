@@ -1,74 +1,23 @@
-//! The receipts that entries carry: where one was used, and its row beside that of a new entry.
+//! Where a receipt was used.
 
-ghost use Rattle.std.specs.Prelude.{◌≡◌, ℕ, find, option_map, OnOk, IfOk, IfErr};
-ghost use Rattle.mf_account.specs.declared.entry.Entry.{Entry as ModelEntry};
+ghost use Rattle.std.specs.Prelude.{◌≡◌, find, option_map, OnOk, IfOk, IfErr};
 ghost use Rattle.mf_base.specs.declared.fault.Fault.TheVariants.{F20};
 ghost use Rattle.mf_model.specs.Institution.{Institution};
-ghost use Rattle.mf_model.specs.Receipts.{Use, use_by};
 ghost use Rattle.mf_model.specs.Store.{receipt_at, use_at};
 ghost use Rattle.mf_store_records.specs.Rows.{is_entry};
-ghost use Rattle.mf_store_accounts.specs.Flat.{entry_in, tables_of};
-ghost use Rattle.mf_store_accounts.specs.ReceiptRows.{receipt_in, entry_added};
+ghost use Rattle.mf_store_accounts.specs.Flat.{tables_of};
+ghost use Rattle.mf_store_accounts.specs.ReceiptRows.{receipt_in};
 
-use crate::loans::{account_number, day_from};
 use crate::store::Store;
-use crate::stored::{stored, unsigned};
 use mf_account::Receipt;
 use mf_base::Fault;
 use mf_model::ReceiptUse;
 use mf_office::OfficeNo;
-use mf_store_records::{EntryRow, ReceiptRow, StoreWrite, Text};
+use mf_store_changes::same_text;
+use mf_store_records::{EntryRow, ReceiptRow, Text};
+use mf_store_values::{stored, use_from};
 use sqlite::Alter;
 use std::alloc::Global;
-
-/// A text that is the same.
-fn same_text(alloc: Global, text: &str) -> Result<Text, Fault>
-    ensures text { IfOk result (λ same. same ≡ text.now) }
-    ensures gives_up { IfErr result (λ fault. fault ≡ F20) }
-{
-    Ok(Text::new(String::from_str(alloc, text)?))
-}
-
-/// The writes that add an entry: its row, and that of its receipt where it carries one.
-pub(crate) fn writes_of(alloc: Global, entry: EntryRow) -> Result<Vec<StoreWrite>, Fault>
-    ensures writes { IfOk result (λ writes. writes.items ≡ entry_added entry) }
-    ensures gives_up { IfErr result (λ fault. fault ≡ F20) }
-{
-    let mut writes = Vec::new(alloc);
-    let office = entry.office;
-    let loan = entry.loan;
-    let seq = entry.seq;
-    let receipt = match &entry.receipt {
-        None => None,
-        Some(receipt) => Some(same_text(alloc, receipt.as_str())?),
-    };
-    writes.push(StoreWrite::AddEntry(entry))?;
-    if let Some(receipt) = receipt {
-        writes.push(StoreWrite::AddReceipt(ReceiptRow {
-            office,
-            receipt,
-            loan,
-            seq,
-        }))?;
-    }
-    Ok(writes)
-}
-
-/// What the rows of a receipt and of the entry that carries it stand for.
-fn use_from(receipt: ReceiptRow, entry: EntryRow) -> Result<ReceiptUse, Fault>
-    ensures found { IfOk result (λ found. (office : ℕ) (u : Use) (e : ModelEntry) → receipt ≡ receipt_in office u → entry ≡ entry_in office u.by.loan e → u.by ≡ use_by u.by.loan e → found ≡ u.by) }
-    ensures gives_up { IfErr result (λ fault. fault ≡ F20) }
-{
-    let loan = account_number(receipt.loan)?;
-    let day = day_from(&entry.day)?;
-    let amount = unsigned(entry.amount)?;
-    Ok(ReceiptUse {
-        loan,
-        seq: receipt.seq,
-        day,
-        amount,
-    })
-}
 
 impl<S: Alter> Store<S> {
     ghost use Rattle.mf_store.specs.Stands.{StandsFor, IsClean, Stays, IsOpen};

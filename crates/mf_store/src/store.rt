@@ -4,31 +4,36 @@ ghost use Rattle.mf_base.specs.DayText.{last_entered_day};
 ghost use Rattle.sqlite.specs.Held.{state};
 ghost use Rattle.mf_store_tables.specs.Writes.{Serves};
 ghost use Rattle.mf_model.specs.Institution.{Institution, newly_made, product_in};
-ghost use Rattle.mf_model.specs.Store.{counts_at, catalogue_counts, role_of};
+ghost use Rattle.mf_model.specs.Store.{Commits, counts_at, catalogue_counts, role_of};
+ghost use Rattle.mf_model.specs.declared.commit.Commit.TheVariants.{Enter, Reverse};
 ghost use Rattle.mf_model.specs.Tree.{is_there};
 ghost use Rattle.mf_store_accounts.specs.Flat.{key_at, tables_of};
 ghost use Rattle.mf_store_records.specs.Rows.{loan_row, office_row, is_loan_above, is_in_range, is_instalment_in};
 ghost use Rattle.mf_arrears.specs.Line.{line_of as line_of_loans};
-ghost use Rattle.mf_store.specs.Arrears.{Numbered, AreAbove, AreWholeLoans, rows_of_office, aged_loans};
+ghost use Rattle.mf_store_values.specs.Arrears.{Numbered, AreAbove, AreWholeLoans, rows_of_office, aged_loans};
 ghost use Rattle.mf_store_records.specs.Calls.{OnlyFaultsShut};
 ghost use Rattle.mf_store_records.specs.Writes.{schema_of, Holds};
 ghost use Rattle.mf_store.specs.Facts.{nothing_known};
 ghost use Rattle.mf_store.specs.Learning.{Tells};
-ghost use Rattle.mf_store.specs.Stands.{IsTabled, HasGoodDisk, LeavesTables, IsUnfounded, StandsFor, IsClean, Leaves, Stays, Becomes, IsOpen, FaultsAloneShut};
+ghost use Rattle.mf_store_commits.specs.Tabled.{IsTabled, HasGoodDisk, LeavesTables, IsUnfounded};
+ghost use Rattle.mf_store.specs.Stands.{StandsFor, IsClean, Leaves, Stays, IsOpen, FaultsAloneShut};
+ghost use Rattle.mf_store_changes.specs.Becoming.{Becomes};
 
-use crate::first::first_writes;
 use crate::known::{Known, News};
-use crate::office_line::read_line;
+use mf_account::LoanAccount;
 use mf_arrears::OfficeLine;
 use mf_base::{Day, Fault};
 use mf_catalog::Product;
 use mf_model::{CatalogueCounts, Counts, laws};
-use mf_office::{Caller, Key, OfficeNo, Role};
+use mf_office::{Account, Caller, Key, OfficeNo, Role};
+use mf_store_changes::first_writes;
+use mf_store_commits::{enter, reverse, write};
 use mf_store_records::{
     Listed, StoreWrite, Table, find_row, list_rows, loans_above, offices_within,
 };
 use mf_store_tables::apply;
-use sqlite::{Alter, Connection, Error, Row};
+use mf_store_values::read_line;
+use sqlite::{Alter, Connection, Row};
 use std::alloc::Global;
 use std::marker::Model;
 
@@ -50,34 +55,6 @@ impl<S: Alter> Model for Store<S> {
     ghost view = { λ s. record { connection = s.connection; known = s.known } };
 
     ghost invariant = { λ s. s.connection.in_transaction ≡ false };
-}
-
-/// What the store could not do is F20, whatever the cause.
-fn given_up<T>(answer: Result<T, Error>) -> Result<T, Fault>
-    ensures ok { IfOk answer (λ x. result ≡ Ok x) }
-    ensures err { OnErr answer (result ≡ Err Fault.F20) }
-{
-    match answer {
-        Ok(x) => Ok(x),
-        Err(_) => Err(Fault::F20),
-    }
-}
-
-/// Makes the writes in one commit, or none.
-fn write<S: Alter>(connection: &mut Connection<S>, writes: &[StoreWrite]) -> Result<(), Fault>
-    requires alone { connection.old.in_transaction ≡ false }
-    requires some { 0 < length writes.now }
-    ensures premise { HasGoodDisk S.Store connection.new → HasGoodDisk S.Store connection.old }
-    ensures gives_up { IfErr result (λ fault. fault ≡ F20) }
-    ensures shuts { OnlyFaultsShut (state S.Store connection.old) (state S.Store connection.new) }
-    ensures open { HasGoodDisk S.Store connection.new → OnOk result (IsTrue (state S.Store connection.new).is_open) }
-    ensures made { HasGoodDisk S.Store connection.new → OnOk result ((i j : Institution) → IsTabled S.Store connection.old i → Becomes writes.now i j → IsTabled S.Store connection.new j) }
-    ensures left { HasGoodDisk S.Store connection.new → OnOk result ((i j : Institution) → IsTabled S.Store connection.old i → Becomes writes.now i j → LeavesTables S.Store connection.new (j ∷ [])) }
-    ensures same { HasGoodDisk S.Store connection.new → OnErr result ((i : Institution) → IsTabled S.Store connection.old i → IsTabled S.Store connection.new i) }
-    ensures stop { HasGoodDisk S.Store connection.new → (i j : Institution) (is : List Institution) → IsTabled S.Store connection.old i → Becomes writes.now i j → LeavesTables S.Store connection.old is → LeavesTables S.Store connection.new (j ∷ is) }
-    ensures mode { connection.new.in_transaction ≡ false }
-{
-    given_up(apply(connection, writes))
 }
 
 impl<S: Alter> Store<S> {
@@ -286,5 +263,31 @@ impl<S: Alter> Store<S> {
         write(&mut self.connection, writes)?;
         self.known.learn(news);
         Ok(())
+    }
+
+    /// Adds the last entry of a loan's account to the loan, which has all the others and no more, and writes what that
+    /// changed of the loan's instalments and shares.
+    pub fn enter(&mut self, alloc: Global, loan: Account, account: LoanAccount) -> Result<(), Fault>
+        ensures commits { Commits (StandsFor S.Store) (IsClean S.Store) (Leaves S.Store) (Enter loan account) self.old self.new result }
+        ensures shuts { FaultsAloneShut S.Store self.old self.new }
+        ensures open { IsClean S.Store self.new → OnOk result (IsOpen S.Store self.new) }
+    {
+        enter(alloc, &mut self.connection, loan, account)
+    }
+
+    /// Writes an entry of a loan that is reversed in the loan's account, and what that changed of the loan's instalments
+    /// and shares. All other entries are the same in both. The row of the entry's receipt stays as it is.
+    pub fn reverse(
+        &mut self,
+        alloc: Global,
+        loan: Account,
+        seq: u32,
+        account: LoanAccount,
+    ) -> Result<(), Fault>
+        ensures commits { Commits (StandsFor S.Store) (IsClean S.Store) (Leaves S.Store) (Reverse loan seq account) self.old self.new result }
+        ensures shuts { FaultsAloneShut S.Store self.old self.new }
+        ensures open { IsClean S.Store self.new → OnOk result (IsOpen S.Store self.new) }
+    {
+        reverse(alloc, &mut self.connection, loan, seq, account)
     }
 }

@@ -1,70 +1,20 @@
 //! What an office sees, by the range of its hierarchy text.
 
-ghost use Rattle.std.specs.Prelude.{◌≡◌, ℕ, List, Option, map, is_some, OnOk, IfOk, IfErr};
+ghost use Rattle.std.specs.Prelude.{◌≡◌, Option, map, is_some, OnOk, IfOk, IfErr};
 ghost use Rattle.mf_base.specs.declared.fault.Fault.TheVariants.{F20};
 ghost use Rattle.mf_office.specs.Tree.{is_within};
-ghost use Rattle.mf_model.specs.Institution.{Institution, Office as ModelOffice};
+ghost use Rattle.mf_model.specs.Institution.{Institution};
 ghost use Rattle.mf_model.specs.Tree.{parent_of, seen_by, seen_office};
 ghost use Rattle.mf_model.specs.Desk.{line_of};
-ghost use Rattle.mf_store_accounts.specs.Flat.{key_at, office_under, sees, has_room};
-ghost use Rattle.mf_store_records.specs.Rows.{office_row};
+ghost use Rattle.mf_store_accounts.specs.Flat.{key_at, sees, has_room};
 
 use crate::store::Store;
 use mf_base::Fault;
 use mf_model::{OfficeList, laws};
-use mf_office::{Key, Office, OfficeNo, depth_by_key, in_range};
-use mf_store_records::{OfficeRow, read_row};
-use sqlite::{Alter, Row};
+use mf_office::{Key, OfficeNo, depth_by_key, in_range};
+use mf_store_values::offices_from;
+use sqlite::Alter;
 use std::alloc::Global;
-
-/// The number of an office, as each number in the tables is.
-pub(crate) fn office_number(number: u32) -> Result<OfficeNo, Fault>
-    ensures number { IfOk result (λ n. n ≡ number) }
-    ensures gives_up { IfErr result (λ fault. fault ≡ F20) }
-{
-    match OfficeNo::new(number) {
-        Some(number) => Ok(number),
-        None => Err(Fault::F20),
-    }
-}
-
-/// The number of the office above, where there is one.
-fn parent_number(number: Option<u32>) -> Result<Option<OfficeNo>, Fault>
-    ensures number { IfOk result (λ n. n ≡ number) }
-    ensures gives_up { IfErr result (λ fault. fault ≡ F20) }
-{
-    match number {
-        None => Ok(None),
-        Some(number) => Ok(Some(office_number(number)?)),
-    }
-}
-
-/// The office of a row.
-fn office_from(row: &Row) -> Result<Office, Fault>
-    ensures office { IfOk result (λ office. (parents : ℕ → Option ℕ) (f : ModelOffice) → row.now ≡ office_row (office_under parents f) → office ≡ line_of f) }
-    ensures gives_up { IfErr result (λ fault. fault ≡ F20) }
-{
-    let found = read_row::<OfficeRow>(row)?;
-    let number = office_number(found.number)?;
-    let parent = parent_number(found.parent)?;
-    Ok(Office {
-        number,
-        parent,
-        name: found.name.into_name(),
-    })
-}
-
-/// The offices of the rows, in order.
-fn offices_from(alloc: Global, rows: &[Row]) -> Result<OfficeList, Fault>
-    ensures offices { IfOk result (λ list. (parents : ℕ → Option ℕ) (fs : List ModelOffice) → rows.now ≡ map (λ f. office_row (office_under parents f)) fs → list ≡ map line_of fs) }
-    ensures gives_up { IfErr result (λ fault. fault ≡ F20) }
-{
-    let mut offices = Vec::new(alloc);
-    for row in rows {
-        offices.push(office_from(row)?)?;
-    }
-    Ok(OfficeList::new(offices))
-}
 
 /// Whether a key lies in the range of another.
 fn is_below(alloc: Global, above: Option<Key>, key: Option<Key>) -> Result<bool, Fault>

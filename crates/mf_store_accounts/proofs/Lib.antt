@@ -1,3 +1,5 @@
+pub mod ListLemmas
+pub mod ResultLemmas
 pub mod AnswerLemmas
 pub mod NumberedLemmas
 pub mod SameLemmas

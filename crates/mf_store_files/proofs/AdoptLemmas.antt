@@ -16,8 +16,9 @@ use Rattle.mf_store_tables.specs.Writes.{Serves}
 use Rattle.mf_store_upgrade.specs.Upgrade.{First as Kept_first, schema_kept, Holds as HoldsKept}
 use Rattle.mf_store_upgrade.specs.Upgraded.{IsKeepingFirst, IsUpgradedTo}
 use Rattle.mf_store.specs.Facts.{Kept}
-use Rattle.mf_store.specs.Stands.{HasGoodDisk, IsTabled, StandsFor, IsClean, IsOpen, Leaves}
-use Rattle.mf_store.proofs.StandLemmas.{unchanged_stays}
+use Rattle.mf_store_commits.specs.Tabled.{HasGoodDisk, IsTabled}
+use Rattle.mf_store.specs.Stands.{StandsFor, IsClean, IsOpen, Leaves}
+use Rattle.mf_store_commits.proofs.StandLemmas.{unchanged_stays}
 use Rattle.mf_store_files.specs.declared.adopted.Found.{Found}
 use Rattle.mf_store_files.specs.declared.adopted.Found.TheVariants.{Nothing, Present, First}
 use Rattle.mf_store_files.specs.First.{IsTabledFirst, IsLeftFirst}

@@ -45,7 +45,7 @@ use Rattle.mf_store_records.specs.declared.instalments.InstalmentRow.{Instalment
 use Rattle.mf_store_records.specs.declared.shares.ShareRow.{ShareRow}
 use Rattle.mf_store_accounts.specs.Flat.{numbered_from, tables_of, instalment_in, share_in, how_number, portion_number, instalments_kept, shares_kept, placed_parts, parts_from, kept_of, rows_of_loans, rows_by_loan}
 use Rattle.mf_store_files.proofs.HeldLemmas.{is_number, is_amount, is_text, stored_held, low_bytes, digits_low, portion_low}
-use Rattle.mf_store.proofs.LoanRowLemmas.{all_append, all_weaker}
+use Rattle.mf_store_accounts.proofs.ListLemmas.{all_append, all_weaker}
 
 -- ---- instalments
 

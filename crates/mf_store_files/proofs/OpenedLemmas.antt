@@ -11,7 +11,7 @@ use Rattle.mf_store_rows.specs.Schemas.{first_schema}
 use Rattle.mf_store_accounts.specs.Flat.{tables_of}
 use Rattle.mf_store_sound.specs.Schemas.{first_tables_of}
 use Rattle.mf_store_upgrade.specs.Upgrade.{HoldsFirst}
-use Rattle.mf_store.specs.Stands.{IsTabled}
+use Rattle.mf_store_commits.specs.Tabled.{IsTabled}
 use Rattle.mf_store_files.specs.First.{IsTabledFirst}
 use Rattle.mf_store_files.specs.Held.{HoldsSound, HoldsSoundFirst}
 

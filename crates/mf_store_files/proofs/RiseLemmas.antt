@@ -23,9 +23,10 @@ use Rattle.mf_store_records.proofs.TableLemmas.{by_receipt_total}
 use Rattle.mf_store_accounts.specs.Flat.{numbered_from, all_rows, tables_of, office_under, staff_in, client_in, charge_as, product_as, loan_in, entry_in, instalment_in, share_in, instalments_kept, placed_parts, parts_from, shares_kept, kept_of, loans_of, rows_of_loans, rows_by_loan, own_entries}
 use Rattle.mf_store_accounts.specs.ReceiptRows.{receipt_in, carried}
 use Rattle.mf_store_files.proofs.HeldLemmas.{AreNumberedFrom, numbers_by_place}
-use Rattle.mf_store.proofs.LoanRowLemmas.{all_append, all_map, all_weaker, all_loans, all_offices}
-use Rattle.mf_store.proofs.ReceiptRowLemmas.{AreOthers, AreAllApart, all_apart, others_of, others_above}
-use Rattle.mf_store.proofs.SortedLemmas.{rises_sorted}
+use Rattle.mf_store_accounts.proofs.ListLemmas.{all_append, all_map, all_weaker}
+use Rattle.mf_store_changes.proofs.LoanRowLemmas.{all_loans, all_offices}
+use Rattle.mf_store_changes.proofs.ReceiptRowLemmas.{AreOthers, AreAllApart, all_apart, others_of, others_above}
+use Rattle.mf_store_changes.proofs.SortedLemmas.{rises_sorted}
 
 -- ---- orders of keys
 

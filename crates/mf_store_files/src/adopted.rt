@@ -13,7 +13,8 @@ ghost use Rattle.mf_store_records.specs.Tables.{schema};
 ghost use Rattle.mf_store_records.specs.Writes.{schema_of, Holds};
 ghost use Rattle.mf_store_rows.specs.Schemas.{first_schema};
 ghost use Rattle.mf_store_rows.specs.Whole.{HaveRowids, HaveFirstRowids};
-ghost use Rattle.mf_store.specs.Stands.{IsTabled, IsUnfounded, StandsFor, IsClean, Leaves, IsOpen};
+ghost use Rattle.mf_store_commits.specs.Tabled.{IsTabled, IsUnfounded};
+ghost use Rattle.mf_store.specs.Stands.{StandsFor, IsClean, Leaves, IsOpen};
 ghost use Rattle.mf_store_files.specs.First.{IsTabledFirst, IsLeftFirst};
 ghost use Rattle.mf_store_files.specs.Held.{HoldsSound, HoldsSoundFirst};
 

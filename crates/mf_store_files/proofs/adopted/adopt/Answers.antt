@@ -1,5 +1,5 @@
 use Rattle.std.proofs.Common.{◌∙◌}
-use Rattle.mf_store.proofs.StandLemmas.{weaker_if_ok}
+use Rattle.mf_store_accounts.proofs.ResultLemmas.{weaker_if_ok}
 use Rattle.mf_store_files.proofs.AdoptLemmas.{of_any, nothing_present, nothing_first, present_first}
 use Rattle.mf_store_files.proofs.adopted.adopt.Goals as goal
 

@@ -1,5 +1,5 @@
 use Rattle.std.proofs.Common.{subst}
-use Rattle.mf_store.specs.Stands.{HasGoodDisk}
+use Rattle.mf_store_commits.specs.Tabled.{HasGoodDisk}
 use Rattle.mf_store_files.proofs.adopted.take_over.Goals as goal
 
 pub returns-in-Ok-nothing-clause-sound : goal.returns-in-Ok-nothing-clause-sound

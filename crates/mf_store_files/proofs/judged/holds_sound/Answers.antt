@@ -1,6 +1,6 @@
 use Rattle.std.proofs.Common.{IsTrue}
 use Rattle.sqlite.specs.Held.{state}
-use Rattle.mf_store.proofs.StandLemmas.{weaker_if_ok}
+use Rattle.mf_store_accounts.proofs.ResultLemmas.{weaker_if_ok}
 use Rattle.mf_store_files.specs.Held.{HoldsSound}
 use Rattle.mf_store_files.proofs.TableLemmas.{at_none, at_some}
 use Rattle.mf_store_files.proofs.JudgedLemmas.{can_be_held, holds_sound, are_of_sound}

@@ -5,7 +5,7 @@ use Rattle.mf_store_records.specs.Rows.{Lists}
 use Rattle.mf_store_records.specs.Writes.{Holds}
 use Rattle.mf_store_upgrade.specs.Upgraded.{IsUpgradedTo}
 use Rattle.mf_store_sound.specs.Schemas.{first_tables_of}
-use Rattle.mf_store.proofs.StandLemmas.{weaker_on_ok}
+use Rattle.mf_store_accounts.proofs.ResultLemmas.{weaker_on_ok}
 use Rattle.mf_store_files.proofs.UpgradedLemmas.{meta_is, can_upgrade, upgraded_is}
 use Rattle.mf_store_files.proofs.upgraded.upgrade_tables.Goals as goal
 

@@ -3,7 +3,7 @@ use Rattle.mf_model.specs.Accounts.{running_from, terms_in}
 use Rattle.mf_account.specs.Change.{replayed}
 use Rattle.std.specs.Option.{option_map}
 use Rattle.mf_store.proofs.LoanLemmas.{replay_is}
-use Rattle.mf_store.proofs.StandLemmas.{weaker_if_ok}
+use Rattle.mf_store_accounts.proofs.ResultLemmas.{weaker_if_ok}
 use Rattle.mf_store.proofs.store.Store.account_with.Goals as goal
 
 pub returns-clause-value : goal.returns-clause-value

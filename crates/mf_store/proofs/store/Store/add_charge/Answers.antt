@@ -4,8 +4,8 @@ use Rattle.mf_model.specs.Institution.{Charge}
 use Rattle.mf_model.specs.declared.commit.Commit.TheVariants.{AddCharge}
 use Rattle.mf_store_accounts.specs.Flat.{charge_as}
 use Rattle.mf_store_records.specs.declared.writes.StoreWrite.TheVariants.{PutCharge}
-use Rattle.mf_store.proofs.CatalogueLemmas.{charge_becomes}
-use Rattle.mf_store.proofs.CommitLemmas.{made_by}
+use Rattle.mf_store_changes.proofs.CatalogueLemmas.{charge_becomes}
+use Rattle.mf_store.proofs.MadeLemmas.{made_by}
 use Rattle.mf_store.specs.declared.known.News.TheVariants.{Catalogue}
 use Rattle.mf_store.proofs.NewsLemmas.{charge_tells}
 use Rattle.mf_store.proofs.store.Store.add_charge.Goals as goal

@@ -7,8 +7,9 @@ use Rattle.mf_model.specs.Tree.{is_there}
 use Rattle.mf_store_accounts.specs.Flat.{loan_in}
 use Rattle.mf_store_records.specs.declared.writes.StoreWrite.TheVariants as write
 use Rattle.mf_model.specs.Stages.{disbursed_on}
-use Rattle.mf_store.proofs.CommitLemmas.{made_by, none_there}
-use Rattle.mf_store.proofs.LoanLemmas.{loan_becomes}
+use Rattle.mf_store.proofs.MadeLemmas.{made_by}
+use Rattle.mf_store_changes.proofs.CommitLemmas.{none_there}
+use Rattle.mf_store_changes.proofs.LoanLemmas.{loan_becomes}
 use Rattle.mf_store.proofs.KeptLemmas.{stays_then}
 use Rattle.mf_store.specs.declared.known.News.TheVariants.{OfficeCounts}
 use Rattle.mf_store.proofs.NewsLemmas.{loan_tells}

@@ -4,8 +4,8 @@ use Rattle.mf_model.specs.Institution.{Offer}
 use Rattle.mf_model.specs.declared.commit.Commit.TheVariants.{AddProduct}
 use Rattle.mf_store_accounts.specs.Flat.{product_as}
 use Rattle.mf_store_records.specs.declared.writes.StoreWrite.TheVariants as write
-use Rattle.mf_store.proofs.CatalogueLemmas.{product_becomes}
-use Rattle.mf_store.proofs.CommitLemmas.{made_by}
+use Rattle.mf_store_changes.proofs.CatalogueLemmas.{product_becomes}
+use Rattle.mf_store.proofs.MadeLemmas.{made_by}
 use Rattle.mf_store.specs.declared.known.News.TheVariants.{Catalogue}
 use Rattle.mf_store.proofs.NewsLemmas.{product_tells}
 use Rattle.mf_store.proofs.store.Store.add_product.Goals as goal

@@ -6,7 +6,8 @@ use Rattle.mf_model.specs.Tree.{is_there}
 use Rattle.mf_office.specs.Roles.{role_number}
 use Rattle.mf_store_records.specs.declared.staff.StaffRow.{StaffRow}
 use Rattle.mf_store_records.specs.declared.writes.StoreWrite.TheVariants.{PutStaff}
-use Rattle.mf_store.proofs.CommitLemmas.{made_by, staff_becomes, same_staff}
+use Rattle.mf_store.proofs.MadeLemmas.{made_by}
+use Rattle.mf_store_changes.proofs.CommitLemmas.{staff_becomes, same_staff}
 use Rattle.mf_store.proofs.KeptLemmas.{stays_then}
 use Rattle.mf_store.specs.declared.known.News.TheVariants.{OfficeCounts}
 use Rattle.mf_store.proofs.NewsLemmas.{staff_tells}

@@ -3,10 +3,10 @@ use Rattle.std.specs.List.{list_any}
 use Rattle.mf_alloc.specs.Sums.{Sums, is_open}
 use Rattle.mf_model.specs.Accounts.{status_in}
 use Rattle.mf_store_accounts.specs.Flat.{entries_of}
-use Rattle.mf_store.specs.Statuses.{status_told}
+use Rattle.mf_store_values.specs.Statuses.{status_told}
 use Rattle.mf_store.proofs.ArrearsLemmas.{active_status}
 use Rattle.mf_store.proofs.InstalmentReadLemmas.{loan_account_sound}
-use Rattle.mf_store.proofs.StandLemmas.{weaker_if_ok}
+use Rattle.mf_store_accounts.proofs.ResultLemmas.{weaker_if_ok}
 use Rattle.mf_store.proofs.StatusLemmas.{status_read}
 use Rattle.mf_store.proofs.store.Store.disbursed_status.Goals as goal
 

@@ -2,8 +2,8 @@ use Rattle.std.proofs.Common.{◌≡◌, map, filter, ◌∙◌}
 use Rattle.mf_model.specs.Store.{ledger_at}
 use Rattle.mf_store_records.specs.Rows.{entry_row as entry_stored, is_entry_of}
 use Rattle.mf_store_accounts.specs.Flat.{tables_of, entries_of}
-use Rattle.mf_store.proofs.EnteredLemmas.{loan_called, loan_entries_shown}
-use Rattle.mf_store.proofs.StandLemmas.{weaker_if_ok}
+use Rattle.mf_store_changes.proofs.EnteredLemmas.{loan_called, loan_entries_shown}
+use Rattle.mf_store_accounts.proofs.ResultLemmas.{weaker_if_ok}
 use Rattle.mf_store.proofs.store.Store.entries_at.Goals as goal
 
 pub returns-clause-value : goal.returns-clause-value

@@ -1,8 +1,8 @@
 use Rattle.std.proofs.Common.{sym, subst}
-use Rattle.mf_store.specs.Stands.{Begins}
+use Rattle.mf_store_changes.specs.Becoming.{Begins}
 use Rattle.mf_model.specs.Institution.{newly_made}
 use Rattle.mf_store.proofs.FirstLemmas.{founded_stands}
-use Rattle.mf_store.proofs.StandLemmas.{made_leaves}
+use Rattle.mf_store_commits.proofs.StandLemmas.{made_leaves}
 use Rattle.mf_store.proofs.KeptLemmas.{first_known}
 use Rattle.mf_store.proofs.store.Store.found.Goals as goal
 

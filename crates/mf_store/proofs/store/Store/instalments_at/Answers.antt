@@ -4,7 +4,7 @@ use Rattle.mf_model.specs.Accounts.{account_in, of_account}
 use Rattle.mf_store_records.specs.Rows.{instalment_row as instalment_stored, is_instalment_of}
 use Rattle.mf_store_accounts.specs.Flat.{tables_of, instalments_kept, kept_of}
 use Rattle.mf_store.proofs.InstalmentReadLemmas.{instalments_shown, kept_whole, sums_kept}
-use Rattle.mf_store.proofs.StandLemmas.{weaker_if_ok}
+use Rattle.mf_store_accounts.proofs.ResultLemmas.{weaker_if_ok}
 use Rattle.mf_store.proofs.store.Store.instalments_at.Goals as goal
 
 pub returns-clause-value : goal.returns-clause-value

@@ -1,7 +1,7 @@
 use Rattle.std.proofs.Common.{◌≡◌, ◌∙◌}
 use Rattle.mf_model.specs.Store.{rows_at}
 use Rattle.mf_store.proofs.LoanLemmas.{counted, counted_there, counted_loans, loans_shown}
-use Rattle.mf_store.proofs.StandLemmas.{weaker_if_ok}
+use Rattle.mf_store_accounts.proofs.ResultLemmas.{weaker_if_ok}
 use Rattle.mf_store.proofs.store.Store.ledgers_at.Goals as goal
 
 pub returns-clause-value : goal.returns-clause-value

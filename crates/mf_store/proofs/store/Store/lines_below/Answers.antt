@@ -1,8 +1,8 @@
 use Rattle.std.proofs.Common.{◌≡◌, map, ap, ◌∙◌}
 use Rattle.mf_model.specs.Arrears.{arrears_seen}
-use Rattle.mf_store.specs.Arrears.{line_at}
+use Rattle.mf_store_values.specs.Arrears.{line_at}
 use Rattle.mf_store.proofs.ArrearsLemmas.{lines_seen}
-use Rattle.mf_store.proofs.StandLemmas.{weaker_if_ok}
+use Rattle.mf_store_accounts.proofs.ResultLemmas.{weaker_if_ok}
 use Rattle.mf_store.proofs.store.Store.lines_below.Goals as goal
 
 pub returns-clause-value : goal.returns-clause-value

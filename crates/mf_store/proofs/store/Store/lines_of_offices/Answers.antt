@@ -1,6 +1,6 @@
 use Rattle.std.proofs.Common.{map, ap, ◌∙◌}
 use Rattle.std.proofs.lemmas.List.{take_all}
-use Rattle.mf_store.specs.Arrears.{line_at}
+use Rattle.mf_store_values.specs.Arrears.{line_at}
 use Rattle.mf_store.proofs.ArrearsLemmas.{mapped_office}
 use Rattle.mf_store.proofs.KeptLemmas.{stays_then}
 use Rattle.mf_store.proofs.store.Store.lines_of_offices.Goals as goal

@@ -1,6 +1,6 @@
 use Rattle.std.proofs.Common.{◌≡◌, map, take}
 use Rattle.mf_model.specs.Institution.{Institution}
-use Rattle.mf_store.specs.Arrears.{line_at}
+use Rattle.mf_store_values.specs.Arrears.{line_at}
 use Rattle.mf_store.specs.Stands.{Stays, StandsFor, IsClean, IsOpen}
 use Rattle.mf_store.proofs.store.Store.lines_of_offices.Given as goal
 

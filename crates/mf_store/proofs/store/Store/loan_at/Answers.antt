@@ -3,7 +3,7 @@ use Rattle.mf_model.specs.Institution.{numbered}
 use Rattle.mf_model.specs.Store.{rows_at}
 use Rattle.mf_store_accounts.specs.Flat.{loan_in, loans_of, loan_row_at}
 use Rattle.mf_store.proofs.CatalogueLemmas.{known}
-use Rattle.mf_store.proofs.LoanLemmas.{numbered_loan}
+use Rattle.mf_store_changes.proofs.LoanLemmas.{numbered_loan}
 use Rattle.mf_store.proofs.store.Store.loan_at.Goals as goal
 
 pub returns-clause-value : goal.returns-clause-value

@@ -1,7 +1,7 @@
 use Rattle.std.proofs.Common.{◌≡◌, ◌∙◌}
 use Rattle.mf_model.specs.Store.{rows_at, loans_at}
 use Rattle.mf_store.proofs.LoanLemmas.{shown_loans, shown_there, above_shown, lines_shown}
-use Rattle.mf_store.proofs.StandLemmas.{weaker_if_ok}
+use Rattle.mf_store_accounts.proofs.ResultLemmas.{weaker_if_ok}
 use Rattle.mf_store.proofs.store.Store.loans_above.Goals as goal
 
 pub returns-clause-value : goal.returns-clause-value

@@ -2,9 +2,9 @@ use Rattle.std.proofs.Common.{◌≡◌, ap, ◌∙◌, arith}
 use Rattle.mf_arrears.specs.Line.{line_of}
 use Rattle.mf_model.specs.Arrears.{active_in}
 use Rattle.mf_model.specs.Store.{rows_at}
-use Rattle.mf_store.specs.Arrears.{aged_loans}
+use Rattle.mf_store_values.specs.Arrears.{aged_loans}
 use Rattle.mf_store.proofs.OfficeLoansLemmas.{loans_from, above_from, office_rows, office_accounts, whole_from, aged_from}
-use Rattle.mf_store.proofs.StandLemmas.{weaker_if_ok}
+use Rattle.mf_store_accounts.proofs.ResultLemmas.{weaker_if_ok}
 use Rattle.mf_store.proofs.store.Store.office_line.Goals as goal
 
 pub returns-clause-value : goal.returns-clause-value

@@ -1,5 +1,5 @@
 use Rattle.std.proofs.Common.{[], sym, ap, ◌∙◌, not}
-use Rattle.mf_store.proofs.StandLemmas.{made_leaves}
+use Rattle.mf_store_commits.proofs.StandLemmas.{made_leaves}
 use Rattle.mf_store.proofs.store.Store.over.Goals as goal
 
 pub returns-clause-leaves : goal.returns-clause-leaves

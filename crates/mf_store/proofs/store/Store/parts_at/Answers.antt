@@ -3,7 +3,7 @@ use Rattle.mf_store_records.specs.Rows.{share_row as share_stored, is_share_of}
 use Rattle.mf_store_accounts.specs.Flat.{tables_of, shares_kept, kept_of}
 use Rattle.mf_store_accounts.specs.Kept.{part_told}
 use Rattle.mf_store.proofs.PartReadLemmas.{shares_shown}
-use Rattle.mf_store.proofs.StandLemmas.{weaker_if_ok}
+use Rattle.mf_store_accounts.proofs.ResultLemmas.{weaker_if_ok}
 use Rattle.mf_store.proofs.store.Store.parts_at.Goals as goal
 
 pub returns-clause-value : goal.returns-clause-value

@@ -1,10 +1,10 @@
 use Rattle.std.proofs.Common.{◌≡◌, ◌++◌, List, length, sym, ap, ◌∙◌, arith}
 use Rattle.std.proofs.lemmas.List.{length-append}
 use Rattle.mf_alloc.specs.Sums.{Sums}
-use Rattle.mf_store.specs.ChangeWrites.{schedule_put}
+use Rattle.mf_store_changes.specs.ChangeWrites.{schedule_put}
 use Rattle.mf_store_accounts.specs.Flat.{numbered_from}
 use Rattle.mf_store.proofs.LoanLemmas.{fresh_rows}
-use Rattle.mf_store.proofs.StandLemmas.{weaker_on_ok}
+use Rattle.mf_store_accounts.proofs.ResultLemmas.{weaker_on_ok}
 use Rattle.mf_store.proofs.store.Store.put_schedule_of.Goals as goal
 
 pub returns-clause-writes : goal.returns-clause-writes

@@ -5,7 +5,7 @@ use Rattle.mf_model.specs.Accounts.{running_from, terms_in}
 use Rattle.mf_model.specs.Store.{account_at}
 use Rattle.mf_store.proofs.LoanLemmas.{account_replayed}
 use Rattle.mf_store.proofs.PartReadLemmas.{kept_is}
-use Rattle.mf_store.proofs.StandLemmas.{weaker_if_ok}
+use Rattle.mf_store_accounts.proofs.ResultLemmas.{weaker_if_ok}
 use Rattle.mf_store.proofs.store.Store.resume.Goals as goal
 
 pub returns-clause-value : goal.returns-clause-value

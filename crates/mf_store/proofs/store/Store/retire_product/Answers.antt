@@ -4,8 +4,9 @@ use Rattle.mf_model.specs.declared.commit.Commit.TheVariants.{RetireProduct}
 use Rattle.mf_store_accounts.specs.Flat.{product_as}
 use Rattle.mf_store_records.specs.declared.products.ProductRow.{ProductRow}
 use Rattle.mf_store_records.specs.declared.writes.StoreWrite.TheVariants.{PutProduct}
-use Rattle.mf_store.proofs.CatalogueLemmas.{known, retired_becomes}
-use Rattle.mf_store.proofs.CommitLemmas.{made_by}
+use Rattle.mf_store.proofs.CatalogueLemmas.{known}
+use Rattle.mf_store_changes.proofs.CatalogueLemmas.{retired_becomes}
+use Rattle.mf_store.proofs.MadeLemmas.{made_by}
 use Rattle.mf_store.specs.declared.known.News.TheVariants.{Retirement}
 use Rattle.mf_store.proofs.NewsLemmas.{retired_tells}
 use Rattle.mf_store.proofs.store.Store.retire_product.Goals as goal

@@ -1,39 +1,10 @@
-use Rattle.std.proofs.Common.{◌≡◌, ◌≤◌, ◌-◌, ◌++◌, ◌∷◌, [], true, List, length, sym, ap, ◌∙◌, subst, arith}
-use Rattle.mf_account.specs.declared.entry.Entry.{Entry}
-use Rattle.mf_account.specs.Standing.{entry_at, with_mark}
-use Rattle.mf_model.specs.Store.{committed}
 use Rattle.mf_model.specs.declared.commit.Commit.TheVariants.{Reverse}
-use Rattle.mf_store_records.specs.declared.writes.StoreWrite.TheVariants.{ChangeEntry}
-use Rattle.mf_store.specs.ChangeWrites.{change_writes}
-use Rattle.mf_store_accounts.specs.Flat.{entry_in}
-use Rattle.mf_store.specs.Stands.{Becomes}
-use Rattle.mf_store.specs.declared.known.News.TheVariants.{Nothing}
-use Rattle.mf_store.proofs.CommitLemmas.{made_by}
-use Rattle.mf_store.proofs.EnteredLemmas.{account_of_loan, as_long, handed_changed, loan_numbered, reversal_there}
-use Rattle.mf_store.proofs.EntryLemmas.{marked_entry}
-use Rattle.mf_store.proofs.KeptLemmas.{stays_same}
-use Rattle.mf_store.proofs.LoanLemmas.{reversal_becomes}
+use Rattle.mf_store.proofs.KeptLemmas.{known_commits, shuts_alike}
 use Rattle.mf_store.proofs.NewsLemmas.{reversal_tells}
 use Rattle.mf_store.proofs.store.Store.reverse.Goals as goal
 
 pub returns-clause-commits : goal.returns-clause-commits
-returns-clause-commits g c =
-    let loan = c.args.loan in
-    let seq = c.args.seq in
-    let account = c.args.account in
-    let row = c.in_ok-row.row in
-    let first_write = c.in_ok-push.ensures.items ∙ ap (λ ws. ws ++ ChangeEntry row ∷ []) c.new-writes.ensures.items in
-    let added = c.in_ok-put_change.ensures.writes ∙ ap (λ ws. ws ++ change_writes c.get-office.result c.get-loan.result account) first_write in
-    let writes = c.deref.ensures.value ∙ added ∙ (λ t. ChangeEntry row ∷ change_writes (c.get-office.ensures.value t) (c.get-loan.ensures.value t) account) in
-    made_by g.S.Store (Reverse loan seq account) c.args.self.now c.args.self.now c.make.new.self c.deref.result.now Nothing c.make.result (stays_same g.S.Store c.args.self.now)
-    (λ clean i s admitted. let handed = admitted.handed in
-    let of = account_of_loan loan handed.before i handed.there in
-    let before = of.ledger.entries in
-    let marked : account.loan.entries ≡ with_mark before (seq - 1) true = handed.entries.marked ∙ ap (λ (es : List Entry). with_mark es (seq - 1) true) of.entries in
-    let there = reversal_there handed.before.entries seq handed.entries.allowed in
-    let first = there.0 in
-    let last : seq ≤ length before = subst (λ (es : List Entry). seq ≤ length es) of.entries there.1 in
-    let changed = handed_changed loan account handed.before i s.sound admitted.sound of handed.others (as_long handed.before.entries account.loan.entries seq handed.entries.marked) handed.kept handed.change in
-    let row_is = c.in_ok-row.ensures.row ∙ (λ t. entry_in (c.get-office.ensures.value t) (c.get-loan.ensures.value t) (entry_at (marked t) (seq - 1))) ∙ ap (entry_in loan.office loan.number) (marked_entry before (seq - 1) (omega (arith, first, last))) in
-    (subst (λ ws. Becomes ws i (committed (Reverse loan seq account) i)) (sym writes) (reversal_becomes loan account of.ledger i s.sound of.there changed seq admitted.sound (loan_numbered loan of.ledger i s.sound of.there) first last marked row row_is), reversal_tells loan seq account i))
-    c.make.ensures.premise c.make.ensures.gives_up c.make.ensures.made c.make.ensures.left c.make.ensures.same c.make.ensures.stop
+returns-clause-commits g c = rw (← c.self.view_is) (known_commits g.S.Store (Reverse c.args.loan c.args.seq c.args.account) c.self.inside.connection c.reverse.new.connection c.self.inside.known c.reverse.result (reversal_tells c.args.loan c.args.seq c.args.account) c.reverse.ensures.commits)
+
+pub returns-clause-shuts : goal.returns-clause-shuts
+returns-clause-shuts g c = rw (← c.self.view_is) (shuts_alike g.S.Store c.self.inside.connection c.reverse.new.connection c.reverse.ensures.shuts)

@@ -1,6 +1,6 @@
 use Rattle.mf_store_accounts.specs.Flat.{tables_of}
 use Rattle.mf_store.proofs.KeptLemmas.{known_stays}
-use Rattle.mf_store.proofs.StandLemmas.{unchanged_stays}
+use Rattle.mf_store_commits.proofs.StandLemmas.{unchanged_stays}
 use Rattle.mf_store.proofs.store.Store.rows_above.Goals as goal
 
 pub returns-clause-kept : goal.returns-clause-kept

@@ -2,8 +2,8 @@ use Rattle.std.proofs.Common.{[], ◌∷◌, refl, ◌∙◌}
 use Rattle.mf_model.specs.declared.commit.Commit.TheVariants.{SetDay}
 use Rattle.mf_store_records.specs.declared.meta.MetaRow.{MetaRow}
 use Rattle.mf_store_records.specs.declared.writes.StoreWrite.TheVariants.{PutMeta}
-use Rattle.mf_store.proofs.CatalogueLemmas.{day_becomes}
-use Rattle.mf_store.proofs.CommitLemmas.{made_by}
+use Rattle.mf_store_changes.proofs.CatalogueLemmas.{day_becomes}
+use Rattle.mf_store.proofs.MadeLemmas.{made_by}
 use Rattle.mf_store.proofs.KeptLemmas.{stays_same}
 use Rattle.mf_store.specs.declared.known.News.TheVariants.{BusinessDay}
 use Rattle.mf_store.proofs.NewsLemmas.{day_tells}

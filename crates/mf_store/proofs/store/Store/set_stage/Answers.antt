@@ -6,15 +6,16 @@ use Rattle.mf_model.specs.Stages.{disbursed_on}
 use Rattle.mf_model.specs.Store.{committed, ledger_at}
 use Rattle.mf_model.specs.declared.loan.Loan.{Loan}
 use Rattle.mf_store_records.specs.declared.writes.StoreWrite.TheVariants.{PutLoan}
-use Rattle.mf_store.specs.ChangeWrites.{schedule_put}
+use Rattle.mf_store_changes.specs.ChangeWrites.{schedule_put}
 use Rattle.mf_store_accounts.specs.Flat.{instalments_kept, kept_of, loan_in}
-use Rattle.mf_store.specs.Stands.{Becomes}
+use Rattle.mf_store_changes.specs.Becoming.{Becomes}
 use Rattle.mf_store.specs.declared.known.News.TheVariants.{Nothing}
-use Rattle.mf_store.proofs.CommitLemmas.{made_by, none_there}
+use Rattle.mf_store.proofs.MadeLemmas.{made_by}
+use Rattle.mf_store_changes.proofs.CommitLemmas.{none_there}
 use Rattle.mf_store.proofs.CatalogueLemmas.{known}
-use Rattle.mf_store.proofs.EnteredLemmas.{no_entries}
+use Rattle.mf_store_changes.proofs.EnteredLemmas.{no_entries}
 use Rattle.mf_store.proofs.KeptLemmas.{stays_then}
-use Rattle.mf_store.proofs.LoanLemmas.{staged_becomes, loan_of}
+use Rattle.mf_store_changes.proofs.LoanLemmas.{staged_becomes, loan_of}
 use Rattle.mf_store.proofs.NewsLemmas.{stage_tells}
 use Rattle.mf_store.proofs.store.Store.set_stage.Goals as goal
 

@@ -1,6 +1,6 @@
 use Rattle.std.proofs.Common.{◌≡◌, ◌∙◌}
 use Rattle.mf_model.specs.Store.{rows_at}
-use Rattle.mf_store.proofs.StandLemmas.{weaker_if_ok}
+use Rattle.mf_store_accounts.proofs.ResultLemmas.{weaker_if_ok}
 use Rattle.mf_store.proofs.OfficeRowsLemmas.{staff_shown}
 use Rattle.mf_store.proofs.store.Store.staff_at.Goals as goal
 

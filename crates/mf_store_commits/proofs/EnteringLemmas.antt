@@ -1,0 +1,31 @@
+-- From writes to the commit that they make.
+use Rattle.std.proofs.Common.{◌≡◌, List, [], ◌∷◌, Result, IfErr, OnOk, OnErr}
+use Rattle.sqlite.specs.Held.{Held}
+use Rattle.sqlite_trees.specs.declared.store.Store.{Ghosts}
+use Rattle.mf_base.specs.declared.fault.Fault.{Fault}
+use Rattle.mf_base.specs.declared.fault.Fault.TheVariants.{F20}
+use Rattle.mf_model.specs.declared.commit.Commit.{Commit}
+use Rattle.mf_model.specs.Institution.{Institution}
+use Rattle.mf_model.specs.Store.{Commits, IsAdmitted, committed}
+use Rattle.mf_store_records.specs.declared.writes.StoreWrite.{StoreWrite}
+use Rattle.mf_store_accounts.proofs.ResultLemmas.{weaker_on_ok, weaker_on_err}
+use Rattle.mf_store_changes.specs.Becoming.{Becomes}
+use Rattle.mf_store_commits.specs.Tabled.{IsTabled, HasGoodDisk, LeavesTables}
+
+-- writes that make the change of each institution that admits it commit it
+pub made_by : {S : Type 0} (g : Ghosts S) (commit : Commit) (old new : Held S) (writes : List StoreWrite) (r : Result (Unit {0}) Fault)
+    → ((i : Institution) → IsTabled g old i → IsAdmitted commit i → Becomes writes i (committed commit i))
+    → (HasGoodDisk g new → HasGoodDisk g old) → IfErr r (λ fault. fault ≡ F20)
+    → (HasGoodDisk g new → OnOk r ((i j : Institution) → IsTabled g old i → Becomes writes i j → IsTabled g new j))
+    → (HasGoodDisk g new → OnOk r ((i j : Institution) → IsTabled g old i → Becomes writes i j → LeavesTables g new (j ∷ [])))
+    → (HasGoodDisk g new → OnErr r ((i : Institution) → IsTabled g old i → IsTabled g new i))
+    → (HasGoodDisk g new → (i j : Institution) (is : List Institution) → IsTabled g old i → Becomes writes i j → LeavesTables g old is → LeavesTables g new (j ∷ is))
+    → Commits (IsTabled g) (HasGoodDisk g) (LeavesTables g) commit old new r
+made_by g commit old new writes r becomes premise gives_up made left same stop = record {
+  premise = premise;
+  made = λ clean i s admitted. weaker_on_ok r _ (IsTabled g new (committed commit i)) (made clean) (λ m. m i (committed commit i) s (becomes i s admitted));
+  kept = λ clean i s admitted. weaker_on_ok r _ (LeavesTables g new (committed commit i ∷ [])) (left clean) (λ m. m i (committed commit i) s (becomes i s admitted));
+  same = λ clean i s. weaker_on_err r _ (IsTabled g new i) (same clean) (λ m. m i s);
+  gives_up = gives_up;
+  stop = λ clean i is s admitted l. stop clean i (committed commit i) is s (becomes i s admitted) l;
+}

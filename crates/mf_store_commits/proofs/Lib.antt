@@ -1,0 +1,2 @@
+pub mod StandLemmas
+pub mod EnteringLemmas

@@ -1,0 +1,63 @@
+//! An entry of a loan, and the reversal of one, each in one commit with what it changes of the loan's instalments and shares.
+
+ghost use Rattle.std.specs.Prelude.{◌≡◌, false, IsTrue, OnOk};
+ghost use Rattle.sqlite.specs.Held.{state};
+ghost use Rattle.mf_model.specs.Store.{Commits};
+ghost use Rattle.mf_model.specs.declared.commit.Commit.TheVariants.{Enter, Reverse};
+ghost use Rattle.mf_store_records.specs.Calls.{OnlyFaultsShut};
+ghost use Rattle.mf_store_commits.specs.Tabled.{IsTabled, HasGoodDisk, LeavesTables};
+
+use crate::commits::write;
+use mf_account::LoanAccount;
+use mf_base::Fault;
+use mf_office::Account;
+use mf_store_changes::{put_change, row_of_entry, writes_of};
+use mf_store_records::StoreWrite;
+use sqlite::{Alter, Connection};
+use std::alloc::Global;
+
+/// Adds the last entry of a loan's account to the loan, which has all the others and no more, and writes what that
+/// changed of the loan's instalments and shares. Where the entry carries a receipt, its row is added too.
+pub fn enter<S: Alter>(
+    alloc: Global,
+    connection: &mut Connection<S>,
+    loan: Account,
+    account: LoanAccount,
+) -> Result<(), Fault>
+    requires alone { connection.old.in_transaction ≡ false }
+    ensures commits { Commits (IsTabled S.Store) (HasGoodDisk S.Store) (LeavesTables S.Store) (Enter loan account) connection.old connection.new result }
+    ensures shuts { OnlyFaultsShut (state S.Store connection.old) (state S.Store connection.new) }
+    ensures open { HasGoodDisk S.Store connection.new → OnOk result (IsTrue (state S.Store connection.new).is_open) }
+    ensures mode { connection.new.in_transaction ≡ false }
+{
+    let office = loan.office.get();
+    let loan = loan.number.get();
+    let row = row_of_entry(alloc, office, loan, account.entry_count(), &account)?;
+    let mut writes = writes_of(alloc, row)?;
+    put_change(alloc, office, loan, &account, &mut writes)?;
+    write(connection, &writes)
+}
+
+/// Writes an entry of a loan that is reversed in the loan's account, and what that changed of the loan's instalments and
+/// shares. All other entries are the same in both. The row of the entry's receipt stays as it is.
+pub fn reverse<S: Alter>(
+    alloc: Global,
+    connection: &mut Connection<S>,
+    loan: Account,
+    seq: u32,
+    account: LoanAccount,
+) -> Result<(), Fault>
+    requires alone { connection.old.in_transaction ≡ false }
+    ensures commits { Commits (IsTabled S.Store) (HasGoodDisk S.Store) (LeavesTables S.Store) (Reverse loan seq account) connection.old connection.new result }
+    ensures shuts { OnlyFaultsShut (state S.Store connection.old) (state S.Store connection.new) }
+    ensures open { HasGoodDisk S.Store connection.new → OnOk result (IsTrue (state S.Store connection.new).is_open) }
+    ensures mode { connection.new.in_transaction ≡ false }
+{
+    let office = loan.office.get();
+    let loan = loan.number.get();
+    let row = row_of_entry(alloc, office, loan, seq, &account)?;
+    let mut writes = Vec::new(alloc);
+    writes.push(StoreWrite::ChangeEntry(row))?;
+    put_change(alloc, office, loan, &account, &mut writes)?;
+    write(connection, &writes)
+}

@@ -1,0 +1,6 @@
+pub mod CatalogueLemmas
+pub mod LoanLemmas
+pub mod ReadLemmas
+pub mod InstalmentLemmas
+pub mod FoldLemmas
+pub mod RowsLemmas

@@ -1,0 +1,10 @@
+use Rattle.std.proofs.Common.{◌≡◌, ℕ, List, map, take}
+use Rattle.std.specs.List.{AllByRecursion}
+use Rattle.mf_account.specs.declared.entry.Entry.{Entry as ModelEntry}
+use Rattle.mf_office.specs.Texts.{IsCaller}
+use Rattle.mf_store_records.specs.Rows.{entry_row as entry_stored}
+use Rattle.mf_store_accounts.specs.Flat.{entry_in}
+use Rattle.mf_store_values.proofs.entries.entries_from.Given as goal
+
+abbrev pub invariant-loop-row : goal.invariant-loop-row
+invariant-loop-row l = (office loan : ℕ) (es : List ModelEntry) → AllByRecursion (λ (e : ModelEntry). IsCaller e.staff) es → l.rows ≡ map (λ (e : ModelEntry). entry_stored (entry_in office loan e)) es → l.entries.items ≡ map (λ (e : ModelEntry). e) (take l.row-index es)

@@ -1,0 +1,19 @@
+use Rattle.std.proofs.Common.{◌≡◌, false, ℕ, List, []}
+use Rattle.sqlite.specs.Order.{Row}
+use Rattle.sqlite.specs.Given.{HasGiven}
+use Rattle.sqlite.specs.State.{HasCleanDisk, IsUnchanged, Survives}
+use Rattle.sqlite.specs.Held.{state}
+use Rattle.mf_store_values.specs.Folding.{IsKept}
+use Rattle.mf_store_values.proofs.FoldLemmas.{Tells}
+use Rattle.mf_store_values.proofs.fold.fold_loans.Given as goal
+
+abbrev pub invariant-rows : goal.invariant-rows
+invariant-rows g l = record {
+  same_reference : l.rows.conn.ghost_name ≡ l.initial.rows.conn.ghost_name;
+  survives : Survives (state g.S.Store l.initial.rows.conn.now) (state g.S.Store l.rows.conn.now) (λ _. ⊥);
+  kept : HasCleanDisk (state g.S.Store l.rows.conn.now) → IsKept g.S.Store l.initial.rows.conn.now l.rows.conn.now;
+  mode : l.initial.rows.conn.now.in_transaction ≡ false → l.rows.conn.now.in_transaction ≡ false;
+  given : (taken : List Row)
+      × (HasCleanDisk (state g.S.Store l.rows.conn.now) → (sql : List ℕ) (params : Row) → HasGiven g.S.Store sql params l.initial.rows.conn.now [] → HasGiven g.S.Store sql params l.rows.conn.now taken × IsUnchanged (state g.S.Store l.initial.rows.conn.now) (state g.S.Store l.rows.conn.now))
+      × Tells l.day taken l.initial.line l.read l.line;
+}

@@ -1,0 +1,171 @@
+//! An office's line of arrears from the rows of its loans' instalments, which a query gives by loan and number: one row
+//! is held at a time, and of the loan that is read what is outstanding of its principal and the earliest due day.
+
+ghost use Rattle.std.specs.Prelude.{◌≡◌, false, ℕ, List, ◌++◌, pos, None, Some, IsTrue, OnOk, OnErr, IfOk, IfErr};
+ghost use Rattle.mf_base.specs.declared.fault.Fault.TheVariants.{F20};
+ghost use Rattle.mf_arrears.specs.Ageing.{earlier as earlier_of, days_since};
+ghost use Rattle.mf_arrears.specs.Line.{Loan as Aged, line_of as line_of_loans};
+ghost use Rattle.sqlite.specs.State.{HasCleanDisk, IsUnchanged, Survives};
+ghost use Rattle.sqlite.specs.Held.{state};
+ghost use Rattle.mf_store_values.specs.Folding.{aged_by, with_row, Progress, step, IsAt, IsReadAs, IsKept, Takes, Refuses, Folds};
+
+use crate::instalments::instalment_from;
+use crate::values::stored;
+use mf_alloc::{Portion, Row as Instalment};
+use mf_arrears::OfficeLine;
+use mf_base::{Day, Fault};
+use mf_store_records::{InstalmentRow, read_row};
+use sqlite::{Alter, Row, Rows};
+
+/// The most that can be outstanding of a loan's principal, in cents: 10^12.
+const MOST_PRINCIPAL: u64 = 1_000_000_000_000;
+
+/// A line that counts so many loans takes no more: 10^10.
+const MOST_LOANS: u64 = 10_000_000_000;
+
+/// What is read of a loan: its number, what is outstanding of its principal in cents, and the earliest due day of an
+/// instalment with something outstanding.
+#[derive(Clone, Copy, Debug)]
+struct LoanSoFar {
+    loan: u32,
+    principal: u64,
+    due: Option<Day>,
+}
+
+/// The earlier of a day, where there is one, and another.
+fn earlier(day: Option<Day>, other: Day) -> Option<Day>
+    ensures { result ≡ earlier_of day other }
+{
+    match day {
+        Some(day) if day <= other => Some(day),
+        _ => Some(other),
+    }
+}
+
+/// The days from a due day to a day, and 0 where it is not past.
+fn days_from(due: Day, today: Day) -> i64
+    ensures { result ≡ pos (days_since today (Some due)) }
+{
+    if due <= today {
+        today.days_since(due)
+    } else {
+        0
+    }
+}
+
+impl LoanSoFar {
+    /// Nothing of a loan with this number.
+    fn new(loan: u32) -> LoanSoFar
+        ensures { result ≡ record { loan = loan; principal = 0; due = None } }
+    {
+        LoanSoFar {
+            loan,
+            principal: 0,
+            due: None,
+        }
+    }
+
+    /// Takes in an instalment of this loan.
+    fn add(&mut self, row: Instalment) -> Result<(), Fault>
+        ensures value { OnOk result (self.new ≡ with_row self.old row) }
+        ensures gives_up { IfErr result (λ fault. fault ≡ F20) }
+    {
+        self.principal = stored(
+            self.principal
+                .checked_add(row.outstanding(Portion::Principal)),
+        )?;
+        if row.is_open() {
+            self.due = earlier(self.due, row.due);
+        }
+        Ok(())
+    }
+
+    /// Adds the loan to its office's line, where something is outstanding.
+    fn count(&self, today: Day, line: &mut OfficeLine) -> Result<(), Fault>
+        ensures line { OnOk result ((office : ℕ) (loans : List Aged) → line.old ≡ line_of_loans office loans → line.new ≡ line_of_loans office (loans ++ aged_by today self.now.principal self.now.due)) }
+        ensures gives_up { IfErr result (λ fault. fault ≡ F20) }
+    {
+        let Some(due) = self.due else {
+            return Ok(());
+        };
+        if self.principal > MOST_PRINCIPAL || line.loans >= MOST_LOANS {
+            return Err(Fault::F20);
+        }
+        line.add(self.principal, days_from(due, today));
+        Ok(())
+    }
+
+    /// Takes in an instalment with the number of its loan: of this loan, or the first of the next, before which this one
+    /// is added to its office's line.
+    fn take(
+        &mut self,
+        found: (u32, Instalment),
+        today: Day,
+        line: &mut OfficeLine,
+    ) -> Result<(), Fault>
+        ensures value { OnOk result ((office : ℕ) (p : Progress) → IsAt office p self.old line.old → IsAt office (step today p found) self.new line.new) }
+        ensures gives_up { IfErr result (λ fault. fault ≡ F20) }
+    {
+        let (loan, row) = found;
+        if loan != self.loan {
+            self.count(today, line)?;
+            *self = LoanSoFar::new(loan);
+        }
+        self.add(row)
+    }
+}
+
+/// The instalment of a row as the tables give it, with the number of its loan.
+fn placed_in_row(row: &Row) -> Result<(u32, Instalment), Fault>
+    ensures row { IfOk result (λ found. IsReadAs row.now found) }
+    ensures gives_up { IfErr result (λ fault. fault ≡ F20) }
+{
+    let found = read_row::<InstalmentRow>(row)?;
+    let instalment = instalment_from(&found)?;
+    Ok((found.loan, instalment))
+}
+
+/// The next instalment with the number of its loan, or none past the last.
+fn next_instalment<S: Alter>(rows: &mut Rows<'_, S>) -> Result<Option<(u32, Instalment)>, Fault>
+    ensures same_reference { rows.new.conn.ghost_name ≡ rows.old.conn.ghost_name }
+    ensures takes { IfOk result (λ found. Takes S.Store rows.old.conn.now rows.new.conn.now found) }
+    ensures refuses { OnErr result (Refuses S.Store rows.old.conn.now rows.new.conn.now) }
+    ensures same { HasCleanDisk (state S.Store rows.new.conn.now) → OnOk result (IsUnchanged (state S.Store rows.old.conn.now) (state S.Store rows.new.conn.now)) }
+    ensures kept { HasCleanDisk (state S.Store rows.new.conn.now) → IsKept S.Store rows.old.conn.now rows.new.conn.now }
+    ensures gives_up { IfErr result (λ fault. fault ≡ F20) }
+    ensures mode { rows.old.conn.now.in_transaction ≡ false → rows.new.conn.now.in_transaction ≡ false }
+    ensures survives { Survives (state S.Store rows.old.conn.now) (state S.Store rows.new.conn.now) (λ _. ⊥) }
+{
+    let Ok(()) = rows.advance() else {
+        return Err(Fault::F20);
+    };
+    match rows.get() {
+        None => Ok(None),
+        Some(row) => Ok(Some(placed_in_row(row)?)),
+    }
+}
+
+/// Makes of a new line the line of an office's loans on a day, from the rows of its instalments by loan and number, none
+/// of which was taken. It takes them one at a time. The error is F20: then it takes no more, and the line says nothing.
+pub fn fold_loans<S: Alter>(
+    rows: &mut Rows<'_, S>,
+    day: Day,
+    line: &mut OfficeLine,
+) -> Result<(), Fault>
+    ensures same_reference { rows.new.conn.ghost_name ≡ rows.old.conn.ghost_name }
+    ensures folds { Folds S.Store day rows.old.conn.now rows.new.conn.now line.old line.new result }
+    ensures kept { HasCleanDisk (state S.Store rows.new.conn.now) → IsKept S.Store rows.old.conn.now rows.new.conn.now }
+    ensures open { HasCleanDisk (state S.Store rows.new.conn.now) → OnOk result (IsTrue (state S.Store rows.new.conn.now).is_open) }
+    ensures gives_up { IfErr result (λ fault. fault ≡ F20) }
+    ensures mode { rows.old.conn.now.in_transaction ≡ false → rows.new.conn.now.in_transaction ≡ false }
+    ensures survives { Survives (state S.Store rows.old.conn.now) (state S.Store rows.new.conn.now) (λ _. ⊥) }
+{
+    let mut read = LoanSoFar::new(0);
+    'rows: for _ in 0..u64::MAX {
+        match next_instalment(rows)? {
+            None => return read.count(day, line),
+            Some(found) => read.take(found, day, line)?,
+        }
+    }
+    Err(Fault::F20)
+}

@@ -1,0 +1,29 @@
+//! What the rows of the tables stand for: charges, products, loans, entries, instalments, offices. A row that can be none of
+//! these is F20. And what is told by such rows alone: a loan's status, an office's line of arrears.
+#![tactic(auto)]
+
+mod catalogue;
+mod entries;
+mod fold;
+mod instalments;
+mod loans;
+mod office_line;
+mod office_rows;
+mod offices;
+mod parts;
+mod receipts;
+mod statuses;
+mod values;
+
+pub use catalogue::{charge_from, product_from};
+pub use entries::entries_from;
+pub use fold::fold_loans;
+pub use instalments::{instalments_from, is_active};
+pub use loans::{account_number, disbursal_day, loan_from};
+pub use office_line::read_line;
+pub use office_rows::{Ledger, OfficeRows, StaffMember, names_from, staff_from};
+pub use offices::{office_number, offices_from};
+pub use parts::parts_from;
+pub use receipts::use_from;
+pub use statuses::settled_status;
+pub use values::stored;

@@ -1,0 +1,83 @@
+//! What the rows of loans stand for.
+
+ghost use Rattle.std.specs.Prelude.{◌≡◌, ℕ, Option, Some, IfOk, IfErr};
+ghost use Rattle.mf_base.specs.declared.fault.Fault.TheVariants.{F20};
+ghost use Rattle.mf_base.specs.DayText.{day_text};
+ghost use Rattle.mf_model.specs.Stages.{stage_number, disbursed_on};
+ghost use Rattle.mf_model.specs.declared.loan.Loan.{Loan as ModelLoan};
+ghost use Rattle.mf_model.specs.declared.loan.Stage.{Stage as ModelStage};
+ghost use Rattle.mf_store_accounts.specs.Flat.{loan_in, approval_text, disbursal_text};
+
+use crate::values::unsigned;
+use mf_base::{Day, Fault, texts_of_days};
+use mf_model::{Loan, Stage};
+use mf_office::AccountNo;
+use mf_store_records::{LoanRow, Text};
+
+/// The day of a text.
+pub(crate) fn day_from(text: &Text) -> Result<Day, Fault>
+    ensures day { IfOk result (λ day. (n : ℕ) → text.now ≡ day_text n → day ≡ n) }
+    ensures gives_up { IfErr result (λ fault. fault ≡ F20) }
+{
+    texts_of_days();
+    match Day::read(text.as_str().as_bytes()) {
+        Some(day) => Ok(day),
+        None => Err(Fault::F20),
+    }
+}
+
+/// The stage that a number and the days of approval and disbursement stand for.
+fn stage_from(number: u32, approved: Option<Text>, disbursed: Option<Text>) -> Result<Stage, Fault>
+    ensures stage { IfOk result (λ stage. (s : ModelStage) → stage_number s ≡ number → approval_text s ≡ approved → disbursal_text s ≡ disbursed → stage ≡ s) }
+    ensures gives_up { IfErr result (λ fault. fault ≡ F20) }
+{
+    match (number, approved, disbursed) {
+        (100, None, None) => Ok(Stage::Submitted),
+        (200, Some(approved), None) => Ok(Stage::Approved(day_from(&approved)?)),
+        (300, Some(approved), Some(disbursed)) => Ok(Stage::Disbursed {
+            approved: day_from(&approved)?,
+            day: day_from(&disbursed)?,
+        }),
+        (400, None, None) => Ok(Stage::Withdrawn),
+        (500, None, None) => Ok(Stage::Rejected),
+        _ => Err(Fault::F20),
+    }
+}
+
+/// The number of a client or a loan, as each number in the tables is.
+pub fn account_number(number: u32) -> Result<AccountNo, Fault>
+    ensures number { IfOk result (λ n. n ≡ number) }
+    ensures gives_up { IfErr result (λ fault. fault ≡ F20) }
+{
+    match AccountNo::new(number) {
+        Some(number) => Ok(number),
+        None => Err(Fault::F20),
+    }
+}
+
+/// The loan of a row.
+pub fn loan_from(row: LoanRow) -> Result<Loan, Fault>
+    ensures loan { IfOk result (λ loan. (office number : ℕ) (l : ModelLoan) → row ≡ loan_in office number l → loan ≡ l) }
+    ensures gives_up { IfErr result (λ fault. fault ≡ F20) }
+{
+    let client = account_number(row.client)?;
+    let principal = unsigned(row.principal)?;
+    let stage = stage_from(row.stage, row.approved, row.disbursed)?;
+    Ok(Loan {
+        client,
+        product: row.product,
+        principal,
+        periods: row.periods,
+        stage,
+    })
+}
+
+/// The day on which a loan was disbursed.
+pub fn disbursal_day(loan: &Loan) -> Option<Day>
+    ensures { result ≡ disbursed_on loan.now.stage }
+{
+    match loan.stage {
+        Stage::Disbursed { day, .. } => Some(day),
+        _ => None,
+    }
+}

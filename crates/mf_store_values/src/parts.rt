@@ -1,0 +1,37 @@
+//! What the rows of a loan's shares stand for. What can be no share's is F20.
+
+ghost use Rattle.std.specs.Prelude.{◌≡◌, ℕ, List, map, IfOk, IfErr};
+ghost use Rattle.mf_base.specs.declared.fault.Fault.TheVariants.{F20};
+ghost use Rattle.mf_account.specs.declared.settled.Settled.{Settled as Part};
+ghost use Rattle.mf_store_records.specs.Rows.{share_row as share_stored};
+ghost use Rattle.mf_store_accounts.specs.Flat.{share_in};
+ghost use Rattle.mf_store_accounts.specs.Kept.{part_told};
+
+use crate::values::stored;
+use mf_account::Settled;
+use mf_base::Fault;
+use mf_store_accounts::part_of;
+use mf_store_records::{ShareRow, read_row};
+use sqlite::Row;
+use std::alloc::Global;
+
+/// The part of a row as the tables give it.
+fn part_in_row(row: &Row) -> Result<Settled, Fault>
+    ensures part { IfOk result (λ part. (office loan : ℕ) (placed : ℕ × (ℕ × Part)) → row.now ≡ share_stored (share_in office loan placed) → part ≡ part_told placed) }
+    ensures gives_up { IfErr result (λ fault. fault ≡ F20) }
+{
+    let found = read_row::<ShareRow>(row)?;
+    stored(part_of(&found))
+}
+
+/// The parts of the rows, in order.
+pub fn parts_from(alloc: Global, rows: &[Row]) -> Result<Vec<Settled>, Fault>
+    ensures parts { IfOk result (λ list. (office loan : ℕ) (all : List (ℕ × (ℕ × Part))) → rows.now ≡ map (λ item. share_stored (share_in office loan item)) all → list.items ≡ map part_told all) }
+    ensures gives_up { IfErr result (λ fault. fault ≡ F20) }
+{
+    let mut parts = Vec::new(alloc);
+    for row in rows {
+        parts.push(part_in_row(row)?)?;
+    }
+    Ok(parts)
+}

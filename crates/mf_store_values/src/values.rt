@@ -1,0 +1,26 @@
+//! What the tables' values stand for. One that stands for nothing is F20.
+
+ghost use Rattle.std.specs.Prelude.{◌≡◌, pos, Some, IfOk, IfErr};
+ghost use Rattle.mf_base.specs.declared.fault.Fault.TheVariants.{F20};
+
+use mf_base::Fault;
+use mf_store_accounts::amount_from;
+
+/// What a value stands for, if for anything.
+pub fn stored<T>(meant: Option<T>) -> Result<T, Fault>
+    ensures value { IfOk result (λ x. meant ≡ Some x) }
+    ensures gives_up { IfErr result (λ fault. fault ≡ F20) }
+{
+    match meant {
+        Some(x) => Ok(x),
+        None => Err(Fault::F20),
+    }
+}
+
+/// The amount that the tables keep.
+pub(crate) fn unsigned(number: i64) -> Result<u64, Fault>
+    ensures amount { IfOk result (λ amount. pos amount ≡ number) }
+    ensures gives_up { IfErr result (λ fault. fault ≡ F20) }
+{
+    stored(amount_from(number))
+}
