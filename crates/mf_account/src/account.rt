@@ -44,7 +44,7 @@ use std::marker::Model;
 /// the entries settled, as they are kept. Where these are what a replay gives (`IsReplayed`) they are the effects of the standing
 /// entries, in order of day and number, on the fresh schedule with nothing paid; and so they stay. No call rests on that to be
 /// safe.
-#[derive(Debug, Drop)]
+#[derive(Debug)]
 pub struct LoanAccount {
     terms: Terms,
     principal: u64,
@@ -58,6 +58,25 @@ pub struct LoanAccount {
     book: Book,
     settled: Vec<Settled>,
     change: Change,
+}
+
+// By hand, since a derived drop is proved again in each function that may drop one.
+impl Drop for LoanAccount {
+    fn drop(self) {
+        let LoanAccount {
+            terms: _,
+            principal: _,
+            periods: _,
+            day: _,
+            entries: _,
+            order: _,
+            schedule: _,
+            disbursement_fee: _,
+            book: _,
+            settled: _,
+            change: _,
+        } = self;
+    }
 }
 
 impl Model for LoanAccount {
@@ -589,7 +608,19 @@ impl LoanAccount {
         ensures entries { result.items ≡ self.loan.entries }
         ensures numbers { AreNumbered result.items }
     {
-        let LoanAccount { entries, .. } = self;
+        let LoanAccount {
+            entries,
+            terms: _,
+            principal: _,
+            periods: _,
+            day: _,
+            order: _,
+            schedule: _,
+            disbursement_fee: _,
+            book: _,
+            settled: _,
+            change: _,
+        } = self;
         entries
     }
 

@@ -1,9 +1,16 @@
 use std::marker::Model;
 
 /// The receipt of a repayment. Contracts see its bytes.
-#[derive(Debug, Drop)]
+#[derive(Debug)]
 pub struct Receipt {
     text: String,
+}
+
+// By hand, since a derived drop is proved again in each function that may drop one.
+impl Drop for Receipt {
+    fn drop(self) {
+        let Receipt { text: _ } = self;
+    }
 }
 
 impl Model for Receipt {

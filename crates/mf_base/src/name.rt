@@ -2,9 +2,16 @@ use std::alloc::AllocError;
 use std::marker::Model;
 
 /// A name of an office, a member of staff, a client, a charge or a product. Contracts see its bytes.
-#[derive(Debug, Drop)]
+#[derive(Debug)]
 pub struct Name {
     text: String,
+}
+
+// By hand, since a derived drop is proved again in each function that may drop one.
+impl Drop for Name {
+    fn drop(self) {
+        let Name { text: _ } = self;
+    }
 }
 
 impl Model for Name {

@@ -27,7 +27,7 @@ pub enum Calc {
 }
 
 /// A charge of the catalogue.
-#[derive(Clone, Debug, Drop)]
+#[derive(Clone, Debug)]
 pub struct ChargeDef {
     /// Its number in the catalogue, from 1.
     pub number: u32,
@@ -39,4 +39,17 @@ pub struct ChargeDef {
     pub calc: Calc,
     /// Whole cents where it is flat, else hundredths of a percent.
     pub value: u64,
+}
+
+// By hand, since a derived drop is proved again in each function that may drop one.
+impl Drop for ChargeDef {
+    fn drop(self) {
+        let ChargeDef {
+            number: _,
+            name: _,
+            kind: _,
+            calc: _,
+            value: _,
+        } = self;
+    }
 }

@@ -27,7 +27,7 @@ pub enum StrategyName {
 }
 
 /// The terms of a loan, copied from its product.
-#[derive(Clone, Debug, Drop)]
+#[derive(Clone, Debug)]
 pub struct Terms {
     /// How principal and interest are planned.
     pub method: Method,
@@ -49,4 +49,22 @@ pub struct Terms {
     pub instalment: Option<ChargeDef>,
     /// The charge that is taken for an overdue instalment.
     pub overdue: Option<ChargeDef>,
+}
+
+// By hand, since a derived drop is proved again in each function that may drop one.
+impl Drop for Terms {
+    fn drop(self) {
+        let Terms {
+            method: _,
+            rate: _,
+            freq: _,
+            every: _,
+            principal_grace: _,
+            interest_grace: _,
+            strategy: _,
+            disbursement: _,
+            instalment: _,
+            overdue: _,
+        } = self;
+    }
 }

@@ -27,23 +27,11 @@ fn find_charge<S: InstitutionStore>(
     let Some(number) = named else {
         return Ok(None);
     };
-    let Some(charge) = store.charge(alloc, number)? else {
+    let Some(mut charge) = store.charge(alloc, number)? else {
         return Err(Fault::F4);
     };
-    let ChargeDef {
-        number: _,
-        name,
-        kind,
-        calc,
-        value,
-    } = charge;
-    Ok(Some(ChargeDef {
-        number,
-        name,
-        kind,
-        calc,
-        value,
-    }))
+    charge.number = number;
+    Ok(Some(charge))
 }
 
 /// A charge, if there is one, after others.

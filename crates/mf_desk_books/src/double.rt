@@ -16,7 +16,6 @@ use mf_model::{
 use mf_office::{Account, AccountNo, Caller, Name, Office, OfficeNo, Role};
 use std::alloc::Global;
 
-#[derive(Drop)]
 struct Branch {
     office: Office,
     staff: Vec<Role>,
@@ -24,14 +23,38 @@ struct Branch {
     loans: Vec<Row>,
 }
 
+// By hand, since a derived drop is proved again in each function that may drop one.
+impl Drop for Branch {
+    fn drop(self) {
+        let Branch {
+            office: _,
+            staff: _,
+            clients: _,
+            loans: _,
+        } = self;
+    }
+}
+
 /// The catalogue, and the offices by number. One of its calls can be made to give up.
-#[derive(Drop)]
 pub struct Books {
     day: Day,
     charges: Vec<ChargeDef>,
     products: Vec<Product>,
     branches: Vec<Branch>,
     calls_to_refusal: Option<u32>,
+}
+
+// By hand, since a derived drop is proved again in each function that may drop one.
+impl Drop for Books {
+    fn drop(self) {
+        let Books {
+            day: _,
+            charges: _,
+            products: _,
+            branches: _,
+            calls_to_refusal: _,
+        } = self;
+    }
 }
 
 /// The name that a text is.

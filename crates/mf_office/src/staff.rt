@@ -57,7 +57,7 @@ pub enum Role {
 }
 
 /// A staff member of an office.
-#[derive(Drop, Debug)]
+#[derive(Debug)]
 pub struct Staff {
     /// The office.
     pub office: OfficeNo,
@@ -67,4 +67,16 @@ pub struct Staff {
     pub name: Name,
     /// The role.
     pub role: Role,
+}
+
+// By hand, since a derived drop is proved again in each function that may drop one.
+impl Drop for Staff {
+    fn drop(self) {
+        let Staff {
+            office: _,
+            number: _,
+            name: _,
+            role: _,
+        } = self;
+    }
 }

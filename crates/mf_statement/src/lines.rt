@@ -19,13 +19,24 @@ pub struct InstalmentLine {
 pub type InstalmentList = Listing<InstalmentLine>;
 
 /// An entry as it is told.
-#[derive(Debug, Drop)]
+#[derive(Debug)]
 pub struct EntryLine {
     pub entry: Entry,
     /// Whole cents: what was entered, or what the entry clears now.
     pub amount: u64,
     /// What it settles, in the strategy's order of cells.
     pub shares: Listing<Share>,
+}
+
+// By hand, since a derived drop is proved again in each function that may drop one.
+impl Drop for EntryLine {
+    fn drop(self) {
+        let EntryLine {
+            entry: _,
+            amount: _,
+            shares: _,
+        } = self;
+    }
 }
 
 /// Entries by number.

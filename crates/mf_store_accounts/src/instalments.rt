@@ -32,7 +32,6 @@ pub fn instalment_row(
         office,
         loan,
         number,
-        due: Text::new(due.text(alloc)?),
         owed_penalty: signed(owed[0])?,
         paid_penalty: signed(paid[0])?,
         waived_penalty: signed(waived[0])?,
@@ -49,6 +48,7 @@ pub fn instalment_row(
         paid_principal: signed(paid[3])?,
         waived_principal: signed(waived[3])?,
         written_off_principal: signed(written_off[3])?,
+        due: Text::new(due.text(alloc)?),
     })
 }
 

@@ -13,27 +13,27 @@ pub fn first_writes(alloc: Global, day: Day) -> Result<Vec<StoreWrite>, Fault>
     ensures writes { IfOk result (λ writes. Begins writes.items day) }
     ensures gives_up { IfErr result (λ fault. fault ≡ F20) }
 {
+    let mut writes = Vec::new(alloc);
+    writes.push(StoreWrite::MakeTables)?;
     let meta = MetaRow {
         one: 1,
         schema: 2,
         day: Text::new(day.text(alloc)?),
     };
+    writes.push(StoreWrite::PutMeta(meta))?;
     let head = OfficeRow {
         number: 1,
         parent: None,
         hkey: Text::new(String::from_str(alloc, ".")?),
         name: Text::new(String::from_str(alloc, "Head Office")?),
     };
+    writes.push(StoreWrite::PutOffice(head))?;
     let manager = StaffRow {
         office: 1,
         number: 1,
         name: Text::new(String::from_str(alloc, "Head Manager")?),
         role: 3,
     };
-    let mut writes = Vec::new(alloc);
-    writes.push(StoreWrite::MakeTables)?;
-    writes.push(StoreWrite::PutMeta(meta))?;
-    writes.push(StoreWrite::PutOffice(head))?;
     writes.push(StoreWrite::PutStaff(manager))?;
     Ok(writes)
 }

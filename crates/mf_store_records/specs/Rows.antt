@@ -1,6 +1,5 @@
 -- The rows of the tables, each table's as a list in the order of its key; and which of them the queries look for.
-use Rattle.std.specs.Prelude.{◌≡◌, ℕ, pos, Bool, true, false, cond, not, ◌&&◌, List, [], ◌∷◌, filter}
-use Rattle.std.specs.List.{AllByRecursion}
+use Rattle.std.specs.Prelude.{◌≡◌, ℕ, pos, Bool, true, false, not, ◌&&◌, List, [], ◌∷◌, filter}
 use Rattle.std.specs.declared.cmp.Ordering.{Ordering}
 use Rattle.std.specs.Ordering.{nat_cmp, ordering_then, is_eq, is_lt, is_ge, is_gt}
 use Rattle.std.specs.Cmp.Lexicographic.{slice_cmp}
@@ -162,15 +161,6 @@ is_receipt_before a b = is_lt (by_receipt a b)
 -- each receipt comes before those that follow it
 abbrev pub AreReceiptsInOrder : List ReceiptRow → Type 0
 AreReceiptsInOrder = IsAscending (λ a b. is_receipt_before a b ≡ true)
-
--- no receipt has the office and the text of this one
-abbrev pub IsNewReceipt : ReceiptRow → List ReceiptRow → Type 0
-IsNewReceipt x = AllByRecursion (λ y. is_receipt x.office x.receipt y ≡ false)
-
--- one receipt more, before the first that it comes before
-abbrev pub with_receipt : ReceiptRow → List ReceiptRow → List ReceiptRow
-with_receipt x [] = x ∷ []
-with_receipt x (y ∷ ys) = cond (is_receipt_before x y) (x ∷ y ∷ ys) (y ∷ with_receipt x ys)
 
 abbrev pub by_instalment : InstalmentRow → InstalmentRow → Ordering
 by_instalment a b = ordering_then (nat_cmp a.office b.office) (ordering_then (nat_cmp a.loan b.loan) (nat_cmp a.number b.number))

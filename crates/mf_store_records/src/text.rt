@@ -6,9 +6,16 @@ use std::alloc::Global;
 use std::marker::Model;
 
 /// A text of a column. Contracts see its bytes.
-#[derive(Debug, Drop)]
+#[derive(Debug)]
 pub struct Text {
     text: String,
+}
+
+// By hand, since a derived drop is proved again in each function that may drop one.
+impl Drop for Text {
+    fn drop(self) {
+        let Text { text: _ } = self;
+    }
 }
 
 impl Model for Text {

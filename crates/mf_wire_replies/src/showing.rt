@@ -4,7 +4,7 @@ ghost use Rattle.serde_json.specs.View.{view};
 ghost use Rattle.serde_json.specs.Written.{compact_text, has_float};
 ghost use Rattle.mf_model.specs.declared.reply.Reply.TheVariants.{OfficeMade, Offices, StaffMade, ClientMade, ClientShown};
 ghost use Rattle.mf_wire_lines.specs.Replies.{reply_line};
-ghost use Rattle.mf_wire_replies.specs.Shown.{IsBodyOf, office_data, reply_data, reply_status, reply_body};
+ghost use Rattle.mf_wire_replies.specs.Shown.{IsBodyOf, office_data, reply_status, reply_body};
 
 mod account;
 mod arrears;
@@ -15,22 +15,32 @@ mod members;
 use arrears::arrears_shown;
 use catalogue::{charge_made, charge_shown, day_value, product_shown, product_value};
 use loans::{loan_made, loan_told, loans_shown, told_status};
+use members::Members;
 use mf_base::Fault;
 use mf_model::Reply;
 use mf_office::{Account, Caller, Name, Office, OfficeNo};
 use serde_json::{Value, json};
 use std::alloc::{AllocError, Global};
 
+/// A body before it is written: a value of JSON, or its text where that is written at once.
+#[derive(Drop)]
+pub(crate) enum Body {
+    Value(Value),
+    Text(String),
+}
+
 fn office_value(alloc: Global, line: &Office) -> Result<Value, AllocError>
     ensures { IfOk result (λ v. view v ≡ office_data line.now) }
 {
-    let name = line.name.as_str();
-    let number = line.number.get();
     let parent = match line.parent {
-        Some(parent) => json!(in alloc; parent.get())?,
+        Some(parent) => Value::from(parent.get()),
         None => Value::Null,
     };
-    json!(in alloc; {"name": name, "number": number, "parent": parent})
+    let mut members = Members::new(alloc);
+    members.put(alloc, "parent", parent)?;
+    members.put_whole(alloc, "number", line.number.get() as u64)?;
+    members.put_text(alloc, "name", line.name.as_str())?;
+    Ok(members.into_value())
 }
 
 fn office_values(alloc: Global, lines: &[Office]) -> Result<Vec<Value>, AllocError>
@@ -43,52 +53,50 @@ fn office_values(alloc: Global, lines: &[Office]) -> Result<Vec<Value>, AllocErr
     Ok(values)
 }
 
-fn office_made(alloc: Global, office: OfficeNo) -> Result<Value, AllocError>
-    ensures { IfOk result (λ v. view v ≡ reply_data (OfficeMade office)) }
+fn office_made(alloc: Global, office: OfficeNo) -> Result<Body, Fault>
+    ensures ok { IfOk result (IsBodyOf (OfficeMade office)) }
+    ensures err { IfErr result (λ f. f ≡ Fault.F20) }
 {
     let office = office.get();
-    json!(in alloc; {"office": office})
+    let value = json!(in alloc; {"office": office})?;
+    Ok(Body::Value(value))
 }
 
-fn offices(alloc: Global, lines: &[Office]) -> Result<Value, AllocError>
-    ensures { IfOk result (λ v. view v ≡ reply_data (Offices lines.now)) }
+fn offices(alloc: Global, lines: &[Office]) -> Result<Body, Fault>
+    ensures ok { IfOk result (IsBodyOf (Offices lines.now)) }
+    ensures err { IfErr result (λ f. f ≡ Fault.F20) }
 {
     let lines = Value::Array(office_values(alloc, lines)?);
-    json!(in alloc; {"offices": lines})
+    let value = json!(in alloc; {"offices": lines})?;
+    Ok(Body::Value(value))
 }
 
-fn staff_made(alloc: Global, staff: Caller) -> Result<Value, Fault>
-    ensures ok { IfOk result (λ v. view v ≡ reply_data (StaffMade staff)) }
+fn staff_made(alloc: Global, staff: Caller) -> Result<Body, Fault>
+    ensures ok { IfOk result (IsBodyOf (StaffMade staff)) }
     ensures err { IfErr result (λ f. f ≡ Fault.F20) }
 {
-    let staff = staff.text(alloc)?;
-    let value = json!(in alloc; {"staff": staff.as_str()})?;
-    Ok(value)
+    let staff = Value::String(staff.text(alloc)?);
+    let value = json!(in alloc; {"staff": staff})?;
+    Ok(Body::Value(value))
 }
 
-fn client_made(alloc: Global, client: Account) -> Result<Value, Fault>
-    ensures ok { IfOk result (λ v. view v ≡ reply_data (ClientMade client)) }
+fn client_made(alloc: Global, client: Account) -> Result<Body, Fault>
+    ensures ok { IfOk result (IsBodyOf (ClientMade client)) }
     ensures err { IfErr result (λ f. f ≡ Fault.F20) }
 {
-    let client = client.text(alloc)?;
-    let value = json!(in alloc; {"client": client.as_str()})?;
-    Ok(value)
+    let client = Value::String(client.text(alloc)?);
+    let value = json!(in alloc; {"client": client})?;
+    Ok(Body::Value(value))
 }
 
-fn client_shown(alloc: Global, client: Account, name: &Name) -> Result<Value, Fault>
-    ensures ok { IfOk result (λ v. view v ≡ reply_data (ClientShown client name.now)) }
+fn client_shown(alloc: Global, client: Account, name: &Name) -> Result<Body, Fault>
+    ensures ok { IfOk result (IsBodyOf (ClientShown client name.now)) }
     ensures err { IfErr result (λ f. f ≡ Fault.F20) }
 {
-    let client = client.text(alloc)?;
-    let value = json!(in alloc; {"client": client.as_str(), "name": name.as_str()})?;
-    Ok(value)
-}
-
-/// A body before it is written: a value of JSON, or its text where that is written at once.
-#[derive(Drop)]
-pub(crate) enum Body {
-    Value(Value),
-    Text(String),
+    let mut members = Members::new(alloc);
+    members.put_text(alloc, "name", name.as_str())?;
+    members.put(alloc, "client", Value::String(client.text(alloc)?))?;
+    Ok(Body::Value(members.into_value()))
 }
 
 fn reply_body(alloc: Global, reply: &Reply) -> Result<Body, Fault>
@@ -96,22 +104,22 @@ fn reply_body(alloc: Global, reply: &Reply) -> Result<Body, Fault>
     ensures err { IfErr result (λ f. f ≡ Fault.F20) }
 {
     match reply {
-        Reply::OfficeMade(office) => Ok(Body::Value(office_made(alloc, *office)?)),
-        Reply::Offices(list) => Ok(Body::Value(offices(alloc, list.as_slice())?)),
-        Reply::StaffMade(staff) => Ok(Body::Value(staff_made(alloc, *staff)?)),
-        Reply::ClientMade(client) => Ok(Body::Value(client_made(alloc, *client)?)),
-        Reply::ClientShown { client, name } => Ok(Body::Value(client_shown(alloc, *client, name)?)),
+        Reply::OfficeMade(office) => office_made(alloc, *office),
+        Reply::Offices(list) => offices(alloc, list.as_slice()),
+        Reply::StaffMade(staff) => staff_made(alloc, *staff),
+        Reply::ClientMade(client) => client_made(alloc, *client),
+        Reply::ClientShown { client, name } => client_shown(alloc, *client, name),
         Reply::DayShown(day) | Reply::DaySet(day) => Ok(Body::Value(day_value(alloc, *day)?)),
-        Reply::ChargeMade(charge) => Ok(Body::Value(charge_made(alloc, *charge)?)),
-        Reply::ChargeShown(charge) => Ok(Body::Value(charge_shown(alloc, charge)?)),
+        Reply::ChargeMade(charge) => charge_made(alloc, *charge),
+        Reply::ChargeShown(charge) => charge_shown(alloc, charge),
         Reply::ProductMade(product) | Reply::ProductRetired(product) => {
             Ok(Body::Value(product_value(alloc, *product)?))
         }
-        Reply::ProductShown(product) => Ok(Body::Value(product_shown(alloc, product)?)),
-        Reply::LoanMade(loan) => Ok(Body::Value(loan_made(alloc, *loan)?)),
+        Reply::ProductShown(product) => product_shown(alloc, product),
+        Reply::LoanMade(loan) => loan_made(alloc, *loan),
         Reply::Loan { loan, told } => loan_told(alloc, *loan, told),
-        Reply::LoansShown(lines) => Ok(Body::Value(loans_shown(alloc, lines.as_slice())?)),
-        Reply::ArrearsShown(lines) => Ok(Body::Value(arrears_shown(alloc, lines.as_slice())?)),
+        Reply::LoansShown(lines) => loans_shown(alloc, lines.as_slice()),
+        Reply::ArrearsShown(lines) => arrears_shown(alloc, lines.as_slice()),
     }
 }
 

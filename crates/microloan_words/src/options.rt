@@ -66,29 +66,29 @@ fn loan_options<'a>(alloc: Global) -> Result<Command<'a>, AllocError>
         "METHOD",
         "The plan of principal and interest; see below",
     );
+    let command = with_option(schedule_named(alloc), method)?;
     let principal = required_option(
         alloc,
         "principal",
         "CENTS",
         "Amount lent in whole cents: 1 to 1000000000000",
     );
+    let command = with_option(command, principal)?;
     let rate = required_option(
         alloc,
         "rate",
         "RATE",
         "Hundredths of a percent a year: 0 to 100000",
     );
+    let command = with_option(command, rate)?;
     let periods = required_option(alloc, "periods", "COUNT", "Number of instalments: 1 to 360");
+    let command = with_option(command, periods)?;
     let day = required_option(
         alloc,
         "day",
         "DAY",
         "Disbursement: 2000-01-01 to 2099-12-31",
     );
-    let command = with_option(schedule_named(alloc), method)?;
-    let command = with_option(command, principal)?;
-    let command = with_option(command, rate)?;
-    let command = with_option(command, periods)?;
     with_option(command, day)
 }
 
@@ -113,6 +113,7 @@ fn schedule_command<'a>(alloc: Global) -> Result<Command<'a>, AllocError>
     ensures app { IfOk result (λ c. app_of c ≡ schedule_app) }
     ensures local { IfOk result (λ c. (fields_of c).has_globals ≡ false) }
 {
+    let command = loan_options(alloc)?;
     let frequency = default_option(
         alloc,
         "frequency",
@@ -120,6 +121,7 @@ fn schedule_command<'a>(alloc: Global) -> Result<Command<'a>, AllocError>
         "months",
         "Period in weeks or months",
     );
+    let command = with_option(command, frequency)?;
     let every = default_option(
         alloc,
         "every",
@@ -127,6 +129,7 @@ fn schedule_command<'a>(alloc: Global) -> Result<Command<'a>, AllocError>
         "1",
         "Length: 1-52 weeks or 1-12 months",
     );
+    let command = with_option(command, every)?;
     let principal_grace = default_option(
         alloc,
         "principal-grace",
@@ -134,6 +137,7 @@ fn schedule_command<'a>(alloc: Global) -> Result<Command<'a>, AllocError>
         "0",
         "Instalments without principal",
     );
+    let command = with_option(command, principal_grace)?;
     let interest_grace = default_option(
         alloc,
         "interest-grace",
@@ -141,9 +145,6 @@ fn schedule_command<'a>(alloc: Global) -> Result<Command<'a>, AllocError>
         "0",
         "Instalments without interest",
     );
-    let command = with_option(loan_options(alloc)?, frequency)?;
-    let command = with_option(command, every)?;
-    let command = with_option(command, principal_grace)?;
     with_option(command, interest_grace)
 }
 
@@ -174,17 +175,17 @@ fn batch_command<'a>(alloc: Global) -> Result<Command<'a>, AllocError>
     ensures app { IfOk result (λ c. app_of c ≡ batch_app) }
     ensures local { IfOk result (λ c. (fields_of c).has_globals ≡ false) }
 {
-    let file = plain_option(
-        alloc,
-        "file",
-        "PATH",
-        "The file that holds the institution; none: memory",
-    );
     let command = described(
         alloc,
         "batch",
         "Answer request lines",
         "Each line of standard input is `caller method path`, then a space and a JSON\nbody where the request has one. Each reply is a status, a space and a body.\ndocs/routes.md has every request with its members and replies.\n\nA file that is missing or empty gets a new institution. Days are 2000-01-01 to\n2099-12-31.\n\nExample:\n  echo '1/1 POST /clients {\"office\":1,\"name\":\"Amina\"}' | microloan batch",
+    );
+    let file = plain_option(
+        alloc,
+        "file",
+        "PATH",
+        "The file that holds the institution; none: memory",
     );
     let command = with_option(command, file)?;
     with_option(command, day_option(alloc))
@@ -195,14 +196,6 @@ fn serve_command<'a>(alloc: Global) -> Result<Command<'a>, AllocError>
     ensures app { IfOk result (λ c. app_of c ≡ serve_app) }
     ensures local { IfOk result (λ c. (fields_of c).has_globals ≡ false) }
 {
-    let port = required_option(alloc, "port", "PORT", "The port on 127.0.0.1: 1 to 65535");
-    let count = default_option(
-        alloc,
-        "count",
-        "COUNT",
-        "0",
-        "Connections to serve; 0: without end",
-    );
     let texts = described(
         alloc,
         "serve",
@@ -210,7 +203,15 @@ fn serve_command<'a>(alloc: Global) -> Result<Command<'a>, AllocError>
         "Each message names who asks in its field X-Staff, as 1/1. Connections are served\none after the other, so a slow client holds up the others.\n\nA file that is missing or empty gets a new institution. Days are 2000-01-01 to\n2099-12-31.\n\nExample:\n  microloan serve --file desk.db --port 8080\n  curl -H 'X-Staff: 1/1' http://127.0.0.1:8080/offices",
     );
     let command = with_option(texts, file_option(alloc))?;
+    let port = required_option(alloc, "port", "PORT", "The port on 127.0.0.1: 1 to 65535");
     let command = with_option(command, port)?;
+    let count = default_option(
+        alloc,
+        "count",
+        "COUNT",
+        "0",
+        "Connections to serve; 0: without end",
+    );
     let command = with_option(command, count)?;
     with_option(command, day_option(alloc))
 }
@@ -226,13 +227,13 @@ fn with_staff<'a>(
     ensures app { IfOk result (λ c. app_of c ≡ staff_app name.now) }
     ensures local { IfOk result (λ c. (fields_of c).has_globals ≡ false) }
 {
+    let command = with_option(command, file_option(alloc))?;
     let staff = required_option(
         alloc,
         "staff",
         "STAFF",
         "Who asks: an office, a slash and a member of its staff",
     );
-    let command = with_option(command, file_option(alloc))?;
     with_option(command, staff)
 }
 

@@ -1,36 +1,45 @@
 // A loan's instalments and entries as JSON.
-ghost use Rattle.std.specs.Prelude.{◌≡◌, IfOk, IfErr, map};
+ghost use Rattle.std.specs.Prelude.{◌≡◌, IfOk, IfErr, OnOk, map};
+ghost use Rattle.serde_json.specs.Data.{put as with_member};
 ghost use Rattle.serde_json.specs.View.{view, members_view};
 ghost use Rattle.mf_wire_replies.specs.Json.{text_or_null as text_or_null_of, whole_or_null as whole_or_null_of};
-ghost use Rattle.mf_wire_replies.specs.AccountTexts.{instalment_data, instalments_data, kind_name, portion_name, instalment_for, portion_waived, share_data, shares_data, entry_rest as entry_rest_of, entry_data, entries_data};
+ghost use Rattle.mf_wire_replies.specs.AccountTexts.{sum_of, instalment_data, instalments_data, kind_name, portion_name, instalment_for, portion_waived, share_data, shares_data, entry_rest as entry_rest_of, entry_data, entries_data};
 
-use super::members::{put_text, put_value, put_whole, text_or_null, whole_or_null};
+use super::members::{Members, text_or_null, whole_or_null};
 use mf_account::{Entry, Kind};
 use mf_alloc::{Portion, Share};
 use mf_base::Fault;
 use mf_statement::{EntryLine, InstalmentLine};
-use serde_json::{Map, Value, json};
+use serde_json::{Value, json};
 use std::alloc::{AllocError, Global};
+
+/// Puts the sum of a portion.
+fn put_sum(
+    alloc: Global,
+    members: &mut Members,
+    name: &str,
+    portion: Portion,
+    sums: &[u64; 4],
+) -> Result<(), AllocError>
+    ensures { OnOk result (members_view members.new.map.entries ≡ with_member name.now (sum_of portion sums.now) (members_view members.old.map.entries)) }
+{
+    members.put_whole(alloc, name, sums[portion.index()])
+}
 
 fn instalment_value(alloc: Global, line: &InstalmentLine) -> Result<Value, Fault>
     ensures ok { IfOk result (λ v. view v ≡ instalment_data line.now) }
     ensures err { IfErr result (λ f. f ≡ Fault.F20) }
 {
-    let due = line.due.text(alloc)?;
-    let fees = line.owed[Portion::Fee.index()];
-    let interest = line.owed[Portion::Interest.index()];
-    let penalties = line.owed[Portion::Penalty.index()];
-    let principal = line.owed[Portion::Principal.index()];
-    let value = json!(in alloc; {
-        "due": due.as_str(),
-        "fees": fees,
-        "interest": interest,
-        "number": line.number,
-        "outstanding": line.outstanding,
-        "penalties": penalties,
-        "principal": principal,
-    })?;
-    Ok(value)
+    let owed = &line.owed;
+    let mut members = Members::new(alloc);
+    put_sum(alloc, &mut members, "principal", Portion::Principal, owed)?;
+    put_sum(alloc, &mut members, "penalties", Portion::Penalty, owed)?;
+    members.put_whole(alloc, "outstanding", line.outstanding)?;
+    members.put_whole(alloc, "number", line.number as u64)?;
+    put_sum(alloc, &mut members, "interest", Portion::Interest, owed)?;
+    put_sum(alloc, &mut members, "fees", Portion::Fee, owed)?;
+    members.put(alloc, "due", Value::String(line.due.text(alloc)?))?;
+    Ok(members.into_value())
 }
 
 fn instalment_values(alloc: Global, lines: &[InstalmentLine]) -> Result<Vec<Value>, Fault>
@@ -81,12 +90,11 @@ fn portion_name(portion: Portion) -> &'static str
 fn share_value(alloc: Global, share: &Share) -> Result<Value, AllocError>
     ensures { IfOk result (λ v. view v ≡ share_data share.now) }
 {
-    let portion = portion_name(share.cell.portion);
-    json!(in alloc; {
-        "amount": share.amount,
-        "instalment": share.cell.instalment,
-        "portion": portion,
-    })
+    let mut members = Members::new(alloc);
+    members.put_text(alloc, "portion", portion_name(share.cell.portion))?;
+    members.put_whole(alloc, "instalment", share.cell.instalment as u64)?;
+    members.put_whole(alloc, "amount", share.amount)?;
+    Ok(members.into_value())
 }
 
 fn share_values(alloc: Global, shares: &[Share]) -> Result<Vec<Value>, AllocError>
@@ -100,14 +108,14 @@ fn share_values(alloc: Global, shares: &[Share]) -> Result<Vec<Value>, AllocErro
 }
 
 /// The instalment that a fee, a penalty or a waiver is for, or null.
-fn instalment_of(alloc: Global, entry: &Entry) -> Result<Value, AllocError>
-    ensures { IfOk result (λ v. view v ≡ whole_or_null_of (instalment_for entry.now.kind entry.now.instalment)) }
+fn instalment_of(entry: &Entry) -> Value
+    ensures { view result ≡ whole_or_null_of (instalment_for entry.now.kind entry.now.instalment) }
 {
     let instalment = match entry.kind {
         Kind::Fee | Kind::Penalty | Kind::Waive => Some(entry.instalment),
         Kind::Repay | Kind::WriteOff | Kind::Refund => None,
     };
-    whole_or_null(alloc, instalment)
+    whole_or_null(instalment)
 }
 
 /// The portion that a waiver waives, or null.
@@ -132,21 +140,17 @@ fn receipt_of(alloc: Global, entry: &Entry) -> Result<Value, AllocError>
 }
 
 /// An entry's members from `portion` on.
-fn entry_rest(alloc: Global, entry: &Entry, shares: &[Share]) -> Result<Map<String, Value>, Fault>
-    ensures ok { IfOk result (λ map. members_view map.entries ≡ entry_rest_of entry.now shares.now) }
+fn entry_rest(alloc: Global, entry: &Entry, shares: &[Share]) -> Result<Members, Fault>
+    ensures ok { IfOk result (λ members. members_view members.map.entries ≡ entry_rest_of entry.now shares.now) }
     ensures err { IfErr result (λ f. f ≡ Fault.F20) }
 {
-    let staff = entry.staff.text(alloc)?;
-    let shares = Value::Array(share_values(alloc, shares)?);
-    let receipt = receipt_of(alloc, entry)?;
-    let portion = portion_of(alloc, entry)?;
-    let mut map = Map::new(alloc);
-    put_text(alloc, &mut map, "staff", staff.as_str())?;
-    put_value(alloc, &mut map, "shares", shares)?;
-    put_value(alloc, &mut map, "reversed", Value::Bool(entry.reversed))?;
-    put_value(alloc, &mut map, "receipt", receipt)?;
-    put_value(alloc, &mut map, "portion", portion)?;
-    Ok(map)
+    let mut members = Members::new(alloc);
+    members.put(alloc, "staff", Value::String(entry.staff.text(alloc)?))?;
+    members.put(alloc, "shares", Value::Array(share_values(alloc, shares)?))?;
+    members.put(alloc, "reversed", Value::Bool(entry.reversed))?;
+    members.put(alloc, "receipt", receipt_of(alloc, entry)?)?;
+    members.put(alloc, "portion", portion_of(alloc, entry)?)?;
+    Ok(members)
 }
 
 fn entry_value(alloc: Global, line: &EntryLine) -> Result<Value, Fault>
@@ -154,15 +158,13 @@ fn entry_value(alloc: Global, line: &EntryLine) -> Result<Value, Fault>
     ensures err { IfErr result (λ f. f ≡ Fault.F20) }
 {
     let entry = &line.entry;
-    let instalment = instalment_of(alloc, entry)?;
-    let day = entry.day.text(alloc)?;
-    let mut map = entry_rest(alloc, entry, line.shares.as_slice())?;
-    put_text(alloc, &mut map, "kind", kind_name(entry.kind))?;
-    put_value(alloc, &mut map, "instalment", instalment)?;
-    put_whole(alloc, &mut map, "entry", entry.seq as u64)?;
-    put_text(alloc, &mut map, "day", day.as_str())?;
-    put_whole(alloc, &mut map, "amount", line.amount)?;
-    Ok(Value::Object(map))
+    let mut members = entry_rest(alloc, entry, line.shares.as_slice())?;
+    members.put_text(alloc, "kind", kind_name(entry.kind))?;
+    members.put(alloc, "instalment", instalment_of(entry))?;
+    members.put_whole(alloc, "entry", entry.seq as u64)?;
+    members.put(alloc, "day", Value::String(entry.day.text(alloc)?))?;
+    members.put_whole(alloc, "amount", line.amount)?;
+    Ok(members.into_value())
 }
 
 fn entry_values(alloc: Global, lines: &[EntryLine]) -> Result<Vec<Value>, Fault>

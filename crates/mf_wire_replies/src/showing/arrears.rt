@@ -2,44 +2,37 @@
 ghost use Rattle.std.specs.Prelude.{◌≡◌, IfOk, IfErr, OnOk, map};
 ghost use Rattle.serde_json.specs.Data.{put as with_member};
 ghost use Rattle.serde_json.specs.View.{view, members_view};
-ghost use Rattle.mf_wire_replies.specs.ArrearsTexts.{money, line_end as line_end_of, all_data, line_data, arrears_data};
+ghost use Rattle.mf_model.specs.declared.reply.Reply.TheVariants.{ArrearsShown};
+ghost use Rattle.mf_wire_replies.specs.Shown.{IsBodyOf};
+ghost use Rattle.mf_wire_replies.specs.ArrearsTexts.{money, line_end as line_end_of, all_data, line_data};
 
-use super::members::{put_text, put_whole};
+use super::Body;
+use super::members::Members;
 use mf_arrears::{OfficeLine, Totals};
 use mf_base::{Fault, money_text};
-use serde_json::{Map, Value, json};
+use serde_json::Value;
 use std::alloc::Global;
 
-/// An amount is put in front of the members that are there, as its money text.
-fn put_money(
-    alloc: Global,
-    map: &mut Map<String, Value>,
-    name: &str,
-    cents: u128,
-) -> Result<(), Fault>
-    ensures ok { OnOk result (members_view map.new.entries ≡ with_member name.now (money cents) (members_view map.old.entries)) }
+/// Puts an amount, as its money text.
+fn put_money(alloc: Global, members: &mut Members, name: &str, cents: u128) -> Result<(), Fault>
+    ensures ok { OnOk result (members_view members.new.map.entries ≡ with_member name.now (money cents) (members_view members.old.map.entries)) }
     ensures err { IfErr result (λ f. f ≡ Fault.F20) }
 {
     let text = money_text(alloc, cents)?;
-    put_text(alloc, map, name, text.as_str())?;
+    members.put(alloc, name, Value::String(text))?;
     Ok(())
 }
 
 /// A line's members from `outstanding` on.
-fn line_end(
-    alloc: Global,
-    outstanding: u128,
-    over_90: u128,
-    par30: u128,
-) -> Result<Map<String, Value>, Fault>
-    ensures ok { IfOk result (λ map. members_view map.entries ≡ line_end_of outstanding over_90 par30) }
+fn line_end(alloc: Global, outstanding: u128, over_90: u128, par30: u128) -> Result<Members, Fault>
+    ensures ok { IfOk result (λ members. members_view members.map.entries ≡ line_end_of outstanding over_90 par30) }
     ensures err { IfErr result (λ f. f ≡ Fault.F20) }
 {
-    let mut map = Map::new(alloc);
-    put_money(alloc, &mut map, "par30", par30)?;
-    put_money(alloc, &mut map, "over_90", over_90)?;
-    put_money(alloc, &mut map, "outstanding", outstanding)?;
-    Ok(map)
+    let mut members = Members::new(alloc);
+    put_money(alloc, &mut members, "par30", par30)?;
+    put_money(alloc, &mut members, "over_90", over_90)?;
+    put_money(alloc, &mut members, "outstanding", outstanding)?;
+    Ok(members)
 }
 
 /// The sums of all offices.
@@ -47,12 +40,12 @@ fn all_value(alloc: Global, all: &Totals) -> Result<Value, Fault>
     ensures ok { IfOk result (λ v. view v ≡ all_data all.now) }
     ensures err { IfErr result (λ f. f ≡ Fault.F20) }
 {
-    let mut map = line_end(alloc, all.outstanding, all.over_90, all.par30())?;
-    put_whole(alloc, &mut map, "loans", all.loans)?;
-    put_money(alloc, &mut map, "c61_90", all.c61_90)?;
-    put_money(alloc, &mut map, "c31_60", all.c31_60)?;
-    put_money(alloc, &mut map, "c1_30", all.c1_30)?;
-    Ok(Value::Object(map))
+    let mut members = line_end(alloc, all.outstanding, all.over_90, all.par30())?;
+    members.put_whole(alloc, "loans", all.loans)?;
+    put_money(alloc, &mut members, "c61_90", all.c61_90)?;
+    put_money(alloc, &mut members, "c31_60", all.c31_60)?;
+    put_money(alloc, &mut members, "c1_30", all.c1_30)?;
+    Ok(members.into_value())
 }
 
 /// An office's line.
@@ -60,13 +53,13 @@ fn line_value(alloc: Global, line: &OfficeLine) -> Result<Value, Fault>
     ensures ok { IfOk result (λ v. view v ≡ line_data line.now) }
     ensures err { IfErr result (λ f. f ≡ Fault.F20) }
 {
-    let mut map = line_end(alloc, line.outstanding, line.over_90, line.par30())?;
-    put_whole(alloc, &mut map, "office", line.office.get() as u64)?;
-    put_whole(alloc, &mut map, "loans", line.loans)?;
-    put_money(alloc, &mut map, "c61_90", line.c61_90)?;
-    put_money(alloc, &mut map, "c31_60", line.c31_60)?;
-    put_money(alloc, &mut map, "c1_30", line.c1_30)?;
-    Ok(Value::Object(map))
+    let mut members = line_end(alloc, line.outstanding, line.over_90, line.par30())?;
+    members.put_whole(alloc, "office", line.office.get() as u64)?;
+    members.put_whole(alloc, "loans", line.loans)?;
+    put_money(alloc, &mut members, "c61_90", line.c61_90)?;
+    put_money(alloc, &mut members, "c31_60", line.c31_60)?;
+    put_money(alloc, &mut members, "c1_30", line.c1_30)?;
+    Ok(members.into_value())
 }
 
 fn line_values(alloc: Global, lines: &[OfficeLine]) -> Result<Vec<Value>, Fault>
@@ -82,15 +75,15 @@ fn line_values(alloc: Global, lines: &[OfficeLine]) -> Result<Vec<Value>, Fault>
 
 /// The arrears of offices, and their sums. A report over more than 10^10 loans is refused as want of memory is; 9,999
 /// offices with 999,999 loans each have fewer.
-pub fn arrears_shown(alloc: Global, lines: &[OfficeLine]) -> Result<Value, Fault>
-    ensures ok { IfOk result (λ v. view v ≡ arrears_data lines.now) }
+pub fn arrears_shown(alloc: Global, lines: &[OfficeLine]) -> Result<Body, Fault>
+    ensures ok { IfOk result (IsBodyOf (ArrearsShown lines.now)) }
     ensures err { IfErr result (λ f. f ≡ Fault.F20) }
 {
     let Some(all) = Totals::of(lines) else {
         return Err(Fault::F20);
     };
-    let all = all_value(alloc, &all)?;
-    let lines = Value::Array(line_values(alloc, lines)?);
-    let value = json!(in alloc; {"all": all, "offices": lines})?;
-    Ok(value)
+    let mut members = Members::new(alloc);
+    members.put(alloc, "offices", Value::Array(line_values(alloc, lines)?))?;
+    members.put(alloc, "all", all_value(alloc, &all)?)?;
+    Ok(Body::Value(members.into_value()))
 }

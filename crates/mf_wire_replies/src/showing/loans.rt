@@ -3,12 +3,13 @@ ghost use Rattle.std.specs.Prelude.{◌≡◌, ℕ, List, true, IfOk, IfErr, map
 ghost use Rattle.json.specs.Print.{quoted};
 ghost use Rattle.serde_json.specs.View.{view};
 ghost use Rattle.serde_json.specs.Written.{compact_text, members_text};
-ghost use Rattle.mf_model.specs.declared.reply.Reply.TheVariants.{LoanMade, Loan as LoanTold};
-ghost use Rattle.mf_wire_replies.specs.Shown.{reply_data, IsBodyOf};
-ghost use Rattle.mf_wire_replies.specs.LoanTexts.{loan_end as loan_end_of, loan_rest as loan_rest_of, loan_by_texts, loan_data, sums_data, day_or_null, status_data, entered_data, told_status, line_data, lines_data};
+ghost use Rattle.mf_model.specs.declared.reply.Reply.TheVariants.{LoanMade, LoansShown, Loan as LoanTold};
+ghost use Rattle.mf_wire_replies.specs.Shown.{IsBodyOf};
+ghost use Rattle.mf_wire_replies.specs.LoanTexts.{loan_end as loan_end_of, loan_rest as loan_rest_of, loan_by_texts, loan_data, sums_data, day_or_null, status_data, entered_data, told_status, line_data};
 
 use super::Body;
 use super::account::{entries_value, instalments_value};
+use super::members::Members;
 use mf_alloc::Portion;
 use mf_base::{Day, Fault};
 use mf_model::{LoanLine, LoanReply, Statement};
@@ -17,13 +18,13 @@ use serde_json::{Value, json};
 use std::alloc::{AllocError, Global};
 
 /// A new loan.
-pub fn loan_made(alloc: Global, loan: Account) -> Result<Value, Fault>
-    ensures ok { IfOk result (λ v. view v ≡ reply_data (LoanMade loan)) }
+pub fn loan_made(alloc: Global, loan: Account) -> Result<Body, Fault>
+    ensures ok { IfOk result (IsBodyOf (LoanMade loan)) }
     ensures err { IfErr result (λ f. f ≡ Fault.F20) }
 {
-    let loan = loan.text(alloc)?;
-    let value = json!(in alloc; {"loan": loan.as_str()})?;
-    Ok(value)
+    let loan = Value::String(loan.text(alloc)?);
+    let value = json!(in alloc; {"loan": loan})?;
+    Ok(Body::Value(value))
 }
 
 /// A loan and its status number.
@@ -31,9 +32,10 @@ fn status_value(alloc: Global, loan: Account, status: u16) -> Result<Value, Faul
     ensures ok { IfOk result (λ v. view v ≡ status_data loan status) }
     ensures err { IfErr result (λ f. f ≡ Fault.F20) }
 {
-    let loan = loan.text(alloc)?;
-    let value = json!(in alloc; {"loan": loan.as_str(), "status": status})?;
-    Ok(value)
+    let mut members = Members::new(alloc);
+    members.put_whole(alloc, "status", status as u64)?;
+    members.put(alloc, "loan", Value::String(loan.text(alloc)?))?;
+    Ok(members.into_value())
 }
 
 /// A text as JSON, in quotes.
@@ -190,11 +192,11 @@ fn line_values(alloc: Global, lines: &[LoanLine]) -> Result<Vec<Value>, Fault>
 }
 
 /// The loans of an office.
-pub fn loans_shown(alloc: Global, lines: &[LoanLine]) -> Result<Value, Fault>
-    ensures ok { IfOk result (λ v. view v ≡ lines_data lines.now) }
+pub fn loans_shown(alloc: Global, lines: &[LoanLine]) -> Result<Body, Fault>
+    ensures ok { IfOk result (IsBodyOf (LoansShown lines.now)) }
     ensures err { IfErr result (λ f. f ≡ Fault.F20) }
 {
     let lines = Value::Array(line_values(alloc, lines)?);
     let value = json!(in alloc; {"loans": lines})?;
-    Ok(value)
+    Ok(Body::Value(value))
 }

@@ -1,19 +1,19 @@
-// Members that may be null, and members of an object that has many.
+// Values that may be null, and the members of an object that has many.
 ghost use Rattle.std.specs.Prelude.{◌≡◌, IfOk, OnOk, option_map};
-ghost use Rattle.serde_json.specs.Data.{string, put as with_member};
+ghost use Rattle.serde_json.specs.Data.{string, object, no_members, put as with_member};
 ghost use Rattle.serde_json.specs.View.{view, members_view};
 ghost use Rattle.mf_wire_replies.specs.Json.{whole, whole_or_null as whole_or_null_of, text_or_null as text_or_null_of};
 
-use serde_json::{Map, Value, json};
+use serde_json::{Map, Value};
 use std::alloc::{AllocError, Global};
 
 /// A number, or null where there is none.
-pub fn whole_or_null(alloc: Global, number: Option<u32>) -> Result<Value, AllocError>
-    ensures { IfOk result (λ v. view v ≡ whole_or_null_of number) }
+pub fn whole_or_null(number: Option<u32>) -> Value
+    ensures { view result ≡ whole_or_null_of number }
 {
     match number {
-        Some(number) => json!(in alloc; number),
-        None => Ok(Value::Null),
+        Some(number) => Value::from(number),
+        None => Value::Null,
     }
 }
 
@@ -22,43 +22,61 @@ pub fn text_or_null(alloc: Global, text: Option<&str>) -> Result<Value, AllocErr
     ensures { IfOk result (λ v. view v ≡ text_or_null_of (option_map (λ t. t.now) text.entry)) }
 {
     match text {
-        Some(text) => json!(in alloc; text),
+        Some(text) => Ok(Value::String(String::from_str(alloc, text)?)),
         None => Ok(Value::Null),
     }
 }
 
-/// A member is put in front of those that are there, so the last comes first.
-pub fn put_value(
-    alloc: Global,
-    map: &mut Map<String, Value>,
-    name: &str,
-    value: Value,
-) -> Result<(), AllocError>
-    ensures { OnOk result (members_view map.new.entries ≡ with_member name.now (view value) (members_view map.old.entries)) }
-{
-    serde_json::put(map, alloc, name, value)
+/// The members of a JSON object as they are put together. They stand in the order of their names, so where each is put
+/// before those that follow it, the last that is put comes first.
+pub struct Members {
+    map: Map<String, Value>,
 }
 
-pub fn put_whole(
-    alloc: Global,
-    map: &mut Map<String, Value>,
-    name: &str,
-    number: u64,
-) -> Result<(), AllocError>
-    ensures { OnOk result (members_view map.new.entries ≡ with_member name.now (whole number) (members_view map.old.entries)) }
-{
-    let value = json!(in alloc; number)?;
-    serde_json::put(map, alloc, name, value)
+// By hand, since a derived drop is proved again in each function that may drop one.
+impl Drop for Members {
+    fn drop(self) {
+        let Members { map: _ } = self;
+    }
 }
 
-pub fn put_text(
-    alloc: Global,
-    map: &mut Map<String, Value>,
-    name: &str,
-    text: &str,
-) -> Result<(), AllocError>
-    ensures { OnOk result (members_view map.new.entries ≡ with_member name.now (string text.now) (members_view map.old.entries)) }
-{
-    let value = json!(in alloc; text)?;
-    serde_json::put(map, alloc, name, value)
+impl Members {
+    /// No members yet.
+    pub fn new(alloc: Global) -> Self
+        ensures { members_view result.map.entries ≡ no_members }
+    {
+        Members {
+            map: Map::new(alloc),
+        }
+    }
+
+    /// Puts a value.
+    pub fn put(&mut self, alloc: Global, name: &str, value: Value) -> Result<(), AllocError>
+        ensures { OnOk result (members_view self.new.map.entries ≡ with_member name.now (view value) (members_view self.old.map.entries)) }
+    {
+        serde_json::put(&mut self.map, alloc, name, value)
+    }
+
+    /// Puts a number.
+    pub fn put_whole(&mut self, alloc: Global, name: &str, number: u64) -> Result<(), AllocError>
+        ensures { OnOk result (members_view self.new.map.entries ≡ with_member name.now (whole number) (members_view self.old.map.entries)) }
+    {
+        self.put(alloc, name, Value::from(number))
+    }
+
+    /// Puts a copy of a text.
+    pub fn put_text(&mut self, alloc: Global, name: &str, text: &str) -> Result<(), AllocError>
+        ensures { OnOk result (members_view self.new.map.entries ≡ with_member name.now (string text.now) (members_view self.old.map.entries)) }
+    {
+        let text = String::from_str(alloc, text)?;
+        self.put(alloc, name, Value::String(text))
+    }
+
+    /// The object of these members.
+    pub fn into_value(self) -> Value
+        ensures { view result ≡ object (members_view self.map.entries) }
+    {
+        let Members { map: entries } = self;
+        Value::Object(entries)
+    }
 }
