@@ -44,7 +44,6 @@ use std::marker::Model;
 /// the entries settled, as they are kept. Where these are what a replay gives (`IsReplayed`) they are the effects of the standing
 /// entries, in order of day and number, on the fresh schedule with nothing paid; and so they stay. No call rests on that to be
 /// safe.
-#[derive(Debug)]
 pub struct LoanAccount {
     terms: Terms,
     principal: u64,

@@ -6,7 +6,7 @@ ghost use Rattle.mf_account.specs.Balance.{column_of, columns_of, open_in, balan
 use mf_alloc::{Portion, Row};
 
 /// A loan's sums over all its instalments, in whole cents. The lists are in the order of `Portion`.
-#[derive(Clone, Copy, PartialEq, Eq, Debug)]
+#[derive(Clone, Copy, PartialEq, Eq)]
 pub struct Balances {
     /// The charge taken at disbursement. It stands beside the schedule and enters no balance.
     pub disbursement_fee: u64,
@@ -20,7 +20,7 @@ pub struct Balances {
 }
 
 /// One of a row's sums.
-#[derive(Clone, Copy, PartialEq, Eq, Debug)]
+#[derive(Clone, Copy, PartialEq, Eq)]
 pub(crate) enum Column {
     Owed,
     Paid,

@@ -12,7 +12,7 @@ use std::marker::Model;
 
 /// What the last entry or reversal changed: the numbers of the instalments whose rows differ, and of the entries that
 /// settle otherwise, each ascending.
-#[derive(Debug, Drop)]
+#[derive(Drop)]
 pub struct Change {
     pub rows: Vec<u32>,
     pub seqs: Vec<u32>,

@@ -6,7 +6,7 @@ use mf_base::Day;
 use mf_office::Caller;
 
 /// What an entry does.
-#[derive(Clone, Copy, PartialEq, Eq, Debug)]
+#[derive(Clone, Copy, PartialEq, Eq)]
 pub enum Kind {
     /// Pays the outstanding cells; the rest is overpaid.
     Repay,
@@ -34,7 +34,7 @@ impl Kind {
 }
 
 /// An entry of a loan.
-#[derive(Debug, Drop)]
+#[derive(Drop)]
 pub struct Entry {
     /// Its number within the loan, from 1.
     pub seq: u32,

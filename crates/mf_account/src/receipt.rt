@@ -1,7 +1,6 @@
 use std::marker::Model;
 
 /// The receipt of a repayment. Contracts see its bytes.
-#[derive(Debug)]
 pub struct Receipt {
     text: String,
 }

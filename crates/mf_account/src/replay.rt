@@ -62,7 +62,7 @@ pub(crate) fn place_in(order: &[usize], at: usize) -> usize
 }
 
 /// A standing entry's day, and where it is among all entries.
-#[derive(Clone, Copy, Debug)]
+#[derive(Clone, Copy)]
 struct Place {
     day: Day,
     at: usize,
@@ -108,7 +108,7 @@ pub(crate) fn standing_order(alloc: Global, entries: &[Entry]) -> Result<Vec<usi
 }
 
 /// A part of an entry, and where the entry stands in an order.
-#[derive(Clone, Copy, Debug)]
+#[derive(Clone, Copy)]
 struct Standing {
     place: usize,
     part: Settled,

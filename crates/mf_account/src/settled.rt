@@ -6,7 +6,7 @@ use std::alloc::Global;
 use std::marker::Model;
 
 /// How a part of a cell was settled.
-#[derive(Clone, Copy, PartialEq, Eq, Debug)]
+#[derive(Clone, Copy, PartialEq, Eq)]
 pub enum How {
     Paid,
     Waived,
@@ -14,7 +14,7 @@ pub enum How {
 }
 
 /// What an entry settled in a cell. Places are from 1 within the entry.
-#[derive(Clone, Copy, PartialEq, Eq, Debug)]
+#[derive(Clone, Copy, PartialEq, Eq)]
 pub struct Settled {
     pub seq: u32,
     pub place: u32,
@@ -39,7 +39,7 @@ impl Settled {
 }
 
 /// A state of an account.
-#[derive(Debug, Drop)]
+#[derive(Drop)]
 pub struct Book {
     pub rows: Vec<Row>,
     pub overpaid: u64,

@@ -32,14 +32,14 @@ impl Portion {
 }
 
 /// One portion of one instalment. Instalments are numbered from 1.
-#[derive(Clone, Copy, PartialEq, Eq, Debug)]
+#[derive(Clone, Copy, PartialEq, Eq)]
 pub struct Cell {
     pub instalment: u32,
     pub portion: Portion,
 }
 
 /// What is paid into a cell, in whole cents.
-#[derive(Clone, Copy, PartialEq, Eq, Debug)]
+#[derive(Clone, Copy, PartialEq, Eq)]
 pub struct Share {
     pub cell: Cell,
     pub amount: u64,
@@ -47,7 +47,7 @@ pub struct Share {
 
 /// An instalment with its sums, in whole cents, each in the order of `Portion`. In each portion what is paid, waived
 /// and written off is together at most what is owed.
-#[derive(Clone, Copy, PartialEq, Eq, Debug)]
+#[derive(Clone, Copy, PartialEq, Eq)]
 pub struct Row {
     pub due: Day,
     pub owed: [u64; 4],

@@ -7,7 +7,7 @@ use mf_office::OfficeNo;
 use std::marker::Model;
 
 /// A class of days overdue.
-#[derive(Clone, Copy, PartialEq, Eq, Debug)]
+#[derive(Clone, Copy, PartialEq, Eq)]
 pub enum Class {
     /// Not overdue.
     C0,
@@ -23,7 +23,7 @@ pub enum Class {
 
 /// An office's active loans: how many there are, and their outstanding principal in whole cents, in all and by class.
 /// Each sum is at most 10^12 times the loans, and the four classes are together at most the sum of all.
-#[derive(Clone, Copy, PartialEq, Eq, Debug)]
+#[derive(Clone, Copy, PartialEq, Eq)]
 pub struct OfficeLine {
     pub office: OfficeNo,
     pub loans: u64,

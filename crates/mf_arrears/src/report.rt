@@ -13,7 +13,7 @@ use std::marker::Model;
 const MOST_LOANS: u64 = 10_000_000_000;
 
 /// The sums of several offices' lines, in cents.
-#[derive(Debug, Drop)]
+#[derive(Drop)]
 pub struct Totals {
     pub loans: u64,
     pub outstanding: u128,

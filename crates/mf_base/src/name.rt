@@ -2,7 +2,6 @@ use std::alloc::AllocError;
 use std::marker::Model;
 
 /// A name of an office, a member of staff, a client, a charge or a product. Contracts see its bytes.
-#[derive(Debug)]
 pub struct Name {
     text: String,
 }

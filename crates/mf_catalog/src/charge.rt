@@ -1,7 +1,8 @@
 use mf_base::Name;
+use std::alloc::AllocError;
 
 /// When a charge is taken. An overdue charge is a penalty, every other one a fee.
-#[derive(Clone, Copy, PartialEq, Eq, Debug)]
+#[derive(Clone, Copy, PartialEq, Eq)]
 pub enum ChargeKind {
     /// At disbursement, beside the schedule.
     Disbursement = 1,
@@ -14,7 +15,7 @@ pub enum ChargeKind {
 }
 
 /// How a charge is computed.
-#[derive(Clone, Copy, PartialEq, Eq, Debug)]
+#[derive(Clone, Copy, PartialEq, Eq)]
 pub enum Calc {
     /// Its value itself, in cents.
     Flat = 1,
@@ -27,7 +28,6 @@ pub enum Calc {
 }
 
 /// A charge of the catalogue.
-#[derive(Clone, Debug)]
 pub struct ChargeDef {
     /// Its number in the catalogue, from 1.
     pub number: u32,
@@ -51,5 +51,22 @@ impl Drop for ChargeDef {
             calc: _,
             value: _,
         } = self;
+    }
+}
+
+// By hand, since a derived one asks of each member whether there was memory for it, and is proved for each way out.
+impl Clone for ChargeDef {
+    ghost use Rattle.std.specs.Prelude.{◌≡◌};
+
+    ghost is_clone = { λ charge copy. copy ≡ charge };
+
+    fn clone(&self) -> Result<ChargeDef, AllocError> {
+        Ok(ChargeDef {
+            number: self.number,
+            name: self.name.clone()?,
+            kind: self.kind,
+            calc: self.calc,
+            value: self.value,
+        })
     }
 }

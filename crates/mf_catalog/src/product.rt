@@ -1,8 +1,9 @@
 use crate::terms::{Method, StrategyName};
 use mf_base::{Freq, Name};
+use std::alloc::AllocError;
 
 /// What a product lends by: the members that whoever makes it names.
-#[derive(Clone, Debug, Drop)]
+#[derive(Drop)]
 pub struct ProductMembers {
     /// Its name.
     pub name: Name,
@@ -36,8 +37,35 @@ pub struct ProductMembers {
     pub overdue_charge: Option<u32>,
 }
 
+// By hand, since a derived one asks of each member whether there was memory for it, and is proved for each way out.
+impl Clone for ProductMembers {
+    ghost use Rattle.std.specs.Prelude.{◌≡◌};
+
+    ghost is_clone = { λ members copy. copy ≡ members };
+
+    fn clone(&self) -> Result<ProductMembers, AllocError> {
+        Ok(ProductMembers {
+            name: self.name.clone()?,
+            method: self.method,
+            rate: self.rate,
+            freq: self.freq,
+            every: self.every,
+            principal_grace: self.principal_grace,
+            interest_grace: self.interest_grace,
+            min_principal: self.min_principal,
+            max_principal: self.max_principal,
+            min_periods: self.min_periods,
+            max_periods: self.max_periods,
+            strategy: self.strategy,
+            disbursement_charge: self.disbursement_charge,
+            instalment_charge: self.instalment_charge,
+            overdue_charge: self.overdue_charge,
+        })
+    }
+}
+
 /// A product of the catalogue.
-#[derive(Clone, Debug, Drop)]
+#[derive(Clone, Drop)]
 pub struct Product {
     /// Its number in the catalogue, from 1.
     pub number: u32,

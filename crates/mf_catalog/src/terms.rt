@@ -2,7 +2,7 @@ use crate::charge::ChargeDef;
 use mf_base::Freq;
 
 /// How principal and interest are planned.
-#[derive(Clone, Copy, PartialEq, Eq, Debug)]
+#[derive(Clone, Copy, PartialEq, Eq)]
 pub enum Method {
     /// Equal principal, and interest on the original principal in every period.
     Flat = 1,
@@ -13,7 +13,7 @@ pub enum Method {
 }
 
 /// In which order a payment fills the portions of the instalments.
-#[derive(Clone, Copy, PartialEq, Eq, Debug)]
+#[derive(Clone, Copy, PartialEq, Eq)]
 pub enum StrategyName {
     /// Penalties, fees, interest, principal.
     MifosStandard = 1,
@@ -27,7 +27,6 @@ pub enum StrategyName {
 }
 
 /// The terms of a loan, copied from its product.
-#[derive(Clone, Debug)]
 pub struct Terms {
     /// How principal and interest are planned.
     pub method: Method,

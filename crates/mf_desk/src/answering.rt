@@ -55,6 +55,8 @@ fn finish<S: InstitutionStore, T: Drop, F: FnOnce(&Reply) -> Result<T, Fault> + 
     laws::soundness();
     let Decision { reply, commit } = decide(alloc, store, caller, request)?;
     let shown = show(&reply)?;
+    // Here, and not at each way out below.
+    drop(reply);
     match commit {
         None => Ok(shown),
         Some(commit) => {

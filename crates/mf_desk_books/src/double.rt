@@ -151,11 +151,11 @@ impl Books {
     fn add_office(&mut self, alloc: Global, office: Office) -> Result<(), Fault>
         ensures { IfErr result (λ fault. fault ≡ Fault.F20) }
     {
-        let number = office.number;
+        let number = office.number.get();
         let at = self
             .branches
             .iter()
-            .position(|branch| branch.office.number > number)
+            .position(|branch| branch.office.number.get() > number)
             .unwrap_or(self.branches.len());
         let branch = Branch {
             office,

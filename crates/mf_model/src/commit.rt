@@ -5,7 +5,7 @@ use mf_catalog::{Calc, ChargeKind, ProductMembers};
 use mf_office::{Account, Name, OfficeNo, Role};
 
 /// A change that the store makes whole or not at all.
-#[derive(Debug, Drop)]
+#[derive(Drop)]
 pub enum Commit {
     /// One more office, under a parent.
     AddOffice {

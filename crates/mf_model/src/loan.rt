@@ -6,7 +6,7 @@ use mf_base::Day;
 use mf_office::{Account, AccountNo};
 
 /// How far a loan has come.
-#[derive(Clone, Copy, Debug)]
+#[derive(Clone, Copy)]
 pub enum Stage {
     /// Submitted, and pending approval.
     Submitted,
@@ -37,7 +37,7 @@ impl Stage {
 }
 
 /// A loan as it was submitted, and how far it has come.
-#[derive(Clone, Copy, Debug)]
+#[derive(Clone, Copy)]
 pub struct Loan {
     /// The number of its client, within the same office.
     pub client: AccountNo,
@@ -52,7 +52,7 @@ pub struct Loan {
 }
 
 /// A loan as it is shown.
-#[derive(Clone, Copy, Debug)]
+#[derive(Clone, Copy)]
 pub struct Statement {
     /// The number of its client, within the same office.
     pub client: AccountNo,
@@ -71,7 +71,7 @@ pub struct Statement {
 }
 
 /// The entry that carries a receipt.
-#[derive(Clone, Copy, Debug)]
+#[derive(Clone, Copy)]
 pub struct ReceiptUse {
     /// The number of its loan, within the office that the receipt belongs to.
     pub loan: AccountNo,
@@ -84,7 +84,7 @@ pub struct ReceiptUse {
 }
 
 /// A loan in a list of loans.
-#[derive(Clone, Copy, Debug)]
+#[derive(Clone, Copy)]
 pub struct LoanLine {
     /// The loan's account number.
     pub loan: Account,

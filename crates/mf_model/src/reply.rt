@@ -6,7 +6,7 @@ use mf_office::{Account, Caller, Name, OfficeNo};
 use mf_statement::{EntryList, InstalmentList};
 
 /// What is told of one loan.
-#[derive(Debug, Drop)]
+#[derive(Drop)]
 pub enum LoanReply {
     /// The loan as it stands.
     Shown(Statement),
@@ -25,7 +25,7 @@ pub enum LoanReply {
 }
 
 /// What a request is told where it succeeds.
-#[derive(Debug, Drop)]
+#[derive(Drop)]
 pub enum Reply {
     /// A new office, by its number.
     OfficeMade(OfficeNo),

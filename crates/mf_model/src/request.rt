@@ -10,7 +10,7 @@ use mf_catalog::{Calc, ChargeKind, ProductMembers};
 use mf_office::{Account, AccountNo, Caller, Name, OfficeNo, Role};
 
 /// Why a line reads as no request.
-#[derive(Clone, Copy, PartialEq, Eq, Debug)]
+#[derive(Clone, Copy, PartialEq, Eq)]
 pub enum Flaw {
     /// The line, its caller, its method, a number in its path, its JSON or a member is not as it should be.
     Malformed,
@@ -34,7 +34,7 @@ impl Flaw {
 }
 
 /// What is asked of the catalogue, which all offices share.
-#[derive(Debug, Drop)]
+#[derive(Drop)]
 pub enum CatalogueRequest {
     /// The business day.
     ShowDay,
@@ -68,7 +68,7 @@ pub enum CatalogueRequest {
 }
 
 /// What a client asks to be lent: so many cents of a product, for so many periods.
-#[derive(Clone, Copy, Debug)]
+#[derive(Clone, Copy)]
 pub struct Application {
     /// The client's number within its office.
     pub client: AccountNo,
@@ -78,7 +78,7 @@ pub struct Application {
 }
 
 /// What is asked of one office.
-#[derive(Debug, Drop)]
+#[derive(Drop)]
 pub enum OfficeRequest {
     /// A new member of staff.
     AddStaff { name: Name, role: Role },
@@ -93,7 +93,7 @@ pub enum OfficeRequest {
 }
 
 /// A step of a loan to another stage that needs nothing beside its name.
-#[derive(Clone, Copy, PartialEq, Eq, Debug)]
+#[derive(Clone, Copy, PartialEq, Eq)]
 pub enum PlainStep {
     /// A submitted loan is approved.
     Approve,
@@ -106,7 +106,7 @@ pub enum PlainStep {
 }
 
 /// A step of a loan to another stage.
-#[derive(Clone, Copy, Debug)]
+#[derive(Clone, Copy)]
 pub enum LoanStep {
     /// A step that names no day.
     Plain(PlainStep),
@@ -115,7 +115,7 @@ pub enum LoanStep {
 }
 
 /// What is paid back, in cents, on a day, with a receipt where there is one.
-#[derive(Debug, Drop)]
+#[derive(Drop)]
 pub struct Repayment {
     pub amount: u64,
     pub day: Day,
@@ -123,7 +123,7 @@ pub struct Repayment {
 }
 
 /// What staff enter of a loan beside repayments and fees; it counts from the business day.
-#[derive(Clone, Copy, Debug)]
+#[derive(Clone, Copy)]
 pub enum Posting {
     /// The product's overdue charge on an instalment.
     Penalty { instalment: u32 },
@@ -136,7 +136,7 @@ pub enum Posting {
 }
 
 /// What is asked of one loan.
-#[derive(Debug, Drop)]
+#[derive(Drop)]
 pub enum LoanRequest {
     /// The loan as it stands.
     Show,
@@ -157,7 +157,7 @@ pub enum LoanRequest {
 }
 
 /// What is asked. Each route is one variant, here or within the part that it looks at.
-#[derive(Debug, Drop)]
+#[derive(Drop)]
 pub enum Request {
     /// A line that reads as no request.
     Unreadable(Flaw),
@@ -186,7 +186,7 @@ pub enum Request {
 }
 
 /// A request and who sends it, if the line names anybody.
-#[derive(Debug, Drop)]
+#[derive(Drop)]
 pub struct Call {
     pub caller: Option<Caller>,
     pub request: Request,

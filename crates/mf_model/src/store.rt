@@ -8,7 +8,7 @@ use mf_office::{Account, Caller, Name, OfficeNo, Role};
 use std::alloc::Global;
 
 /// How many rows an office has.
-#[derive(Clone, Copy, PartialEq, Eq, Debug)]
+#[derive(Clone, Copy, PartialEq, Eq)]
 pub struct Counts {
     pub staff: u32,
     pub clients: u32,
@@ -16,7 +16,7 @@ pub struct Counts {
 }
 
 /// How many charges and products the catalogue has.
-#[derive(Clone, Copy, PartialEq, Eq, Debug)]
+#[derive(Clone, Copy, PartialEq, Eq)]
 pub struct CatalogueCounts {
     pub charges: u32,
     pub products: u32,

@@ -8,7 +8,7 @@ use mf_alloc::Portion;
 use mf_base::Choice;
 
 /// A portion of an instalment that may be waived. Principal never is.
-#[derive(Clone, Copy, PartialEq, Eq, Debug)]
+#[derive(Clone, Copy, PartialEq, Eq)]
 pub enum Waivable {
     Penalties = 1,
     Fees = 2,

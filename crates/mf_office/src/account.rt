@@ -8,7 +8,7 @@ use std::alloc::Global;
 use std::marker::Model;
 
 /// The number of a client or a loan within its office, from 1 to 999999. Clients and loans are numbered apart.
-#[derive(Clone, Copy, PartialEq, Eq, PartialOrd, Ord, Hash, Debug)]
+#[derive(Clone, Copy, PartialEq, Eq)]
 pub struct AccountNo {
     value: u32,
 }
@@ -48,7 +48,7 @@ impl AccountNo {
 }
 
 /// A client or a loan, by its office and its number there.
-#[derive(Clone, Copy, PartialEq, Eq, PartialOrd, Ord, Hash, Debug)]
+#[derive(Clone, Copy, PartialEq, Eq)]
 pub struct Account {
     /// The office that it belongs to.
     pub office: OfficeNo,

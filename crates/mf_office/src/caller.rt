@@ -7,7 +7,7 @@ use mf_base::{Fault, split_once};
 use std::alloc::Global;
 
 /// Who sends a request: a staff member of an office.
-#[derive(Clone, Copy, PartialEq, Eq, PartialOrd, Ord, Hash, Debug)]
+#[derive(Clone, Copy, PartialEq, Eq, Debug)]
 pub struct Caller {
     /// The staff member's office.
     pub office: OfficeNo,

@@ -8,7 +8,6 @@ use std::alloc::Global;
 use std::marker::Model;
 
 /// The hierarchy text of an office: `.` for the head, and for a child its parent's text, its own number and `.`.
-#[derive(Debug)]
 pub struct Key {
     text: String,
 }

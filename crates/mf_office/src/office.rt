@@ -5,7 +5,7 @@ use mf_base::Name;
 use std::marker::Model;
 
 /// The number of an office, from 1 to 9999. The head office is 1.
-#[derive(Clone, Copy, PartialEq, Eq, PartialOrd, Ord, Hash, Debug)]
+#[derive(Clone, Copy, PartialEq, Eq, Debug)]
 pub struct OfficeNo {
     value: u32,
 }
@@ -45,7 +45,6 @@ impl OfficeNo {
 }
 
 /// An office: its number, its parent where it is not the head, and its name.
-#[derive(Debug)]
 pub struct Office {
     /// The number.
     pub number: OfficeNo,

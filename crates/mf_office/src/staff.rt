@@ -6,7 +6,7 @@ use mf_base::Name;
 use std::marker::Model;
 
 /// The number of a staff member within their office, from 1 to 9999.
-#[derive(Clone, Copy, PartialEq, Eq, PartialOrd, Ord, Hash, Debug)]
+#[derive(Clone, Copy, PartialEq, Eq, Debug)]
 pub struct StaffNo {
     value: u32,
 }
@@ -46,7 +46,7 @@ impl StaffNo {
 }
 
 /// What a staff member may do. Each role may do all that those before it may.
-#[derive(Clone, Copy, PartialEq, Eq, PartialOrd, Ord, Hash, Debug)]
+#[derive(Clone, Copy, PartialEq, Eq, Debug)]
 pub enum Role {
     /// Reads, and enters repayments.
     Teller = 1,
@@ -57,7 +57,6 @@ pub enum Role {
 }
 
 /// A staff member of an office.
-#[derive(Debug)]
 pub struct Staff {
     /// The office.
     pub office: OfficeNo,

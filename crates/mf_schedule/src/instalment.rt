@@ -1,7 +1,7 @@
 use mf_base::Day;
 
 /// One row of a fresh schedule. All amounts are whole cents.
-#[derive(Clone, Copy, PartialEq, Eq, Debug)]
+#[derive(Clone, Copy, PartialEq, Eq)]
 pub struct Instalment {
     /// The day on which it falls due.
     pub due: Day,

@@ -11,7 +11,7 @@ use mf_office::Account;
 use std::alloc::Global;
 
 /// A repayment that a line of a sheet asks for.
-#[derive(Debug, Drop)]
+#[derive(Drop)]
 pub struct SheetRepayment {
     /// Its receipt, which each line of a sheet has.
     pub receipt: Receipt,
@@ -24,7 +24,7 @@ pub struct SheetRepayment {
 }
 
 /// What a line of a sheet asks for.
-#[derive(Debug, Drop)]
+#[derive(Drop)]
 pub enum SheetLine {
     /// A repayment.
     Repay(SheetRepayment),

@@ -12,7 +12,7 @@ use mf_base::Fault;
 use std::alloc::Global;
 
 /// What the parts of one entry come to.
-#[derive(Debug, Drop)]
+#[derive(Drop)]
 struct EntryParts {
     /// Whole cents: what they waive or write off.
     cleared: u64,

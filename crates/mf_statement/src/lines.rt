@@ -4,7 +4,7 @@ use mf_alloc::Share;
 use mf_base::Day;
 
 /// An instalment as it stands, in whole cents. The portions are in the order of `Portion`.
-#[derive(Clone, Copy, Debug)]
+#[derive(Clone, Copy)]
 pub struct InstalmentLine {
     /// Its number, from 1.
     pub number: u32,
@@ -19,7 +19,6 @@ pub struct InstalmentLine {
 pub type InstalmentList = Listing<InstalmentLine>;
 
 /// An entry as it is told.
-#[derive(Debug)]
 pub struct EntryLine {
     pub entry: Entry,
     /// Whole cents: what was entered, or what the entry clears now.

@@ -2,7 +2,7 @@ use mf_base::Fault;
 use std::marker::Model;
 
 /// Things by number, which contracts see as a list.
-#[derive(Debug, Drop)]
+#[derive(Drop)]
 pub struct Listing<T> {
     items: Vec<T>,
 }

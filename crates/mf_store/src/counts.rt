@@ -14,7 +14,7 @@ use mf_model::Counts;
 use sqlite::Alter;
 
 /// What is numbered from 1: rows of one office, or of the catalogue.
-#[derive(Clone, Copy, PartialEq, Eq, Debug)]
+#[derive(Clone, Copy, PartialEq, Eq)]
 pub enum Kind {
     Staff(u32),
     Clients(u32),

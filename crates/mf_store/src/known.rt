@@ -20,7 +20,7 @@ use std::marker::Model;
 use std::num::NonZeroUsize;
 
 /// What a store learns as a read or a commit goes well.
-#[derive(Clone, Copy, Debug)]
+#[derive(Clone, Copy)]
 pub(crate) enum News {
     Nothing,
     OfficeCounts(u32, Counts),

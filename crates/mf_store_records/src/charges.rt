@@ -6,7 +6,7 @@ use mf_store_tables::run;
 use sqlite::{Alter, Error, Row, Transaction, params};
 
 /// A row of the table charges.
-#[derive(Debug, Drop)]
+#[derive(Drop)]
 pub struct ChargeRow {
     pub number: u32,
     pub name: Text,
@@ -35,10 +35,10 @@ impl Table for ChargeRow {
         has_columns(row, 5)?;
         Ok(ChargeRow {
             number: row.get(0)?,
-            name: row.get(1)?,
             kind: row.get(2)?,
             calc: row.get(3)?,
             value: row.get(4)?,
+            name: row.get(1)?,
         })
     }
 

@@ -6,7 +6,7 @@ use mf_store_tables::run;
 use sqlite::{Alter, Error, Row, Transaction, params};
 
 /// A row of the table clients.
-#[derive(Debug, Drop)]
+#[derive(Drop)]
 pub struct ClientRow {
     pub office: u32,
     pub number: u32,

@@ -6,7 +6,7 @@ use mf_store_tables::run;
 use sqlite::{Alter, Error, Row, Transaction, params};
 
 /// A row of the table entries.
-#[derive(Debug, Drop)]
+#[derive(Drop)]
 pub struct EntryRow {
     pub office: u32,
     /// The loan's number within the office.
@@ -51,13 +51,13 @@ impl Table for EntryRow {
             loan: row.get(1)?,
             seq: row.get(2)?,
             kind: row.get(3)?,
-            day: row.get(4)?,
             amount: row.get(5)?,
             instalment: row.get(6)?,
             portion: row.get(7)?,
+            reversed: row.get(10)?,
+            day: row.get(4)?,
             receipt: row.get(8)?,
             staff: row.get(9)?,
-            reversed: row.get(10)?,
         })
     }
 

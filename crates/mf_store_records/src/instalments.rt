@@ -12,7 +12,7 @@ use mf_store_tables::run;
 use sqlite::{Alter, Connection, Error, Row, Transaction, params};
 
 /// A row of the table instalments.
-#[derive(Debug, Drop)]
+#[derive(Drop)]
 pub struct InstalmentRow {
     pub office: u32,
     /// The loan's number within the office.
@@ -59,7 +59,6 @@ impl Table for InstalmentRow {
             office: row.get(0)?,
             loan: row.get(1)?,
             number: row.get(2)?,
-            due: row.get(3)?,
             owed_penalty: row.get(4)?,
             paid_penalty: row.get(5)?,
             waived_penalty: row.get(6)?,
@@ -76,6 +75,7 @@ impl Table for InstalmentRow {
             paid_principal: row.get(17)?,
             waived_principal: row.get(18)?,
             written_off_principal: row.get(19)?,
+            due: row.get(3)?,
         })
     }
 

@@ -12,7 +12,7 @@ use mf_store_tables::run;
 use sqlite::{Alter, Connection, Error, Row, Transaction, params};
 
 /// A row of the table loans.
-#[derive(Debug, Drop)]
+#[derive(Drop)]
 pub struct LoanRow {
     pub office: u32,
     pub number: u32,

@@ -6,7 +6,7 @@ use mf_store_tables::run;
 use sqlite::{Alter, Error, Row, Transaction, params};
 
 /// The one row of the table meta: what the file is, and the business day.
-#[derive(Debug, Drop)]
+#[derive(Drop)]
 pub struct MetaRow {
     pub one: u32,
     pub schema: u32,

@@ -12,7 +12,7 @@ use mf_store_tables::run;
 use sqlite::{Alter, Connection, Error, Row, Transaction, params};
 
 /// A row of the table offices.
-#[derive(Debug, Drop)]
+#[derive(Drop)]
 pub struct OfficeRow {
     pub number: u32,
     /// The office above; the head has none.

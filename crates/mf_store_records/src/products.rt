@@ -6,7 +6,7 @@ use mf_store_tables::run;
 use sqlite::{Alter, Error, Row, Transaction, params};
 
 /// A row of the table products.
-#[derive(Debug, Drop)]
+#[derive(Drop)]
 pub struct ProductRow {
     pub number: u32,
     pub name: Text,
@@ -51,7 +51,6 @@ impl Table for ProductRow {
         has_columns(row, 17)?;
         Ok(ProductRow {
             number: row.get(0)?,
-            name: row.get(1)?,
             method: row.get(2)?,
             rate: row.get(3)?,
             frequency: row.get(4)?,
@@ -67,6 +66,7 @@ impl Table for ProductRow {
             instalment_charge: row.get(14)?,
             overdue_charge: row.get(15)?,
             retired: row.get(16)?,
+            name: row.get(1)?,
         })
     }
 

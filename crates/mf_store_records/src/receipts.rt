@@ -12,7 +12,7 @@ use mf_store_tables::run;
 use sqlite::{Alter, Connection, Error, Row, Transaction, params};
 
 /// A row of the table receipts.
-#[derive(Debug, Drop)]
+#[derive(Drop)]
 pub struct ReceiptRow {
     pub office: u32,
     pub receipt: Text,
@@ -39,9 +39,9 @@ impl Table for ReceiptRow {
         has_columns(row, 4)?;
         Ok(ReceiptRow {
             office: row.get(0)?,
-            receipt: row.get(1)?,
             loan: row.get(2)?,
             seq: row.get(3)?,
+            receipt: row.get(1)?,
         })
     }
 

@@ -9,7 +9,7 @@ use mf_store_tables::run;
 use sqlite::{Alter, Error, Row, Transaction, params};
 
 /// A row of the table shares: what an entry settles of one portion of one instalment.
-#[derive(Debug, Drop)]
+#[derive(Drop)]
 pub struct ShareRow {
     pub office: u32,
     /// The loan's number within the office.
@@ -96,7 +96,7 @@ impl Listed for ShareRow {
 }
 
 /// The entry that shares belong to.
-#[derive(Debug, Drop)]
+#[derive(Drop)]
 pub struct EntryKey {
     pub office: u32,
     /// The loan's number within the office.

@@ -6,7 +6,7 @@ use mf_store_tables::run;
 use sqlite::{Alter, Error, Row, Transaction, params};
 
 /// A row of the table staff.
-#[derive(Debug, Drop)]
+#[derive(Drop)]
 pub struct StaffRow {
     pub office: u32,
     pub number: u32,
@@ -33,8 +33,8 @@ impl Table for StaffRow {
         Ok(StaffRow {
             office: row.get(0)?,
             number: row.get(1)?,
-            name: row.get(2)?,
             role: row.get(3)?,
+            name: row.get(2)?,
         })
     }
 

@@ -115,6 +115,7 @@ pub trait Table: Sized {
     ghost is_at: { Self.Key → Self → Bool };
 
     /// The row, of whatever values. The error is for want of memory, and any other for values that the fields cannot hold.
+    // Each reads its texts last, so that none is to be dropped where a number is refused.
     fn read(row: &Row) -> Result<Self, Error>
         ensures row { IfOk result (λ x. stored x ≡ row.now) }
         ensures only { IfOk result (λ x. (r : Self) → row.now ≡ stored r → x ≡ r) }

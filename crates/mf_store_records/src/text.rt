@@ -6,7 +6,6 @@ use std::alloc::Global;
 use std::marker::Model;
 
 /// A text of a column. Contracts see its bytes.
-#[derive(Debug)]
 pub struct Text {
     text: String,
 }

@@ -26,7 +26,7 @@ use sqlite::{Alter, Error, Transaction};
 /// of staff, a client and a charge are written once, when they are new; a product and a loan are added when they are new, and
 /// put when they change; an entry is added when it is new, and changed when it is reversed; a receipt is added when it is new;
 /// an instalment and a share are put, whether they are new or change.
-#[derive(Debug, Drop)]
+#[derive(Drop)]
 pub enum StoreWrite {
     MakeTables,
     PutMeta(MetaRow),

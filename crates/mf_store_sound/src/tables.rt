@@ -5,7 +5,7 @@ use mf_store_records::{
 use std::marker::Model;
 
 /// The rows of the tables, each table's in the order of its key.
-#[derive(Debug, Drop)]
+#[derive(Drop)]
 pub struct Tables {
     pub meta: Vec<MetaRow>,
     pub offices: Vec<OfficeRow>,

@@ -23,7 +23,7 @@ const CREATE_SHARES: &str =
     "CREATE TABLE shares (office INTEGER NOT NULL, loan INTEGER NOT NULL, seq INTEGER NOT NULL, place INTEGER NOT NULL, instalment INTEGER NOT NULL, portion INTEGER NOT NULL, how INTEGER NOT NULL, amount INTEGER NOT NULL, PRIMARY KEY (office, loan, seq, place)) STRICT";
 
 /// What the commit is made of that brings the first schema to the second.
-#[derive(Debug, Drop)]
+#[derive(Drop)]
 pub enum UpgradeWrite {
     /// The tables of instalments and of shares are made.
     MakeAccountTables,

@@ -25,7 +25,7 @@ const MOST_LOANS: u64 = 10_000_000_000;
 
 /// What is read of a loan: its number, what is outstanding of its principal in cents, and the earliest due day of an
 /// instalment with something outstanding.
-#[derive(Clone, Copy, Debug)]
+#[derive(Clone, Copy)]
 struct LoanSoFar {
     loan: u32,
     principal: u64,

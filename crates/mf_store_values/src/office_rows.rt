@@ -17,7 +17,7 @@ use std::alloc::Global;
 use std::marker::Model;
 
 /// A member of staff.
-#[derive(Debug, Drop)]
+#[derive(Drop)]
 pub struct StaffMember {
     pub name: Name,
     pub role: Role,
@@ -32,7 +32,7 @@ impl Model for StaffMember {
 }
 
 /// A loan, and what was entered of it, in the order of the entries' numbers.
-#[derive(Debug, Drop)]
+#[derive(Drop)]
 pub struct Ledger {
     pub loan: Loan,
     pub entries: Vec<Entry>,
@@ -47,7 +47,7 @@ impl Model for Ledger {
 }
 
 /// What belongs to one office: its staff, its clients' names and its loans, each by number from 1.
-#[derive(Debug, Drop)]
+#[derive(Drop)]
 pub struct OfficeRows {
     staff: Vec<StaffMember>,
     clients: Vec<Name>,

@@ -23,7 +23,7 @@ use mf_model::{CatalogueRequest, Flaw, Request};
 use std::alloc::Global;
 
 /// The methods that some route has. Other tokens are the method of no route.
-#[derive(Clone, Copy, PartialEq, Eq, Debug)]
+#[derive(Clone, Copy, PartialEq, Eq)]
 pub enum Method {
     Get,
     Post,

@@ -6,7 +6,7 @@ ghost use Rattle.mf_wire_requests.specs.RequestLine.{parts_now, parts_of, is_tok
 use mf_base::split_once;
 
 /// The parts of a request line, with single spaces between them. The body may have more.
-#[derive(Clone, Copy, Debug)]
+#[derive(Clone, Copy)]
 pub struct LineParts<'a> {
     /// Who sends it, as `office/number`.
     pub caller: &'a [u8],

@@ -8,7 +8,7 @@ use mf_model::PlainStep;
 use std::alloc::Global;
 
 /// What a method of a path asks of the loan that the path names.
-#[derive(Clone, Copy, PartialEq, Eq, Debug)]
+#[derive(Clone, Copy, PartialEq, Eq)]
 pub enum LoanEndpoint {
     Show,
     ShowInstalments,
@@ -25,7 +25,7 @@ pub enum LoanEndpoint {
 }
 
 /// What a method of a path asks.
-#[derive(Clone, Copy, PartialEq, Eq, Debug)]
+#[derive(Clone, Copy, PartialEq, Eq)]
 pub enum Endpoint {
     ShowDay,
     SetDay,
@@ -46,7 +46,7 @@ pub enum Endpoint {
 }
 
 /// The methods of a path, each with what it asks.
-#[derive(Clone, Copy, PartialEq, Eq, Debug)]
+#[derive(Clone, Copy, PartialEq, Eq)]
 pub enum Methods {
     Get(Endpoint),
     Post(Endpoint),

@@ -5,7 +5,7 @@ use std::alloc::{AllocError, AllocFailed};
 use std::marker::Model;
 
 /// What the program is asked to do.
-#[derive(Debug, Drop)]
+#[derive(Drop)]
 pub enum Command<'a> {
     /// Answer the request lines on standard input.
     Batch(BatchWords<'a>),
@@ -20,7 +20,7 @@ pub enum Command<'a> {
 }
 
 /// The path of a file, as it stands in the words. Contracts see its bytes.
-#[derive(Debug, Drop)]
+#[derive(Drop)]
 pub struct FilePath<'a> {
     text: &'a str,
 }
@@ -52,7 +52,7 @@ impl<'a> FilePath<'a> {
 }
 
 /// The options of `batch`.
-#[derive(Debug, Drop)]
+#[derive(Drop)]
 pub struct BatchWords<'a> {
     /// The file that holds the institution, or None for a new one in memory.
     pub file: Option<FilePath<'a>>,
@@ -61,7 +61,7 @@ pub struct BatchWords<'a> {
 }
 
 /// The options of `serve`.
-#[derive(Debug, Drop)]
+#[derive(Drop)]
 pub struct ServeWords<'a> {
     /// The file that holds the institution.
     pub file: FilePath<'a>,
@@ -74,7 +74,7 @@ pub struct ServeWords<'a> {
 }
 
 /// The options of `collect` and of `report`.
-#[derive(Debug, Drop)]
+#[derive(Drop)]
 pub struct StaffWords<'a> {
     /// The file that holds the institution.
     pub file: FilePath<'a>,
@@ -83,7 +83,7 @@ pub struct StaffWords<'a> {
 }
 
 /// The options of `schedule`.
-#[derive(Clone, Copy, PartialEq, Eq, Debug)]
+#[derive(Clone, Copy, PartialEq, Eq)]
 pub struct ScheduleWords {
     /// How interest and principal are planned.
     pub method: Method,
@@ -106,7 +106,7 @@ pub struct ScheduleWords {
 }
 
 /// Why the words ask for nothing that the program does.
-#[derive(Debug, Drop)]
+#[derive(Drop)]
 pub enum Words {
     /// They are wrong: a line that says what is, and how to ask for help.
     Bad(String),

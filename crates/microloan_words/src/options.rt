@@ -1,5 +1,5 @@
 ghost use Rattle.std.specs.Prelude.{◌≡◌, codes, IfOk, false};
-ghost use Rattle.clap.specs.Words.{app_of, rule_of, new_app, with_rule, with_subcommand};
+ghost use Rattle.clap.specs.Words.{App, app_of, rule_of, new_app, with_rule, with_subcommand};
 ghost use Rattle.clap.specs.declared.Command.TheViews.{out-Command as fields_of};
 ghost use Rattle.microloan_words.specs.Options.{option_rule, required_rule, default_rule, batch_app, serve_app, staff_app, loan_app, schedule_app, bare_app, desk_app, microloan_app};
 
@@ -265,14 +265,17 @@ fn report_command<'a>(alloc: Global) -> Result<Command<'a>, AllocError>
     with_staff(alloc, command, "report")
 }
 
-/// The program with one more command.
-fn with_command<'a>(program: Command<'a>, command: Command<'a>) -> Result<Command<'a>, AllocError>
+/// The program with one more command. That may have failed to be made, so that it is this call alone that drops a program.
+fn with_command<'a>(
+    program: Command<'a>,
+    command: Result<Command<'a>, AllocError>,
+) -> Result<Command<'a>, AllocError>
     requires program { (fields_of program).has_globals ≡ false }
-    requires command { (fields_of command).has_globals ≡ false }
-    ensures app { IfOk result (λ c. app_of c ≡ with_subcommand (app_of program.entry) (app_of command.entry).top) }
+    requires command { IfOk command (λ c. (fields_of c).has_globals ≡ false) }
+    ensures app { (app : App) → IfOk command.entry (λ c. app_of c ≡ app) → IfOk result (λ c. app_of c ≡ with_subcommand (app_of program.entry) app.top) }
     ensures local { IfOk result (λ c. (fields_of c).has_globals ≡ false) }
 {
-    program.subcommand(command)
+    program.subcommand(command?)
 }
 
 /// The program without commands, one of which it wants.
@@ -296,10 +299,10 @@ fn desk_program<'a>(alloc: Global) -> Result<Command<'a>, AllocError>
     ensures app { IfOk result (λ c. app_of c ≡ desk_app) }
     ensures local { IfOk result (λ c. (fields_of c).has_globals ≡ false) }
 {
-    let program = with_command(bare_program(alloc), batch_command(alloc)?)?;
-    let program = with_command(program, serve_command(alloc)?)?;
-    let program = with_command(program, collect_command(alloc)?)?;
-    with_command(program, report_command(alloc)?)
+    let program = with_command(bare_program(alloc), batch_command(alloc))?;
+    let program = with_command(program, serve_command(alloc))?;
+    let program = with_command(program, collect_command(alloc))?;
+    with_command(program, report_command(alloc))
 }
 
 /// The program with its commands.
@@ -308,5 +311,5 @@ pub(crate) fn microloan_command<'a>(alloc: Global) -> Result<Command<'a>, AllocE
     ensures local { IfOk result (λ c. (fields_of c).has_globals ≡ false) }
 {
     let program = desk_program(alloc)?;
-    with_command(program, schedule_command(alloc)?)
+    with_command(program, schedule_command(alloc))
 }

@@ -18,7 +18,7 @@ use clap::ArgMatches;
 use mf_catalog::{GREATEST_AMOUNT, GREATEST_RATE, MOST_GRACE, MOST_PERIODS, longest_step};
 
 /// An option whose text isn't what the option wants.
-#[derive(Clone, Copy, PartialEq, Eq, Debug)]
+#[derive(Clone, Copy, PartialEq, Eq)]
 pub(crate) enum Wrong {
     File,
     Port,

@@ -18,14 +18,14 @@ use serde_json::Value;
 use std::alloc::Global;
 
 /// The step from one due day to the next.
-#[derive(Clone, Copy, Debug)]
+#[derive(Clone, Copy)]
 pub struct Step {
     pub freq: Freq,
     pub every: u32,
 }
 
 /// The members of a product by which schedules are planned.
-#[derive(Clone, Copy, Debug)]
+#[derive(Clone, Copy)]
 pub struct Planning {
     pub method: Method,
     pub rate: u32,
@@ -36,7 +36,7 @@ pub struct Planning {
 }
 
 /// The least and the greatest loan of a product.
-#[derive(Clone, Copy, Debug)]
+#[derive(Clone, Copy)]
 pub struct Bounds {
     pub min_principal: u64,
     pub max_principal: u64,
@@ -45,7 +45,7 @@ pub struct Bounds {
 }
 
 /// The charges that a product names, by their numbers.
-#[derive(Clone, Copy, Debug)]
+#[derive(Clone, Copy)]
 pub struct Charged {
     pub disbursement: Option<u32>,
     pub instalment: Option<u32>,

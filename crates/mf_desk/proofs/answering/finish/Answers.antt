@@ -1,6 +1,6 @@
 use Rattle.std.proofs.Common.{◌≡◌, Err, rules}
 use Rattle.mf_desk.specs.Answers.{call_of}
-use Rattle.mf_desk.proofs.AnswerLemmas.{refusal_changes_nothing, changes_made, changes_given_up}
+use Rattle.mf_desk.proofs.AnswerLemmas.{refusal_changes_nothing, changes_nothing, changes_made, changes_given_up}
 use Rattle.mf_desk.proofs.answering.finish.Goals as goal
 
 pub returns-in_err-reply-clause-changes : goal.returns-in_err-reply-clause-changes
@@ -16,8 +16,8 @@ returns-in_err-commit-in-Some-clause-changes g c =
     rw e (changes_given_up s.stands s.clean s.leaves (call_of c.args.caller c.args.request) c.in_ok-reply.field-0 c.in-Some.commit c.args.store.now c.decide.new.store c.commit.new.self c.in_err-commit-in-Some.field-0.0
     c.soundness.ensures.accepted g.met.S.InstitutionStore.sound c.requires.in_range c.in-Some.is c.in_ok-reply.ensures.decides c.in_err-commit-in-Some.ensures)
 
-pub returns-clause-changes : goal.returns-clause-changes
-returns-clause-changes g c =
+pub returns-in_ok-commit-in-Some-clause-changes : goal.returns-in_ok-commit-in-Some-clause-changes
+returns-in_ok-commit-in-Some-clause-changes g c =
     let s = g.S.InstitutionStore in
     changes_made s.stands s.clean s.leaves (call_of c.args.caller c.args.request) c.in_ok-reply.field-0 c.in-Some.commit c.args.store.now c.decide.new.store c.commit.new.self c.in_ok-shown.shown
     c.soundness.ensures.accepted g.met.S.InstitutionStore.sound c.requires.in_range c.in-Some.is c.in_ok-reply.ensures.decides c.in_ok-commit-in-Some.ensures

@@ -13,7 +13,7 @@ use mf_office::{Caller, OfficeNo, StaffNo};
 use std::alloc::Global;
 
 /// What is done to a loan, or asked of it.
-#[derive(Clone, Copy, Debug)]
+#[derive(Clone, Copy)]
 pub(crate) enum Step {
     /// A repayment: its day and its cents.
     Repay(&'static str, u64),
@@ -30,7 +30,7 @@ pub(crate) enum Step {
 
 /// A loan of 100000 cents at 12 percent for 3 months of equal principal, disbursed on 2024-01-31. The business day is
 /// 2024-03-31.
-#[derive(Debug, Drop)]
+#[derive(Drop)]
 pub(crate) struct OpenLoan {
     account: LoanAccount,
     business_day: Day,
