@@ -12,10 +12,16 @@ use std::marker::Model;
 
 /// What the last entry or reversal changed: the numbers of the instalments whose rows differ, and of the entries that
 /// settle otherwise, each ascending.
-#[derive(Drop)]
 pub struct Change {
     pub rows: Vec<u32>,
     pub seqs: Vec<u32>,
+}
+
+// By hand, since a derived drop is proved again in each function that may drop one.
+impl Drop for Change {
+    fn drop(self) {
+        let Change { rows: _, seqs: _ } = self;
+    }
 }
 
 impl Model for Change {

@@ -64,7 +64,7 @@ pub(crate) fn resumed_book(entries: &[Entry], order: &[usize], rows: Vec<Row>) -
     ensures book { (loan : Loan) → IsSound loan → entries.now ≡ loan.entries → rows.items ≡ (state_of_loan loan).rows → IfSome result (λ book. book ≡ state_of_loan loan) }
     ensures some { (loan : Loan) → IsSound loan → rows.items ≡ (state_of_loan loan).rows → result ≢ None }
 {
-    let book = Book {
+    let mut book = Book {
         rows,
         overpaid: 0,
         refunded: 0,
@@ -79,9 +79,7 @@ pub(crate) fn resumed_book(entries: &[Entry], order: &[usize], rows: Vec<Row>) -
     } else {
         (rest, 0)
     };
-    Some(Book {
-        overpaid,
-        refunded,
-        ..book
-    })
+    book.overpaid = overpaid;
+    book.refunded = refunded;
+    Some(book)
 }

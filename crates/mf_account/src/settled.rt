@@ -39,11 +39,21 @@ impl Settled {
 }
 
 /// A state of an account.
-#[derive(Drop)]
 pub struct Book {
     pub rows: Vec<Row>,
     pub overpaid: u64,
     pub refunded: u64,
+}
+
+// By hand, since a derived drop is proved again in each function that may drop one.
+impl Drop for Book {
+    fn drop(self) {
+        let Book {
+            rows: _,
+            overpaid: _,
+            refunded: _,
+        } = self;
+    }
 }
 
 impl Model for Book {
