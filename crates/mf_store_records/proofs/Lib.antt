@@ -7,3 +7,4 @@ pub mod PutLemmas
 pub mod CallLemmas
 pub mod TextLemmas
 pub mod ReceiptLemmas
+mod OnceLemmas
