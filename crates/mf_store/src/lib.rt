@@ -9,7 +9,6 @@ mod arrears;
 mod catalogue;
 mod commits;
 mod counts;
-mod first;
 mod institution;
 mod kept;
 mod known;

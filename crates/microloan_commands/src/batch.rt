@@ -3,8 +3,8 @@ ghost use Rattle.mf_base.specs.DayText.{last_entered_day};
 ghost use Rattle.mf_base.specs.declared.fault.Cause.TheVariants as cause;
 ghost use Rattle.microloan_commands.specs.Batch.{AnswersFromNew};
 
+use crate::first::in_memory;
 use mf_base::{Cause, Day, StreamFault};
-use mf_store::Store;
 use mf_store_pages::PageStore;
 use mf_wire::{Sink, Source, run};
 use sqlite_trees::store::Store as TreeStore;
@@ -34,7 +34,7 @@ pub fn answer_lines<R: Source, W: Sink>(
     }) result }
     ensures memory { IfErr result (λ f. f.cause ≡ cause.Memory → (source.new ≡ source.old) × (sink.new ≡ sink.old)) }
 {
-    let Ok(mut store) = Store::in_memory(alloc, day) else {
+    let Ok(mut store) = in_memory(alloc, day) else {
         return Err(StreamFault {
             answered: 0,
             cause: Cause::Memory,

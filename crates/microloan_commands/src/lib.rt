@@ -3,12 +3,14 @@
 #![tactic(auto)]
 
 mod batch;
+mod first;
 mod printing;
 mod reporting;
 mod serving;
 mod sheets;
 
 pub use batch::answer_lines;
+pub use first::in_memory;
 pub use printing::schedule;
 pub use reporting::report;
 pub use serving::serve_connections;

@@ -3,7 +3,7 @@ use Rattle.sqlite.specs.Files.{over_files}
 use Rattle.sqlite.specs.Held.{state}
 use Rattle.mf_store_pages.proofs.OpenLemmas.{always_clean}
 use Rattle.mf_store.proofs.FirstLemmas.{empty_serves}
-use Rattle.mf_store.proofs.first.Store+PageStore.in_memory.Goals as goal
+use Rattle.microloan_commands.proofs.first.in_memory.Goals as goal
 
 pub returns-in-Ok-found-clause-stands : goal.returns-in-Ok-found-clause-stands
 returns-in-Ok-found-clause-stands c = c.in-Ok-found.ensures.stands (always_clean (λ _. refl) c.in-Ok-found.store.connection) (empty_serves (state over_files c.in-Ok.connection) c.in-Ok.ensures.empty)
