@@ -122,6 +122,6 @@ pub record IsAdmitted (loan : Loan) (e : Entry) (business_day : ℕ) : Type 0 wh
   pub within : is_out_of_limits e.kind e.amount ≡ false
   pub few : length loan.entries < 9999
 
--- the refusals of an entry or a reversal, and want of memory
+-- the refusals of an entry or a reversal, and F20 when out of memory
 abbrev pub IsEntryFault : Fault → Type 0
 IsEntryFault fault = fault ≢ F19

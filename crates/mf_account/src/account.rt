@@ -27,7 +27,7 @@ use crate::refusal::{
     admits, is_forbidden, is_out_of_limits, is_out_of_order, is_sealed, reversal, status,
 };
 use crate::replay::{
-    apply_all, apply_with, in_order, mark_in, place_in, position, replayed, standing_order,
+    apply_all, apply_with, in_order, mark_reversed, place_in, position, replayed, standing_order,
 };
 use crate::resume::resumed_book;
 use crate::rewind::rewind_to;
@@ -88,7 +88,7 @@ impl Model for LoanAccount {
 
 impl LoanAccount {
     /// The account of a loan of so many cents over so many periods, disbursed on a day, with its entries in the order
-    /// of their numbers. Only a want of memory is refused.
+    /// of their numbers. The only error is F20, out of memory.
     pub fn replay(
         alloc: Global,
         terms: Terms,
@@ -123,7 +123,7 @@ impl LoanAccount {
     }
 
     /// The account of what was read of a loan, or None where that can be no loan's: terms or sums outside the limits, a day
-    /// that can't be entered, or entries that are not those of one loan. Only a want of memory is refused.
+    /// that can't be entered, or entries that are not those of one loan. The only error is F20, out of memory.
     pub fn of_entries(
         alloc: Global,
         terms: Terms,
@@ -150,7 +150,7 @@ impl LoanAccount {
     /// The account of what is kept of a loan: its entries, its instalments and what its entries settled, the parts of an entry in
     /// their order. It is the account of `replay` where the instalments and the parts are what that gives. None where what is kept
     /// can be no loan's: as in `of_entries`; or more or fewer instalments than periods, a part without an instalment or an entry, or
-    /// sums far above the limits of loans. Only a want of memory is refused.
+    /// sums far above the limits of loans. The only error is F20, out of memory.
     pub fn resume(
         alloc: Global,
         terms: Terms,
@@ -228,7 +228,7 @@ impl LoanAccount {
     /// Enters one entry more. The refusals are, the first that holds: F11 where a write-off or refund stands; F9 where
     /// the loan is not at status 300, or at 700 for a refund; F10 for a repayment before disbursement or after the
     /// business day; F14 where the instalment does not allow it; F8 for a fee or penalty of 0 or over 10^12 cents; F18
-    /// where the loan has 9,999 entries; and F20 for want of memory. A refused entry is given up, and the account is
+    /// where the loan has 9,999 entries; and F20 when out of memory. A refused entry is given up, and the account is
     /// as before. An account that is no replay's may be refused with F20 too, where sums would leave all bounds.
     pub fn enter(&mut self, alloc: Global, entry: Entry, business_day: Day) -> Result<(), Fault>
         requires { IsOffered self.old.loan entry business_day }
@@ -381,7 +381,7 @@ impl LoanAccount {
     }
 
     /// Reverses entry `seq`. The refusals are, the first that holds: F12 where there is no such entry; F13 where it is
-    /// reversed; F11 where another entry seals the loan; and F20 for want of memory. The account is then as before. F20 comes for
+    /// reversed; F11 where another entry seals the loan; and F20 when out of memory. The account is then as before. F20 comes for
     /// an account that is no replay's as in `enter`.
     pub fn reverse(&mut self, alloc: Global, seq: u32) -> Result<(), Fault>
         ensures ok { OnOk result (self.new.loan ≡ record self.old.loan { entries = with_mark self.old.loan.entries (seq - 1) true }) }
@@ -412,7 +412,7 @@ impl LoanAccount {
         let (book, kept, parts) = self.redone_without(alloc, place)?;
         let change = self.change_to(alloc, &book, kept, &parts)?;
         self.settled.reserve(parts.len())?;
-        mark_in(&mut self.entries, at, true);
+        mark_reversed(&mut self.entries, at);
         self.order.remove(place);
         put_behind(&mut self.settled, kept, &parts);
         self.book = book;

@@ -17,6 +17,7 @@ mod resume;
 mod rewind;
 mod safe;
 mod settled;
+pub mod status;
 
 pub use account::LoanAccount;
 pub use balances::Balances;

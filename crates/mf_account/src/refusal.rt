@@ -11,8 +11,10 @@ ghost use Rattle.mf_account.specs.Account.{status_of};
 ghost use Rattle.mf_account.specs.Refusals.{is_sealed as is_sealed_by, admits as admits_kind, is_out_of_order as is_out_of_order_day, is_there as is_there_among, has_penalty as has_penalty_on, is_forbidden as is_forbidden_there, forbids_penalty as forbids_penalty_at, is_out_of_limits as is_out_of_limits_amount, reversal_refused};
 
 use crate::entry::{Entry, Kind};
+use crate::status::{ACTIVE, CLOSED, OVERPAID, WRITTEN_OFF};
 use mf_alloc::{Cell, Row, outstanding};
 use mf_base::{Day, Fault};
+use mf_catalog::GREATEST_AMOUNT;
 
 /// Whether a kind is a write-off.
 fn is_write_off(kind: Kind) -> bool
@@ -51,13 +53,13 @@ pub(crate) fn status(entries: &[Entry], order: &[usize], rows: &[Row], overpaid:
     ensures { result ≡ status_of entries.now (record { rows = rows.now; overpaid = overpaid; refunded = 0 }) }
 {
     if has_write_off(entries, order) {
-        601
+        WRITTEN_OFF
     } else if is_any_open(rows) {
-        300
+        ACTIVE
     } else if overpaid > 0 {
-        700
+        OVERPAID
     } else {
-        600
+        CLOSED
     }
 }
 
@@ -81,8 +83,8 @@ pub(crate) fn admits(kind: Kind, status: u16) -> bool
     ensures { result ≡ admits_kind kind status }
 {
     match kind {
-        Kind::Refund => status == 700,
-        Kind::Repay | Kind::Fee | Kind::Penalty | Kind::Waive | Kind::WriteOff => status == 300,
+        Kind::Refund => status == OVERPAID,
+        Kind::Repay | Kind::Fee | Kind::Penalty | Kind::Waive | Kind::WriteOff => status == ACTIVE,
     }
 }
 
@@ -153,7 +155,7 @@ pub(crate) fn is_out_of_limits(entry: &Entry) -> bool
     ensures { result ≡ is_out_of_limits_amount entry.now.kind entry.now.amount }
 {
     match entry.kind {
-        Kind::Fee | Kind::Penalty => entry.amount == 0 || 1_000_000_000_000 < entry.amount,
+        Kind::Fee | Kind::Penalty => entry.amount == 0 || GREATEST_AMOUNT < entry.amount,
         Kind::Repay | Kind::Waive | Kind::WriteOff | Kind::Refund => false,
     }
 }

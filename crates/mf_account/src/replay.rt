@@ -1,4 +1,4 @@
-ghost use Rattle.std.specs.Prelude.{◌≡◌, ◌≢◌, ℕ, ◌+◌, ◌-◌, ◌<◌, ◌≤◌, ◌∷◌, [], ◌++◌, None, IfOk, IfSome, OnOk, IsOkUnless, length, map, All, insert, slice_index};
+ghost use Rattle.std.specs.Prelude.{◌≡◌, ◌≢◌, ℕ, ◌+◌, ◌-◌, ◌<◌, ◌≤◌, ◌∷◌, [], ◌++◌, None, IfOk, IfSome, OnOk, IsOkUnless, length, map, All, insert, slice_index, true};
 ghost use Rattle.std.specs.List.{Contains};
 ghost use Rattle.mf_account.specs.Account.{row_of as first_row, first_state, state_of, settled_of, after_all, settled_by, orders_by};
 ghost use Rattle.mf_account.specs.Standing.{is_before as comes_before, placed, standing, entry_at, entries_at, with_mark, IsInOrder, places_from, AreApart};
@@ -308,19 +308,11 @@ pub(crate) fn replayed<T: Strategy>(
     Ok((book, settled))
 }
 
-/// Marks an entry as reversed, or as not.
-fn mark(entries: &mut [Entry], at: usize, reversed: bool)
-    requires { at < length entries.old }
-    ensures { entries.new ≡ with_mark entries.old at reversed }
+/// Marks the entry at a place as reversed.
+pub(crate) fn mark_reversed(entries: &mut Vec<Entry>, at: usize)
+    requires { at < length entries.old.items }
+    ensures { entries.new.items ≡ with_mark entries.old.items at true }
 {
     let entry = &mut entries[at];
-    entry.reversed = reversed;
-}
-
-/// The same in a vector.
-pub(crate) fn mark_in(entries: &mut Vec<Entry>, at: usize, reversed: bool)
-    requires { at < length entries.old.items }
-    ensures { entries.new.items ≡ with_mark entries.old.items at reversed }
-{
-    mark(entries, at, reversed);
+    entry.reversed = true;
 }

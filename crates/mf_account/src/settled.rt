@@ -13,7 +13,7 @@ pub enum How {
     WrittenOff,
 }
 
-/// What an entry settled in a cell. Places are from 1 within the entry.
+/// What an entry settled in a cell, in whole cents. Places are from 1 within the entry.
 #[derive(Clone, Copy, PartialEq, Eq)]
 pub struct Settled {
     pub seq: u32,
@@ -38,7 +38,7 @@ impl Settled {
     }
 }
 
-/// A state of an account.
+/// The state of an account: its instalments, and what is overpaid and refunded, in whole cents.
 pub struct Book {
     pub rows: Vec<Row>,
     pub overpaid: u64,

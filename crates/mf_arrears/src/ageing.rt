@@ -1,5 +1,5 @@
 ghost use Rattle.std.specs.Prelude.{◌≡◌, pos};
-ghost use Rattle.mf_arrears.specs.Ageing.{days_overdue, earliest_due as earliest_due_of, earlier as earlier_of};
+ghost use Rattle.mf_arrears.specs.Ageing.{days_overdue, days_since, earliest_due as earliest_due_of, earlier as earlier_of};
 ghost use Rattle.mf_arrears.specs.Line.{class_of};
 
 use crate::line::Class;
@@ -7,7 +7,7 @@ use mf_alloc::Row;
 use mf_base::Day;
 
 /// The earlier of a day, where there is one, and another.
-fn earlier(day: Option<Day>, other: Day) -> Option<Day>
+pub fn earlier(day: Option<Day>, other: Day) -> Option<Day>
     ensures { result ≡ earlier_of day other }
 {
     match day {
@@ -26,15 +26,22 @@ fn earliest_due(rows: &[Row]) -> Option<Day>
         .fold(None, |day: Option<Day>, due| earlier(day, due))
 }
 
+/// How many days after its earliest open due day a loan is on a day, and 0 where that day is not past or there is none.
+pub fn days_past(due: Option<Day>, day: Day) -> i64
+    ensures { result ≡ pos (days_since day due) }
+{
+    match due {
+        Some(due) if due <= day => day.days_since(due),
+        _ => 0,
+    }
+}
+
 /// How many days a loan is overdue on a day: the days since the earliest due day of an instalment with something
 /// outstanding, and 0 where that day is not past or there is none.
 pub fn arrears(rows: &[Row], day: Day) -> i64
     ensures { result ≡ pos (days_overdue rows.now day) }
 {
-    match earliest_due(rows) {
-        Some(due) if due <= day => day.days_since(due),
-        _ => 0,
-    }
+    days_past(earliest_due(rows), day)
 }
 
 /// The class of a number of days overdue. A negative number is not overdue.

@@ -5,6 +5,6 @@ mod ageing;
 mod line;
 mod report;
 
-pub use ageing::{arrears, class};
+pub use ageing::{arrears, class, days_past, earlier};
 pub use line::{Class, OfficeLine};
 pub use report::{Totals, report_text};

@@ -90,7 +90,7 @@ impl OfficeLine {
     }
 }
 
-/// What is at risk of what so many loans have outstanding, in hundredths of a percent; 0 where nothing is outstanding.
+/// The part of `outstanding` that `risk` is, in hundredths of a percent; 0 where nothing is outstanding. `loans` only bounds the sums.
 pub(crate) fn part_at_risk(loans: u64, outstanding: u128, risk: u128) -> u128
     requires most { outstanding ≤ 10 ^ 12 * loans }
     requires part { risk ≤ outstanding }

@@ -156,7 +156,7 @@ fn push_all(alloc: Global, out: &mut String, all: &Totals) -> Result<(), Fault>
 }
 
 /// The report: a line for each office, in the order handed in, and the line of their sums. Each is 144 columns wide,
-/// and sums are money texts. Only a want of memory is refused.
+/// and sums are money texts. The only error is F20, out of memory.
 pub fn report_text(alloc: Global, lines: &[OfficeLine]) -> Result<String, Fault>
     requires { sum_by (λ (line : Line). line.loans) lines.now ≤ 10 ^ 10 }
     ensures text { IfOk result (λ text. string_bytes text ≡ report_bytes lines.now) }

@@ -45,7 +45,7 @@ pub enum Fault {
     F18,
     /// The file holds no institution of a known schema.
     F19,
-    /// Want of memory, or a fault of the store.
+    /// Out of memory, or a fault of the store.
     F20,
 }
 

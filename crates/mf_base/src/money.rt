@@ -43,7 +43,7 @@ pub fn parse_money(text: &[u8]) -> Option<u64>
     }
 }
 
-/// Whole cents as a money text: units, a point and two digits. The error is want of memory, `Fault::F20`.
+/// Whole cents as a money text: units, a point and two digits. The only error is `Fault::F20`, out of memory.
 pub fn money_text(alloc: Global, cents: u128) -> Result<String, Fault>
     ensures ok { IfOk result (λ text. string_bytes text ≡ spec.money_text cents) }
     ensures err { IfErr result (λ fault. fault ≡ F20) }

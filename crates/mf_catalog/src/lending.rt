@@ -39,7 +39,7 @@ fn do_limits_agree(members: &ProductMembers) -> bool
             && members.interest_grace < members.min_periods)
 }
 
-/// Whether a product is consistent: each least limit is at most its greatest, both graces are below the least number
+/// Checks that a product is consistent: each least limit is at most its greatest, both graces are below the least number
 /// of periods, and each charge that it names has the kind that its place asks. F8 where it isn't. The charges hold
 /// those that the product names. It takes no memory.
 pub fn check_product(members: &ProductMembers, charges: &[ChargeDef]) -> Result<(), Fault>
@@ -93,7 +93,7 @@ fn copy_named(charges: &[ChargeDef], named: Option<u32>) -> Result<Option<Charge
 }
 
 /// The terms that a product gives a loan, whether it is retired or not and whatever its limits are: those of a loan
-/// that stands. The charges hold those that the product names. F20 for want of memory.
+/// that stands. The charges hold those that the product names. F20 when out of memory.
 pub fn terms_of(product: &Product, charges: &[ChargeDef]) -> Result<Terms, Fault>
     requires named { charges_there (charge_at charges.now) product.now.members ≡ true }
     ensures ok { IfOk result (λ terms. terms ≡ terms_given (charge_at charges.now) product.now.members) }
@@ -115,7 +115,7 @@ pub fn terms_of(product: &Product, charges: &[ChargeDef]) -> Result<Terms, Fault
 }
 
 /// The terms of a new loan of a principal, in cents, for a number of periods: F7 where the product is retired, then F8
-/// outside its limits, both before any memory is taken; then the terms, or F20 for want of memory. The charges hold
+/// outside its limits, both before any memory is taken; then the terms, or F20 when out of memory. The charges hold
 /// those that the product names.
 pub fn terms_for(
     product: &Product,

@@ -8,7 +8,7 @@ use crate::row::Row;
 use mf_account::{LoanAccount, Receipt};
 use mf_arrears::OfficeLine;
 use mf_base::{Day, Fault};
-use mf_catalog::{ChargeDef, Product, ProductMembers, Terms};
+use mf_catalog::{Calc, ChargeDef, ChargeKind, Product, ProductMembers, Terms};
 use mf_model::{
     ArrearsList, CatalogueCounts, Commit, Counts, InstitutionStore, Loan, LoanLine, LoanList,
     OfficeList, ReceiptUse, Stage,
@@ -72,6 +72,7 @@ fn office_no(number: u32) -> Result<OfficeNo, Fault>
     let Some(office) = OfficeNo::new(number) else {
         return Err(Fault::F1);
     };
+    // The number's bound, for the proof of the clause.
     let _number = office.get();
     Ok(office)
 }
@@ -148,17 +149,26 @@ impl Books {
         at == above
     }
 
-    fn add_office(&mut self, alloc: Global, office: Office) -> Result<(), Fault>
+    fn add_office(
+        &mut self,
+        alloc: Global,
+        number: OfficeNo,
+        parent: OfficeNo,
+        name: Name,
+    ) -> Result<(), Fault>
         ensures { IfErr result (λ fault. fault ≡ Fault.F20) }
     {
-        let number = office.number.get();
         let at = self
             .branches
             .iter()
-            .position(|branch| branch.office.number.get() > number)
+            .position(|branch| branch.office.number.get() > number.get())
             .unwrap_or(self.branches.len());
         let branch = Branch {
-            office,
+            office: Office {
+                number,
+                parent: Some(parent),
+                name,
+            },
             staff: Vec::new(alloc),
             clients: Vec::new(alloc),
             loans: Vec::new(alloc),
@@ -187,10 +197,23 @@ impl Books {
         Ok(())
     }
 
-    fn add_charge(&mut self, charge: ChargeDef) -> Result<(), Fault>
+    fn add_charge(
+        &mut self,
+        name: Name,
+        kind: ChargeKind,
+        calc: Calc,
+        value: u64,
+    ) -> Result<(), Fault>
         ensures { IfErr result (λ fault. fault ≡ Fault.F20) }
     {
-        self.charges.push(charge)?;
+        let number = number_after(self.charges.len())?;
+        self.charges.push(ChargeDef {
+            number,
+            name,
+            kind,
+            calc,
+            value,
+        })?;
         Ok(())
     }
 
@@ -531,14 +554,7 @@ impl InstitutionStore for Books {
                 number,
                 parent,
                 name,
-            } => self.add_office(
-                alloc,
-                Office {
-                    number,
-                    parent: Some(parent),
-                    name,
-                },
-            ),
+            } => self.add_office(alloc, number, parent, name),
             Commit::AddStaff { office, role, .. } => self.add_staff(office, role),
             Commit::AddClient { office, name } => self.add_client(office, name),
             Commit::SetDay { day } => {
@@ -550,16 +566,7 @@ impl InstitutionStore for Books {
                 kind,
                 calc,
                 value,
-            } => {
-                let number = number_after(self.charges.len())?;
-                self.add_charge(ChargeDef {
-                    number,
-                    name,
-                    kind,
-                    calc,
-                    value,
-                })
-            }
+            } => self.add_charge(name, kind, calc, value),
             Commit::AddProduct { members } => self.add_product(members),
             Commit::RetireProduct { product } => {
                 self.retire(product);

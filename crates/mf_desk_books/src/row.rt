@@ -3,6 +3,7 @@
 ghost use Rattle.std.specs.Prelude.{◌≡◌, IfErr, IfOk, IfSome};
 ghost use Rattle.mf_account.specs.Change.{IsReplayed};
 
+use mf_account::status::ACTIVE;
 use mf_account::{Entry, LoanAccount, Receipt};
 use mf_arrears::{OfficeLine, arrears};
 use mf_base::{Day, Fault};
@@ -190,7 +191,7 @@ impl Row {
         let Some(account) = self.account(alloc, terms)? else {
             return Ok(());
         };
-        if account.status() != 300 {
+        if account.status() != ACTIVE {
             return Ok(());
         }
         if line.loans >= MOST_LOANS {

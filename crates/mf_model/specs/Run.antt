@@ -9,7 +9,7 @@ use Rattle.mf_model.specs.Institution.{Institution, Change, after_maybe}
 use Rattle.mf_model.specs.Tree.{view, touches}
 use Rattle.mf_model.specs.Desk.{outcome, change_in, reply, effect}
 
--- a line of a run, which may be given up for want of memory or by a fault of the store
+-- a line of a run, which may be given up, out of memory or by a fault of the store
 pub record Line : Type 0 where
   pub call : Call
   pub given_up : Bool

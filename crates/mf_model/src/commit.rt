@@ -28,7 +28,7 @@ pub enum Commit {
     SetDay {
         day: Day,
     },
-    /// One more charge, with the next number.
+    /// One more charge, with the next number. Its value is in cents where it is flat, else in hundredths of a percent.
     AddCharge {
         name: Name,
         kind: ChargeKind,

@@ -42,7 +42,7 @@ pub enum CatalogueRequest {
     SetDay {
         day: Day,
     },
-    /// A new charge.
+    /// A new charge. Its value is in cents where it is flat, else in hundredths of a percent.
     AddCharge {
         name: Name,
         kind: ChargeKind,
@@ -72,8 +72,11 @@ pub enum CatalogueRequest {
 pub struct Application {
     /// The client's number within its office.
     pub client: AccountNo,
+    /// The product's number.
     pub product: u32,
+    /// In whole cents.
     pub principal: u64,
+    /// How many instalments.
     pub periods: u32,
 }
 

@@ -40,7 +40,7 @@ fn amount_of_charge(charge: &Option<ChargeDef>, amount: u64, interest: u64) -> u
 /// anything is paid. The parts of the principal add up to the principal, and grace of interest changes when the
 /// interest falls due and not how much.
 ///
-/// Only a want of memory is refused.
+/// The only error is F20, out of memory.
 pub fn fresh(
     alloc: Global,
     terms: &Terms,

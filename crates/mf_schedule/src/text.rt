@@ -38,7 +38,7 @@ fn push_row(alloc: Global, text: &mut String, number: usize, row: Instalment) ->
 /// A schedule as a text: a line an instalment with its number, its due day, principal, interest and both together,
 /// and a last line of their sums. Amounts are money texts; fees are not shown.
 ///
-/// Only a want of memory is refused.
+/// The only error is F20, out of memory.
 pub fn schedule_text(alloc: Global, rows: &[Instalment]) -> Result<String, Fault>
     ensures ok { IfOk result (λ text. string_bytes text ≡ text_of_schedule rows.now) }
     ensures err { IsOkUnless result Fault.F20 }

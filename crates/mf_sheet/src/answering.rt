@@ -1,4 +1,5 @@
-// A line of a sheet, answered over a store.
+//! A line of a sheet, answered over a store.
+
 ghost use Rattle.std.specs.Prelude.{◌≡◌, IfOk, IfErr};
 ghost use Rattle.mf_model.specs.Sound.{IsInRange};
 ghost use Rattle.mf_desk.specs.Runs.{Calls};

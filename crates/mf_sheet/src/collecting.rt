@@ -1,4 +1,5 @@
-// A sheet answered line by line, the result of each written before the next is answered.
+//! A sheet answered line by line, the result of each written before the next is answered.
+
 ghost use Rattle.std.specs.Prelude.{◌≡◌, ◌≢◌, ◌<◌, ◌≤◌, ℕ, List, Option, IfOk, IfErr, OnOk, length, take, true, false};
 ghost use Rattle.std.specs.Io.KnownBytes.{Appends};
 ghost use Rattle.mf_base.specs.declared.fault.Cause.TheVariants as cause;

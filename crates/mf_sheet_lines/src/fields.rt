@@ -1,4 +1,5 @@
-// What the fields of a sheet's line say. Spaces and tabs round a field don't count.
+//! What the fields of a sheet's line say. Spaces and tabs round a field don't count.
+
 ghost use Rattle.std.specs.Prelude.{◌≡◌, true, ◌≤◌, IfSome, length, option_map};
 ghost use Rattle.std.specs.List.{list_all, prefix_len, suffix_len};
 ghost use Rattle.mf_base.specs.DayText.{last_entered_day};

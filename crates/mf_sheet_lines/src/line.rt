@@ -1,4 +1,5 @@
-// A line of a sheet, and what it asks for.
+//! A line of a sheet, and what it asks for.
+
 ghost use Rattle.std.specs.Prelude.{◌≡◌, ◌==◌, ◌≤◌, ℕ, List, Some, None, IfOk, IfErr, IfSome, codes, cond, length, map, option_map};
 ghost use Rattle.csv.specs.Records.{fields_of};
 ghost use Rattle.mf_sheet_lines.specs.Lines.{columns_of, line_of, IsLineInRange, is_name as is_name_of, names_columns as names_the_columns};
@@ -75,7 +76,7 @@ pub fn names_columns(row: &ByteRecord) -> bool
         && is_name(b"amount", fields.amount)
 }
 
-/// What a record asks for. The error is want of memory, `Fault::F20`.
+/// What a record asks for. The only error is `Fault::F20`, out of memory.
 pub fn read_line(alloc: Global, row: &ByteRecord) -> Result<SheetLine, Fault>
     ensures ok { IfOk result (λ line. line ≡ line_of (fields_of row.now)) }
     ensures in_range { IfOk result IsLineInRange }

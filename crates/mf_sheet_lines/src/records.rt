@@ -1,4 +1,5 @@
-// The records of a sheet.
+//! The records of a sheet.
+
 ghost use Rattle.std.specs.Prelude.{◌≡◌, ℕ, List, IfOk, map};
 ghost use Rattle.csv.specs.Reading.{default_config, records as records_in, strip_bom};
 ghost use Rattle.csv.specs.Records.{fields_of};
@@ -7,7 +8,7 @@ use csv::{ByteRecord, Error, ReaderBuilder};
 use std::alloc::Global;
 
 /// Every record of a text, however many fields it has. A byte order mark at its start is no part of the first. The
-/// only error is want of memory.
+/// only error is F20, out of memory.
 pub fn records(alloc: Global, text: &[u8]) -> Result<Vec<ByteRecord>, Error>
     ensures { IfOk result (λ v. map fields_of v.items ≡ records_in default_config (strip_bom text.now)) }
 {

@@ -1,4 +1,5 @@
-// The sheet of results.
+//! The sheet of results.
+
 ghost use Rattle.std.specs.Prelude.{◌≡◌, ◌≤◌, ◌⊎◌, ◌<◌, ◌++◌, [], ◌∷◌, List, ℕ, Err, IfOk, IfErr, get_or, length, map};
 ghost use Rattle.csv.specs.Records.{fields_of};
 ghost use Rattle.csv.specs.Writing.{default_writer, row_text};
@@ -90,7 +91,7 @@ fn text_of_fields(alloc: Global, fields: &[&[u8]]) -> Result<Vec<u8>, Error>
     }
 }
 
-/// The record of a line's result, without its result and its end. The error is want of memory, `Fault::F20`.
+/// The record of a line's result, without its result and its end. The only error is `Fault::F20`, out of memory.
 fn begun(alloc: Global, row: &ByteRecord) -> Result<Vec<u8>, Fault>
     ensures ok { IfOk result (λ text. text.items ≡ begun_text (fields_of row.now)) }
     ensures err { IfErr result (λ fault. fault ≡ Fault.F20) }
@@ -134,7 +135,7 @@ impl BegunRecord {
     ghost use Rattle.csv.specs.Records.{fields_of};
     ghost use Rattle.mf_sheet_lines.specs.Results.{begun_text, record_text, result_name};
 
-    /// The record of a line with these fields. The error is want of memory, `Fault::F20`.
+    /// The record of a line with these fields. The only error is `Fault::F20`, out of memory.
     pub fn new(alloc: Global, row: &ByteRecord) -> Result<BegunRecord, Fault>
         ensures ok { IfOk result (λ begun. begun ≡ begun_text (fields_of row.now)) }
         ensures err { IfErr result (λ fault. fault ≡ Fault.F20) }
@@ -186,7 +187,7 @@ fn text_of_records(
 }
 
 /// The sheet of the results of a sheet's lines: a record that names the columns, and one for each result, with the
-/// first four fields of its line. `Fault::F1` is for a sheet that is too long, `Fault::F20` for want of memory.
+/// first four fields of its line. `Fault::F1` is for a sheet that is too long, `Fault::F20` when out of memory.
 pub fn result_sheet(alloc: Global, bytes: &[u8], results: &[SheetResult]) -> Result<Vec<u8>, Fault>
     requires { length results.now ≤ length (rows_of bytes.now) }
     ensures long { longest < length bytes.now → result ≡ Err Fault.F1 }

@@ -1,4 +1,5 @@
-// A whole sheet.
+//! A whole sheet.
+
 ghost use Rattle.std.specs.Prelude.{◌≡◌, ◌⊎◌, ◌<◌, Err, IfOk, IfErr, length, map};
 ghost use Rattle.csv.specs.Records.{fields_of};
 ghost use Rattle.mf_sheet_lines.specs.Sheets.{longest, below_names as below_the_names, rows_of};
@@ -37,7 +38,7 @@ impl SheetRow {
     ghost use Rattle.csv.specs.Records.{fields_of};
     ghost use Rattle.mf_sheet_lines.specs.Lines.{line_of, IsLineInRange};
 
-    /// Reads a line of these fields. The error is want of memory, `Fault::F20`.
+    /// Reads a line of these fields. The only error is `Fault::F20`, out of memory.
     fn read(alloc: Global, fields: ByteRecord) -> Result<SheetRow, Fault>
         ensures ok { IfOk result (λ row. row ≡ fields_of fields) }
         ensures err { IfErr result (λ fault. fault ≡ Fault.F20) }
@@ -116,7 +117,7 @@ fn below_names(rows: Vec<ByteRecord>) -> Vec<ByteRecord>
     rows
 }
 
-/// The fields of each line of a sheet. `Fault::F1` is for a sheet that is too long, `Fault::F20` for want of memory.
+/// The fields of each line of a sheet. `Fault::F1` is for a sheet that is too long, `Fault::F20` when out of memory.
 pub fn sheet_rows(alloc: Global, bytes: &[u8]) -> Result<Vec<ByteRecord>, Fault>
     ensures long { longest < length bytes.now → result ≡ Err Fault.F1 }
     ensures rows { IfOk result (λ rows. map fields_of rows.items ≡ rows_of bytes.now) }
@@ -143,7 +144,7 @@ fn read_rows(alloc: Global, rows: Vec<ByteRecord>) -> Result<Vec<SheetRow>, Faul
 }
 
 /// The lines of a sheet: its records, without a first one that names the columns. A byte order mark at its start is
-/// skipped. `Fault::F1` is for a sheet that is too long, `Fault::F20` for want of memory; what is wrong in a line makes
+/// skipped. `Fault::F1` is for a sheet that is too long, `Fault::F20` when out of memory; what is wrong in a line makes
 /// that line bad, and no other.
 pub fn read_sheet(alloc: Global, bytes: &[u8]) -> Result<Sheet, Fault>
     ensures long { longest < length bytes.now → result ≡ Err Fault.F1 }

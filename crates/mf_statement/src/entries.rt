@@ -123,7 +123,7 @@ fn lines_with(
     Ok(lines)
 }
 
-/// The entries of an account as they stand, by number. Only a want of memory is refused.
+/// The entries of an account as they stand, by number. The only error is F20, out of memory.
 pub fn entry_lines(alloc: Global, account: LoanAccount) -> Result<EntryList, Fault>
     ensures lines { IfOk result (λ lines. lines ≡ entries_kept account) }
     ensures only { IsOkUnless result Fault.F20 }

@@ -48,7 +48,7 @@ fn lines_of(alloc: Global, rows: &[Row]) -> Result<Vec<InstalmentLine>, Fault>
     Ok(lines)
 }
 
-/// The instalments of an account as they stand, by number. Only a want of memory is refused.
+/// The instalments of an account as they stand, by number. The only error is F20, out of memory.
 pub fn instalment_lines(alloc: Global, account: &LoanAccount) -> Result<InstalmentList, Fault>
     ensures lines { IfOk result (λ lines. lines ≡ instalments_from 1 account.now.state.rows) }
     ensures only { IsOkUnless result Fault.F20 }

@@ -18,21 +18,21 @@ impl<T> Model for Listing<T> {
 impl<T> Listing<T> {
     ghost use Rattle.std.specs.Prelude.{◌≡◌, ◌++◌, ◌∷◌, [], OnOk, IsOkUnless};
 
-    /// The list of these. It takes no memory.
+    /// The list of these items. It takes no memory.
     pub fn new(items: Vec<T>) -> Listing<T>
         ensures { result ≡ items.items }
     {
         Listing { items }
     }
 
-    /// Them.
+    /// The items, in their order.
     pub fn as_slice(&self) -> &[T]
         ensures { result.now ≡ self.now }
     {
         self.items.as_slice()
     }
 
-    /// Adds one at the end. Only a want of memory is refused.
+    /// Adds one at the end. The only error is F20, out of memory.
     pub(crate) fn push(&mut self, item: T) -> Result<(), Fault>
     where
         T: Drop,

@@ -17,6 +17,7 @@ ghost use Rattle.mf_store_records.specs.Rows.{loan_row as loan_stored};
 
 use crate::known::News;
 use crate::store::Store;
+use mf_account::status::ACTIVE;
 use mf_account::{Entry, LoanAccount};
 use mf_base::{Day, Fault};
 use mf_catalog::{ChargeDef, Terms};
@@ -30,9 +31,6 @@ use mf_store_values::{
 };
 use sqlite::{Alter, Row};
 use std::alloc::Global;
-
-/// The status of a loan that is disbursed and has something outstanding.
-const ACTIVE: u16 = 300;
 
 impl<S: Alter> Store<S> {
     ghost use Rattle.mf_store.specs.Stands.{StandsFor, IsClean, Leaves, Stays, IsOpen, FaultsAloneShut};

@@ -13,7 +13,7 @@ use mf_base::{Day, Fault, Name};
 use mf_catalog::{Calc, ChargeDef, ChargeKind, Product, ProductMembers};
 use mf_model::CatalogueCounts;
 use mf_store_changes::{charge_row, product_row, retired};
-use mf_store_records::{MetaRow, StoreWrite, Text};
+use mf_store_records::{MetaRow, SCHEMA, StoreWrite, Text};
 use mf_store_values::{charge_from, product_from};
 use sqlite::Alter;
 use std::alloc::Global;
@@ -52,7 +52,7 @@ impl<S: Alter> Store<S> {
         Ok(Some(charge))
     }
 
-    /// The same, as the tables tell.
+    /// A product as the tables keep it, or None where none has this number.
     fn read_product(&mut self, number: u32) -> Result<Option<Product>, Fault>
         ensures kept { Stays S.Store self.old self.new }
         ensures gives_up { IfErr result (λ fault. fault ≡ F20) }
@@ -94,7 +94,7 @@ impl<S: Alter> Store<S> {
         let text = day.text(alloc)?;
         let meta = MetaRow {
             one: 1,
-            schema: 2,
+            schema: SCHEMA,
             day: Text::new(text),
         };
         self.make(&[StoreWrite::PutMeta(meta)], News::BusinessDay(day))

@@ -23,7 +23,7 @@ pub enum Kind {
     Products,
 }
 
-/// There are no more of a kind.
+/// The greatest number of a kind that is looked for: an office has at most so many clients, and as many loans.
 pub(crate) const MOST: u32 = 999_999;
 
 impl<S: Alter> Store<S> {

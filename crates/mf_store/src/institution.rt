@@ -21,7 +21,7 @@ impl<S: Alter> Store<S> {
     ghost use Rattle.mf_model.specs.Store.{role_of, counts_at, client_at};
     ghost use Rattle.mf_store.specs.Stands.{StandsFor, IsClean, Stays, IsOpen};
 
-    /// The same, as the tables tell.
+    /// The role of a caller as the tables keep it, or None where there is no such member of staff.
     fn find_role(&mut self, caller: Caller) -> Result<Option<Role>, Fault>
         ensures kept { Stays S.Store self.old self.new }
         ensures gives_up { IfErr result (λ fault. fault ≡ F20) }
@@ -139,11 +139,11 @@ impl<S: Alter> InstitutionStore for Store<S> {
 
     fn receipt(
         &mut self,
-        alloc: Global,
+        _alloc: Global,
         office: OfficeNo,
         receipt: &Receipt,
     ) -> Result<Option<ReceiptUse>, Fault> {
-        self.receipt_use(alloc, office, receipt)
+        self.receipt_use(office, receipt)
     }
 
     fn loans(&mut self, alloc: Global, office: OfficeNo, after: u32) -> Result<LoanList, Fault> {

@@ -1,5 +1,4 @@
-//! What a store knows beside its tables, so that it need not ask them again. Where memory is wanting to keep a fact, it
-//! isn't kept.
+//! What a store knows beside its tables, so that it need not ask them again. A fact for which there is no memory isn't kept.
 
 ghost use Rattle.std.specs.Prelude.{◌≡◌, ◌≤◌, nat_eq, is_some, Some, None, [], IfOk, IfErr, IfSome};
 ghost use Rattle.std.specs.Map.{lookup};
@@ -60,7 +59,7 @@ const MOST_CALLERS: usize = 4096;
 /// As many products as a catalogue has at most.
 const MOST_PRODUCTS: usize = 999;
 
-/// Nothing is kept yet, and at most so much ever.
+/// An empty cache that keeps at most `most` values, and room for them. The error is F20.
 fn nothing_of<V>(alloc: Global, most: usize) -> Result<LruCache<u32, V>, Fault>
     ensures nothing { IfOk result (λ kept. kept.entries ≡ []) }
     ensures gives_up { IfErr result (λ fault. fault ≡ F20) }

@@ -1,7 +1,7 @@
 //! The institution in tables, over any store that `sqlite` can change.
 //!
 //! Contracts speak of an institution: which one a store stands for, what a call answers of it, and what a commit or a
-//! stop leaves. Every want of memory and every fault of the store is F20.
+//! stop leaves. Out of memory and every fault of the store are F20.
 #![tactic(auto)]
 
 mod accounts;

@@ -13,22 +13,20 @@ use mf_account::Receipt;
 use mf_base::Fault;
 use mf_model::ReceiptUse;
 use mf_office::OfficeNo;
-use mf_store_changes::same_text;
-use mf_store_records::{EntryRow, ReceiptRow, Text};
+use mf_store_records::{EntryRow, ReceiptRow, find_receipt};
 use mf_store_values::{stored, use_from};
 use sqlite::Alter;
-use std::alloc::Global;
 
 impl<S: Alter> Store<S> {
     ghost use Rattle.mf_store.specs.Stands.{StandsFor, IsClean, Stays, IsOpen};
 
-    fn find_receipt(&mut self, office: u32, receipt: Text) -> Result<Option<ReceiptRow>, Fault>
+    fn find_receipt(&mut self, office: u32, receipt: &str) -> Result<Option<ReceiptRow>, Fault>
         ensures kept { Stays S.Store self.old self.new }
         ensures gives_up { IfErr result (λ fault. fault ≡ F20) }
         ensures open { IsClean S.Store self.new → OnOk result (IsOpen S.Store self.new) }
-        ensures value { IsClean S.Store self.new → (i : Institution) → StandsFor S.Store self.old i → IfOk result (λ x. x ≡ option_map (receipt_in office) (use_at office receipt i)) }
+        ensures value { IsClean S.Store self.new → (i : Institution) → StandsFor S.Store self.old i → IfOk result (λ x. x ≡ option_map (receipt_in office) (use_at office receipt.now i)) }
     {
-        self.find((office, receipt))
+        find_receipt(&mut self.connection, office, receipt)
     }
 
     fn find_entry(&mut self, office: u32, loan: u32, seq: u32) -> Result<Option<EntryRow>, Fault>
@@ -44,7 +42,6 @@ impl<S: Alter> Store<S> {
     /// entry's number.
     pub fn receipt_use(
         &mut self,
-        alloc: Global,
         office: OfficeNo,
         receipt: &Receipt,
     ) -> Result<Option<ReceiptUse>, Fault>
@@ -54,8 +51,7 @@ impl<S: Alter> Store<S> {
         ensures value { IsClean S.Store self.new → (i : Institution) → StandsFor S.Store self.old i → IfOk result (λ found. found ≡ receipt_at office receipt.now i) }
     {
         let office = office.get();
-        let text = same_text(alloc, receipt.as_str())?;
-        let Some(row) = self.find_receipt(office, text)? else {
+        let Some(row) = self.find_receipt(office, receipt.as_str())? else {
             return Ok(None);
         };
         let entry = self.find_entry(office, row.loan, row.seq)?;

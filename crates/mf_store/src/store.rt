@@ -150,6 +150,7 @@ impl<S: Alter> Store<S> {
         ensures stands { (i : Institution) → IsTabled S.Store connection i → StandsFor S.Store result i }
         ensures leaves { IsOpen S.Store result → (i : Institution) → IsTabled S.Store connection i → Leaves S.Store result (i ∷ []) }
     {
+        // With nothing to commit a stop leaves just the tables as they are; the call brings that into the proof.
         let _settled = connection.is_autocommit();
         Store { connection, known }
     }

@@ -155,7 +155,7 @@ fn is_nothing_left(instalments: &[InstalmentRow], shares: &[ShareRow]) -> bool
 }
 
 /// Whether the rows are those of the accounts of all loans, loan by loan, and nothing is left over. The rows of one loan at
-/// a time are made. The error is want of memory, F20.
+/// a time are made. The only error is F20, out of memory.
 pub fn are_accounts(
     alloc: Global,
     charges: &[ChargeRow],
@@ -197,7 +197,7 @@ pub fn are_accounts(
     Ok(nothing)
 }
 
-/// The rows of instalments and of shares of the accounts of all loans, loan by loan. The error is want of memory, F20.
+/// The rows of instalments and of shares of the accounts of all loans, loan by loan. The only error is F20, out of memory.
 pub fn rows_of_accounts(
     alloc: Global,
     charges: &[ChargeRow],

@@ -31,7 +31,7 @@ fn disbursal_day(row: &LoanRow) -> Option<Day>
     }
 }
 
-/// The account of the loan of a row, or None where the loan has none. The error is want of memory, F20.
+/// The account of the loan of a row, or None where the loan has none. The only error is F20, out of memory.
 pub fn account_of(
     alloc: Global,
     charges: &[ChargeRow],

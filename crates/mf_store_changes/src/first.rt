@@ -5,7 +5,7 @@ ghost use Rattle.mf_base.specs.declared.fault.Fault.TheVariants.{F20};
 ghost use Rattle.mf_store_changes.specs.Becoming.{Begins};
 
 use mf_base::{Day, Fault};
-use mf_store_records::{MetaRow, OfficeRow, StaffRow, StoreWrite, Text};
+use mf_store_records::{MetaRow, OfficeRow, SCHEMA, StaffRow, StoreWrite, Text};
 use std::alloc::Global;
 
 /// The tables, the business day, the head office and its manager.
@@ -17,7 +17,7 @@ pub fn first_writes(alloc: Global, day: Day) -> Result<Vec<StoreWrite>, Fault>
     writes.push(StoreWrite::MakeTables)?;
     let meta = MetaRow {
         one: 1,
-        schema: 2,
+        schema: SCHEMA,
         day: Text::new(day.text(alloc)?),
     };
     writes.push(StoreWrite::PutMeta(meta))?;

@@ -1,3 +1,4 @@
 pub mod Files
 pub mod First
 pub mod Held
+pub mod Stops

@@ -115,7 +115,7 @@ fn take_over_first<S: Alter>(
 /// A store over the tables of a connection: where there are none, those of a new institution on this day, made in one commit; else
 /// the institution that they hold, whatever the day. Tables of the first schema are brought to the second, in one commit.
 ///
-/// The day is at most 2099-12-31. F19 tells that no sound institution has the rows of the tables, and F20 want of memory or a
+/// The day is at most 2099-12-31. F19 tells that no sound institution has the rows of the tables, and F20 out of memory or a
 /// failure of the disk; with either the connection comes back. Of other tables than this program makes nothing more is promised.
 pub fn adopt<S: Alter>(
     alloc: Global,

@@ -64,7 +64,7 @@ fn connect<S: Start>(
 /// is missing, those of a new institution on this day, made in one commit; else the institution that it holds, whatever the day.
 /// Tables of the first schema are brought to the second, in one commit.
 ///
-/// The day is at most 2099-12-31. F19 tells that no sound institution has the rows of the file, and F20 want of memory, a file that
+/// The day is at most 2099-12-31. F19 tells that no sound institution has the rows of the file, and F20 out of memory, a file that
 /// could not be opened, or a failure of the disk. The connection comes back once there is one. Of other tables than this program
 /// makes nothing more is promised.
 pub fn open_with<S: Start>(

@@ -4,7 +4,9 @@
 mod adopted;
 mod files;
 mod judged;
+mod laws;
 mod upgraded;
 
 pub use adopted::adopt;
 pub use files::{open, open_with};
+pub use laws::left_is_a_beginning;

@@ -14,14 +14,11 @@ ghost use Rattle.mf_store_accounts.specs.Flat.{tables_of};
 ghost use Rattle.mf_store_sound.specs.Schemas.{first_tables_of};
 
 use mf_base::Fault;
-use mf_store_records::MetaRow;
+use mf_store_records::{MetaRow, SCHEMA};
 use mf_store_sound::{Tables, account_rows};
 use mf_store_upgrade::upgrade;
 use sqlite::{Alter, Connection};
 use std::alloc::Global;
-
-/// The number of the schema whose tables keep rows of accounts.
-const SCHEMA: u32 = 2;
 
 /// Brings tables of the first schema, which keep these rows of a sound institution, to those of the second, in one commit: with
 /// the rows of its accounts, and the schema's number. The error is F20.

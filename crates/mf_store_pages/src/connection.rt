@@ -37,7 +37,7 @@ pub fn open(alloc: Global) -> Result<Connection<PageStore>, Error>
     }
 }
 
-/// The trees of a database with no table. A file in memory fails for nothing but want of memory, so that is each failure.
+/// The trees of a database with no table. A file in memory fails only when out of memory, so that is each failure.
 fn empty_store(alloc: Global) -> Result<PageStore, AllocError>
     ensures fresh { IfOk result (λ store. IsFresh (view store)) }
     ensures empty { IfOk result (λ store. (view store).trees catalog_tree ≡ []) }

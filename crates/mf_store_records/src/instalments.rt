@@ -1,15 +1,9 @@
-ghost use Rattle.std.specs.Prelude.{◌≡◌, false, IsTrue, OnOk, IfOk, IfErr, map, filter};
-ghost use Rattle.mf_base.specs.declared.fault.Fault.TheVariants.{F20};
-ghost use Rattle.sqlite.specs.Held.{state};
-ghost use Rattle.sqlite.specs.State.{HasCleanDisk};
-ghost use Rattle.mf_store_records.specs.Rows.{instalment_fields, Lists, instalment_row, put_instalment, is_instalment, is_instalment_of, is_instalment_in};
-ghost use Rattle.mf_store_records.specs.Calls.{IsUnchanged, IsKeeping};
+ghost use Rattle.mf_store_records.specs.Rows.{instalment_fields, instalment_row, put_instalment, is_instalment, is_instalment_of};
 
-use crate::table::{Changed, Listed, Table, ask, has_columns};
+use crate::table::{Changed, Listed, Table, has_columns};
 use crate::text::Text;
-use mf_base::Fault;
 use mf_store_tables::run;
-use sqlite::{Alter, Connection, Error, Row, Transaction, params};
+use sqlite::{Alter, Error, Row, Transaction, params};
 
 /// A row of the table instalments.
 #[derive(Drop)]
@@ -130,23 +124,4 @@ impl Listed for InstalmentRow {
     fn list_text() -> &'static str {
         "SELECT office, loan, number, due, owed_penalty, paid_penalty, waived_penalty, written_off_penalty, owed_fee, paid_fee, waived_fee, written_off_fee, owed_interest, paid_interest, waived_interest, written_off_interest, owed_principal, paid_principal, waived_principal, written_off_principal FROM instalments WHERE office = ?1 AND loan = ?2 ORDER BY office, loan, number"
     }
-}
-
-/// The rows of an office, in the order of their loans and of their numbers.
-pub fn instalments_of_office<S: Alter>(
-    connection: &mut Connection<S>,
-    office: u32,
-) -> Result<Vec<Row>, Fault>
-    requires alone { connection.old.in_transaction ≡ false }
-    ensures kept { IsUnchanged (state S.Store connection.old) (state S.Store connection.new) }
-    ensures gives_up { IfErr result (λ fault. fault ≡ F20) }
-    ensures open { HasCleanDisk (state S.Store connection.new) → OnOk result (IsTrue (state S.Store connection.new).is_open) }
-    ensures rows { HasCleanDisk (state S.Store connection.new) → (lists : Lists) → IsKeeping (state S.Store connection.old) lists → IfOk result (λ rows. rows.items ≡ map instalment_row (filter (is_instalment_in office) lists.instalments)) }
-    ensures mode { connection.new.in_transaction ≡ false }
-{
-    ask(
-        connection,
-        "SELECT office, loan, number, due, owed_penalty, paid_penalty, waived_penalty, written_off_penalty, owed_fee, paid_fee, waived_fee, written_off_fee, owed_interest, paid_interest, waived_interest, written_off_interest, owed_principal, paid_principal, waived_principal, written_off_principal FROM instalments WHERE office = ?1 ORDER BY office, loan, number",
-        params![office],
-    )
 }

@@ -5,9 +5,16 @@ use crate::text::Text;
 use mf_store_tables::run;
 use sqlite::{Alter, Error, Row, Transaction, params};
 
+/// The first schema, whose nine tables keep no instalments and no shares.
+pub const FIRST_SCHEMA: u32 = 1;
+
+/// The schema of the eleven tables that the program makes.
+pub const SCHEMA: u32 = 2;
+
 /// The one row of the table meta: what the file is, and the business day.
 #[derive(Drop)]
 pub struct MetaRow {
+    /// Always 1.
     pub one: u32,
     pub schema: u32,
     /// The business day, as YYYY-MM-DD.

@@ -25,7 +25,7 @@ pub struct ProductRow {
     pub max_principal: i64,
     pub min_periods: u32,
     pub max_periods: u32,
-    /// 1 penalties first, 2 principal first, 3 interest first.
+    /// 1 penalties first, 2 principal first, 3 interest first, 4 what is due first.
     pub strategy: u32,
     pub disbursement_charge: Option<u32>,
     pub instalment_charge: Option<u32>,

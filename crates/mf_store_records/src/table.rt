@@ -114,7 +114,7 @@ pub trait Table: Sized {
     /// Whether a row is the one under a key.
     ghost is_at: { Self.Key → Self → Bool };
 
-    /// The row, of whatever values. The error is for want of memory, and any other for values that the fields cannot hold.
+    /// The row, of whatever values. It fails when out of memory, and with any other error for values that the fields cannot hold.
     // Each reads its texts last, so that none is to be dropped where a number is refused.
     fn read(row: &Row) -> Result<Self, Error>
         ensures row { IfOk result (λ x. stored x ≡ row.now) }

@@ -73,6 +73,7 @@ pub fn apply<S: Alter, W: Write>(connection: &mut Connection<S>, writes: &[W]) -
     // A stop leaves the lists before or those after all writes, and never a part.
     ensures crash { Survives (state S.Store connection.old) (state S.Store connection.new) (MayHold (Serves W.schema W.Holds) W.Holds (AllFit W.after W.Fits writes.now) (after_all W.after writes.now) (state S.Store connection.old)) }
 {
+    // With nothing to commit a stop leaves just the tables as they are; the call brings that into the proof.
     let _settled = connection.is_autocommit();
     let mut tx = connection.transaction();
     for write in writes {
@@ -98,6 +99,7 @@ pub fn query<S: Alter>(
     ensures mode { connection.new.in_transaction ≡ false }
     ensures crash { Survives (state S.Store connection.old) (state S.Store connection.new) (λ _. IsTrue (state S.Store connection.old).is_open × ¬ IsPlain (understood (state S.Store connection.old).now.schema sql.now)) }
 {
+    // As in `apply`: a stop leaves just the tables as they are.
     let _settled = connection.is_autocommit();
     // An empty statement is refused where the connection is shut, so from here on it is open, which the clauses rest on; a
     // statement of the text itself would copy it at each query.

@@ -87,6 +87,7 @@ pub fn upgrade<S: Alter>(
         → (trees : Trees) → (state S.Store connection.new).may_leave trees → (state S.Store connection.old).may_leave trees ⊎ HoldsOwn trees (Some (upgraded meta instalments.items shares.items lists)) }
     ensures mode { connection.new.in_transaction ≡ false }
 {
+    // With nothing to commit a stop leaves just the tables as they are; the call brings that into the proof.
     let _settled = connection.is_autocommit();
     let writes = match all_writes(alloc, meta, instalments, shares) {
         Ok(writes) => writes,

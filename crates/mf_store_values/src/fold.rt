@@ -1,9 +1,8 @@
 //! An office's line of arrears from the rows of its loans' instalments, which a query gives by loan and number: one row
 //! is held at a time, and of the loan that is read what is outstanding of its principal and the earliest due day.
 
-ghost use Rattle.std.specs.Prelude.{◌≡◌, false, ℕ, List, ◌++◌, pos, None, Some, IsTrue, OnOk, OnErr, IfOk, IfErr};
+ghost use Rattle.std.specs.Prelude.{◌≡◌, false, ℕ, List, ◌++◌, None, IsTrue, OnOk, OnErr, IfOk, IfErr};
 ghost use Rattle.mf_base.specs.declared.fault.Fault.TheVariants.{F20};
-ghost use Rattle.mf_arrears.specs.Ageing.{earlier as earlier_of, days_since};
 ghost use Rattle.mf_arrears.specs.Line.{Loan as Aged, line_of as line_of_loans};
 ghost use Rattle.sqlite.specs.State.{HasCleanDisk, IsUnchanged, Survives};
 ghost use Rattle.sqlite.specs.Held.{state};
@@ -12,13 +11,11 @@ ghost use Rattle.mf_store_values.specs.Folding.{aged_by, with_row, Progress, ste
 use crate::instalments::instalment_from;
 use crate::values::stored;
 use mf_alloc::{Portion, Row as Instalment};
-use mf_arrears::OfficeLine;
+use mf_arrears::{OfficeLine, days_past, earlier};
 use mf_base::{Day, Fault};
+use mf_catalog::GREATEST_AMOUNT;
 use mf_store_records::{InstalmentRow, read_row};
 use sqlite::{Alter, Row, Rows};
-
-/// The most that can be outstanding of a loan's principal, in cents: 10^12.
-const MOST_PRINCIPAL: u64 = 1_000_000_000_000;
 
 /// A line that counts so many loans takes no more: 10^10.
 const MOST_LOANS: u64 = 10_000_000_000;
@@ -30,27 +27,6 @@ struct LoanSoFar {
     loan: u32,
     principal: u64,
     due: Option<Day>,
-}
-
-/// The earlier of a day, where there is one, and another.
-fn earlier(day: Option<Day>, other: Day) -> Option<Day>
-    ensures { result ≡ earlier_of day other }
-{
-    match day {
-        Some(day) if day <= other => Some(day),
-        _ => Some(other),
-    }
-}
-
-/// The days from a due day to a day, and 0 where it is not past.
-fn days_from(due: Day, today: Day) -> i64
-    ensures { result ≡ pos (days_since today (Some due)) }
-{
-    if due <= today {
-        today.days_since(due)
-    } else {
-        0
-    }
 }
 
 impl LoanSoFar {
@@ -88,10 +64,10 @@ impl LoanSoFar {
         let Some(due) = self.due else {
             return Ok(());
         };
-        if self.principal > MOST_PRINCIPAL || line.loans >= MOST_LOANS {
+        if self.principal > GREATEST_AMOUNT || line.loans >= MOST_LOANS {
             return Err(Fault::F20);
         }
-        line.add(self.principal, days_from(due, today));
+        line.add(self.principal, days_past(Some(due), today));
         Ok(())
     }
 

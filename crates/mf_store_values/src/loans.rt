@@ -44,7 +44,7 @@ fn stage_from(number: u32, approved: Option<Text>, disbursed: Option<Text>) -> R
     }
 }
 
-/// The number of a client or a loan, as each number in the tables is.
+/// The number of a client or a loan that a row keeps. F20 where it is none, which no number in the tables is.
 pub fn account_number(number: u32) -> Result<AccountNo, Fault>
     ensures number { IfOk result (λ n. n ≡ number) }
     ensures gives_up { IfErr result (λ fault. fault ≡ F20) }

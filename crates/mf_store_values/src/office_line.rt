@@ -57,6 +57,7 @@ pub fn read_line<S: Alter>(
         → filter (is_instalment_in office) lists.instalments ≡ rows_of_office office loans → IfOk result (λ line. line ≡ line_of_loans office (aged_loans today loans)) }
     ensures mode { connection.new.in_transaction ≡ false }
 {
+    // With nothing to commit a stop leaves just the tables as they are; the call brings that into the proof.
     let _settled = connection.is_autocommit();
     // An empty statement is refused where the connection is shut, so from here on it is open.
     if connection.prepare("").is_err() {

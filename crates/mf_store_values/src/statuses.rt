@@ -8,18 +8,10 @@ ghost use Rattle.mf_account.specs.Kinds.{is_write_off};
 ghost use Rattle.mf_store_values.specs.Statuses.{any_stands, is_overpaid as is_told_overpaid, is_refund, paid_in_all, repaid_by as repaid_by_entry, repaid_in_all, stands_by, status_told};
 
 use crate::values::stored;
+use mf_account::status::{CLOSED, OVERPAID, WRITTEN_OFF};
 use mf_account::{Entry, Kind};
 use mf_alloc::Row as Instalment;
 use mf_base::Fault;
-
-/// The status of a loan that is paid back, with nothing left over.
-const CLOSED: u16 = 600;
-
-/// The status of a loan on which a write-off stands.
-const WRITTEN_OFF: u16 = 601;
-
-/// The status of a loan that is paid back, with something left over.
-const OVERPAID: u16 = 700;
 
 /// Whether an entry is a write-off that stands.
 fn writes_off(entry: &Entry) -> bool

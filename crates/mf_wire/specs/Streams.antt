@@ -16,6 +16,19 @@ pub record Streams : Type 0 where
   pub sink_faults_before : ℕ
   pub sink_faults_after : ℕ
 
+-- a reader and a writer before and after a call, by the bytes and the faults that they report
+abbrev pub streams_of : {R W : Type 0} → (R → Option (List ℕ)) → (R → ℕ) → (W → Option (List ℕ)) → (W → ℕ) → R → R → W → W → Streams
+streams_of unread read_faults written write_faults source source_now sink sink_now = record {
+  unread = unread source;
+  left = unread source_now;
+  before = written sink;
+  after = written sink_now;
+  source_faults_before = read_faults source;
+  source_faults_after = read_faults source_now;
+  sink_faults_before = write_faults sink;
+  sink_faults_after = write_faults sink_now;
+}
+
 module _ {S : Type 0} (runs : S → List (List ℕ) → List (List ℕ) → S → Type 0) (old new : S) (streams : Streams) where
   -- the stream was read to its end, and each of its lines was answered; neither stream failed
   pub record EndsWhole (count : ℕ) : Type 0 where

@@ -1,4 +1,5 @@
-// Requests answered over a store, from their texts to the texts of their replies.
+//! Requests answered over a store, from their texts to the texts of their replies.
+
 ghost use Rattle.std.specs.Prelude.{◌≡◌, ◌≢◌, ◌⊎◌, Err, IfOk, IfErr, string_bytes};
 ghost use Rattle.std.specs.Fn.{FnOnceReturnsAt};
 ghost use Rattle.mf_model.specs.declared.reply.Reply.{Reply};
@@ -127,7 +128,7 @@ pub struct Desk {
 }
 
 impl Desk {
-    /// A desk. It fails only for want of memory.
+    /// A desk. It fails only when out of memory.
     pub fn new(alloc: Global) -> Result<Desk, AllocError> {
         match Routes::new(alloc) {
             Ok(routes) => Ok(Desk { routes }),

@@ -1,4 +1,5 @@
-// Laws of whole runs and of single messages, in bytes. Each function does nothing: its contract is the law.
+//! Laws of whole runs and of single messages, in bytes. Each function does nothing: its contract is the law.
+
 ghost use Rattle.std.specs.Prelude.{◌≡◌, ◌≢◌, ℕ, Bool, List, Result, Err, Some, true};
 ghost use Rattle.std.specs.List.{AllByRecursion, concat};
 ghost use Rattle.mf_office.specs.declared.account.Account.{Account};

@@ -1,8 +1,9 @@
-// A run of request lines over a store.
+//! A run of request lines over a store.
+
 ghost use Rattle.std.specs.Prelude.{◌≡◌, IfErr};
 ghost use Rattle.mf_base.specs.declared.fault.Cause.TheVariants as cause;
 ghost use Rattle.mf_wire.specs.Runs.{RunsLines};
-ghost use Rattle.mf_wire.specs.Streams.{Ends};
+ghost use Rattle.mf_wire.specs.Streams.{Ends, streams_of};
 
 use crate::answering::Desk;
 use mf_base::{Cause, StreamFault};
@@ -28,16 +29,7 @@ pub fn run<S: InstitutionStore, R: Source, W: Sink>(
     source: &mut R,
     sink: &mut W,
 ) -> Result<u64, StreamFault>
-    ensures ends { Ends (RunsLines S.stands S.clean S.leaves) store.old store.new (record {
-      unread = R.unread source.old;
-      left = R.unread source.new;
-      before = W.written sink.old;
-      after = W.written sink.new;
-      source_faults_before = R.faults source.old;
-      source_faults_after = R.faults source.new;
-      sink_faults_before = W.faults sink.old;
-      sink_faults_after = W.faults sink.new;
-    }) result }
+    ensures ends { Ends (RunsLines S.stands S.clean S.leaves) store.old store.new (streams_of R.unread R.faults W.written W.faults source.old source.new sink.old sink.new) result }
     ensures memory { IfErr result (λ f. f.cause ≡ cause.Memory → (source.new ≡ source.old) × (sink.new ≡ sink.old)) }
 {
     laws::isolation();

@@ -1,4 +1,5 @@
-// HTTP messages over a store, one a stream.
+//! HTTP messages over a store, one a stream.
+
 ghost use Rattle.std.specs.Prelude.{◌≡◌, ◌≢◌, List, ℕ, [], false, None, Some, IfOk, IfErr, IfSome, OnOk, OnErr};
 ghost use Rattle.std.specs.Io.KnownBytes.{Appends};
 ghost use Rattle.mf_base.specs.declared.fault.Cause.TheVariants as cause;
@@ -7,6 +8,7 @@ ghost use Rattle.mf_wire_messages.specs.Messages.{is_head};
 ghost use Rattle.mf_wire_messages.specs.Responses.{IsCut};
 ghost use Rattle.mf_wire.specs.Runs.{Calls};
 ghost use Rattle.mf_wire.specs.Serving.{call_of_message, shown_response, text_response, AnswersMessage, EndsMessage};
+ghost use Rattle.mf_wire.specs.Streams.{streams_of};
 
 use crate::answering::{Desk, answer_text_parts};
 use mf_base::{Cause, Fault, StreamFault};
@@ -106,16 +108,7 @@ pub fn serve_one<S: InstitutionStore, R: Source, W: Sink>(
     source: &mut R,
     sink: &mut W,
 ) -> Result<bool, StreamFault>
-    ensures ends { EndsMessage (AnswersMessage S.stands S.clean S.leaves) store.old store.new (record {
-      unread = R.unread source.old;
-      left = R.unread source.new;
-      before = W.written sink.old;
-      after = W.written sink.new;
-      source_faults_before = R.faults source.old;
-      source_faults_after = R.faults source.new;
-      sink_faults_before = W.faults sink.old;
-      sink_faults_after = W.faults sink.new;
-    }) result }
+    ensures ends { EndsMessage (AnswersMessage S.stands S.clean S.leaves) store.old store.new (streams_of R.unread R.faults W.written W.faults source.old source.new sink.old sink.new) result }
     ensures silent { IfOk result (λ served. served ≡ false → sink.new ≡ sink.old) }
     ensures unwritten { IfErr result (λ f. f.cause ≢ cause.Write → sink.new ≡ sink.old) }
     ensures memory { IfErr result (λ f. f.cause ≡ cause.Memory → source.new ≡ source.old) }

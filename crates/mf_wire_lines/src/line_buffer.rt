@@ -1,4 +1,5 @@
-// The line that has begun, as far as it can matter: one byte past the longest line and its return.
+//! The line that has begun, as far as it can matter: one byte past the longest line and its return.
+
 ghost use Rattle.std.specs.Prelude.{◌≡◌, ◌+◌, ◌≤◌, ℕ, List, [], ◌∷◌, ◌++◌, length, take, vec_len, IfOk};
 
 use std::alloc::{AllocError, Global};

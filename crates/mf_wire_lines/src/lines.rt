@@ -1,4 +1,5 @@
-// A run over a stream of request lines.
+//! A run over a stream of request lines.
+
 ghost use Rattle.std.specs.Prelude.{◌≡◌, ◌≢◌, ℕ, ◌+◌, ◌-◌, ◌<◌, ◌≤◌, ◌^◌, List, [], length, take, IfOk, IfErr, OnOk};
 ghost use Rattle.mf_base.specs.declared.fault.Cause.TheVariants as cause;
 ghost use Rattle.mf_wire_lines.specs.Cut.{without_return as line_without_return, request};

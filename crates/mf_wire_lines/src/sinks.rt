@@ -1,4 +1,5 @@
-// Writers that count their faults, so that a contract can say whose fault it was, and in which call.
+//! Writers that count their faults, so that a contract can say whose fault it was, and in which call.
+
 ghost use Rattle.std.specs.Prelude.{◌≡◌, ◌≢◌, ◌<◌, ◌≤◌, ℕ, List, Option, length, IfOk, OnOk, OnErr};
 ghost use Rattle.std.specs.Io.KnownBytes.{WriteAppends};
 

@@ -1,4 +1,5 @@
-// Readers that count their faults, so that a contract can say whose fault it was, and in which call.
+//! Readers that count their faults, so that a contract can say whose fault it was, and in which call.
+
 ghost use Rattle.std.specs.Prelude.{◌≡◌, ◌≢◌, ℕ, List, Option, OnOk, OnErr};
 ghost use Rattle.std.specs.Io.{ReadsAtMost};
 ghost use Rattle.std.specs.Io.KnownBytes.{ReadConsumes};

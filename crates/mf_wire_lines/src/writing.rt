@@ -1,4 +1,5 @@
-// Replies written by a loop over the sink's writes.
+//! Replies written by a loop over the sink's writes.
+
 ghost use Rattle.std.specs.Prelude.{◌≡◌, ◌≢◌, ◌<◌, ◌≤◌, ◌++◌, ◌∷◌, [], ℕ, OnOk, OnErr, IfErr, decimal, length, take};
 ghost use Rattle.std.specs.Io.KnownBytes.{Appends};
 ghost use Rattle.mf_wire_lines.specs.Replies.{line_of, fault_line, fault_status};

@@ -1,4 +1,5 @@
-// A body read from a stream.
+//! A body read from a stream.
+
 ghost use Rattle.std.specs.Prelude.{◌≡◌, ◌≢◌, ◌<◌, ◌≤◌, length, take, IfOk, OnOk, OnErr};
 ghost use Rattle.std.specs.Io.KnownBytes.{Consumes, IsAtEnd};
 ghost use Rattle.mf_wire_messages.specs.Arrivals.{TellsBody};

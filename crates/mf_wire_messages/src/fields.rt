@@ -1,4 +1,5 @@
-// The fields of a head that say who asks and how long the body is.
+//! The fields of a head that say who asks and how long the body is.
+
 ghost use Rattle.std.specs.Prelude.{◌≡◌, ℕ, ◌^◌, ◌<◌, ◌≤◌, List, ◌∷◌, [], ◌++◌, length, map, codes, All, IsTrue, IfSome, option_map};
 ghost use Rattle.std.specs.List.{list_all};
 ghost use Rattle.std.specs.Char.{is_ascii_digit};

@@ -1,4 +1,5 @@
-// A head read from a stream.
+//! A head read from a stream.
+
 ghost use Rattle.std.specs.Prelude.{◌≡◌, ◌≢◌, ◌==◌, if◌then◌else◌, length, IfOk, OnOk, OnErr};
 ghost use Rattle.mf_wire_messages.specs.Arrivals.{TellsHead};
 

@@ -1,4 +1,5 @@
-// A request as it came: its bytes, and where its parts are.
+//! A request as it came: its bytes, and where its parts are.
+
 ghost use Rattle.std.specs.Prelude.{◌≡◌, length};
 ghost use Rattle.httparse.specs.Spans.{span_bytes, IsWithin};
 ghost use Rattle.mf_wire_messages.specs.Messages.{Request, is_head as is_head_method};
@@ -10,18 +11,18 @@ use std::marker::Model;
 #[derive(Drop)]
 pub struct Message {
     bytes: Vec<u8>,
-    asks: Span,
-    verb: Span,
-    path: Span,
-    content: Vec<u8>,
+    staff: Span,
+    method: Span,
+    target: Span,
+    body: Vec<u8>,
 }
 
 impl Model for Message {
     ghost Value = { Request };
 
-    ghost view = { λ m. record { staff = span_bytes m.bytes.items m.asks; method = span_bytes m.bytes.items m.verb; target = span_bytes m.bytes.items m.path; body = m.content.items } };
+    ghost view = { λ m. record { staff = span_bytes m.bytes.items m.staff; method = span_bytes m.bytes.items m.method; target = span_bytes m.bytes.items m.target; body = m.body.items } };
 
-    ghost invariant = { λ m. IsWithin (length m.bytes.items) m.asks × IsWithin (length m.bytes.items) m.verb × IsWithin (length m.bytes.items) m.path };
+    ghost invariant = { λ m. IsWithin (length m.bytes.items) m.staff × IsWithin (length m.bytes.items) m.method × IsWithin (length m.bytes.items) m.target };
 }
 
 /// Whether the method asks for a reply without its body.
@@ -33,18 +34,18 @@ pub fn is_head(method: &[u8]) -> bool
 
 impl Message {
     /// A request of these bytes, by where its parts are.
-    pub fn new(bytes: Vec<u8>, asks: Span, verb: Span, path: Span, content: Vec<u8>) -> Message
-        requires asks { IsWithin (length bytes.items) asks }
-        requires verb { IsWithin (length bytes.items) verb }
-        requires path { IsWithin (length bytes.items) path }
-        ensures { result ≡ (record { staff = span_bytes bytes.items asks; method = span_bytes bytes.items verb; target = span_bytes bytes.items path; body = content.items }) }
+    pub fn new(bytes: Vec<u8>, staff: Span, method: Span, target: Span, body: Vec<u8>) -> Message
+        requires staff { IsWithin (length bytes.items) staff }
+        requires method { IsWithin (length bytes.items) method }
+        requires target { IsWithin (length bytes.items) target }
+        ensures { result ≡ (record { staff = span_bytes bytes.items staff; method = span_bytes bytes.items method; target = span_bytes bytes.items target; body = body.items }) }
     {
         Message {
             bytes,
-            asks,
-            verb,
-            path,
-            content,
+            staff,
+            method,
+            target,
+            body,
         }
     }
 
@@ -52,28 +53,28 @@ impl Message {
     pub fn staff(&self) -> &[u8]
         ensures { result.now ≡ self.now.staff }
     {
-        self.asks.of(&self.bytes)
+        self.staff.of(&self.bytes)
     }
 
     /// The method's token, such as `GET`.
     pub fn method(&self) -> &[u8]
         ensures { result.now ≡ self.now.method }
     {
-        self.verb.of(&self.bytes)
+        self.method.of(&self.bytes)
     }
 
     /// The target, such as a path.
     pub fn target(&self) -> &[u8]
         ensures { result.now ≡ self.now.target }
     {
-        self.path.of(&self.bytes)
+        self.target.of(&self.bytes)
     }
 
     /// The body.
     pub fn body(&self) -> &[u8]
         ensures { result.now ≡ self.now.body }
     {
-        &self.content
+        &self.body
     }
 
     /// Whether its reply has no body.

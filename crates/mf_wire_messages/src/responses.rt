@@ -1,4 +1,5 @@
-// Responses, written without taking memory.
+//! Responses, written without taking memory.
+
 ghost use Rattle.std.specs.Prelude.{◌≡◌, ◌≢◌, ◌++◌, [], unwrap_or, OnOk, OnErr};
 ghost use Rattle.http.specs.StatusCode.{reason_phrase};
 ghost use Rattle.std.specs.Io.KnownBytes.{Appends};

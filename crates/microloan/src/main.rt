@@ -4,7 +4,7 @@
 mod telling;
 mod working;
 
-ghost use Rattle.std.specs.Prelude.{◌≡◌, ◌≤◌, IfOk};
+ghost use Rattle.std.specs.Prelude.{◌≡◌, ◌≤◌};
 ghost use Rattle.mf_base.specs.DayText.{last_entered_day};
 ghost use Rattle.microloan_words.specs.Asked.{IsWithinLimits, IsServeWithinLimits};
 ghost use Rattle.microloan_commands.specs.Printed.{HasLongGrace};
@@ -21,12 +21,12 @@ use microloan_words::{
 use std::process::ExitCode;
 use std::{env, io};
 
-fn main(rt: HostRuntime) -> io::Result<ExitCode> {
+fn main(rt: HostRuntime) -> ExitCode {
     let status = match given_words(&rt) {
-        Ok(words) => obey(&rt, &words)?,
-        Err(words) => refuse_words(&rt, words)?,
+        Ok(words) => obey(&rt, &words),
+        Err(words) => refuse_words(&rt, words),
     };
-    Ok(ExitCode::from(status))
+    ExitCode::from(status)
 }
 
 /// The words that the program is given. They are bad where one of them is no text.
@@ -43,21 +43,21 @@ fn given_words(rt: &HostRuntime) -> Result<Vec<String>, Words> {
 }
 
 /// Does what the words ask for, and gives the program's status.
-fn obey(rt: &HostRuntime, words: &[String]) -> io::Result<u8> {
+fn obey(rt: &HostRuntime, words: &[String]) -> u8 {
     match command(rt.alloc(), words) {
         Ok(Command::Batch(asked)) => batch(rt, &asked),
         Ok(Command::Serve(asked)) => serve(rt, &asked),
-        Ok(Command::Collect(asked)) => collect(rt, &asked),
-        Ok(Command::Report(asked)) => report(rt, &asked),
+        Ok(Command::Collect(asked)) => work_as(rt, &asked, Work::Collect(asked.staff)),
+        Ok(Command::Report(asked)) => work_as(rt, &asked, Work::Report(asked.staff)),
         Ok(Command::Schedule(asked)) => print_schedule(rt, &asked),
         Err(words) => refuse_words(rt, words),
     }
 }
 
 /// Answers request lines over the file that is named, or over a new institution in memory.
-fn batch(rt: &HostRuntime, asked: &BatchWords<'_>) -> io::Result<u8>
+fn batch(rt: &HostRuntime, asked: &BatchWords<'_>) -> u8
     requires { asked.now.day ≤ last_entered_day }
-    ensures { IfOk result IsPrintStatus }
+    ensures { IsPrintStatus result }
 {
     match &asked.file {
         None => answer_input_in_memory(rt, asked.day),
@@ -66,9 +66,9 @@ fn batch(rt: &HostRuntime, asked: &BatchWords<'_>) -> io::Result<u8>
 }
 
 /// Serves HTTP over a file, which is opened before the port.
-fn serve(rt: &HostRuntime, asked: &ServeWords<'_>) -> io::Result<u8>
+fn serve(rt: &HostRuntime, asked: &ServeWords<'_>) -> u8
     requires { IsServeWithinLimits asked.now }
-    ensures { IfOk result IsPrintStatus }
+    ensures { IsPrintStatus result }
 {
     let work = Work::Serve {
         port: asked.port,
@@ -77,35 +77,18 @@ fn serve(rt: &HostRuntime, asked: &ServeWords<'_>) -> io::Result<u8>
     work_over(rt, asked.file.as_str(), asked.day, work)
 }
 
-/// Collects a sheet over a file, which is opened before the sheet is read.
-fn collect(rt: &HostRuntime, asked: &StaffWords<'_>) -> io::Result<u8>
-    ensures { IfOk result IsPrintStatus }
+/// Works over a file for a member of staff; a missing file becomes a new institution on the default day.
+fn work_as(rt: &HostRuntime, asked: &StaffWords<'_>, work: Work) -> u8
+    ensures { IsPrintStatus result }
 {
-    work_over(
-        rt,
-        asked.file.as_str(),
-        default_day(),
-        Work::Collect(asked.staff),
-    )
-}
-
-/// Prints the report of arrears of a file.
-fn report(rt: &HostRuntime, asked: &StaffWords<'_>) -> io::Result<u8>
-    ensures { IfOk result IsPrintStatus }
-{
-    work_over(
-        rt,
-        asked.file.as_str(),
-        default_day(),
-        Work::Report(asked.staff),
-    )
+    work_over(rt, asked.file.as_str(), default_day(), work)
 }
 
 /// Opens a file, works over the institution that it holds, and gives the program's status. The only function that holds a store
 /// of a known type: the prover reads all of `sqlite` for each.
-fn work_over(rt: &HostRuntime, file: &str, day: Day, work: Work) -> io::Result<u8>
+fn work_over(rt: &HostRuntime, file: &str, day: Day, work: Work) -> u8
     requires { day ≤ last_entered_day }
-    ensures { IfOk result IsPrintStatus }
+    ensures { IsPrintStatus result }
 {
     match open(rt, file, day) {
         Ok(mut store) => work_on(rt, &mut store, work),
@@ -114,10 +97,10 @@ fn work_over(rt: &HostRuntime, file: &str, day: Day, work: Work) -> io::Result<u
 }
 
 /// Prints the schedule that the words ask for, and gives the program's status.
-fn print_schedule<R: Print + Eprint + AllocGlobal>(rt: &R, asked: &ScheduleWords) -> io::Result<u8>
+fn print_schedule<R: Print + Eprint + AllocGlobal>(rt: &R, asked: &ScheduleWords) -> u8
     requires { IsWithinLimits asked.now }
-    ensures status { IfOk result IsPrintStatus }
-    ensures long_grace { HasLongGrace asked.now → IfOk result (λ status. status ≡ 1) }
+    ensures status { IsPrintStatus result }
+    ensures long_grace { HasLongGrace asked.now → result ≡ 1 }
 {
     print_made(rt, schedule(rt.alloc(), asked))
 }

@@ -1,5 +1,7 @@
-// What the program says of its end, and the status that it ends with.
-ghost use Rattle.std.specs.Prelude.{◌≡◌, IfOk, IsErr};
+//! What the program says of its end, and the status that it ends with. Where standard error can't be written, the status alone
+//! says it.
+
+ghost use Rattle.std.specs.Prelude.{◌≡◌, IsErr};
 ghost use Rattle.microloan.specs.Status.{IsStatusOf, IsPrintStatus, IsWordsStatus};
 
 use mf_base::{Cause, Fault, StreamFault};
@@ -15,51 +17,51 @@ const FAULT: u8 = 1;
 const BAD_WORDS: u8 = 2;
 
 /// Says which fault ended a run, if one did, and gives the program's status.
-pub fn tell_end<R: Eprint>(rt: &R, ended: &Result<u64, StreamFault>) -> io::Result<u8>
-    ensures { IfOk result (IsStatusOf ended.now) }
+pub fn tell_end<R: Eprint>(rt: &R, ended: &Result<u64, StreamFault>) -> u8
+    ensures { IsStatusOf ended.now result }
 {
     match ended {
-        Ok(_) => Ok(DONE),
+        Ok(_) => DONE,
         Err(fault) => tell_cause(rt, fault.cause),
     }
 }
 
 /// Says why a sheet was not collected to its end, if it wasn't, and gives the program's status.
-pub fn tell_sheet<R: Eprint>(rt: &R, ended: &Result<(), SheetFault>) -> io::Result<u8>
-    ensures { IfOk result (IsStatusOf ended.now) }
+pub fn tell_sheet<R: Eprint>(rt: &R, ended: &Result<(), SheetFault>) -> u8
+    ensures { IsStatusOf ended.now result }
 {
     match ended {
-        Ok(()) => Ok(DONE),
+        Ok(()) => DONE,
         Err(SheetFault::TooLong) => tell_refusal(rt, Fault::F1),
         Err(SheetFault::Stream(fault)) => tell_cause(rt, fault.cause),
     }
 }
 
 /// Says what is wrong with words, or the help that they ask for, and gives the program's status.
-pub fn refuse_words<R: Print + Eprint>(rt: &R, words: Words) -> io::Result<u8>
-    ensures { IfOk result (IsWordsStatus words) }
+pub fn refuse_words<R: Print + Eprint>(rt: &R, words: Words) -> u8
+    ensures { IsWordsStatus words result }
 {
     match words {
         Words::Help(text) => print_text(rt, text),
         Words::Bad(line) => {
-            rt.eprintln(line)?;
-            Ok(BAD_WORDS)
+            let _said = rt.eprintln(line);
+            BAD_WORDS
         }
         Words::Memory => tell_cause(rt, Cause::Memory),
     }
 }
 
 /// Prints a text, and gives the program's status.
-pub fn print_text<R: Print + Eprint>(rt: &R, text: String) -> io::Result<u8>
-    ensures { IfOk result IsPrintStatus }
+pub fn print_text<R: Print + Eprint>(rt: &R, text: String) -> u8
+    ensures { IsPrintStatus result }
 {
     tell_printed(rt, &rt.print(text))
 }
 
 /// Prints a text, or says why there is none, and gives the program's status.
-pub fn print_made<R: Print + Eprint>(rt: &R, made: Result<String, Fault>) -> io::Result<u8>
-    ensures status { IfOk result IsPrintStatus }
-    ensures refused { IsErr made → IfOk result (λ status. status ≡ 1) }
+pub fn print_made<R: Print + Eprint>(rt: &R, made: Result<String, Fault>) -> u8
+    ensures status { IsPrintStatus result }
+    ensures refused { IsErr made → result ≡ 1 }
 {
     match made {
         Ok(text) => print_text(rt, text),
@@ -68,25 +70,25 @@ pub fn print_made<R: Print + Eprint>(rt: &R, made: Result<String, Fault>) -> io:
 }
 
 /// Says that a text was not printed, where it wasn't, and gives the program's status.
-fn tell_printed<R: Eprint>(rt: &R, printed: &io::Result<()>) -> io::Result<u8>
-    ensures { IfOk result (IsStatusOf printed.now) }
+fn tell_printed<R: Eprint>(rt: &R, printed: &io::Result<()>) -> u8
+    ensures { IsStatusOf printed.now result }
 {
     match printed {
-        Ok(()) => Ok(DONE),
+        Ok(()) => DONE,
         Err(_) => tell_cause(rt, Cause::Write),
     }
 }
 
 /// Says by its number why the work was refused, and gives the program's status.
-pub fn tell_refusal<R: Eprint>(rt: &R, fault: Fault) -> io::Result<u8>
-    ensures { IfOk result (λ status. status ≡ 1) }
+pub fn tell_refusal<R: Eprint>(rt: &R, fault: Fault) -> u8
+    ensures { result ≡ 1 }
 {
     tell_fault(rt, format_args!("{fault:?}"))
 }
 
 /// Says what failed, and gives the program's status.
-pub fn tell_cause<R: Eprint>(rt: &R, cause: Cause) -> io::Result<u8>
-    ensures { IfOk result (λ status. status ≡ 1) }
+pub fn tell_cause<R: Eprint>(rt: &R, cause: Cause) -> u8
+    ensures { result ≡ 1 }
 {
     tell_fault(rt, name_of(cause))
 }
@@ -101,9 +103,9 @@ fn name_of(cause: Cause) -> &'static str {
 }
 
 /// Says which fault it was, and gives the program's status.
-fn tell_fault<R: Eprint>(rt: &R, fault: impl fmt::Display + Drop) -> io::Result<u8>
-    ensures { IfOk result (λ status. status ≡ 1) }
+fn tell_fault<R: Eprint>(rt: &R, fault: impl fmt::Display + Drop) -> u8
+    ensures { result ≡ 1 }
 {
-    rt.eprintln(format_args!("microloan: {fault}"))?;
-    Ok(FAULT)
+    let _said = rt.eprintln(format_args!("microloan: {fault}"));
+    FAULT
 }

@@ -1,5 +1,6 @@
-// The commands over a store, between standard input and output or on a port.
-ghost use Rattle.std.specs.Prelude.{◌≤◌, IfOk};
+//! The commands over a store, between standard input and output or on a port.
+
+ghost use Rattle.std.specs.Prelude.{◌≤◌};
 ghost use Rattle.mf_base.specs.DayText.{last_entered_day};
 ghost use Rattle.microloan.specs.Status.{IsPrintStatus};
 
@@ -27,8 +28,8 @@ pub enum Work {
 }
 
 /// Works over the store of a file, and gives the program's status.
-pub fn work_on<S: InstitutionStore>(rt: &HostRuntime, store: &mut S, work: Work) -> io::Result<u8>
-    ensures { IfOk result IsPrintStatus }
+pub fn work_on<S: InstitutionStore>(rt: &HostRuntime, store: &mut S, work: Work) -> u8
+    ensures { IsPrintStatus result }
 {
     match work {
         Work::Answer => answer_input(rt, store),
@@ -39,12 +40,9 @@ pub fn work_on<S: InstitutionStore>(rt: &HostRuntime, store: &mut S, work: Work)
 }
 
 /// Answers the request lines on standard input over a new institution in memory, and gives the program's status.
-pub fn answer_input_in_memory<R: Print + Eprint + Input + AllocGlobal>(
-    rt: &R,
-    day: Day,
-) -> io::Result<u8>
+pub fn answer_input_in_memory<R: Print + Eprint + Input + AllocGlobal>(rt: &R, day: Day) -> u8
     requires { day ≤ last_entered_day }
-    ensures { IfOk result IsPrintStatus }
+    ensures { IsPrintStatus result }
 {
     let mut source = WatchedReader::new(rt.reader());
     let mut sink = WatchedWriter::new(io::writer(rt));
@@ -56,8 +54,8 @@ pub fn answer_input_in_memory<R: Print + Eprint + Input + AllocGlobal>(
 fn answer_input<R: Print + Eprint + Input + AllocGlobal, S: InstitutionStore>(
     rt: &R,
     store: &mut S,
-) -> io::Result<u8>
-    ensures { IfOk result IsPrintStatus }
+) -> u8
+    ensures { IsPrintStatus result }
 {
     let mut source = WatchedReader::new(rt.reader());
     let mut sink = WatchedWriter::new(io::writer(rt));
@@ -72,8 +70,8 @@ fn serve_port<S: InstitutionStore>(
     store: &mut S,
     port: u16,
     connections: u64,
-) -> io::Result<u8>
-    ensures { IfOk result IsPrintStatus }
+) -> u8
+    ensures { IsPrintStatus result }
 {
     let Ok(listener) = TcpListener::bind(rt, (Ipv4Addr::LOCALHOST, port)) else {
         return tell_cause(rt, Cause::Read);
@@ -87,8 +85,8 @@ fn collect_input<R: Print + Eprint + Input + AllocGlobal, S: InstitutionStore>(
     rt: &R,
     store: &mut S,
     staff: Caller,
-) -> io::Result<u8>
-    ensures { IfOk result IsPrintStatus }
+) -> u8
+    ensures { IsPrintStatus result }
 {
     let mut source = WatchedReader::new(rt.reader());
     let mut sink = WatchedWriter::new(io::writer(rt));
@@ -101,8 +99,8 @@ fn print_report<R: Print + Eprint + AllocGlobal, S: InstitutionStore>(
     rt: &R,
     store: &mut S,
     staff: Caller,
-) -> io::Result<u8>
-    ensures { IfOk result IsPrintStatus }
+) -> u8
+    ensures { IsPrintStatus result }
 {
     print_made(rt, report(rt.alloc(), store, staff))
 }

@@ -1,6 +1,7 @@
 ghost use Rattle.std.specs.Prelude.{◌≡◌, ◌≤◌, IfErr};
 ghost use Rattle.mf_base.specs.DayText.{last_entered_day};
 ghost use Rattle.mf_base.specs.declared.fault.Cause.TheVariants as cause;
+ghost use Rattle.mf_wire.specs.Streams.{streams_of};
 ghost use Rattle.microloan_commands.specs.Batch.{AnswersFromNew};
 
 use crate::first::in_memory;
@@ -22,16 +23,7 @@ pub fn answer_lines<R: Source, W: Sink>(
     sink: &mut W,
 ) -> Result<u64, StreamFault>
     requires { day ≤ last_entered_day }
-    ensures ends { AnswersFromNew ⟦<PageStore as TreeStore>⟧ day (record {
-      unread = R.unread source.old;
-      left = R.unread source.new;
-      before = W.written sink.old;
-      after = W.written sink.new;
-      source_faults_before = R.faults source.old;
-      source_faults_after = R.faults source.new;
-      sink_faults_before = W.faults sink.old;
-      sink_faults_after = W.faults sink.new;
-    }) result }
+    ensures ends { AnswersFromNew ⟦<PageStore as TreeStore>⟧ day (streams_of R.unread R.faults W.written W.faults source.old source.new sink.old sink.new) result }
     ensures memory { IfErr result (λ f. f.cause ≡ cause.Memory → (source.new ≡ source.old) × (sink.new ≡ sink.old)) }
 {
     let Ok(mut store) = in_memory(alloc, day) else {

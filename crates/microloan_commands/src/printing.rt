@@ -30,7 +30,7 @@ fn terms_of(asked: &ScheduleWords) -> Terms
 
 /// The text of the schedule that the words ask for.
 ///
-/// F8 where a grace is not below the number of instalments, and F20 for want of memory.
+/// F8 where a grace is not below the number of instalments, and F20 when out of memory.
 pub fn schedule(alloc: Global, asked: &ScheduleWords) -> Result<String, Fault>
     requires { IsWithinLimits asked.now }
     ensures text { IfOk result (λ text. string_bytes text ≡ printed asked.now) }

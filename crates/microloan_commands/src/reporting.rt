@@ -28,7 +28,7 @@ fn fits(lines: &[OfficeLine]) -> bool
 }
 
 /// The text of the arrears report that a caller sees: a line for its office and for each below it, by number, and the
-/// line of all. F2 where there is no such member of staff, and F20 for want of memory or a fault of the store; nothing
+/// line of all. F2 where there is no such member of staff, and F20 when out of memory or for a fault of the store; nothing
 /// is changed.
 pub fn report<S: InstitutionStore>(
     alloc: Global,

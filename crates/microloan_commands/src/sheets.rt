@@ -1,6 +1,7 @@
 ghost use Rattle.std.specs.Prelude.{◌≡◌, ◌≢◌, length, IfOk, IfErr};
 ghost use Rattle.mf_base.specs.declared.fault.Cause.TheVariants as cause;
 ghost use Rattle.mf_sheet.specs.Runs.{RunsRows};
+ghost use Rattle.mf_wire.specs.Streams.{streams_of};
 ghost use Rattle.microloan_commands.specs.Sheets.{IsWhole, IsReadFault, Ends};
 
 use mf_base::{Cause, StreamFault};
@@ -65,16 +66,7 @@ pub fn collect_sheet<S: InstitutionStore, R: Source, W: Sink>(
     source: &mut R,
     sink: &mut W,
 ) -> Result<(), SheetFault>
-    ensures ends { Ends (RunsRows S.stands S.clean S.leaves caller) store.old store.new (record {
-      unread = R.unread source.old;
-      left = R.unread source.new;
-      before = W.written sink.old;
-      after = W.written sink.new;
-      source_faults_before = R.faults source.old;
-      source_faults_after = R.faults source.new;
-      sink_faults_before = W.faults sink.old;
-      sink_faults_after = W.faults sink.new;
-    }) result }
+    ensures ends { Ends (RunsRows S.stands S.clean S.leaves caller) store.old store.new (streams_of R.unread R.faults W.written W.faults source.old source.new sink.old sink.new) result }
 {
     let sheet = match read_whole(alloc, source) {
         Ok(sheet) => sheet,

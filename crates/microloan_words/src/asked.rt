@@ -112,7 +112,7 @@ pub enum Words {
     Bad(String),
     /// They ask for help: its text.
     Help(String),
-    /// Want of memory.
+    /// Out of memory.
     Memory,
 }
 

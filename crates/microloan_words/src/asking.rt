@@ -100,7 +100,7 @@ fn command_asked<'a>(alloc: Global, matches: &ArgMatches<'a>) -> Result<Command<
 
 /// What the words ask for; the first of them is the program's own name.
 ///
-/// Words that `clap` takes, and whose options are as they should be, are refused for want of memory alone. Help is told
+/// Words that `clap` takes, and whose options are as they should be, are refused only when out of memory. Help is told
 /// only where `clap` finds that it is asked for; where that is all it finds, the words are not told to be wrong.
 pub fn command<'a>(alloc: Global, words: &'a [String]) -> Result<Command<'a>, Words>
     ensures asked { IfOk result (IsAsked (map string_bytes words.entry.now)) }

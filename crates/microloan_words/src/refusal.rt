@@ -29,7 +29,7 @@ fn wants(wrong: Wrong) -> &'static str {
     }
 }
 
-/// Bad words, with the line that says so, or want of memory for that line.
+/// Bad words, with the line that says so, or out of memory for that line.
 fn bad(line: Result<String, AllocError>) -> Words
     ensures { IsHelp result → ⊥ }
 {

@@ -5,7 +5,7 @@ use mf_desk_books::streams::{BRANCHES, BRANCHES_REPLIES};
 use std::alloc::{AllocError, Global};
 use std::test::Fail;
 
-/// Which line was refused for want of memory, if one was.
+/// Which line was refused when out of memory, if one was.
 fn refused_line(replies: &[u8]) -> Option<usize> {
     replies
         .split(|b| *b == b'\n')

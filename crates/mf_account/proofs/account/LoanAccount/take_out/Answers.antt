@@ -46,8 +46,8 @@ invariant_of-self-2 c =
       safe = subst (λ (x : List Settled). IsSafe old.periods (length new.entries) c.in_ok-book.book x) (sym settled)
           (subst (λ (n : ℕ). IsSafe old.periods n c.in_ok-book.book (take c.in_ok-book.kept c.self.inside.settled.items ++ c.in_ok-book.parts.items)) count safe);
     } in
-    subst (λ (o : List ℕ). IsKept (record old { entries = c.mark_in.new.entries.items }) o c.self.inside.schedule.items c.self.inside.disbursement_fee c.in_ok-book.book c.put_behind.new.settled.items) (sym c.remove.ensures.items)
-    (subst (λ (e : List Entry). IsKept (record old { entries = e }) (remove c.self.inside.order.items place) c.self.inside.schedule.items c.self.inside.disbursement_fee c.in_ok-book.book c.put_behind.new.settled.items) (sym c.mark_in.ensures) kept)
+    subst (λ (o : List ℕ). IsKept (record old { entries = c.mark_reversed.new.entries.items }) o c.self.inside.schedule.items c.self.inside.disbursement_fee c.in_ok-book.book c.put_behind.new.settled.items) (sym c.remove.ensures.items)
+    (subst (λ (e : List Entry). IsKept (record old { entries = e }) (remove c.self.inside.order.items place) c.self.inside.schedule.items c.self.inside.disbursement_fee c.in_ok-book.book c.put_behind.new.settled.items) (sym c.mark_reversed.ensures) kept)
 
 pub returns-clause-replayed : goal.returns-clause-replayed
 returns-clause-replayed c replayed =
@@ -60,9 +60,9 @@ returns-clause-replayed c replayed =
     ∙ ap (λ (x : List Settled). take c.in_ok-book.kept (settled_of_loan loan) ++ x) c.deref-2.ensures.value
     ∙ redone.parts_are in
     let is : IsReplayed (record { loan = new; state = c.in_ok-book.book; settled = c.put_behind.new.settled.items; change = c.in_ok-change.change }) = record { state = redone.book_is; settled = settled } in
-    subst (λ (a : Account). IsReplayed (record { loan = record a.loan { entries = c.mark_in.new.entries.items }; state = c.in_ok-book.book; settled = c.put_behind.new.settled.items; change = c.in_ok-change.change })) (sym c.self.view_is)
+    subst (λ (a : Account). IsReplayed (record { loan = record a.loan { entries = c.mark_reversed.new.entries.items }; state = c.in_ok-book.book; settled = c.put_behind.new.settled.items; change = c.in_ok-change.change })) (sym c.self.view_is)
     (subst (λ (e : List Entry). IsReplayed (record { loan = record loan { entries = e }; state = c.in_ok-book.book; settled = c.put_behind.new.settled.items; change = c.in_ok-change.change }))
-    (sym (c.mark_in.ensures ∙ ap (λ (a : Account). with_mark a.loan.entries c.args.at true) c.self.view_is)) is)
+    (sym (c.mark_reversed.ensures ∙ ap (λ (a : Account). with_mark a.loan.entries c.args.at true) c.self.view_is)) is)
 
 pub returns-clause-change : goal.returns-clause-change
 returns-clause-change c replayed =
@@ -77,5 +77,5 @@ returns-clause-change c replayed =
     subst (λ (x : List Settled). IsRedone c.args.self.now.loan new c.in_ok-book.book c.in_ok-book.kept x) (sym c.deref.ensures.value)
     (subst (λ (a : Account). IsRedone a.loan new c.in_ok-book.book c.in_ok-book.kept c.in_ok-book.parts.items) c.self.view_is redone) in
     let same : new.periods ≡ c.args.self.now.loan.periods = ap (λ (a : Account). a.loan.periods) c.self.view_is in
-    subst (λ (e : List Entry). IsChange c.args.self.now.loan (record old { entries = e }) c.in_ok-change.change) (sym c.mark_in.ensures)
+    subst (λ (e : List Entry). IsChange c.args.self.now.loan (record old { entries = e }) c.in_ok-change.change) (sym c.mark_reversed.ensures)
     (c.in_ok-change.ensures.change replayed new sound same more own)

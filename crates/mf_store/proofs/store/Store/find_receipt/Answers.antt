@@ -1,7 +1,15 @@
 use Rattle.std.proofs.Common.{◌∙◌}
 use Rattle.mf_store_changes.proofs.ReceiptRowLemmas.{receipt_found}
+use Rattle.mf_store_accounts.specs.Flat.{tables_of}
 use Rattle.mf_store_accounts.proofs.ResultLemmas.{weaker_if_ok}
+use Rattle.mf_store_commits.proofs.StandLemmas.{unchanged_stays}
+use Rattle.mf_store.proofs.KeptLemmas.{known_stays}
 use Rattle.mf_store.proofs.store.Store.find_receipt.Goals as goal
 
+pub returns-clause-kept : goal.returns-clause-kept
+returns-clause-kept g c =
+    rw (← c.self.view_is) (known_stays g.S.Store c.self.inside.connection c.find_receipt.new.connection c.self.inside.known (unchanged_stays g.S.Store c.self.inside.connection c.find_receipt.new.connection c.find_receipt.ensures.kept))
+
 pub returns-clause-value : goal.returns-clause-value
-returns-clause-value g c clean i s = weaker_if_ok c.find.result _ _ (λ x is. is ∙ receipt_found c.args.office c.args.receipt i s.sound) (c.find.ensures.row clean i s)
+returns-clause-value g c =
+    rw (← c.self.view_is) (λ clean i s. weaker_if_ok c.find_receipt.result _ _ (λ x is. is ∙ receipt_found c.args.office c.args.receipt.now i s.sound) (c.find_receipt.ensures.row clean (tables_of i) s.serves))

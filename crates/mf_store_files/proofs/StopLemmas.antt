@@ -1,0 +1,96 @@
+-- Which institution a stop after a run leaves.
+use Rattle.std.proofs.Common.{◌≡◌, ◌⊎◌, inl, inr, Bool, true, false, cond, List, [], ◌∷◌, ◌++◌, Option, Some, None, IsTrue, refl, sym, ap, ◌∙◌, subst}
+use Rattle.sqlite.specs.Tree.{Trees}
+use Rattle.mf_model.specs.Institution.{Institution, Change, after, after_maybe}
+use Rattle.mf_model.specs.Desk.{outcome, change_in}
+use Rattle.mf_model.specs.declared.request.Call.{Call}
+use Rattle.mf_model.specs.Run.{Line, change_of, next, last}
+use Rattle.mf_model.specs.Sound.{IsSound, IsInRange, AreInRange}
+use Rattle.mf_model.specs.Store.{left_by, left_after}
+use Rattle.mf_store_records.specs.Writes.{Holds}
+use Rattle.mf_store_accounts.specs.Flat.{tables_of}
+use Rattle.mf_store_commits.specs.Tabled.{HoldsOneOf}
+use Rattle.mf_store_files.specs.Held.{HoldsSound}
+use Rattle.mf_store_files.specs.Stops.{NoneChanges, IsWithGivenUp, IsLeftBy}
+
+unmoved : (run : List Line) (i : Institution) → NoneChanges run i → last run i ≡ i
+unmoved [] i none = refl
+unmoved (l ∷ ls) i none = ap (λ c. last ls (after_maybe c i)) none.0 ∙ unmoved ls i none.1
+
+module _ (left : Trees) where
+  HoldsIt : Institution → Type 0
+  HoldsIt j = Holds left (Some (tables_of j))
+
+  IsOfRun : List Line → Institution → Type 0
+  IsOfRun run i = (j : Institution) × IsLeftBy run i j × HoldsIt j
+
+  IsOfBefore : List Line → Institution → List Institution → Type 0
+  IsOfBefore run i is = NoneChanges run i × HoldsOneOf is left
+
+  later_too : (l : Line) (ls : List Line) (i : Institution) → IsOfRun ls (next l i) → IsOfRun (l ∷ ls) i
+  later_too l ls i (j, (inl is_last, held)) = (j, (inl is_last, held))
+  later_too l ls i (j, (inr with_one, held)) = (j, (inr (record {
+      before = l ∷ with_one.before;
+      line = with_one.line;
+      later = with_one.later;
+      parts = ap (λ ks. l ∷ ks) with_one.parts;
+      given_up = with_one.given_up;
+      unchanged = with_one.unchanged;
+      change = with_one.change;
+      asked = with_one.asked;
+      with_change = with_one.with_change;
+    }), held))
+
+  unchanged_by : (l : Line) (i : Institution) (c : Option Change) (given_up : Bool) → change_in (outcome l.call i) ≡ c → l.given_up ≡ given_up → change_of l i ≡ cond given_up None c
+  unchanged_by l i c given_up is gives = ap (λ b. cond b None (change_in (outcome l.call i))) gives ∙ ap (λ d. cond given_up None d) is
+
+  first_step : (l : Line) (ls : List Line) (i : Institution) (is : List Institution) (c : Option Change) (given_up : Bool) → change_in (outcome l.call i) ≡ c → l.given_up ≡ given_up → NoneChanges ls (after_maybe (cond given_up None c) i) → HoldsOneOf (left_by c given_up i is) left → IsOfBefore (l ∷ ls) i is ⊎ IsOfRun (l ∷ ls) i
+  first_step l ls i is None true e gives none one = inl ((unchanged_by l i None true e gives, none), one)
+  first_step l ls i is None false e gives none one = inl ((unchanged_by l i None false e gives, none), one)
+  first_step l ls i is (Some change) false e gives none (inl held) =
+      inr (after change i, (inl (sym (ap (λ c. last ls (after_maybe c i)) (unchanged_by l i (Some change) false e gives) ∙ unmoved ls (after change i) none)), held))
+  first_step l ls i is (Some change) false e gives none (inr nothing) = absurd nothing
+  first_step l ls i is (Some change) true e gives none (inl held) =
+      inr (after change i, (inr (record { before = []; line = l; later = ls; parts = refl; given_up = gives; unchanged = none; change = change; asked = e; with_change = refl }), held))
+  first_step l ls i is (Some change) true e gives none (inr one) = inl ((unchanged_by l i (Some change) true e gives, none), one)
+
+  -- one of those before, if the run changes nothing, or one that the run leaves
+  left_by_run : (run : List Line) (i : Institution) (is : List Institution) → HoldsOneOf (left_after run i is) left → IsOfBefore run i is ⊎ IsOfRun run i
+  left_by_run [] i is one = inl (tt, one)
+  left_by_run (l ∷ ls) i is one = go (left_by_run ls (next l i) (left_by (change_in (outcome l.call i)) l.given_up i is) one)
+    where
+      go : IsOfBefore ls (next l i) (left_by (change_in (outcome l.call i)) l.given_up i is) ⊎ IsOfRun ls (next l i) → IsOfBefore (l ∷ ls) i is ⊎ IsOfRun (l ∷ ls) i
+      go (inl (none, held)) = first_step l ls i is (change_in (outcome l.call i)) l.given_up refl refl none held
+      go (inr it) = inr (later_too l ls i it)
+
+  pub one_of_run : (run : List Line) (i : Institution) → HoldsOneOf (left_after run i (i ∷ [])) left → IsOfRun run i
+  one_of_run run i one = go (left_by_run run i (i ∷ []) one)
+    where
+      go : IsOfBefore run i (i ∷ []) ⊎ IsOfRun run i → IsOfRun run i
+      go (inl (none, inl held)) = (i, (inl (sym (unmoved run i none)), held))
+      go (inl (none, inr nothing)) = absurd nothing
+      go (inr it) = it
+
+AreInRange-first : (before later : List Line) → AreInRange (before ++ later) → AreInRange before
+AreInRange-first [] later r = tt
+AreInRange-first (l ∷ ls) later r = (r.0, AreInRange-first ls later r.1)
+
+AreInRange-rest : (before later : List Line) → AreInRange (before ++ later) → AreInRange later
+AreInRange-rest [] later r = r
+AreInRange-rest (l ∷ ls) later r = AreInRange-rest ls later r.1
+
+module _
+    (stays_sound : (i : Institution) (lines : List Line) → IsSound i → AreInRange lines → IsSound (last lines i))
+    (change_sound : (call : Call) (i : Institution) (change : Change) → IsSound i → IsInRange call.request → change_in (outcome call i) ≡ Some change → IsSound (after change i))
+where
+  left_sound : (run : List Line) (i j : Institution) → IsSound i → AreInRange run → IsLeftBy run i j → IsSound j
+  left_sound run i j sound range (inl is_last) = subst IsSound (sym is_last) (stays_sound i run sound range)
+  left_sound run i j sound range (inr it) =
+      let parts = subst AreInRange it.parts range in
+      let before = stays_sound i it.before sound (AreInRange-first it.before (it.line ∷ it.later) parts) in
+      subst IsSound (sym it.with_change) (change_sound it.line.call (last it.before i) it.change before (AreInRange-rest it.before (it.line ∷ it.later) parts).0 it.asked)
+
+  pub left_tables : (run : List Line) (i : Institution) → IsSound i → AreInRange run → (left : Trees) → HoldsOneOf (left_after run i (i ∷ [])) left → (held : HoldsSound left) × IsLeftBy run i held.institution
+  left_tables run i sound range left one =
+      let it = one_of_run left run i one in
+      (record { institution = it.0; sound = left_sound run i it.0 sound range it.1.0; holds = it.1.1 }, it.1.0)

@@ -1,0 +1,26 @@
+-- Which institution a stop after a run of requests leaves.
+use Rattle.std.specs.Prelude.{◌≡◌, ◌⊎◌, List, [], ◌∷◌, ◌++◌, Some, None, IsTrue, ⊤}
+use Rattle.mf_model.specs.Institution.{Institution, Change, after}
+use Rattle.mf_model.specs.Desk.{outcome, change_in}
+use Rattle.mf_model.specs.Run.{Line, change_of, last}
+
+-- no line of the run changes the institution
+abbrev pub NoneChanges : List Line → Institution → Type 0
+NoneChanges [] i = ⊤
+NoneChanges (l ∷ ls) i = (change_of l i ≡ None) × NoneChanges ls i
+
+-- the institution after the change of a line that was given up, where no later line changed anything
+pub record IsWithGivenUp (run : List Line) (i j : Institution) : Type 0 where
+  pub before : List Line
+  pub line : Line
+  pub later : List Line
+  pub parts : run ≡ before ++ line ∷ later
+  pub given_up : IsTrue line.given_up
+  pub unchanged : NoneChanges later (last before i)
+  pub change : Change
+  pub asked : change_in (outcome line.call (last before i)) ≡ Some change
+  pub with_change : j ≡ after change (last before i)
+
+-- The institution after all changes of the run, so after those of each line that was answered; or with the change of one line more, of those that were given up after the last change.
+abbrev pub IsLeftBy : List Line → Institution → Institution → Type 0
+IsLeftBy run i j = (j ≡ last run i) ⊎ IsWithGivenUp run i j
