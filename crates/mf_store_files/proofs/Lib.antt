@@ -9,3 +9,4 @@ pub mod FileLemmas
 pub mod AdoptLemmas
 pub mod OpenedLemmas
 pub mod UpgradedLemmas
+pub mod StopLemmas

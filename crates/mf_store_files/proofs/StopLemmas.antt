@@ -1,15 +1,25 @@
 -- Which institution a stop after a run leaves.
 use Rattle.std.proofs.Common.{◌≡◌, ◌⊎◌, inl, inr, Bool, true, false, cond, List, [], ◌∷◌, ◌++◌, Option, Some, None, IsTrue, refl, sym, ap, ◌∙◌, subst}
+use Rattle.std.proofs.Math.Logic.{∥∥₁_map}
+use Rattle.sqlite.specs.Files.{over_files, HoldsDatabase}
 use Rattle.sqlite.specs.Tree.{Trees}
+use Rattle.sqlite.proofs.Theorems.{opens_again}
+use Rattle.sqlite_disk.specs.declared.Disk as disk
+use Rattle.sqlite_store.specs.FileStore as files
+use Rattle.sqlite_store.specs.declared.store.FileStore.{FileStore}
+use Rattle.sqlite_wal.specs.Recovery.{Image}
 use Rattle.mf_model.specs.Institution.{Institution, Change, after, after_maybe}
 use Rattle.mf_model.specs.Desk.{outcome, change_in}
 use Rattle.mf_model.specs.declared.request.Call.{Call}
 use Rattle.mf_model.specs.Run.{Line, change_of, next, last}
 use Rattle.mf_model.specs.Sound.{IsSound, IsInRange, AreInRange}
 use Rattle.mf_model.specs.Store.{left_by, left_after}
+use Rattle.mf_store_records.specs.Tables.{schema}
 use Rattle.mf_store_records.specs.Writes.{Holds}
 use Rattle.mf_store_accounts.specs.Flat.{tables_of}
 use Rattle.mf_store_commits.specs.Tabled.{HoldsOneOf}
+use Rattle.mf_store.specs.Facts.{Kept}
+use Rattle.mf_store.specs.Stands.{IsClean, Leaves}
 use Rattle.mf_store_files.specs.Held.{HoldsSound}
 use Rattle.mf_store_files.specs.Stops.{NoneChanges, IsWithGivenUp, IsLeftBy}
 
@@ -28,8 +38,10 @@ module _ (left : Trees) where
   IsOfBefore run i is = NoneChanges run i × HoldsOneOf is left
 
   later_too : (l : Line) (ls : List Line) (i : Institution) → IsOfRun ls (next l i) → IsOfRun (l ∷ ls) i
-  later_too l ls i (j, (inl is_last, held)) = (j, (inl is_last, held))
-  later_too l ls i (j, (inr with_one, held)) = (j, (inr (record {
+  later_too l ls i (j, inl is_last, held) = (j, inl is_last, held)
+  later_too l ls i (j, inr with_one, held) = (
+    j,
+    inr (record {
       before = l ∷ with_one.before;
       line = with_one.line;
       later = with_one.later;
@@ -39,7 +51,9 @@ module _ (left : Trees) where
       change = with_one.change;
       asked = with_one.asked;
       with_change = with_one.with_change;
-    }), held))
+    }),
+    held,
+  )
 
   unchanged_by : (l : Line) (i : Institution) (c : Option Change) (given_up : Bool) → change_in (outcome l.call i) ≡ c → l.given_up ≡ given_up → change_of l i ≡ cond given_up None c
   unchanged_by l i c given_up is gives = ap (λ b. cond b None (change_in (outcome l.call i))) gives ∙ ap (λ d. cond given_up None d) is
@@ -48,10 +62,10 @@ module _ (left : Trees) where
   first_step l ls i is None true e gives none one = inl ((unchanged_by l i None true e gives, none), one)
   first_step l ls i is None false e gives none one = inl ((unchanged_by l i None false e gives, none), one)
   first_step l ls i is (Some change) false e gives none (inl held) =
-      inr (after change i, (inl (sym (ap (λ c. last ls (after_maybe c i)) (unchanged_by l i (Some change) false e gives) ∙ unmoved ls (after change i) none)), held))
+      inr (after change i, inl (sym (ap (λ c. last ls (after_maybe c i)) (unchanged_by l i (Some change) false e gives) ∙ unmoved ls (after change i) none)), held)
   first_step l ls i is (Some change) false e gives none (inr nothing) = absurd nothing
   first_step l ls i is (Some change) true e gives none (inl held) =
-      inr (after change i, (inr (record { before = []; line = l; later = ls; parts = refl; given_up = gives; unchanged = none; change = change; asked = e; with_change = refl }), held))
+      inr (after change i, inr (record { before = []; line = l; later = ls; parts = refl; given_up = gives; unchanged = none; change = change; asked = e; with_change = refl }), held)
   first_step l ls i is (Some change) true e gives none (inr one) = inl ((unchanged_by l i (Some change) true e gives, none), one)
 
   -- one of those before, if the run changes nothing, or one that the run leaves
@@ -67,7 +81,7 @@ module _ (left : Trees) where
   one_of_run run i one = go (left_by_run run i (i ∷ []) one)
     where
       go : IsOfBefore run i (i ∷ []) ⊎ IsOfRun run i → IsOfRun run i
-      go (inl (none, inl held)) = (i, (inl (sym (unmoved run i none)), held))
+      go (inl (none, inl held)) = (i, inl (sym (unmoved run i none)), held)
       go (inl (none, inr nothing)) = absurd nothing
       go (inr it) = it
 
@@ -81,8 +95,7 @@ AreInRange-rest (l ∷ ls) later r = AreInRange-rest ls later r.1
 
 module _
     (stays_sound : (i : Institution) (lines : List Line) → IsSound i → AreInRange lines → IsSound (last lines i))
-    (change_sound : (call : Call) (i : Institution) (change : Change) → IsSound i → IsInRange call.request → change_in (outcome call i) ≡ Some change → IsSound (after change i))
-where
+    (change_sound : (call : Call) (i : Institution) (change : Change) → IsSound i → IsInRange call.request → change_in (outcome call i) ≡ Some change → IsSound (after change i)) where
   left_sound : (run : List Line) (i j : Institution) → IsSound i → AreInRange run → IsLeftBy run i j → IsSound j
   left_sound run i j sound range (inl is_last) = subst IsSound (sym is_last) (stays_sound i run sound range)
   left_sound run i j sound range (inr it) =
@@ -93,4 +106,15 @@ where
   pub left_tables : (run : List Line) (i : Institution) → IsSound i → AreInRange run → (left : Trees) → HoldsOneOf (left_after run i (i ∷ [])) left → (held : HoldsSound left) × IsLeftBy run i held.institution
   left_tables run i sound range left one =
       let it = one_of_run left run i one in
-      (record { institution = it.0; sound = left_sound run i it.0 sound range it.1.0; holds = it.1.1 }, it.1.0)
+      (record { institution = it.0; sound = left_sound run i it.0 sound range it.1; holds = it.2 }, it.1)
+
+  -- and whatever a stop leaves of the files holds them
+  pub left_files : (D : Type 0) (g : disk.Ghosts D) (store : Kept (FileStore D g)) (run : List Line) (i : Institution) → IsSound i → AreInRange run
+      → IsClean over_files store → IsTrue (files.view store.connection.store).is_numbered → Leaves over_files store (left_after run i (i ∷ []))
+      → (left : Image) → (files.state store.connection.store).may_leave left
+      → ∥ ((trees : Trees) × HoldsDatabase left trees × (held : HoldsSound trees) × IsLeftBy run i held.institution) ∥₁
+  left_files D g store run i sound range clean numbered leaves left may =
+      let tables = λ (trees : Trees) (may : files.recovers store.connection.store trees). left_tables run i sound range trees (leaves.whole clean trees may) in
+      ∥∥₁_map (opens_again store.connection.store numbered (λ trees may. (schema, (tables trees may).0.holds.sound)) left may) (λ found.
+      let held = tables found.0 found.1 in
+      (found.0, found.2, held.0, held.1))

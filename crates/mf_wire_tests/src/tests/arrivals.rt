@@ -73,32 +73,49 @@ fn assert_told(rt: &impl Abort, alloc: Global, stream: &[u8], expected: &str) ->
     Ok(())
 }
 
+/// A stream, and what has arrived by it.
+const STREAMS: [(&str, &str); 15] = [
+    (CLIENT, CLIENT_TOLD),
+    ("", "nothing"),
+    (
+        "GET /offices HTTP/1.0\r\nx-sTAFF:  1/1 \r\n\r\n",
+        "1/1 GET /offices ",
+    ),
+    (
+        "\r\n\nGET /offices HTTP/1.1\nX-Staff: 1/1\n\nmore that is not read",
+        "1/1 GET /offices ",
+    ),
+    (
+        "HEAD /offices HTTP/1.1\r\nX-Staff: 1/1\r\n\r\n",
+        "1/1 HEAD /offices ",
+    ),
+    (
+        "GET http://localhost/offices HTTP/1.1\r\nX-Staff: 1/1\r\n\r\n",
+        "1/1 GET http://localhost/offices ",
+    ),
+    (
+        "PUT /a HTTP/1.1\r\nX-Staff: 1/1\r\nContent-Length: 0000000002\r\n\r\nabc",
+        "1/1 PUT /a ab",
+    ),
+    ("HEAD /offices HTTP/1.1\r\n\r\n", "F1 to HEAD"),
+    ("GET /a HTTP/1.2\r\nX-Staff: 1/1\r\n\r\n", "F1"),
+    ("GET /a HTTP/2.0\r\nX-Staff: 1/1\r\n\r\n", "F1"),
+    ("POST /clients HTTP/1.1\r\nX-Sta", "F1"),
+    ("HEAD /clients HTTP/1.1\r\nX-Sta", "F1"),
+    ("\r\n", "F1"),
+    (
+        "POST /clients HTTP/1.1\r\nX-Staff: 1/1\r\nContent-Length: 27\r\n\r\n{\"off",
+        "F1",
+    ),
+    (
+        "HEAD /clients HTTP/1.1\r\nX-Staff: 1/1\r\nContent-Length: 27\r\n\r\n{\"off",
+        "F1 to HEAD",
+    ),
+];
+
 #[test]
-fn messages_that_are_read(rt: HostRuntime) -> Result<(), Fail> {
-    for (stream, expected) in [
-        (CLIENT, CLIENT_TOLD),
-        ("", "nothing"),
-        (
-            "GET /offices HTTP/1.0\r\nx-sTAFF:  1/1 \r\n\r\n",
-            "1/1 GET /offices ",
-        ),
-        (
-            "\r\n\nGET /offices HTTP/1.1\nX-Staff: 1/1\n\nmore that is not read",
-            "1/1 GET /offices ",
-        ),
-        (
-            "HEAD /offices HTTP/1.1\r\nX-Staff: 1/1\r\n\r\n",
-            "1/1 HEAD /offices ",
-        ),
-        (
-            "GET http://localhost/offices HTTP/1.1\r\nX-Staff: 1/1\r\n\r\n",
-            "1/1 GET http://localhost/offices ",
-        ),
-        (
-            "PUT /a HTTP/1.1\r\nX-Staff: 1/1\r\nContent-Length: 0000000002\r\n\r\nabc",
-            "1/1 PUT /a ab",
-        ),
-    ] {
+fn messages_that_are_read_or_refused(rt: HostRuntime) -> Result<(), Fail> {
+    for (stream, expected) in STREAMS {
         assert_told(&rt, rt.alloc(), stream.as_bytes(), expected)?;
     }
     Ok(())
@@ -122,29 +139,6 @@ fn fields_that_are_refused(rt: HostRuntime) -> Result<(), Fail> {
     ] {
         let stream = format!(in rt.alloc(); "GET /a HTTP/1.1\r\n{fields}\r\n{body}")?;
         assert_told(&rt, rt.alloc(), stream.as_bytes(), "F1")?;
-    }
-    Ok(())
-}
-
-#[test]
-fn messages_that_are_refused(rt: HostRuntime) -> Result<(), Fail> {
-    for (stream, expected) in [
-        ("HEAD /offices HTTP/1.1\r\n\r\n", "F1 to HEAD"),
-        ("GET /a HTTP/1.2\r\nX-Staff: 1/1\r\n\r\n", "F1"),
-        ("GET /a HTTP/2.0\r\nX-Staff: 1/1\r\n\r\n", "F1"),
-        ("POST /clients HTTP/1.1\r\nX-Sta", "F1"),
-        ("HEAD /clients HTTP/1.1\r\nX-Sta", "F1"),
-        ("\r\n", "F1"),
-        (
-            "POST /clients HTTP/1.1\r\nX-Staff: 1/1\r\nContent-Length: 27\r\n\r\n{\"off",
-            "F1",
-        ),
-        (
-            "HEAD /clients HTTP/1.1\r\nX-Staff: 1/1\r\nContent-Length: 27\r\n\r\n{\"off",
-            "F1 to HEAD",
-        ),
-    ] {
-        assert_told(&rt, rt.alloc(), stream.as_bytes(), expected)?;
     }
     Ok(())
 }

@@ -1,7 +1,10 @@
 //! Sheets that are sent again, and receipts that are used again.
 
 use super::{REPEATED, assert_results, lent, replies};
+use mf_desk_books::Books;
 use mf_desk_books::streams::{ENTERED, SHEET};
+use std::alloc::Global;
+use std::process::Abort;
 use std::test::Fail;
 
 /// What is told of the loan after the sheet.
@@ -72,6 +75,22 @@ R-1,0001-000002,2024-02-29,200,F15\n\
 R-2,0001-000001,2024-01-30,1,F9\n\
 R-1,0001-000001,2024-03-31,1100,repeated\n";
 
+/// The sheet has these results, and nothing that is shown of the loan changes.
+fn assert_changes_nothing(
+    rt: &impl Abort,
+    alloc: Global,
+    books: &mut Books,
+    staff: &str,
+    sheet: &[u8],
+    expected: &str,
+) -> Result<(), Fail> {
+    let before = replies(alloc, books, SHOW_ALL)?;
+    assert_results(rt, alloc, books, staff, sheet, expected.as_bytes())?;
+    let now = replies(alloc, books, SHOW_ALL)?;
+    assert_eq!(rt; now.as_slice(), before.as_slice());
+    Ok(())
+}
+
 #[test]
 fn a_sheet_sent_twice_acts_once(rt: HostRuntime) -> Result<(), Fail> {
     let alloc = rt.alloc();
@@ -80,11 +99,7 @@ fn a_sheet_sent_twice_acts_once(rt: HostRuntime) -> Result<(), Fail> {
     assert_results(&rt, alloc, &mut books, "1/1", sheet, entered)?;
     let shown = replies(alloc, &mut books, SHOW)?;
     assert_eq!(rt; shown.as_slice(), SHOWN.as_bytes());
-    let before = replies(alloc, &mut books, SHOW_ALL)?;
-    assert_results(&rt, alloc, &mut books, "1/1", sheet, REPEATED.as_bytes())?;
-    let now = replies(alloc, &mut books, SHOW_ALL)?;
-    assert_eq!(rt; now.as_slice(), before.as_slice());
-    Ok(())
+    assert_changes_nothing(&rt, alloc, &mut books, "1/1", sheet, REPEATED)
 }
 
 #[test]
@@ -127,12 +142,7 @@ fn refusals_of_a_sheet_sent_twice(rt: HostRuntime) -> Result<(), Fail> {
     assert_eq!(rt; made.as_slice(), MORE_LOANS_REPLIES.as_bytes());
     let (sheet, told) = (CHANGING.as_bytes(), CHANGING_RESULTS.as_bytes());
     assert_results(&rt, alloc, &mut books, "1/1", sheet, told)?;
-    let before = replies(alloc, &mut books, SHOW_ALL)?;
-    let again = CHANGED_RESULTS.as_bytes();
-    assert_results(&rt, alloc, &mut books, "1/1", sheet, again)?;
-    let now = replies(alloc, &mut books, SHOW_ALL)?;
-    assert_eq!(rt; now.as_slice(), before.as_slice());
-    Ok(())
+    assert_changes_nothing(&rt, alloc, &mut books, "1/1", sheet, CHANGED_RESULTS)
 }
 
 /// Who isn't known is told F2 of each line but a bad one; whoever doesn't see the loan is told that it isn't there.
@@ -142,7 +152,6 @@ fn senders(rt: HostRuntime) -> Result<(), Fail> {
     let mut books = lent(alloc)?;
     let made = replies(alloc, &mut books, MORE_LOANS)?;
     assert_eq!(rt; made.as_slice(), MORE_LOANS_REPLIES.as_bytes());
-    let before = replies(alloc, &mut books, SHOW_ALL)?;
     for (staff, told) in [
         (
             "9/9",
@@ -160,9 +169,7 @@ R-2,0001-000009,2024-02-29,200,F4\n",
         ),
     ] {
         let sheet = b"R-1,0001-000001,2024-02-29,200\na,b\nR-2,0001-000009,2024-02-29,200\n";
-        assert_results(&rt, alloc, &mut books, staff, sheet, told.as_bytes())?;
+        assert_changes_nothing(&rt, alloc, &mut books, staff, sheet, told)?;
     }
-    let now = replies(alloc, &mut books, SHOW_ALL)?;
-    assert_eq!(rt; now.as_slice(), before.as_slice());
     Ok(())
 }
