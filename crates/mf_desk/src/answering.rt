@@ -18,24 +18,23 @@ use std::alloc::Global;
 fn decide<S: InstitutionStore>(
     alloc: Global,
     store: &mut S,
-    caller: Caller,
+    caller: &Caller,
     request: Request,
 ) -> Result<Decision, Fault>
     requires in_range { IsInRange request }
-    ensures decides { Decides S.stands S.clean S.leaves (outcome (call_of caller request)) store.old store.new result }
+    ensures decides { Decides S.stands S.clean S.leaves (outcome (call_of caller.now request)) store.old store.new result }
     ensures refusal { IfErr result (λ f. f ≢ Fault.F19) }
 {
-    let Caller { office, staff } = caller;
     if let Request::Unreadable(flaw) = &request {
         return Err(flaw.fault());
     }
-    let Some(role) = store.role(alloc, Caller { office, staff })? else {
+    let Some(role) = store.role(alloc, *caller)? else {
         return Err(Fault::F2);
     };
-    if !may_send(&request, role, office) {
+    if !may_send(&request, role, caller.office) {
         return Err(Fault::F3);
     }
-    act(alloc, store, Caller { office, staff }, request)
+    act(alloc, store, *caller, request)
 }
 
 /// Shows the reply and then makes the change, so that no memory is wanted once the change stands.
@@ -53,7 +52,7 @@ fn finish<S: InstitutionStore, T: Drop, F: FnOnce(&Reply) -> Result<T, Fault> + 
     ensures refusal { IfErr result (λ f. (f ≢ Fault.F19) ⊎ ((reply : Reply) × FnOnceReturnsAt F.FnOnce show reply (Err f))) }
 {
     laws::soundness();
-    let Decision { reply, commit } = decide(alloc, store, caller, request)?;
+    let Decision { reply, commit } = decide(alloc, store, &caller, request)?;
     let shown = show(&reply)?;
     // Here, and not at each way out below.
     drop(reply);

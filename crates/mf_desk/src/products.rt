@@ -1,9 +1,8 @@
 //! Products, which all offices share.
 
-ghost use Rattle.std.specs.Prelude.{◌≡◌, ◌⊎◌, true, false, [], ◌++◌, IfOk, IfErr, ◌≢◌};
-ghost use Rattle.mf_base.specs.declared.fault.Fault.TheVariants.{F8, F20};
-ghost use Rattle.mf_catalog.specs.Product.{charge_at, is_consistent};
-ghost use Rattle.mf_model.specs.Catalogue.{make_product, add_product, show_product, retire_product};
+ghost use Rattle.std.specs.Prelude.{◌≡◌, [], ◌++◌, IfOk, IfErr, ◌≢◌};
+ghost use Rattle.mf_base.specs.declared.fault.Fault.TheVariants.{F20};
+ghost use Rattle.mf_model.specs.Catalogue.{make_product, add_product, retire_product};
 ghost use Rattle.mf_desk.specs.Answers.{Asks, Decides, in_catalogue};
 ghost use Rattle.mf_desk.specs.Charges.{number_of, charge_named, charge_before, list_of};
 
@@ -27,9 +26,7 @@ fn find_charge<S: InstitutionStore>(
     let Some(number) = named else {
         return Ok(None);
     };
-    let Some(mut charge) = store.charge(alloc, number)? else {
-        return Err(Fault::F4);
-    };
+    let mut charge = store.charge(alloc, number)?.ok_or(Fault::F4)?;
     charge.number = number;
     Ok(Some(charge))
 }
@@ -41,10 +38,7 @@ fn push_charge(charges: &mut Vec<ChargeDef>, charge: Option<ChargeDef>) -> Resul
 {
     match charge {
         None => Ok(()),
-        Some(charge) => match charges.push(charge) {
-            Ok(()) => Ok(()),
-            Err(_) => Err(Fault::F20),
-        },
+        Some(charge) => Ok(charges.push(charge)?),
     }
 }
 
@@ -63,24 +57,6 @@ fn list_charges(
     push_charge(&mut charges, instalment)?;
     push_charge(&mut charges, overdue)?;
     Ok(charges)
-}
-
-/// Whether a product is consistent with the charges that it names; F8 where it isn't.
-fn check_named(
-    alloc: Global,
-    members: &ProductMembers,
-    disbursement: Option<ChargeDef>,
-    instalment: Option<ChargeDef>,
-    overdue: Option<ChargeDef>,
-) -> Result<(), Fault>
-    requires disbursement { number_of disbursement ≡ members.now.disbursement_charge }
-    requires instalment { number_of instalment ≡ members.now.instalment_charge }
-    requires overdue { number_of overdue ≡ members.now.overdue_charge }
-    ensures ok { IfOk result (λ u. is_consistent (charge_at (list_of disbursement instalment overdue)) members.now ≡ true) }
-    ensures err { IfErr result (λ fault. (fault ≡ F20) ⊎ ((fault ≡ F8) × (is_consistent (charge_at (list_of disbursement instalment overdue)) members.now ≡ false))) }
-{
-    let charges = list_charges(alloc, disbursement, instalment, overdue)?;
-    check_product(members, charges.as_slice())
 }
 
 /// The next product, of members that are consistent.
@@ -109,22 +85,9 @@ pub fn add_product<S: InstitutionStore>(
     let disbursement = find_charge(alloc, store, members.disbursement_charge)?;
     let instalment = find_charge(alloc, store, members.instalment_charge)?;
     let overdue = find_charge(alloc, store, members.overdue_charge)?;
-    check_named(alloc, &members, disbursement, instalment, overdue)?;
+    let charges = list_charges(alloc, disbursement, instalment, overdue)?;
+    check_product(&members, charges.as_slice())?;
     make_product(alloc, store, members)
-}
-
-pub fn show_product<S: InstitutionStore>(
-    alloc: Global,
-    store: &mut S,
-    product: u32,
-) -> Result<Decision, Fault>
-    ensures decides { Decides S.stands S.clean S.leaves (in_catalogue (show_product product)) store.old store.new result }
-    ensures refusal { IfErr result (λ f. f ≢ Fault.F19) }
-{
-    let Some(product) = store.product(alloc, product)? else {
-        return Err(Fault::F4);
-    };
-    Ok(Decision::show(Reply::ProductShown(product)))
 }
 
 pub fn retire_product<S: InstitutionStore>(
@@ -135,9 +98,7 @@ pub fn retire_product<S: InstitutionStore>(
     ensures decides { Decides S.stands S.clean S.leaves (in_catalogue (retire_product product)) store.old store.new result }
     ensures refusal { IfErr result (λ f. f ≢ Fault.F19) }
 {
-    let Some(found) = store.product(alloc, product)? else {
-        return Err(Fault::F4);
-    };
+    let found = store.product(alloc, product)?.ok_or(Fault::F4)?;
     if found.retired {
         return Err(Fault::F7);
     }

@@ -40,15 +40,11 @@ pub fn reverse<S: InstitutionStore>(
     ensures decides { (c : AnyCaller) → Decides S.stands S.clean S.leaves (loan_outcome loan (Reverse seq) c) store.old store.new result }
     ensures refusal { IfErr result (λ f. f ≢ Fault.F19) }
 {
-    let Account { office, number } = loan;
-    let account = find_account(alloc, store, Account { office, number })?;
+    let account = find_account(alloc, store, &loan)?;
     let account = reversed(alloc, account, seq)?;
-    let loan = Account { office, number };
+    let told = LoanReply::Reversed(seq);
     Ok(Decision::change(
         Commit::Reverse { loan, seq, account },
-        Reply::Loan {
-            loan: Account { office, number },
-            told: LoanReply::Reversed(seq),
-        },
+        Reply::Loan { loan, told },
     ))
 }

@@ -1,6 +1,6 @@
 use Rattle.std.proofs.Common.{◌≡◌, Err, rules}
 use Rattle.mf_desk.specs.Answers.{call_of}
-use Rattle.mf_desk.proofs.AnswerLemmas.{refusal_changes_nothing, changes_nothing, changes_made, changes_given_up}
+use Rattle.mf_desk.proofs.AnswerLemmas.{refusal_changes_nothing, changes_made, changes_given_up}
 use Rattle.mf_desk.proofs.answering.finish.Goals as goal
 
 pub returns-in_err-reply-clause-changes : goal.returns-in_err-reply-clause-changes
