@@ -2,8 +2,7 @@
 use Rattle.std.proofs.Common.{◌≡◌, ℕ, ◌-◌, Bool, true, false, cond, List, [], ◌∷◌, ◌++◌, Option, Some, None, Ok, Err, inl, inr, refl, sym, ap, ◌∙◌, subst}
 use Rattle.std.specs.Prelude.{Result, ◌⊎◌, is_some, option_map, IfSome}
 use Rattle.mf_base.specs.declared.fault.Fault.{Fault}
-use Rattle.mf_base.specs.declared.fault.Fault.TheVariants.{F4, F9, F20}
-use Rattle.mf_catalog.specs.declared.charge.ChargeDef.{ChargeDef}
+use Rattle.mf_base.specs.declared.fault.Fault.TheVariants.{F4, F20}
 use Rattle.mf_office.specs.declared.caller.Caller.{Caller}
 use Rattle.mf_office.specs.declared.account.Account.{Account}
 use Rattle.mf_office.specs.Tree.{is_at_or_below}
@@ -20,13 +19,12 @@ use Rattle.mf_model.specs.declared.loan.Statement.{Statement}
 use Rattle.mf_statement.specs.declared.lines.InstalmentLine.{InstalmentLine}
 use Rattle.mf_statement.specs.declared.lines.EntryLine.{EntryLine}
 use Rattle.mf_statement.specs.Lines.{instalments_from, entries_kept}
-use Rattle.mf_model.specs.declared.commit.Commit.{Commit}
 use Rattle.mf_model.specs.declared.commit.Commit.TheVariants.{Enter, Reverse}
 use Rattle.mf_model.specs.declared.reply.LoanReply.{LoanReply}
 use Rattle.mf_model.specs.declared.reply.LoanReply.TheVariants.{Shown, Entered, Reversed}
 use Rattle.mf_model.specs.declared.reply.LoanReply.TheVariants as told
 use Rattle.mf_model.specs.declared.reply.Reply.TheVariants as reply
-use Rattle.mf_model.specs.Institution.{Institution, Catalogue, Office, Rows, Ledger, Rows_become, charge_in, office_at, numbered}
+use Rattle.mf_model.specs.Institution.{Institution, Catalogue, Office, Rows, Ledger, Rows_become, office_at, numbered}
 use Rattle.mf_model.specs.Tree.{parent_of}
 use Rattle.mf_model.specs.Outcomes.{where_found}
 use Rattle.mf_model.specs.Accounts.{account_in, of_account, no_balances, statement}
@@ -35,7 +33,7 @@ use Rattle.mf_model.specs.Receipts.{Use, uses_from, used_before, repeated}
 use Rattle.mf_model.specs.declared.loan.ReceiptUse.{ReceiptUse}
 use Rattle.mf_model.specs.declared.request.Repayment.{Repayment}
 use Rattle.mf_model.specs.declared.request.LoanRequest.TheVariants.{Repay}
-use Rattle.mf_model.specs.Loans.{LedgerChange, entered, reversed, with_entries, unless_fault, fault_or, none_first, fee_first, enter, reverse, fee, on_loan, loan_changed, loan_entered, of_loan, in_loan, repayment, repeat_of, unless_known}
+use Rattle.mf_model.specs.Loans.{LedgerChange, entered, reversed, with_entries, unless_fault, fault_or, none_first, enter, reverse, on_loan, loan_changed, loan_entered, of_loan, in_loan, repayment, repeat_of, unless_known}
 use Rattle.mf_model.specs.Desk.{Outcome, of_office, in_office}
 use Rattle.mf_model.specs.Store.{Reads, rows_of, rows_at, ledger_at, account_of, account_at, IsHanded, IsHandedOn, OneMore, OneReversed}
 use Rattle.mf_model.proofs.Growing.{with_same_at}
@@ -188,12 +186,6 @@ entering_accepted loan first make a new today i h day accepted entries =
     ∙ ap (λ (o : Option Fault). of_office loan.office (of_loan loan (rows_at loan.office i) (unless_fault o (Entered e.seq) (entered e)))) accepted
     ∙ ap (λ (rows : Rows). Ok (reply.Loan loan (Entered e.seq), Some (Rows_become loan.office rows))) (commit_is loan a.loan (entered e) new.loan.entries i f one_more)
 
--- its account keeps the entry
-pub reversing_refused : (loan : Account) (seq : ℕ) (a : Kept) (fault : Fault) (i : Institution) → account_there loan i ≡ Ok a → reversal_refused a.loan.entries seq ≡ Some fault → on_account loan (λ k. reverse seq) i ≡ Err fault
-reversing_refused loan seq a fault i h refused =
-    account_acted loan (λ k. reverse seq) a.loan i (is_account_of loan a i h)
-    ∙ ap (λ (o : Option Fault). of_office loan.office (of_loan loan (rows_at loan.office i) (unless_fault o (Reversed seq) (reversed seq)))) refused
-
 -- its account lets the entry go
 pub reversing_accepted : (loan : Account) (seq : ℕ) (a new : Kept) (i : Institution) → account_there loan i ≡ Ok a → reversal_refused a.loan.entries seq ≡ None → new.loan.entries ≡ with_mark a.loan.entries (seq - 1) true
     → on_account loan (λ k. reverse seq) i ≡ decision_outcome (record { reply = reply.Loan loan (Reversed seq); commit = Some (Reverse loan seq new) }) i
@@ -313,10 +305,3 @@ module _ {S : Type 0} (stands : S → Institution → Type 0) (clean : S → Typ
       let entries = ap (λ (x : Running). x.entries) is in
       learned_tells (λ i. account_there loan i ≡ Ok a) (on_account loan (λ k. reverse seq)) old new _ (learns stands clean leaves (account_there loan) old new a ask) (λ i h. reversing_accepted loan seq a after i h accepted entries)
       (λ i h. let true_to = is_replayed loan a i h in handed_on loan (OneReversed seq) a after (with_mark a.loan.entries (seq - 1) true) i h is (record { allowed = accepted; marked = entries }) (kept true_to) (change true_to))
-
-  pub then_kept : (loan : Account) (seq : ℕ) (a : Kept) (fault : Fault) (old new : S) → Asks stands clean leaves (account_there loan) old new (Ok a)
-      → (fault ≡ F20) ⊎ (reversal_refused a.loan.entries seq ≡ Some fault)
-      → Decides stands clean leaves (in_ledger loan (λ k l. reverse seq (account_in k l))) old new (Err fault)
-  then_kept loan seq a fault old new ask refused =
-      learned_refuses stands clean leaves (λ i. account_there loan i ≡ Ok a) (on_account loan (λ k. reverse seq)) old new fault (learns stands clean leaves (account_there loan) old new a ask)
-      (λ i h. elim refused [ inl given_up ↦ inl given_up | inr is ↦ inr (reversing_refused loan seq a fault i h is) ])

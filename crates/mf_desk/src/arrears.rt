@@ -6,7 +6,7 @@ use mf_office::Caller;
 use std::alloc::Global;
 
 /// The lines that the report prints for a caller: one for its office and for each below it, by number. F2 where there is
-/// no such member of staff, and F20 for want of memory or a fault of the store; nothing is changed.
+/// no such member of staff, and F20 where it is out of memory or the store failed; nothing is changed.
 pub fn arrears_lines<S: InstitutionStore>(
     alloc: Global,
     store: &mut S,

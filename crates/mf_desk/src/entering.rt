@@ -32,8 +32,8 @@ pub fn find_account<S: InstitutionStore>(
     store.account(alloc, *loan)?.ok_or(Fault::F9)
 }
 
-/// The account with one entry more. The refusals are those of `LoanAccount::enter`; F20 also where the account is not by
-/// this business day, as none is whose store told both rightly.
+/// The account with one more entry. The refusals are those of `LoanAccount::enter`; F20 also where the account has a day
+/// after the business day, which no correct store returns.
 pub fn entered(
     alloc: Global,
     account: LoanAccount,
@@ -58,7 +58,7 @@ pub fn entered(
     Ok(account)
 }
 
-/// What is asked is entered as the next entry of a loan's account. F4 where the loan isn't there, F9 where it isn't disbursed.
+/// Enters what is asked as the next entry of a loan's account. F4 where the loan isn't there, F9 where it isn't disbursed.
 pub fn enter<S: InstitutionStore>(
     alloc: Global,
     store: &mut S,

@@ -83,8 +83,8 @@ fn posting(asked: Posting, staff: Caller, today: Day, account: &LoanAccount) -> 
     }
 }
 
-/// A fee by a charge that falls due on a day. None where the charge's value is outside the limits, as none is that a store
-/// told rightly.
+/// A fee by a charge that falls due on a day. None where the charge's value is outside the limits; no correct store returns
+/// such a charge.
 fn fee(
     charge: &ChargeDef,
     due: Day,
@@ -103,8 +103,8 @@ fn fee(
     })
 }
 
-/// The next entry of an account, as it is asked for. The refusals are those of a fee that comes before any entry is made;
-/// F20 where its charge's value is outside the limits.
+/// The next entry of an account, as it is asked for. Only a fee is refused here: where its due day or the account's status
+/// forbids it, and with F20 where its charge's value is outside the limits.
 pub fn make_entry(
     asked: Asked,
     staff: Caller,

@@ -12,7 +12,8 @@ use mf_model::{Application, Commit, InstitutionStore, Loan, Reply, Stage};
 use mf_office::{Account, OfficeNo};
 use std::alloc::Global;
 
-/// That a client is there; F4 where it isn't. An office's clients are numbered from 1 without gaps, so their count tells.
+/// Checks that a client is there; F4 where it isn't. An office's clients are numbered from 1 without gaps, so their count
+/// decides it.
 fn check_client<S: InstitutionStore>(
     alloc: Global,
     store: &mut S,
@@ -29,7 +30,7 @@ fn check_client<S: InstitutionStore>(
     }
 }
 
-/// A new loan.
+/// A new loan: F4 where its client or its product is missing, then why the product does not lend so, if it does not.
 pub fn submit_loan<S: InstitutionStore>(
     alloc: Global,
     store: &mut S,

@@ -27,11 +27,12 @@ fn find_charge<S: InstitutionStore>(
         return Ok(None);
     };
     let mut charge = store.charge(alloc, number)?.ok_or(Fault::F4)?;
+    // `check_product` looks charges up by number, and its safety must not rest on what a store returns.
     charge.number = number;
     Ok(Some(charge))
 }
 
-/// A charge, if there is one, after others.
+/// Adds a charge, if there is one, to the end of a list.
 fn push_charge(charges: &mut Vec<ChargeDef>, charge: Option<ChargeDef>) -> Result<(), Fault>
     ensures ok { IfOk result (λ u. charges.new.items ≡ charges.old.items ++ charge_before charge []) }
     ensures err { IfErr result (λ fault. fault ≡ F20) }
@@ -42,7 +43,7 @@ fn push_charge(charges: &mut Vec<ChargeDef>, charge: Option<ChargeDef>) -> Resul
     }
 }
 
-/// Those of three charges that there are.
+/// The charges that there are, of three.
 fn list_charges(
     alloc: Global,
     disbursement: Option<ChargeDef>,
@@ -73,7 +74,7 @@ fn make_product<S: InstitutionStore>(
     Ok(Decision::change(Commit::AddProduct { members }, Reply::ProductMade(number)))
 }
 
-/// A new product, of charges that are there.
+/// A new product: F4 where a charge that it names is missing, then F8 where it is not consistent.
 pub fn add_product<S: InstitutionStore>(
     alloc: Global,
     store: &mut S,

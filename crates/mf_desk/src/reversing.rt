@@ -17,7 +17,7 @@ use mf_model::{Commit, InstitutionStore, LoanReply, Reply};
 use mf_office::Account;
 use std::alloc::Global;
 
-/// The account where an entry counts no more. The refusals are those of `LoanAccount::reverse`.
+/// The account with an entry reversed. The refusals are those of `LoanAccount::reverse`.
 fn reversed(alloc: Global, account: LoanAccount, seq: u32) -> Result<LoanAccount, Fault>
     ensures accepted { IfOk result (λ after. reversal_refused account.loan.entries seq ≡ None) }
     ensures loan { IfOk result (λ after. after.loan ≡ record account.loan { entries = with_mark account.loan.entries (seq - 1) true }) }
@@ -30,7 +30,7 @@ fn reversed(alloc: Global, account: LoanAccount, seq: u32) -> Result<LoanAccount
     Ok(account)
 }
 
-/// An entry of a loan counts no more.
+/// Reverses an entry of a loan, so that it counts no more.
 pub fn reverse<S: InstitutionStore>(
     alloc: Global,
     store: &mut S,

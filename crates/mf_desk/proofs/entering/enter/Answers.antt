@@ -2,7 +2,6 @@ use Rattle.std.proofs.Common.{◌≡◌, ℕ, ◌∷◌, [], ◌++◌, Option, S
 use Rattle.mf_base.specs.declared.fault.Fault.{Fault}
 use Rattle.mf_office.specs.declared.caller.Caller.{Caller}
 use Rattle.mf_account.specs.declared.entry.Entry.{Entry}
-use Rattle.mf_account.specs.Change.{IsReplayed}
 use Rattle.mf_account.specs.Loan.{Loan as Running}
 use Rattle.mf_account.specs.Refusals.{refusal_of, HasForm}
 use Rattle.mf_model.specs.Loans.{fault_or}

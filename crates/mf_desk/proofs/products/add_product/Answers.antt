@@ -23,8 +23,8 @@ pub returns-in_err-check_product-clause-decides : goal.returns-in_err-check_prod
 returns-in_err-check_product-clause-decides g c =
     let s = g.S.InstitutionStore in
     let fault = c.in_err-check_product.field-0.0 in
-    let why = checked (Err fault) _ (c.in_err-check_product.ensures ∙ ap (λ (xs : List ChargeDef). cond (is_consistent (charge_at xs) c.args.members) (Ok tt) (Err F8)) (c.as_slice.ensures.value ∙ c.in_ok-charges.ensures.ok)) in
     let e : c.from_residual-in_err-check_product.result ≡ Err fault = search rules in
+    let why = checked (Err fault) _ (c.in_err-check_product.ensures ∙ ap (λ (xs : List ChargeDef). cond (is_consistent (charge_at xs) c.args.members) (Ok tt) (Err F8)) (c.as_slice.ensures.value ∙ c.in_ok-charges.ensures.ok)) in
     rw (e ∙ ap (λ (x : Fault). Err x) why.0) (then_inconsistent s.stands s.clean s.leaves c.args.members c.in_ok-disbursement.disbursement c.in_ok-instalment.instalment c.in_ok-overdue.overdue
     c.args.store.now c.find_charge.new.store c.find_charge-2.new.store c.find_charge-3.new.store
     c.in_ok-disbursement.ensures.numbered c.in_ok-instalment.ensures.numbered c.in_ok-overdue.ensures.numbered
