@@ -1,24 +1,33 @@
 -- What is decided is shown, and then made.
-use Rattle.std.proofs.Common.{◌≡◌, true, false, List, ◌∷◌, Option, Some, None, Ok, Err, sym, ap, ◌∙◌, subst}
-use Rattle.std.specs.Prelude.{Result, IfOk, IfErr, IfSome, ◌⊎◌, option_map}
+use Rattle.std.proofs.Common.{◌≡◌, ℕ, true, false, List, ◌∷◌, Option, Some, None, Ok, Err, sym, ap, ◌∙◌, subst, arith}
+use Rattle.std.specs.Prelude.{Result, IfOk, IfErr, IfSome, ◌⊎◌, ◌==◌, option_map}
+use Rattle.std.proofs.lemmas.Bool.Decides.{nat_tests}
+use Rattle.mf_office.specs.declared.caller.Caller.{Caller}
 use Rattle.mf_base.specs.declared.fault.Fault.{Fault}
 use Rattle.mf_base.specs.declared.fault.Fault.TheVariants.{F20}
 use Rattle.mf_model.specs.declared.request.Call.{Call}
+use Rattle.mf_model.specs.declared.request.Request.{Request}
 use Rattle.mf_model.specs.declared.reply.Reply.{Reply}
 use Rattle.mf_model.specs.declared.commit.Commit.{Commit}
 use Rattle.mf_desk.specs.declared.decision.Decision.{Decision}
 use Rattle.mf_model.specs.Institution.{Institution, Change, after, after_maybe}
 use Rattle.mf_model.specs.Desk.{outcome, reply_in, change_in, reply}
 use Rattle.mf_model.specs.Sound.{IsSound, IsInRange}
+use Rattle.mf_model.specs.Tree.{IsTree, view}
+use Rattle.mf_model.specs.Run.{from_office}
 use Rattle.mf_model.specs.Store.{Commits, IsAdmitted, IsHanded, change_of, left_by}
-use Rattle.mf_desk.specs.Answers.{Decides, Tells, Changes, decision_outcome}
+use Rattle.mf_desk.specs.Answers.{Decides, Tells, Changes, decision_outcome, call_of}
+
+-- what a caller is answered is read off what its office sees
+abbrev pub IsAnsweredByView : Type 0
+IsAnsweredByView = (o : ℕ) (call : Call) (i : Institution) → IsTree i.offices → from_office o call ≡ true → outcome call (view o i) ≡ outcome call i
+
+same_number : (x : ℕ) → (x == x) ≡ true
+same_number x = grind (arith, nat_tests)
 
 -- an accepted request leaves a sound institution
 abbrev pub KeepsSound : Type 0
 KeepsSound = (call : Call) (i : Institution) (change : Change) → IsSound i → IsInRange call.request → change_in (outcome call i) ≡ Some change → IsSound (after change i)
-
-no_change : (call : Call) (d : Decision) (i : Institution) → d.commit ≡ None → outcome call i ≡ decision_outcome d i → change_in (outcome call i) ≡ None
-no_change call d i e h = ap change_in h ∙ ap (option_map (λ (c : Commit). change_of c i)) e
 
 its_change : (call : Call) (d : Decision) (commit : Commit) (i : Institution) → d.commit ≡ Some commit → outcome call i ≡ decision_outcome d i → change_in (outcome call i) ≡ Some (change_of commit i)
 its_change call d commit i e h = ap change_in h ∙ ap (option_map (λ (c : Commit). change_of c i)) e
@@ -30,23 +39,6 @@ admitted call d commit i keeps sound r e change handed = record {
 }
 
 module _ {S : Type 0} (stands : S → Institution → Type 0) (clean : S → Type 0) (leaves : S → List Institution → Type 0) where
-  -- the reply is the one that was decided
-  pub tells_reply : {T : Type 0} (shows : Reply → Result T Fault → Type 0) (call : Call) (d : Decision) (old mid new : S) (t : T) → (clean new → clean mid) → Decides stands clean leaves (outcome call) old mid (Ok d) → shows d.reply (Ok t) → Tells stands clean leaves shows (reply call) old new (Ok t)
-  tells_reply shows call d old mid new t goes decides shown = record {
-    shown = λ k i s. (d.reply, ap reply_in (decides.decides (goes k) i s), shown);
-    refused = λ k i s. tt;
-  }
-
-  -- a reading changes nothing
-  pub changes_nothing : {T : Type 0} (call : Call) (d : Decision) (old new : S) (t : T) → d.commit ≡ None → Decides stands clean leaves (outcome call) old new (Ok d) → Changes stands clean leaves call old new (Ok t)
-  changes_nothing call d old new t e decides = record {
-    premise = decides.premise;
-    made = λ k i s. subst (λ (c : Option Change). stands new (after_maybe c i)) (sym (no_change call d i e (decides.decides k i s))) (decides.same k i s);
-    same = λ k i s. tt;
-    stop = λ k i is s l. subst (λ (c : Option Change). leaves new (left_by c false i is)) (sym (no_change call d i e (decides.decides k i s))) (decides.stop k is l);
-    stop_refused = λ k i is s l. tt;
-  }
-
   -- a refusal changes nothing
   pub refusal_changes_nothing : {T : Type 0} (call : Call) (result : Result Decision Fault) (old new : S) (fault : Fault) → ((store : S) (i : Institution) (is : List Institution) → leaves store is → leaves store (i ∷ is)) → Decides stands clean leaves (outcome call) old new result → Changes stands clean leaves {T = T} call old new (Err fault)
   refusal_changes_nothing call result old new fault more decides = record {
@@ -87,9 +79,13 @@ module _ {S : Type 0} (stands : S → Institution → Type 0) (clean : S → Typ
         stop_refused = λ k i is s l. subst (λ (c : Option Change). leaves new (left_by c true i is)) (sym (change (commits.premise k) i s)) (commits.stop k i is (decides.same (commits.premise k) i s) (kept (commits.premise k) i s) (decides.stop (commits.premise k) is l));
       }
 
-  -- what is told is what another function of the institution tells, where that is the same
-  pub tells_alike : {T : Type 0} (shows : Reply → Result T Fault → Type 0) (told also : Institution → Result Reply Fault) (old new : S) (result : Result T Fault) → (clean new → (i : Institution) → stands old i → also i ≡ told i) → Tells stands clean leaves shows told old new result → Tells stands clean leaves shows also old new result
-  tells_alike shows told also old new result alike tells = record {
-    shown = λ k i s. subst (λ (o : Result Reply Fault). IfOk result (λ t. (r : Reply) × (o ≡ Ok r) × shows r (Ok t))) (sym (alike k i s)) (tells.shown k i s);
-    refused = λ k i s. subst (λ (o : Result Reply Fault). IfErr result (λ fault. (fault ≡ F20) ⊎ ((o ≡ Err fault) ⊎ ((r : Reply) × (o ≡ Ok r) × shows r (Err fault))))) (sym (alike k i s)) (tells.refused k i s);
+  -- what is told of the institution is told of the caller's own view of it
+  pub tells_own_view : {T : Type 0} (shows : Reply → Result T Fault → Type 0) (c : Caller) (request : Request) (old new : S) (result : Result T Fault) → IsAnsweredByView → ((store : S) (i : Institution) → stands store i → IsSound i)
+      → Tells stands clean leaves shows (reply (call_of c request)) old new result → Tells stands clean leaves shows (λ i. reply (call_of c request) (view c.office i)) old new result
+  tells_own_view shows c request old new result by_view sound tells = record {
+    shown = λ k i s. subst (λ (o : Result Reply Fault). IfOk result (λ t. (r : Reply) × (o ≡ Ok r) × shows r (Ok t))) (sym (alike i s)) (tells.shown k i s);
+    refused = λ k i s. subst (λ (o : Result Reply Fault). IfErr result (λ fault. (fault ≡ F20) ⊎ ((o ≡ Err fault) ⊎ ((r : Reply) × (o ≡ Ok r) × shows r (Err fault))))) (sym (alike i s)) (tells.refused k i s);
   }
+    where
+      alike : (i : Institution) → stands old i → reply (call_of c request) (view c.office i) ≡ reply (call_of c request) i
+      alike i s = ap reply_in (by_view c.office (call_of c request) i (sound old i s).tree (same_number c.office))

@@ -15,7 +15,7 @@ refused_keeps (Err e) f h = refl
 refused_keeps (Ok p) f h = absurd (cc)
 
 module _ {S : Type 0} (stands : S → Institution → Type 0) (clean : S → Type 0) (leaves : S → List Institution → Type 0) where
-  -- The answer of the desk, told of a line. What shows a reply refuses it for want of memory alone.
+  -- The answer of the desk, told of a line. What shows a reply refuses it only where it is out of memory.
   pub told_of_answer : {T : Type 0} (shows : Reply → Result T Fault → Type 0) (told : Result Reply Fault → Type 0) (call : Call) (old new : S) (result : Result T Fault)
       → ((t : T) (r : Reply) → result ≡ Ok t → shows r (Ok t) → told (Ok r)) → ((f : Fault) → result ≡ Err f → told (Err f)) → ((r : Reply) (f : Fault) → shows r (Err f) → f ≡ F20)
       → Tells stands clean leaves shows (reply call) old new result → Changes stands clean leaves {T = T} call old new result → Calls stands clean leaves told call old new

@@ -1,9 +1,9 @@
 -- The charges that a product names are the same in the list of them as in the catalogue.
 use Rattle.std.proofs.Common.{◌≡◌, ℕ, Bool, true, false, cond, List, [], Option, Some, None, Ok, Err, refl, sym, ap, ◌∙◌, subst, inl, inr, arith}
-use Rattle.std.specs.Prelude.{◌==◌, ◌&&◌, ◌⊎◌, Result, is_some}
+use Rattle.std.specs.Prelude.{◌==◌, ◌&&◌, Result, is_some}
 use Rattle.std.proofs.lemmas.Bool.Decides.{nat_tests}
 use Rattle.mf_base.specs.declared.fault.Fault.{Fault}
-use Rattle.mf_base.specs.declared.fault.Fault.TheVariants.{F4, F8, F20}
+use Rattle.mf_base.specs.declared.fault.Fault.TheVariants.{F4, F8}
 use Rattle.mf_catalog.specs.declared.charge.ChargeDef.{ChargeDef}
 use Rattle.mf_catalog.specs.declared.charge.ChargeKind.{ChargeKind}
 use Rattle.mf_catalog.specs.declared.charge.ChargeKind.TheVariants.{Disbursement, Instalment, Overdue}
@@ -185,10 +185,7 @@ module _ {S : Type 0} (stands : S → Institution → Type 0) (clean : S → Typ
       (λ i h. told_there d m o p i true d_is m_is o_is h.0.0 h.0.1 h.1 e) next
 
   -- another is refused
-  pub then_inconsistent : (p : ProductMembers) (d m o : Option ChargeDef) (old one two new : S) → number_of d ≡ p.disbursement_charge → number_of m ≡ p.instalment_charge → number_of o ≡ p.overdue_charge → Asks stands clean leaves (charge_named p.disbursement_charge) old one (Ok d) → Asks stands clean leaves (charge_named p.instalment_charge) one two (Ok m) → Asks stands clean leaves (charge_named p.overdue_charge) two new (Ok o) → (fault : Fault) → (fault ≡ F20) ⊎ ((fault ≡ F8) × (is_consistent (charge_at (list_of d m o)) p ≡ false)) → Decides stands clean leaves (in_catalogue (add_product p)) old new (Err fault)
-  then_inconsistent p d m o old one two new d_is m_is o_is rd rm ro fault why =
-      learned_refuses stands clean leaves (AllRead p d m o) (in_catalogue (add_product p)) old new fault (all_read p d m o old one two new rd rm ro) (λ i h. either i h why)
-    where
-      either : (i : Institution) → AllRead p d m o i → (fault ≡ F20) ⊎ ((fault ≡ F8) × (is_consistent (charge_at (list_of d m o)) p ≡ false)) → (fault ≡ F20) ⊎ (in_catalogue (add_product p) i ≡ Err fault)
-      either i h (inl f) = inl f
-      either i h (inr w) = inr (told_there d m o p i false d_is m_is o_is h.0.0 h.0.1 h.1 w.1 ∙ ap (λ (x : Fault). Err x) (sym w.0))
+  pub then_inconsistent : (p : ProductMembers) (d m o : Option ChargeDef) (old one two new : S) → number_of d ≡ p.disbursement_charge → number_of m ≡ p.instalment_charge → number_of o ≡ p.overdue_charge → Asks stands clean leaves (charge_named p.disbursement_charge) old one (Ok d) → Asks stands clean leaves (charge_named p.instalment_charge) one two (Ok m) → Asks stands clean leaves (charge_named p.overdue_charge) two new (Ok o) → is_consistent (charge_at (list_of d m o)) p ≡ false → Decides stands clean leaves (in_catalogue (add_product p)) old new (Err F8)
+  then_inconsistent p d m o old one two new d_is m_is o_is rd rm ro e =
+      learned_refuses stands clean leaves (AllRead p d m o) (in_catalogue (add_product p)) old new F8 (all_read p d m o old one two new rd rm ro)
+      (λ i h. inr (told_there d m o p i false d_is m_is o_is h.0.0 h.0.1 h.1 e))

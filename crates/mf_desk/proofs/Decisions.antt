@@ -37,17 +37,6 @@ module _ {S : Type 0} (stands : S → Institution → Type 0) (clean : S → Typ
     stop = read.stop;
   }
 
-  -- a refusal before any reading
-  pub refuses_at_once : (told : Institution → Outcome) (store : S) (fault : Fault) → ((i : Institution) → stands store i → told i ≡ Err fault) → Decides stands clean leaves told store store (Err fault)
-  refuses_at_once told store fault leads = record {
-    premise = λ k. k;
-    same = λ k i s. s;
-    decides = λ k i s. tt;
-    refuses = λ k i s. inr (leads i s);
-    handed = λ k i s. tt;
-    stop = λ k is l. l;
-  }
-
   -- what is known of the institution after some readings
   pub record Learns (Holds : Institution → Type 0) (old new : S) : Type 0 where
     pub premise : clean new → clean old

@@ -2,8 +2,7 @@
 use Rattle.std.proofs.Common.{◌≡◌, ℕ, ◌-◌, Bool, true, false, cond, List, [], ◌∷◌, ◌++◌, Option, Some, None, Ok, Err, inl, inr, refl, sym, ap, ◌∙◌, subst}
 use Rattle.std.specs.Prelude.{Result, ◌⊎◌, is_some, option_map, IfSome}
 use Rattle.mf_base.specs.declared.fault.Fault.{Fault}
-use Rattle.mf_base.specs.declared.fault.Fault.TheVariants.{F4, F9, F20}
-use Rattle.mf_catalog.specs.declared.charge.ChargeDef.{ChargeDef}
+use Rattle.mf_base.specs.declared.fault.Fault.TheVariants.{F4, F20}
 use Rattle.mf_office.specs.declared.caller.Caller.{Caller}
 use Rattle.mf_office.specs.declared.account.Account.{Account}
 use Rattle.mf_office.specs.Tree.{is_at_or_below}
@@ -16,12 +15,16 @@ use Rattle.mf_account.specs.Change.{Account as Kept, IsChange, IsReplayed, repla
 use Rattle.mf_model.specs.declared.request.LoanRequest.{LoanRequest}
 use Rattle.mf_model.specs.declared.request.Request.TheVariants as request
 use Rattle.mf_model.specs.declared.loan.Loan.{Loan}
-use Rattle.mf_model.specs.declared.commit.Commit.{Commit}
+use Rattle.mf_model.specs.declared.loan.Statement.{Statement}
+use Rattle.mf_statement.specs.declared.lines.InstalmentLine.{InstalmentLine}
+use Rattle.mf_statement.specs.declared.lines.EntryLine.{EntryLine}
+use Rattle.mf_statement.specs.Lines.{instalments_from, entries_kept}
 use Rattle.mf_model.specs.declared.commit.Commit.TheVariants.{Enter, Reverse}
 use Rattle.mf_model.specs.declared.reply.LoanReply.{LoanReply}
-use Rattle.mf_model.specs.declared.reply.LoanReply.TheVariants.{Entered, Reversed}
+use Rattle.mf_model.specs.declared.reply.LoanReply.TheVariants.{Shown, Entered, Reversed}
+use Rattle.mf_model.specs.declared.reply.LoanReply.TheVariants as told
 use Rattle.mf_model.specs.declared.reply.Reply.TheVariants as reply
-use Rattle.mf_model.specs.Institution.{Institution, Catalogue, Office, Rows, Ledger, Rows_become, charge_in, office_at, numbered}
+use Rattle.mf_model.specs.Institution.{Institution, Catalogue, Office, Rows, Ledger, Rows_become, office_at, numbered}
 use Rattle.mf_model.specs.Tree.{parent_of}
 use Rattle.mf_model.specs.Outcomes.{where_found}
 use Rattle.mf_model.specs.Accounts.{account_in, of_account, no_balances, statement}
@@ -29,15 +32,17 @@ use Rattle.mf_model.specs.Stages.{stage_number}
 use Rattle.mf_model.specs.Receipts.{Use, uses_from, used_before, repeated}
 use Rattle.mf_model.specs.declared.loan.ReceiptUse.{ReceiptUse}
 use Rattle.mf_model.specs.declared.request.Repayment.{Repayment}
-use Rattle.mf_model.specs.declared.request.LoanRequest.TheVariants.{Repay, ChargeFee}
-use Rattle.mf_model.specs.Loans.{LedgerChange, entered, reversed, with_entries, unless_fault, fault_or, none_first, fee_first, enter, reverse, fee, on_loan, loan_changed, loan_entered, of_loan, in_loan, repayment, repeat_of, unless_known}
+use Rattle.mf_model.specs.declared.request.LoanRequest.TheVariants.{Repay}
+use Rattle.mf_model.specs.Loans.{LedgerChange, entered, reversed, with_entries, unless_fault, fault_or, none_first, enter, reverse, on_loan, loan_changed, loan_entered, of_loan, in_loan, repayment, repeat_of, unless_known}
 use Rattle.mf_model.specs.Desk.{Outcome, of_office, in_office}
 use Rattle.mf_model.specs.Store.{Reads, rows_of, rows_at, ledger_at, account_of, account_at, IsHanded, IsHandedOn, OneMore, OneReversed}
 use Rattle.mf_model.proofs.Growing.{with_same_at}
 use Rattle.mf_model.proofs.AccountLemmas.{account_is}
 use Rattle.mf_desk.specs.declared.decision.Decision.{Decision}
 use Rattle.mf_desk.specs.Answers.{Asks, Decides, decision_outcome, request_outcome, sight, if_there, if_disbursed, loan_there, account_there, use_named, loan_outcome, in_ledger}
-use Rattle.mf_desk.specs.Statements.{of_kept, statement_by}
+use Rattle.mf_desk.specs.Statements.{of_kept, statement_by, asked_for, told_by}
+use Rattle.mf_desk.specs.declared.statements.Part.{Part}
+use Rattle.mf_desk.specs.declared.statements.Part.TheVariants.{Sums, Instalments, Entries}
 use Rattle.mf_desk.proofs.Decisions.{Learns, learns, learns_both, learned_refuses}
 
 abbrev where_seen : Option Office → Result (Unit {0}) Fault
@@ -88,6 +93,27 @@ statement_is k l = go (account_in k l)
     go None = refl
     go (Some a) = refl
 
+-- a part of a loan is shown, and nothing becomes of it
+abbrev pub shown : Part → Catalogue → Ledger → Result (LoanReply × Option LedgerChange) Fault
+shown part k l = Ok (told_by part l.loan (option_map replayed (account_in k l)), None)
+
+is_shown : (part : Part) (c : Caller) (k : Catalogue) (rows : Rows) (n : ℕ) (l : Ledger) → on_loan (asked_for part) c k rows n l ≡ shown part k l
+is_shown Sums c k rows n l = ap (λ (x : Statement). Ok (Shown x, None)) (statement_is k l)
+is_shown Instalments c k rows n l = ap (λ (x : List InstalmentLine). Ok (told.Instalments x, None)) (told_of_kept [] (λ a. instalments_from 1 a.state.rows) (account_in k l))
+is_shown Entries c k rows n l = ap (λ (x : List EntryLine). Ok (told.Entries x, None)) (told_of_kept [] entries_kept (account_in k l))
+
+part_shown : (part : Part) (c : Caller) (loan : Account) (i : Institution) → loan_outcome loan (asked_for part) c i ≡ in_ledger loan (shown part) i
+part_shown part c loan i = at (numbered (rows_at loan.office i).loans loan.number)
+  where
+    at : (o : Option Ledger) → of_office loan.office (where_found o (λ l. of_loan loan (rows_at loan.office i) (on_loan (asked_for part) c i.catalogue (rows_at loan.office i) loan.number l)))
+        ≡ of_office loan.office (where_found o (λ l. of_loan loan (rows_at loan.office i) (shown part i.catalogue l)))
+    at None = refl
+    at (Some l) = ap (λ x. of_office loan.office (of_loan loan (rows_at loan.office i) x)) (is_shown part c i.catalogue (rows_at loan.office i) loan.number l)
+
+-- what is told of a loan, and no change
+abbrev pub tells : Account → LoanReply → Decision
+tells loan told = record { reply = reply.Loan loan told; commit = None }
+
 -- a disbursed loan that was found, with its account
 pub record IsAccountOf (loan : Account) (a : Running) (i : Institution) : Type 0 where
   pub ledger : Ledger
@@ -134,18 +160,6 @@ account_acted loan act a i f =
     ap (λ (o : Option Ledger). of_office loan.office (where_found o (λ l. of_loan loan (rows_at loan.office i) (act i.catalogue (account_in i.catalogue l))))) f.ledger_is
     ∙ ap (λ (o : Option Running). of_office loan.office (of_loan loan (rows_at loan.office i) (act i.catalogue o))) f.account_is
 
--- the loan isn't there, or not disbursed
-pub account_missing : (loan : Account) (act : Catalogue → Option Running → Result (LoanReply × Option LedgerChange) Fault) (fault : Fault) (i : Institution) → act i.catalogue None ≡ Err F9 → account_there loan i ≡ Err fault → on_account loan act i ≡ Err fault
-account_missing loan act fault i undisbursed h = at (ledger_at loan i) h
-  where
-    running : (o : Option Running) → if_disbursed (option_map replayed o) ≡ Err fault → of_office loan.office (of_loan loan (rows_at loan.office i) (act i.catalogue o)) ≡ Err fault
-    running None h = ap (λ r. of_office loan.office (of_loan loan (rows_at loan.office i) r)) undisbursed ∙ (let same : F9 ≡ fault = cc in ap Err same)
-    running (Some a) h = absurd (cc)
-
-    at : (o : Option Ledger) → where_found (option_map (λ (l : Ledger). l.loan) o) (λ found. if_disbursed (option_map replayed (account_of i.catalogue o))) ≡ Err fault → of_office loan.office (where_found o (λ l. of_loan loan (rows_at loan.office i) (act i.catalogue (account_in i.catalogue l)))) ≡ Err fault
-    at None h = cc
-    at (Some l) h = running (account_in i.catalogue l) h
-
 -- its account refuses the entry
 pub entering_refused : (loan : Account) (first : Running → Option Fault) (make : ℕ → Running → Entry) (a : Kept) (today : ℕ) (fault : Fault) (i : Institution) → account_there loan i ≡ Ok a → today ≡ i.catalogue.day → refuses first make a.loan today ≡ Some fault → entering loan first make i ≡ Err fault
 entering_refused loan first make a today fault i h day refused =
@@ -172,12 +186,6 @@ entering_accepted loan first make a new today i h day accepted entries =
     ∙ ap (λ (o : Option Fault). of_office loan.office (of_loan loan (rows_at loan.office i) (unless_fault o (Entered e.seq) (entered e)))) accepted
     ∙ ap (λ (rows : Rows). Ok (reply.Loan loan (Entered e.seq), Some (Rows_become loan.office rows))) (commit_is loan a.loan (entered e) new.loan.entries i f one_more)
 
--- its account keeps the entry
-pub reversing_refused : (loan : Account) (seq : ℕ) (a : Kept) (fault : Fault) (i : Institution) → account_there loan i ≡ Ok a → reversal_refused a.loan.entries seq ≡ Some fault → on_account loan (λ k. reverse seq) i ≡ Err fault
-reversing_refused loan seq a fault i h refused =
-    account_acted loan (λ k. reverse seq) a.loan i (is_account_of loan a i h)
-    ∙ ap (λ (o : Option Fault). of_office loan.office (of_loan loan (rows_at loan.office i) (unless_fault o (Reversed seq) (reversed seq)))) refused
-
 -- its account lets the entry go
 pub reversing_accepted : (loan : Account) (seq : ℕ) (a new : Kept) (i : Institution) → account_there loan i ≡ Ok a → reversal_refused a.loan.entries seq ≡ None → new.loan.entries ≡ with_mark a.loan.entries (seq - 1) true
     → on_account loan (λ k. reverse seq) i ≡ decision_outcome (record { reply = reply.Loan loan (Reversed seq); commit = Some (Reverse loan seq new) }) i
@@ -200,23 +208,6 @@ handed_on loan becomes a new entries i h is became kept change =
       kept = kept;
       change = change;
     }
-
--- a fee by a charge that isn't there, whatever the loan
-pub fee_missing : (c : Caller) (loan : Account) (n due : ℕ) (i : Institution) → None ≡ charge_in i.catalogue n → loan_outcome loan (ChargeFee n due) c i ≡ Err F4
-fee_missing c loan n due i none = at (numbered (rows_at loan.office i).loans loan.number)
-  where
-    at : (o : Option Ledger) → of_office loan.office (where_found o (λ l. of_loan loan (rows_at loan.office i) (on_loan (ChargeFee n due) c i.catalogue (rows_at loan.office i) loan.number l))) ≡ Err F4
-    at None = refl
-    at (Some l) = ap (λ (d : Option ChargeDef). of_office loan.office (of_loan loan (rows_at loan.office i) (where_found d (λ e. enter (fee_first due) (fee e due c) i.catalogue (account_in i.catalogue l))))) (sym none)
-
--- a fee by one that is
-pub fee_is : (c : Caller) (loan : Account) (n due : ℕ) (charge : ChargeDef) (i : Institution) → Some charge ≡ charge_in i.catalogue n → loan_outcome loan (ChargeFee n due) c i ≡ in_ledger loan (λ k l. enter (fee_first due) (fee charge due c) k (account_in k l)) i
-fee_is c loan n due charge i found = at (numbered (rows_at loan.office i).loans loan.number)
-  where
-    at : (o : Option Ledger) → of_office loan.office (where_found o (λ l. of_loan loan (rows_at loan.office i) (on_loan (ChargeFee n due) c i.catalogue (rows_at loan.office i) loan.number l)))
-        ≡ of_office loan.office (where_found o (λ l. of_loan loan (rows_at loan.office i) (enter (fee_first due) (fee charge due c) i.catalogue (account_in i.catalogue l))))
-    at None = refl
-    at (Some l) = ap (λ (d : Option ChargeDef). of_office loan.office (of_loan loan (rows_at loan.office i) (where_found d (λ e. enter (fee_first due) (fee e due c) i.catalogue (account_in i.catalogue l))))) (sym found)
 
 -- a repayment whose receipt is known, or not
 abbrev pub when_used : ℕ → Repayment → Option ReceiptUse → Result (LoanReply × Option LedgerChange) Fault → Result (LoanReply × Option LedgerChange) Fault
@@ -267,16 +258,20 @@ module _ {S : Type 0} (stands : S → Institution → Type 0) (clean : S → Typ
     stop = l.stop;
   }
 
-  -- what is told of a loan that was found, with its account
-  pub told_of_found : (loan : Account) (found : Loan) (r : Option Kept) (act : Catalogue → Ledger → Result (LoanReply × Option LedgerChange) Fault) (old mid new : S) (d : Decision) → Asks stands clean leaves (loan_there loan) old mid (Ok found) → Reads stands clean leaves (account_at loan) mid new (Ok r)
-      → ((i : Institution) (l : Ledger) → l.loan ≡ found → r ≡ option_map replayed (account_in i.catalogue l) → of_office loan.office (of_loan loan (rows_at loan.office i) (act i.catalogue l)) ≡ decision_outcome d i)
-      → d.commit ≡ None → Decides stands clean leaves (in_ledger loan act) old new (Ok d)
-  told_of_found loan found r act old mid new d ask read leads shown =
-      learned_tells (λ i. (loan_there loan i ≡ Ok found) × (r ≡ account_at loan i)) (in_ledger loan act) old new d
+  -- a part of a loan that was found, with its account
+  pub told_of_found : (loan : Account) (part : Part) (c : Caller) (found : Loan) (r : Option Kept) (old mid new : S) (d : Decision) → Asks stands clean leaves (loan_there loan) old mid (Ok found) → Reads stands clean leaves (account_at loan) mid new (Ok r)
+      → d ≡ tells loan (told_by part found r) → Decides stands clean leaves (loan_outcome loan (asked_for part) c) old new (Ok d)
+  told_of_found loan part c found r old mid new d ask read is =
+      learned_tells (λ i. (loan_there loan i ≡ Ok found) × (r ≡ account_at loan i)) (loan_outcome loan (asked_for part) c) old new d
       (learns_both stands clean leaves (λ i. loan_there loan i ≡ Ok found) (λ i. r ≡ account_at loan i) old mid new
       (learns stands clean leaves (loan_there loan) old mid found ask) (learns_value (account_at loan) mid new r read))
-      (λ i h. let f = is_found loan found i h.0 in in_found loan found act i f ∙ leads i f.ledger f.loan_is (account_found loan found r i f h.1))
-      (λ i h. subst (λ (o : Option Commit). IfSome o (λ c. IsHanded c i)) (sym shown) tt)
+      (λ i h.
+      let f = is_found loan found i h.0 in
+      part_shown part c loan i ∙ in_found loan found (shown part) i f
+      ∙ ap (λ (x : Loan). decision_outcome (tells loan (told_by part x (option_map replayed (account_in i.catalogue f.ledger)))) i) f.loan_is
+      ∙ ap (λ (o : Option Kept). decision_outcome (tells loan (told_by part found o)) i) (sym (account_found loan found r i f h.1))
+      ∙ ap (λ (x : Decision). decision_outcome x i) (sym is))
+      (λ i h. subst (λ (x : Decision). IfSome x.commit (λ c. IsHanded c i)) (sym is) tt)
 
   -- what is entered into the account of a loan
   abbrev Known : Account → Kept → ℕ → Institution → Type 0
@@ -310,10 +305,3 @@ module _ {S : Type 0} (stands : S → Institution → Type 0) (clean : S → Typ
       let entries = ap (λ (x : Running). x.entries) is in
       learned_tells (λ i. account_there loan i ≡ Ok a) (on_account loan (λ k. reverse seq)) old new _ (learns stands clean leaves (account_there loan) old new a ask) (λ i h. reversing_accepted loan seq a after i h accepted entries)
       (λ i h. let true_to = is_replayed loan a i h in handed_on loan (OneReversed seq) a after (with_mark a.loan.entries (seq - 1) true) i h is (record { allowed = accepted; marked = entries }) (kept true_to) (change true_to))
-
-  pub then_kept : (loan : Account) (seq : ℕ) (a : Kept) (fault : Fault) (old new : S) → Asks stands clean leaves (account_there loan) old new (Ok a)
-      → (fault ≡ F20) ⊎ (reversal_refused a.loan.entries seq ≡ Some fault)
-      → Decides stands clean leaves (in_ledger loan (λ k l. reverse seq (account_in k l))) old new (Err fault)
-  then_kept loan seq a fault old new ask refused =
-      learned_refuses stands clean leaves (λ i. account_there loan i ≡ Ok a) (on_account loan (λ k. reverse seq)) old new fault (learns stands clean leaves (account_there loan) old new a ask)
-      (λ i h. elim refused [ inl given_up ↦ inl given_up | inr is ↦ inr (reversing_refused loan seq a fault i h is) ])

@@ -1,4 +1,5 @@
 pub mod Answers
 pub mod Charges
+pub mod Entries
 pub mod Statements
 pub mod Runs

@@ -18,58 +18,28 @@ use std::alloc::Global;
 fn decide<S: InstitutionStore>(
     alloc: Global,
     store: &mut S,
-    caller: Caller,
+    caller: &Caller,
     request: Request,
 ) -> Result<Decision, Fault>
     requires in_range { IsInRange request }
-    ensures decides { Decides S.stands S.clean S.leaves (outcome (call_of caller request)) store.old store.new result }
+    ensures decides { Decides S.stands S.clean S.leaves (outcome (call_of caller.now request)) store.old store.new result }
     ensures refusal { IfErr result (λ f. f ≢ Fault.F19) }
 {
-    let Caller { office, staff } = caller;
     if let Request::Unreadable(flaw) = &request {
         return Err(flaw.fault());
     }
-    let Some(role) = store.role(alloc, Caller { office, staff })? else {
+    let Some(role) = store.role(alloc, *caller)? else {
         return Err(Fault::F2);
     };
-    if !may_send(&request, role, office) {
+    if !may_send(&request, role, caller.office) {
         return Err(Fault::F3);
     }
-    act(alloc, store, Caller { office, staff }, request)
+    act(alloc, store, *caller, request)
 }
 
-/// Shows the reply and then makes the change, so that no memory is wanted once the change stands.
-fn finish<S: InstitutionStore, T: Drop, F: FnOnce(&Reply) -> Result<T, Fault> + Drop>(
-    alloc: Global,
-    store: &mut S,
-    caller: Caller,
-    request: Request,
-    show: F,
-) -> Result<T, Fault>
-    requires show { F.IsAlwaysCallable show }
-    requires in_range { IsInRange request }
-    ensures told { Tells S.stands S.clean S.leaves (FnOnceReturnsAt F.FnOnce show) (reply (call_of caller request)) store.old store.new result }
-    ensures changes { Changes S.stands S.clean S.leaves (call_of caller request) store.old store.new result }
-    ensures refusal { IfErr result (λ f. (f ≢ Fault.F19) ⊎ ((reply : Reply) × FnOnceReturnsAt F.FnOnce show reply (Err f))) }
-{
-    laws::soundness();
-    let Decision { reply, commit } = decide(alloc, store, caller, request)?;
-    let shown = show(&reply)?;
-    // Here, and not at each way out below.
-    drop(reply);
-    match commit {
-        None => Ok(shown),
-        Some(commit) => {
-            store.commit(alloc, commit)?;
-            Ok(shown)
-        }
-    }
-}
-
-/// Answers a request. What `show` makes of the reply is the answer, and it is made before the change, so that no
-/// memory is wanted once the change stands. At Err nothing is changed: it is the refusal, or what `show` refused, or
-/// F20 for want of memory or a fault of the store. It is F19, which tells of a file that is opened, only where `show`
-/// refused so.
+/// Answers a request. What `show` makes of the reply is the answer. It is made before the change, so that no allocation
+/// can fail once the change stands. At Err nothing is changed: it is the refusal, or what `show` refused, or F20 where it
+/// is out of memory or the store failed. It is F19, which tells of a file that is opened, only where `show` refused so.
 ///
 /// What is answered is also what the caller would be answered by an institution that has only what the caller's
 /// office sees.
@@ -88,5 +58,16 @@ pub fn answer<S: InstitutionStore, T: Drop, F: FnOnce(&Reply) -> Result<T, Fault
     ensures refusal { IfErr result (λ f. (f ≢ Fault.F19) ⊎ ((reply : Reply) × FnOnceReturnsAt F.FnOnce show reply (Err f))) }
 {
     laws::answered_by_view();
-    finish(alloc, store, caller, request, show)
+    laws::soundness();
+    let Decision { reply, commit } = decide(alloc, store, &caller, request)?;
+    let shown = show(&reply)?;
+    // Dropped here, so that this is proved once and not at each return below.
+    drop(reply);
+    match commit {
+        None => Ok(shown),
+        Some(commit) => {
+            store.commit(alloc, commit)?;
+            Ok(shown)
+        }
+    }
 }

@@ -1,12 +1,12 @@
 //! The catalogue, which all offices share: the business day and charges.
 
 ghost use Rattle.std.specs.Prelude.{◌≢◌, IfErr};
-ghost use Rattle.mf_model.specs.Catalogue.{show_day, set_day, add_charge, show_charge, on_catalogue};
+ghost use Rattle.mf_model.specs.Catalogue.{set_day, add_charge, on_catalogue};
 ghost use Rattle.mf_desk.specs.Answers.{Decides, in_catalogue};
 
 use crate::decision::Decision;
 use crate::numbers::next_in_catalogue;
-use crate::products::{add_product, retire_product, show_product};
+use crate::products::{add_product, retire_product};
 use mf_base::{Day, Fault};
 use mf_catalog::{Calc, ChargeKind};
 use mf_model::{CatalogueRequest, Commit, InstitutionStore, Reply};
@@ -23,7 +23,10 @@ pub fn on_catalogue<S: InstitutionStore>(
     ensures refusal { IfErr result (λ f. f ≢ Fault.F19) }
 {
     match asked {
-        CatalogueRequest::ShowDay => show_day(alloc, store),
+        CatalogueRequest::ShowDay => {
+            let day = store.business_day(alloc)?;
+            Ok(Decision::show(Reply::DayShown(day)))
+        }
         CatalogueRequest::SetDay { day } => set_day(alloc, store, day),
         CatalogueRequest::AddCharge {
             name,
@@ -31,19 +34,17 @@ pub fn on_catalogue<S: InstitutionStore>(
             calc,
             value,
         } => add_charge(alloc, store, name, kind, calc, value),
-        CatalogueRequest::ShowCharge { charge } => show_charge(alloc, store, charge),
+        CatalogueRequest::ShowCharge { charge } => {
+            let charge = store.charge(alloc, charge)?.ok_or(Fault::F4)?;
+            Ok(Decision::show(Reply::ChargeShown(charge)))
+        }
         CatalogueRequest::AddProduct { members } => add_product(alloc, store, members),
-        CatalogueRequest::ShowProduct { product } => show_product(alloc, store, product),
+        CatalogueRequest::ShowProduct { product } => {
+            let product = store.product(alloc, product)?.ok_or(Fault::F4)?;
+            Ok(Decision::show(Reply::ProductShown(product)))
+        }
         CatalogueRequest::RetireProduct { product } => retire_product(alloc, store, product),
     }
-}
-
-fn show_day<S: InstitutionStore>(alloc: Global, store: &mut S) -> Result<Decision, Fault>
-    ensures decides { Decides S.stands S.clean S.leaves (in_catalogue show_day) store.old store.new result }
-    ensures refusal { IfErr result (λ f. f ≢ Fault.F19) }
-{
-    let day = store.business_day(alloc)?;
-    Ok(Decision::show(Reply::DayShown(day)))
 }
 
 fn set_day<S: InstitutionStore>(alloc: Global, store: &mut S, day: Day) -> Result<Decision, Fault>
@@ -78,18 +79,4 @@ fn add_charge<S: InstitutionStore>(
         },
         Reply::ChargeMade(number),
     ))
-}
-
-fn show_charge<S: InstitutionStore>(
-    alloc: Global,
-    store: &mut S,
-    charge: u32,
-) -> Result<Decision, Fault>
-    ensures decides { Decides S.stands S.clean S.leaves (in_catalogue (show_charge charge)) store.old store.new result }
-    ensures refusal { IfErr result (λ f. f ≢ Fault.F19) }
-{
-    let Some(charge) = store.charge(alloc, charge)? else {
-        return Err(Fault::F4);
-    };
-    Ok(Decision::show(Reply::ChargeShown(charge)))
 }

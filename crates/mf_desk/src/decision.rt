@@ -1,6 +1,8 @@
 ghost use Rattle.std.specs.Prelude.{◌≡◌, Some, None};
+ghost use Rattle.mf_model.specs.declared.reply.Reply.TheVariants as reply;
 
-use mf_model::{Commit, Reply};
+use mf_model::{Commit, LoanReply, Reply};
+use mf_office::Account;
 
 /// What is decided of a request before anything is changed: the reply, and the change that it tells, if it makes one.
 #[derive(Drop)]
@@ -18,6 +20,13 @@ impl Decision {
             reply,
             commit: None,
         }
+    }
+
+    /// What is told of a loan, and no change.
+    pub fn tell(loan: Account, told: LoanReply) -> Decision
+        ensures { result ≡ record { reply = reply.Loan loan told; commit = None } }
+    {
+        Decision::show(Reply::Loan { loan, told })
     }
 
     /// A change, and the reply that tells it.

@@ -1,8 +1,7 @@
-//! How loans are submitted in an office, and how they are listed.
+//! How loans are submitted in an office.
 
 ghost use Rattle.std.specs.Prelude.{◌≢◌, IfErr};
-ghost use Rattle.mf_model.specs.Institution.{product_in};
-ghost use Rattle.mf_model.specs.Loans.{make_loan, lend, submit, list_loans};
+ghost use Rattle.mf_model.specs.Loans.{submit};
 ghost use Rattle.mf_desk.specs.Answers.{Asks, Decides, in_rows, client_there};
 
 use crate::decision::Decision;
@@ -13,49 +12,8 @@ use mf_model::{Application, Commit, InstitutionStore, Loan, Reply, Stage};
 use mf_office::{Account, OfficeNo};
 use std::alloc::Global;
 
-/// A new loan of a client that is there, of a product that lends so.
-fn make_loan<S: InstitutionStore>(
-    alloc: Global,
-    store: &mut S,
-    office: OfficeNo,
-    asked: &Application,
-) -> Result<Decision, Fault>
-    ensures decides { Decides S.stands S.clean S.leaves (in_rows office (λ k rows. make_loan office asked.now rows)) store.old store.new result }
-    ensures refusal { IfErr result (λ f. f ≢ Fault.F19) }
-{
-    let counts = store.counts(alloc, office)?;
-    let number = next_account(counts.loans)?;
-    let loan = Loan {
-        client: asked.client,
-        product: asked.product,
-        principal: asked.principal,
-        periods: asked.periods,
-        stage: Stage::Submitted,
-    };
-    Ok(Decision::change(
-        Commit::AddLoan { office, loan },
-        Reply::LoanMade(Account { office, number }),
-    ))
-}
-
-/// A new loan of a client that is there.
-fn lend<S: InstitutionStore>(
-    alloc: Global,
-    store: &mut S,
-    office: OfficeNo,
-    asked: &Application,
-) -> Result<Decision, Fault>
-    ensures decides { Decides S.stands S.clean S.leaves (in_rows office (λ k rows. lend office asked.now (product_in k asked.now.product) rows)) store.old store.new result }
-    ensures refusal { IfErr result (λ f. f ≢ Fault.F19) }
-{
-    let Some(product) = store.product(alloc, asked.product)? else {
-        return Err(Fault::F4);
-    };
-    check_loan(&product, asked.principal, asked.periods)?;
-    make_loan(alloc, store, office, asked)
-}
-
-/// That a client is there; F4 where it isn't. An office's clients are numbered from 1 without gaps, so their count tells.
+/// Checks that a client is there; F4 where it isn't. An office's clients are numbered from 1 without gaps, so their count
+/// decides it.
 fn check_client<S: InstitutionStore>(
     alloc: Global,
     store: &mut S,
@@ -72,7 +30,7 @@ fn check_client<S: InstitutionStore>(
     }
 }
 
-/// A new loan.
+/// A new loan: F4 where its client or its product is missing, then why the product does not lend so, if it does not.
 pub fn submit_loan<S: InstitutionStore>(
     alloc: Global,
     store: &mut S,
@@ -84,19 +42,19 @@ pub fn submit_loan<S: InstitutionStore>(
 {
     let number = asked.client;
     check_client(alloc, store, Account { office, number })?;
-    lend(alloc, store, office, asked)
-}
-
-/// The first 100 loans whose number is above one.
-pub fn list_loans<S: InstitutionStore>(
-    alloc: Global,
-    store: &mut S,
-    office: OfficeNo,
-    after: u32,
-) -> Result<Decision, Fault>
-    ensures decides { Decides S.stands S.clean S.leaves (in_rows office (λ k rows. list_loans office after k rows)) store.old store.new result }
-    ensures refusal { IfErr result (λ f. f ≢ Fault.F19) }
-{
-    let loans = store.loans(alloc, office, after)?;
-    Ok(Decision::show(Reply::LoansShown(loans)))
+    let product = store.product(alloc, asked.product)?.ok_or(Fault::F4)?;
+    check_loan(&product, asked.principal, asked.periods)?;
+    let counts = store.counts(alloc, office)?;
+    let number = next_account(counts.loans)?;
+    let loan = Loan {
+        client: asked.client,
+        product: asked.product,
+        principal: asked.principal,
+        periods: asked.periods,
+        stage: Stage::Submitted,
+    };
+    Ok(Decision::change(
+        Commit::AddLoan { office, loan },
+        Reply::LoanMade(Account { office, number }),
+    ))
 }

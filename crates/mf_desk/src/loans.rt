@@ -3,17 +3,16 @@
 ghost use Rattle.std.specs.Prelude.{◌≡◌, ◌≢◌, IfErr};
 ghost use Rattle.mf_office.specs.declared.caller.Caller.{Caller as AnyCaller};
 ghost use Rattle.mf_model.specs.declared.request.LoanRequest.TheVariants.{Take};
-ghost use Rattle.mf_model.specs.declared.request.Request.TheVariants as request;
 ghost use Rattle.mf_model.specs.Sound.{IsLoanInRange};
-ghost use Rattle.mf_desk.specs.Answers.{Asks, Decides, request_outcome, loan_there, loan_outcome};
+ghost use Rattle.mf_desk.specs.Answers.{Asks, Decides, loan_there, loan_outcome};
 
 use crate::decision::Decision;
-use crate::entering::repay;
-use crate::posting::{charge_fee, post};
+use crate::entering::{charge_fee, enter};
+use crate::entries::Asked;
+use crate::repaying::repay;
 use crate::reversing::reverse;
-use crate::sight::check_sight;
 use crate::stages::{next_stage, status_number};
-use crate::statements::{show_entries, show_instalments, show_loan};
+use crate::statements::{Part, show_part};
 use mf_base::Fault;
 use mf_model::{Commit, InstitutionStore, Loan, LoanReply, LoanRequest, LoanStep, Reply};
 use mf_office::{Account, Caller};
@@ -23,15 +22,12 @@ use std::alloc::Global;
 pub fn find_loan<S: InstitutionStore>(
     alloc: Global,
     store: &mut S,
-    loan: Account,
+    loan: &Account,
 ) -> Result<Loan, Fault>
-    ensures asks { Asks S.stands S.clean S.leaves (loan_there loan) store.old store.new result }
+    ensures asks { Asks S.stands S.clean S.leaves (loan_there loan.now) store.old store.new result }
     ensures refusal { IfErr result (λ f. f ≢ Fault.F19) }
 {
-    match store.loan(alloc, loan)? {
-        Some(found) => Ok(found),
-        None => Err(Fault::F4),
-    }
+    store.loan(alloc, *loan)?.ok_or(Fault::F4)
 }
 
 /// A step of a loan on the business day.
@@ -44,23 +40,15 @@ fn take_step<S: InstitutionStore>(
     ensures decides { (c : AnyCaller) → Decides S.stands S.clean S.leaves (loan_outcome loan (Take step) c) store.old store.new result }
     ensures refusal { IfErr result (λ f. f ≢ Fault.F19) }
 {
-    let Account { office, number } = loan;
-    let found = find_loan(alloc, store, Account { office, number })?;
+    let found = find_loan(alloc, store, &loan)?;
     let today = store.business_day(alloc)?;
     let stage = next_stage(&step, today, &found.stage)?;
     let told = LoanReply::Status(status_number(&stage));
-    let loan = Account { office, number };
-    Ok(Decision::change(
-        Commit::SetStage { loan, stage },
-        Reply::Loan {
-            loan: Account { office, number },
-            told,
-        },
-    ))
+    Ok(Decision::change(Commit::SetStage { loan, stage }, Reply::Loan { loan, told }))
 }
 
 /// Decides a request on one loan of an office that the caller sees.
-fn act_on_loan<S: InstitutionStore>(
+pub fn on_loan<S: InstitutionStore>(
     alloc: Global,
     store: &mut S,
     caller: Caller,
@@ -72,32 +60,15 @@ fn act_on_loan<S: InstitutionStore>(
     ensures refusal { IfErr result (λ f. f ≢ Fault.F19) }
 {
     match asked {
-        LoanRequest::Show => show_loan(alloc, store, loan),
-        LoanRequest::ShowInstalments => show_instalments(alloc, store, loan),
-        LoanRequest::ShowEntries => show_entries(alloc, store, loan),
+        LoanRequest::Show => show_part(alloc, store, loan, Part::Sums),
+        LoanRequest::ShowInstalments => show_part(alloc, store, loan, Part::Instalments),
+        LoanRequest::ShowEntries => show_part(alloc, store, loan, Part::Entries),
         LoanRequest::Take(step) => take_step(alloc, store, loan, step),
         LoanRequest::Repay(repayment) => repay(alloc, store, caller, loan, repayment),
         LoanRequest::ChargeFee { charge, due } => {
             charge_fee(alloc, store, caller, loan, charge, due)
         }
-        LoanRequest::Post(posting) => post(alloc, store, caller, loan, posting),
+        LoanRequest::Post(posting) => { enter(alloc, store, caller, loan, Asked::Posting(posting)) }
         LoanRequest::Reverse { entry } => reverse(alloc, store, loan, entry),
     }
-}
-
-/// Decides a request on one loan, which the caller must see.
-pub fn on_loan<S: InstitutionStore>(
-    alloc: Global,
-    store: &mut S,
-    caller: Caller,
-    loan: Account,
-    asked: LoanRequest,
-) -> Result<Decision, Fault>
-    requires in_range { IsLoanInRange asked }
-    ensures decides { Decides S.stands S.clean S.leaves (request_outcome caller (request.Loan loan asked)) store.old store.new result }
-    ensures refusal { IfErr result (λ f. f ≢ Fault.F19) }
-{
-    let Account { office, number } = loan;
-    check_sight(alloc, store, caller.office, office)?;
-    act_on_loan(alloc, store, caller, Account { office, number }, asked)
 }

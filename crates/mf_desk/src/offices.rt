@@ -1,17 +1,17 @@
 //! Offices, and what is asked of one: its staff, its clients and its loans.
 
 ghost use Rattle.std.specs.Prelude.{◌≢◌, IfErr};
-ghost use Rattle.mf_model.specs.declared.request.Request.TheVariants.{Office, SeenOffices, NewOffice};
-ghost use Rattle.mf_model.specs.Offices.{add_staff, add_client, show_client};
+ghost use Rattle.mf_model.specs.declared.request.Request.TheVariants.{Office, NewOffice};
+ghost use Rattle.mf_model.specs.Offices.{add_staff, add_client};
 ghost use Rattle.mf_desk.specs.Answers.{Decides, request_outcome, in_rows};
 
 use crate::decision::Decision;
-use crate::lending::{list_loans, submit_loan};
+use crate::lending::submit_loan;
 use crate::numbers::{next_account, next_staff};
 use crate::sight::{check_sight, find_office};
 use mf_base::Fault;
 use mf_model::{Commit, InstitutionStore, OfficeRequest, Reply};
-use mf_office::{Account, AccountNo, Caller, Name, OfficeNo, Role};
+use mf_office::{Account, Caller, Name, OfficeNo, Role};
 use std::alloc::Global;
 
 pub fn add_office<S: InstitutionStore>(
@@ -42,19 +42,6 @@ pub fn add_office<S: InstitutionStore>(
     ))
 }
 
-/// The caller's office and those below it.
-pub fn list_offices<S: InstitutionStore>(
-    alloc: Global,
-    store: &mut S,
-    caller: Caller,
-) -> Result<Decision, Fault>
-    ensures decides { Decides S.stands S.clean S.leaves (request_outcome caller SeenOffices) store.old store.new result }
-    ensures refusal { IfErr result (λ f. f ≢ Fault.F19) }
-{
-    let offices = store.visible_offices(alloc, caller.office)?;
-    Ok(Decision::show(Reply::Offices(offices)))
-}
-
 /// Decides a request on one office, which the caller must see.
 pub fn in_office<S: InstitutionStore>(
     alloc: Global,
@@ -70,9 +57,16 @@ pub fn in_office<S: InstitutionStore>(
     match asked {
         OfficeRequest::AddStaff { name, role } => add_staff(alloc, store, office, name, role),
         OfficeRequest::AddClient { name } => add_client(alloc, store, office, name),
-        OfficeRequest::ShowClient { client } => show_client(alloc, store, office, client),
+        OfficeRequest::ShowClient { client: number } => {
+            let client = Account { office, number };
+            let name = store.client(alloc, client)?.ok_or(Fault::F4)?;
+            Ok(Decision::show(Reply::ClientShown { client, name }))
+        }
         OfficeRequest::SubmitLoan(asked) => submit_loan(alloc, store, office, &asked),
-        OfficeRequest::ListLoans { after } => list_loans(alloc, store, office, after),
+        OfficeRequest::ListLoans { after } => {
+            let loans = store.loans(alloc, office, after)?;
+            Ok(Decision::show(Reply::LoansShown(loans)))
+        }
     }
 }
 
@@ -109,22 +103,4 @@ fn add_client<S: InstitutionStore>(
         Commit::AddClient { office, name },
         Reply::ClientMade(Account { office, number }),
     ))
-}
-
-fn show_client<S: InstitutionStore>(
-    alloc: Global,
-    store: &mut S,
-    office: OfficeNo,
-    number: AccountNo,
-) -> Result<Decision, Fault>
-    ensures decides { Decides S.stands S.clean S.leaves (in_rows office (λ k rows. show_client office number rows)) store.old store.new result }
-    ensures refusal { IfErr result (λ f. f ≢ Fault.F19) }
-{
-    let Some(name) = store.client(alloc, Account { office, number })? else {
-        return Err(Fault::F4);
-    };
-    Ok(Decision::show(Reply::ClientShown {
-        client: Account { office, number },
-        name,
-    }))
 }

@@ -1,9 +1,8 @@
 //! Products, which all offices share.
 
-ghost use Rattle.std.specs.Prelude.{◌≡◌, ◌⊎◌, true, false, [], ◌++◌, IfOk, IfErr, ◌≢◌};
-ghost use Rattle.mf_base.specs.declared.fault.Fault.TheVariants.{F8, F20};
-ghost use Rattle.mf_catalog.specs.Product.{charge_at, is_consistent};
-ghost use Rattle.mf_model.specs.Catalogue.{make_product, add_product, show_product, retire_product};
+ghost use Rattle.std.specs.Prelude.{◌≡◌, [], ◌++◌, IfOk, IfErr, ◌≢◌};
+ghost use Rattle.mf_base.specs.declared.fault.Fault.TheVariants.{F20};
+ghost use Rattle.mf_model.specs.Catalogue.{make_product, add_product, retire_product};
 ghost use Rattle.mf_desk.specs.Answers.{Asks, Decides, in_catalogue};
 ghost use Rattle.mf_desk.specs.Charges.{number_of, charge_named, charge_before, list_of};
 
@@ -27,28 +26,24 @@ fn find_charge<S: InstitutionStore>(
     let Some(number) = named else {
         return Ok(None);
     };
-    let Some(mut charge) = store.charge(alloc, number)? else {
-        return Err(Fault::F4);
-    };
+    let mut charge = store.charge(alloc, number)?.ok_or(Fault::F4)?;
+    // `check_product` looks charges up by number, and its safety must not rest on what a store returns.
     charge.number = number;
     Ok(Some(charge))
 }
 
-/// A charge, if there is one, after others.
+/// Adds a charge, if there is one, to the end of a list.
 fn push_charge(charges: &mut Vec<ChargeDef>, charge: Option<ChargeDef>) -> Result<(), Fault>
     ensures ok { IfOk result (λ u. charges.new.items ≡ charges.old.items ++ charge_before charge []) }
     ensures err { IfErr result (λ fault. fault ≡ F20) }
 {
     match charge {
         None => Ok(()),
-        Some(charge) => match charges.push(charge) {
-            Ok(()) => Ok(()),
-            Err(_) => Err(Fault::F20),
-        },
+        Some(charge) => Ok(charges.push(charge)?),
     }
 }
 
-/// Those of three charges that there are.
+/// The charges that there are, of three.
 fn list_charges(
     alloc: Global,
     disbursement: Option<ChargeDef>,
@@ -65,24 +60,6 @@ fn list_charges(
     Ok(charges)
 }
 
-/// Whether a product is consistent with the charges that it names; F8 where it isn't.
-fn check_named(
-    alloc: Global,
-    members: &ProductMembers,
-    disbursement: Option<ChargeDef>,
-    instalment: Option<ChargeDef>,
-    overdue: Option<ChargeDef>,
-) -> Result<(), Fault>
-    requires disbursement { number_of disbursement ≡ members.now.disbursement_charge }
-    requires instalment { number_of instalment ≡ members.now.instalment_charge }
-    requires overdue { number_of overdue ≡ members.now.overdue_charge }
-    ensures ok { IfOk result (λ u. is_consistent (charge_at (list_of disbursement instalment overdue)) members.now ≡ true) }
-    ensures err { IfErr result (λ fault. (fault ≡ F20) ⊎ ((fault ≡ F8) × (is_consistent (charge_at (list_of disbursement instalment overdue)) members.now ≡ false))) }
-{
-    let charges = list_charges(alloc, disbursement, instalment, overdue)?;
-    check_product(members, charges.as_slice())
-}
-
 /// The next product, of members that are consistent.
 fn make_product<S: InstitutionStore>(
     alloc: Global,
@@ -97,7 +74,7 @@ fn make_product<S: InstitutionStore>(
     Ok(Decision::change(Commit::AddProduct { members }, Reply::ProductMade(number)))
 }
 
-/// A new product, of charges that are there.
+/// A new product: F4 where a charge that it names is missing, then F8 where it is not consistent.
 pub fn add_product<S: InstitutionStore>(
     alloc: Global,
     store: &mut S,
@@ -109,22 +86,9 @@ pub fn add_product<S: InstitutionStore>(
     let disbursement = find_charge(alloc, store, members.disbursement_charge)?;
     let instalment = find_charge(alloc, store, members.instalment_charge)?;
     let overdue = find_charge(alloc, store, members.overdue_charge)?;
-    check_named(alloc, &members, disbursement, instalment, overdue)?;
+    let charges = list_charges(alloc, disbursement, instalment, overdue)?;
+    check_product(&members, charges.as_slice())?;
     make_product(alloc, store, members)
-}
-
-pub fn show_product<S: InstitutionStore>(
-    alloc: Global,
-    store: &mut S,
-    product: u32,
-) -> Result<Decision, Fault>
-    ensures decides { Decides S.stands S.clean S.leaves (in_catalogue (show_product product)) store.old store.new result }
-    ensures refusal { IfErr result (λ f. f ≢ Fault.F19) }
-{
-    let Some(product) = store.product(alloc, product)? else {
-        return Err(Fault::F4);
-    };
-    Ok(Decision::show(Reply::ProductShown(product)))
 }
 
 pub fn retire_product<S: InstitutionStore>(
@@ -135,9 +99,7 @@ pub fn retire_product<S: InstitutionStore>(
     ensures decides { Decides S.stands S.clean S.leaves (in_catalogue (retire_product product)) store.old store.new result }
     ensures refusal { IfErr result (λ f. f ≢ Fault.F19) }
 {
-    let Some(found) = store.product(alloc, product)? else {
-        return Err(Fault::F4);
-    };
+    let found = store.product(alloc, product)?.ok_or(Fault::F4)?;
     if found.retired {
         return Err(Fault::F7);
     }

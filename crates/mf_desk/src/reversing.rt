@@ -17,7 +17,7 @@ use mf_model::{Commit, InstitutionStore, LoanReply, Reply};
 use mf_office::Account;
 use std::alloc::Global;
 
-/// The account where an entry counts no more. The refusals are those of `LoanAccount::reverse`.
+/// The account with an entry reversed. The refusals are those of `LoanAccount::reverse`.
 fn reversed(alloc: Global, account: LoanAccount, seq: u32) -> Result<LoanAccount, Fault>
     ensures accepted { IfOk result (λ after. reversal_refused account.loan.entries seq ≡ None) }
     ensures loan { IfOk result (λ after. after.loan ≡ record account.loan { entries = with_mark account.loan.entries (seq - 1) true }) }
@@ -30,7 +30,7 @@ fn reversed(alloc: Global, account: LoanAccount, seq: u32) -> Result<LoanAccount
     Ok(account)
 }
 
-/// An entry of a loan counts no more.
+/// Reverses an entry of a loan, so that it counts no more.
 pub fn reverse<S: InstitutionStore>(
     alloc: Global,
     store: &mut S,
@@ -40,15 +40,11 @@ pub fn reverse<S: InstitutionStore>(
     ensures decides { (c : AnyCaller) → Decides S.stands S.clean S.leaves (loan_outcome loan (Reverse seq) c) store.old store.new result }
     ensures refusal { IfErr result (λ f. f ≢ Fault.F19) }
 {
-    let Account { office, number } = loan;
-    let account = find_account(alloc, store, Account { office, number })?;
+    let account = find_account(alloc, store, &loan)?;
     let account = reversed(alloc, account, seq)?;
-    let loan = Account { office, number };
+    let told = LoanReply::Reversed(seq);
     Ok(Decision::change(
         Commit::Reverse { loan, seq, account },
-        Reply::Loan {
-            loan: Account { office, number },
-            told: LoanReply::Reversed(seq),
-        },
+        Reply::Loan { loan, told },
     ))
 }

@@ -4,13 +4,13 @@ ghost use Rattle.std.specs.Prelude.{◌≢◌, IfErr};
 ghost use Rattle.mf_model.specs.Sound.{IsInRange};
 ghost use Rattle.mf_desk.specs.Answers.{Decides, request_outcome};
 
-use crate::arrears::list_arrears;
 use crate::catalogue::on_catalogue;
 use crate::decision::Decision;
 use crate::loans::on_loan;
-use crate::offices::{add_office, in_office, list_offices};
+use crate::offices::{add_office, in_office};
+use crate::sight::check_sight;
 use mf_base::Fault;
-use mf_model::{InstitutionStore, Request};
+use mf_model::{InstitutionStore, Reply, Request};
 use mf_office::Caller;
 use std::alloc::Global;
 
@@ -29,9 +29,18 @@ pub fn act<S: InstitutionStore>(
         Request::Unreadable(flaw) => Err(flaw.fault()),
         Request::Catalogue(asked) => on_catalogue(alloc, store, asked),
         Request::Office { office, asked } => in_office(alloc, store, caller, office, asked),
-        Request::Loan { loan, asked } => on_loan(alloc, store, caller, loan, asked),
-        Request::SeenOffices => list_offices(alloc, store, caller),
-        Request::SeenArrears => list_arrears(alloc, store, caller),
+        Request::Loan { loan, asked } => {
+            check_sight(alloc, store, caller.office, loan.office)?;
+            on_loan(alloc, store, caller, loan, asked)
+        }
+        Request::SeenOffices => {
+            let offices = store.visible_offices(alloc, caller.office)?;
+            Ok(Decision::show(Reply::Offices(offices)))
+        }
+        Request::SeenArrears => {
+            let lines = store.office_lines(alloc, caller.office)?;
+            Ok(Decision::show(Reply::ArrearsShown(lines)))
+        }
         Request::NewOffice {
             number,
             parent,

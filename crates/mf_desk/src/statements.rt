@@ -1,22 +1,32 @@
-//! What is told of one loan: itself with its sums, its instalments, its entries.
+//! What is shown of one loan.
 
 ghost use Rattle.std.specs.Prelude.{◌≡◌, ◌≢◌, [], IfOk, IfErr, IsOkUnless};
 ghost use Rattle.mf_office.specs.declared.caller.Caller.{Caller};
-ghost use Rattle.mf_model.specs.declared.request.LoanRequest.TheVariants.{Show, ShowInstalments, ShowEntries};
 ghost use Rattle.mf_statement.specs.Lines.{instalments_from, entries_kept};
 ghost use Rattle.mf_model.specs.Accounts.{no_balances};
 ghost use Rattle.mf_desk.specs.Answers.{Decides, loan_outcome};
-ghost use Rattle.mf_desk.specs.Statements.{statement_by, of_kept};
+ghost use Rattle.mf_desk.specs.Statements.{statement_by, of_kept, asked_for, told_by};
 
 use crate::decision::Decision;
 use crate::loans::find_loan;
 use crate::stages::{disbursed_on, status_number};
 use mf_account::{Balances, LoanAccount};
 use mf_base::Fault;
-use mf_model::{InstitutionStore, Loan, LoanReply, Reply, Statement};
+use mf_model::{InstitutionStore, Loan, LoanReply, Statement};
 use mf_office::Account;
 use mf_statement::{EntryList, InstalmentList, entry_lines, instalment_lines};
 use std::alloc::Global;
+
+/// What is shown of a loan.
+#[derive(Clone, Copy)]
+pub enum Part {
+    /// Itself, with its sums.
+    Sums,
+    /// Its instalments; none before it is disbursed.
+    Instalments,
+    /// Its entries; none before it is disbursed.
+    Entries,
+}
 
 /// The sums of a loan before it is disbursed.
 fn no_balances() -> Balances
@@ -53,24 +63,6 @@ fn statement(loan: &Loan, account: &Option<LoanAccount>) -> Statement
     }
 }
 
-/// The loan as it stands.
-pub fn show_loan<S: InstitutionStore>(
-    alloc: Global,
-    store: &mut S,
-    loan: Account,
-) -> Result<Decision, Fault>
-    ensures decides { (c : Caller) → Decides S.stands S.clean S.leaves (loan_outcome loan Show c) store.old store.new result }
-    ensures refusal { IfErr result (λ f. f ≢ Fault.F19) }
-{
-    let Account { office, number } = loan;
-    let found = find_loan(alloc, store, Account { office, number })?;
-    let account = store.account(alloc, Account { office, number })?;
-    Ok(Decision::show(Reply::Loan {
-        loan: Account { office, number },
-        told: LoanReply::Shown(statement(&found, &account)),
-    }))
-}
-
 /// The instalments of an account; none where there is no account.
 fn instalments(alloc: Global, account: &Option<LoanAccount>) -> Result<InstalmentList, Fault>
     ensures lines { IfOk result (λ lines. lines ≡ of_kept [] (λ a. instalments_from 1 a.state.rows) account.now) }
@@ -80,25 +72,6 @@ fn instalments(alloc: Global, account: &Option<LoanAccount>) -> Result<Instalmen
         None => Ok(InstalmentList::new(Vec::new(alloc))),
         Some(account) => instalment_lines(alloc, account),
     }
-}
-
-/// The instalments of a loan; none before it is disbursed.
-pub fn show_instalments<S: InstitutionStore>(
-    alloc: Global,
-    store: &mut S,
-    loan: Account,
-) -> Result<Decision, Fault>
-    ensures decides { (c : Caller) → Decides S.stands S.clean S.leaves (loan_outcome loan ShowInstalments c) store.old store.new result }
-    ensures refusal { IfErr result (λ f. f ≢ Fault.F19) }
-{
-    let Account { office, number } = loan;
-    find_loan(alloc, store, Account { office, number })?;
-    let account = store.account(alloc, Account { office, number })?;
-    let lines = instalments(alloc, &account)?;
-    Ok(Decision::show(Reply::Loan {
-        loan: Account { office, number },
-        told: LoanReply::Instalments(lines),
-    }))
 }
 
 /// The entries of an account; none where there is no account.
@@ -112,21 +85,35 @@ fn entries(alloc: Global, account: Option<LoanAccount>) -> Result<EntryList, Fau
     }
 }
 
-/// The entries of a loan; none before it is disbursed.
-pub fn show_entries<S: InstitutionStore>(
+/// What is told of a part of a loan; F20 where it is out of memory.
+fn told(
+    alloc: Global,
+    part: Part,
+    loan: &Loan,
+    account: Option<LoanAccount>,
+) -> Result<LoanReply, Fault>
+    ensures told { IfOk result (λ told. told ≡ told_by part loan.now account) }
+    ensures only { IsOkUnless result Fault.F20 }
+{
+    match part {
+        Part::Sums => Ok(LoanReply::Shown(statement(loan, &account))),
+        Part::Instalments => Ok(LoanReply::Instalments(instalments(alloc, &account)?)),
+        Part::Entries => Ok(LoanReply::Entries(entries(alloc, account)?)),
+    }
+}
+
+/// A part of a loan as it stands; F4 where there is no such loan.
+pub fn show_part<S: InstitutionStore>(
     alloc: Global,
     store: &mut S,
     loan: Account,
+    part: Part,
 ) -> Result<Decision, Fault>
-    ensures decides { (c : Caller) → Decides S.stands S.clean S.leaves (loan_outcome loan ShowEntries c) store.old store.new result }
+    ensures decides { (c : Caller) → Decides S.stands S.clean S.leaves (loan_outcome loan (asked_for part) c) store.old store.new result }
     ensures refusal { IfErr result (λ f. f ≢ Fault.F19) }
 {
-    let Account { office, number } = loan;
-    find_loan(alloc, store, Account { office, number })?;
-    let account = store.account(alloc, Account { office, number })?;
-    let lines = entries(alloc, account)?;
-    Ok(Decision::show(Reply::Loan {
-        loan: Account { office, number },
-        told: LoanReply::Entries(lines),
-    }))
+    let found = find_loan(alloc, store, &loan)?;
+    let account = store.account(alloc, loan)?;
+    let told = told(alloc, part, &found, account)?;
+    Ok(Decision::tell(loan, told))
 }

@@ -1,20 +1,50 @@
-use Rattle.std.proofs.Common.{◌≡◌, ℕ, true, ap, arith}
-use Rattle.std.specs.Prelude.{◌==◌}
+use Rattle.std.proofs.Common.{◌≡◌, Ok, Err, rules}
 use Rattle.std.specs.Fn.{FnOnceReturnsAt}
-use Rattle.std.proofs.lemmas.Bool.Decides.{nat_tests}
-use Rattle.mf_model.specs.Tree.{view}
-use Rattle.mf_model.specs.Desk.{reply, reply_in}
 use Rattle.mf_desk.specs.Answers.{call_of}
-use Rattle.mf_desk.proofs.AnswerLemmas.{tells_alike}
+use Rattle.mf_desk.proofs.AnswerLemmas.{refusal_changes_nothing, changes_made, changes_given_up, tells_own_view}
 use Rattle.mf_desk.proofs.answering.answer.Goals as goal
 
-same_number : (x : ℕ) → (x == x) ≡ true
-same_number x = grind (arith, nat_tests)
-
-pub returns-clause-own_view : goal.returns-clause-own_view
-returns-clause-own_view g c =
+pub returns-in_err-reply-clause-changes : goal.returns-in_err-reply-clause-changes
+returns-in_err-reply-clause-changes g c =
     let s = g.S.InstitutionStore in
-    let call = call_of c.args.caller c.args.request in
-    tells_alike s.stands s.clean s.leaves (FnOnceReturnsAt g.F.FnOnce c.args.show) (reply call) (λ i. reply call (view c.args.caller.office i)) c.args.store.now c.finish.new.store c.finish.result
-    (λ k i st. ap reply_in (c.answered_by_view.ensures.office c.args.caller.office call i (g.met.S.InstitutionStore.sound c.args.store.now i st).tree (same_number c.args.caller.office)))
-    c.finish.ensures.told
+    let e : c.from_residual.result ≡ Err c.in_err-reply.field-0.0 = search rules in
+    rw e (refusal_changes_nothing s.stands s.clean s.leaves (call_of c.args.caller c.args.request) c.decide.result c.args.store.now c.decide.new.store c.in_err-reply.field-0.0 g.met.S.InstitutionStore.more c.decide.ensures.decides)
+
+pub returns-in_err-shown-clause-changes : goal.returns-in_err-shown-clause-changes
+returns-in_err-shown-clause-changes g c =
+    let s = g.S.InstitutionStore in
+    let e : c.from_residual-in_err-shown.result ≡ Err c.in_err-shown.field-0.0 = search rules in
+    rw e (refusal_changes_nothing s.stands s.clean s.leaves (call_of c.args.caller c.args.request) c.decide.result c.args.store.now c.decide.new.store c.in_err-shown.field-0.0 g.met.S.InstitutionStore.more c.decide.ensures.decides)
+
+pub returns-in_err-commit-in-Some-clause-changes : goal.returns-in_err-commit-in-Some-clause-changes
+returns-in_err-commit-in-Some-clause-changes g c =
+    let s = g.S.InstitutionStore in
+    let e : c.from_residual-in_err-commit-in-Some.result ≡ Err c.in_err-commit-in-Some.field-0.0 = search rules in
+    rw e (changes_given_up s.stands s.clean s.leaves (call_of c.args.caller c.args.request) c.in_ok-reply.field-0 c.in-Some.commit c.args.store.now c.decide.new.store c.commit.new.self c.in_err-commit-in-Some.field-0.0
+    c.soundness.ensures.accepted g.met.S.InstitutionStore.sound c.requires.in_range c.in-Some.is c.in_ok-reply.ensures.decides c.in_err-commit-in-Some.ensures)
+
+pub returns-in_ok-commit-in-Some-clause-changes : goal.returns-in_ok-commit-in-Some-clause-changes
+returns-in_ok-commit-in-Some-clause-changes g c =
+    let s = g.S.InstitutionStore in
+    changes_made s.stands s.clean s.leaves (call_of c.args.caller c.args.request) c.in_ok-reply.field-0 c.in-Some.commit c.args.store.now c.decide.new.store c.commit.new.self c.in_ok-shown.shown
+    c.soundness.ensures.accepted g.met.S.InstitutionStore.sound c.requires.in_range c.in-Some.is c.in_ok-reply.ensures.decides c.in_ok-commit-in-Some.ensures
+
+pub returns-in_err-reply-clause-own_view : goal.returns-in_err-reply-clause-own_view
+returns-in_err-reply-clause-own_view g c =
+    let s = g.S.InstitutionStore in
+    tells_own_view s.stands s.clean s.leaves (FnOnceReturnsAt g.F.FnOnce c.args.show) c.args.caller c.args.request c.args.store.now c.decide.new.store c.from_residual.result c.answered_by_view.ensures.office g.met.S.InstitutionStore.sound (search rules)
+
+pub returns-in_err-shown-clause-own_view : goal.returns-in_err-shown-clause-own_view
+returns-in_err-shown-clause-own_view g c =
+    let s = g.S.InstitutionStore in
+    tells_own_view s.stands s.clean s.leaves (FnOnceReturnsAt g.F.FnOnce c.args.show) c.args.caller c.args.request c.args.store.now c.decide.new.store c.from_residual-in_err-shown.result c.answered_by_view.ensures.office g.met.S.InstitutionStore.sound (search rules)
+
+pub returns-in-None-clause-own_view : goal.returns-in-None-clause-own_view
+returns-in-None-clause-own_view g c =
+    let s = g.S.InstitutionStore in
+    tells_own_view s.stands s.clean s.leaves (FnOnceReturnsAt g.F.FnOnce c.args.show) c.args.caller c.args.request c.args.store.now c.decide.new.store (Ok c.in_ok-shown.shown) c.answered_by_view.ensures.office g.met.S.InstitutionStore.sound (search rules)
+
+pub returns-in_ok-commit-in-Some-clause-own_view : goal.returns-in_ok-commit-in-Some-clause-own_view
+returns-in_ok-commit-in-Some-clause-own_view g c =
+    let s = g.S.InstitutionStore in
+    tells_own_view s.stands s.clean s.leaves (FnOnceReturnsAt g.F.FnOnce c.args.show) c.args.caller c.args.request c.args.store.now c.commit.new.self (Ok c.in_ok-shown.shown) c.answered_by_view.ensures.office g.met.S.InstitutionStore.sound (search rules)

@@ -6,7 +6,7 @@ use Rattle.mf_model.specs.Loans.{repayment, none_first, enter}
 use Rattle.mf_desk.specs.Answers.{use_named, loan_outcome, in_ledger}
 use Rattle.mf_desk.proofs.Decisions.{learns, learned_decides}
 use Rattle.mf_desk.proofs.LoanLemmas.{when_used, repay_is}
-use Rattle.mf_desk.proofs.entering.repay.Goals as goal
+use Rattle.mf_desk.proofs.repaying.repay.Goals as goal
 
 pub returns-in-Some-clause-decides : goal.returns-in-Some-clause-decides
 returns-in-Some-clause-decides g c =
@@ -26,6 +26,6 @@ returns-in-None-clause-decides g c =
     let asked = c.args.asked in
     let found = c.in_ok-used.used in
     learned_decides s.stands s.clean s.leaves (λ i. use_named loan.office asked.receipt i ≡ Ok found) (loan_outcome loan (Repay asked) c.args.caller) (in_ledger loan (λ k l. enter none_first (λ today. repayment asked c.args.caller) k (account_in k l)))
-    c.args.store.now c.find_use.new.store c.enter_repayment.new.store c.enter_repayment.result
+    c.args.store.now c.find_use.new.store c.enter.new.store c.enter.result
     (learns s.stands s.clean s.leaves (use_named loan.office asked.receipt) c.args.store.now c.find_use.new.store found c.in_ok-used.ensures.asks)
-    (λ i h. repay_is c.args.caller loan asked None i (h ∙ ap (λ (r : Option ReceiptUse). Ok r) c.in-None.is)) c.enter_repayment.ensures.decides
+    (λ i h. repay_is c.args.caller loan asked None i (h ∙ ap (λ (r : Option ReceiptUse). Ok r) c.in-None.is)) c.enter.ensures.decides
