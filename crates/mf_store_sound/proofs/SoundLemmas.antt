@@ -38,12 +38,13 @@ use Rattle.mf_store_accounts.specs.ReceiptRows.{carried_by, receipt_rows, AreRec
 use Rattle.mf_store_accounts.specs.Ledgers.{AreEntriesIn, IsPlainLoan}
 use Rattle.mf_store_sound.specs.Schemas.{meta_under}
 use Rattle.mf_store_sound.specs.Sound.{IsPlainRows, AreOfficeParts, AreUnder}
-use Rattle.mf_store_sound.specs.Stored.{AreRowsOf}
+use Rattle.mf_store_sound.specs.Stored.{IsRowOf, AreRowsOf, AllFrom}
 use Rattle.mf_store_sound.proofs.AllLoanLemmas.{all_rows_of, all_loan_rows, all_apart, all_plain}
 use Rattle.mf_store_sound.proofs.EntryLemmas.{carried_is}
 use Rattle.mf_store_sound.proofs.OfficePartLemmas.{length_numbered}
 use Rattle.mf_store_sound.proofs.PartLemmas.{all_append}
 use Rattle.mf_store_sound.proofs.ReceiptLemmas.{AreAllApart, in_order_apart, apart_in_order}
+use Rattle.mf_store_sound.proofs.StoredLemmas.{gathered, parted}
 
 -- ---- who is there
 
@@ -284,17 +285,19 @@ module _ (schema : ℕ) (t : Lists) (h : AreUnder schema t) where
   pub charges_are : numbered_from charge_as 1 h.institution.catalogue.charges ≡ t.charges
   charges_are = ap (λ (l : Lists). l.charges) h.rows_are
 
-  pub charges_part : (length t.charges ≤ 999) × AreRowsOf charge_as IsSoundCharge 1 t.charges
-  charges_part =
-      (subst (λ n. n ≤ 999) (sym (length_numbered charge_as 1 h.institution.catalogue.charges) ∙ ap length charges_are) h.sound.catalogue.charge_limit, record { values = h.institution.catalogue.charges; pass = h.sound.catalogue.charges; rows_are = charges_are })
+  pub charges_part : (length t.charges ≤ 999) × AllFrom (IsRowOf charge_as IsSoundCharge) 1 t.charges
+  charges_part = (
+    subst (λ n. n ≤ 999) (sym (length_numbered charge_as 1 h.institution.catalogue.charges) ∙ ap length charges_are) h.sound.catalogue.charge_limit,
+    parted charge_as IsSoundCharge 1 h.institution.catalogue.charges t.charges h.sound.catalogue.charges charges_are,
+  )
 
   pub products_are : numbered_from product_as 1 h.institution.catalogue.products ≡ t.products
   products_are = ap (λ (l : Lists). l.products) h.rows_are
 
-  pub products_part : (length t.products ≤ 999) × AreRowsOf product_as (IsSoundOffer (charge_in h.institution.catalogue)) 1 t.products
+  pub products_part : (length t.products ≤ 999) × AllFrom (IsRowOf product_as (IsSoundOffer (charge_in h.institution.catalogue))) 1 t.products
   products_part = (
     subst (λ n. n ≤ 999) (sym (length_numbered product_as 1 h.institution.catalogue.products) ∙ ap length products_are) h.sound.catalogue.product_limit,
-    record { values = h.institution.catalogue.products; pass = h.sound.catalogue.products; rows_are = products_are },
+    parted product_as (IsSoundOffer (charge_in h.institution.catalogue)) 1 h.institution.catalogue.products t.products h.sound.catalogue.products products_are,
   )
 
   offices_are : map (office_under (parent_of h.institution.offices)) h.institution.offices ≡ t.offices
@@ -422,17 +425,20 @@ pub day_of : (schema : ℕ) (t : Lists) (day : ℕ) (h : AreUnder schema t) → 
 day_of schema t day h only = let one : Some day ≡ Some h.institution.catalogue.day = only h.institution.catalogue.day h.sound.catalogue.day (meta_part schema t h) in let same : h.institution.catalogue.day ≡ day = cc in same
 
 pub under_is : (schema : ℕ) (t : Lists) (day : ℕ) (B : Type 0) → day ≤ last_entered_day → meta_under schema day ∷ [] ≡ t.meta
-    → (length t.charges ≤ 999) × AreRowsOf charge_as IsSoundCharge 1 t.charges
-    → ((k : Catalogue) → numbered_from charge_as 1 k.charges ≡ t.charges → (length t.products ≤ 999) × AreRowsOf product_as (IsSoundOffer (charge_in k)) 1 t.products)
+    → (length t.charges ≤ 999) × AllFrom (IsRowOf charge_as IsSoundCharge) 1 t.charges
+    → ((of : (k : Catalogue) × (numbered_from charge_as 1 k.charges ≡ t.charges)) → (length t.products ≤ 999) × AllFrom (IsRowOf product_as (IsSoundOffer (charge_in of.0))) 1 t.products)
     → AreOffices t.offices
     → ((k : Catalogue) → k.day ≡ day → numbered_from product_as 1 k.products ≡ t.products → Ascending (map office_of t.offices) → AreOfficeParts k t.offices t.staff t.clients t.loans t.entries)
     → ((fs : List Office) → Ascending fs → all_rows staff_in (λ own. own.staff) fs ≡ t.staff → list_all (is_by_staff fs) t.entries ≡ true)
     → (B ↔ AreReceiptsOf t.receipts t.entries)
     → B ↔ AreUnder schema t
 unfolding offices_parts
-under_is schema t day B entered meta c p o parts named r = (
+under_is schema t day B entered meta c_all p o parts named r = (
   λ told.
-      let q = p (catalogue_of day c.1.values []) c.1.rows_are in
+      let c : (length t.charges ≤ 999) × AreRowsOf charge_as IsSoundCharge 1 t.charges = (c_all.0, gathered charge_as IsSoundCharge 1 t.charges c_all.1) in
+      let q_all = p (catalogue_of day c.1.values [], c.1.rows_are) in
+      let q : (length t.products ≤ 999) × AreRowsOf product_as (IsSoundOffer (charge_in (catalogue_of day c.1.values []))) 1 t.products =
+      (q_all.0, gathered product_as (IsSoundOffer (charge_in (catalogue_of day c.1.values []))) 1 t.products q_all.1) in
       let s = parts (catalogue_of day c.1.values q.1.values) refl q.1.rows_are o.tree.ascending in
       let catalogue = sound_catalogue t day entered c q in
       let up = (tree_from_bare s.offices (subst IsTree (sym s.theirs) o.tree)).ascending in

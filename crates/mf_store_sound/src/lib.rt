@@ -10,6 +10,7 @@ mod entries;
 mod loan_parts;
 mod loans;
 mod meta;
+mod numbered;
 mod office_parts;
 mod offices;
 mod parts;

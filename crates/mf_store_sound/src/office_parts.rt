@@ -8,11 +8,11 @@ ghost use Rattle.mf_store_accounts.specs.Flat.{product_as, numbered_from};
 ghost use Rattle.mf_store_sound.specs.Parts.{office_of};
 ghost use Rattle.mf_store_sound.specs.Sound.{IsOfficePart, AreOfficeParts};
 
-use crate::clients::are_clients;
 use crate::loan_parts::are_loans;
+use crate::numbered::are_numbered;
 use crate::parts::parts;
-use crate::staff::are_staff;
 use mf_base::Day;
+use mf_office::{AccountNo, StaffNo};
 use mf_store_records::{ClientRow, EntryRow, LoanRow, OfficeRow, ProductRow, StaffRow};
 
 /// Whether the rows are those of this office's staff, clients, loans and entries, but for who entered these and for
@@ -30,10 +30,10 @@ fn is_office_part(
     ensures { (k : Catalogue) → k.day ≡ today → numbered_from product_as 1 k.products ≡ products.now →
         IsTrue result ↔ IsOfficePart k office staff.now clients.now loans.now entries.now }
 {
-    if !are_staff(office, staff) {
+    if !are_numbered(office, staff, StaffNo::MAX) {
         return false;
     }
-    if !are_clients(office, clients) {
+    if !are_numbered(office, clients, AccountNo::MAX) {
         return false;
     }
     are_loans(today, products, clients.len(), office, loans, entries)

@@ -9,8 +9,9 @@ ghost use Rattle.mf_model.specs.Sound.{IsSoundOffer};
 ghost use Rattle.mf_store_accounts.specs.Flat.{charge_as, product_as, numbered_from};
 ghost use Rattle.mf_base.specs.Choices.{frequency_number};
 ghost use Rattle.mf_catalog.specs.Names.{kind_number};
-ghost use Rattle.mf_store_sound.specs.Stored.{IsRowOf, AreRowsOf};
+ghost use Rattle.mf_store_sound.specs.Stored.{IsRowOf};
 
+use crate::numbered::NumberedRow;
 use mf_base::{Choice, Freq};
 use mf_catalog::{
     GREATEST_RATE, MOST_GRACE, MOST_MONTHS, MOST_PERIODS, MOST_WEEKS, Method, StrategyName,
@@ -18,9 +19,6 @@ use mf_catalog::{
 use mf_model::is_name;
 use mf_store_accounts::{amount_from, charge_row, flag_from};
 use mf_store_records::{ChargeRow, ProductRow};
-
-/// The most products.
-const MOST_PRODUCTS: usize = 999;
 
 /// The greatest principal, as rows keep it.
 const GREATEST_PRINCIPAL: i64 = 1_000_000_000_000;
@@ -125,33 +123,18 @@ fn are_kinds_right(charges: &[ChargeRow], row: &ProductRow) -> bool
     overdue
 }
 
-/// Whether a row is that of a product with this number, over these charges.
-fn is_product(charges: &[ChargeRow], number: u32, row: &ProductRow) -> bool
-    ensures { (k : Catalogue) → numbered_from charge_as 1 k.charges ≡ charges.now →
-        IsTrue result ↔ IsRowOf product_as (IsSoundOffer (charge_in k)) number row.now }
-{
-    row.number == number
-        && has_choices(row)
-        && is_name(row.name.as_str())
-        && is_within_limits(row)
-        && do_limits_agree(row)
-        && are_kinds_right(charges, row)
-}
+/// The row of a product over these charges.
+impl<'a> NumberedRow<&'a [ChargeRow]> for ProductRow {
+    ghost Setting = { λ charges. (k : Catalogue) × (numbered_from charge_as 1 k.charges ≡ charges.now) };
 
-/// Whether the rows are those of products over these charges, by number from 1.
-pub(crate) fn are_products(charges: &[ChargeRow], rows: &[ProductRow]) -> bool
-    ensures { (k : Catalogue) → numbered_from charge_as 1 k.charges ≡ charges.now →
-        IsTrue result ↔ ((length rows.now ≤ 999) × AreRowsOf product_as (IsSoundOffer (charge_in k)) 1 rows.now) }
-{
-    if rows.len() > MOST_PRODUCTS {
-        return false;
+    ghost IsNumbered = { λ charges of number row. IsRowOf product_as (IsSoundOffer (charge_in of.0)) number row };
+
+    fn is_numbered(&self, charges: &'a [ChargeRow], number: u32) -> bool {
+        self.number == number
+            && has_choices(self)
+            && is_name(self.name.as_str())
+            && is_within_limits(self)
+            && do_limits_agree(self)
+            && are_kinds_right(charges, self)
     }
-    let mut number = 1;
-    for row in rows {
-        if !is_product(charges, number, row) {
-            return false;
-        }
-        number += 1;
-    }
-    true
 }

@@ -9,11 +9,10 @@ ghost use Rattle.mf_store_sound.specs.Schemas.{first_tables_of};
 ghost use Rattle.mf_store_sound.specs.Sound.{AreOfSound, AreOfSoundFirst, AreUnder};
 
 use crate::callers::are_by_staff;
-use crate::charges::are_charges;
 use crate::meta::business_day;
+use crate::numbered::are_numbered;
 use crate::office_parts::are_office_parts;
 use crate::offices::are_offices;
-use crate::products::are_products;
 use crate::receipts::are_receipts;
 use crate::tables::Tables;
 use mf_base::Fault;
@@ -26,6 +25,9 @@ const FIRST_SCHEMA: u32 = 1;
 
 /// The number of the schema whose tables keep rows of accounts too.
 const SCHEMA: u32 = 2;
+
+/// The most charges of a catalogue, and the most products.
+const MOST_OF_CATALOGUE: u32 = 999;
 
 /// Whether there is a sound institution whose rows these are, with this schema's number and but for the rows of accounts.
 fn are_under(alloc: Global, schema: u32, tables: &Tables) -> Result<bool, Fault>
@@ -44,10 +46,10 @@ fn are_under(alloc: Global, schema: u32, tables: &Tables) -> Result<bool, Fault>
     let Some(today) = business_day(schema, meta) else {
         return Ok(false);
     };
-    if !are_charges(charges) {
+    if !are_numbered((), charges, MOST_OF_CATALOGUE) {
         return Ok(false);
     }
-    if !are_products(charges, products) {
+    if !are_numbered(charges, products, MOST_OF_CATALOGUE) {
         return Ok(false);
     }
     if !are_offices(alloc, offices)? {

@@ -5,17 +5,17 @@ use Rattle.mf_store_sound.proofs.SoundLemmas.{of_parts, day_of, charges_part, ch
 use Rattle.mf_store_accounts.proofs.AnswerLemmas.{refuses, no_answer}
 use Rattle.mf_store_sound.proofs.sound.are_under.Goals as goal
 
-pub returns-then-not-are_charges-clause-exact : goal.returns-then-not-are_charges-clause-exact
-returns-then-not-are_charges-clause-exact c =
+pub returns-then-not-are_numbered-clause-exact : goal.returns-then-not-are_numbered-clause-exact
+returns-then-not-are_numbered-clause-exact c =
     of_parts c.args.schema (IsTrue false) c.args.tables.now c.meta-meta.result.now c.offices-offices.result.now c.staff-staff.result.now c.clients-clients.result.now c.charges-charges.result.now c.products-products.result.now c.loans-loans.result.now c.entries-entries.result.now c.receipts-receipts.result.now
     c.meta-meta.ensures c.offices-offices.ensures c.staff-staff.ensures c.clients-clients.ensures c.charges-charges.ensures c.products-products.ensures c.loans-loans.ensures c.entries-entries.ensures c.receipts-receipts.ensures
-    (no_answer (λ h. refuses c.are_charges.result c.if-not-are_charges.true c.are_charges.ensures (charges_part _ _ h)))
+    (no_answer (λ h. refuses c.are_numbered.result c.if-not-are_numbered.true (c.are_numbered.ensures tt) (charges_part _ _ h)))
 
-pub returns-then-not-are_products-clause-exact : goal.returns-then-not-are_products-clause-exact
-returns-then-not-are_products-clause-exact c =
+pub returns-then-not-are_numbered-2-clause-exact : goal.returns-then-not-are_numbered-2-clause-exact
+returns-then-not-are_numbered-2-clause-exact c =
     of_parts c.args.schema (IsTrue false) c.args.tables.now c.meta-meta.result.now c.offices-offices.result.now c.staff-staff.result.now c.clients-clients.result.now c.charges-charges.result.now c.products-products.result.now c.loans-loans.result.now c.entries-entries.result.now c.receipts-receipts.result.now
     c.meta-meta.ensures c.offices-offices.ensures c.staff-staff.ensures c.clients-clients.ensures c.charges-charges.ensures c.products-products.ensures c.loans-loans.ensures c.entries-entries.ensures c.receipts-receipts.ensures
-    (no_answer (λ h. refuses c.are_products.result c.if-not-are_products.true (c.are_products.ensures h.institution.catalogue (charges_are _ _ h)) (products_part _ _ h)))
+    (no_answer (λ h. refuses c.are_numbered-2.result c.if-not-are_numbered-2.true (c.are_numbered-2.ensures (h.institution.catalogue, charges_are _ _ h)) (products_part _ _ h)))
 
 pub returns-then-not-branch-clause-exact : goal.returns-then-not-branch-clause-exact
 returns-then-not-branch-clause-exact c =
@@ -44,7 +44,7 @@ returns-clause-exact c =
     c.meta-meta.ensures c.offices-offices.ensures c.staff-staff.ensures c.clients-clients.ensures c.charges-charges.ensures c.products-products.ensures c.loans-loans.ensures c.entries-entries.ensures c.receipts-receipts.ensures
     (
     under_is c.args.schema (record c.args.tables.now { meta = c.meta-meta.result.now; offices = c.offices-offices.result.now; staff = c.staff-staff.result.now; clients = c.clients-clients.result.now; charges = c.charges-charges.result.now; products = c.products-products.result.now; loans = c.loans-loans.result.now; entries = c.entries-entries.result.now; receipts = c.receipts-receipts.result.now })
-    c.in-Some.today (IsTrue answer) (c.in-Some.ensures {u = tt}).some.0 (c.in-Some.ensures {u = tt}).some.1 (c.are_charges.ensures.0 c.if-not-are_charges.false) (λ k e. (c.are_products.ensures k e).0 c.if-not-are_products.false)
+    c.in-Some.today (IsTrue answer) (c.in-Some.ensures {u = tt}).some.0 (c.in-Some.ensures {u = tt}).some.1 ((c.are_numbered.ensures tt).0 c.if-not-are_numbered.false) (λ of. (c.are_numbered-2.ensures of).0 c.if-not-are_numbered-2.false)
     ((c.in_ok-are_offices.ensures {u = tt}).offices.0 c.if-not-branch.false) (λ k d e up. (c.are_office_parts.ensures k d e up).0 c.if-not-are_office_parts.false)
     (λ fs up e. sym (c.are_by_staff.ensures fs up e) ∙ c.if-not-are_by_staff.false) told
     )) c.are_receipts.ensures.exact
