@@ -12,16 +12,30 @@ ghost use Rattle.mf_store_sound.specs.Entries.{IsEntryRow};
 ghost use Rattle.mf_store_accounts.specs.Flat.{entry_in, entry_kind_number, portion_number};
 ghost use Rattle.std.specs.List.{list_all};
 
+use crate::numbered::NumberedRow;
 use mf_base::Day;
 use mf_office::Caller;
 use mf_store_accounts::{amount_from, flag_from, kind_from, portion_from};
 use mf_store_records::{EntryRow, Text};
 
+/// A loan that was disbursed, with the day of the institution.
+#[derive(Clone, Copy)]
+pub(crate) struct DisbursedLoan {
+    pub(crate) office: u32,
+    pub(crate) number: u32,
+    /// How many instalments it has.
+    pub(crate) periods: u32,
+    /// The day of its disbursement.
+    pub(crate) day: Day,
+    /// The business day.
+    pub(crate) today: Day,
+}
+
 /// The greatest amount of an entry, as rows keep it.
 const GREATEST_AMOUNT: i64 = 1_000_000_000_000;
 
 /// Whether the numbers and texts of a row are those of an entry.
-pub(crate) fn is_readable(row: &EntryRow) -> bool
+fn is_readable(row: &EntryRow) -> bool
     ensures { IsTrue result ↔ ((e : Entry) × IsReadable e × (entry_in row.now.office row.now.loan e ≡ row.now)) }
 {
     match (
@@ -91,7 +105,7 @@ fn is_sealing(row: &EntryRow) -> bool
 }
 
 /// Whether a row's columns are those of an entry of its kind, on a loan of so many instalments.
-pub(crate) fn has_columns(periods: u32, row: &EntryRow) -> bool
+fn has_columns(periods: u32, row: &EntryRow) -> bool
     ensures { (e : Entry) → entry_in row.now.office row.now.loan e ≡ row.now → IsTrue result ↔ HasColumns e.kind periods e }
 {
     match row.kind {
@@ -119,7 +133,7 @@ fn are_printable(bytes: &[u8]) -> bool
 }
 
 /// Whether a row's receipt, if it has one, is a receipt.
-pub(crate) fn has_right_receipt(row: &EntryRow) -> bool
+fn has_right_receipt(row: &EntryRow) -> bool
     ensures { IsTrue result ↔ IfSome row.now.receipt IsReceipt }
 {
     match &row.receipt {
@@ -139,24 +153,19 @@ fn is_on_time(today: Day, day: Day, row: &EntryRow) -> bool
     }
 }
 
-/// Whether a row is that of an entry with this number, of a loan of so many instalments that was disbursed on a day,
-/// whoever entered it.
-pub(crate) fn is_entry(
-    today: Day,
-    day: Day,
-    periods: u32,
-    office: u32,
-    loan: u32,
-    number: u32,
-    row: &EntryRow,
-) -> bool
-    ensures { IsTrue result ↔ IsEntryRow today day periods office loan number row.now }
-{
-    row.office == office
-        && row.loan == loan
-        && row.seq == number
-        && is_readable(row)
-        && is_on_time(today, day, row)
-        && has_columns(periods, row)
-        && has_right_receipt(row)
+/// The row of an entry of a loan, whoever entered it.
+impl NumberedRow<DisbursedLoan> for EntryRow {
+    ghost Setting = { λ loan. Unit {0} };
+
+    ghost IsNumbered = { λ loan of number row. IsEntryRow loan.today loan.day loan.periods loan.office loan.number number row };
+
+    fn is_numbered(&self, loan: DisbursedLoan, number: u32) -> bool {
+        self.office == loan.office
+            && self.loan == loan.number
+            && self.seq == number
+            && is_readable(self)
+            && is_on_time(loan.today, loan.day, self)
+            && has_columns(loan.periods, self)
+            && has_right_receipt(self)
+    }
 }

@@ -13,6 +13,7 @@ ghost use Rattle.mf_model.specs.Stages.{disbursed_on};
 ghost use Rattle.mf_store_sound.specs.Stored.{IsRowOf};
 
 use crate::entered::are_loan_entries;
+use crate::entries::DisbursedLoan;
 use mf_base::Day;
 use mf_store_accounts::{amount_from, product_row};
 use mf_store_records::{EntryRow, LoanRow, ProductRow, Text};
@@ -136,7 +137,16 @@ pub(crate) fn are_entries_of(
     match &row.disbursed {
         None => own.is_empty(),
         Some(text) => match Day::parse(text.as_str().as_bytes()) {
-            Some(day) => are_loan_entries(today, day, row.periods, office, number, own),
+            Some(day) => {
+                let loan = DisbursedLoan {
+                    office,
+                    number,
+                    periods: row.periods,
+                    day,
+                    today,
+                };
+                are_loan_entries(loan, own)
+            }
             None => false,
         },
     }
