@@ -50,14 +50,7 @@ impl OfOffice for EntryRow {
 fn count_own<T: OfOffice>(rows: &[T], office: u32) -> usize
     ensures { result ≡ own_count T.office_of office rows.now }
 {
-    let mut count = 0;
-    for row in rows {
-        if row.office() != office {
-            return count;
-        }
-        count += 1;
-    }
-    count
+    rows.iter().take_while(|row| row.office() == office).count()
 }
 
 /// The rows of this office, which come first, and the later ones.
@@ -73,14 +66,7 @@ pub(crate) fn parts<T: OfOffice>(rows: &[T], office: u32) -> (&[T], &[T])
 fn count_of_loan(rows: &[EntryRow], loan: u32) -> usize
     ensures { result ≡ own_count (λ row. row.loan) loan rows.now }
 {
-    let mut count = 0;
-    for row in rows {
-        if row.loan != loan {
-            return count;
-        }
-        count += 1;
-    }
-    count
+    rows.iter().take_while(|row| row.loan == loan).count()
 }
 
 /// The rows of the entries of this loan of an office, which come first, and the later ones.
