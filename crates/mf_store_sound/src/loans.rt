@@ -18,6 +18,18 @@ use mf_base::Day;
 use mf_store_accounts::{amount_from, product_row};
 use mf_store_records::{EntryRow, LoanRow, ProductRow, Text};
 
+/// An office that lends, with what its loans are judged by.
+#[derive(Drop)]
+pub(crate) struct Lender<'a> {
+    pub(crate) office: u32,
+    /// How many clients it has.
+    pub(crate) clients: usize,
+    /// The rows of the catalogue's products.
+    pub(crate) products: &'a [ProductRow],
+    /// The business day.
+    pub(crate) today: Day,
+}
+
 /// Whether an approval's text is that of a day up to this one.
 fn is_approval(today: Day, approved: &Text) -> bool
     requires { today ≤ last_entered_day }
@@ -101,53 +113,37 @@ fn does_lend(products: &[ProductRow], row: &LoanRow) -> bool
     }
 }
 
-/// Whether a row is that of a loan of this office with this number, over this catalogue and so many clients. Its entries
-/// are left open.
-pub(crate) fn is_loan(
-    today: Day,
-    products: &[ProductRow],
-    clients: usize,
-    office: u32,
-    number: u32,
-    row: &LoanRow,
-) -> bool
-    requires { today ≤ last_entered_day }
-    ensures { (k : Catalogue) → k.day ≡ today → numbered_from product_as 1 k.products ≡ products.now →
-        (names : List (List ℕ)) → length names ≡ clients →
-        IsTrue result ↔ IsRowOf (loan_in office) (IsOwnLoan k names) number row.now }
+/// Whether a row is that of a loan of this office with this number. Its entries are left open.
+pub(crate) fn is_loan(lender: &Lender, number: u32, row: &LoanRow) -> bool
+    requires { lender.now.today ≤ last_entered_day }
+    ensures { (k : Catalogue) → k.day ≡ lender.now.today → numbered_from product_as 1 k.products ≡ lender.now.products.now →
+        (names : List (List ℕ)) → length names ≡ lender.now.clients →
+        IsTrue result ↔ IsRowOf (loan_in lender.now.office) (IsOwnLoan k names) number row.now }
 {
-    is_row_of_loan(today, office, number, row)
-        && is_client_there(clients, row)
-        && does_lend(products, row)
+    is_row_of_loan(lender.today, lender.office, number, row)
+        && is_client_there(lender.clients, row)
+        && does_lend(lender.products, row)
 }
 
 /// Whether the rows are those of the entries of a row's loan: none where it is not disbursed. That those who entered
 /// them are there is left open.
-pub(crate) fn are_entries_of(
-    today: Day,
-    office: u32,
-    number: u32,
-    row: &LoanRow,
-    own: &[EntryRow],
-) -> bool
-    requires { today ≤ last_entered_day }
-    ensures { (l : Loan) → loan_in office number l ≡ row.now → IsStageBy today l.stage →
-        IsTrue result ↔ AreEntriesOf today l.periods (disbursed_on l.stage) office number own.now }
+pub(crate) fn are_entries_of(lender: &Lender, number: u32, row: &LoanRow, own: &[EntryRow]) -> bool
+    requires { lender.now.today ≤ last_entered_day }
+    ensures { (l : Loan) → loan_in lender.now.office number l ≡ row.now → IsStageBy lender.now.today l.stage →
+        IsTrue result ↔ AreEntriesOf lender.now.today l.periods (disbursed_on l.stage) lender.now.office number own.now }
 {
-    match &row.disbursed {
-        None => own.is_empty(),
-        Some(text) => match Day::parse(text.as_str().as_bytes()) {
-            Some(day) => {
-                let loan = DisbursedLoan {
-                    office,
-                    number,
-                    periods: row.periods,
-                    day,
-                    today,
-                };
-                are_loan_entries(loan, own)
-            }
-            None => false,
-        },
-    }
+    let Some(text) = &row.disbursed else {
+        return own.is_empty();
+    };
+    let Some(day) = Day::parse(text.as_str().as_bytes()) else {
+        return false;
+    };
+    let loan = DisbursedLoan {
+        office: lender.office,
+        number,
+        periods: row.periods,
+        day,
+        today: lender.today,
+    };
+    are_loan_entries(loan, own)
 }

@@ -11,7 +11,7 @@ ghost use Rattle.mf_store_sound.specs.Sound.{AreOfSound, AreOfSoundFirst, AreUnd
 use crate::callers::are_by_staff;
 use crate::meta::business_day;
 use crate::numbered::are_numbered;
-use crate::office_parts::are_office_parts;
+use crate::office_parts::{Belongings, are_office_parts};
 use crate::offices::are_offices;
 use crate::receipts::are_receipts;
 use crate::tables::Tables;
@@ -55,7 +55,13 @@ fn are_under(alloc: Global, schema: u32, tables: &Tables) -> Result<bool, Fault>
     if !are_offices(alloc, offices)? {
         return Ok(false);
     }
-    if !are_office_parts(today, products, offices, staff, clients, loans, entries) {
+    let belongings = Belongings {
+        staff,
+        clients,
+        loans,
+        entries,
+    };
+    if !are_office_parts(today, products, offices, belongings) {
         return Ok(false);
     }
     if !are_by_staff(staff, entries) {
