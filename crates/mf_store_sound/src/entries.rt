@@ -12,10 +12,13 @@ ghost use Rattle.mf_store_sound.specs.Entries.{IsEntryRow};
 ghost use Rattle.mf_store_accounts.specs.Flat.{entry_in, entry_kind_number, portion_number};
 ghost use Rattle.std.specs.List.{list_all};
 
+use crate::amounts::is_amount;
 use crate::numbered::NumberedRow;
+use mf_account::Kind;
+use mf_alloc::Portion;
 use mf_base::Day;
 use mf_office::Caller;
-use mf_store_accounts::{amount_from, flag_from, kind_from, portion_from};
+use mf_store_accounts::{amount_from, flag_from, kind_from, number_of_portion, portion_from};
 use mf_store_records::{EntryRow, Text};
 
 /// A loan that was disbursed, with the day of the institution.
@@ -30,9 +33,6 @@ pub(crate) struct DisbursedLoan {
     /// The business day.
     pub(crate) today: Day,
 }
-
-/// The greatest amount of an entry, as rows keep it.
-const GREATEST_AMOUNT: i64 = 1_000_000_000_000;
 
 /// Whether the numbers and texts of a row are those of an entry.
 fn is_readable(row: &EntryRow) -> bool
@@ -51,13 +51,6 @@ fn is_readable(row: &EntryRow) -> bool
     }
 }
 
-/// Whether an amount is from 1 cent to the greatest.
-fn is_amount(cents: i64) -> bool
-    ensures { (amount : ℕ) → pos amount ≡ cents → IsTrue result ↔ ((1 ≤ amount) × (amount ≤ 10 ^ 12)) }
-{
-    cents >= 1 && cents <= GREATEST_AMOUNT
-}
-
 /// Whether a row's instalment is one of so many.
 fn is_instalment(periods: u32, row: &EntryRow) -> bool
     ensures { IsTrue result ↔ ((1 ≤ row.now.instalment) × (row.now.instalment ≤ periods)) }
@@ -65,16 +58,16 @@ fn is_instalment(periods: u32, row: &EntryRow) -> bool
     row.instalment >= 1 && row.instalment <= periods
 }
 
-/// Whether a row's columns are those of a fee or a penalty, whose portion has this number.
-fn is_charge(portion: u32, periods: u32, row: &EntryRow) -> bool
+/// Whether a row's columns are those of a fee or a penalty, whose portion this is.
+fn is_charge(portion: Portion, periods: u32, row: &EntryRow) -> bool
     ensures { (amount : ℕ) → pos amount ≡ row.now.amount →
         IsTrue result ↔
         ((1 ≤ amount) × (amount ≤ 10 ^ 12) × (1 ≤ row.now.instalment) × (row.now.instalment ≤ periods)
-        × (row.now.portion ≡ portion) × (row.now.receipt ≡ None)) }
+        × (row.now.portion ≡ portion_number portion) × (row.now.receipt ≡ None)) }
 {
     is_amount(row.amount)
         && is_instalment(periods, row)
-        && row.portion == portion
+        && row.portion == number_of_portion(portion)
         && row.receipt.is_none()
 }
 
@@ -83,7 +76,9 @@ fn is_repayment(row: &EntryRow) -> bool
     ensures { (amount : ℕ) → pos amount ≡ row.now.amount →
         IsTrue result ↔ ((1 ≤ amount) × (amount ≤ 10 ^ 12) × (row.now.instalment ≡ 0) × (row.now.portion ≡ 4)) }
 {
-    is_amount(row.amount) && row.instalment == 0 && row.portion == 4
+    is_amount(row.amount)
+        && row.instalment == 0
+        && row.portion == number_of_portion(Portion::Principal)
 }
 
 /// Whether a row's columns are those of a waiver.
@@ -93,7 +88,10 @@ fn is_waiver(periods: u32, row: &EntryRow) -> bool
         ((amount ≡ 0) × (1 ≤ row.now.instalment) × (row.now.instalment ≤ periods) × (row.now.portion ≢ 4)
         × (row.now.receipt ≡ None)) }
 {
-    row.amount == 0 && is_instalment(periods, row) && row.portion != 4 && row.receipt.is_none()
+    row.amount == 0
+        && is_instalment(periods, row)
+        && row.portion != number_of_portion(Portion::Principal)
+        && row.receipt.is_none()
 }
 
 /// Whether a row's columns are those of a write-off or a refund.
@@ -101,19 +99,23 @@ fn is_sealing(row: &EntryRow) -> bool
     ensures { (amount : ℕ) → pos amount ≡ row.now.amount →
         IsTrue result ↔ ((amount ≡ 0) × (row.now.instalment ≡ 0) × (row.now.portion ≡ 4) × (row.now.receipt ≡ None)) }
 {
-    row.amount == 0 && row.instalment == 0 && row.portion == 4 && row.receipt.is_none()
+    row.amount == 0
+        && row.instalment == 0
+        && row.portion == number_of_portion(Portion::Principal)
+        && row.receipt.is_none()
 }
 
 /// Whether a row's columns are those of an entry of its kind, on a loan of so many instalments.
 fn has_columns(periods: u32, row: &EntryRow) -> bool
     ensures { (e : Entry) → entry_in row.now.office row.now.loan e ≡ row.now → IsTrue result ↔ HasColumns e.kind periods e }
 {
-    match row.kind {
-        1 => is_repayment(row),
-        2 => is_charge(2, periods, row),
-        3 => is_charge(1, periods, row),
-        4 => is_waiver(periods, row),
-        _ => is_sealing(row),
+    match kind_from(row.kind) {
+        Some(Kind::Repay) => is_repayment(row),
+        Some(Kind::Fee) => is_charge(Portion::Fee, periods, row),
+        Some(Kind::Penalty) => is_charge(Portion::Penalty, periods, row),
+        Some(Kind::Waive) => is_waiver(periods, row),
+        Some(Kind::WriteOff | Kind::Refund) => is_sealing(row),
+        None => false,
     }
 }
 

@@ -2,6 +2,7 @@
 //! knows rows and no database.
 #![tactic(auto)]
 
+mod amounts;
 mod callers;
 mod charges;
 mod clients;

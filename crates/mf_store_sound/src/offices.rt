@@ -11,12 +11,9 @@ ghost use Rattle.mf_store_sound.specs.Parts.{office_of};
 
 use mf_base::Fault;
 use mf_model::is_name;
-use mf_office::tree_by_its_keys;
+use mf_office::{OfficeNo, tree_by_its_keys};
 use mf_store_records::OfficeRow;
 use std::alloc::Global;
-
-/// The greatest number of an office.
-const GREATEST_NUMBER: u32 = 9_999;
 
 /// How many dots the deepest hierarchy text has.
 const MOST_DOTS: usize = 6;
@@ -65,7 +62,7 @@ fn count_dots(key: &str) -> usize
 fn is_numbered_and_named(office: &OfficeRow) -> bool
     ensures { IsTrue result ↔ IsNumberedAndNamed office.now }
 {
-    office.number >= 1 && office.number <= GREATEST_NUMBER && is_name(office.name.as_str())
+    office.number >= 1 && office.number <= OfficeNo::MAX && is_name(office.name.as_str())
 }
 
 /// Whether a row is that of the head.
