@@ -97,16 +97,9 @@ fn are_kinds_right(charges: &[ChargeRow], row: &ProductRow) -> bool
         product_as row.now.number p ≡ row.now →
         result ≡ kinds_right (charge_in k) p.members }
 {
-    let disbursement = is_of_kind(charges, ChargeKind::Disbursement, row.disbursement_charge);
-    let instalment = is_of_kind(charges, ChargeKind::Instalment, row.instalment_charge);
-    let overdue = is_of_kind(charges, ChargeKind::Overdue, row.overdue_charge);
-    if !disbursement {
-        return false;
-    }
-    if !instalment {
-        return false;
-    }
-    overdue
+    is_of_kind(charges, ChargeKind::Disbursement, row.disbursement_charge)
+        && is_of_kind(charges, ChargeKind::Instalment, row.instalment_charge)
+        && is_of_kind(charges, ChargeKind::Overdue, row.overdue_charge)
 }
 
 /// The row of a product over these charges.
