@@ -34,15 +34,15 @@ fn are_under(alloc: Global, schema: u32, tables: &Tables) -> Result<bool, Fault>
     ensures exact { IfOk result (λ yes. IsTrue yes ↔ AreUnder schema tables.now) }
     ensures gives_up { IfErr result (λ fault. fault ≡ F20) }
 {
-    let meta = tables.meta();
-    let offices = tables.offices();
-    let staff = tables.staff();
-    let clients = tables.clients();
-    let charges = tables.charges();
-    let products = tables.products();
-    let loans = tables.loans();
-    let entries = tables.entries();
-    let receipts = tables.receipts();
+    let meta = tables.meta.as_slice();
+    let offices = tables.offices.as_slice();
+    let staff = tables.staff.as_slice();
+    let clients = tables.clients.as_slice();
+    let charges = tables.charges.as_slice();
+    let products = tables.products.as_slice();
+    let loans = tables.loans.as_slice();
+    let entries = tables.entries.as_slice();
+    let receipts = tables.receipts.as_slice();
     let Some(today) = business_day(schema, meta) else {
         return Ok(false);
     };
@@ -80,12 +80,12 @@ pub fn is_sound(alloc: Global, tables: &Tables) -> Result<bool, Fault>
     }
     are_accounts(
         alloc,
-        tables.charges(),
-        tables.products(),
-        tables.loans(),
-        tables.entries(),
-        tables.instalments(),
-        tables.shares(),
+        &tables.charges,
+        &tables.products,
+        &tables.loans,
+        &tables.entries,
+        &tables.instalments,
+        &tables.shares,
     )
 }
 
@@ -113,9 +113,9 @@ pub fn account_rows(
 {
     rows_of_accounts(
         alloc,
-        tables.charges(),
-        tables.products(),
-        tables.loans(),
-        tables.entries(),
+        &tables.charges,
+        &tables.products,
+        &tables.loans,
+        &tables.entries,
     )
 }
