@@ -10,14 +10,14 @@ use mf_model::is_name;
 use mf_store_accounts::amount_from;
 use mf_store_records::ChargeRow;
 
-/// Whether a value lies within the limits of a charge that is computed so.
+/// Whether a value is within the limits of a charge that is computed this way.
 fn is_value(calc: Calc, value: u64) -> bool
     ensures { IsTrue result ↔ IsValue calc value }
 {
     value >= 1 && value <= greatest_value(calc)
 }
 
-/// The row of a charge. The catalogue has one list of them.
+/// The row of a charge. An institution has one list of charges, so the owner says nothing.
 impl NumberedRow<()> for ChargeRow {
     ghost Setting = { λ catalogue. Unit {0} };
 

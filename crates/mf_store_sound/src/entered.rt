@@ -12,7 +12,7 @@ use mf_store_records::EntryRow;
 const MOST_ENTRIES: u32 = 9_999;
 
 /// Whether the rows are those of the entries of a loan: numbered from 1, none before its disbursement or after today, and
-/// a standing write-off or refund the last. That those who entered them are there is left open.
+/// a standing write-off or refund the last. It does not check that the staff who entered them exist.
 pub(crate) fn are_loan_entries(loan: DisbursedLoan, rows: &[EntryRow]) -> bool
     ensures { IsTrue result ↔ AreLoanEntries loan.today loan.day loan.periods loan.office loan.number rows.now }
 {

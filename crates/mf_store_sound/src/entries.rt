@@ -21,7 +21,7 @@ use mf_office::Caller;
 use mf_store_accounts::{amount_from, flag_from, kind_from, number_of_portion, portion_from};
 use mf_store_records::{EntryRow, Text};
 
-/// A loan that was disbursed, with the day of the institution.
+/// A disbursed loan, and what its entries are checked against.
 #[derive(Clone, Copy)]
 pub(crate) struct DisbursedLoan {
     pub(crate) office: u32,
@@ -58,7 +58,7 @@ fn is_instalment(periods: u32, row: &EntryRow) -> bool
     row.instalment >= 1 && row.instalment <= periods
 }
 
-/// Whether a row's columns are those of a fee or a penalty, whose portion this is.
+/// Whether a row's columns are those of a fee or a penalty, which this portion tells.
 fn is_charge(portion: Portion, periods: u32, row: &EntryRow) -> bool
     ensures { (amount : ℕ) → pos amount ≡ row.now.amount →
         IsTrue result ↔
@@ -134,7 +134,7 @@ fn are_printable(bytes: &[u8]) -> bool
     bytes.iter().all(|byte| *byte >= 33 && *byte <= 126)
 }
 
-/// Whether a row's receipt, if it has one, is a receipt.
+/// Whether a row has no receipt, or one with a receipt's text.
 fn has_right_receipt(row: &EntryRow) -> bool
     ensures { IsTrue result ↔ IfSome row.now.receipt IsReceipt }
 {

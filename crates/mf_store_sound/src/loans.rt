@@ -18,7 +18,7 @@ use mf_base::Day;
 use mf_store_accounts::{amount_from, product_row};
 use mf_store_records::{EntryRow, LoanRow, ProductRow, Text};
 
-/// An office that lends, with what its loans are judged by.
+/// An office that lends, and what its loans are checked against.
 #[derive(Drop)]
 pub(crate) struct Lender<'a> {
     pub(crate) office: u32,
@@ -81,7 +81,7 @@ fn is_row_of_loan(today: Day, office: u32, number: u32, row: &LoanRow) -> bool
     }
 }
 
-/// Whether the client of the row's loan is one of so many.
+/// Whether the client of the row's loan exists: clients are numbered up to this count.
 fn is_client_there(clients: usize, row: &LoanRow) -> bool
     ensures { (l : Loan) → loan_in row.now.office row.now.number l ≡ row.now → (names : List (List ℕ)) → length names ≡ clients →
         result ≡ is_some (numbered names l.client) }
@@ -101,7 +101,7 @@ fn is_allowed(product: &ProductRow, row: &LoanRow) -> bool
         && row.periods <= product.max_periods
 }
 
-/// Whether the product of the row's loan is there and lends so.
+/// Whether the product of the row's loan exists, and allows its principal and periods.
 fn does_lend(products: &[ProductRow], row: &LoanRow) -> bool
     ensures { (k : Catalogue) → numbered_from product_as 1 k.products ≡ products.now → (l : Loan) →
         loan_in row.now.office row.now.number l ≡ row.now →
@@ -113,7 +113,7 @@ fn does_lend(products: &[ProductRow], row: &LoanRow) -> bool
     }
 }
 
-/// Whether a row is that of a loan of this office with this number. Its entries are left open.
+/// Whether a row is that of a loan of this office with this number. It does not check its entries.
 pub(crate) fn is_loan(lender: &Lender, number: u32, row: &LoanRow) -> bool
     requires { lender.now.today ≤ last_entered_day }
     ensures { (k : Catalogue) → k.day ≡ lender.now.today → numbered_from product_as 1 k.products ≡ lender.now.products.now →
@@ -125,8 +125,8 @@ pub(crate) fn is_loan(lender: &Lender, number: u32, row: &LoanRow) -> bool
         && does_lend(lender.products, row)
 }
 
-/// Whether the rows are those of the entries of a row's loan: none where it is not disbursed. That those who entered
-/// them are there is left open.
+/// Whether the rows are those of the entries of a row's loan, which has none unless it is disbursed. It does not check
+/// that the staff who entered them exist.
 pub(crate) fn are_entries_of(lender: &Lender, number: u32, row: &LoanRow, own: &[EntryRow]) -> bool
     requires { lender.now.today ≤ last_entered_day }
     ensures { (l : Loan) → loan_in lender.now.office number l ≡ row.now → IsStageBy lender.now.today l.stage →

@@ -5,17 +5,18 @@ ghost use Rattle.mf_store_sound.specs.Stored.{AllFrom};
 
 /// A row that has a number within its owner.
 pub(crate) trait NumberedRow<Owner> {
-    /// What the owner is of, where it is known by rows alone.
+    /// What the owner's rows stand for, where the code has only the rows.
     ghost Setting: { Owner → Type 0 };
 
-    /// The row is the owner's, and has this number.
+    /// The row is one of the owner's, with this number.
     ghost IsNumbered: { (owner : Owner) → Setting owner → ℕ → Self → Type 0 };
 
+    /// Whether the row is one of the owner's, with this number.
     fn is_numbered(&self, owner: Owner, number: u32) -> bool
         ensures { (of : Setting owner) → IsTrue result ↔ IsNumbered owner of number self.now };
 }
 
-/// Whether the rows are the owner's, at most so many, by number from 1.
+/// Whether the rows are the owner's, numbered from 1, and at most this many.
 pub(crate) fn are_numbered<Owner: Copy, R: NumberedRow<Owner>>(
     owner: Owner,
     rows: &[R],

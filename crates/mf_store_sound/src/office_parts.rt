@@ -56,7 +56,7 @@ impl<'a> Belongings<'a> {
         (own, later)
     }
 
-    /// Whether there are none.
+    /// Whether there are no rows.
     fn is_empty(self) -> bool
         ensures { IsTrue result ↔ ((self.entry.staff.now ≡ []) × (self.entry.clients.now ≡ []) × (self.entry.loans.now ≡ []) × (self.entry.entries.now ≡ [])) }
     {
@@ -67,8 +67,8 @@ impl<'a> Belongings<'a> {
     }
 }
 
-/// Whether the rows are those of this office's staff, clients, loans and entries, but for who entered these and for
-/// their receipts.
+/// Whether the rows are those of this office's staff, clients, loans and entries. It does not check who entered the
+/// entries, nor their receipts.
 fn is_office_part(today: Day, products: &[ProductRow], office: u32, own: Belongings) -> bool
     requires { today ≤ last_entered_day }
     ensures { (k : Catalogue) → k.day ≡ today → numbered_from product_as 1 k.products ≡ products.now →
@@ -89,8 +89,8 @@ fn is_office_part(today: Day, products: &[ProductRow], office: u32, own: Belongi
     are_loans(&lender, own.loans, own.entries)
 }
 
-/// Whether the rows are those of these offices' staff, clients, loans and entries, office by office, but for who entered
-/// these and for their receipts.
+/// Whether the rows are those of these offices' staff, clients, loans and entries, office by office. It does not check
+/// who entered the entries, nor their receipts.
 pub(crate) fn are_office_parts(
     today: Day,
     products: &[ProductRow],

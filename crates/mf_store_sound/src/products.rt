@@ -19,7 +19,7 @@ use mf_model::is_name;
 use mf_store_accounts::{amount_from, charge_row, flag_from};
 use mf_store_records::{ChargeRow, ProductRow};
 
-/// Whether the numbers of a row that stand for choices stand for some, and its amounts are amounts.
+/// Whether each number that stands for a choice is that of one, and no amount is negative.
 fn has_choices(row: &ProductRow) -> bool
     ensures { IsTrue result ↔ ((p : Offer) × (product_as row.now.number p ≡ row.now)) }
 {
@@ -36,7 +36,7 @@ fn has_choices(row: &ProductRow) -> bool
     }
 }
 
-/// The longest step between due days for the number of a frequency.
+/// The longest step between due days, for the number of a frequency.
 fn longest(frequency: u32) -> u32
     ensures { (freq : AnyFreq) → frequency_number freq ≡ frequency → result ≡ longest_step freq }
 {
@@ -78,7 +78,7 @@ fn do_limits_agree(row: &ProductRow) -> bool
         && row.interest_grace < row.min_periods
 }
 
-/// Whether the charge is there and of this kind, where one is named.
+/// Whether the charge that is named, if one is, exists and is of this kind.
 fn is_of_kind(charges: &[ChargeRow], kind: ChargeKind, named: Option<u32>) -> bool
     ensures { (k : Catalogue) → numbered_from charge_as 1 k.charges ≡ charges.now → result ≡ is_of_kind (charge_in k) kind named }
 {
@@ -91,7 +91,7 @@ fn is_of_kind(charges: &[ChargeRow], kind: ChargeKind, named: Option<u32>) -> bo
     }
 }
 
-/// Whether the charges that the row's product names are there and of the right kinds.
+/// Whether the charges that the row's product names exist and are of the right kinds.
 fn are_kinds_right(charges: &[ChargeRow], row: &ProductRow) -> bool
     ensures { (k : Catalogue) → numbered_from charge_as 1 k.charges ≡ charges.now → (p : Offer) →
         product_as row.now.number p ≡ row.now →

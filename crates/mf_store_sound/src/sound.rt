@@ -29,7 +29,8 @@ const SCHEMA: u32 = 2;
 /// The most charges of a catalogue, and the most products.
 const MOST_OF_CATALOGUE: u32 = 999;
 
-/// Whether there is a sound institution whose rows these are, with this schema's number and but for the rows of accounts.
+/// Whether there is a sound institution whose rows these are, with this schema's number. It does not check the rows of
+/// accounts.
 fn are_under(alloc: Global, schema: u32, tables: &Tables) -> Result<bool, Fault>
     ensures exact { IfOk result (λ yes. IsTrue yes ↔ AreUnder schema tables.now) }
     ensures gives_up { IfErr result (λ fault. fault ≡ F20) }
@@ -70,7 +71,7 @@ fn are_under(alloc: Global, schema: u32, tables: &Tables) -> Result<bool, Fault>
     are_receipts(alloc, receipts, entries)
 }
 
-/// Whether there is a sound institution whose rows these are. The error is want of memory, F20.
+/// Whether there is a sound institution whose rows these are. The error is F20, out of memory.
 pub fn is_sound(alloc: Global, tables: &Tables) -> Result<bool, Fault>
     ensures exact { IfOk result (λ yes. IsTrue yes ↔ AreOfSound tables.now) }
     ensures gives_up { IfErr result (λ fault. fault ≡ F20) }
@@ -90,7 +91,7 @@ pub fn is_sound(alloc: Global, tables: &Tables) -> Result<bool, Fault>
 }
 
 /// Whether there is a sound institution whose rows these are under the first schema, which keeps no rows of accounts. The
-/// error is want of memory, F20.
+/// error is F20, out of memory.
 pub fn is_sound_first(alloc: Global, tables: &Tables) -> Result<bool, Fault>
     ensures exact { IfOk result (λ yes. IsTrue yes ↔ AreOfSoundFirst tables.now) }
     ensures gives_up { IfErr result (λ fault. fault ≡ F20) }
@@ -102,7 +103,7 @@ pub fn is_sound_first(alloc: Global, tables: &Tables) -> Result<bool, Fault>
 }
 
 /// The rows of instalments and of shares that the accounts of an institution have, by its rows under the first schema. The
-/// error is want of memory, F20.
+/// error is F20, out of memory.
 pub fn account_rows(
     alloc: Global,
     tables: &Tables,

@@ -9,7 +9,7 @@ use mf_model::is_name;
 use mf_office::Role;
 use mf_store_records::StaffRow;
 
-/// The row of a member of an office's staff.
+/// The row of a member of staff of an office.
 impl NumberedRow<u32> for StaffRow {
     ghost Setting = { λ office. Unit {0} };
 
