@@ -1,6 +1,7 @@
 -- The entries of one loan, by their rows.
 use Rattle.std.proofs.Common.{◌≡◌, ◌<◌, ◌≤◌, ◌+◌, ◌∙◌, ℕ, zero, suc, Bool, List, [], ◌∷◌, map, length, IsTrue, refl, sym, ap, subst, arith, All}
 use Rattle.std.specs.List.{AllByRecursion}
+use Rattle.std.proofs.lemmas.List.{length-map}
 use Rattle.std.proofs.lemmas.List.Elements.{All-nil, All-cons, All-head, All-tail}
 use Rattle.mf_account.specs.declared.entry.Entry.{Entry}
 use Rattle.mf_account.specs.Lawful.{are_seals_last}
@@ -9,14 +10,10 @@ use Rattle.mf_account.specs.Standing.{entry_at}
 use Rattle.mf_account.proofs.LawfulLemmas.{seals_last, seals_pass}
 use Rattle.mf_store_records.specs.declared.entries.EntryRow.{EntryRow}
 use Rattle.mf_store_accounts.specs.Ledgers.{IsReadable, IsEnteredBy}
-use Rattle.mf_store_sound.specs.Entries.{IsEntryRow, IsPlainEntry, AreLoanEntries}
+use Rattle.mf_store_sound.specs.Entries.{IsEntryRow, AreLoanEntries}
 use Rattle.mf_store_accounts.specs.Flat.{entry_in}
 use Rattle.mf_store_sound.specs.Stored.{AllFrom}
-use Rattle.mf_store_sound.proofs.EntryLemmas.{gathered, parted}
-
-length_map : {A B : Type 0} (f : A → B) (xs : List A) → length (map f xs) ≡ length xs
-length_map f [] = refl
-length_map f (x ∷ xs) = ap suc (length_map f xs)
+use Rattle.mf_store_sound.proofs.EntryLemmas.{IsPlainEntry, gathered, parted}
 
 abbrev HasNumber : ℕ → Entry → Type 0
 HasNumber number e = e.seq ≡ number
@@ -61,7 +58,7 @@ module _ (today day n : ℕ) where
     pub loan_entries : (b : Bool) → AreNumbered → Seals b → IsTrue b → AreLoanEntries today day n x m rows
     loan_entries b h seals t =
         let r = gathered today day n x m 1 rows h.1 in
-        let many : length r.entries ≡ length rows = sym (length_map (entry_in x m) r.entries) ∙ ap length r.rows_are in
+        let many : length r.entries ≡ length rows = sym (length-map r.entries (entry_in x m)) ∙ ap length r.rows_are in
         let numbers : (i : ℕ) → i < length r.entries → (entry_at r.entries i).seq ≡ i + 1 = λ i below. (let own = numbers_at 1 r.entries r.numbers i below in omega (arith, own)) in
         record {
           entries = r.entries;
@@ -77,7 +74,7 @@ module _ (today day n : ℕ) where
 
     pub entry_rows_of : AreLoanEntries today day n x m rows → AreNumbered
     entry_rows_of h =
-        let many : length h.entries ≡ length rows = sym (length_map (entry_in x m) h.entries) ∙ ap length h.rows_are in (
+        let many : length h.entries ≡ length rows = sym (length-map h.entries (entry_in x m)) ∙ ap length h.rows_are in (
           subst (λ k. k ≤ 9999) many h.lawful.few,
           parted today day n x m 1 rows (record {
             entries = h.entries;

@@ -1,15 +1,31 @@
 -- Rows of a loan's entries, and the receipts that rows of entries carry.
-use Rattle.std.proofs.Common.{◌≡◌, ◌+◌, ◌∙◌, ℕ, List, [], ◌∷◌, ◌++◌, map, Option, Some, None, refl, sym, ap, append_assoc}
+use Rattle.std.proofs.Common.{◌≡◌, ◌+◌, ◌∙◌, ℕ, List, [], ◌∷◌, ◌++◌, map, Option, Some, None, IfSome, ◌≤◌, refl, sym, ap, append_assoc}
 use Rattle.std.specs.List.{AllByRecursion}
 use Rattle.std.proofs.lemmas.List.{map-append}
 use Rattle.mf_account.specs.declared.entry.Entry.{Entry}
 use Rattle.mf_model.specs.Institution.{Ledger, Office}
-use Rattle.mf_model.specs.Receipts.{use_of, uses_in, uses_from}
+use Rattle.mf_account.specs.Loan.{IsEntry}
+use Rattle.mf_model.specs.Receipts.{IsReceipt, use_of, uses_in, uses_from}
 use Rattle.mf_store_records.specs.declared.entries.EntryRow.{EntryRow}
-use Rattle.mf_store_sound.specs.Entries.{IsEntryRow, IsPlainEntry, AreEntryRows}
+use Rattle.mf_store_sound.specs.Entries.{IsEntryRow}
 use Rattle.mf_store_accounts.specs.Flat.{entry_in, own_entries, rows_of_loans, entry_rows}
+use Rattle.mf_store_accounts.specs.Ledgers.{IsReadable}
 use Rattle.mf_store_accounts.specs.ReceiptRows.{receipt_in, carried, receipt_of, carried_by}
 use Rattle.mf_store_sound.specs.Stored.{AllFrom}
+
+-- an entry of a loan of n instalments that was disbursed on a day, whoever entered it
+pub record IsPlainEntry (today day n : ℕ) (e : Entry) : Type 0 where
+  pub readable : IsReadable e
+  pub lawful : IsEntry n day e
+  pub entered : e.day ≤ today
+  pub receipt : IfSome e.receipt IsReceipt
+
+-- the rows are those of such entries, by number, the first of which is this; who entered them and how they stand to each other is left open
+pub record AreEntryRows (today day n office loan first : ℕ) (rows : List EntryRow) : Type 0 where
+  pub entries : List Entry
+  pub numbers : AllFrom (λ number (e : Entry). e.seq ≡ number) first entries
+  pub each : AllByRecursion (IsPlainEntry today day n) entries
+  pub rows_are : map (entry_in office loan) entries ≡ rows
 
 -- rows of entries one by one, and all together
 module _ (today day n x m : ℕ) where

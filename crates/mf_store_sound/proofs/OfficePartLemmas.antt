@@ -1,7 +1,7 @@
 -- Rows of one office after another: apart and together.
 use Rattle.std.proofs.Common.{◌≡◌, ◌↔◌, ◌<◌, ◌≤◌, ◌+◌, ◌∙◌, ℕ, suc, List, [], ◌∷◌, ◌++◌, map, length, get_or, drop, refl, sym, ap, subst, add-one, drop-cons}
 use Rattle.std.specs.List.{AllByRecursion}
-use Rattle.std.proofs.lemmas.List.{drop_all, take-append-drop}
+use Rattle.std.proofs.lemmas.List.{drop_all, take-append-drop, length-map}
 use Rattle.mf_model.specs.Institution.{Catalogue, Ledger, Office, Staff}
 use Rattle.mf_model.specs.Sound.{IsName}
 use Rattle.mf_model.specs.Tree.{Above, Ascending}
@@ -15,18 +15,14 @@ use Rattle.mf_store_sound.specs.Parts.{own_count, own, later, office_of, bare}
 use Rattle.mf_store_sound.specs.Sound.{AreLoanParts, IsPlainRows, IsOfficePart, AreOfficeParts}
 use Rattle.mf_store_sound.specs.Stored.{IsRowOf, AllFrom}
 use Rattle.mf_store_sound.proofs.PartLemmas.{own_of_first, later_of_first, own_of_office, later_of_office}
-use Rattle.mf_store_sound.proofs.StoredLemmas.{gathered, parted}
+use Rattle.mf_store_sound.proofs.StoredLemmas.{from_place, gathered, parted}
 
 pub length_numbered : {A R : Type 0} (make : ℕ → A → R) (n : ℕ) (xs : List A) → length (numbered_from make n xs) ≡ length xs
 length_numbered make n [] = refl
 length_numbered make n (x ∷ xs) = ap suc (length_numbered make (n + 1) xs)
 
-length_map : {A B : Type 0} (f : A → B) (xs : List A) → length (map f xs) ≡ length xs
-length_map f [] = refl
-length_map f (x ∷ xs) = ap suc (length_map f xs)
-
 loans_counted : (x : ℕ) (ls : List Ledger) (loans : List LoanRow) → numbered_from (loan_in x) 1 (map (λ (l : Ledger). l.loan) ls) ≡ loans → length ls ≡ length loans
-loans_counted x ls loans is = sym (length_map (λ (l : Ledger). l.loan) ls) ∙ sym (length_numbered (loan_in x) 1 (map (λ (l : Ledger). l.loan) ls)) ∙ ap length is
+loans_counted x ls loans is = sym (length-map ls (λ (l : Ledger). l.loan)) ∙ sym (length_numbered (loan_in x) 1 (map (λ (l : Ledger). l.loan) ls)) ∙ ap length is
 
 -- ---- what an office's part is made of
 
@@ -75,7 +71,7 @@ module _ (k : Catalogue) (x : ℕ) (staff : List StaffRow) (clients : List Clien
 
 -- ---- offices with their rows
 
-above_bare : (n : ℕ) (fs : List Office) → Above n (map bare fs) → Above n fs
+pub above_bare : (n : ℕ) (fs : List Office) → Above n (map bare fs) → Above n fs
 above_bare n [] h = tt
 above_bare n (f ∷ fs) h = (h.0, above_bare n fs h.1)
 
@@ -153,27 +149,24 @@ module _ (k : Catalogue) where
       entries_are = (λ t. h.entries_are t ++ more.entries_are t) ∙ take-append-drop (own_count of_entry o.number entries) entries;
     }
 
-  at_office : (rows : List OfficeRow) (i : ℕ) (o : OfficeRow) → i < length rows → o ≡ get_or rows i o → drop i rows ≡ o ∷ drop (i + 1) rows
-  at_office rows i o h is = drop-cons rows i o h ∙ (λ t. sym is t ∷ drop (sym (add-one i) t) rows)
-
   pub ascends_on : (rows : List OfficeRow) (i : ℕ) (o : OfficeRow) → i < length rows → o ≡ get_or rows i o → Ascending (map office_of (drop i rows)) → Ascending (map office_of (drop (i + 1) rows))
-  ascends_on rows i o h is up = (subst (λ os. Ascending (map office_of os)) (at_office rows i o h is) up).1
+  ascends_on rows i o h is up = (subst (λ os. Ascending (map office_of os)) (from_place rows i o h is) up).1
 
   module _ (rows : List OfficeRow) (i : ℕ) (o : OfficeRow) (staff : List StaffRow) (clients : List ClientRow) (loans : List LoanRow) (entries : List EntryRow) (h : i < length rows) (is : o ≡ get_or rows i o) (up : Ascending (map office_of (drop i rows))) where
     above_here : Above o.number (map office_of (drop (i + 1) rows))
-    above_here = (subst (λ os. Ascending (map office_of os)) (at_office rows i o h is) up).0
+    above_here = (subst (λ os. Ascending (map office_of os)) (from_place rows i o h is) up).0
 
     -- the office at i has its part, so all have theirs where the later ones have
     pub part_passed : (X : Type 0) → First o (drop (i + 1) rows) staff clients loans entries → (X ↔ AreOfficeParts k (drop i rows) staff clients loans entries) → X ↔ Others o (drop (i + 1) rows) staff clients loans entries
     part_passed X first so_far = (
-      λ x. (parts_apart o (drop (i + 1) rows) staff clients loans entries above_here (subst (λ os. AreOfficeParts k os staff clients loans entries) (at_office rows i o h is) (so_far.0 x))).1,
-      λ more. so_far.1 (subst (λ os. AreOfficeParts k os staff clients loans entries) (sym (at_office rows i o h is)) (parts_together o (drop (i + 1) rows) staff clients loans entries first more)),
+      λ x. (parts_apart o (drop (i + 1) rows) staff clients loans entries above_here (subst (λ os. AreOfficeParts k os staff clients loans entries) (from_place rows i o h is) (so_far.0 x))).1,
+      λ more. so_far.1 (subst (λ os. AreOfficeParts k os staff clients loans entries) (sym (from_place rows i o h is)) (parts_together o (drop (i + 1) rows) staff clients loans entries first more)),
     )
 
     -- the office at i has not
     pub part_refused : (X : Type 0) → (First o (drop (i + 1) rows) staff clients loans entries → ⊥) → (X ↔ AreOfficeParts k (drop i rows) staff clients loans entries) → X → ⊥
     part_refused X none so_far x =
-        none (parts_apart o (drop (i + 1) rows) staff clients loans entries above_here (subst (λ os. AreOfficeParts k os staff clients loans entries) (at_office rows i o h is) (so_far.0 x))).0
+        none (parts_apart o (drop (i + 1) rows) staff clients loans entries above_here (subst (λ os. AreOfficeParts k os staff clients loans entries) (from_place rows i o h is) (so_far.0 x))).0
 
   -- each office had its part, and nothing is left
   pub parts_passed : (X : Type 0) (rows : List OfficeRow) (i : ℕ) (staff : List StaffRow) (clients : List ClientRow) (loans : List LoanRow) (entries : List EntryRow) (B : Type 0) → length rows ≤ i → (X ↔ AreOfficeParts k (drop i rows) staff clients loans entries)

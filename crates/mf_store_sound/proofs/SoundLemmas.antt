@@ -38,13 +38,13 @@ use Rattle.mf_store_accounts.specs.ReceiptRows.{carried_by, receipt_rows, AreRec
 use Rattle.mf_store_accounts.specs.Ledgers.{AreEntriesIn, IsPlainLoan}
 use Rattle.mf_store_sound.specs.Schemas.{meta_under}
 use Rattle.mf_store_sound.specs.Sound.{IsPlainRows, AreOfficeParts, AreUnder}
-use Rattle.mf_store_sound.specs.Stored.{IsRowOf, AreRowsOf, AllFrom}
+use Rattle.mf_store_sound.specs.Stored.{IsRowOf, AllFrom}
 use Rattle.mf_store_sound.proofs.AllLoanLemmas.{all_rows_of, all_loan_rows, all_apart, all_plain}
 use Rattle.mf_store_sound.proofs.EntryLemmas.{carried_is}
-use Rattle.mf_store_sound.proofs.OfficePartLemmas.{length_numbered}
+use Rattle.mf_store_sound.proofs.OfficePartLemmas.{above_bare, length_numbered}
 use Rattle.mf_store_sound.proofs.PartLemmas.{all_append}
 use Rattle.mf_store_sound.proofs.ReceiptLemmas.{AreAllApart, in_order_apart, apart_in_order}
-use Rattle.mf_store_sound.proofs.StoredLemmas.{gathered, parted}
+use Rattle.mf_store_sound.proofs.StoredLemmas.{AreRowsOf, gathered, parted}
 
 -- ---- who is there
 
@@ -230,17 +230,13 @@ bare_there (f ∷ fs) x = go (f.number == x) (bare_there fs x)
     go true e = refl
     go false e = e
 
-above_from_bare : (n : ℕ) (fs : List Office) → Above n (map bare fs) → Above n fs
-above_from_bare n [] h = tt
-above_from_bare n (f ∷ fs) h = (h.0, above_from_bare n fs h.1)
-
 above_to_bare : (n : ℕ) (fs : List Office) → Above n fs → Above n (map bare fs)
 above_to_bare n [] h = tt
 above_to_bare n (f ∷ fs) h = (h.0, above_to_bare n fs h.1)
 
 ascending_from_bare : (fs : List Office) → Ascending (map bare fs) → Ascending fs
 ascending_from_bare [] h = tt
-ascending_from_bare (f ∷ fs) h = (above_from_bare f.number fs h.0, ascending_from_bare fs h.1)
+ascending_from_bare (f ∷ fs) h = (above_bare f.number fs h.0, ascending_from_bare fs h.1)
 
 ascending_to_bare : (fs : List Office) → Ascending fs → Ascending (map bare fs)
 ascending_to_bare [] h = tt
