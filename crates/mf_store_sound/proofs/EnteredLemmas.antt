@@ -1,6 +1,7 @@
 -- The entries of one loan, by their rows.
 use Rattle.std.proofs.Common.{◌≡◌, ◌<◌, ◌≤◌, ◌+◌, ◌∙◌, ℕ, zero, suc, Bool, List, [], ◌∷◌, map, length, IsTrue, refl, sym, ap, subst, arith, All}
 use Rattle.std.specs.List.{AllByRecursion}
+use Rattle.std.proofs.lemmas.List.{length-map}
 use Rattle.std.proofs.lemmas.List.Elements.{All-nil, All-cons, All-head, All-tail}
 use Rattle.mf_account.specs.declared.entry.Entry.{Entry}
 use Rattle.mf_account.specs.Lawful.{are_seals_last}
@@ -9,13 +10,10 @@ use Rattle.mf_account.specs.Standing.{entry_at}
 use Rattle.mf_account.proofs.LawfulLemmas.{seals_last, seals_pass}
 use Rattle.mf_store_records.specs.declared.entries.EntryRow.{EntryRow}
 use Rattle.mf_store_accounts.specs.Ledgers.{IsReadable, IsEnteredBy}
-use Rattle.mf_store_sound.specs.Entries.{IsPlainEntry, AreEntryRows, AreLoanEntries}
+use Rattle.mf_store_sound.specs.Entries.{IsEntryRow, AreLoanEntries}
 use Rattle.mf_store_accounts.specs.Flat.{entry_in}
 use Rattle.mf_store_sound.specs.Stored.{AllFrom}
-
-length_map : {A B : Type 0} (f : A → B) (xs : List A) → length (map f xs) ≡ length xs
-length_map f [] = refl
-length_map f (x ∷ xs) = ap suc (length_map f xs)
+use Rattle.mf_store_sound.proofs.EntryLemmas.{IsPlainEntry, gathered, parted}
 
 abbrev HasNumber : ℕ → Entry → Type 0
 HasNumber number e = e.seq ≡ number
@@ -54,33 +52,36 @@ module _ (today day n : ℕ) where
     abbrev Seals : Bool → Type 0
     Seals b = (x m : ℕ) (entries : List Entry) → AllByRecursion IsReadable entries → map (entry_in x m) entries ≡ rows → b ≡ are_seals_last entries
 
-    pub loan_entries : (b : Bool) → (length rows ≤ 9999) × AreEntryRows today day n x m 1 rows → Seals b → IsTrue b → AreLoanEntries today day n x m rows
+    abbrev pub AreNumbered : Type 0
+    AreNumbered = (length rows ≤ 9999) × AllFrom (IsEntryRow today day n x m) 1 rows
+
+    pub loan_entries : (b : Bool) → AreNumbered → Seals b → IsTrue b → AreLoanEntries today day n x m rows
     loan_entries b h seals t =
-        let es = h.1.entries in
-        let many : length h.1.entries ≡ length rows = sym (length_map (entry_in x m) h.1.entries) ∙ ap length h.1.rows_are in
-        let numbers : (i : ℕ) → i < length h.1.entries → (entry_at h.1.entries i).seq ≡ i + 1 = λ i below. (let own = numbers_at 1 h.1.entries h.1.numbers i below in omega (arith, own)) in
+        let r = gathered today day n x m 1 rows h.1 in
+        let many : length r.entries ≡ length rows = sym (length-map r.entries (entry_in x m)) ∙ ap length r.rows_are in
+        let numbers : (i : ℕ) → i < length r.entries → (entry_at r.entries i).seq ≡ i + 1 = λ i below. (let own = numbers_at 1 r.entries r.numbers i below in omega (arith, own)) in
         record {
-          entries = h.1.entries;
+          entries = r.entries;
           lawful = record {
             numbers = numbers;
             few = subst (λ k. k ≤ 9999) (sym many) h.0;
-            each = lawful_all h.1.entries h.1.each;
-            seal_last = seals_last h.1.entries numbers (sym (seals x m h.1.entries (readable_all h.1.entries h.1.each) h.1.rows_are) ∙ t);
+            each = lawful_all r.entries r.each;
+            seal_last = seals_last r.entries numbers (sym (seals x m r.entries (readable_all r.entries r.each) r.rows_are) ∙ t);
           };
-          each = entered_all h.1.entries h.1.each;
-          rows_are = h.1.rows_are;
+          each = entered_all r.entries r.each;
+          rows_are = r.rows_are;
         }
 
-    pub entry_rows_of : AreLoanEntries today day n x m rows → (length rows ≤ 9999) × AreEntryRows today day n x m 1 rows
+    pub entry_rows_of : AreLoanEntries today day n x m rows → AreNumbered
     entry_rows_of h =
-        let many : length h.entries ≡ length rows = sym (length_map (entry_in x m) h.entries) ∙ ap length h.rows_are in (
+        let many : length h.entries ≡ length rows = sym (length-map h.entries (entry_in x m)) ∙ ap length h.rows_are in (
           subst (λ k. k ≤ 9999) many h.lawful.few,
-          record {
+          parted today day n x m 1 rows (record {
             entries = h.entries;
             numbers = numbers_from 1 h.entries (λ i below. let own = h.lawful.numbers i below in omega (arith, own));
             each = plain_all h.entries h.lawful.each h.each;
             rows_are = h.rows_are;
-          },
+          }),
         )
 
     pub seals_of : (b : Bool) → Seals b → AreLoanEntries today day n x m rows → IsTrue b

@@ -1,19 +1,35 @@
 -- Rows of a loan's entries, and the receipts that rows of entries carry.
-use Rattle.std.proofs.Common.{◌≡◌, ◌↔◌, ◌+◌, ◌∙◌, ℕ, List, [], ◌∷◌, ◌++◌, map, Option, Some, None, refl, sym, ap, append_assoc}
+use Rattle.std.proofs.Common.{◌≡◌, ◌+◌, ◌∙◌, ℕ, List, [], ◌∷◌, ◌++◌, map, Option, Some, None, IfSome, ◌≤◌, refl, sym, ap, append_assoc}
 use Rattle.std.specs.List.{AllByRecursion}
 use Rattle.std.proofs.lemmas.List.{map-append}
 use Rattle.mf_account.specs.declared.entry.Entry.{Entry}
 use Rattle.mf_model.specs.Institution.{Ledger, Office}
-use Rattle.mf_model.specs.Receipts.{use_of, uses_in, uses_from}
+use Rattle.mf_account.specs.Loan.{IsEntry}
+use Rattle.mf_model.specs.Receipts.{IsReceipt, use_of, uses_in, uses_from}
 use Rattle.mf_store_records.specs.declared.entries.EntryRow.{EntryRow}
-use Rattle.mf_store_sound.specs.Entries.{IsEntryRow, IsPlainEntry, AreEntryRows}
+use Rattle.mf_store_sound.specs.Entries.{IsEntryRow}
 use Rattle.mf_store_accounts.specs.Flat.{entry_in, own_entries, rows_of_loans, entry_rows}
+use Rattle.mf_store_accounts.specs.Ledgers.{IsReadable}
 use Rattle.mf_store_accounts.specs.ReceiptRows.{receipt_in, carried, receipt_of, carried_by}
 use Rattle.mf_store_sound.specs.Stored.{AllFrom}
 
+-- an entry of a loan of n instalments that was disbursed on a day, whoever entered it
+pub record IsPlainEntry (today day n : ℕ) (e : Entry) : Type 0 where
+  pub readable : IsReadable e
+  pub lawful : IsEntry n day e
+  pub entered : e.day ≤ today
+  pub receipt : IfSome e.receipt IsReceipt
+
+-- the rows are those of such entries, by number, the first of which is this; who entered them and how they stand to each other is left open
+pub record AreEntryRows (today day n office loan first : ℕ) (rows : List EntryRow) : Type 0 where
+  pub entries : List Entry
+  pub numbers : AllFrom (λ number (e : Entry). e.seq ≡ number) first entries
+  pub each : AllByRecursion (IsPlainEntry today day n) entries
+  pub rows_are : map (entry_in office loan) entries ≡ rows
+
 -- rows of entries one by one, and all together
 module _ (today day n x m : ℕ) where
-  gathered : (first : ℕ) (rows : List EntryRow) → AllFrom (IsEntryRow today day n x m) first rows → AreEntryRows today day n x m first rows
+  pub gathered : (first : ℕ) (rows : List EntryRow) → AllFrom (IsEntryRow today day n x m) first rows → AreEntryRows today day n x m first rows
   gathered first [] all = record { entries = []; numbers = tt; each = tt; rows_are = refl }
   gathered first (r ∷ rs) all =
       let h = all.0 in
@@ -25,7 +41,7 @@ module _ (today day n x m : ℕ) where
         rows_are = λ k. h.row_is k ∷ more.rows_are k;
       }
 
-  parted : (first : ℕ) (rows : List EntryRow) → AreEntryRows today day n x m first rows → AllFrom (IsEntryRow today day n x m) first rows
+  pub parted : (first : ℕ) (rows : List EntryRow) → AreEntryRows today day n x m first rows → AllFrom (IsEntryRow today day n x m) first rows
   parted first rows h = go first h.entries rows h.numbers h.each h.rows_are
     where
       go : (first : ℕ) (es : List Entry) (rows : List EntryRow) → AllFrom (λ number (e : Entry). e.seq ≡ number) first es → AllByRecursion (IsPlainEntry today day n) es → map (entry_in x m) es ≡ rows → AllFrom (IsEntryRow today day n x m) first rows
@@ -36,9 +52,6 @@ module _ (today day n x m : ℕ) where
           let one : entry_in x m a ≡ r = cc in
           let others : map (entry_in x m) es ≡ rs = cc in
           (record { entry = a; readable = p.0.readable; own = o.0; lawful = p.0.lawful; entered = p.0.entered; receipt = p.0.receipt; row_is = one }, go (first + 1) es rs o.1 p.1 others)
-
-  pub together : (first : ℕ) (rows : List EntryRow) → AllFrom (IsEntryRow today day n x m) first rows ↔ AreEntryRows today day n x m first rows
-  together first rows = (gathered first rows, parted first rows)
 
 -- ---- receipts
 

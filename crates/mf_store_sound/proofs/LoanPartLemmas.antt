@@ -17,6 +17,7 @@ use Rattle.mf_store_accounts.specs.Ledgers.{IsOwnLoan}
 use Rattle.mf_store_sound.specs.Stages.{AreEntriesOf}
 use Rattle.mf_store_sound.specs.Stored.{IsRowOf}
 use Rattle.mf_store_sound.proofs.PartLemmas.{own_of_loan, later_of_loan}
+use Rattle.mf_store_sound.proofs.StoredLemmas.{from_place}
 
 abbrev pub loan_of : EntryRow → ℕ
 loan_of r = r.loan
@@ -104,14 +105,11 @@ module _ (k : Catalogue) (names : List (List ℕ)) (x : ℕ) where
       entries_are = (λ t. h.entries_are t ++ more.entries_are t) ∙ take-append-drop (own_count loan_of n rows) rows;
     }
 
-  at_loan : (loans : List LoanRow) (i : ℕ) (r : LoanRow) → i < length loans → r ≡ get_or loans i r → drop i loans ≡ r ∷ drop (i + 1) loans
-  at_loan loans i r h is = drop-cons loans i r h ∙ (λ t. sym is t ∷ drop (sym (add-one i) t) loans)
-
   -- the loan at i is one, so the loans are all so where those after it are
   pub loan_passed : (X : Type 0) (loans : List LoanRow) (i n : ℕ) (r : LoanRow) (rows first rest : List EntryRow) → i < length loans → r ≡ get_or loans i r → first ≡ own loan_of n rows → rest ≡ later loan_of n rows
       → IsLoanPart k names x n r first → (X ↔ AreLoanParts k names x n (drop i loans) rows) → X ↔ AreLoanParts k names x (n + 1) (drop (i + 1) loans) rest
   loan_passed X loans i n r rows first rest h is e f part so_far =
-      let here = at_loan loans i r h is in (
+      let here = from_place loans i r h is in (
         λ given. subst (AreLoanParts k names x (n + 1) (drop (i + 1) loans)) (sym f) (loans_apart n r (drop (i + 1) loans) rows (subst (λ ls. AreLoanParts k names x n ls rows) here (so_far.0 given))).1,
         λ more. so_far.1 (subst (λ ls. AreLoanParts k names x n ls rows) (sym here) (loans_together n r (drop (i + 1) loans) rows (subst (IsLoanPart k names x n r) e part) (subst (AreLoanParts k names x (n + 1) (drop (i + 1) loans)) f more))),
       )
@@ -120,7 +118,7 @@ module _ (k : Catalogue) (names : List (List ℕ)) (x : ℕ) where
   pub loan_refused : (X : Type 0) (loans : List LoanRow) (i n : ℕ) (r : LoanRow) (rows first : List EntryRow) → i < length loans → r ≡ get_or loans i r → first ≡ own loan_of n rows
       → (IsLoanPart k names x n r first → ⊥) → (X ↔ AreLoanParts k names x n (drop i loans) rows) → X → ⊥
   loan_refused X loans i n r rows first h is e none so_far given =
-      none (subst (IsLoanPart k names x n r) (sym e) (loans_apart n r (drop (i + 1) loans) rows (subst (λ ls. AreLoanParts k names x n ls rows) (at_loan loans i r h is) (so_far.0 given))).0)
+      none (subst (IsLoanPart k names x n r) (sym e) (loans_apart n r (drop (i + 1) loans) rows (subst (λ ls. AreLoanParts k names x n ls rows) (from_place loans i r h is) (so_far.0 given))).0)
 
   -- each was one, and nothing is left
   pub loans_passed : (X : Type 0) (loans : List LoanRow) (i n : ℕ) (rows : List EntryRow) (B : Type 0) → length loans ≤ i → (B ↔ (rows ≡ [])) → (X ↔ AreLoanParts k names x n (drop i loans) rows) → B ↔ X

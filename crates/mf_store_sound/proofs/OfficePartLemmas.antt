@@ -1,7 +1,7 @@
 -- Rows of one office after another: apart and together.
 use Rattle.std.proofs.Common.{◌≡◌, ◌↔◌, ◌<◌, ◌≤◌, ◌+◌, ◌∙◌, ℕ, suc, List, [], ◌∷◌, ◌++◌, map, length, get_or, drop, refl, sym, ap, subst, add-one, drop-cons}
 use Rattle.std.specs.List.{AllByRecursion}
-use Rattle.std.proofs.lemmas.List.{drop_all, take-append-drop}
+use Rattle.std.proofs.lemmas.List.{drop_all, take-append-drop, length-map}
 use Rattle.mf_model.specs.Institution.{Catalogue, Ledger, Office, Staff}
 use Rattle.mf_model.specs.Sound.{IsName}
 use Rattle.mf_model.specs.Tree.{Above, Ascending}
@@ -13,48 +13,51 @@ use Rattle.mf_store_records.specs.declared.staff.StaffRow.{StaffRow}
 use Rattle.mf_store_accounts.specs.Flat.{numbered_from, all_rows, rows_of_loans, entry_rows, own_entries, loans_of, staff_in, client_in, loan_in, entry_in}
 use Rattle.mf_store_sound.specs.Parts.{own_count, own, later, office_of, bare}
 use Rattle.mf_store_sound.specs.Sound.{AreLoanParts, IsPlainRows, IsOfficePart, AreOfficeParts}
-use Rattle.mf_store_sound.specs.Stored.{AreRowsOf}
+use Rattle.mf_store_sound.specs.Stored.{IsRowOf, AllFrom}
 use Rattle.mf_store_sound.proofs.PartLemmas.{own_of_first, later_of_first, own_of_office, later_of_office}
+use Rattle.mf_store_sound.proofs.StoredLemmas.{from_place, gathered, parted}
 
 pub length_numbered : {A R : Type 0} (make : ℕ → A → R) (n : ℕ) (xs : List A) → length (numbered_from make n xs) ≡ length xs
 length_numbered make n [] = refl
 length_numbered make n (x ∷ xs) = ap suc (length_numbered make (n + 1) xs)
 
-length_map : {A B : Type 0} (f : A → B) (xs : List A) → length (map f xs) ≡ length xs
-length_map f [] = refl
-length_map f (x ∷ xs) = ap suc (length_map f xs)
-
 loans_counted : (x : ℕ) (ls : List Ledger) (loans : List LoanRow) → numbered_from (loan_in x) 1 (map (λ (l : Ledger). l.loan) ls) ≡ loans → length ls ≡ length loans
-loans_counted x ls loans is = sym (length_map (λ (l : Ledger). l.loan) ls) ∙ sym (length_numbered (loan_in x) 1 (map (λ (l : Ledger). l.loan) ls)) ∙ ap length is
+loans_counted x ls loans is = sym (length-map ls (λ (l : Ledger). l.loan)) ∙ sym (length_numbered (loan_in x) 1 (map (λ (l : Ledger). l.loan) ls)) ∙ ap length is
 
 -- ---- what an office's part is made of
 
 module _ (k : Catalogue) (x : ℕ) (staff : List StaffRow) (clients : List ClientRow) (loans : List LoanRow) (entries : List EntryRow) where
-  pub staff_part : IsOfficePart k x staff clients loans entries → (length staff ≤ 9999) × AreRowsOf (staff_in x) (λ (s : Staff). IsName s.name) 1 staff
-  staff_part p = (subst (λ n. n ≤ 9999) (sym (length_numbered (staff_in x) 1 p.rows.staff) ∙ ap length p.staff_are) p.plain.staff_limit, record { values = p.rows.staff; pass = p.plain.staff_names; rows_are = p.staff_are })
+  abbrev pub AreStaff : Type 0
+  AreStaff = (length staff ≤ 9999) × AllFrom (IsRowOf (staff_in x) (λ (s : Staff). IsName s.name)) 1 staff
 
-  pub clients_part : IsOfficePart k x staff clients loans entries → (length clients ≤ 999999) × AreRowsOf (client_in x) IsName 1 clients
-  clients_part p =
-      (subst (λ n. n ≤ 999999) (sym (length_numbered (client_in x) 1 p.rows.clients) ∙ ap length p.clients_are) p.plain.client_limit, record { values = p.rows.clients; pass = p.plain.client_names; rows_are = p.clients_are })
+  abbrev pub AreClients : Type 0
+  AreClients = (length clients ≤ 999999) × AllFrom (IsRowOf (client_in x) IsName) 1 clients
 
-  pub office_part : (B : Type 0) → (length staff ≤ 9999) × AreRowsOf (staff_in x) (λ (s : Staff). IsName s.name) 1 staff → (length clients ≤ 999999) × AreRowsOf (client_in x) IsName 1 clients
-      → ((names : List (List ℕ)) → length names ≡ length clients → B ↔ ((length loans ≤ 999999) × AreLoanParts k names x 1 loans entries)) → B ↔ IsOfficePart k x staff clients loans entries
-  office_part B s c l = (
+  pub staff_part : IsOfficePart k x staff clients loans entries → AreStaff
+  staff_part p = (subst (λ n. n ≤ 9999) (sym (length_numbered (staff_in x) 1 p.rows.staff) ∙ ap length p.staff_are) p.plain.staff_limit, parted (staff_in x) (λ (s : Staff). IsName s.name) 1 p.rows.staff staff p.plain.staff_names p.staff_are)
+
+  pub clients_part : IsOfficePart k x staff clients loans entries → AreClients
+  clients_part p = (subst (λ n. n ≤ 999999) (sym (length_numbered (client_in x) 1 p.rows.clients) ∙ ap length p.clients_are) p.plain.client_limit, parted (client_in x) IsName 1 p.rows.clients clients p.plain.client_names p.clients_are)
+
+  pub office_part : (B : Type 0) → AreStaff → AreClients → ((names : List (List ℕ)) → length names ≡ length clients → B ↔ ((length loans ≤ 999999) × AreLoanParts k names x 1 loans entries)) → B ↔ IsOfficePart k x staff clients loans entries
+  office_part B s_all c_all l = (
     λ yes.
-        let many : length c.1.values ≡ length clients = sym (length_numbered (client_in x) 1 c.1.values) ∙ ap length c.1.rows_are in
-        let lent = (l c.1.values many).0 yes in
+        let s = gathered (staff_in x) (λ (s : Staff). IsName s.name) 1 staff s_all.1 in
+        let c = gathered (client_in x) IsName 1 clients c_all.1 in
+        let many : length c.values ≡ length clients = sym (length_numbered (client_in x) 1 c.values) ∙ ap length c.rows_are in
+        let lent = (l c.values many).0 yes in
         record {
-          rows = record { staff = s.1.values; clients = c.1.values; loans = lent.1.ledgers };
+          rows = record { staff = s.values; clients = c.values; loans = lent.1.ledgers };
           plain = record {
-            staff_limit = subst (λ n. n ≤ 9999) (ap length (sym s.1.rows_are) ∙ length_numbered (staff_in x) 1 s.1.values) s.0;
-            staff_names = s.1.pass;
-            client_limit = subst (λ n. n ≤ 999999) (sym many) c.0;
-            client_names = c.1.pass;
+            staff_limit = subst (λ n. n ≤ 9999) (ap length (sym s.rows_are) ∙ length_numbered (staff_in x) 1 s.values) s_all.0;
+            staff_names = s.pass;
+            client_limit = subst (λ n. n ≤ 999999) (sym many) c_all.0;
+            client_names = c.pass;
             loan_limit = subst (λ n. n ≤ 999999) (sym (loans_counted x lent.1.ledgers loans lent.1.loans_are)) lent.0;
             loans = lent.1.each;
           };
-          staff_are = s.1.rows_are;
-          clients_are = c.1.rows_are;
+          staff_are = s.rows_are;
+          clients_are = c.rows_are;
           loans_are = lent.1.loans_are;
           entries_are = lent.1.entries_are;
         },
@@ -68,7 +71,7 @@ module _ (k : Catalogue) (x : ℕ) (staff : List StaffRow) (clients : List Clien
 
 -- ---- offices with their rows
 
-above_bare : (n : ℕ) (fs : List Office) → Above n (map bare fs) → Above n fs
+pub above_bare : (n : ℕ) (fs : List Office) → Above n (map bare fs) → Above n fs
 above_bare n [] h = tt
 above_bare n (f ∷ fs) h = (h.0, above_bare n fs h.1)
 
@@ -146,27 +149,24 @@ module _ (k : Catalogue) where
       entries_are = (λ t. h.entries_are t ++ more.entries_are t) ∙ take-append-drop (own_count of_entry o.number entries) entries;
     }
 
-  at_office : (rows : List OfficeRow) (i : ℕ) (o : OfficeRow) → i < length rows → o ≡ get_or rows i o → drop i rows ≡ o ∷ drop (i + 1) rows
-  at_office rows i o h is = drop-cons rows i o h ∙ (λ t. sym is t ∷ drop (sym (add-one i) t) rows)
-
   pub ascends_on : (rows : List OfficeRow) (i : ℕ) (o : OfficeRow) → i < length rows → o ≡ get_or rows i o → Ascending (map office_of (drop i rows)) → Ascending (map office_of (drop (i + 1) rows))
-  ascends_on rows i o h is up = (subst (λ os. Ascending (map office_of os)) (at_office rows i o h is) up).1
+  ascends_on rows i o h is up = (subst (λ os. Ascending (map office_of os)) (from_place rows i o h is) up).1
 
   module _ (rows : List OfficeRow) (i : ℕ) (o : OfficeRow) (staff : List StaffRow) (clients : List ClientRow) (loans : List LoanRow) (entries : List EntryRow) (h : i < length rows) (is : o ≡ get_or rows i o) (up : Ascending (map office_of (drop i rows))) where
     above_here : Above o.number (map office_of (drop (i + 1) rows))
-    above_here = (subst (λ os. Ascending (map office_of os)) (at_office rows i o h is) up).0
+    above_here = (subst (λ os. Ascending (map office_of os)) (from_place rows i o h is) up).0
 
     -- the office at i has its part, so all have theirs where the later ones have
     pub part_passed : (X : Type 0) → First o (drop (i + 1) rows) staff clients loans entries → (X ↔ AreOfficeParts k (drop i rows) staff clients loans entries) → X ↔ Others o (drop (i + 1) rows) staff clients loans entries
     part_passed X first so_far = (
-      λ x. (parts_apart o (drop (i + 1) rows) staff clients loans entries above_here (subst (λ os. AreOfficeParts k os staff clients loans entries) (at_office rows i o h is) (so_far.0 x))).1,
-      λ more. so_far.1 (subst (λ os. AreOfficeParts k os staff clients loans entries) (sym (at_office rows i o h is)) (parts_together o (drop (i + 1) rows) staff clients loans entries first more)),
+      λ x. (parts_apart o (drop (i + 1) rows) staff clients loans entries above_here (subst (λ os. AreOfficeParts k os staff clients loans entries) (from_place rows i o h is) (so_far.0 x))).1,
+      λ more. so_far.1 (subst (λ os. AreOfficeParts k os staff clients loans entries) (sym (from_place rows i o h is)) (parts_together o (drop (i + 1) rows) staff clients loans entries first more)),
     )
 
     -- the office at i has not
     pub part_refused : (X : Type 0) → (First o (drop (i + 1) rows) staff clients loans entries → ⊥) → (X ↔ AreOfficeParts k (drop i rows) staff clients loans entries) → X → ⊥
     part_refused X none so_far x =
-        none (parts_apart o (drop (i + 1) rows) staff clients loans entries above_here (subst (λ os. AreOfficeParts k os staff clients loans entries) (at_office rows i o h is) (so_far.0 x))).0
+        none (parts_apart o (drop (i + 1) rows) staff clients loans entries above_here (subst (λ os. AreOfficeParts k os staff clients loans entries) (from_place rows i o h is) (so_far.0 x))).0
 
   -- each office had its part, and nothing is left
   pub parts_passed : (X : Type 0) (rows : List OfficeRow) (i : ℕ) (staff : List StaffRow) (clients : List ClientRow) (loans : List LoanRow) (entries : List EntryRow) (B : Type 0) → length rows ≤ i → (X ↔ AreOfficeParts k (drop i rows) staff clients loans entries)

@@ -46,6 +46,3 @@ unnamed_charge k rows number wanted e is = go (numbered k.charges number) (is �
     go : (o : Option Charge) → None ≡ option_map (charge_as number) o → false ≡ has_kind wanted (option_map (charge_def number) o)
     go None h = refl
     go (Some c) h = absurd (cc)
-
-pub kinds_are : (k : Catalogue) (number : ℕ) (p : Offer) (row : ProductRow) (a b c : Bool) → product_as number p ≡ row → a ≡ is_of_kind (charge_in k) Disbursement row.disbursement_charge → b ≡ is_of_kind (charge_in k) Instalment row.instalment_charge → c ≡ is_of_kind (charge_in k) Overdue row.overdue_charge → (a && (b && c)) ≡ kinds_right (charge_in k) p.members
-kinds_are k number p row a b c is at bt ct = (λ t. at t && (bt t && ct t)) ∙ ap (λ (r : ProductRow). is_of_kind (charge_in k) Disbursement r.disbursement_charge && (is_of_kind (charge_in k) Instalment r.instalment_charge && is_of_kind (charge_in k) Overdue r.overdue_charge)) (sym is)

@@ -1,14 +1,10 @@
 -- Tests of a loan's entries, by their rows.
 use Rattle.std.proofs.Common.{◌≡◌, ◌<◌, ◌≤◌, ◌+◌, ◌∙◌, ◌&&◌, ℕ, zero, suc, Bool, true, false, List, [], ◌∷◌, map, length, get_or, drop, refl, sym, ap, arith}
 use Rattle.std.specs.List.{AllByRecursion, list_all}
-use Rattle.std.proofs.lemmas.List.{drop_all}
+use Rattle.std.proofs.lemmas.List.{drop_all, length-map}
 use Rattle.mf_account.specs.declared.entry.Entry.{Entry}
 use Rattle.mf_store_records.specs.declared.entries.EntryRow.{EntryRow}
 use Rattle.mf_store_accounts.specs.Flat.{entry_in}
-
-length_map : {A B : Type 0} (f : A → B) (xs : List A) → length (map f xs) ≡ length xs
-length_map f [] = refl
-length_map f (x ∷ xs) = ap suc (length_map f xs)
 
 module _ (x m : ℕ) (T : Entry → Bool) (P : Entry → Type 0) where
   -- the entry of the row at i
@@ -44,5 +40,5 @@ module _ (x m : ℕ) (T : Entry → Bool) (P : Entry → Type 0) where
   -- all did
   pub tests_passed : (X : Bool) (entries : List Entry) (rows : List EntryRow) (i : ℕ) → map (entry_in x m) entries ≡ rows → length rows ≤ i → X ≡ list_all T (drop i entries) → true ≡ X
   tests_passed X entries rows i e h so_far =
-      let many : length entries ≡ length rows = sym (length_map (entry_in x m) entries) ∙ ap length e in
+      let many : length entries ≡ length rows = sym (length-map entries (entry_in x m)) ∙ ap length e in
       sym (so_far ∙ ap (list_all T) (drop_all i entries (let le : length entries ≤ i = omega arith in le)))

@@ -38,12 +38,13 @@ use Rattle.mf_store_accounts.specs.ReceiptRows.{carried_by, receipt_rows, AreRec
 use Rattle.mf_store_accounts.specs.Ledgers.{AreEntriesIn, IsPlainLoan}
 use Rattle.mf_store_sound.specs.Schemas.{meta_under}
 use Rattle.mf_store_sound.specs.Sound.{IsPlainRows, AreOfficeParts, AreUnder}
-use Rattle.mf_store_sound.specs.Stored.{AreRowsOf}
+use Rattle.mf_store_sound.specs.Stored.{IsRowOf, AllFrom}
 use Rattle.mf_store_sound.proofs.AllLoanLemmas.{all_rows_of, all_loan_rows, all_apart, all_plain}
 use Rattle.mf_store_sound.proofs.EntryLemmas.{carried_is}
-use Rattle.mf_store_sound.proofs.OfficePartLemmas.{length_numbered}
+use Rattle.mf_store_sound.proofs.OfficePartLemmas.{above_bare, length_numbered}
 use Rattle.mf_store_sound.proofs.PartLemmas.{all_append}
 use Rattle.mf_store_sound.proofs.ReceiptLemmas.{AreAllApart, in_order_apart, apart_in_order}
+use Rattle.mf_store_sound.proofs.StoredLemmas.{AreRowsOf, gathered, parted}
 
 -- ---- who is there
 
@@ -229,17 +230,13 @@ bare_there (f ∷ fs) x = go (f.number == x) (bare_there fs x)
     go true e = refl
     go false e = e
 
-above_from_bare : (n : ℕ) (fs : List Office) → Above n (map bare fs) → Above n fs
-above_from_bare n [] h = tt
-above_from_bare n (f ∷ fs) h = (h.0, above_from_bare n fs h.1)
-
 above_to_bare : (n : ℕ) (fs : List Office) → Above n fs → Above n (map bare fs)
 above_to_bare n [] h = tt
 above_to_bare n (f ∷ fs) h = (h.0, above_to_bare n fs h.1)
 
 ascending_from_bare : (fs : List Office) → Ascending (map bare fs) → Ascending fs
 ascending_from_bare [] h = tt
-ascending_from_bare (f ∷ fs) h = (above_from_bare f.number fs h.0, ascending_from_bare fs h.1)
+ascending_from_bare (f ∷ fs) h = (above_bare f.number fs h.0, ascending_from_bare fs h.1)
 
 ascending_to_bare : (fs : List Office) → Ascending fs → Ascending (map bare fs)
 ascending_to_bare [] h = tt
@@ -284,17 +281,19 @@ module _ (schema : ℕ) (t : Lists) (h : AreUnder schema t) where
   pub charges_are : numbered_from charge_as 1 h.institution.catalogue.charges ≡ t.charges
   charges_are = ap (λ (l : Lists). l.charges) h.rows_are
 
-  pub charges_part : (length t.charges ≤ 999) × AreRowsOf charge_as IsSoundCharge 1 t.charges
-  charges_part =
-      (subst (λ n. n ≤ 999) (sym (length_numbered charge_as 1 h.institution.catalogue.charges) ∙ ap length charges_are) h.sound.catalogue.charge_limit, record { values = h.institution.catalogue.charges; pass = h.sound.catalogue.charges; rows_are = charges_are })
+  pub charges_part : (length t.charges ≤ 999) × AllFrom (IsRowOf charge_as IsSoundCharge) 1 t.charges
+  charges_part = (
+    subst (λ n. n ≤ 999) (sym (length_numbered charge_as 1 h.institution.catalogue.charges) ∙ ap length charges_are) h.sound.catalogue.charge_limit,
+    parted charge_as IsSoundCharge 1 h.institution.catalogue.charges t.charges h.sound.catalogue.charges charges_are,
+  )
 
   pub products_are : numbered_from product_as 1 h.institution.catalogue.products ≡ t.products
   products_are = ap (λ (l : Lists). l.products) h.rows_are
 
-  pub products_part : (length t.products ≤ 999) × AreRowsOf product_as (IsSoundOffer (charge_in h.institution.catalogue)) 1 t.products
+  pub products_part : (length t.products ≤ 999) × AllFrom (IsRowOf product_as (IsSoundOffer (charge_in h.institution.catalogue))) 1 t.products
   products_part = (
     subst (λ n. n ≤ 999) (sym (length_numbered product_as 1 h.institution.catalogue.products) ∙ ap length products_are) h.sound.catalogue.product_limit,
-    record { values = h.institution.catalogue.products; pass = h.sound.catalogue.products; rows_are = products_are },
+    parted product_as (IsSoundOffer (charge_in h.institution.catalogue)) 1 h.institution.catalogue.products t.products h.sound.catalogue.products products_are,
   )
 
   offices_are : map (office_under (parent_of h.institution.offices)) h.institution.offices ≡ t.offices
@@ -411,28 +410,31 @@ module _ (schema : ℕ) (t : Lists) (day : ℕ) (entered : day ≤ last_entered_
 -- ---- decided
 
 -- the parts of the lists, for the lists
-pub of_parts : (schema : ℕ) (B : Type 0) (t : Lists) (meta : List MetaRow) (offices : List OfficeRow) (staff : List StaffRow) (clients : List ClientRow) (charges : List ChargeRow) (products : List ProductRow) (loans : List LoanRow) (entries : List EntryRow) (receipts : List ReceiptRow)
-    → meta ≡ t.meta → offices ≡ t.offices → staff ≡ t.staff → clients ≡ t.clients → charges ≡ t.charges → products ≡ t.products → loans ≡ t.loans → entries ≡ t.entries → receipts ≡ t.receipts
+pub of_parts : (schema : ℕ) (B : Type 0) (t inside : Lists) (view : inside ≡ t) (meta : List MetaRow) (offices : List OfficeRow) (staff : List StaffRow) (clients : List ClientRow) (charges : List ChargeRow) (products : List ProductRow) (loans : List LoanRow) (entries : List EntryRow) (receipts : List ReceiptRow)
+    → meta ≡ inside.meta → offices ≡ inside.offices → staff ≡ inside.staff → clients ≡ inside.clients → charges ≡ inside.charges → products ≡ inside.products → loans ≡ inside.loans → entries ≡ inside.entries → receipts ≡ inside.receipts
     → (B ↔ AreUnder schema (record t { meta = meta; offices = offices; staff = staff; clients = clients; charges = charges; products = products; loans = loans; entries = entries; receipts = receipts })) → B ↔ AreUnder schema t
-of_parts schema B t meta offices staff clients charges products loans entries receipts m o s c h p l e r are =
-    subst (λ (lists : Lists). B ↔ AreUnder schema lists) (λ z. record t { meta = m z; offices = o z; staff = s z; clients = c z; charges = h z; products = p z; loans = l z; entries = e z; receipts = r z }) are
+of_parts schema B t inside view meta offices staff clients charges products loans entries receipts m o s c h p l e r are =
+    subst (λ (lists : Lists). B ↔ AreUnder schema lists) (λ z. record t { meta = (m ∙ (λ y. (view y).meta)) z; offices = (o ∙ (λ y. (view y).offices)) z; staff = (s ∙ (λ y. (view y).staff)) z; clients = (c ∙ (λ y. (view y).clients)) z; charges = (h ∙ (λ y. (view y).charges)) z; products = (p ∙ (λ y. (view y).products)) z; loans = (l ∙ (λ y. (view y).loans)) z; entries = (e ∙ (λ y. (view y).entries)) z; receipts = (r ∙ (λ y. (view y).receipts)) z }) are
 
 -- the business day of an institution whose rows these are
 pub day_of : (schema : ℕ) (t : Lists) (day : ℕ) (h : AreUnder schema t) → ((d : ℕ) → d ≤ last_entered_day → meta_under schema d ∷ [] ≡ t.meta → Some day ≡ Some d) → h.institution.catalogue.day ≡ day
 day_of schema t day h only = let one : Some day ≡ Some h.institution.catalogue.day = only h.institution.catalogue.day h.sound.catalogue.day (meta_part schema t h) in let same : h.institution.catalogue.day ≡ day = cc in same
 
 pub under_is : (schema : ℕ) (t : Lists) (day : ℕ) (B : Type 0) → day ≤ last_entered_day → meta_under schema day ∷ [] ≡ t.meta
-    → (length t.charges ≤ 999) × AreRowsOf charge_as IsSoundCharge 1 t.charges
-    → ((k : Catalogue) → numbered_from charge_as 1 k.charges ≡ t.charges → (length t.products ≤ 999) × AreRowsOf product_as (IsSoundOffer (charge_in k)) 1 t.products)
+    → (length t.charges ≤ 999) × AllFrom (IsRowOf charge_as IsSoundCharge) 1 t.charges
+    → ((of : (k : Catalogue) × (numbered_from charge_as 1 k.charges ≡ t.charges)) → (length t.products ≤ 999) × AllFrom (IsRowOf product_as (IsSoundOffer (charge_in of.0))) 1 t.products)
     → AreOffices t.offices
     → ((k : Catalogue) → k.day ≡ day → numbered_from product_as 1 k.products ≡ t.products → Ascending (map office_of t.offices) → AreOfficeParts k t.offices t.staff t.clients t.loans t.entries)
     → ((fs : List Office) → Ascending fs → all_rows staff_in (λ own. own.staff) fs ≡ t.staff → list_all (is_by_staff fs) t.entries ≡ true)
     → (B ↔ AreReceiptsOf t.receipts t.entries)
     → B ↔ AreUnder schema t
 unfolding offices_parts
-under_is schema t day B entered meta c p o parts named r = (
+under_is schema t day B entered meta c_all p o parts named r = (
   λ told.
-      let q = p (catalogue_of day c.1.values []) c.1.rows_are in
+      let c : (length t.charges ≤ 999) × AreRowsOf charge_as IsSoundCharge 1 t.charges = (c_all.0, gathered charge_as IsSoundCharge 1 t.charges c_all.1) in
+      let q_all = p (catalogue_of day c.1.values [], c.1.rows_are) in
+      let q : (length t.products ≤ 999) × AreRowsOf product_as (IsSoundOffer (charge_in (catalogue_of day c.1.values []))) 1 t.products =
+      (q_all.0, gathered product_as (IsSoundOffer (charge_in (catalogue_of day c.1.values []))) 1 t.products q_all.1) in
       let s = parts (catalogue_of day c.1.values q.1.values) refl q.1.rows_are o.tree.ascending in
       let catalogue = sound_catalogue t day entered c q in
       let up = (tree_from_bare s.offices (subst IsTree (sym s.theirs) o.tree)).ascending in

@@ -7,7 +7,6 @@ use Rattle.mf_model.specs.Receipts.{IsReceipt}
 use Rattle.mf_store_records.specs.declared.entries.EntryRow.{EntryRow}
 use Rattle.mf_store_accounts.specs.Flat.{entry_in}
 use Rattle.mf_store_accounts.specs.Ledgers.{IsReadable, IsEnteredBy}
-use Rattle.mf_store_sound.specs.Stored.{AllFrom}
 
 -- the row is that of an entry under this number, of a loan of n instalments that was disbursed on a day, whoever entered it
 pub record IsEntryRow (today day n office loan number : ℕ) (row : EntryRow) : Type 0 where
@@ -18,20 +17,6 @@ pub record IsEntryRow (today day n office loan number : ℕ) (row : EntryRow) : 
   pub entered : entry.day ≤ today
   pub receipt : IfSome entry.receipt IsReceipt
   pub row_is : entry_in office loan entry ≡ row
-
--- an entry of a loan of n instalments that was disbursed on a day, whoever entered it
-pub record IsPlainEntry (today day n : ℕ) (e : Entry) : Type 0 where
-  pub readable : IsReadable e
-  pub lawful : IsEntry n day e
-  pub entered : e.day ≤ today
-  pub receipt : IfSome e.receipt IsReceipt
-
--- the rows are those of such entries, by number, the first of which is this; who entered them and how they stand to each other is left open
-pub record AreEntryRows (today day n office loan first : ℕ) (rows : List EntryRow) : Type 0 where
-  pub entries : List Entry
-  pub numbers : AllFrom (λ number (e : Entry). e.seq ≡ number) first entries
-  pub each : AllByRecursion (IsPlainEntry today day n) entries
-  pub rows_are : map (entry_in office loan) entries ≡ rows
 
 -- the rows are those of the entries of one loan of n instalments that was disbursed on a day; that their callers are there is left open
 pub record AreLoanEntries (today day n office loan : ℕ) (rows : List EntryRow) : Type 0 where

@@ -1,4 +1,4 @@
-//! Whether those who entered the entries are there.
+//! Whether the members of staff who entered the entries exist.
 
 ghost use Rattle.std.specs.Prelude.{◌≡◌, List};
 ghost use Rattle.std.specs.List.{list_all};
@@ -11,7 +11,7 @@ ghost use Rattle.mf_store_accounts.specs.Flat.{all_rows, staff_in};
 use mf_office::Caller;
 use mf_store_records::{EntryRow, StaffRow};
 
-/// Whether there is such a member of staff, by rows in the order of office and number.
+/// Whether this member of staff exists. The rows are in the order of office and number.
 fn is_there(staff: &[StaffRow], office: u32, number: u32) -> bool
     ensures { (fs : List Office) → Ascending fs → all_rows staff_in (λ own. own.staff) fs ≡ staff.now →
         result ≡ is_staff fs (record { office = office; staff = number }) }
@@ -22,7 +22,7 @@ fn is_there(staff: &[StaffRow], office: u32, number: u32) -> bool
     }
 }
 
-/// Whether the entry of a row was entered by somebody who is there.
+/// Whether the entry of a row was entered by a member of staff who exists.
 fn is_by_staff(staff: &[StaffRow], row: &EntryRow) -> bool
     ensures { (fs : List Office) → Ascending fs → all_rows staff_in (λ own. own.staff) fs ≡ staff.now →
         result ≡ names_staff fs row.now }
@@ -33,7 +33,7 @@ fn is_by_staff(staff: &[StaffRow], row: &EntryRow) -> bool
     }
 }
 
-/// Whether the entry of each row was entered by somebody who is there.
+/// Whether the entry of each row was entered by a member of staff who exists.
 pub(crate) fn are_by_staff(staff: &[StaffRow], rows: &[EntryRow]) -> bool
     ensures { (fs : List Office) → Ascending fs → all_rows staff_in (λ own. own.staff) fs ≡ staff.now →
         result ≡ list_all (names_staff fs) rows.now }

@@ -12,16 +12,30 @@ ghost use Rattle.mf_store_sound.specs.Entries.{IsEntryRow};
 ghost use Rattle.mf_store_accounts.specs.Flat.{entry_in, entry_kind_number, portion_number};
 ghost use Rattle.std.specs.List.{list_all};
 
+use crate::amounts::is_amount;
+use crate::numbered::NumberedRow;
+use mf_account::Kind;
+use mf_alloc::Portion;
 use mf_base::Day;
 use mf_office::Caller;
-use mf_store_accounts::{amount_from, flag_from, kind_from, portion_from};
+use mf_store_accounts::{amount_from, flag_from, kind_from, number_of_portion, portion_from};
 use mf_store_records::{EntryRow, Text};
 
-/// The greatest amount of an entry, as rows keep it.
-const GREATEST_AMOUNT: i64 = 1_000_000_000_000;
+/// A disbursed loan, and what its entries are checked against.
+#[derive(Clone, Copy)]
+pub(crate) struct DisbursedLoan {
+    pub(crate) office: u32,
+    pub(crate) number: u32,
+    /// How many instalments it has.
+    pub(crate) periods: u32,
+    /// The day of its disbursement.
+    pub(crate) day: Day,
+    /// The business day.
+    pub(crate) today: Day,
+}
 
 /// Whether the numbers and texts of a row are those of an entry.
-pub(crate) fn is_readable(row: &EntryRow) -> bool
+fn is_readable(row: &EntryRow) -> bool
     ensures { IsTrue result ↔ ((e : Entry) × IsReadable e × (entry_in row.now.office row.now.loan e ≡ row.now)) }
 {
     match (
@@ -37,13 +51,6 @@ pub(crate) fn is_readable(row: &EntryRow) -> bool
     }
 }
 
-/// Whether an amount is from 1 cent to the greatest.
-fn is_amount(cents: i64) -> bool
-    ensures { (amount : ℕ) → pos amount ≡ cents → IsTrue result ↔ ((1 ≤ amount) × (amount ≤ 10 ^ 12)) }
-{
-    cents >= 1 && cents <= GREATEST_AMOUNT
-}
-
 /// Whether a row's instalment is one of so many.
 fn is_instalment(periods: u32, row: &EntryRow) -> bool
     ensures { IsTrue result ↔ ((1 ≤ row.now.instalment) × (row.now.instalment ≤ periods)) }
@@ -51,16 +58,16 @@ fn is_instalment(periods: u32, row: &EntryRow) -> bool
     row.instalment >= 1 && row.instalment <= periods
 }
 
-/// Whether a row's columns are those of a fee or a penalty, whose portion has this number.
-fn is_charge(portion: u32, periods: u32, row: &EntryRow) -> bool
+/// Whether a row's columns are those of a fee or a penalty, which this portion tells.
+fn is_charge(portion: Portion, periods: u32, row: &EntryRow) -> bool
     ensures { (amount : ℕ) → pos amount ≡ row.now.amount →
         IsTrue result ↔
         ((1 ≤ amount) × (amount ≤ 10 ^ 12) × (1 ≤ row.now.instalment) × (row.now.instalment ≤ periods)
-        × (row.now.portion ≡ portion) × (row.now.receipt ≡ None)) }
+        × (row.now.portion ≡ portion_number portion) × (row.now.receipt ≡ None)) }
 {
     is_amount(row.amount)
         && is_instalment(periods, row)
-        && row.portion == portion
+        && row.portion == number_of_portion(portion)
         && row.receipt.is_none()
 }
 
@@ -69,7 +76,9 @@ fn is_repayment(row: &EntryRow) -> bool
     ensures { (amount : ℕ) → pos amount ≡ row.now.amount →
         IsTrue result ↔ ((1 ≤ amount) × (amount ≤ 10 ^ 12) × (row.now.instalment ≡ 0) × (row.now.portion ≡ 4)) }
 {
-    is_amount(row.amount) && row.instalment == 0 && row.portion == 4
+    is_amount(row.amount)
+        && row.instalment == 0
+        && row.portion == number_of_portion(Portion::Principal)
 }
 
 /// Whether a row's columns are those of a waiver.
@@ -79,7 +88,10 @@ fn is_waiver(periods: u32, row: &EntryRow) -> bool
         ((amount ≡ 0) × (1 ≤ row.now.instalment) × (row.now.instalment ≤ periods) × (row.now.portion ≢ 4)
         × (row.now.receipt ≡ None)) }
 {
-    row.amount == 0 && is_instalment(periods, row) && row.portion != 4 && row.receipt.is_none()
+    row.amount == 0
+        && is_instalment(periods, row)
+        && row.portion != number_of_portion(Portion::Principal)
+        && row.receipt.is_none()
 }
 
 /// Whether a row's columns are those of a write-off or a refund.
@@ -87,19 +99,23 @@ fn is_sealing(row: &EntryRow) -> bool
     ensures { (amount : ℕ) → pos amount ≡ row.now.amount →
         IsTrue result ↔ ((amount ≡ 0) × (row.now.instalment ≡ 0) × (row.now.portion ≡ 4) × (row.now.receipt ≡ None)) }
 {
-    row.amount == 0 && row.instalment == 0 && row.portion == 4 && row.receipt.is_none()
+    row.amount == 0
+        && row.instalment == 0
+        && row.portion == number_of_portion(Portion::Principal)
+        && row.receipt.is_none()
 }
 
 /// Whether a row's columns are those of an entry of its kind, on a loan of so many instalments.
-pub(crate) fn has_columns(periods: u32, row: &EntryRow) -> bool
+fn has_columns(periods: u32, row: &EntryRow) -> bool
     ensures { (e : Entry) → entry_in row.now.office row.now.loan e ≡ row.now → IsTrue result ↔ HasColumns e.kind periods e }
 {
-    match row.kind {
-        1 => is_repayment(row),
-        2 => is_charge(2, periods, row),
-        3 => is_charge(1, periods, row),
-        4 => is_waiver(periods, row),
-        _ => is_sealing(row),
+    match kind_from(row.kind) {
+        Some(Kind::Repay) => is_repayment(row),
+        Some(Kind::Fee) => is_charge(Portion::Fee, periods, row),
+        Some(Kind::Penalty) => is_charge(Portion::Penalty, periods, row),
+        Some(Kind::Waive) => is_waiver(periods, row),
+        Some(Kind::WriteOff | Kind::Refund) => is_sealing(row),
+        None => false,
     }
 }
 
@@ -118,8 +134,8 @@ fn are_printable(bytes: &[u8]) -> bool
     bytes.iter().all(|byte| *byte >= 33 && *byte <= 126)
 }
 
-/// Whether a row's receipt, if it has one, is a receipt.
-pub(crate) fn has_right_receipt(row: &EntryRow) -> bool
+/// Whether a row has no receipt, or one with a receipt's text.
+fn has_right_receipt(row: &EntryRow) -> bool
     ensures { IsTrue result ↔ IfSome row.now.receipt IsReceipt }
 {
     match &row.receipt {
@@ -139,24 +155,19 @@ fn is_on_time(today: Day, day: Day, row: &EntryRow) -> bool
     }
 }
 
-/// Whether a row is that of an entry with this number, of a loan of so many instalments that was disbursed on a day,
-/// whoever entered it.
-pub(crate) fn is_entry(
-    today: Day,
-    day: Day,
-    periods: u32,
-    office: u32,
-    loan: u32,
-    number: u32,
-    row: &EntryRow,
-) -> bool
-    ensures { IsTrue result ↔ IsEntryRow today day periods office loan number row.now }
-{
-    row.office == office
-        && row.loan == loan
-        && row.seq == number
-        && is_readable(row)
-        && is_on_time(today, day, row)
-        && has_columns(periods, row)
-        && has_right_receipt(row)
+/// The row of an entry of a loan, whoever entered it.
+impl NumberedRow<DisbursedLoan> for EntryRow {
+    ghost Setting = { λ loan. Unit {0} };
+
+    ghost IsNumbered = { λ loan of number row. IsEntryRow loan.today loan.day loan.periods loan.office loan.number number row };
+
+    fn is_numbered(&self, loan: DisbursedLoan, number: u32) -> bool {
+        self.office == loan.office
+            && self.loan == loan.number
+            && self.seq == number
+            && is_readable(self)
+            && is_on_time(loan.today, loan.day, self)
+            && has_columns(loan.periods, self)
+            && has_right_receipt(self)
+    }
 }

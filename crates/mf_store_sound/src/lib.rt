@@ -2,6 +2,7 @@
 //! knows rows and no database.
 #![tactic(auto)]
 
+mod amounts;
 mod callers;
 mod charges;
 mod clients;
@@ -10,6 +11,7 @@ mod entries;
 mod loan_parts;
 mod loans;
 mod meta;
+mod numbered;
 mod office_parts;
 mod offices;
 mod parts;

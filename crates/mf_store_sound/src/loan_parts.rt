@@ -6,58 +6,39 @@ ghost use Rattle.mf_model.specs.Institution.{Catalogue};
 ghost use Rattle.mf_store_accounts.specs.Flat.{product_as, numbered_from};
 ghost use Rattle.mf_store_sound.specs.Sound.{IsLoanPart, AreLoanParts};
 
-use crate::loans::{are_entries_of, is_loan};
+use crate::loans::{Lender, are_entries_of, is_loan};
 use crate::parts::parts_of_loan;
-use mf_base::Day;
-use mf_store_records::{EntryRow, LoanRow, ProductRow};
+use mf_office::AccountNo;
+use mf_store_records::{EntryRow, LoanRow};
 
-/// The most loans of an office.
-const MOST_LOANS: usize = 999_999;
-
-/// Whether the rows are those of a loan of this office with this number and of its entries, over this catalogue and so
-/// many clients.
-fn is_loan_part(
-    today: Day,
-    products: &[ProductRow],
-    clients: usize,
-    office: u32,
-    number: u32,
-    row: &LoanRow,
-    entries: &[EntryRow],
-) -> bool
-    requires { today ≤ last_entered_day }
-    ensures { (k : Catalogue) → k.day ≡ today → numbered_from product_as 1 k.products ≡ products.now →
-        (names : List (List ℕ)) → length names ≡ clients →
-        IsTrue result ↔ IsLoanPart k names office number row.now entries.now }
+/// Whether the rows are those of a loan of this office with this number and of its entries.
+fn is_loan_part(lender: &Lender, number: u32, row: &LoanRow, entries: &[EntryRow]) -> bool
+    requires { lender.now.today ≤ last_entered_day }
+    ensures { (k : Catalogue) → k.day ≡ lender.now.today → numbered_from product_as 1 k.products ≡ lender.now.products.now →
+        (names : List (List ℕ)) → length names ≡ lender.now.clients →
+        IsTrue result ↔ IsLoanPart k names lender.now.office number row.now entries.now }
 {
-    if !is_loan(today, products, clients, office, number, row) {
+    if !is_loan(lender, number, row) {
         return false;
     }
-    are_entries_of(today, office, number, row, entries)
+    are_entries_of(lender, number, row, entries)
 }
 
 /// Whether the rows are those of this office's loans and of their entries, loan by loan, by number from 1.
-pub(crate) fn are_loans(
-    today: Day,
-    products: &[ProductRow],
-    clients: usize,
-    office: u32,
-    loans: &[LoanRow],
-    entries: &[EntryRow],
-) -> bool
-    requires { today ≤ last_entered_day }
-    ensures { (k : Catalogue) → k.day ≡ today → numbered_from product_as 1 k.products ≡ products.now →
-        (names : List (List ℕ)) → length names ≡ clients →
-        IsTrue result ↔ ((length loans.now ≤ 999999) × AreLoanParts k names office 1 loans.now entries.now) }
+pub(crate) fn are_loans(lender: &Lender, loans: &[LoanRow], entries: &[EntryRow]) -> bool
+    requires { lender.now.today ≤ last_entered_day }
+    ensures { (k : Catalogue) → k.day ≡ lender.now.today → numbered_from product_as 1 k.products ≡ lender.now.products.now →
+        (names : List (List ℕ)) → length names ≡ lender.now.clients →
+        IsTrue result ↔ ((length loans.now ≤ 999999) × AreLoanParts k names lender.now.office 1 loans.now entries.now) }
 {
-    if loans.len() > MOST_LOANS {
+    if loans.len() > AccountNo::MAX as usize {
         return false;
     }
     let mut number = 1;
     let mut entries_left = entries;
     for row in loans {
         let (own_entries, later_entries) = parts_of_loan(entries_left, number);
-        if !is_loan_part(today, products, clients, office, number, row, own_entries) {
+        if !is_loan_part(lender, number, row, own_entries) {
             return false;
         }
         entries_left = later_entries;

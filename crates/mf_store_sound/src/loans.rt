@@ -13,9 +13,22 @@ ghost use Rattle.mf_model.specs.Stages.{disbursed_on};
 ghost use Rattle.mf_store_sound.specs.Stored.{IsRowOf};
 
 use crate::entered::are_loan_entries;
+use crate::entries::DisbursedLoan;
 use mf_base::Day;
 use mf_store_accounts::{amount_from, product_row};
 use mf_store_records::{EntryRow, LoanRow, ProductRow, Text};
+
+/// An office that lends, and what its loans are checked against.
+#[derive(Drop)]
+pub(crate) struct Lender<'a> {
+    pub(crate) office: u32,
+    /// How many clients it has.
+    pub(crate) clients: usize,
+    /// The rows of the catalogue's products.
+    pub(crate) products: &'a [ProductRow],
+    /// The business day.
+    pub(crate) today: Day,
+}
 
 /// Whether an approval's text is that of a day up to this one.
 fn is_approval(today: Day, approved: &Text) -> bool
@@ -68,7 +81,7 @@ fn is_row_of_loan(today: Day, office: u32, number: u32, row: &LoanRow) -> bool
     }
 }
 
-/// Whether the client of the row's loan is one of so many.
+/// Whether the client of the row's loan exists: clients are numbered up to this count.
 fn is_client_there(clients: usize, row: &LoanRow) -> bool
     ensures { (l : Loan) → loan_in row.now.office row.now.number l ≡ row.now → (names : List (List ℕ)) → length names ≡ clients →
         result ≡ is_some (numbered names l.client) }
@@ -88,7 +101,7 @@ fn is_allowed(product: &ProductRow, row: &LoanRow) -> bool
         && row.periods <= product.max_periods
 }
 
-/// Whether the product of the row's loan is there and lends so.
+/// Whether the product of the row's loan exists, and allows its principal and periods.
 fn does_lend(products: &[ProductRow], row: &LoanRow) -> bool
     ensures { (k : Catalogue) → numbered_from product_as 1 k.products ≡ products.now → (l : Loan) →
         loan_in row.now.office row.now.number l ≡ row.now →
@@ -100,44 +113,37 @@ fn does_lend(products: &[ProductRow], row: &LoanRow) -> bool
     }
 }
 
-/// Whether a row is that of a loan of this office with this number, over this catalogue and so many clients. Its entries
-/// are left open.
-pub(crate) fn is_loan(
-    today: Day,
-    products: &[ProductRow],
-    clients: usize,
-    office: u32,
-    number: u32,
-    row: &LoanRow,
-) -> bool
-    requires { today ≤ last_entered_day }
-    ensures { (k : Catalogue) → k.day ≡ today → numbered_from product_as 1 k.products ≡ products.now →
-        (names : List (List ℕ)) → length names ≡ clients →
-        IsTrue result ↔ IsRowOf (loan_in office) (IsOwnLoan k names) number row.now }
+/// Whether a row is that of a loan of this office with this number. It does not check its entries.
+pub(crate) fn is_loan(lender: &Lender, number: u32, row: &LoanRow) -> bool
+    requires { lender.now.today ≤ last_entered_day }
+    ensures { (k : Catalogue) → k.day ≡ lender.now.today → numbered_from product_as 1 k.products ≡ lender.now.products.now →
+        (names : List (List ℕ)) → length names ≡ lender.now.clients →
+        IsTrue result ↔ IsRowOf (loan_in lender.now.office) (IsOwnLoan k names) number row.now }
 {
-    is_row_of_loan(today, office, number, row)
-        && is_client_there(clients, row)
-        && does_lend(products, row)
+    is_row_of_loan(lender.today, lender.office, number, row)
+        && is_client_there(lender.clients, row)
+        && does_lend(lender.products, row)
 }
 
-/// Whether the rows are those of the entries of a row's loan: none where it is not disbursed. That those who entered
-/// them are there is left open.
-pub(crate) fn are_entries_of(
-    today: Day,
-    office: u32,
-    number: u32,
-    row: &LoanRow,
-    own: &[EntryRow],
-) -> bool
-    requires { today ≤ last_entered_day }
-    ensures { (l : Loan) → loan_in office number l ≡ row.now → IsStageBy today l.stage →
-        IsTrue result ↔ AreEntriesOf today l.periods (disbursed_on l.stage) office number own.now }
+/// Whether the rows are those of the entries of a row's loan, which has none unless it is disbursed. It does not check
+/// that the staff who entered them exist.
+pub(crate) fn are_entries_of(lender: &Lender, number: u32, row: &LoanRow, own: &[EntryRow]) -> bool
+    requires { lender.now.today ≤ last_entered_day }
+    ensures { (l : Loan) → loan_in lender.now.office number l ≡ row.now → IsStageBy lender.now.today l.stage →
+        IsTrue result ↔ AreEntriesOf lender.now.today l.periods (disbursed_on l.stage) lender.now.office number own.now }
 {
-    match &row.disbursed {
-        None => own.is_empty(),
-        Some(text) => match Day::parse(text.as_str().as_bytes()) {
-            Some(day) => are_loan_entries(today, day, row.periods, office, number, own),
-            None => false,
-        },
-    }
+    let Some(text) = &row.disbursed else {
+        return own.is_empty();
+    };
+    let Some(day) = Day::parse(text.as_str().as_bytes()) else {
+        return false;
+    };
+    let loan = DisbursedLoan {
+        office: lender.office,
+        number,
+        periods: row.periods,
+        day,
+        today: lender.today,
+    };
+    are_loan_entries(loan, own)
 }

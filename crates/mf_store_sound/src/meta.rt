@@ -5,7 +5,7 @@ ghost use Rattle.mf_store_sound.specs.Schemas.{meta_under};
 use mf_base::Day;
 use mf_store_records::MetaRow;
 
-/// The business day of the row of meta, where it is such a row, with this schema's number.
+/// The business day of a row of meta. None is for a row with another schema's number or without a day.
 fn day_of_row(schema: u32, row: &MetaRow) -> Option<Day>
     ensures some { IfSome result (λ day. (day ≤ last_entered_day) × (meta_under schema day ≡ row.now)) }
     ensures every { (day : ℕ) → day ≤ last_entered_day → meta_under schema day ≡ row.now → result ≡ Some day }
@@ -17,7 +17,7 @@ fn day_of_row(schema: u32, row: &MetaRow) -> Option<Day>
     }
 }
 
-/// The business day, where the rows are the one row of meta, with this schema's number.
+/// The business day. None is for rows that are not the one row of meta with this schema's number.
 pub(crate) fn business_day(schema: u32, rows: &[MetaRow]) -> Option<Day>
     ensures some { IfSome result (λ day. (day ≤ last_entered_day) × (meta_under schema day ∷ [] ≡ rows.now)) }
     ensures every { (day : ℕ) → day ≤ last_entered_day → meta_under schema day ∷ [] ≡ rows.now → result ≡ Some day }

@@ -5,93 +5,110 @@ ghost use Rattle.mf_base.specs.DayText.{last_entered_day};
 ghost use Rattle.mf_model.specs.Institution.{Catalogue};
 ghost use Rattle.mf_model.specs.Tree.{Ascending};
 ghost use Rattle.mf_store_accounts.specs.Flat.{product_as, numbered_from};
-ghost use Rattle.mf_store_sound.specs.Parts.{office_of};
+ghost use Rattle.mf_store_sound.specs.Parts.{own, later, office_of};
 ghost use Rattle.mf_store_sound.specs.Sound.{IsOfficePart, AreOfficeParts};
 
-use crate::clients::are_clients;
 use crate::loan_parts::are_loans;
+use crate::loans::Lender;
+use crate::numbered::are_numbered;
 use crate::parts::parts;
-use crate::staff::are_staff;
 use mf_base::Day;
+use mf_office::{AccountNo, StaffNo};
 use mf_store_records::{ClientRow, EntryRow, LoanRow, OfficeRow, ProductRow, StaffRow};
 
-/// Whether the rows are those of this office's staff, clients, loans and entries, but for who entered these and for
-/// their receipts.
-fn is_office_part(
-    today: Day,
-    products: &[ProductRow],
-    office: u32,
-    staff: &[StaffRow],
-    clients: &[ClientRow],
-    loans: &[LoanRow],
-    entries: &[EntryRow],
-) -> bool
+/// Rows that belong to offices, each table's in the order of the offices.
+#[derive(Clone, Copy)]
+pub(crate) struct Belongings<'a> {
+    pub(crate) staff: &'a [StaffRow],
+    pub(crate) clients: &'a [ClientRow],
+    pub(crate) loans: &'a [LoanRow],
+    pub(crate) entries: &'a [EntryRow],
+}
+
+impl<'a> Belongings<'a> {
+    /// Those of this office, which come first, and the later ones.
+    fn split(self, office: u32) -> (Belongings<'a>, Belongings<'a>)
+        ensures own { (result.0.staff.now ≡ own (λ row. row.office) office self.entry.staff.now)
+            × (result.0.clients.now ≡ own (λ row. row.office) office self.entry.clients.now)
+            × (result.0.loans.now ≡ own (λ row. row.office) office self.entry.loans.now)
+            × (result.0.entries.now ≡ own (λ row. row.office) office self.entry.entries.now) }
+        ensures later { (result.1.staff.now ≡ later (λ row. row.office) office self.entry.staff.now)
+            × (result.1.clients.now ≡ later (λ row. row.office) office self.entry.clients.now)
+            × (result.1.loans.now ≡ later (λ row. row.office) office self.entry.loans.now)
+            × (result.1.entries.now ≡ later (λ row. row.office) office self.entry.entries.now) }
+    {
+        let (staff, later_staff) = parts(self.staff, office);
+        let (clients, later_clients) = parts(self.clients, office);
+        let (loans, later_loans) = parts(self.loans, office);
+        let (entries, later_entries) = parts(self.entries, office);
+        let own = Belongings {
+            staff,
+            clients,
+            loans,
+            entries,
+        };
+        let later = Belongings {
+            staff: later_staff,
+            clients: later_clients,
+            loans: later_loans,
+            entries: later_entries,
+        };
+        (own, later)
+    }
+
+    /// Whether there are no rows.
+    fn is_empty(self) -> bool
+        ensures { IsTrue result ↔ ((self.entry.staff.now ≡ []) × (self.entry.clients.now ≡ []) × (self.entry.loans.now ≡ []) × (self.entry.entries.now ≡ [])) }
+    {
+        self.staff.is_empty()
+            && self.clients.is_empty()
+            && self.loans.is_empty()
+            && self.entries.is_empty()
+    }
+}
+
+/// Whether the rows are those of this office's staff, clients, loans and entries. It does not check who entered the
+/// entries, nor their receipts.
+fn is_office_part(today: Day, products: &[ProductRow], office: u32, own: Belongings) -> bool
     requires { today ≤ last_entered_day }
     ensures { (k : Catalogue) → k.day ≡ today → numbered_from product_as 1 k.products ≡ products.now →
-        IsTrue result ↔ IsOfficePart k office staff.now clients.now loans.now entries.now }
+        IsTrue result ↔ IsOfficePart k office own.entry.staff.now own.entry.clients.now own.entry.loans.now own.entry.entries.now }
 {
-    if !are_staff(office, staff) {
+    if !are_numbered(office, own.staff, StaffNo::MAX) {
         return false;
     }
-    if !are_clients(office, clients) {
+    if !are_numbered(office, own.clients, AccountNo::MAX) {
         return false;
     }
-    are_loans(today, products, clients.len(), office, loans, entries)
+    let lender = Lender {
+        office,
+        clients: own.clients.len(),
+        products,
+        today,
+    };
+    are_loans(&lender, own.loans, own.entries)
 }
 
-/// Whether there are no rows.
-fn is_nothing(
-    staff: &[StaffRow],
-    clients: &[ClientRow],
-    loans: &[LoanRow],
-    entries: &[EntryRow],
-) -> bool
-    ensures { IsTrue result ↔ ((staff.now ≡ []) × (clients.now ≡ []) × (loans.now ≡ []) × (entries.now ≡ [])) }
-{
-    staff.is_empty() && clients.is_empty() && loans.is_empty() && entries.is_empty()
-}
-
-/// Whether the rows are those of these offices' staff, clients, loans and entries, office by office, but for who entered
-/// these and for their receipts.
+/// Whether the rows are those of these offices' staff, clients, loans and entries, office by office. It does not check
+/// who entered the entries, nor their receipts.
 pub(crate) fn are_office_parts(
     today: Day,
     products: &[ProductRow],
     offices: &[OfficeRow],
-    staff: &[StaffRow],
-    clients: &[ClientRow],
-    loans: &[LoanRow],
-    entries: &[EntryRow],
+    all: Belongings,
 ) -> bool
     requires { today ≤ last_entered_day }
     ensures { (k : Catalogue) → k.day ≡ today → numbered_from product_as 1 k.products ≡ products.now →
         Ascending (map office_of offices.now) →
-        IsTrue result ↔ AreOfficeParts k offices.now staff.now clients.now loans.now entries.now }
+        IsTrue result ↔ AreOfficeParts k offices.now all.entry.staff.now all.entry.clients.now all.entry.loans.now all.entry.entries.now }
 {
-    let mut staff_left = staff;
-    let mut clients_left = clients;
-    let mut loans_left = loans;
-    let mut entries_left = entries;
+    let mut left = all;
     for office in offices {
-        let number = office.number;
-        let (own_staff, later_staff) = parts(staff_left, number);
-        let (own_clients, later_clients) = parts(clients_left, number);
-        let (own_loans, later_loans) = parts(loans_left, number);
-        let (own_entries, later_entries) = parts(entries_left, number);
-        if !is_office_part(
-            today,
-            products,
-            number,
-            own_staff,
-            own_clients,
-            own_loans,
-            own_entries,
-        ) {
+        let (own, later) = left.split(office.number);
+        if !is_office_part(today, products, office.number, own) {
             return false;
         }
-        staff_left = later_staff;
-        clients_left = later_clients;
-        loans_left = later_loans;
-        entries_left = later_entries;
+        left = later;
     }
-    is_nothing(staff_left, clients_left, loans_left, entries_left)
+    left.is_empty()
 }

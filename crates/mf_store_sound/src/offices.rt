@@ -11,18 +11,15 @@ ghost use Rattle.mf_store_sound.specs.Parts.{office_of};
 
 use mf_base::Fault;
 use mf_model::is_name;
-use mf_office::tree_by_its_keys;
+use mf_office::{OfficeNo, tree_by_its_keys};
 use mf_store_records::OfficeRow;
 use std::alloc::Global;
-
-/// The greatest number of an office.
-const GREATEST_NUMBER: u32 = 9_999;
 
 /// How many dots the deepest hierarchy text has.
 const MOST_DOTS: usize = 6;
 
-/// Whether the offices stand by number, each number once.
-fn do_ascend(offices: &[OfficeRow]) -> bool
+/// Whether the numbers of the offices ascend, so that none comes twice.
+fn is_ascending(offices: &[OfficeRow]) -> bool
     ensures { IsTrue result ↔ AscendFrom 0 offices.now }
 {
     let mut last = 0;
@@ -35,7 +32,7 @@ fn do_ascend(offices: &[OfficeRow]) -> bool
     true
 }
 
-/// The row of the office with this number, in rows by number.
+/// The row of the office with this number. The rows are in the order of their numbers.
 fn find_office(offices: &[OfficeRow], number: u32) -> Option<&OfficeRow>
     ensures { AscendFrom 0 offices.now → option_copied result ≡ row_at number offices.now }
 {
@@ -61,14 +58,14 @@ fn count_dots(key: &str) -> usize
     key.bytes().filter(|b| *b == b'.').count()
 }
 
-/// Whether a row has a number and a name, as every office has.
+/// Whether a row's number and name are those of an office.
 fn is_numbered_and_named(office: &OfficeRow) -> bool
     ensures { IsTrue result ↔ IsNumberedAndNamed office.now }
 {
-    office.number >= 1 && office.number <= GREATEST_NUMBER && is_name(office.name.as_str())
+    office.number >= 1 && office.number <= OfficeNo::MAX && is_name(office.name.as_str())
 }
 
-/// Whether a row is that of the head.
+/// Whether a row is that of the head office.
 fn is_head(office: &OfficeRow) -> bool
     ensures { IsTrue result ↔ ((office.now.number ≡ 1) × (office.now.hkey ≡ head_key)) }
 {
@@ -100,7 +97,7 @@ fn has_parents_text(alloc: Global, offices: &[OfficeRow], office: &OfficeRow) ->
     }
 }
 
-/// Whether a row is one of such offices.
+/// Whether a row is that of an office, with the hierarchy text that its parent gives.
 fn is_office(alloc: Global, offices: &[OfficeRow], office: &OfficeRow) -> Result<bool, Fault>
     ensures row { AscendFrom 0 offices.now → IfOk result (λ yes. IsTrue yes ↔ IsOfficeRow offices.now office.now) }
     ensures gives_up { IfErr result (λ fault. fault ≡ F20) }
@@ -109,8 +106,8 @@ fn is_office(alloc: Global, offices: &[OfficeRow], office: &OfficeRow) -> Result
     Ok(has_text && is_numbered_and_named(office) && count_dots(office.hkey.as_str()) <= MOST_DOTS)
 }
 
-/// Whether each row is one of such offices.
-fn are_each_offices(alloc: Global, offices: &[OfficeRow]) -> Result<bool, Fault>
+/// Whether each row is that of an office, with the hierarchy text that its parent gives.
+fn are_all_offices(alloc: Global, offices: &[OfficeRow]) -> Result<bool, Fault>
     ensures rows { AscendFrom 0 offices.now → IfOk result (λ yes. IsTrue yes ↔
         AllByRecursion (IsOfficeRow offices.now) offices.now) }
     ensures gives_up { IfErr result (λ fault. fault ≡ F20) }
@@ -123,18 +120,19 @@ fn are_each_offices(alloc: Global, offices: &[OfficeRow]) -> Result<bool, Fault>
     Ok(true)
 }
 
-/// Whether the rows keep what shows row by row that offices are one tree.
+/// Whether the numbers ascend, the head office exists, and each row is that of an office, with the hierarchy text that its
+/// parent gives.
 fn are_office_rows(alloc: Global, offices: &[OfficeRow]) -> Result<bool, Fault>
     ensures rows { IfOk result (λ yes. IsTrue yes ↔ AreOfficeRows offices.now) }
     ensures gives_up { IfErr result (λ fault. fault ≡ F20) }
 {
-    if !do_ascend(offices) {
+    if !is_ascending(offices) {
         return Ok(false);
     }
     if find_office(offices, 1).is_none() {
         return Ok(false);
     }
-    are_each_offices(alloc, offices)
+    are_all_offices(alloc, offices)
 }
 
 /// Whether the rows are those of offices that are one tree, with the hierarchy texts that their parents give.

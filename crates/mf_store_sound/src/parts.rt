@@ -46,18 +46,11 @@ impl OfOffice for EntryRow {
     }
 }
 
-/// How many rows are this office's, before the first that is not.
+/// How many rows of this office come before the first of another.
 fn count_own<T: OfOffice>(rows: &[T], office: u32) -> usize
     ensures { result ≡ own_count T.office_of office rows.now }
 {
-    let mut count = 0;
-    for row in rows {
-        if row.office() != office {
-            return count;
-        }
-        count += 1;
-    }
-    count
+    rows.iter().take_while(|row| row.office() == office).count()
 }
 
 /// The rows of this office, which come first, and the later ones.
@@ -69,21 +62,14 @@ pub(crate) fn parts<T: OfOffice>(rows: &[T], office: u32) -> (&[T], &[T])
     rows.split_at(count)
 }
 
-/// How many rows are of entries of this loan of an office, before the first that is not.
+/// How many rows of this loan's entries come before the first of another's.
 fn count_of_loan(rows: &[EntryRow], loan: u32) -> usize
     ensures { result ≡ own_count (λ row. row.loan) loan rows.now }
 {
-    let mut count = 0;
-    for row in rows {
-        if row.loan != loan {
-            return count;
-        }
-        count += 1;
-    }
-    count
+    rows.iter().take_while(|row| row.loan == loan).count()
 }
 
-/// The rows of the entries of this loan of an office, which come first, and the later ones.
+/// The rows of this loan's entries, which come first, and the later ones.
 pub(crate) fn parts_of_loan(rows: &[EntryRow], loan: u32) -> (&[EntryRow], &[EntryRow])
     ensures own { result.0.now ≡ own (λ row. row.loan) loan rows.now }
     ensures later { result.1.now ≡ later (λ row. row.loan) loan rows.now }

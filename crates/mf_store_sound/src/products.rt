@@ -1,31 +1,25 @@
 ghost use Rattle.std.specs.Prelude.{◌≡◌, ℕ, pos, ◌≤◌, ◌↔◌, IsTrue, length, option_copied};
 ghost use Rattle.mf_base.specs.declared.day.Freq.{Freq as AnyFreq};
-ghost use Rattle.mf_catalog.specs.declared.limits.TheConstants.{GREATEST_AMOUNT, MOST_PERIODS};
+ghost use Rattle.mf_catalog.specs.declared.limits.TheConstants.{MOST_PERIODS};
 ghost use Rattle.mf_catalog.specs.Limits.{longest_step};
 ghost use Rattle.mf_catalog.specs.Product.{AreMembersWithinLimits, limits_agree, kinds_right, is_of_kind};
-ghost use Rattle.mf_catalog.specs.declared.charge.ChargeKind.{ChargeKind as AnyKind};
 ghost use Rattle.mf_model.specs.Institution.{Catalogue, Offer, charge_in, numbered};
 ghost use Rattle.mf_model.specs.Sound.{IsSoundOffer};
 ghost use Rattle.mf_store_accounts.specs.Flat.{charge_as, product_as, numbered_from};
 ghost use Rattle.mf_base.specs.Choices.{frequency_number};
-ghost use Rattle.mf_catalog.specs.Names.{kind_number};
-ghost use Rattle.mf_store_sound.specs.Stored.{IsRowOf, AreRowsOf};
+ghost use Rattle.mf_store_sound.specs.Stored.{IsRowOf};
 
+use crate::amounts::is_amount;
+use crate::numbered::NumberedRow;
 use mf_base::{Choice, Freq};
 use mf_catalog::{
-    GREATEST_RATE, MOST_GRACE, MOST_MONTHS, MOST_PERIODS, MOST_WEEKS, Method, StrategyName,
+    ChargeKind, GREATEST_RATE, MOST_GRACE, MOST_PERIODS, Method, StrategyName, longest_step,
 };
 use mf_model::is_name;
 use mf_store_accounts::{amount_from, charge_row, flag_from};
 use mf_store_records::{ChargeRow, ProductRow};
 
-/// The most products.
-const MOST_PRODUCTS: usize = 999;
-
-/// The greatest principal, as rows keep it.
-const GREATEST_PRINCIPAL: i64 = 1_000_000_000_000;
-
-/// Whether the numbers of a row that stand for choices stand for some, and its amounts are amounts.
+/// Whether each number that stands for a choice is that of one, and no amount is negative.
 fn has_choices(row: &ProductRow) -> bool
     ensures { IsTrue result ↔ ((p : Offer) × (product_as row.now.number p ≡ row.now)) }
 {
@@ -42,22 +36,14 @@ fn has_choices(row: &ProductRow) -> bool
     }
 }
 
-/// The longest step between due days for the number of a frequency.
+/// The longest step between due days, for the number of a frequency.
 fn longest(frequency: u32) -> u32
     ensures { (freq : AnyFreq) → frequency_number freq ≡ frequency → result ≡ longest_step freq }
 {
-    if frequency == 1 {
-        MOST_WEEKS
-    } else {
-        MOST_MONTHS
+    match Freq::from_number(frequency) {
+        Some(freq) => longest_step(freq),
+        None => 0,
     }
-}
-
-/// Whether a principal is from 1 cent to the greatest.
-fn is_principal(principal: i64) -> bool
-    ensures { (amount : ℕ) → pos amount ≡ principal → IsTrue result ↔ ((1 ≤ amount) × (amount ≤ GREATEST_AMOUNT)) }
-{
-    principal >= 1 && principal <= GREATEST_PRINCIPAL
 }
 
 /// Whether a number of periods is from 1 to the most.
@@ -76,8 +62,8 @@ fn is_within_limits(row: &ProductRow) -> bool
         && row.every <= longest(row.frequency)
         && row.principal_grace <= MOST_GRACE
         && row.interest_grace <= MOST_GRACE
-        && is_principal(row.min_principal)
-        && is_principal(row.max_principal)
+        && is_amount(row.min_principal)
+        && is_amount(row.max_principal)
         && are_periods(row.min_periods)
         && are_periods(row.max_periods)
 }
@@ -92,66 +78,42 @@ fn do_limits_agree(row: &ProductRow) -> bool
         && row.interest_grace < row.min_periods
 }
 
-/// Whether the charge is there and of the kind of this number, where one is named.
-fn is_of_kind(charges: &[ChargeRow], kind: u32, named: Option<u32>) -> bool
-    ensures { (k : Catalogue) → numbered_from charge_as 1 k.charges ≡ charges.now → (wanted : AnyKind) →
-        kind_number wanted ≡ kind →
-        result ≡ is_of_kind (charge_in k) wanted named }
+/// Whether the charge that is named, if one is, exists and is of this kind.
+fn is_of_kind(charges: &[ChargeRow], kind: ChargeKind, named: Option<u32>) -> bool
+    ensures { (k : Catalogue) → numbered_from charge_as 1 k.charges ≡ charges.now → result ≡ is_of_kind (charge_in k) kind named }
 {
     let Some(number) = named else {
         return true;
     };
     match charge_row(charges, number) {
-        Some(charge) => charge.kind == kind,
+        Some(charge) => charge.kind == kind.number(),
         None => false,
     }
 }
 
-/// Whether the charges that the row's product names are there and of the right kinds.
+/// Whether the charges that the row's product names exist and are of the right kinds.
 fn are_kinds_right(charges: &[ChargeRow], row: &ProductRow) -> bool
     ensures { (k : Catalogue) → numbered_from charge_as 1 k.charges ≡ charges.now → (p : Offer) →
         product_as row.now.number p ≡ row.now →
         result ≡ kinds_right (charge_in k) p.members }
 {
-    let disbursement = is_of_kind(charges, 1, row.disbursement_charge);
-    let instalment = is_of_kind(charges, 2, row.instalment_charge);
-    let overdue = is_of_kind(charges, 3, row.overdue_charge);
-    if !disbursement {
-        return false;
-    }
-    if !instalment {
-        return false;
-    }
-    overdue
+    is_of_kind(charges, ChargeKind::Disbursement, row.disbursement_charge)
+        && is_of_kind(charges, ChargeKind::Instalment, row.instalment_charge)
+        && is_of_kind(charges, ChargeKind::Overdue, row.overdue_charge)
 }
 
-/// Whether a row is that of a product with this number, over these charges.
-fn is_product(charges: &[ChargeRow], number: u32, row: &ProductRow) -> bool
-    ensures { (k : Catalogue) → numbered_from charge_as 1 k.charges ≡ charges.now →
-        IsTrue result ↔ IsRowOf product_as (IsSoundOffer (charge_in k)) number row.now }
-{
-    row.number == number
-        && has_choices(row)
-        && is_name(row.name.as_str())
-        && is_within_limits(row)
-        && do_limits_agree(row)
-        && are_kinds_right(charges, row)
-}
+/// The row of a product over these charges.
+impl<'a> NumberedRow<&'a [ChargeRow]> for ProductRow {
+    ghost Setting = { λ charges. (k : Catalogue) × (numbered_from charge_as 1 k.charges ≡ charges.now) };
 
-/// Whether the rows are those of products over these charges, by number from 1.
-pub(crate) fn are_products(charges: &[ChargeRow], rows: &[ProductRow]) -> bool
-    ensures { (k : Catalogue) → numbered_from charge_as 1 k.charges ≡ charges.now →
-        IsTrue result ↔ ((length rows.now ≤ 999) × AreRowsOf product_as (IsSoundOffer (charge_in k)) 1 rows.now) }
-{
-    if rows.len() > MOST_PRODUCTS {
-        return false;
+    ghost IsNumbered = { λ charges of number row. IsRowOf product_as (IsSoundOffer (charge_in of.0)) number row };
+
+    fn is_numbered(&self, charges: &'a [ChargeRow], number: u32) -> bool {
+        self.number == number
+            && has_choices(self)
+            && is_name(self.name.as_str())
+            && is_within_limits(self)
+            && do_limits_agree(self)
+            && are_kinds_right(charges, self)
     }
-    let mut number = 1;
-    for row in rows {
-        if !is_product(charges, number, row) {
-            return false;
-        }
-        number += 1;
-    }
-    true
 }

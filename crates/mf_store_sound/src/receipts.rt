@@ -31,7 +31,7 @@ fn is_before(row: &ReceiptRow, other: &ReceiptRow) -> bool
 }
 
 /// Whether each receipt comes before those that follow it, so that none stands twice in an office.
-fn do_rise(rows: &[ReceiptRow]) -> bool
+fn is_ascending(rows: &[ReceiptRow]) -> bool
     ensures { IsTrue result ↔ AreReceiptsInOrder rows.now }
 {
     for place in 1..rows.len() {
@@ -73,7 +73,7 @@ fn carried(alloc: Global, entries: &[EntryRow]) -> Result<Vec<ReceiptRow>, Fault
 }
 
 /// Whether the rows are those of the receipts that the rows of entries carry, in the order of their key, and no office
-/// has a receipt twice. The error is want of memory, F20.
+/// has a receipt twice. The error is F20, out of memory.
 pub(crate) fn are_receipts(
     alloc: Global,
     receipts: &[ReceiptRow],
@@ -82,7 +82,7 @@ pub(crate) fn are_receipts(
     ensures exact { IfOk result (λ yes. IsTrue yes ↔ AreReceiptsOf receipts.now entries.now) }
     ensures gives_up { IfErr result (λ fault. fault ≡ F20) }
 {
-    if !do_rise(receipts) {
+    if !is_ascending(receipts) {
         return Ok(false);
     }
     let mut rows = carried(alloc, entries)?;

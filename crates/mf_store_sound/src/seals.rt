@@ -10,6 +10,7 @@ ghost use Rattle.mf_store_accounts.specs.Ledgers.{IsReadable};
 ghost use Rattle.mf_store_accounts.specs.Flat.{entry_in};
 
 use mf_base::Day;
+use mf_store_accounts::kind_from;
 use mf_store_records::EntryRow;
 
 /// Whether the entry of a row comes before that of another: by day, then by number.
@@ -30,7 +31,10 @@ fn is_before(row: &EntryRow, last: &EntryRow) -> bool
 fn is_seal(row: &EntryRow) -> bool
     ensures { (x m : ℕ) (e : Entry) → entry_in x m e ≡ row.now → result ≡ is_seal_kind e.kind }
 {
-    row.kind == 5 || row.kind == 6
+    match kind_from(row.kind) {
+        Some(kind) => kind.is_seal(),
+        None => false,
+    }
 }
 
 /// Whether a row is of an entry that is reversed.

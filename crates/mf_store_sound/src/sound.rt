@@ -9,11 +9,10 @@ ghost use Rattle.mf_store_sound.specs.Schemas.{first_tables_of};
 ghost use Rattle.mf_store_sound.specs.Sound.{AreOfSound, AreOfSoundFirst, AreUnder};
 
 use crate::callers::are_by_staff;
-use crate::charges::are_charges;
 use crate::meta::business_day;
-use crate::office_parts::are_office_parts;
+use crate::numbered::are_numbered;
+use crate::office_parts::{Belongings, are_office_parts};
 use crate::offices::are_offices;
-use crate::products::are_products;
 use crate::receipts::are_receipts;
 use crate::tables::Tables;
 use mf_base::Fault;
@@ -27,33 +26,43 @@ const FIRST_SCHEMA: u32 = 1;
 /// The number of the schema whose tables keep rows of accounts too.
 const SCHEMA: u32 = 2;
 
-/// Whether there is a sound institution whose rows these are, with this schema's number and but for the rows of accounts.
+/// The most charges of a catalogue, and the most products.
+const MOST_OF_CATALOGUE: u32 = 999;
+
+/// Whether there is a sound institution whose rows these are, with this schema's number. It does not check the rows of
+/// accounts.
 fn are_under(alloc: Global, schema: u32, tables: &Tables) -> Result<bool, Fault>
     ensures exact { IfOk result (λ yes. IsTrue yes ↔ AreUnder schema tables.now) }
     ensures gives_up { IfErr result (λ fault. fault ≡ F20) }
 {
-    let meta = tables.meta();
-    let offices = tables.offices();
-    let staff = tables.staff();
-    let clients = tables.clients();
-    let charges = tables.charges();
-    let products = tables.products();
-    let loans = tables.loans();
-    let entries = tables.entries();
-    let receipts = tables.receipts();
+    let meta = tables.meta.as_slice();
+    let offices = tables.offices.as_slice();
+    let staff = tables.staff.as_slice();
+    let clients = tables.clients.as_slice();
+    let charges = tables.charges.as_slice();
+    let products = tables.products.as_slice();
+    let loans = tables.loans.as_slice();
+    let entries = tables.entries.as_slice();
+    let receipts = tables.receipts.as_slice();
     let Some(today) = business_day(schema, meta) else {
         return Ok(false);
     };
-    if !are_charges(charges) {
+    if !are_numbered((), charges, MOST_OF_CATALOGUE) {
         return Ok(false);
     }
-    if !are_products(charges, products) {
+    if !are_numbered(charges, products, MOST_OF_CATALOGUE) {
         return Ok(false);
     }
     if !are_offices(alloc, offices)? {
         return Ok(false);
     }
-    if !are_office_parts(today, products, offices, staff, clients, loans, entries) {
+    let belongings = Belongings {
+        staff,
+        clients,
+        loans,
+        entries,
+    };
+    if !are_office_parts(today, products, offices, belongings) {
         return Ok(false);
     }
     if !are_by_staff(staff, entries) {
@@ -62,7 +71,7 @@ fn are_under(alloc: Global, schema: u32, tables: &Tables) -> Result<bool, Fault>
     are_receipts(alloc, receipts, entries)
 }
 
-/// Whether there is a sound institution whose rows these are. The error is want of memory, F20.
+/// Whether there is a sound institution whose rows these are. The error is F20, out of memory.
 pub fn is_sound(alloc: Global, tables: &Tables) -> Result<bool, Fault>
     ensures exact { IfOk result (λ yes. IsTrue yes ↔ AreOfSound tables.now) }
     ensures gives_up { IfErr result (λ fault. fault ≡ F20) }
@@ -72,17 +81,17 @@ pub fn is_sound(alloc: Global, tables: &Tables) -> Result<bool, Fault>
     }
     are_accounts(
         alloc,
-        tables.charges(),
-        tables.products(),
-        tables.loans(),
-        tables.entries(),
-        tables.instalments(),
-        tables.shares(),
+        &tables.charges,
+        &tables.products,
+        &tables.loans,
+        &tables.entries,
+        &tables.instalments,
+        &tables.shares,
     )
 }
 
 /// Whether there is a sound institution whose rows these are under the first schema, which keeps no rows of accounts. The
-/// error is want of memory, F20.
+/// error is F20, out of memory.
 pub fn is_sound_first(alloc: Global, tables: &Tables) -> Result<bool, Fault>
     ensures exact { IfOk result (λ yes. IsTrue yes ↔ AreOfSoundFirst tables.now) }
     ensures gives_up { IfErr result (λ fault. fault ≡ F20) }
@@ -94,7 +103,7 @@ pub fn is_sound_first(alloc: Global, tables: &Tables) -> Result<bool, Fault>
 }
 
 /// The rows of instalments and of shares that the accounts of an institution have, by its rows under the first schema. The
-/// error is want of memory, F20.
+/// error is F20, out of memory.
 pub fn account_rows(
     alloc: Global,
     tables: &Tables,
@@ -105,9 +114,9 @@ pub fn account_rows(
 {
     rows_of_accounts(
         alloc,
-        tables.charges(),
-        tables.products(),
-        tables.loans(),
-        tables.entries(),
+        &tables.charges,
+        &tables.products,
+        &tables.loans,
+        &tables.entries,
     )
 }

@@ -1,14 +1,14 @@
-use Rattle.mf_store_sound.proofs.EnteredLemmas.{loan_entries, entry_rows_of, seals_of}
 use Rattle.mf_store_accounts.proofs.AnswerLemmas.{refuses, no_answer}
+use Rattle.mf_store_sound.proofs.EnteredLemmas.{loan_entries, entry_rows_of, seals_of}
 use Rattle.mf_store_sound.proofs.entered.are_loan_entries.Goals as goal
 
-pub returns-then-not-are_entries : goal.returns-then-not-are_entries
-returns-then-not-are_entries c =
-    no_answer (λ h. refuses c.are_entries.result c.if-not-are_entries.true c.are_entries.ensures (entry_rows_of c.args.today c.args.day c.args.periods c.args.office c.args.loan c.args.rows.now h))
+pub returns-then-not-are_numbered : goal.returns-then-not-are_numbered
+returns-then-not-are_numbered c =
+    no_answer (λ h. refuses c.are_numbered.result c.if-not-are_numbered.true (c.are_numbered.ensures tt) (entry_rows_of c.args.loan.today c.args.loan.day c.args.loan.periods c.args.loan.office c.args.loan.number c.args.rows.now h))
 
 pub returns : goal.returns
 returns c =
-    let h = c.are_entries.ensures.0 c.if-not-are_entries.false in (
-      loan_entries c.args.today c.args.day c.args.periods c.args.office c.args.loan c.args.rows.now c.are_seals_last.result h c.are_seals_last.ensures,
-      seals_of c.args.today c.args.day c.args.periods c.args.office c.args.loan c.args.rows.now c.are_seals_last.result c.are_seals_last.ensures,
+    let h = (c.are_numbered.ensures tt).0 c.if-not-are_numbered.false in (
+      loan_entries c.args.loan.today c.args.loan.day c.args.loan.periods c.args.loan.office c.args.loan.number c.args.rows.now c.are_seals_last.result h c.are_seals_last.ensures,
+      seals_of c.args.loan.today c.args.loan.day c.args.loan.periods c.args.loan.office c.args.loan.number c.args.rows.now c.are_seals_last.result c.are_seals_last.ensures,
     )

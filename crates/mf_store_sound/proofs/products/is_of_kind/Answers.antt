@@ -5,9 +5,9 @@ use Rattle.mf_store_sound.proofs.ProductLemmas.{named_charge, unnamed_charge}
 use Rattle.mf_store_sound.proofs.products.is_of_kind.Goals as goal
 
 pub returns-in-Some-charge_row : goal.returns-in-Some-charge_row
-returns-in-Some-charge_row c k e wanted w =
-    named_charge k c.args.charges.now c.in-Some-charge_row.charge.now c.in-Some.number c.args.kind wanted e c.in-Some-charge_row.ensures w ∙ ap (is_of_kind (charge_in k) wanted) (sym c.in-Some.is)
+returns-in-Some-charge_row c k e =
+    named_charge k c.args.charges.now c.in-Some-charge_row.charge.now c.in-Some.number c.number.result c.args.kind e c.in-Some-charge_row.ensures (sym c.number.ensures) ∙ ap (is_of_kind (charge_in k) c.args.kind) (sym c.in-Some.is)
 
 pub returns-in-None : goal.returns-in-None
-returns-in-None c k e wanted w =
-    unnamed_charge k c.args.charges.now c.in-Some.number wanted e c.in-None.ensures ∙ ap (is_of_kind (charge_in k) wanted) (sym c.in-Some.is)
+returns-in-None c k e =
+    unnamed_charge k c.args.charges.now c.in-Some.number c.args.kind e c.in-None.ensures ∙ ap (is_of_kind (charge_in k) c.args.kind) (sym c.in-Some.is)

@@ -13,6 +13,6 @@ returns-clause-rows c =
     weaker_if_ok c.rows_of_accounts.result _ (λ rows. (i : Institution) → IsSound i → first_tables_of i ≡ c.args.tables.now → (rows.0.items ≡ (tables_of i).instalments) × (rows.1.items ≡ (tables_of i).shares)) (λ rows told.
     rows_are_of c.args.tables.now rows.0.items rows.1.items
     (
-    told_of_parts (λ none other k ps. AreAccounts k ps rows.0.items rows.1.items) c.args.tables.now c.charges.result.now c.products.result.now c.loans.result.now c.entries.result.now c.args.tables.now.instalments c.args.tables.now.shares
-    c.charges.ensures c.products.ensures c.loans.ensures c.entries.ensures refl refl told
+    told_of_parts (λ none other k ps. AreAccounts k ps rows.0.items rows.1.items) c.args.tables.now _ c.tables.view_is c.deref.result.now c.deref-2.result.now c.deref-3.result.now c.deref-4.result.now _ _
+    c.deref.ensures.value c.deref-2.ensures.value c.deref-3.ensures.value c.deref-4.ensures.value refl refl told
     )) c.rows_of_accounts.ensures.accounts

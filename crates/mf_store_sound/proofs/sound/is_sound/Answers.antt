@@ -13,6 +13,6 @@ returns-clause-exact c =
     weaker_if_ok c.are_accounts.result _ (λ answer. IsTrue answer ↔ AreOfSound c.args.tables.now) (λ answer told.
     whole_is c.args.tables.now (IsTrue answer) ((c.in_ok-are_under.ensures {u = tt}).exact.0 c.if-not-branch.false)
     (
-    told_of_parts (λ instalments shares k ps. IsTrue answer ↔ AreAccounts k ps instalments shares) c.args.tables.now c.charges.result.now c.products.result.now c.loans.result.now c.entries.result.now c.instalments.result.now c.shares.result.now
-    c.charges.ensures c.products.ensures c.loans.ensures c.entries.ensures c.instalments.ensures c.shares.ensures told
+    told_of_parts (λ instalments shares k ps. IsTrue answer ↔ AreAccounts k ps instalments shares) c.args.tables.now _ c.tables.view_is c.deref.result.now c.deref-2.result.now c.deref-3.result.now c.deref-4.result.now c.deref-5.result.now c.deref-6.result.now
+    c.deref.ensures.value c.deref-2.ensures.value c.deref-3.ensures.value c.deref-4.ensures.value c.deref-5.ensures.value c.deref-6.ensures.value told
     )) c.are_accounts.ensures.accounts

@@ -1,7 +1,7 @@
 use Rattle.std.proofs.Common.{◌∙◌, sym}
 use Rattle.mf_store_sound.proofs.ReceiptLemmas.{rises_not, rose}
 use Rattle.mf_store_accounts.proofs.AnswerLemmas.{no_answer, yes_answer}
-use Rattle.mf_store_sound.proofs.receipts.do_rise.Goals as goal
+use Rattle.mf_store_sound.proofs.receipts.is_ascending.Goals as goal
 
 pub returns-then-not-is_before : goal.returns-then-not-is_before
 returns-then-not-is_before c =

@@ -1,6 +1,6 @@
 use Rattle.mf_store_sound.specs.Offices.{IsOfficeRow}
 use Rattle.mf_store_sound.proofs.OfficeRowLemmas.{each_passed}
-use Rattle.mf_store_sound.proofs.offices.are_each_offices.Goals as goal
+use Rattle.mf_store_sound.proofs.offices.are_all_offices.Goals as goal
 
 pub loop-office-preserved : goal.loop-office-preserved
 loop-office-preserved c up =
