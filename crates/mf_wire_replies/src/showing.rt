@@ -1,5 +1,5 @@
-// The text of a success, which is made before anything is changed.
-ghost use Rattle.std.specs.Prelude.{◌≡◌, false, map, IfOk, IfErr, string_bytes};
+//! The text of a success, which is made before anything is changed.
+ghost use Rattle.std.specs.Prelude.{◌≡◌, false, IfOk, IfErr, string_bytes};
 ghost use Rattle.serde_json.specs.View.{view};
 ghost use Rattle.serde_json.specs.Written.{compact_text, has_float};
 ghost use Rattle.mf_model.specs.declared.reply.Reply.TheVariants.{OfficeMade, Offices, StaffMade, ClientMade, ClientShown};
@@ -9,17 +9,19 @@ ghost use Rattle.mf_wire_replies.specs.Shown.{IsBodyOf, office_data, reply_statu
 mod account;
 mod arrears;
 mod catalogue;
+mod lists;
 mod loans;
 mod members;
 
 use arrears::arrears_shown;
 use catalogue::{charge_made, charge_shown, day_value, product_shown, product_value};
+use lists::{Shown, array_of};
 use loans::{loan_made, loan_told, loans_shown, told_status};
-use members::Members;
+use members::{Members, single};
 use mf_base::Fault;
 use mf_model::Reply;
 use mf_office::{Account, Caller, Name, Office, OfficeNo};
-use serde_json::{Value, json};
+use serde_json::Value;
 use std::alloc::{AllocError, Global};
 
 /// A body before it is written: a value of JSON, or its text where that is written at once.
@@ -29,46 +31,36 @@ pub(crate) enum Body {
     Text(String),
 }
 
-fn office_value(alloc: Global, line: &Office) -> Result<Value, AllocError>
-    ensures { IfOk result (λ v. view v ≡ office_data line.now) }
-{
-    let parent = match line.parent {
-        Some(parent) => Value::from(parent.get()),
-        None => Value::Null,
-    };
-    let mut members = Members::new(alloc);
-    members.put(alloc, "parent", parent)?;
-    members.put_whole(alloc, "number", line.number.get() as u64)?;
-    members.put_text(alloc, "name", line.name.as_str())?;
-    Ok(members.into_value())
-}
+impl Shown for Office {
+    ghost json = { office_data };
 
-fn office_values(alloc: Global, lines: &[Office]) -> Result<Vec<Value>, AllocError>
-    ensures { IfOk result (λ v. map view v.items ≡ map office_data lines.now) }
-{
-    let mut values = Vec::new(alloc);
-    for line in lines {
-        values.push(office_value(alloc, line)?)?;
+    fn value(&self, alloc: Global) -> Result<Value, Fault> {
+        let parent = match self.parent {
+            Some(parent) => Value::from(parent.get()),
+            None => Value::Null,
+        };
+        let mut members = Members::new(alloc);
+        members.put(alloc, "parent", parent)?;
+        members.put_whole(alloc, "number", self.number.get() as u64)?;
+        members.put_text(alloc, "name", self.name.as_str())?;
+        Ok(members.into_value())
     }
-    Ok(values)
 }
 
 fn office_made(alloc: Global, office: OfficeNo) -> Result<Body, Fault>
     ensures ok { IfOk result (IsBodyOf (OfficeMade office)) }
     ensures err { IfErr result (λ f. f ≡ Fault.F20) }
 {
-    let office = office.get();
-    let value = json!(in alloc; {"office": office})?;
-    Ok(Body::Value(value))
+    let office = Value::from(office.get());
+    Ok(Body::Value(single(alloc, "office", office)?))
 }
 
 fn offices(alloc: Global, lines: &[Office]) -> Result<Body, Fault>
     ensures ok { IfOk result (IsBodyOf (Offices lines.now)) }
     ensures err { IfErr result (λ f. f ≡ Fault.F20) }
 {
-    let lines = Value::Array(office_values(alloc, lines)?);
-    let value = json!(in alloc; {"offices": lines})?;
-    Ok(Body::Value(value))
+    let lines = array_of(alloc, lines)?;
+    Ok(Body::Value(single(alloc, "offices", lines)?))
 }
 
 fn staff_made(alloc: Global, staff: Caller) -> Result<Body, Fault>
@@ -76,8 +68,7 @@ fn staff_made(alloc: Global, staff: Caller) -> Result<Body, Fault>
     ensures err { IfErr result (λ f. f ≡ Fault.F20) }
 {
     let staff = Value::String(staff.text(alloc)?);
-    let value = json!(in alloc; {"staff": staff})?;
-    Ok(Body::Value(value))
+    Ok(Body::Value(single(alloc, "staff", staff)?))
 }
 
 fn client_made(alloc: Global, client: Account) -> Result<Body, Fault>
@@ -85,8 +76,7 @@ fn client_made(alloc: Global, client: Account) -> Result<Body, Fault>
     ensures err { IfErr result (λ f. f ≡ Fault.F20) }
 {
     let client = Value::String(client.text(alloc)?);
-    let value = json!(in alloc; {"client": client})?;
-    Ok(Body::Value(value))
+    Ok(Body::Value(single(alloc, "client", client)?))
 }
 
 fn client_shown(alloc: Global, client: Account, name: &Name) -> Result<Body, Fault>
@@ -139,10 +129,7 @@ pub fn body_text(alloc: Global, reply: &Reply) -> Result<String, Fault>
     let body = reply_body(alloc, reply)?;
     match body {
         Body::Text(text) => Ok(text),
-        Body::Value(value) => {
-            let text = text_of(alloc, &value)?;
-            Ok(text)
-        }
+        Body::Value(value) => Ok(text_of(alloc, &value)?),
     }
 }
 

@@ -1,16 +1,17 @@
-// A loan's instalments and entries as JSON.
-ghost use Rattle.std.specs.Prelude.{◌≡◌, IfOk, IfErr, OnOk, map};
+//! A loan's instalments and entries as JSON.
+ghost use Rattle.std.specs.Prelude.{◌≡◌, IfOk, IfErr, OnOk};
 ghost use Rattle.serde_json.specs.Data.{put as with_member};
 ghost use Rattle.serde_json.specs.View.{view, members_view};
 ghost use Rattle.mf_wire_replies.specs.Json.{text_or_null as text_or_null_of, whole_or_null as whole_or_null_of};
 ghost use Rattle.mf_wire_replies.specs.AccountTexts.{sum_of, instalment_data, instalments_data, kind_name, portion_name, instalment_for, portion_waived, share_data, shares_data, entry_rest as entry_rest_of, entry_data, entries_data};
 
-use super::members::{Members, text_or_null, whole_or_null};
+use super::lists::{Shown, array_of};
+use super::members::{Members, single, text_or_null, whole_or_null};
 use mf_account::{Entry, Kind};
 use mf_alloc::{Portion, Share};
 use mf_base::Fault;
 use mf_statement::{EntryLine, InstalmentLine};
-use serde_json::{Value, json};
+use serde_json::Value;
 use std::alloc::{AllocError, Global};
 
 /// Puts the sum of a portion.
@@ -26,31 +27,21 @@ fn put_sum(
     members.put_whole(alloc, name, sums[portion.index()])
 }
 
-fn instalment_value(alloc: Global, line: &InstalmentLine) -> Result<Value, Fault>
-    ensures ok { IfOk result (λ v. view v ≡ instalment_data line.now) }
-    ensures err { IfErr result (λ f. f ≡ Fault.F20) }
-{
-    let owed = &line.owed;
-    let mut members = Members::new(alloc);
-    put_sum(alloc, &mut members, "principal", Portion::Principal, owed)?;
-    put_sum(alloc, &mut members, "penalties", Portion::Penalty, owed)?;
-    members.put_whole(alloc, "outstanding", line.outstanding)?;
-    members.put_whole(alloc, "number", line.number as u64)?;
-    put_sum(alloc, &mut members, "interest", Portion::Interest, owed)?;
-    put_sum(alloc, &mut members, "fees", Portion::Fee, owed)?;
-    members.put(alloc, "due", Value::String(line.due.text(alloc)?))?;
-    Ok(members.into_value())
-}
+impl Shown for InstalmentLine {
+    ghost json = { instalment_data };
 
-fn instalment_values(alloc: Global, lines: &[InstalmentLine]) -> Result<Vec<Value>, Fault>
-    ensures ok { IfOk result (λ v. map view v.items ≡ map instalment_data lines.now) }
-    ensures err { IfErr result (λ f. f ≡ Fault.F20) }
-{
-    let mut values = Vec::new(alloc);
-    for line in lines {
-        values.push(instalment_value(alloc, line)?)?;
+    fn value(&self, alloc: Global) -> Result<Value, Fault> {
+        let owed = &self.owed;
+        let mut members = Members::new(alloc);
+        put_sum(alloc, &mut members, "principal", Portion::Principal, owed)?;
+        put_sum(alloc, &mut members, "penalties", Portion::Penalty, owed)?;
+        members.put_whole(alloc, "outstanding", self.outstanding)?;
+        members.put_whole(alloc, "number", self.number as u64)?;
+        put_sum(alloc, &mut members, "interest", Portion::Interest, owed)?;
+        put_sum(alloc, &mut members, "fees", Portion::Fee, owed)?;
+        members.put(alloc, "due", Value::String(self.due.text(alloc)?))?;
+        Ok(members.into_value())
     }
-    Ok(values)
 }
 
 /// The instalments of a loan.
@@ -58,9 +49,8 @@ pub fn instalments_value(alloc: Global, lines: &[InstalmentLine]) -> Result<Valu
     ensures ok { IfOk result (λ v. view v ≡ instalments_data lines.now) }
     ensures err { IfErr result (λ f. f ≡ Fault.F20) }
 {
-    let lines = Value::Array(instalment_values(alloc, lines)?);
-    let value = json!(in alloc; {"instalments": lines})?;
-    Ok(value)
+    let lines = array_of(alloc, lines)?;
+    Ok(single(alloc, "instalments", lines)?)
 }
 
 fn kind_name(kind: Kind) -> &'static str
@@ -87,24 +77,16 @@ fn portion_name(portion: Portion) -> &'static str
     }
 }
 
-fn share_value(alloc: Global, share: &Share) -> Result<Value, AllocError>
-    ensures { IfOk result (λ v. view v ≡ share_data share.now) }
-{
-    let mut members = Members::new(alloc);
-    members.put_text(alloc, "portion", portion_name(share.cell.portion))?;
-    members.put_whole(alloc, "instalment", share.cell.instalment as u64)?;
-    members.put_whole(alloc, "amount", share.amount)?;
-    Ok(members.into_value())
-}
+impl Shown for Share {
+    ghost json = { share_data };
 
-fn share_values(alloc: Global, shares: &[Share]) -> Result<Vec<Value>, AllocError>
-    ensures { IfOk result (λ v. map view v.items ≡ map share_data shares.now) }
-{
-    let mut values = Vec::new(alloc);
-    for share in shares {
-        values.push(share_value(alloc, share)?)?;
+    fn value(&self, alloc: Global) -> Result<Value, Fault> {
+        let mut members = Members::new(alloc);
+        members.put_text(alloc, "portion", portion_name(self.cell.portion))?;
+        members.put_whole(alloc, "instalment", self.cell.instalment as u64)?;
+        members.put_whole(alloc, "amount", self.amount)?;
+        Ok(members.into_value())
     }
-    Ok(values)
 }
 
 /// The instalment that a fee, a penalty or a waiver is for, or null.
@@ -146,36 +128,26 @@ fn entry_rest(alloc: Global, entry: &Entry, shares: &[Share]) -> Result<Members,
 {
     let mut members = Members::new(alloc);
     members.put(alloc, "staff", Value::String(entry.staff.text(alloc)?))?;
-    members.put(alloc, "shares", Value::Array(share_values(alloc, shares)?))?;
+    members.put(alloc, "shares", array_of(alloc, shares)?)?;
     members.put(alloc, "reversed", Value::Bool(entry.reversed))?;
     members.put(alloc, "receipt", receipt_of(alloc, entry)?)?;
     members.put(alloc, "portion", portion_of(alloc, entry)?)?;
     Ok(members)
 }
 
-fn entry_value(alloc: Global, line: &EntryLine) -> Result<Value, Fault>
-    ensures ok { IfOk result (λ v. view v ≡ entry_data line.now) }
-    ensures err { IfErr result (λ f. f ≡ Fault.F20) }
-{
-    let entry = &line.entry;
-    let mut members = entry_rest(alloc, entry, line.shares.as_slice())?;
-    members.put_text(alloc, "kind", kind_name(entry.kind))?;
-    members.put(alloc, "instalment", instalment_of(entry))?;
-    members.put_whole(alloc, "entry", entry.seq as u64)?;
-    members.put(alloc, "day", Value::String(entry.day.text(alloc)?))?;
-    members.put_whole(alloc, "amount", line.amount)?;
-    Ok(members.into_value())
-}
+impl Shown for EntryLine {
+    ghost json = { entry_data };
 
-fn entry_values(alloc: Global, lines: &[EntryLine]) -> Result<Vec<Value>, Fault>
-    ensures ok { IfOk result (λ v. map view v.items ≡ map entry_data lines.now) }
-    ensures err { IfErr result (λ f. f ≡ Fault.F20) }
-{
-    let mut values = Vec::new(alloc);
-    for line in lines {
-        values.push(entry_value(alloc, line)?)?;
+    fn value(&self, alloc: Global) -> Result<Value, Fault> {
+        let entry = &self.entry;
+        let mut members = entry_rest(alloc, entry, self.shares.as_slice())?;
+        members.put_text(alloc, "kind", kind_name(entry.kind))?;
+        members.put(alloc, "instalment", instalment_of(entry))?;
+        members.put_whole(alloc, "entry", entry.seq as u64)?;
+        members.put(alloc, "day", Value::String(entry.day.text(alloc)?))?;
+        members.put_whole(alloc, "amount", self.amount)?;
+        Ok(members.into_value())
     }
-    Ok(values)
 }
 
 /// The entries of a loan.
@@ -183,7 +155,6 @@ pub fn entries_value(alloc: Global, lines: &[EntryLine]) -> Result<Value, Fault>
     ensures ok { IfOk result (λ v. view v ≡ entries_data lines.now) }
     ensures err { IfErr result (λ f. f ≡ Fault.F20) }
 {
-    let lines = Value::Array(entry_values(alloc, lines)?);
-    let value = json!(in alloc; {"entries": lines})?;
-    Ok(value)
+    let lines = array_of(alloc, lines)?;
+    Ok(single(alloc, "entries", lines)?)
 }

@@ -1,5 +1,5 @@
-// The report of arrears as JSON.
-ghost use Rattle.std.specs.Prelude.{◌≡◌, IfOk, IfErr, OnOk, map};
+//! The report of arrears as JSON.
+ghost use Rattle.std.specs.Prelude.{◌≡◌, IfOk, IfErr, OnOk};
 ghost use Rattle.serde_json.specs.Data.{put as with_member};
 ghost use Rattle.serde_json.specs.View.{view, members_view};
 ghost use Rattle.mf_model.specs.declared.reply.Reply.TheVariants.{ArrearsShown};
@@ -7,6 +7,7 @@ ghost use Rattle.mf_wire_replies.specs.Shown.{IsBodyOf};
 ghost use Rattle.mf_wire_replies.specs.ArrearsTexts.{money, line_end as line_end_of, all_data, line_data};
 
 use super::Body;
+use super::lists::{Shown, array_of};
 use super::members::Members;
 use mf_arrears::{OfficeLine, Totals};
 use mf_base::{Fault, money_text};
@@ -48,32 +49,21 @@ fn all_value(alloc: Global, all: &Totals) -> Result<Value, Fault>
     Ok(members.into_value())
 }
 
-/// An office's line.
-fn line_value(alloc: Global, line: &OfficeLine) -> Result<Value, Fault>
-    ensures ok { IfOk result (λ v. view v ≡ line_data line.now) }
-    ensures err { IfErr result (λ f. f ≡ Fault.F20) }
-{
-    let mut members = line_end(alloc, line.outstanding, line.over_90, line.par30())?;
-    members.put_whole(alloc, "office", line.office.get() as u64)?;
-    members.put_whole(alloc, "loans", line.loans)?;
-    put_money(alloc, &mut members, "c61_90", line.c61_90)?;
-    put_money(alloc, &mut members, "c31_60", line.c31_60)?;
-    put_money(alloc, &mut members, "c1_30", line.c1_30)?;
-    Ok(members.into_value())
-}
+impl Shown for OfficeLine {
+    ghost json = { line_data };
 
-fn line_values(alloc: Global, lines: &[OfficeLine]) -> Result<Vec<Value>, Fault>
-    ensures ok { IfOk result (λ v. map view v.items ≡ map line_data lines.now) }
-    ensures err { IfErr result (λ f. f ≡ Fault.F20) }
-{
-    let mut values = Vec::new(alloc);
-    for line in lines {
-        values.push(line_value(alloc, line)?)?;
+    fn value(&self, alloc: Global) -> Result<Value, Fault> {
+        let mut members = line_end(alloc, self.outstanding, self.over_90, self.par30())?;
+        members.put_whole(alloc, "office", self.office.get() as u64)?;
+        members.put_whole(alloc, "loans", self.loans)?;
+        put_money(alloc, &mut members, "c61_90", self.c61_90)?;
+        put_money(alloc, &mut members, "c31_60", self.c31_60)?;
+        put_money(alloc, &mut members, "c1_30", self.c1_30)?;
+        Ok(members.into_value())
     }
-    Ok(values)
 }
 
-/// The arrears of offices, and their sums. A report over more than 10^10 loans is refused as want of memory is; 9,999
+/// The arrears of offices, and their sums. A report over more than 10^10 loans is refused as if out of memory; 9,999
 /// offices with 999,999 loans each have fewer.
 pub fn arrears_shown(alloc: Global, lines: &[OfficeLine]) -> Result<Body, Fault>
     ensures ok { IfOk result (IsBodyOf (ArrearsShown lines.now)) }
@@ -83,7 +73,7 @@ pub fn arrears_shown(alloc: Global, lines: &[OfficeLine]) -> Result<Body, Fault>
         return Err(Fault::F20);
     };
     let mut members = Members::new(alloc);
-    members.put(alloc, "offices", Value::Array(line_values(alloc, lines)?))?;
+    members.put(alloc, "offices", array_of(alloc, lines)?)?;
     members.put(alloc, "all", all_value(alloc, &all)?)?;
     Ok(Body::Value(members.into_value()))
 }

@@ -1,4 +1,4 @@
-// The business day, charges and products as JSON.
+//! The business day, charges and products as JSON.
 ghost use Rattle.std.specs.Prelude.{◌≡◌, IfOk, IfErr};
 ghost use Rattle.serde_json.specs.View.{view, members_view};
 ghost use Rattle.mf_model.specs.declared.reply.Reply.TheVariants.{DayShown, ChargeMade, ChargeShown, ProductMade, ProductShown};
@@ -6,10 +6,10 @@ ghost use Rattle.mf_wire_replies.specs.Shown.{IsBodyOf, reply_data};
 ghost use Rattle.mf_wire_replies.specs.Catalogue.{product_end as product_end_of, product_rest as product_rest_of};
 
 use super::Body;
-use super::members::{Members, whole_or_null};
+use super::members::{Members, single, whole_or_null};
 use mf_base::{Choice, Day, Fault};
 use mf_catalog::{ChargeDef, Product};
-use serde_json::{Value, json};
+use serde_json::Value;
 use std::alloc::{AllocError, Global};
 
 /// The business day, shown or set.
@@ -18,8 +18,7 @@ pub fn day_value(alloc: Global, day: Day) -> Result<Value, Fault>
     ensures err { IfErr result (λ f. f ≡ Fault.F20) }
 {
     let day = Value::String(day.text(alloc)?);
-    let value = json!(in alloc; {"day": day})?;
-    Ok(value)
+    Ok(single(alloc, "day", day)?)
 }
 
 /// The number of a new charge.
@@ -27,8 +26,8 @@ pub fn charge_made(alloc: Global, charge: u32) -> Result<Body, Fault>
     ensures ok { IfOk result (IsBodyOf (ChargeMade charge)) }
     ensures err { IfErr result (λ f. f ≡ Fault.F20) }
 {
-    let value = json!(in alloc; {"charge": charge})?;
-    Ok(Body::Value(value))
+    let charge = Value::from(charge);
+    Ok(Body::Value(single(alloc, "charge", charge)?))
 }
 
 /// A charge.
@@ -51,21 +50,21 @@ pub fn charge_shown(alloc: Global, charge: &ChargeDef) -> Result<Body, Fault>
 pub fn product_value(alloc: Global, product: u32) -> Result<Value, AllocError>
     ensures { IfOk result (λ v. view v ≡ reply_data (ProductMade product)) }
 {
-    json!(in alloc; {"product": product})
+    single(alloc, "product", Value::from(product))
 }
 
 /// A product's members from `overdue_charge` on.
 fn product_end(alloc: Global, product: &Product) -> Result<Members, AllocError>
     ensures { IfOk result (λ members. members_view members.map.entries ≡ product_end_of product.now) }
 {
-    let terms = &product.members;
+    let lent_by = &product.members;
     let mut members = Members::new(alloc);
-    members.put_text(alloc, "strategy", terms.strategy.name())?;
+    members.put_text(alloc, "strategy", lent_by.strategy.name())?;
     members.put(alloc, "retired", Value::Bool(product.retired))?;
-    members.put_whole(alloc, "rate", terms.rate as u64)?;
+    members.put_whole(alloc, "rate", lent_by.rate as u64)?;
     members.put_whole(alloc, "product", product.number as u64)?;
-    members.put_whole(alloc, "principal_grace", terms.principal_grace as u64)?;
-    let charge = whole_or_null(terms.overdue_charge);
+    members.put_whole(alloc, "principal_grace", lent_by.principal_grace as u64)?;
+    let charge = whole_or_null(lent_by.overdue_charge);
     members.put(alloc, "overdue_charge", charge)?;
     Ok(members)
 }
@@ -74,14 +73,14 @@ fn product_end(alloc: Global, product: &Product) -> Result<Members, AllocError>
 fn product_rest(alloc: Global, product: &Product) -> Result<Members, AllocError>
     ensures { IfOk result (λ members. members_view members.map.entries ≡ product_rest_of product.now) }
 {
-    let terms = &product.members;
+    let lent_by = &product.members;
     let mut members = product_end(alloc, product)?;
-    members.put_text(alloc, "name", terms.name.as_str())?;
-    members.put_whole(alloc, "min_principal", terms.min_principal)?;
-    members.put_whole(alloc, "min_periods", terms.min_periods as u64)?;
-    members.put_text(alloc, "method", terms.method.name())?;
-    members.put_whole(alloc, "max_principal", terms.max_principal)?;
-    members.put_whole(alloc, "max_periods", terms.max_periods as u64)?;
+    members.put_text(alloc, "name", lent_by.name.as_str())?;
+    members.put_whole(alloc, "min_principal", lent_by.min_principal)?;
+    members.put_whole(alloc, "min_periods", lent_by.min_periods as u64)?;
+    members.put_text(alloc, "method", lent_by.method.name())?;
+    members.put_whole(alloc, "max_principal", lent_by.max_principal)?;
+    members.put_whole(alloc, "max_periods", lent_by.max_periods as u64)?;
     Ok(members)
 }
 
@@ -90,14 +89,14 @@ pub fn product_shown(alloc: Global, product: &Product) -> Result<Body, Fault>
     ensures ok { IfOk result (IsBodyOf (ProductShown product.now)) }
     ensures err { IfErr result (λ f. f ≡ Fault.F20) }
 {
-    let terms = &product.members;
+    let lent_by = &product.members;
     let mut members = product_rest(alloc, product)?;
-    members.put_whole(alloc, "interest_grace", terms.interest_grace as u64)?;
-    let charge = whole_or_null(terms.instalment_charge);
+    members.put_whole(alloc, "interest_grace", lent_by.interest_grace as u64)?;
+    let charge = whole_or_null(lent_by.instalment_charge);
     members.put(alloc, "instalment_charge", charge)?;
-    members.put_text(alloc, "frequency", terms.freq.name())?;
-    members.put_whole(alloc, "every", terms.every as u64)?;
-    let charge = whole_or_null(terms.disbursement_charge);
+    members.put_text(alloc, "frequency", lent_by.freq.name())?;
+    members.put_whole(alloc, "every", lent_by.every as u64)?;
+    let charge = whole_or_null(lent_by.disbursement_charge);
     members.put(alloc, "disbursement_charge", charge)?;
     Ok(Body::Value(members.into_value()))
 }

@@ -1,5 +1,5 @@
-// Loans as JSON.
-ghost use Rattle.std.specs.Prelude.{◌≡◌, ℕ, List, true, IfOk, IfErr, map, string_bytes};
+//! Loans as JSON.
+ghost use Rattle.std.specs.Prelude.{◌≡◌, ℕ, List, true, IfOk, IfErr, string_bytes};
 ghost use Rattle.json.specs.Print.{quoted};
 ghost use Rattle.serde_json.specs.View.{view};
 ghost use Rattle.serde_json.specs.Written.{compact_text, members_text};
@@ -9,7 +9,8 @@ ghost use Rattle.mf_wire_replies.specs.LoanTexts.{loan_end as loan_end_of, loan_
 
 use super::Body;
 use super::account::{entries_value, instalments_value};
-use super::members::Members;
+use super::lists::{Shown, array_of};
+use super::members::{Members, single};
 use mf_alloc::Portion;
 use mf_base::{Day, Fault};
 use mf_model::{LoanLine, LoanReply, Statement};
@@ -23,8 +24,7 @@ pub fn loan_made(alloc: Global, loan: Account) -> Result<Body, Fault>
     ensures err { IfErr result (λ f. f ≡ Fault.F20) }
 {
     let loan = Value::String(loan.text(alloc)?);
-    let value = json!(in alloc; {"loan": loan})?;
-    Ok(Body::Value(value))
+    Ok(Body::Value(single(alloc, "loan", loan)?))
 }
 
 /// A loan and its status number.
@@ -136,7 +136,7 @@ fn shown_text(alloc: Global, account: Account, loan: &Statement) -> Result<Strin
 fn entered_value(alloc: Global, entry: u32) -> Result<Value, AllocError>
     ensures { IfOk result (λ v. view v ≡ entered_data entry) }
 {
-    json!(in alloc; {"entry": entry})
+    single(alloc, "entry", Value::from(entry))
 }
 
 /// What is told of a loan.
@@ -173,22 +173,12 @@ pub fn told_status(told: &LoanReply) -> u16
     }
 }
 
-fn line_value(alloc: Global, line: &LoanLine) -> Result<Value, Fault>
-    ensures ok { IfOk result (λ v. view v ≡ line_data line.now) }
-    ensures err { IfErr result (λ f. f ≡ Fault.F20) }
-{
-    status_value(alloc, line.loan, line.status)
-}
+impl Shown for LoanLine {
+    ghost json = { line_data };
 
-fn line_values(alloc: Global, lines: &[LoanLine]) -> Result<Vec<Value>, Fault>
-    ensures ok { IfOk result (λ v. map view v.items ≡ map line_data lines.now) }
-    ensures err { IfErr result (λ f. f ≡ Fault.F20) }
-{
-    let mut values = Vec::new(alloc);
-    for line in lines {
-        values.push(line_value(alloc, line)?)?;
+    fn value(&self, alloc: Global) -> Result<Value, Fault> {
+        status_value(alloc, self.loan, self.status)
     }
-    Ok(values)
 }
 
 /// The loans of an office.
@@ -196,7 +186,6 @@ pub fn loans_shown(alloc: Global, lines: &[LoanLine]) -> Result<Body, Fault>
     ensures ok { IfOk result (IsBodyOf (LoansShown lines.now)) }
     ensures err { IfErr result (λ f. f ≡ Fault.F20) }
 {
-    let lines = Value::Array(line_values(alloc, lines)?);
-    let value = json!(in alloc; {"loans": lines})?;
-    Ok(Body::Value(value))
+    let lines = array_of(alloc, lines)?;
+    Ok(Body::Value(single(alloc, "loans", lines)?))
 }
