@@ -1,5 +1,5 @@
 -- Rows of one owner after another, apart.
-use Rattle.std.proofs.Common.{◌≡◌, ◌<◌, ◌+◌, ◌∙◌, ℕ, suc, Bool, true, false, cond, List, [], ◌∷◌, ◌++◌, map, take, drop, refl, ap, arith, ◌==◌}
+use Rattle.std.proofs.Common.{◌≡◌, ◌<◌, ◌+◌, ◌∙◌, ℕ, suc, Bool, true, false, cond, List, [], ◌∷◌, ◌++◌, map, length, get_or, take, drop, refl, ap, arith, ◌==◌}
 use Rattle.std.specs.List.{AllByRecursion}
 use Rattle.std.proofs.lemmas.Bool.Decides.{nat_tests}
 use Rattle.std.proofs.lemmas.List.Sums.{take_while-cons}
@@ -7,6 +7,7 @@ use Rattle.mf_model.specs.Institution.{Ledger, Office, Rows}
 use Rattle.mf_model.specs.Tree.{Above}
 use Rattle.mf_store_accounts.specs.Flat.{numbered_from, all_rows, rows_of_loans, rows_by_loan}
 use Rattle.mf_store_sound.specs.Parts.{own_count, own, later}
+use Rattle.mf_store_sound.proofs.StoredLemmas.{from_place}
 
 module _ {R : Type 0} (owner : R → ℕ) (x : ℕ) where
   own-cons : (r : R) (rs : List R) → own owner x (r ∷ rs) ≡ cond (owner r == x) (r ∷ own owner x rs) []
@@ -38,6 +39,13 @@ module _ {R : Type 0} (owner : R → ℕ) (x : ℕ) where
       let low : x < owner r = all.0 in
       let apart : (owner r == x) ≡ false = grind (arith, nat_tests) in
       ap (λ b. cond b (1 + own_count owner x (xs ++ rest)) 0) apart
+
+  -- how many are its own from this place on
+  pub own_here : (rows : List R) (i : ℕ) (r : R) → i < length rows → r ≡ get_or rows i r → owner r ≡ x → own_count owner x (drop i rows) ≡ 1 + own_count owner x (drop (i + 1) rows)
+  own_here rows i r h is same = ap (own_count owner x) (from_place rows i r h is) ∙ ap (λ b. cond b (1 + own_count owner x (drop (i + 1) rows)) 0) (at_own r same)
+
+  pub none_here : (rows : List R) (i : ℕ) (r : R) → i < length rows → r ≡ get_or rows i r → (owner r == x) ≡ false → own_count owner x (drop i rows) ≡ 0
+  none_here rows i r h is apart = ap (own_count owner x) (from_place rows i r h is) ∙ ap (λ b. cond b (1 + own_count owner x (drop (i + 1) rows)) 0) apart
 
 all_same : {R : Type 0} (owner : R → ℕ) (x y : ℕ) (xs : List R) → x < y → AllByRecursion (λ r. owner r ≡ y) xs → AllByRecursion (λ r. x < owner r) xs
 all_same owner x y [] lt all = tt

@@ -1,13 +1,12 @@
 -- Rows of products, and the charges that they name.
-use Rattle.std.proofs.Common.{◌≡◌, ◌∙◌, ℕ, Bool, false, ◌&&◌, List, Option, Some, None, refl, sym, ap, ◌==◌}
+use Rattle.std.proofs.Common.{◌≡◌, ◌∙◌, ℕ, false, List, Option, Some, None, refl, sym, ap, ◌==◌}
 use Rattle.std.specs.Option.{option_map}
 use Rattle.mf_catalog.specs.declared.charge.ChargeKind.{ChargeKind}
 use Rattle.mf_catalog.specs.declared.charge.ChargeKind.TheVariants.{Disbursement, Instalment, Overdue, DueDate}
-use Rattle.mf_catalog.specs.Product.{same_kind, has_kind, is_of_kind, kinds_right}
-use Rattle.mf_model.specs.Institution.{Catalogue, Charge, Offer, charge_in, charge_def, numbered}
+use Rattle.mf_catalog.specs.Product.{same_kind, has_kind}
+use Rattle.mf_model.specs.Institution.{Catalogue, Charge, charge_in, charge_def, numbered}
 use Rattle.mf_store_records.specs.declared.charges.ChargeRow.{ChargeRow}
-use Rattle.mf_store_records.specs.declared.products.ProductRow.{ProductRow}
-use Rattle.mf_store_accounts.specs.Flat.{charge_as, product_as, numbered_from}
+use Rattle.mf_store_accounts.specs.Flat.{charge_as, numbered_from}
 use Rattle.mf_store_accounts.proofs.NumberedLemmas.{numbered_row}
 use Rattle.mf_catalog.specs.Names.{kind_number}
 

@@ -1,10 +1,23 @@
 -- Tests of a loan's entries, by their rows.
-use Rattle.std.proofs.Common.{◌≡◌, ◌<◌, ◌≤◌, ◌+◌, ◌∙◌, ◌&&◌, ℕ, zero, suc, Bool, true, false, List, [], ◌∷◌, map, length, get_or, drop, refl, sym, ap, arith}
+use Rattle.std.proofs.Common.{◌≡◌, ◌<◌, ◌≤◌, ◌+◌, ◌∙◌, ◌&&◌, ℕ, zero, suc, Bool, true, false, List, [], ◌∷◌, map, length, get_or, drop, refl, sym, ap, arith, true≢false}
+use Rattle.std.specs.Prelude.{◌||◌}
 use Rattle.std.specs.List.{AllByRecursion, list_all}
 use Rattle.std.proofs.lemmas.List.{drop_all, length-map}
 use Rattle.mf_account.specs.declared.entry.Entry.{Entry}
 use Rattle.mf_store_records.specs.declared.entries.EntryRow.{EntryRow}
 use Rattle.mf_store_accounts.specs.Flat.{entry_in}
+
+-- the first of two tests in three
+pub either_passed : (a b c v : Bool) → v ≡ (a || b) → v ≡ true → v ≡ (a || (b || c))
+either_passed true b c v e t = t
+either_passed false true c v e t = t
+either_passed false false c v e t = absurd (true≢false (sym t ∙ e))
+
+-- neither
+pub neither_passed : (a b c v r : Bool) → v ≡ (a || b) → v ≡ false → r ≡ c → r ≡ (a || (b || c))
+neither_passed true b c v r e f is = absurd (true≢false (sym e ∙ f))
+neither_passed false true c v r e f is = absurd (true≢false (sym e ∙ f))
+neither_passed false false c v r e f is = is
 
 module _ (x m : ℕ) (T : Entry → Bool) (P : Entry → Type 0) where
   -- the entry of the row at i

@@ -37,10 +37,10 @@ impl<'a> Belongings<'a> {
             × (result.1.loans.now ≡ later (λ row. row.office) office self.entry.loans.now)
             × (result.1.entries.now ≡ later (λ row. row.office) office self.entry.entries.now) }
     {
-        let (staff, later_staff) = parts(self.staff, office);
-        let (clients, later_clients) = parts(self.clients, office);
-        let (loans, later_loans) = parts(self.loans, office);
-        let (entries, later_entries) = parts(self.entries, office);
+        let (staff, later_staff) = parts(self.staff, office, |row| row.office);
+        let (clients, later_clients) = parts(self.clients, office, |row| row.office);
+        let (loans, later_loans) = parts(self.loans, office, |row| row.office);
+        let (entries, later_entries) = parts(self.entries, office, |row| row.office);
         let own = Belongings {
             staff,
             clients,

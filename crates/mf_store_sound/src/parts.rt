@@ -1,79 +1,34 @@
 //! Rows in the order of their owners: those of the first owner, and those of later ones.
 
-ghost use Rattle.std.specs.Prelude.{◌≡◌, ℕ};
+ghost use Rattle.std.specs.Prelude.{◌≡◌, ◌≤◌, ℕ, length};
+ghost use Rattle.std.specs.Fn.{FnReturnsAt};
 ghost use Rattle.mf_store_sound.specs.Parts.{own_count, own, later};
 
-use mf_store_records::{ClientRow, EntryRow, LoanRow, StaffRow};
-
-/// A row that belongs to an office.
-pub(crate) trait OfOffice {
-    /// The number of the office.
-    ghost office_of: { Self → ℕ };
-
-    fn office(&self) -> u32
-        ensures { result ≡ office_of self.now };
-}
-
-impl OfOffice for StaffRow {
-    ghost office_of = { λ row. row.office };
-
-    fn office(&self) -> u32 {
-        self.office
-    }
-}
-
-impl OfOffice for ClientRow {
-    ghost office_of = { λ row. row.office };
-
-    fn office(&self) -> u32 {
-        self.office
-    }
-}
-
-impl OfOffice for LoanRow {
-    ghost office_of = { λ row. row.office };
-
-    fn office(&self) -> u32 {
-        self.office
-    }
-}
-
-impl OfOffice for EntryRow {
-    ghost office_of = { λ row. row.office };
-
-    fn office(&self) -> u32 {
-        self.office
-    }
-}
-
-/// How many rows of this office come before the first of another.
-fn count_own<T: OfOffice>(rows: &[T], office: u32) -> usize
-    ensures { result ≡ own_count T.office_of office rows.now }
+/// How many rows of this owner come before the first of another.
+fn count_own<T, F: Fn(&T) -> u32>(rows: &[T], owner: u32, owner_of: F) -> usize
+    requires { F.IsAlwaysCallable owner_of }
+    ensures count { (of : T → ℕ) → ((row : T) (n : ℕ) → FnReturnsAt F.Fn owner_of row n → n ≡ of row) →
+        result ≡ own_count of owner rows.now }
+    ensures within { result ≤ length rows.now }
 {
-    rows.iter().take_while(|row| row.office() == office).count()
+    let mut count = 0;
+    for row in rows {
+        if owner_of(row) != owner {
+            return count;
+        }
+        count += 1;
+    }
+    count
 }
 
-/// The rows of this office, which come first, and the later ones.
-pub(crate) fn parts<T: OfOffice>(rows: &[T], office: u32) -> (&[T], &[T])
-    ensures own { result.0.now ≡ own T.office_of office rows.now }
-    ensures later { result.1.now ≡ later T.office_of office rows.now }
+/// The rows of this owner, which come first, and the later ones.
+pub(crate) fn parts<T, F: Fn(&T) -> u32>(rows: &[T], owner: u32, owner_of: F) -> (&[T], &[T])
+    requires { F.IsAlwaysCallable owner_of }
+    ensures own { (of : T → ℕ) → ((row : T) (n : ℕ) → FnReturnsAt F.Fn owner_of row n → n ≡ of row) →
+        result.0.now ≡ own of owner rows.now }
+    ensures later { (of : T → ℕ) → ((row : T) (n : ℕ) → FnReturnsAt F.Fn owner_of row n → n ≡ of row) →
+        result.1.now ≡ later of owner rows.now }
 {
-    let count = count_own(rows, office);
-    rows.split_at(count)
-}
-
-/// How many rows of this loan's entries come before the first of another's.
-fn count_of_loan(rows: &[EntryRow], loan: u32) -> usize
-    ensures { result ≡ own_count (λ row. row.loan) loan rows.now }
-{
-    rows.iter().take_while(|row| row.loan == loan).count()
-}
-
-/// The rows of this loan's entries, which come first, and the later ones.
-pub(crate) fn parts_of_loan(rows: &[EntryRow], loan: u32) -> (&[EntryRow], &[EntryRow])
-    ensures own { result.0.now ≡ own (λ row. row.loan) loan rows.now }
-    ensures later { result.1.now ≡ later (λ row. row.loan) loan rows.now }
-{
-    let count = count_of_loan(rows, loan);
+    let count = count_own(rows, owner, owner_of);
     rows.split_at(count)
 }

@@ -49,13 +49,7 @@ fn is_past(row: &EntryRow, last: &EntryRow) -> bool
     ensures { (x m : ℕ) (f e : Entry) → IsReadable f → entry_in x m f ≡ row.now → IsReadable e → entry_in x m e ≡ last.now →
         result ≡ (f.reversed || ((f.seq == e.seq) || comes_before f e)) }
 {
-    if is_reversed(row) {
-        return true;
-    }
-    if row.seq == last.seq {
-        return true;
-    }
-    is_before(row, last)
+    is_reversed(row) || row.seq == last.seq || is_before(row, last)
 }
 
 /// Whether every other standing entry comes before that of a row.
@@ -78,13 +72,7 @@ fn is_in_order(rows: &[EntryRow], row: &EntryRow) -> bool
         map (entry_in x m) entries ≡ rows.now → IsReadable e → entry_in x m e ≡ row.now →
         result ≡ (e.reversed || (not (is_seal_kind e.kind) || is_last_of entries e)) }
 {
-    if is_reversed(row) {
-        return true;
-    }
-    if !is_seal(row) {
-        return true;
-    }
-    is_last(rows, row)
+    is_reversed(row) || !is_seal(row) || is_last(rows, row)
 }
 
 /// Whether a write-off or a refund that stands is the last of the standing entries. At most two rows are held against
