@@ -1,11 +1,11 @@
 -- Which institution a stop after a run leaves.
 use Rattle.std.proofs.Common.{◌≡◌, ◌⊎◌, inl, inr, Bool, true, false, cond, List, [], ◌∷◌, ◌++◌, Option, Some, None, IsTrue, refl, sym, ap, ◌∙◌, subst}
 use Rattle.std.proofs.Math.Logic.{∥∥₁_map}
-use Rattle.sqlite.specs.Files.{over_files, HoldsDatabase}
+use Rattle.sqlite.specs.Files.{HoldsDatabase}
 use Rattle.sqlite.specs.Tree.{Trees}
 use Rattle.sqlite.proofs.Theorems.{opens_again}
-use Rattle.sqlite_disk.specs.declared.Disk as disk
-use Rattle.sqlite_store.specs.FileStore as files
+use Rattle.sqlite_disk.specs.declared.Disk.{Ghosts}
+use Rattle.sqlite_store.specs.FileStore.{state, view, recovers}
 use Rattle.sqlite_store.specs.declared.store.FileStore.{FileStore}
 use Rattle.sqlite_wal.specs.Recovery.{Image}
 use Rattle.mf_model.specs.Institution.{Institution, Change, after, after_maybe}
@@ -18,23 +18,21 @@ use Rattle.mf_store_records.specs.Tables.{schema}
 use Rattle.mf_store_records.specs.Writes.{Holds}
 use Rattle.mf_store_accounts.specs.Flat.{tables_of}
 use Rattle.mf_store_commits.specs.Tabled.{HoldsOneOf}
-use Rattle.mf_store.specs.Facts.{Kept}
-use Rattle.mf_store.specs.Stands.{IsClean, Leaves}
 use Rattle.mf_store_files.specs.Held.{HoldsSound}
-use Rattle.mf_store_files.specs.Stops.{NoneChanges, IsWithGivenUp, IsLeftBy}
+use Rattle.mf_store_files.specs.Stops.{NoneChanges, IsLeftBy}
 
 unmoved : (run : List Line) (i : Institution) → NoneChanges run i → last run i ≡ i
 unmoved [] i none = refl
 unmoved (l ∷ ls) i none = ap (λ c. last ls (after_maybe c i)) none.0 ∙ unmoved ls i none.1
 
 module _ (left : Trees) where
-  HoldsIt : Institution → Type 0
+  abbrev HoldsIt : Institution → Type 0
   HoldsIt j = Holds left (Some (tables_of j))
 
-  IsOfRun : List Line → Institution → Type 0
+  abbrev IsOfRun : List Line → Institution → Type 0
   IsOfRun run i = (j : Institution) × IsLeftBy run i j × HoldsIt j
 
-  IsOfBefore : List Line → Institution → List Institution → Type 0
+  abbrev IsOfBefore : List Line → Institution → List Institution → Type 0
   IsOfBefore run i is = NoneChanges run i × HoldsOneOf is left
 
   later_too : (l : Line) (ls : List Line) (i : Institution) → IsOfRun ls (next l i) → IsOfRun (l ∷ ls) i
@@ -108,13 +106,12 @@ module _
       let it = one_of_run left run i one in
       (record { institution = it.0; sound = left_sound run i it.0 sound range it.1; holds = it.2 }, it.1)
 
-  -- and whatever a stop leaves of the files holds them
-  pub left_files : (D : Type 0) (g : disk.Ghosts D) (store : Kept (FileStore D g)) (run : List Line) (i : Institution) → IsSound i → AreInRange run
-      → IsClean over_files store → IsTrue (files.view store.connection.store).is_numbered → Leaves over_files store (left_after run i (i ∷ []))
-      → (left : Image) → (files.state store.connection.store).may_leave left
-      → ∥ ((trees : Trees) × HoldsDatabase left trees × (held : HoldsSound trees) × IsLeftBy run i held.institution) ∥₁
-  left_files D g store run i sound range clean numbered leaves left may =
-      let tables = λ (trees : Trees) (may : files.recovers store.connection.store trees). left_tables run i sound range trees (leaves.whole clean trees may) in
-      ∥∥₁_map (opens_again store.connection.store numbered (λ trees may. (schema, (tables trees may).0.holds.sound)) left may) (λ found.
+  -- and whatever a stop leaves of the files is a database with them
+  pub left_files : {D : Type 0} {g : Ghosts D} (store : FileStore D g) (run : List Line) (i : Institution) → IsSound i → AreInRange run
+      → IsTrue (view store).is_numbered → ((trees : Trees) → recovers store trees → HoldsOneOf (left_after run i (i ∷ [])) trees)
+      → (left : Image) → (state store).may_leave left → ∥ ((trees : Trees) × HoldsDatabase left trees × (held : HoldsSound trees) × IsLeftBy run i held.institution) ∥₁
+  left_files store run i sound range numbered leaves left may =
+      let tables = λ (trees : Trees) (may : recovers store trees). left_tables run i sound range trees (leaves trees may) in
+      ∥∥₁_map (opens_again store numbered (λ trees may. (schema, (tables trees may).0.holds.sound)) left may) (λ found.
       let held = tables found.0 found.1 in
       (found.0, found.2, held.0, held.1))

@@ -17,14 +17,8 @@ use crate::receipts::are_receipts;
 use crate::tables::Tables;
 use mf_base::Fault;
 use mf_store_accounts::{are_accounts, rows_of_accounts};
-use mf_store_records::{InstalmentRow, ShareRow};
+use mf_store_records::{FIRST_SCHEMA, InstalmentRow, SCHEMA, ShareRow};
 use std::alloc::Global;
-
-/// The number of the schema whose tables keep no rows of accounts.
-const FIRST_SCHEMA: u32 = 1;
-
-/// The number of the schema whose tables keep rows of accounts too.
-const SCHEMA: u32 = 2;
 
 /// The most charges of a catalogue, and the most products.
 const MOST_OF_CATALOGUE: u32 = 999;
