@@ -4,10 +4,9 @@ ghost use Rattle.std.specs.Prelude.{◌≡◌, ◌≢◌, ◌⊎◌, ◌+◌, �
 ghost use Rattle.mf_base.specs.declared.fault.Fault.TheVariants.{F20};
 ghost use Rattle.mf_account.specs.Change.{IsChange, IsReplayed};
 ghost use Rattle.mf_account.specs.Refusals.{refusal_of, HasForm};
-ghost use Rattle.mf_model.specs.declared.request.LoanRequest.TheVariants.{ChargeFee};
 ghost use Rattle.mf_model.specs.Accounts.{account_in};
 ghost use Rattle.mf_model.specs.Loans.{enter};
-ghost use Rattle.mf_desk.specs.Answers.{Asks, Decides, account_there, loan_outcome, in_ledger};
+ghost use Rattle.mf_desk.specs.Answers.{Asks, Decides, account_there, in_ledger};
 ghost use Rattle.mf_desk.specs.Entries.{IsAskedInRange, first_of, entry_of};
 
 use crate::decision::Decision;
@@ -34,9 +33,9 @@ pub fn find_account<S: InstitutionStore>(
 
 /// The account with one more entry. The refusals are those of `LoanAccount::enter`; F20 also where the account has a day
 /// after the business day, which no correct store returns.
-pub fn entered(
+fn entered(
     alloc: Global,
-    account: LoanAccount,
+    mut account: LoanAccount,
     entry: Entry,
     today: Day,
 ) -> Result<LoanAccount, Fault>
@@ -50,7 +49,6 @@ pub fn entered(
     ensures refused { IsReplayed account → IfErr result (λ f. (f ≡ F20) ⊎ (refusal_of account.loan entry today ≡ Some f)) }
     ensures refusal { IfErr result (λ f. f ≢ Fault.F19) }
 {
-    let mut account = account;
     if !account.is_by(today) {
         return Err(Fault::F20);
     }
@@ -77,20 +75,4 @@ pub fn enter<S: InstitutionStore>(
     let account = entered(alloc, account, entry, today)?;
     let told = LoanReply::Entered(seq);
     Ok(Decision::change(Commit::Enter { loan, account }, Reply::Loan { loan, told }))
-}
-
-/// A fee of a loan by a charge of the catalogue, which must be there.
-pub fn charge_fee<S: InstitutionStore>(
-    alloc: Global,
-    store: &mut S,
-    caller: Caller,
-    loan: Account,
-    charge: u32,
-    due: Day,
-) -> Result<Decision, Fault>
-    ensures decides { Decides S.stands S.clean S.leaves (loan_outcome loan (ChargeFee charge due) caller) store.old store.new result }
-    ensures refusal { IfErr result (λ f. f ≢ Fault.F19) }
-{
-    let charge = store.charge(alloc, charge)?.ok_or(Fault::F4)?;
-    enter(alloc, store, caller, loan, Asked::Fee { charge, due })
 }

@@ -7,7 +7,7 @@ ghost use Rattle.mf_model.specs.Sound.{IsLoanInRange};
 ghost use Rattle.mf_desk.specs.Answers.{Asks, Decides, loan_there, loan_outcome};
 
 use crate::decision::Decision;
-use crate::entering::{charge_fee, enter};
+use crate::entering::enter;
 use crate::entries::Asked;
 use crate::repaying::repay;
 use crate::reversing::reverse;
@@ -66,9 +66,10 @@ pub fn on_loan<S: InstitutionStore>(
         LoanRequest::Take(step) => take_step(alloc, store, loan, step),
         LoanRequest::Repay(repayment) => repay(alloc, store, caller, loan, repayment),
         LoanRequest::ChargeFee { charge, due } => {
-            charge_fee(alloc, store, caller, loan, charge, due)
+            let charge = store.charge(alloc, charge)?.ok_or(Fault::F4)?;
+            enter(alloc, store, caller, loan, Asked::Fee { charge, due })
         }
-        LoanRequest::Post(posting) => { enter(alloc, store, caller, loan, Asked::Posting(posting)) }
+        LoanRequest::Post(posting) => enter(alloc, store, caller, loan, Asked::Posting(posting)),
         LoanRequest::Reverse { entry } => reverse(alloc, store, loan, entry),
     }
 }

@@ -18,14 +18,13 @@ use mf_office::Account;
 use std::alloc::Global;
 
 /// The account with an entry reversed. The refusals are those of `LoanAccount::reverse`.
-fn reversed(alloc: Global, account: LoanAccount, seq: u32) -> Result<LoanAccount, Fault>
+fn reversed(alloc: Global, mut account: LoanAccount, seq: u32) -> Result<LoanAccount, Fault>
     ensures accepted { IfOk result (λ after. reversal_refused account.loan.entries seq ≡ None) }
     ensures loan { IfOk result (λ after. after.loan ≡ record account.loan { entries = with_mark account.loan.entries (seq - 1) true }) }
     ensures kept { IsReplayed account → IfOk result IsReplayed }
     ensures change { IsReplayed account → IfOk result (λ after. IsChange account.loan after.loan after.change) }
     ensures refused { IfErr result (λ f. (f ≡ F20) ⊎ (reversal_refused account.loan.entries seq ≡ Some f)) }
 {
-    let mut account = account;
     account.reverse(alloc, seq)?;
     Ok(account)
 }
