@@ -146,6 +146,5 @@ pub fn line_text(alloc: Global, reply: &Reply) -> Result<String, Fault>
 {
     let body = body_text(alloc, reply)?;
     let status = status(reply);
-    let line = format!(in alloc; "{status} {body}\n")?;
-    Ok(line)
+    Ok(format!(in alloc; "{status} {body}\n")?)
 }

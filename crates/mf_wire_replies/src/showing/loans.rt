@@ -5,7 +5,7 @@ ghost use Rattle.serde_json.specs.View.{view};
 ghost use Rattle.serde_json.specs.Written.{compact_text, members_text};
 ghost use Rattle.mf_model.specs.declared.reply.Reply.TheVariants.{Loan as LoanTold};
 ghost use Rattle.mf_wire_replies.specs.Shown.{IsBodyOf};
-ghost use Rattle.mf_wire_replies.specs.LoanTexts.{loan_end as loan_end_of, loan_rest as loan_rest_of, loan_by_texts, loan_data, sums_data, day_or_null, status_data, told_status, line_data};
+ghost use Rattle.mf_wire_replies.specs.LoanTexts.{loan_end as loan_end_of, loan_rest as loan_rest_of, loan_by_texts, loan_data, sums_data, day_or_null, told_status, line_data};
 
 use super::lists::{Shown, array_of};
 use super::members::Members;
@@ -17,15 +17,15 @@ use mf_office::Account;
 use serde_json::{Value, json};
 use std::alloc::{AllocError, Global};
 
-/// A loan and its status number.
-fn status_value(alloc: Global, loan: Account, status: u16) -> Result<Value, Fault>
-    ensures ok { IfOk result (λ v. view v ≡ status_data loan status) }
-    ensures err { IfErr result (λ f. f ≡ Fault.F20) }
-{
-    let mut members = Members::new(alloc);
-    members.put_whole(alloc, "status", status as u64)?;
-    members.put(alloc, "loan", Value::String(loan.text(alloc)?))?;
-    Ok(members.into_value())
+impl Shown for LoanLine {
+    ghost json = { line_data };
+
+    fn value(&self, alloc: Global) -> Result<Value, Fault> {
+        let mut members = Members::new(alloc);
+        members.put_whole(alloc, "status", self.status as u64)?;
+        members.put(alloc, "loan", Value::String(self.loan.text(alloc)?))?;
+        Ok(members.into_value())
+    }
 }
 
 /// A text as JSON, in quotes.
@@ -83,11 +83,10 @@ fn day_text(alloc: Global, day: Option<Day>) -> Result<String, Fault>
     ensures ok { IfOk result (λ s. string_bytes s ≡ compact_text (day_or_null day)) }
     ensures err { IfErr result (λ f. f ≡ Fault.F20) }
 {
-    let text = match day {
-        Some(day) => quoted_text(alloc, day.text(alloc)?.as_str())?,
-        None => String::from_str(alloc, "null")?,
-    };
-    Ok(text)
+    match day {
+        Some(day) => Ok(quoted_text(alloc, day.text(alloc)?.as_str())?),
+        None => Ok(String::from_str(alloc, "null")?),
+    }
 }
 
 /// The body of a loan whose account and whose client's are written so in JSON. It is written at once: a value of JSON would
@@ -133,7 +132,10 @@ pub fn loan_told(alloc: Global, loan: Account, told: &LoanReply) -> Result<Body,
             single(alloc, "instalments", array_of(alloc, lines.as_slice())?)
         }
         LoanReply::Entries(lines) => single(alloc, "entries", array_of(alloc, lines.as_slice())?),
-        LoanReply::Status(status) => Ok(Body::Value(status_value(alloc, loan, *status)?)),
+        LoanReply::Status(status) => {
+            let status = *status;
+            Ok(Body::Value(LoanLine { loan, status }.value(alloc)?))
+        }
         LoanReply::Entered(entry) | LoanReply::Repeated(entry) | LoanReply::Reversed(entry) => {
             single(alloc, "entry", Value::from(*entry))
         }
@@ -152,13 +154,5 @@ pub fn told_status(told: &LoanReply) -> u16
         | LoanReply::Repeated(_)
         | LoanReply::Reversed(_) => 200,
         LoanReply::Entered(_) => 201,
-    }
-}
-
-impl Shown for LoanLine {
-    ghost json = { line_data };
-
-    fn value(&self, alloc: Global) -> Result<Value, Fault> {
-        status_value(alloc, self.loan, self.status)
     }
 }
