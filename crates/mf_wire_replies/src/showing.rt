@@ -1,10 +1,12 @@
 //! The text of a success, which is made before anything is changed.
 ghost use Rattle.std.specs.Prelude.{◌≡◌, false, IfOk, IfErr, string_bytes};
+ghost use Rattle.serde_json.specs.Data.{object, member, no_members};
 ghost use Rattle.serde_json.specs.View.{view};
 ghost use Rattle.serde_json.specs.Written.{compact_text, has_float};
-ghost use Rattle.mf_model.specs.declared.reply.Reply.TheVariants.{OfficeMade, Offices, StaffMade, ClientMade, ClientShown};
+ghost use Rattle.mf_model.specs.declared.reply.Reply.{Reply};
+ghost use Rattle.mf_model.specs.declared.reply.Reply.TheVariants.{ClientShown};
 ghost use Rattle.mf_wire_lines.specs.Replies.{reply_line};
-ghost use Rattle.mf_wire_replies.specs.Shown.{IsBodyOf, office_data, reply_status, reply_body};
+ghost use Rattle.mf_wire_replies.specs.Shown.{IsBodyOf, office_data, reply_data, reply_status, reply_body};
 
 mod account;
 mod arrears;
@@ -14,13 +16,13 @@ mod loans;
 mod members;
 
 use arrears::arrears_shown;
-use catalogue::{charge_made, charge_shown, day_value, product_shown, product_value};
+use catalogue::{charge_shown, product_shown};
 use lists::{Shown, array_of};
-use loans::{loan_made, loan_told, loans_shown, told_status};
-use members::{Members, single};
+use loans::{loan_told, told_status};
+use members::Members;
 use mf_base::Fault;
 use mf_model::Reply;
-use mf_office::{Account, Caller, Name, Office, OfficeNo};
+use mf_office::{Account, Name, Office};
 use serde_json::Value;
 use std::alloc::{AllocError, Global};
 
@@ -47,36 +49,14 @@ impl Shown for Office {
     }
 }
 
-fn office_made(alloc: Global, office: OfficeNo) -> Result<Body, Fault>
-    ensures ok { IfOk result (IsBodyOf (OfficeMade office)) }
+/// The body of one member.
+fn single(alloc: Global, name: &str, value: Value) -> Result<Body, Fault>
+    ensures ok { IfOk result (λ body. (reply : Reply) → object (member name.now (view value) no_members) ≡ reply_data reply → IsBodyOf reply body) }
     ensures err { IfErr result (λ f. f ≡ Fault.F20) }
 {
-    let office = Value::from(office.get());
-    Ok(Body::Value(single(alloc, "office", office)?))
-}
-
-fn offices(alloc: Global, lines: &[Office]) -> Result<Body, Fault>
-    ensures ok { IfOk result (IsBodyOf (Offices lines.now)) }
-    ensures err { IfErr result (λ f. f ≡ Fault.F20) }
-{
-    let lines = array_of(alloc, lines)?;
-    Ok(Body::Value(single(alloc, "offices", lines)?))
-}
-
-fn staff_made(alloc: Global, staff: Caller) -> Result<Body, Fault>
-    ensures ok { IfOk result (IsBodyOf (StaffMade staff)) }
-    ensures err { IfErr result (λ f. f ≡ Fault.F20) }
-{
-    let staff = Value::String(staff.text(alloc)?);
-    Ok(Body::Value(single(alloc, "staff", staff)?))
-}
-
-fn client_made(alloc: Global, client: Account) -> Result<Body, Fault>
-    ensures ok { IfOk result (IsBodyOf (ClientMade client)) }
-    ensures err { IfErr result (λ f. f ≡ Fault.F20) }
-{
-    let client = Value::String(client.text(alloc)?);
-    Ok(Body::Value(single(alloc, "client", client)?))
+    let mut members = Members::new(alloc);
+    members.put(alloc, name, value)?;
+    Ok(Body::Value(members.into_value()))
 }
 
 fn client_shown(alloc: Global, client: Account, name: &Name) -> Result<Body, Fault>
@@ -94,21 +74,23 @@ fn reply_body(alloc: Global, reply: &Reply) -> Result<Body, Fault>
     ensures err { IfErr result (λ f. f ≡ Fault.F20) }
 {
     match reply {
-        Reply::OfficeMade(office) => office_made(alloc, *office),
-        Reply::Offices(list) => offices(alloc, list.as_slice()),
-        Reply::StaffMade(staff) => staff_made(alloc, *staff),
-        Reply::ClientMade(client) => client_made(alloc, *client),
+        Reply::OfficeMade(office) => single(alloc, "office", Value::from(office.get())),
+        Reply::Offices(list) => single(alloc, "offices", array_of(alloc, list.as_slice())?),
+        Reply::StaffMade(staff) => single(alloc, "staff", Value::String(staff.text(alloc)?)),
+        Reply::ClientMade(client) => single(alloc, "client", Value::String(client.text(alloc)?)),
         Reply::ClientShown { client, name } => client_shown(alloc, *client, name),
-        Reply::DayShown(day) | Reply::DaySet(day) => Ok(Body::Value(day_value(alloc, *day)?)),
-        Reply::ChargeMade(charge) => charge_made(alloc, *charge),
+        Reply::DayShown(day) | Reply::DaySet(day) => {
+            single(alloc, "day", Value::String(day.text(alloc)?))
+        }
+        Reply::ChargeMade(charge) => single(alloc, "charge", Value::from(*charge)),
         Reply::ChargeShown(charge) => charge_shown(alloc, charge),
         Reply::ProductMade(product) | Reply::ProductRetired(product) => {
-            Ok(Body::Value(product_value(alloc, *product)?))
+            single(alloc, "product", Value::from(*product))
         }
         Reply::ProductShown(product) => product_shown(alloc, product),
-        Reply::LoanMade(loan) => loan_made(alloc, *loan),
+        Reply::LoanMade(loan) => single(alloc, "loan", Value::String(loan.text(alloc)?)),
         Reply::Loan { loan, told } => loan_told(alloc, *loan, told),
-        Reply::LoansShown(lines) => loans_shown(alloc, lines.as_slice()),
+        Reply::LoansShown(lines) => single(alloc, "loans", array_of(alloc, lines.as_slice())?),
         Reply::ArrearsShown(lines) => arrears_shown(alloc, lines.as_slice()),
     }
 }
@@ -164,6 +146,5 @@ pub fn line_text(alloc: Global, reply: &Reply) -> Result<String, Fault>
 {
     let body = body_text(alloc, reply)?;
     let status = status(reply);
-    let line = format!(in alloc; "{status} {body}\n")?;
-    Ok(line)
+    Ok(format!(in alloc; "{status} {body}\n")?)
 }

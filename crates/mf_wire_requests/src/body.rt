@@ -1,18 +1,22 @@
-// A request's body, as JSON.
+//! A request's body, as JSON.
 ghost use Rattle.std.specs.Prelude.{◌≡◌, ◌≤◌, Some, None, option_map, option_and_then, IfOk, IfErr, IfSome, IsTrue, ◌⊎◌};
 ghost use Rattle.std.specs.List.{list_all};
 ghost use Rattle.serde_json.specs.View.{view};
 ghost use Rattle.mf_wire_requests.specs.Bodies.{json_of, whole_at, text_at, name_at, office_at, within as within_limits, number_at, is_receipt as is_receipt_text, optional_receipt_at, optional_number_at, account_at, day_named as day_of, day_at, Gives};
+ghost use Rattle.mf_wire_requests.specs.Named.{choice_at};
 ghost use Rattle.mf_model.specs.Sound.{IsName, IsAccount};
 ghost use Rattle.mf_model.specs.Receipts.{is_printable as is_printable_byte, IsReceipt};
 ghost use Rattle.mf_base.specs.DayText.{last_entered_day};
 
 use mf_account::Receipt;
-use mf_base::{Day, Fault};
+use mf_base::{Choice, Day, Fault};
 use mf_model::is_name;
 use mf_office::{Account, Name, OfficeNo};
 use serde_json::Value;
 use std::alloc::Global;
+
+/// The greatest number of a charge, a product or an instalment that a body may name: it has nine digits, as in paths.
+pub const GREATEST_NUMBER: u32 = 999_999_999;
 
 /// The value of a body's text. `F1` where it is no JSON.
 pub fn json(alloc: Global, body: &[u8]) -> Result<Value, Fault>
@@ -21,13 +25,8 @@ pub fn json(alloc: Global, body: &[u8]) -> Result<Value, Fault>
 {
     match Value::from_slice(alloc, body) {
         Ok(value) => Ok(value),
-        Err(e) => {
-            if e.is_memory() {
-                Err(Fault::F20)
-            } else {
-                Err(Fault::F1)
-            }
-        }
+        Err(e) if e.is_memory() => Err(Fault::F20),
+        Err(_) => Err(Fault::F1),
     }
 }
 
@@ -45,21 +44,23 @@ pub fn text<'b>(body: &'b Value, name: &str) -> Option<&'b str>
     body.get(name)?.as_str()
 }
 
+/// A member that names a choice.
+pub fn choice<C: Choice>(body: &Value, member: &str) -> Option<C>
+    ensures { result ≡ choice_at C.name_of C.choices member.now (view body.now) }
+{
+    C::from_name(text(body, member)?)
+}
+
 /// A member that is a name.
 pub fn name(alloc: Global, body: &Value, member: &str) -> Result<Name, Fault>
     ensures value { Gives (name_at member.now (view body.now)) result }
     ensures in_range { IfOk result IsName }
 {
-    let Some(name) = text(body, member) else {
-        return Err(Fault::F1);
-    };
+    let name = text(body, member).ok_or(Fault::F1)?;
     if !is_name(name) {
         return Err(Fault::F1);
     }
-    match String::from_str(alloc, name) {
-        Ok(name) => Ok(Name::new(name)),
-        Err(_) => Err(Fault::F20),
-    }
+    Ok(Name::new(String::from_str(alloc, name)?))
 }
 
 /// A member that is an office's number.
@@ -87,7 +88,7 @@ fn within(number: u64, least: u64, greatest: u64) -> Option<u64>
     }
 }
 
-/// A member that is a whole number from a least to a greatest.
+/// A member that is a whole number from a least to a greatest, in 64 bits.
 pub fn long_number(body: &Value, member: &str, least: u64, greatest: u64) -> Option<u64>
     ensures value { result ≡ number_at least greatest member.now (view body.now) }
     ensures least { IfSome result (λ n. least ≤ n) }
@@ -96,7 +97,7 @@ pub fn long_number(body: &Value, member: &str, least: u64, greatest: u64) -> Opt
     within(whole(body, member)?, least, greatest)
 }
 
-/// A member that is a whole number from a least to a greatest.
+/// A member that is a whole number from a least to a greatest, in 32 bits.
 pub fn number(body: &Value, member: &str, least: u32, greatest: u32) -> Option<u32>
     ensures value { result ≡ number_at least greatest member.now (view body.now) }
     ensures least { IfSome result (λ n. least ≤ n) }
@@ -127,7 +128,7 @@ fn is_printable(byte: u8) -> bool
     33 <= byte && byte <= 126
 }
 
-/// Whether all bytes are such.
+/// Whether all bytes are printable characters of ASCII, and no spaces.
 fn are_printable(bytes: &[u8]) -> bool
     ensures { result ≡ list_all is_printable_byte bytes.now }
 {
@@ -153,16 +154,11 @@ pub fn receipt(alloc: Global, body: &Value, member: &str) -> Result<Option<Recei
     if value.is_null() {
         return Ok(None);
     }
-    let Some(text) = value.as_str() else {
-        return Err(Fault::F1);
-    };
+    let text = value.as_str().ok_or(Fault::F1)?;
     if !is_receipt(text) {
         return Err(Fault::F1);
     }
-    match String::from_str(alloc, text) {
-        Ok(text) => Ok(Some(Receipt::new(text))),
-        Err(_) => Err(Fault::F20),
-    }
+    Ok(Some(Receipt::new(String::from_str(alloc, text)?)))
 }
 
 /// A member that is an account's text.

@@ -2,7 +2,6 @@
 #![tactic(auto)]
 
 mod body;
-mod named;
 mod paths;
 mod request;
 mod request_line;

@@ -1,27 +1,30 @@
-// What the parameters of a path name: accounts, and the numbers that they write.
-ghost use Rattle.std.specs.Prelude.{◌≡◌, ◌≤◌, IfSome};
+//! What the parameters of a path name: accounts, and the numbers that they write.
+ghost use Rattle.std.specs.Prelude.{◌≤◌, IfOk};
 ghost use Rattle.matchit.specs.Params.{AllText};
 ghost use Rattle.mf_model.specs.Sound.{IsAccount};
+ghost use Rattle.mf_wire_requests.specs.Bodies.{Gives};
 ghost use Rattle.mf_wire_requests.specs.PathParts.{parts_of_params, number_in, account_in};
 
 use matchit::Params;
-use mf_base::parse_digits;
+use mf_base::{Fault, parse_digits};
 use mf_office::Account;
 
-/// The account that a parameter of a path names.
-pub fn account(params: &Params<'_, '_>, name: &str) -> Option<Account>
+/// The account that a parameter of a path names. `F1` where it names none.
+pub fn account(params: &Params<'_, '_>, name: &str) -> Result<Account, Fault>
     requires { AllText (parts_of_params params.now) }
-    ensures value { result ≡ account_in name.now (parts_of_params params.now) }
-    ensures in_range { IfSome result IsAccount }
+    ensures value { Gives (account_in name.now (parts_of_params params.now)) result }
+    ensures in_range { IfOk result IsAccount }
 {
-    Account::parse(params.get(name)?.as_bytes())
+    let text = params.get(name).ok_or(Fault::F1)?;
+    Account::parse(text.as_bytes()).ok_or(Fault::F1)
 }
 
-/// The number that a parameter of a path writes.
-pub fn number(params: &Params<'_, '_>, name: &str) -> Option<u32>
+/// The number that a parameter of a path writes. `F1` where it writes none.
+pub fn number(params: &Params<'_, '_>, name: &str) -> Result<u32, Fault>
     requires { AllText (parts_of_params params.now) }
-    ensures value { result ≡ number_in name.now (parts_of_params params.now) }
-    ensures in_range { IfSome result (λ n. n ≤ 999999999) }
+    ensures value { Gives (number_in name.now (parts_of_params params.now)) result }
+    ensures in_range { IfOk result (λ n. n ≤ 999999999) }
 {
-    parse_digits(params.get(name)?.as_bytes())
+    let text = params.get(name).ok_or(Fault::F1)?;
+    parse_digits(text.as_bytes()).ok_or(Fault::F1)
 }

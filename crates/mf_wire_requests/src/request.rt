@@ -1,4 +1,4 @@
-// What a request asks, by its method, its path and its body.
+//! What a request asks, by its method, its path and its body.
 ghost use Rattle.std.specs.Prelude.{◌≡◌, ◌≢◌, ◌⊎◌, IfOk, IfErr};
 ghost use Rattle.std.specs.Char.{is_ascii};
 ghost use Rattle.std.specs.List.{list_all};
@@ -16,6 +16,7 @@ mod loans;
 mod offices;
 mod products;
 
+use crate::paths::number;
 use crate::routes::{Endpoint, Methods, Routes};
 use matchit::Params;
 use mf_base::Fault;
@@ -79,10 +80,19 @@ fn request_at(
         Endpoint::ShowDay => Ok(Request::Catalogue(CatalogueRequest::ShowDay)),
         Endpoint::SetDay => catalogue::later_day(alloc, body),
         Endpoint::AddCharge => catalogue::new_charge(alloc, body),
-        Endpoint::ShowCharge => catalogue::show_charge(params),
+        Endpoint::ShowCharge => {
+            let charge = number(params, "charge")?;
+            Ok(Request::Catalogue(CatalogueRequest::ShowCharge { charge }))
+        }
         Endpoint::AddProduct => products::new_product(alloc, body),
-        Endpoint::ShowProduct => catalogue::show_product(params),
-        Endpoint::RetireProduct => catalogue::retire_product(params),
+        Endpoint::ShowProduct => {
+            let product = number(params, "product")?;
+            Ok(Request::Catalogue(CatalogueRequest::ShowProduct { product }))
+        }
+        Endpoint::RetireProduct => {
+            let product = number(params, "product")?;
+            Ok(Request::Catalogue(CatalogueRequest::RetireProduct { product }))
+        }
         Endpoint::ListOffices => Ok(Request::SeenOffices),
         Endpoint::AddOffice => offices::new_office(alloc, body),
         Endpoint::AddStaff => offices::new_staff(alloc, body),

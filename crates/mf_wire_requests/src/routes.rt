@@ -1,4 +1,4 @@
-// Which route a path has, and what its methods ask.
+//! Which route a path has, and what its methods ask.
 ghost use Rattle.std.specs.Prelude.{◌≡◌, true, [], IfOk, IfErr, IfSome, OnOk, map, option_map};
 ghost use Rattle.matchit.specs.declared.error.InsertError.TheVariants.{OutOfMemory};
 ghost use Rattle.mf_wire_requests.specs.Routes.{with_route, takes_route, takes_table, routes_of, desk_routes, matched_route, route_at};
@@ -175,7 +175,7 @@ pub struct Routes {
 }
 
 impl Routes {
-    /// The routes of the desk. It fails only for want of memory.
+    /// The routes of the desk. It fails only when out of memory.
     pub fn new(alloc: Global) -> Result<Routes, InsertError>
         ensures { IfErr result (λ e. e ≡ OutOfMemory) }
     {

@@ -3,10 +3,10 @@ ghost use Rattle.std.specs.Prelude.{◌≡◌, IfOk, IfErr, OnOk};
 ghost use Rattle.serde_json.specs.Data.{put as with_member};
 ghost use Rattle.serde_json.specs.View.{view, members_view};
 ghost use Rattle.mf_wire_replies.specs.Json.{text_or_null as text_or_null_of, whole_or_null as whole_or_null_of};
-ghost use Rattle.mf_wire_replies.specs.AccountTexts.{sum_of, instalment_data, instalments_data, kind_name, portion_name, instalment_for, portion_waived, share_data, shares_data, entry_rest as entry_rest_of, entry_data, entries_data};
+ghost use Rattle.mf_wire_replies.specs.AccountTexts.{sum_of, instalment_data, kind_name, portion_name, instalment_for, portion_waived, share_data, shares_data, entry_rest as entry_rest_of, entry_data};
 
 use super::lists::{Shown, array_of};
-use super::members::{Members, single, text_or_null, whole_or_null};
+use super::members::{Members, text_or_null, whole_or_null};
 use mf_account::{Entry, Kind};
 use mf_alloc::{Portion, Share};
 use mf_base::Fault;
@@ -42,15 +42,6 @@ impl Shown for InstalmentLine {
         members.put(alloc, "due", Value::String(self.due.text(alloc)?))?;
         Ok(members.into_value())
     }
-}
-
-/// The instalments of a loan.
-pub fn instalments_value(alloc: Global, lines: &[InstalmentLine]) -> Result<Value, Fault>
-    ensures ok { IfOk result (λ v. view v ≡ instalments_data lines.now) }
-    ensures err { IfErr result (λ f. f ≡ Fault.F20) }
-{
-    let lines = array_of(alloc, lines)?;
-    Ok(single(alloc, "instalments", lines)?)
 }
 
 fn kind_name(kind: Kind) -> &'static str
@@ -148,13 +139,4 @@ impl Shown for EntryLine {
         members.put_whole(alloc, "amount", self.amount)?;
         Ok(members.into_value())
     }
-}
-
-/// The entries of a loan.
-pub fn entries_value(alloc: Global, lines: &[EntryLine]) -> Result<Value, Fault>
-    ensures ok { IfOk result (λ v. view v ≡ entries_data lines.now) }
-    ensures err { IfErr result (λ f. f ≡ Fault.F20) }
-{
-    let lines = array_of(alloc, lines)?;
-    Ok(single(alloc, "entries", lines)?)
 }

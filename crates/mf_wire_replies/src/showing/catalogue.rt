@@ -1,34 +1,16 @@
-//! The business day, charges and products as JSON.
+//! Charges and products as JSON.
 ghost use Rattle.std.specs.Prelude.{◌≡◌, IfOk, IfErr};
-ghost use Rattle.serde_json.specs.View.{view, members_view};
-ghost use Rattle.mf_model.specs.declared.reply.Reply.TheVariants.{DayShown, ChargeMade, ChargeShown, ProductMade, ProductShown};
-ghost use Rattle.mf_wire_replies.specs.Shown.{IsBodyOf, reply_data};
+ghost use Rattle.serde_json.specs.View.{members_view};
+ghost use Rattle.mf_model.specs.declared.reply.Reply.TheVariants.{ChargeShown, ProductShown};
+ghost use Rattle.mf_wire_replies.specs.Shown.{IsBodyOf};
 ghost use Rattle.mf_wire_replies.specs.Catalogue.{product_end as product_end_of, product_rest as product_rest_of};
 
 use super::Body;
-use super::members::{Members, single, whole_or_null};
-use mf_base::{Choice, Day, Fault};
+use super::members::{Members, whole_or_null};
+use mf_base::{Choice, Fault};
 use mf_catalog::{ChargeDef, Product};
 use serde_json::Value;
 use std::alloc::{AllocError, Global};
-
-/// The business day, shown or set.
-pub fn day_value(alloc: Global, day: Day) -> Result<Value, Fault>
-    ensures ok { IfOk result (λ v. view v ≡ reply_data (DayShown day)) }
-    ensures err { IfErr result (λ f. f ≡ Fault.F20) }
-{
-    let day = Value::String(day.text(alloc)?);
-    Ok(single(alloc, "day", day)?)
-}
-
-/// The number of a new charge.
-pub fn charge_made(alloc: Global, charge: u32) -> Result<Body, Fault>
-    ensures ok { IfOk result (IsBodyOf (ChargeMade charge)) }
-    ensures err { IfErr result (λ f. f ≡ Fault.F20) }
-{
-    let charge = Value::from(charge);
-    Ok(Body::Value(single(alloc, "charge", charge)?))
-}
 
 /// A charge.
 pub fn charge_shown(alloc: Global, charge: &ChargeDef) -> Result<Body, Fault>
@@ -44,13 +26,6 @@ pub fn charge_shown(alloc: Global, charge: &ChargeDef) -> Result<Body, Fault>
     members.put_whole(alloc, "charge", charge.number as u64)?;
     members.put_text(alloc, "calc", calc)?;
     Ok(Body::Value(members.into_value()))
-}
-
-/// The number of a product that was made or retired.
-pub fn product_value(alloc: Global, product: u32) -> Result<Value, AllocError>
-    ensures { IfOk result (λ v. view v ≡ reply_data (ProductMade product)) }
-{
-    single(alloc, "product", Value::from(product))
 }
 
 /// A product's members from `overdue_charge` on.

@@ -3,14 +3,13 @@ ghost use Rattle.std.specs.Prelude.{◌≡◌, ℕ, List, true, IfOk, IfErr, str
 ghost use Rattle.json.specs.Print.{quoted};
 ghost use Rattle.serde_json.specs.View.{view};
 ghost use Rattle.serde_json.specs.Written.{compact_text, members_text};
-ghost use Rattle.mf_model.specs.declared.reply.Reply.TheVariants.{LoanMade, LoansShown, Loan as LoanTold};
+ghost use Rattle.mf_model.specs.declared.reply.Reply.TheVariants.{Loan as LoanTold};
 ghost use Rattle.mf_wire_replies.specs.Shown.{IsBodyOf};
-ghost use Rattle.mf_wire_replies.specs.LoanTexts.{loan_end as loan_end_of, loan_rest as loan_rest_of, loan_by_texts, loan_data, sums_data, day_or_null, status_data, entered_data, told_status, line_data};
+ghost use Rattle.mf_wire_replies.specs.LoanTexts.{loan_end as loan_end_of, loan_rest as loan_rest_of, loan_by_texts, loan_data, sums_data, day_or_null, told_status, line_data};
 
-use super::Body;
-use super::account::{entries_value, instalments_value};
 use super::lists::{Shown, array_of};
-use super::members::{Members, single};
+use super::members::Members;
+use super::{Body, single};
 use mf_alloc::Portion;
 use mf_base::{Day, Fault};
 use mf_model::{LoanLine, LoanReply, Statement};
@@ -18,24 +17,15 @@ use mf_office::Account;
 use serde_json::{Value, json};
 use std::alloc::{AllocError, Global};
 
-/// A new loan.
-pub fn loan_made(alloc: Global, loan: Account) -> Result<Body, Fault>
-    ensures ok { IfOk result (IsBodyOf (LoanMade loan)) }
-    ensures err { IfErr result (λ f. f ≡ Fault.F20) }
-{
-    let loan = Value::String(loan.text(alloc)?);
-    Ok(Body::Value(single(alloc, "loan", loan)?))
-}
+impl Shown for LoanLine {
+    ghost json = { line_data };
 
-/// A loan and its status number.
-fn status_value(alloc: Global, loan: Account, status: u16) -> Result<Value, Fault>
-    ensures ok { IfOk result (λ v. view v ≡ status_data loan status) }
-    ensures err { IfErr result (λ f. f ≡ Fault.F20) }
-{
-    let mut members = Members::new(alloc);
-    members.put_whole(alloc, "status", status as u64)?;
-    members.put(alloc, "loan", Value::String(loan.text(alloc)?))?;
-    Ok(members.into_value())
+    fn value(&self, alloc: Global) -> Result<Value, Fault> {
+        let mut members = Members::new(alloc);
+        members.put_whole(alloc, "status", self.status as u64)?;
+        members.put(alloc, "loan", Value::String(self.loan.text(alloc)?))?;
+        Ok(members.into_value())
+    }
 }
 
 /// A text as JSON, in quotes.
@@ -93,11 +83,10 @@ fn day_text(alloc: Global, day: Option<Day>) -> Result<String, Fault>
     ensures ok { IfOk result (λ s. string_bytes s ≡ compact_text (day_or_null day)) }
     ensures err { IfErr result (λ f. f ≡ Fault.F20) }
 {
-    let text = match day {
-        Some(day) => quoted_text(alloc, day.text(alloc)?.as_str())?,
-        None => String::from_str(alloc, "null")?,
-    };
-    Ok(text)
+    match day {
+        Some(day) => Ok(quoted_text(alloc, day.text(alloc)?.as_str())?),
+        None => Ok(String::from_str(alloc, "null")?),
+    }
 }
 
 /// The body of a loan whose account and whose client's are written so in JSON. It is written at once: a value of JSON would
@@ -132,13 +121,6 @@ fn shown_text(alloc: Global, account: Account, loan: &Statement) -> Result<Strin
     loan_body(alloc, client.as_str(), account.as_str(), loan)
 }
 
-/// The number of an entry.
-fn entered_value(alloc: Global, entry: u32) -> Result<Value, AllocError>
-    ensures { IfOk result (λ v. view v ≡ entered_data entry) }
-{
-    single(alloc, "entry", Value::from(entry))
-}
-
 /// What is told of a loan.
 pub fn loan_told(alloc: Global, loan: Account, told: &LoanReply) -> Result<Body, Fault>
     ensures ok { IfOk result (IsBodyOf (LoanTold loan told.now)) }
@@ -146,14 +128,16 @@ pub fn loan_told(alloc: Global, loan: Account, told: &LoanReply) -> Result<Body,
 {
     match told {
         LoanReply::Shown(shown) => Ok(Body::Text(shown_text(alloc, loan, shown)?)),
-        LoanReply::Instalments(lines) => Ok(Body::Value(instalments_value(
-            alloc,
-            lines.as_slice(),
-        )?)),
-        LoanReply::Entries(lines) => Ok(Body::Value(entries_value(alloc, lines.as_slice())?)),
-        LoanReply::Status(status) => Ok(Body::Value(status_value(alloc, loan, *status)?)),
+        LoanReply::Instalments(lines) => {
+            single(alloc, "instalments", array_of(alloc, lines.as_slice())?)
+        }
+        LoanReply::Entries(lines) => single(alloc, "entries", array_of(alloc, lines.as_slice())?),
+        LoanReply::Status(status) => {
+            let status = *status;
+            Ok(Body::Value(LoanLine { loan, status }.value(alloc)?))
+        }
         LoanReply::Entered(entry) | LoanReply::Repeated(entry) | LoanReply::Reversed(entry) => {
-            Ok(Body::Value(entered_value(alloc, *entry)?))
+            single(alloc, "entry", Value::from(*entry))
         }
     }
 }
@@ -171,21 +155,4 @@ pub fn told_status(told: &LoanReply) -> u16
         | LoanReply::Reversed(_) => 200,
         LoanReply::Entered(_) => 201,
     }
-}
-
-impl Shown for LoanLine {
-    ghost json = { line_data };
-
-    fn value(&self, alloc: Global) -> Result<Value, Fault> {
-        status_value(alloc, self.loan, self.status)
-    }
-}
-
-/// The loans of an office.
-pub fn loans_shown(alloc: Global, lines: &[LoanLine]) -> Result<Body, Fault>
-    ensures ok { IfOk result (IsBodyOf (LoansShown lines.now)) }
-    ensures err { IfErr result (λ f. f ≡ Fault.F20) }
-{
-    let lines = array_of(alloc, lines)?;
-    Ok(Body::Value(single(alloc, "loans", lines)?))
 }

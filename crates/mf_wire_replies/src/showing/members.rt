@@ -1,6 +1,6 @@
-//! Values that may be null, and the members of objects.
+//! Values that may be null, and the members of an object.
 ghost use Rattle.std.specs.Prelude.{◌≡◌, IfOk, OnOk, option_map};
-ghost use Rattle.serde_json.specs.Data.{string, object, member, no_members, put as with_member};
+ghost use Rattle.serde_json.specs.Data.{string, object, no_members, put as with_member};
 ghost use Rattle.serde_json.specs.View.{view, members_view};
 ghost use Rattle.mf_wire_replies.specs.Json.{whole, whole_or_null as whole_or_null_of, text_or_null as text_or_null_of};
 
@@ -25,15 +25,6 @@ pub fn text_or_null(alloc: Global, text: Option<&str>) -> Result<Value, AllocErr
         Some(text) => Ok(Value::String(String::from_str(alloc, text)?)),
         None => Ok(Value::Null),
     }
-}
-
-/// An object of one member.
-pub fn single(alloc: Global, name: &str, value: Value) -> Result<Value, AllocError>
-    ensures { IfOk result (λ v. view v ≡ object (member name.now (view value) no_members)) }
-{
-    let mut members = Members::new(alloc);
-    members.put(alloc, name, value)?;
-    Ok(members.into_value())
 }
 
 /// The members of a JSON object as they are put together. They stand in the order of their names, so where each is put

@@ -1,17 +1,10 @@
-// What is asked of the catalogue, but for new products.
-ghost use Rattle.std.specs.Prelude.{codes, option_map, option_and_then, IfOk};
-ghost use Rattle.matchit.specs.Params.{AllText};
-ghost use Rattle.mf_model.specs.declared.request.CatalogueRequest.TheVariants.{ShowCharge, ShowProduct, RetireProduct};
-ghost use Rattle.mf_model.specs.declared.request.Request.TheVariants.{Catalogue};
+//! What the bodies of requests on the business day and on charges ask.
+ghost use Rattle.std.specs.Prelude.{option_and_then, IfOk};
 ghost use Rattle.mf_model.specs.Sound.{IsInRange};
 ghost use Rattle.mf_wire_requests.specs.Bodies.{json_of, Gives};
 ghost use Rattle.mf_wire_requests.specs.CatalogueRequests.{later_day as day_asked, new_charge as charge_asked};
-ghost use Rattle.mf_wire_requests.specs.PathParts.{parts_of_params, number_in};
 
-use crate::body::{day, json, long_number, name};
-use crate::named::choice;
-use crate::paths::number;
-use matchit::Params;
+use crate::body::{choice, day, json, long_number, name};
 use mf_base::Fault;
 use mf_catalog::{Calc, ChargeKind, greatest_value};
 use mf_model::{CatalogueRequest, Request};
@@ -22,10 +15,8 @@ pub fn later_day(alloc: Global, body: &[u8]) -> Result<Request, Fault>
     ensures in_range { IfOk result IsInRange }
 {
     let body = json(alloc, body)?;
-    match day(&body, "day") {
-        Some(day) => Ok(Request::Catalogue(CatalogueRequest::SetDay { day })),
-        None => Err(Fault::F1),
-    }
+    let day = day(&body, "day").ok_or(Fault::F1)?;
+    Ok(Request::Catalogue(CatalogueRequest::SetDay { day }))
 }
 
 pub fn new_charge(alloc: Global, body: &[u8]) -> Result<Request, Fault>
@@ -33,15 +24,9 @@ pub fn new_charge(alloc: Global, body: &[u8]) -> Result<Request, Fault>
     ensures in_range { IfOk result IsInRange }
 {
     let body = json(alloc, body)?;
-    let Some(kind) = choice::<ChargeKind>(&body, "kind") else {
-        return Err(Fault::F1);
-    };
-    let Some(calc) = choice::<Calc>(&body, "calc") else {
-        return Err(Fault::F1);
-    };
-    let Some(value) = long_number(&body, "value", 1, greatest_value(calc)) else {
-        return Err(Fault::F1);
-    };
+    let kind = choice::<ChargeKind>(&body, "kind").ok_or(Fault::F1)?;
+    let calc = choice::<Calc>(&body, "calc").ok_or(Fault::F1)?;
+    let value = long_number(&body, "value", 1, greatest_value(calc)).ok_or(Fault::F1)?;
     let name = name(alloc, &body, "name")?;
     Ok(Request::Catalogue(CatalogueRequest::AddCharge {
         name,
@@ -49,40 +34,4 @@ pub fn new_charge(alloc: Global, body: &[u8]) -> Result<Request, Fault>
         calc,
         value,
     }))
-}
-
-/// The charge that a path names.
-pub fn show_charge(params: &Params<'_, '_>) -> Result<Request, Fault>
-    requires { AllText (parts_of_params params.now) }
-    ensures value { Gives (option_map (λ charge. Catalogue (ShowCharge charge)) (number_in (codes "charge") (parts_of_params params.now))) result }
-    ensures in_range { IfOk result IsInRange }
-{
-    match number(params, "charge") {
-        Some(charge) => Ok(Request::Catalogue(CatalogueRequest::ShowCharge { charge })),
-        None => Err(Fault::F1),
-    }
-}
-
-/// The product that a path names.
-pub fn show_product(params: &Params<'_, '_>) -> Result<Request, Fault>
-    requires { AllText (parts_of_params params.now) }
-    ensures value { Gives (option_map (λ product. Catalogue (ShowProduct product)) (number_in (codes "product") (parts_of_params params.now))) result }
-    ensures in_range { IfOk result IsInRange }
-{
-    match number(params, "product") {
-        Some(product) => Ok(Request::Catalogue(CatalogueRequest::ShowProduct { product })),
-        None => Err(Fault::F1),
-    }
-}
-
-/// The product that a path names lends no more.
-pub fn retire_product(params: &Params<'_, '_>) -> Result<Request, Fault>
-    requires { AllText (parts_of_params params.now) }
-    ensures value { Gives (option_map (λ product. Catalogue (RetireProduct product)) (number_in (codes "product") (parts_of_params params.now))) result }
-    ensures in_range { IfOk result IsInRange }
-{
-    match number(params, "product") {
-        Some(product) => Ok(Request::Catalogue(CatalogueRequest::RetireProduct { product })),
-        None => Err(Fault::F1),
-    }
 }

@@ -1,14 +1,13 @@
-// What is asked of loans.
+//! What is asked of loans.
 ghost use Rattle.std.specs.Prelude.{◌≡◌, ◌≤◌, option_and_then, IfOk, IfSome};
 ghost use Rattle.serde_json.specs.View.{view};
 ghost use Rattle.matchit.specs.Params.{AllText};
 ghost use Rattle.mf_model.specs.Sound.{IsInRange, IsLoanInRange};
 ghost use Rattle.mf_wire_requests.specs.Bodies.{json_of, Gives};
-ghost use Rattle.mf_wire_requests.specs.LoanRequests.{new_loan as loan_asked, disbursement as disbursement_asked, repayment as repayment_asked, fee as fee_asked, instalment_at, penalty as penalty_asked, waiver as waiver_asked, reversal as reversal_asked, loan_request, loan_at, loans_at};
+ghost use Rattle.mf_wire_requests.specs.LoanRequests.{new_loan as loan_asked, disbursement as disbursement_asked, repayment as repayment_asked, fee as fee_asked, instalment_at, penalty as penalty_asked, waiver as waiver_asked, loan_request, loan_at, loans_at};
 ghost use Rattle.mf_wire_requests.specs.PathParts.{parts_of_params};
 
-use crate::body::{account, day, json, long_number, number, receipt};
-use crate::named::choice;
+use crate::body::{GREATEST_NUMBER, account, choice, day, json, long_number, number, receipt};
 use crate::paths::{account as account_in_path, number as number_in_path};
 use crate::routes::LoanEndpoint;
 use matchit::Params;
@@ -17,7 +16,6 @@ use mf_catalog::{GREATEST_AMOUNT, MOST_PERIODS};
 use mf_model::{
     Application, LoanRequest, LoanStep, OfficeRequest, Posting, Repayment, Request, Waivable,
 };
-use mf_office::Account;
 use serde_json::Value;
 use std::alloc::Global;
 
@@ -26,28 +24,14 @@ pub fn new_loan(alloc: Global, body: &[u8]) -> Result<Request, Fault>
     ensures in_range { IfOk result IsInRange }
 {
     let body = json(alloc, body)?;
-    let Some(
-        Account {
-            office,
-            number: client,
-        },
-    ) = account(&body, "client")
-    else {
-        return Err(Fault::F1);
-    };
-    let Some(product) = number(&body, "product", 0, 999_999_999) else {
-        return Err(Fault::F1);
-    };
-    let Some(principal) = long_number(&body, "principal", 1, GREATEST_AMOUNT) else {
-        return Err(Fault::F1);
-    };
-    let Some(periods) = number(&body, "periods", 1, MOST_PERIODS) else {
-        return Err(Fault::F1);
-    };
+    let client = account(&body, "client").ok_or(Fault::F1)?;
+    let product = number(&body, "product", 0, GREATEST_NUMBER).ok_or(Fault::F1)?;
+    let principal = long_number(&body, "principal", 1, GREATEST_AMOUNT).ok_or(Fault::F1)?;
+    let periods = number(&body, "periods", 1, MOST_PERIODS).ok_or(Fault::F1)?;
     Ok(Request::Office {
-        office: office.get(),
+        office: client.office.get(),
         asked: OfficeRequest::SubmitLoan(Application {
-            client,
+            client: client.number,
             product,
             principal,
             periods,
@@ -61,10 +45,8 @@ fn disbursement(alloc: Global, body: &[u8]) -> Result<LoanRequest, Fault>
     ensures in_range { IfOk result IsLoanInRange }
 {
     let body = json(alloc, body)?;
-    match day(&body, "day") {
-        Some(day) => Ok(LoanRequest::Take(LoanStep::Disburse(day))),
-        None => Err(Fault::F1),
-    }
+    let paid_out = day(&body, "day").ok_or(Fault::F1)?;
+    Ok(LoanRequest::Take(LoanStep::Disburse(paid_out)))
 }
 
 /// A repayment, with its receipt where it has one.
@@ -73,12 +55,8 @@ fn repayment(alloc: Global, body: &[u8]) -> Result<LoanRequest, Fault>
     ensures in_range { IfOk result IsLoanInRange }
 {
     let body = json(alloc, body)?;
-    let Some(amount) = long_number(&body, "amount", 1, GREATEST_AMOUNT) else {
-        return Err(Fault::F1);
-    };
-    let Some(day) = day(&body, "day") else {
-        return Err(Fault::F1);
-    };
+    let amount = long_number(&body, "amount", 1, GREATEST_AMOUNT).ok_or(Fault::F1)?;
+    let day = day(&body, "day").ok_or(Fault::F1)?;
     let receipt = receipt(alloc, &body, "receipt")?;
     Ok(LoanRequest::Repay(Repayment {
         amount,
@@ -93,12 +71,8 @@ fn fee(alloc: Global, body: &[u8]) -> Result<LoanRequest, Fault>
     ensures in_range { IfOk result IsLoanInRange }
 {
     let body = json(alloc, body)?;
-    let Some(charge) = number(&body, "charge", 0, 999_999_999) else {
-        return Err(Fault::F1);
-    };
-    let Some(due) = day(&body, "due") else {
-        return Err(Fault::F1);
-    };
+    let charge = number(&body, "charge", 0, GREATEST_NUMBER).ok_or(Fault::F1)?;
+    let due = day(&body, "due").ok_or(Fault::F1)?;
     Ok(LoanRequest::ChargeFee { charge, due })
 }
 
@@ -108,7 +82,7 @@ fn instalment(body: &Value) -> Option<u32>
     ensures least { IfSome result (λ n. 1 ≤ n) }
     ensures greatest { IfSome result (λ n. n ≤ 999999999) }
 {
-    number(body, "instalment", 1, 999_999_999)
+    number(body, "instalment", 1, GREATEST_NUMBER)
 }
 
 /// The overdue charge on an instalment.
@@ -117,10 +91,8 @@ fn penalty(alloc: Global, body: &[u8]) -> Result<LoanRequest, Fault>
     ensures in_range { IfOk result IsLoanInRange }
 {
     let body = json(alloc, body)?;
-    match instalment(&body) {
-        Some(instalment) => Ok(LoanRequest::Post(Posting::Penalty { instalment })),
-        None => Err(Fault::F1),
-    }
+    let instalment = instalment(&body).ok_or(Fault::F1)?;
+    Ok(LoanRequest::Post(Posting::Penalty { instalment }))
 }
 
 /// A portion of an instalment is waived.
@@ -129,28 +101,12 @@ fn waiver(alloc: Global, body: &[u8]) -> Result<LoanRequest, Fault>
     ensures in_range { IfOk result IsLoanInRange }
 {
     let body = json(alloc, body)?;
-    let Some(instalment) = instalment(&body) else {
-        return Err(Fault::F1);
-    };
-    let Some(portion) = choice::<Waivable>(&body, "portion") else {
-        return Err(Fault::F1);
-    };
+    let instalment = instalment(&body).ok_or(Fault::F1)?;
+    let portion = choice::<Waivable>(&body, "portion").ok_or(Fault::F1)?;
     Ok(LoanRequest::Post(Posting::Waiver {
         instalment,
         portion,
     }))
-}
-
-/// The entry, or 0, that a path names counts no more.
-fn reversal(params: &Params<'_, '_>) -> Result<LoanRequest, Fault>
-    requires { AllText (parts_of_params params.now) }
-    ensures value { Gives (reversal_asked (parts_of_params params.now)) result }
-    ensures in_range { IfOk result IsLoanInRange }
-{
-    match number_in_path(params, "entry") {
-        Some(entry) => Ok(LoanRequest::Reverse { entry }),
-        None => Err(Fault::F1),
-    }
 }
 
 /// What is asked of a loan. The body is read only where it has members.
@@ -176,7 +132,10 @@ fn loan_request(
         LoanEndpoint::Waive => waiver(alloc, body),
         LoanEndpoint::WriteOff => Ok(LoanRequest::Post(Posting::WriteOff)),
         LoanEndpoint::Refund => Ok(LoanRequest::Post(Posting::Refund)),
-        LoanEndpoint::Reverse => reversal(params),
+        LoanEndpoint::Reverse => {
+            let entry = number_in_path(params, "entry")?;
+            Ok(LoanRequest::Reverse { entry })
+        }
     }
 }
 
@@ -191,9 +150,7 @@ pub fn on_loan(
     ensures value { Gives (loan_at endpoint (parts_of_params params.now) body.now) result }
     ensures in_range { IfOk result IsInRange }
 {
-    let Some(loan) = account_in_path(params, "loan") else {
-        return Err(Fault::F1);
-    };
+    let loan = account_in_path(params, "loan")?;
     let asked = loan_request(alloc, endpoint, params, body)?;
     Ok(Request::Loan { loan, asked })
 }
@@ -204,12 +161,8 @@ pub fn list_loans(params: &Params<'_, '_>) -> Result<Request, Fault>
     ensures value { Gives (loans_at (parts_of_params params.now)) result }
     ensures in_range { IfOk result IsInRange }
 {
-    let Some(office) = number_in_path(params, "office") else {
-        return Err(Fault::F1);
-    };
-    let Some(after) = number_in_path(params, "after") else {
-        return Err(Fault::F1);
-    };
+    let office = number_in_path(params, "office")?;
+    let after = number_in_path(params, "after")?;
     if after > 999_999 {
         return Err(Fault::F1);
     }

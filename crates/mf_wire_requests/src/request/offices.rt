@@ -1,4 +1,4 @@
-// What is asked of offices, staff and clients.
+//! What is asked of offices, staff and clients.
 ghost use Rattle.std.specs.Prelude.{option_and_then, IfOk};
 ghost use Rattle.matchit.specs.Params.{AllText};
 ghost use Rattle.mf_model.specs.Sound.{IsInRange};
@@ -6,13 +6,12 @@ ghost use Rattle.mf_wire_requests.specs.Bodies.{json_of, Gives};
 ghost use Rattle.mf_wire_requests.specs.OfficeRequests.{new_office as office_asked, new_staff as staff_asked, new_client as client_asked, client_at};
 ghost use Rattle.mf_wire_requests.specs.PathParts.{parts_of_params};
 
-use crate::body::{json, name, office};
-use crate::named::choice;
+use crate::body::{choice, json, name, office};
 use crate::paths::account;
 use matchit::Params;
 use mf_base::Fault;
 use mf_model::{OfficeRequest, Request};
-use mf_office::{Account, Role};
+use mf_office::Role;
 use std::alloc::Global;
 
 pub fn new_office(alloc: Global, body: &[u8]) -> Result<Request, Fault>
@@ -20,12 +19,8 @@ pub fn new_office(alloc: Global, body: &[u8]) -> Result<Request, Fault>
     ensures in_range { IfOk result IsInRange }
 {
     let body = json(alloc, body)?;
-    let Some(number) = office(&body, "number") else {
-        return Err(Fault::F1);
-    };
-    let Some(parent) = office(&body, "parent") else {
-        return Err(Fault::F1);
-    };
+    let number = office(&body, "number").ok_or(Fault::F1)?;
+    let parent = office(&body, "parent").ok_or(Fault::F1)?;
     let name = name(alloc, &body, "name")?;
     Ok(Request::NewOffice {
         number,
@@ -39,12 +34,8 @@ pub fn new_staff(alloc: Global, body: &[u8]) -> Result<Request, Fault>
     ensures in_range { IfOk result IsInRange }
 {
     let body = json(alloc, body)?;
-    let Some(office) = office(&body, "office") else {
-        return Err(Fault::F1);
-    };
-    let Some(role) = choice::<Role>(&body, "role") else {
-        return Err(Fault::F1);
-    };
+    let office = office(&body, "office").ok_or(Fault::F1)?;
+    let role = choice::<Role>(&body, "role").ok_or(Fault::F1)?;
     let name = name(alloc, &body, "name")?;
     Ok(Request::Office {
         office: office.get(),
@@ -57,9 +48,7 @@ pub fn new_client(alloc: Global, body: &[u8]) -> Result<Request, Fault>
     ensures in_range { IfOk result IsInRange }
 {
     let body = json(alloc, body)?;
-    let Some(office) = office(&body, "office") else {
-        return Err(Fault::F1);
-    };
+    let office = office(&body, "office").ok_or(Fault::F1)?;
     let name = name(alloc, &body, "name")?;
     Ok(Request::Office {
         office: office.get(),
@@ -73,11 +62,11 @@ pub fn show_client(params: &Params<'_, '_>) -> Result<Request, Fault>
     ensures value { Gives (client_at (parts_of_params params.now)) result }
     ensures in_range { IfOk result IsInRange }
 {
-    let Some(Account { office, number }) = account(params, "client") else {
-        return Err(Fault::F1);
-    };
+    let client = account(params, "client")?;
     Ok(Request::Office {
-        office: office.get(),
-        asked: OfficeRequest::ShowClient { client: number },
+        office: client.office.get(),
+        asked: OfficeRequest::ShowClient {
+            client: client.number,
+        },
     })
 }

@@ -1,12 +1,11 @@
-// What is asked of a new product.
+//! What is asked of a new product.
 ghost use Rattle.std.specs.Prelude.{◌≡◌, option_and_then, IfOk, IfSome};
 ghost use Rattle.serde_json.specs.View.{view};
 ghost use Rattle.mf_model.specs.Sound.{IsInRange, IsName, AreMembers};
 ghost use Rattle.mf_wire_requests.specs.Bodies.{json_of, Gives};
 ghost use Rattle.mf_wire_requests.specs.ProductRequests.{step_at, planning_at, bounds_at, charge_at, charged_at, members_of as members_by, new_product as product_asked, IsStepInRange, IsPlanningInRange, AreBoundsInRange};
 
-use crate::body::{json, long_number, name, number, optional_number};
-use crate::named::choice;
+use crate::body::{GREATEST_NUMBER, choice, json, long_number, name, number, optional_number};
 use mf_base::{Fault, Freq};
 use mf_catalog::{
     GREATEST_AMOUNT, GREATEST_RATE, MOST_GRACE, MOST_PERIODS, Method, ProductMembers, StrategyName,
@@ -101,7 +100,7 @@ fn read_bounds(body: &Value) -> Option<Bounds>
 fn charge(body: &Value, member: &str) -> Option<Option<u32>>
     ensures { result ≡ charge_at member.now (view body.now) }
 {
-    optional_number(body, member, 999_999_999)
+    optional_number(body, member, GREATEST_NUMBER)
 }
 
 fn read_charged(body: &Value) -> Option<Charged>
@@ -148,15 +147,9 @@ pub fn new_product(alloc: Global, body: &[u8]) -> Result<Request, Fault>
     ensures in_range { IfOk result IsInRange }
 {
     let body = json(alloc, body)?;
-    let Some(planning) = read_planning(&body) else {
-        return Err(Fault::F1);
-    };
-    let Some(bounds) = read_bounds(&body) else {
-        return Err(Fault::F1);
-    };
-    let Some(charged) = read_charged(&body) else {
-        return Err(Fault::F1);
-    };
+    let planning = read_planning(&body).ok_or(Fault::F1)?;
+    let bounds = read_bounds(&body).ok_or(Fault::F1)?;
+    let charged = read_charged(&body).ok_or(Fault::F1)?;
     let name = name(alloc, &body, "name")?;
     let members = members_of(name, planning, bounds, charged);
     Ok(Request::Catalogue(CatalogueRequest::AddProduct { members }))

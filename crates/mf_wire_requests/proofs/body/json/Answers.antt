@@ -18,5 +18,5 @@ returns-in-Ok-clause-ok c =
     let body = c.args.body.now in
     ap (λ b. cond b (read body) None) (is_utf8-from_IsUtf8 body c.in-Ok.ensures.ok.0) ∙ c.in-Ok.ensures.ok.1
 
-pub returns-else-is_memory-clause-err : goal.returns-else-is_memory-clause-err
-returns-else-is_memory-clause-err c = let none : IsUtf8 c.args.body.now → read c.args.body.now ≡ None = search rules in inr (refl, no_json c.args.body.now none)
+pub returns-in-Err-2-clause-err : goal.returns-in-Err-2-clause-err
+returns-in-Err-2-clause-err c = let none : IsUtf8 c.args.body.now → read c.args.body.now ≡ None = search rules in inr (refl, no_json c.args.body.now none)
