@@ -1,33 +1,23 @@
 //! Where a receipt was used.
 
-ghost use Rattle.std.specs.Prelude.{◌≡◌, find, option_map, OnOk, IfOk, IfErr};
+ghost use Rattle.std.specs.Prelude.{◌≡◌, find, OnOk, IfOk, IfErr};
 ghost use Rattle.mf_base.specs.declared.fault.Fault.TheVariants.{F20};
 ghost use Rattle.mf_model.specs.Institution.{Institution};
-ghost use Rattle.mf_model.specs.Store.{receipt_at, use_at};
+ghost use Rattle.mf_model.specs.Store.{receipt_at};
 ghost use Rattle.mf_store_records.specs.Rows.{is_entry};
 ghost use Rattle.mf_store_accounts.specs.Flat.{tables_of};
-ghost use Rattle.mf_store_accounts.specs.ReceiptRows.{receipt_in};
 
 use crate::store::Store;
 use mf_account::Receipt;
 use mf_base::Fault;
 use mf_model::ReceiptUse;
 use mf_office::OfficeNo;
-use mf_store_records::{EntryRow, ReceiptRow, find_receipt};
+use mf_store_records::EntryRow;
 use mf_store_values::{stored, use_from};
 use sqlite::Alter;
 
 impl<S: Alter> Store<S> {
     ghost use Rattle.mf_store.specs.Stands.{StandsFor, IsClean, Stays, IsOpen};
-
-    fn find_receipt(&mut self, office: u32, receipt: &str) -> Result<Option<ReceiptRow>, Fault>
-        ensures kept { Stays S.Store self.old self.new }
-        ensures gives_up { IfErr result (λ fault. fault ≡ F20) }
-        ensures open { IsClean S.Store self.new → OnOk result (IsOpen S.Store self.new) }
-        ensures value { IsClean S.Store self.new → (i : Institution) → StandsFor S.Store self.old i → IfOk result (λ x. x ≡ option_map (receipt_in office) (use_at office receipt.now i)) }
-    {
-        find_receipt(&mut self.connection, office, receipt)
-    }
 
     fn find_entry(&mut self, office: u32, loan: u32, seq: u32) -> Result<Option<EntryRow>, Fault>
         ensures kept { Stays S.Store self.old self.new }

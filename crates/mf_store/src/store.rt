@@ -1,13 +1,14 @@
-ghost use Rattle.std.specs.Prelude.{◌≡◌, ◌<◌, ◌≤◌, List, [], ◌∷◌, length, true, false, Some, None, IsTrue, OnOk, OnErr, IfOk, IfErr, IfSome, map, filter, find, take};
+ghost use Rattle.std.specs.Prelude.{◌≡◌, ◌<◌, ◌≤◌, List, [], ◌∷◌, length, true, false, Some, None, IsTrue, OnOk, OnErr, IfOk, IfErr, IfSome, map, filter, find, option_map, take};
 ghost use Rattle.mf_base.specs.declared.fault.Fault.TheVariants.{F20};
 ghost use Rattle.mf_base.specs.DayText.{last_entered_day};
 ghost use Rattle.sqlite.specs.Held.{state};
 ghost use Rattle.mf_store_tables.specs.Writes.{Serves};
 ghost use Rattle.mf_model.specs.Institution.{Institution, newly_made, product_in};
-ghost use Rattle.mf_model.specs.Store.{Commits, counts_at, catalogue_counts, role_of};
+ghost use Rattle.mf_model.specs.Store.{Commits, counts_at, catalogue_counts, role_of, use_at};
 ghost use Rattle.mf_model.specs.declared.commit.Commit.TheVariants.{Enter, Reverse};
 ghost use Rattle.mf_model.specs.Tree.{is_there};
 ghost use Rattle.mf_store_accounts.specs.Flat.{key_at, tables_of};
+ghost use Rattle.mf_store_accounts.specs.ReceiptRows.{receipt_in};
 ghost use Rattle.mf_store_records.specs.Rows.{loan_row, office_row, is_loan_above, is_in_range, is_instalment_in};
 ghost use Rattle.mf_arrears.specs.Line.{line_of as line_of_loans};
 ghost use Rattle.mf_store_values.specs.Arrears.{Numbered, AreAbove, AreWholeLoans, rows_of_office, aged_loans};
@@ -29,7 +30,8 @@ use mf_office::{Account, Caller, Key, OfficeNo, Role};
 use mf_store_changes::first_writes;
 use mf_store_commits::{enter, reverse, write};
 use mf_store_records::{
-    Listed, StoreWrite, Table, find_row, list_rows, loans_above, offices_within,
+    Listed, ReceiptRow, StoreWrite, Table, find_receipt, find_row, list_rows, loans_above,
+    offices_within,
 };
 use mf_store_tables::apply;
 use mf_store_values::read_line;
@@ -66,6 +68,20 @@ impl<S: Alter> Store<S> {
         ensures row { IsClean S.Store self.new → (i : Institution) → StandsFor S.Store self.old i → IfOk result (λ x. x ≡ find (T.is_at key) (T.list (tables_of i))) }
     {
         find_row(&mut self.connection, key)
+    }
+
+    /// The row of an office's receipt, if the office knows it.
+    pub(crate) fn find_receipt(
+        &mut self,
+        office: u32,
+        receipt: &str,
+    ) -> Result<Option<ReceiptRow>, Fault>
+        ensures kept { Stays S.Store self.old self.new }
+        ensures gives_up { IfErr result (λ fault. fault ≡ F20) }
+        ensures open { IsClean S.Store self.new → OnOk result (IsOpen S.Store self.new) }
+        ensures value { IsClean S.Store self.new → (i : Institution) → StandsFor S.Store self.old i → IfOk result (λ x. x ≡ option_map (receipt_in office) (use_at office receipt.now i)) }
+    {
+        find_receipt(&mut self.connection, office, receipt)
     }
 
     /// The rows with these values of the first columns.
