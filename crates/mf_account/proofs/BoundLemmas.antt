@@ -18,7 +18,7 @@ use Rattle.mf_account.specs.Account.{part_of, sum_at}
 use Rattle.mf_account.specs.Undo.{unsettle_row, unowe_row, unsettle, without_settled, without_charge, paid_by, paid_in, before_entry}
 use Rattle.mf_account.specs.Safe.{IsShaped, IsBounded}
 use Rattle.mf_account.specs.Told.{settled_amount}
-use Rattle.mf_account.proofs.GoodLemmas.{whole-changed, sum-changed}
+use Rattle.mf_account.proofs.GoodLemmas.{whole-changed, sum-changed, owed_at}
 
 whole-unsettle_row : (how : How) (p amount : ℕ) (row : Sums) → IsWhole row → IsWhole (unsettle_row how p amount row)
 whole-unsettle_row Paid p amount row is = record { owed = is.owed; paid = length-set row.paid p (get_or row.paid p 0 - amount) ∙ is.paid; waived = is.waived; written_off = is.written_off }
@@ -94,9 +94,6 @@ pub within-lowered : (rows : List Sums) (instalment p amount : ℕ) (default : S
 within-lowered rows instalment p amount default here own within =
     All-set IsRowWithin rows (instalment - 1) (unowe_row p amount (row_at rows instalment))
     (subst (λ (r : Sums). IsRowWithin (unowe_row p amount r)) (get_or_default rows (instalment - 1) default no_row here) own) within
-
-abbrev owed_at : ℕ → Sums → ℕ
-owed_at q row = get_or row.owed q 0
 
 owed-unsettle_row : (how : How) (p amount q : ℕ) (row : Sums) → owed_at q (unsettle_row how p amount row) ≤ owed_at q row + 0
 owed-unsettle_row Paid p amount q row = omega arith

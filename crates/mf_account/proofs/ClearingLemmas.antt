@@ -5,10 +5,9 @@ use Rattle.std.specs.List.{range_with_len}
 use Rattle.std.proofs.lemmas.Bool.{cases_eq, cond_both, ltb-false}
 use Rattle.std.proofs.lemmas.List.{length-set, get_or-set_same, get_or-set_other}
 use Rattle.mf_alloc.specs.declared.row.Cell.{Cell}
-use Rattle.mf_alloc.specs.declared.row.Portion.{Portion}
 use Rattle.mf_alloc.specs.Sums.{Sums, open_at, IsWhole, AreWhole}
 use Rattle.mf_alloc.specs.Rows.{no_row, row_at, changed, place_in_row, IsCell, outstanding}
-use Rattle.mf_alloc.proofs.PaymentLemmas.{same_portion}
+use Rattle.mf_alloc.proofs.PaymentLemmas.{same_cell, same_portion}
 use Rattle.mf_alloc.proofs.LeftOpen.{place_in_row-small, whole-at, IsLine, cell-at, cells-apart}
 use Rattle.mf_account.specs.declared.settled.How.{How}
 use Rattle.mf_account.specs.declared.settled.How.TheVariants.{Paid, Waived, WrittenOff}
@@ -49,11 +48,6 @@ in-here how rows cell amount there whole =
     ap (λ (x : Sums). get_or (sum_of how x) p 0) (get_or-set_same rows i (settle_row how p amount row) no_row (omega (arith, there.first, there.last)))
     ∙ ap (λ (s : List ℕ). get_or s p 0) (sum-settle_row how p amount row)
     ∙ get_or-set_same (sum_of how row) p (get_or (sum_of how row) p 0 + amount) 0 (omega (arith, size, small))
-
-same_cell : (a b : Cell) → a.instalment ≡ b.instalment → a.portion ≡ b.portion → a ≡ b
-same_cell a b i p =
-    let at : ℕ → Portion → Cell = λ x y. record { instalment = x; portion = y } in
-    ap (λ x. at x a.portion) i ∙ ap (λ y. at b.instalment y) p
 
 in-other : (how : How) (rows : List Sums) (clearing cell : Cell) (amount : ℕ) → IsCell (length rows) clearing → IsCell (length rows) cell → cell ≢ clearing → in_cell how (settle rows (part_in how clearing amount)) cell ≡ in_cell how rows cell
 in-other how rows clearing cell amount there here apart =

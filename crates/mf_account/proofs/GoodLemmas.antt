@@ -157,7 +157,7 @@ settleable-after n order place entry before line has =
     (settleable-paid cleared (shares_at_once order entry before) (shares_payable order place cleared (money_to_pay entry before) then)))
 
 -- what is owed in all of a portion: a charge raises it by its amount at most, and settling leaves it
-abbrev owed_at : ℕ → Sums → ℕ
+abbrev pub owed_at : ℕ → Sums → ℕ
 owed_at q row = get_or row.owed q 0
 
 pub sum-changed : (f : Sums → ℕ) (rows : List Sums) (instalment more : ℕ) (change : Sums → Sums) → ((row : Sums) → f (change row) ≤ f row + more) → sum_by f (changed rows instalment change) ≤ sum_by f rows + more
@@ -196,7 +196,7 @@ owed-with_settled q rows (part ∷ parts) =
     let one = sum-changed (owed_at q) rows part.cell.instalment 0 (settle_row part.how p part.amount) (owed-settle_row part.how p part.amount q) in
     omega (arith, rest, one)
 
-money_in-most : (kind : Kind) (amount : ℕ) → money_in kind amount ≤ amount
+pub money_in-most : (kind : Kind) (amount : ℕ) → money_in kind amount ≤ amount
 money_in-most Repay amount = omega arith
 money_in-most Fee amount = omega arith
 money_in-most Penalty amount = omega arith

@@ -4,6 +4,7 @@ use Rattle.std.specs.Prelude.{◌==◌, ◌&&◌, ◌||◌, not}
 use Rattle.std.specs.List.{list_all}
 use Rattle.std.proofs.lemmas.Bool.Decides.{nat_tests}
 use Rattle.std.proofs.lemmas.Bool.{cases_lt}
+use Rattle.mf_account.specs.Told.{AreNumbered}
 use Rattle.mf_account.specs.declared.entry.Entry.{Entry}
 use Rattle.mf_account.specs.Kinds.{is_seal}
 use Rattle.mf_account.specs.Standing.{is_before, entry_at}
@@ -42,9 +43,6 @@ pass_at test (x ∷ xs) (suc i) all below = pass_at test xs i (rest (test x) all
 all_pass : (test : Entry → Bool) (xs : List Entry) → ((i : ℕ) → i < length xs → test (entry_at xs i) ≡ true) → list_all test xs ≡ true
 all_pass test [] each = refl
 all_pass test (x ∷ xs) each = ap (λ b. b && list_all test xs) (each 0 (omega arith)) ∙ all_pass test xs (λ i below. each (suc i) (omega (arith, below)))
-
-abbrev AreNumbered : List Entry → Type 0
-AreNumbered entries = (i : ℕ) → i < length entries → (entry_at entries i).seq ≡ i + 1
 
 pub seals_last : (entries : List Entry) → AreNumbered entries → are_seals_last entries ≡ true → SealIsLast entries
 seals_last entries numbers all i j below_i below_j apart stands_i stands_j seal =

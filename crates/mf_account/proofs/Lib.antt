@@ -29,3 +29,4 @@ pub mod ToldLemmas
 pub mod ByDayLemmas
 mod OrderedLemmas
 mod SafeLemmas
+pub mod ReceiptLemmas

@@ -6,7 +6,7 @@ use Rattle.mf_account.specs.declared.entry.Entry.{Entry}
 use Rattle.mf_account.specs.Standing.{is_before, standing, no_entry, entry_at, with_mark}
 use Rattle.mf_account.specs.StandingLaw.{IsAmong, Precedes, Ascends, IsStandingOf}
 use Rattle.mf_account.specs.Loan.{AreEntries}
-use Rattle.mf_account.proofs.StandingIsOne.{before-asym, standing-is-one}
+use Rattle.mf_account.proofs.StandingIsOne.{before-asym, precedes-among, standing-is-one}
 use Rattle.mf_account.proofs.TailLemmas.{among-index, at-among}
 
 precedes-remove : (e : Entry) (xs : List Entry) (k : ℕ) → Precedes e xs → Precedes e (remove xs k)
@@ -27,11 +27,6 @@ among-remove e [] (suc k) among = among
 among-remove e (x ∷ xs) zero among = inr among
 among-remove e (x ∷ xs) (suc k) (inl is) = inl is
 among-remove e (x ∷ xs) (suc k) (inr later) = inr (among-remove e xs k later)
-
-precedes-among : (a x : Entry) (xs : List Entry) → Precedes a xs → IsAmong x xs → is_before a x ≡ true
-precedes-among a x [] before among = absurd among
-precedes-among a x (y ∷ ys) before (inl is) = ap (is_before a) is ∙ before.0
-precedes-among a x (y ∷ ys) before (inr later) = precedes-among a x ys before.1 later
 
 -- the one removed is none of the others
 pub removed-apart : (e : Entry) (xs : List Entry) (k : ℕ) → Ascends xs → k < length xs → e ≡ entry_at xs k → IsAmong e (remove xs k) → ⊥

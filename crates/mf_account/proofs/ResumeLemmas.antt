@@ -13,19 +13,19 @@ use Rattle.mf_account.specs.Standing.{standing, no_entry, entry_at, entries_at}
 use Rattle.mf_account.specs.Loan.{Loan, IsSound, schedule_of, orders_of, state_of_loan}
 use Rattle.mf_account.specs.Rewind.{state_before}
 use Rattle.mf_account.specs.Safe.{most_kept}
-use Rattle.mf_account.proofs.GoodLemmas.{amounts}
+use Rattle.mf_account.proofs.GoodLemmas.{amounts, money_in-most}
 use Rattle.mf_account.proofs.SoundLemmas.{good-sound, standing-amounts}
 use Rattle.mf_account.proofs.OnceLemmas.{money-after}
 use Rattle.mf_account.proofs.StandingLemmas.{at_place}
 use Rattle.mf_account.proofs.ConserveLemmas.{brought, held-sound, paid-columns}
-use Rattle.mf_account.proofs.RewindLemmas.{money_in-le, none-refunded}
+use Rattle.mf_account.proofs.RewindLemmas.{none-refunded}
 use Rattle.mf_account.proofs.TailLemmas.{refund_last-standing, rewindable-from, none-before}
 
 brought-most : (entries : List Entry) → brought entries ≤ amounts entries
 brought-most [] = omega arith
 brought-most (e ∷ entries) =
     let rest = brought-most entries in
-    let one = money_in-le e.kind e.amount in
+    let one = money_in-most e.kind e.amount in
     let left = sum_by-append (λ (x : Entry). money_in x.kind x.amount) (e ∷ []) entries in
     let right = sum_by-append (λ (x : Entry). x.amount) (e ∷ []) entries in
     omega (arith, rest, one, left, right)

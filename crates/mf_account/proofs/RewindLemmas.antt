@@ -1,6 +1,6 @@
 -- One step back along the entries.
 use Rattle.std.proofs.Common.{◌≡◌, ◌≢◌, ℕ, suc, ◌+◌, ◌-◌, ◌^◌, ◌<◌, ◌≤◌, List, [], ◌∷◌, ◌++◌, length, get_or, map, take, drop, arith, refl, ◌∙◌, ap, sym, subst, append_assoc, length-append, inl, inr}
-use Rattle.std.specs.Prelude.{sum_by, All}
+use Rattle.std.specs.Prelude.{All}
 use Rattle.std.proofs.lemmas.Bool.{cases_order}
 use Rattle.std.proofs.lemmas.List.{take_more, get_or_default, append-nil, get_or-append-add, take-take, drop-take, length-take-le, get_or-take}
 use Rattle.std.proofs.Math.ListN.{get_or-append}
@@ -15,7 +15,7 @@ use Rattle.mf_account.specs.declared.entry.Kind.{Kind}
 use Rattle.mf_account.specs.declared.entry.Kind.TheVariants.{Repay, Fee, Penalty, Waive, WriteOff, Refund}
 use Rattle.mf_account.specs.declared.settled.Settled.{Settled}
 use Rattle.mf_account.specs.Effect.{State, Part, after, parts_of}
-use Rattle.mf_account.specs.Kinds.{money_in, money_out}
+use Rattle.mf_account.specs.Kinds.{money_out}
 use Rattle.mf_account.specs.AtOnce.{money_to_pay}
 use Rattle.mf_account.specs.Account.{Orders, after_all, settled_by, numbered, part_of}
 use Rattle.mf_account.specs.Undo.{unowe_row, before_entry, paid_in, without_charge, without_settled}
@@ -33,7 +33,7 @@ use Rattle.mf_account.specs.Applicable.{IsSettleable}
 use Rattle.mf_alloc.proofs.LeftOpen.{IsLine}
 use Rattle.mf_account.proofs.EffectLemmas.{length-with_settled, length-with_charge}
 use Rattle.mf_account.specs.Safe.{IsShaped}
-use Rattle.mf_account.proofs.GoodLemmas.{still-after, settleable-after}
+use Rattle.mf_account.proofs.GoodLemmas.{still-after, settleable-after, amounts, money_in-most}
 use Rattle.mf_account.proofs.UndoLemmas.{before_entry-after, no_refund, money_out-le}
 use Rattle.mf_account.proofs.OnceLemmas.{money-after, refunded-after}
 use Rattle.mf_account.proofs.ReplayLemmas.{length-after}
@@ -99,22 +99,11 @@ overpaid-after : (order : ℕ → Cell) (entry : Entry) (before : State) → (af
 overpaid-after order entry before =
     let money = money-after order entry before in omega (arith, money)
 
-pub money_in-le : (kind : Kind) (amount : ℕ) → money_in kind amount ≤ amount
-money_in-le Repay amount = omega arith
-money_in-le Fee amount = omega arith
-money_in-le Penalty amount = omega arith
-money_in-le Waive amount = omega arith
-money_in-le WriteOff amount = omega arith
-money_in-le Refund amount = omega arith
-
-abbrev amounts : List Entry → ℕ
-amounts entries = sum_by (λ (e : Entry). e.amount) entries
-
 overpaid-below : (orders : Orders) (entries : List Entry) (from : State) → (after_all orders entries from).overpaid ≤ from.overpaid + amounts entries
 overpaid-below orders [] from = omega arith
 overpaid-below orders (entry ∷ entries) from =
     let one = overpaid-after (orders entry) entry from in
-    let brings = money_in-le entry.kind entry.amount in
+    let brings = money_in-most entry.kind entry.amount in
     let rest = overpaid-below orders entries (after (orders entry) entry from) in
     let sums = sum_by-append (λ (e : Entry). e.amount) (entry ∷ []) entries in
     omega (arith, one, brings, rest, sums)
@@ -198,7 +187,7 @@ step_back orders places from first now tail settled own i k start is back within
     let own_parts : map part_of own ≡ parts = ap (map part_of) own_is ∙ part_of-numbered entry.seq 1 parts in
     let none : past.refunded ≡ 0 = none-refunded orders earlier from is.none_refunded (λ j less. λ e. is.refund_last j (omega (arith, left_size, less)) (sym (ap (λ (x : Entry). x.kind) (read j (omega (arith, left_size, less)))) ∙ e)) in
     let money = overpaid-after order entry past in
-    let brings = money_in-le entry.kind entry.amount in
+    let brings = money_in-most entry.kind entry.amount in
     let out = money_out-le entry.kind past.overpaid in
     let under = overpaid-below orders earlier from in
     let upto = sum_by-take-le (λ (e : Entry). e.amount) tail (i + 1) in

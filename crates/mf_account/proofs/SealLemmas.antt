@@ -1,6 +1,8 @@
 -- A write-off or a refund that stands is the last of the standing entries.
-use Rattle.std.proofs.Common.{◌≡◌, ℕ, ◌+◌, ◌-◌, ◌<◌, Bool, true, false, true≢false, not, ◌&&◌, List, length, inl, inr, arith, refl, ◌∙◌, ap, sym, subst}
+use Rattle.std.proofs.Common.{◌≡◌, ℕ, ◌+◌, ◌-◌, ◌<◌, Bool, true, false, true≢false, not, ◌&&◌, List, [], ◌∷◌, Option, None, Some, length, inl, inr, arith, refl, ◌∙◌, ap, sym, subst}
 use Rattle.std.specs.List.{list_any}
+use Rattle.std.specs.Option.{MatchOption, option_map, option_map_or}
+use Rattle.std.proofs.lemmas.Option.{slice_get-get_or}
 use Rattle.std.proofs.lemmas.Bool.{cases_lt, cases_Bool, and_parts}
 use Rattle.std.proofs.lemmas.List.{get_or_default}
 use Rattle.std.proofs.lemmas.List.Folds.{list_any_at, Any-from_list_any}
@@ -8,7 +10,7 @@ use Rattle.mf_account.specs.declared.entry.Entry.{Entry}
 use Rattle.mf_account.specs.declared.entry.Kind.{Kind}
 use Rattle.mf_account.specs.declared.entry.Kind.TheVariants.{Repay, Fee, Penalty, Waive, WriteOff, Refund}
 use Rattle.mf_account.specs.Kinds.{is_seal, is_write_off}
-use Rattle.mf_account.specs.Standing.{standing, no_entry, entry_at}
+use Rattle.mf_account.specs.Standing.{standing, no_entry, entry_at, last_kind_of}
 use Rattle.mf_account.specs.StandingLaw.{IsAmong}
 use Rattle.mf_account.specs.Loan.{AreEntries}
 use Rattle.mf_account.proofs.StandingIsOne.{standing-is-one}
@@ -92,3 +94,26 @@ pub written_off-last : (n day : ℕ) (entries all : List Entry) (k : Kind) → A
 written_off-last n day entries all k are is some kind =
     ap is_write_off (sym kind) ∙ ap (λ (x : List Entry). is_write_off (entry_at x (length x - 1)).kind) is
     ∙ sym (last-standing is_write_off n day entries write_off-seals are (subst (λ (x : List Entry). 0 < length x) is some))
+
+-- what the last of the standing entries says of such kinds
+by-last : (P : Kind → Bool) (n day : ℕ) (entries : List Entry) → ((k : Kind) → P k ≡ true → is_seal k ≡ true) → AreEntries n day entries → option_map_or P (last_kind_of (standing entries)) false ≡ list_any (stands_by P) entries
+by-last P n day entries seals are = at (standing entries) refl where
+  at : (all : List Entry) → all ≡ standing entries → option_map_or P (last_kind_of all) false ≡ list_any (stands_by P) entries
+  at [] is = sym (none-standing P n day entries are (sym (ap length is)))
+  at (e ∷ es) is =
+      let last : ℕ = length (e ∷ es) - 1 in
+      let found = slice_get-get_or (e ∷ es) last no_entry (omega arith) in
+      ap (λ (o : Option Entry). option_map_or P (option_map (λ (x : Entry). x.kind) o) false) found
+      ∙ ap (λ (x : List Entry). P (entry_at x (length x - 1)).kind) is
+      ∙ sym (last-standing P n day entries seals are (subst (λ (x : List Entry). 0 < length x) is (omega arith)))
+
+-- an answer that goes by the last kind, if there is one
+pub by-kind : (P : Kind → Bool) (answer : Bool) (last : Option Kind) → MatchOption last (answer ≡ false) (λ kind. answer ≡ P kind) → answer ≡ option_map_or P last false
+by-kind P answer None is = is
+by-kind P answer (Some kind) is = is
+
+pub sealed-by-last : (n day : ℕ) (entries : List Entry) → AreEntries n day entries → option_map_or is_seal (last_kind_of (standing entries)) false ≡ list_any (stands_by is_seal) entries
+sealed-by-last n day entries are = by-last is_seal n day entries (λ _ seal. seal) are
+
+pub written_off-by-last : (n day : ℕ) (entries : List Entry) → AreEntries n day entries → option_map_or is_write_off (last_kind_of (standing entries)) false ≡ list_any (stands_by is_write_off) entries
+written_off-by-last n day entries are = by-last is_write_off n day entries write_off-seals are

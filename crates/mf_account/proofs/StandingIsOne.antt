@@ -56,7 +56,7 @@ before-other a b not_before apart =
           ]
     ]
 
-precedes-among : (a x : Entry) (xs : List Entry) → Precedes a xs → IsAmong x xs → is_before a x ≡ true
+pub precedes-among : (a x : Entry) (xs : List Entry) → Precedes a xs → IsAmong x xs → is_before a x ≡ true
 precedes-among a x [] before among = absurd among
 precedes-among a x (y ∷ ys) before (inl is) = ap (is_before a) is ∙ before.0
 precedes-among a x (y ∷ ys) before (inr later) = precedes-among a x ys before.1 later

@@ -4,13 +4,13 @@ use Rattle.mf_base.specs.Calendar.{day_of, date_of}
 use Rattle.mf_base.specs.declared.day.Freq.TheVariants.{Months}
 use Rattle.mf_catalog.specs.declared.terms.Terms.{Terms}
 use Rattle.mf_catalog.specs.declared.terms.Method.TheVariants.{EqualPrincipal}
-use Rattle.mf_catalog.specs.declared.terms.StrategyName.TheVariants.{MifosStandard}
+use Rattle.mf_catalog.specs.declared.terms.StrategyName.TheVariants.{MifosStandard, PrincipalFirst, InterestFirst}
 use Rattle.mf_schedule.specs.declared.instalment.Instalment.{Instalment}
 use Rattle.mf_schedule.specs.Fresh.{fresh_schedule}
 use Rattle.mf_alloc.specs.declared.row.Portion.{Portion}
 use Rattle.mf_alloc.specs.declared.row.Portion.TheVariants.{Penalty as PenaltyPart, Fee as FeePart, Interest, Principal}
 use Rattle.mf_alloc.specs.Sums.{Sums, open_at}
-use Rattle.mf_alloc.specs.Order.{by_instalment, standard, principal_first, interest_first, due_first}
+use Rattle.mf_alloc.specs.Order.{by_instalment, standard, portion_by, due_first}
 use Rattle.mf_account.specs.declared.entry.Entry.{Entry}
 use Rattle.mf_account.specs.declared.entry.Kind.{Kind}
 use Rattle.mf_account.specs.declared.entry.Kind.TheVariants.{Repay, Fee, Penalty, Waive, WriteOff, Refund}
@@ -191,7 +191,7 @@ written_off_after_status : status_of written_off_after (state_of usual schedule 
 written_off_after_status = refl
 
 -- the two repayments by another strategy
-other_order : left (state_of (λ _. by_instalment principal_first) schedule two_repayments) ≡ 0 ∷ 0 ∷ 333 ∷ 31667 ∷ []
+other_order : left (state_of (λ _. by_instalment (portion_by PrincipalFirst)) schedule two_repayments) ≡ 0 ∷ 0 ∷ 333 ∷ 31667 ∷ []
 other_order = refl
 
 -- a penalty, then a repayment that covers it in part, by each strategy
@@ -202,10 +202,10 @@ penalty_standard : settled_of usual schedule penalty_then_paid ≡
     part 2 1 1 PenaltyPart Paid 3433 ∷ part 2 2 1 Interest Paid 1000 ∷ part 2 3 1 Principal Paid 567 ∷ []
 penalty_standard = refl
 
-penalty_principal_first : settled_of (λ _. by_instalment principal_first) schedule penalty_then_paid ≡ part 2 1 1 Principal Paid 5000 ∷ []
+penalty_principal_first : settled_of (λ _. by_instalment (portion_by PrincipalFirst)) schedule penalty_then_paid ≡ part 2 1 1 Principal Paid 5000 ∷ []
 penalty_principal_first = refl
 
-penalty_interest_first : settled_of (λ _. by_instalment interest_first) schedule penalty_then_paid ≡
+penalty_interest_first : settled_of (λ _. by_instalment (portion_by InterestFirst)) schedule penalty_then_paid ≡
     part 2 1 1 Interest Paid 1000 ∷ part 2 2 1 Principal Paid 4000 ∷ []
 penalty_interest_first = refl
 

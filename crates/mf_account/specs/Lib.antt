@@ -16,3 +16,4 @@ pub mod Balance
 pub mod Undo
 pub mod Rewind
 pub mod ClearingLaw
+pub mod Receipts

@@ -1,6 +1,7 @@
 -- The standing entries of a loan, in order.
-use Rattle.std.specs.Prelude.{◌≡◌, ◌≢◌, ℕ, ◌<◌, length, slice_index, Bool, ◌&&◌, ◌||◌, ◌==◌, nat_lt, if◌then◌else◌, List, [], ◌∷◌, fold, map, slice_index_or, slice_set, None, false, ◌+◌}
+use Rattle.std.specs.Prelude.{◌≡◌, ◌≢◌, ℕ, ◌<◌, ◌-◌, Option, option_map, slice_get, length, slice_index, Bool, ◌&&◌, ◌||◌, ◌==◌, nat_lt, if◌then◌else◌, List, [], ◌∷◌, fold, map, slice_index_or, slice_set, None, false, ◌+◌}
 use Rattle.mf_alloc.specs.declared.row.Portion.TheVariants.{Principal}
+use Rattle.mf_account.specs.declared.entry.Kind.{Kind}
 use Rattle.mf_account.specs.declared.entry.Kind.TheVariants.{Repay}
 use Rattle.mf_account.specs.declared.entry.Entry.{Entry}
 use Rattle.mf_account.specs.declared.replay.Place.{Place}
@@ -42,6 +43,10 @@ entries_at entries places = map (λ i. slice_index_or entries i no_entry) places
 
 abbrev pub entry_at : List Entry → ℕ → Entry
 entry_at entries i = slice_index_or entries i no_entry
+
+-- the kind of the last of some entries
+abbrev pub last_kind_of : List Entry → Option Kind
+last_kind_of entries = option_map (λ (e : Entry). e.kind) (slice_get entries (length entries - 1))
 
 -- an entry marked as reversed, or as not
 abbrev pub with_mark : List Entry → ℕ → Bool → List Entry

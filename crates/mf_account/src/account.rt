@@ -163,7 +163,9 @@ impl LoanAccount {
     ) -> Result<Option<LoanAccount>, Fault>
         requires whole { AreWhole rows.items }
         requires apart { AreWithin rows.items }
-        ensures account { IsSound (record { terms = terms; principal = principal; periods = periods; day = day; entries = entries.items }) → AreKeptOf (record { terms = terms; principal = principal; periods = periods; day = day; entries = entries.items }) rows.items settled.items → IfOk result (λ found. found ≡ Some (replayed (record { terms = terms; principal = principal; periods = periods; day = day; entries = entries.items }))) }
+        ensures account { IsSound (record { terms = terms; principal = principal; periods = periods; day = day; entries = entries.items })
+            → AreKeptOf (record { terms = terms; principal = principal; periods = periods; day = day; entries = entries.items }) rows.items settled.items
+            → IfOk result (λ found. found ≡ Some (replayed (record { terms = terms; principal = principal; periods = periods; day = day; entries = entries.items }))) }
         ensures only { IsOkUnless result Fault.F20 }
     {
         if is_loan_within_limits(&terms, principal, periods)
@@ -194,7 +196,8 @@ impl LoanAccount {
         requires entries { AreEntries periods day entries.items }
         requires whole { AreWhole rows.items }
         requires apart { AreWithin rows.items }
-        ensures account { AreKeptOf (record { terms = terms; principal = principal; periods = periods; day = day; entries = entries.items }) rows.items settled.items → IfOk result (λ found. found ≡ Some (replayed (record { terms = terms; principal = principal; periods = periods; day = day; entries = entries.items }))) }
+        ensures account { AreKeptOf (record { terms = terms; principal = principal; periods = periods; day = day; entries = entries.items }) rows.items settled.items
+            → IfOk result (λ found. found ≡ Some (replayed (record { terms = terms; principal = principal; periods = periods; day = day; entries = entries.items }))) }
         ensures only { IsOkUnless result Fault.F20 }
     {
         if rows.len() != periods as usize {
@@ -290,7 +293,8 @@ impl LoanAccount {
         requires stands { entry.now.reversed ≡ false }
         requires within { place ≤ length (standing self.now.loan.entries) }
         requires place { placed entry.now (standing self.now.loan.entries) ≡ insert (standing self.now.loan.entries) place entry.now }
-        ensures redone { IsReplayed self.now → IfOk result (λ r. IsRedone self.now.loan (record self.now.loan { entries = self.now.loan.entries ++ entry.now ∷ [] }) r.0 r.1 r.2.items) }
+        ensures redone { IsReplayed self.now
+            → IfOk result (λ r. IsRedone self.now.loan (record self.now.loan { entries = self.now.loan.entries ++ entry.now ∷ [] }) r.0 r.1 r.2.items) }
         ensures kept { IfOk result (λ r. r.1 ≤ length self.now.settled) }
         ensures safe { IfOk result (λ r. IsSafe self.now.loan.periods (length self.now.loan.entries + 1) r.0 (take r.1 self.now.settled ++ r.2.items)) }
         ensures only { IsOkUnless result Fault.F20 }
@@ -327,7 +331,9 @@ impl LoanAccount {
     ) -> Result<Change, Fault>
         requires size { length book.now.rows ≡ self.now.loan.periods }
         requires within { kept ≤ length self.now.settled }
-        ensures change { IsReplayed self.now → (new : Loan) → IsSound new → new.periods ≡ self.now.loan.periods → length self.now.loan.entries ≤ length new.entries → IsRedone self.now.loan new book.now kept parts.now → IfOk result (IsChange self.now.loan new) }
+        ensures change { IsReplayed self.now → (new : Loan) → IsSound new → new.periods ≡ self.now.loan.periods
+            → length self.now.loan.entries ≤ length new.entries → IsRedone self.now.loan new book.now kept parts.now
+            → IfOk result (IsChange self.now.loan new) }
         ensures only { IsOkUnless result Fault.F20 }
     {
         let before = &self.settled[kept..];
@@ -340,7 +346,8 @@ impl LoanAccount {
         requires place { place ≤ length (standing self.now.loan.entries) }
         ensures within { IfOk result (λ both. both.1 ≤ length self.now.settled) }
         ensures bounded { IfOk result (λ both. IsBounded self.now.loan.periods (2 * most_kept) both.0) }
-        ensures back { IsReplayed self.now → IfOk result (λ both. (both.0 ≡ state_before self.now.loan place) × (take both.1 (settled_of_loan self.now.loan) ≡ settled_upto self.now.loan place)) }
+        ensures back { IsReplayed self.now
+            → IfOk result (λ both. (both.0 ≡ state_before self.now.loan place) × (take both.1 (settled_of_loan self.now.loan) ≡ settled_upto self.now.loan place)) }
         ensures only { IsOkUnless result Fault.F20 }
     {
         let mut book = self.book.copied(alloc)?;
@@ -437,7 +444,9 @@ impl LoanAccount {
         place: usize,
     ) -> Result<(Book, usize, Vec<Settled>), Fault>
         requires within { place < length (standing self.now.loan.entries) }
-        ensures redone { IsReplayed self.now → (at : ℕ) → at < length self.now.loan.entries → entry_at (standing self.now.loan.entries) place ≡ entry_at self.now.loan.entries at → IfOk result (λ r. IsRedone self.now.loan (record self.now.loan { entries = with_mark self.now.loan.entries at true }) r.0 r.1 r.2.items) }
+        ensures redone { IsReplayed self.now → (at : ℕ) → at < length self.now.loan.entries
+            → entry_at (standing self.now.loan.entries) place ≡ entry_at self.now.loan.entries at
+            → IfOk result (λ r. IsRedone self.now.loan (record self.now.loan { entries = with_mark self.now.loan.entries at true }) r.0 r.1 r.2.items) }
         ensures kept { IfOk result (λ r. r.1 ≤ length self.now.settled) }
         ensures safe { IfOk result (λ r. IsSafe self.now.loan.periods (length self.now.loan.entries) r.0 (take r.1 self.now.settled ++ r.2.items)) }
         ensures only { IsOkUnless result Fault.F20 }
@@ -534,7 +543,8 @@ impl LoanAccount {
         ensures repaid { IsReplayed self.now → sum result.paid + result.overpaid + result.refunded ≡ repaid self.now.loan.entries }
         ensures principal { IsReplayed self.now → slice_index result.paid 3 + slice_index result.written_off 3 + slice_index result.outstanding 3 ≡ self.now.loan.principal }
         ensures apart { IsReplayed self.now → 0 < result.overpaid → sum result.outstanding ≡ 0 }
-        ensures whole { (p : ℕ) → p < 4 → slice_index result.paid p + slice_index result.waived p + slice_index result.written_off p + slice_index result.outstanding p ≡ slice_index result.owed p }
+        ensures whole { (p : ℕ) → p < 4
+            → slice_index result.paid p + slice_index result.waived p + slice_index result.written_off p + slice_index result.outstanding p ≡ slice_index result.owed p }
     {
         self.sums()
     }

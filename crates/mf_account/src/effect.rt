@@ -10,7 +10,7 @@ ghost use Rattle.mf_account.specs.Applicable.{HasRow, HasCell, IsSettleable};
 
 use crate::entry::{Entry, Kind};
 use crate::settled::{How, Settled};
-use mf_alloc::{Cell, Row, Share, Strategy, due_by, outstanding};
+use mf_alloc::{Cell, Portion, Row, Share, Strategy, due_by, outstanding};
 use mf_base::Fault;
 use std::alloc::Global;
 
@@ -22,11 +22,11 @@ pub(crate) fn charge(rows: &mut [Row], entry: &Entry)
     match entry.kind {
         Kind::Fee => {
             let row = &mut rows[(entry.instalment - 1) as usize];
-            row.owed[1] += entry.amount;
+            row.owed[Portion::Fee.index()] += entry.amount;
         }
         Kind::Penalty => {
             let row = &mut rows[(entry.instalment - 1) as usize];
-            row.owed[0] += entry.amount;
+            row.owed[Portion::Penalty.index()] += entry.amount;
         }
         Kind::Repay | Kind::Waive | Kind::WriteOff | Kind::Refund => {}
     }

@@ -23,5 +23,5 @@ pub use account::LoanAccount;
 pub use balances::Balances;
 pub use change::Change;
 pub use entry::{Entry, Kind};
-pub use receipt::Receipt;
+pub use receipt::{Receipt, is_receipt};
 pub use settled::{Book, How, Settled};

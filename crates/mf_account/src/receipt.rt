@@ -1,49 +1,28 @@
-use std::marker::Model;
+ghost use Rattle.std.specs.Prelude.{◌≡◌};
+ghost use Rattle.std.specs.List.{list_all};
+ghost use Rattle.mf_account.specs.Receipts.{is_printable as is_printable_byte, is_receipt as is_receipt_text};
 
-/// The receipt of a repayment. Contracts see its bytes.
-pub struct Receipt {
-    text: String,
+use mf_base::Text;
+
+/// The receipt of a repayment.
+pub type Receipt = Text;
+
+/// Whether a byte is a printable character of ASCII, and no space.
+fn is_printable(byte: u8) -> bool
+    ensures { result ≡ is_printable_byte byte }
+{
+    33 <= byte && byte <= 126
 }
 
-// By hand, since a derived drop is proved again in each function that may drop one.
-impl Drop for Receipt {
-    fn drop(self) {
-        let Receipt { text: _ } = self;
-    }
+fn are_printable(bytes: &[u8]) -> bool
+    ensures { result ≡ list_all is_printable_byte bytes.now }
+{
+    bytes.iter().all(|byte| is_printable(*byte))
 }
 
-impl Model for Receipt {
-    ghost use Rattle.std.specs.Prelude.{ℕ, List};
-    ghost use Rattle.std.specs.String.{string_bytes};
-
-    ghost Value = { List ℕ };
-
-    ghost view = { λ receipt. string_bytes receipt.text };
-}
-
-impl Receipt {
-    ghost use Rattle.std.specs.Prelude.{◌≡◌};
-    ghost use Rattle.std.specs.String.{string_bytes};
-
-    /// The receipt that a text is.
-    pub fn new(text: String) -> Receipt
-        ensures { result ≡ string_bytes text }
-    {
-        Receipt { text }
-    }
-
-    /// The receipt as a text.
-    pub fn as_str(&self) -> &str
-        ensures { result.now ≡ self.now }
-    {
-        self.text.as_str()
-    }
-
-    /// Gives the text back.
-    pub fn into_text(self) -> String
-        ensures { string_bytes result ≡ self }
-    {
-        let Receipt { text: whole } = self;
-        whole
-    }
+/// Whether a text is a receipt: 1 to 40 printable characters of ASCII, no space among them.
+pub fn is_receipt(text: &[u8]) -> bool
+    ensures { result ≡ is_receipt_text text.now }
+{
+    1 <= text.len() && text.len() <= 40 && are_printable(text)
 }

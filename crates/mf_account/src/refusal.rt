@@ -1,5 +1,5 @@
 ghost use Rattle.std.specs.Prelude.{◌≡◌, ℕ, ◌-◌, ◌<◌, ◌≤◌, ◌&&◌, not, false, IsTrue, IfNone, length, is_some, All};
-ghost use Rattle.mf_account.specs.Standing.{entry_at, entries_at, standing};
+ghost use Rattle.mf_account.specs.Standing.{entry_at, entries_at, last_kind_of, standing};
 ghost use Rattle.mf_alloc.specs.Rows.{row_at};
 ghost use Rattle.mf_account.specs.Applicable.{HasInstalment};
 ghost use Rattle.mf_account.specs.Loan.{Loan, AreEntries, IsSound, state_of_loan};
@@ -12,7 +12,7 @@ ghost use Rattle.mf_account.specs.Refusals.{is_sealed as is_sealed_by, admits as
 
 use crate::entry::{Entry, Kind};
 use crate::status::{ACTIVE, CLOSED, OVERPAID, WRITTEN_OFF};
-use mf_alloc::{Cell, Row, outstanding};
+use mf_alloc::{Cell, Portion, Row, outstanding};
 use mf_base::{Day, Fault};
 use mf_catalog::GREATEST_AMOUNT;
 
@@ -23,6 +23,16 @@ fn is_write_off(kind: Kind) -> bool
     matches!(kind, Kind::WriteOff)
 }
 
+/// The kind of the last of the standing entries, whose places are given in their order.
+fn last_kind(entries: &[Entry], order: &[usize]) -> Option<Kind>
+    requires within { All (λ at. at < length entries.now) order.now }
+    requires order { entries_at entries.now order.now ≡ standing entries.now }
+    ensures { result ≡ last_kind_of (standing entries.now) }
+{
+    let last = order.last()?;
+    Some(entries[*last].kind)
+}
+
 /// Whether a write-off stands. It is then the last of the standing entries, whose places are given in their order.
 fn has_write_off(entries: &[Entry], order: &[usize]) -> bool
     requires within { All (λ at. at < length entries.now) order.now }
@@ -30,11 +40,7 @@ fn has_write_off(entries: &[Entry], order: &[usize]) -> bool
     requires entries { (n : ℕ) × (day : ℕ) × AreEntries n day entries.now }
     ensures { result ≡ list_any (λ (e : EntryRecord). not e.reversed && is_write_off_kind e.kind) entries.now }
 {
-    if order.len() == 0 {
-        return false;
-    }
-    let last = &entries[order[order.len() - 1]];
-    is_write_off(last.kind)
+    last_kind(entries, order).is_some_and(is_write_off)
 }
 
 /// Whether anything is outstanding.
@@ -71,11 +77,7 @@ pub(crate) fn is_sealed(entries: &[Entry], order: &[usize]) -> bool
     requires entries { (n : ℕ) × (day : ℕ) × AreEntries n day entries.now }
     ensures { result ≡ is_sealed_by entries.now }
 {
-    if order.len() == 0 {
-        return false;
-    }
-    let last = &entries[order[order.len() - 1]];
-    last.kind.is_seal()
+    last_kind(entries, order).is_some_and(Kind::is_seal)
 }
 
 /// Whether a status admits entries of a kind.
@@ -109,14 +111,16 @@ pub(crate) fn is_there(n: usize, number: u32) -> bool
 /// Whether a penalty stands on the instalment of a row. The row then owes penalties, and only then: what it owes of them
 /// is what the standing ones come to, each of a cent or more.
 fn has_penalty(row: &Row) -> bool
-    ensures { (loan : Loan) (instalment : ℕ) → IsSound loan → 1 ≤ instalment → row.now ≡ row_at (state_of_loan loan).rows instalment → result ≡ has_penalty_on loan.entries instalment }
+    ensures { (loan : Loan) (instalment : ℕ) → IsSound loan → 1 ≤ instalment → row.now ≡ row_at (state_of_loan loan).rows instalment
+        → result ≡ has_penalty_on loan.entries instalment }
 {
-    row.owed[0] > 0
+    row.owed[Portion::Penalty.index()] > 0
 }
 
 /// Whether an instalment that is there does not allow a penalty.
 fn forbids_penalty(charged: bool, row: &Row, business_day: Day) -> bool
-    ensures { (loan : Loan) (instalment : ℕ) → IsSound loan → 1 ≤ instalment → row.now ≡ row_at (state_of_loan loan).rows instalment → result ≡ forbids_penalty_at charged row.now loan.entries instalment business_day }
+    ensures { (loan : Loan) (instalment : ℕ) → IsSound loan → 1 ≤ instalment → row.now ≡ row_at (state_of_loan loan).rows instalment
+        → result ≡ forbids_penalty_at charged row.now loan.entries instalment business_day }
 {
     !charged || (business_day <= row.due || (!row.is_open() || has_penalty(row)))
 }
@@ -125,7 +129,8 @@ fn forbids_penalty(charged: bool, row: &Row, business_day: Day) -> bool
 /// charge.
 pub(crate) fn is_forbidden(charged: bool, rows: &[Row], entry: &Entry, business_day: Day) -> bool
     ensures there { result ≡ false → HasInstalment entry.now.kind entry.now (length rows.now) }
-    ensures value { (loan : Loan) → IsSound loan → rows.now ≡ (state_of_loan loan).rows → result ≡ is_forbidden_there entry.now.kind charged rows.now loan.entries entry.now business_day }
+    ensures value { (loan : Loan) → IsSound loan → rows.now ≡ (state_of_loan loan).rows
+        → result ≡ is_forbidden_there entry.now.kind charged rows.now loan.entries entry.now business_day }
 {
     match entry.kind {
         Kind::Repay | Kind::WriteOff | Kind::Refund => false,

@@ -167,7 +167,9 @@ fn sorted_parts(
 ) -> Result<Vec<Settled>, Fault>
     requires within { All (λ at. at < entries) order.now }
     requires numbers { AreNumberedTo entries settled.now }
-    ensures loan { (loan : Loan) → IsSound loan → length loan.entries ≡ entries → entries_at loan.entries order.now ≡ standing loan.entries → ((seq : ℕ) → settled_in seq settled.now ≡ settled_in seq (settled_of_loan loan)) → IfOk result (λ sorted. sorted.items ≡ settled_of_loan loan) }
+    ensures loan { (loan : Loan) → IsSound loan → length loan.entries ≡ entries → entries_at loan.entries order.now ≡ standing loan.entries
+        → ((seq : ℕ) → settled_in seq settled.now ≡ settled_in seq (settled_of_loan loan))
+        → IfOk result (λ sorted. sorted.items ≡ settled_of_loan loan) }
     ensures only { IsOkUnless result Fault.F20 }
 {
     let places = places_in(alloc, order, entries)?;
@@ -187,8 +189,12 @@ pub(crate) fn in_order(
 ) -> Result<Option<Vec<Settled>>, Fault>
     requires within { All (λ at. at < entries) order.now }
     ensures placed { IfOk result (λ found. IfSome found (λ parts. ArePlaced instalments entries parts.items)) }
-    ensures loan { (loan : Loan) → IsSound loan → length loan.entries ≡ entries → entries_at loan.entries order.now ≡ standing loan.entries → ((seq : ℕ) → settled_in seq settled.now ≡ settled_in seq (settled_of_loan loan)) → IfOk result (λ found. IfSome found (λ parts. parts.items ≡ settled_of_loan loan)) }
-    ensures some { (loan : Loan) → IsSound loan → length loan.entries ≡ entries → loan.periods ≡ instalments → entries_at loan.entries order.now ≡ standing loan.entries → ((seq : ℕ) → settled_in seq settled.now ≡ settled_in seq (settled_of_loan loan)) → IfOk result (λ found. found ≢ None) }
+    ensures loan { (loan : Loan) → IsSound loan → length loan.entries ≡ entries → entries_at loan.entries order.now ≡ standing loan.entries
+        → ((seq : ℕ) → settled_in seq settled.now ≡ settled_in seq (settled_of_loan loan))
+        → IfOk result (λ found. IfSome found (λ parts. parts.items ≡ settled_of_loan loan)) }
+    ensures some { (loan : Loan) → IsSound loan → length loan.entries ≡ entries → loan.periods ≡ instalments
+        → entries_at loan.entries order.now ≡ standing loan.entries → ((seq : ℕ) → settled_in seq settled.now ≡ settled_in seq (settled_of_loan loan))
+        → IfOk result (λ found. found ≢ None) }
     ensures only { IsOkUnless result Fault.F20 }
 {
     if !are_numbered_to(settled, entries) {

@@ -182,8 +182,11 @@ pub(crate) fn rewind_to(
     requires money { book.old.overpaid + book.old.refunded + settled_amount settled.now < 2 ^ 64 }
     ensures within { IfSome result (λ kept. kept ≤ length settled.now) }
     ensures bounded { (n most : ℕ) → IsBounded n most book.old → IfSome result (λ kept. IsBounded n (most + settled_amount settled.now) book.new) }
-    ensures back { (orders : Orders) (places : EntryRecord → CellRecord → ℕ) (from : State) → IsRewindable orders places from (entries_at entries.now order.now) settled.now book.old → IfSome result (λ kept. IsBack orders from (entries_at entries.now order.now) settled.now place kept book.new) }
-    ensures some { (orders : Orders) (places : EntryRecord → CellRecord → ℕ) (from : State) → IsRewindable orders places from (entries_at entries.now order.now) settled.now book.old → result ≢ None }
+    ensures back { (orders : Orders) (places : EntryRecord → CellRecord → ℕ) (from : State)
+        → IsRewindable orders places from (entries_at entries.now order.now) settled.now book.old
+        → IfSome result (λ kept. IsBack orders from (entries_at entries.now order.now) settled.now place kept book.new) }
+    ensures some { (orders : Orders) (places : EntryRecord → CellRecord → ℕ) (from : State)
+        → IsRewindable orders places from (entries_at entries.now order.now) settled.now book.old → result ≢ None }
 {
     let mut k = settled.len();
     let mut i = order.len();

@@ -4,13 +4,12 @@ use Rattle.std.specs.List.{range_with_len}
 use Rattle.std.proofs.lemmas.Bool.{cases_eq}
 use Rattle.std.proofs.lemmas.List.{get_or-set_same, get_or-set_other}
 use Rattle.mf_alloc.specs.declared.row.Cell.{Cell}
-use Rattle.mf_alloc.specs.declared.row.Portion.{Portion}
 use Rattle.mf_alloc.specs.declared.row.Share.{Share}
 use Rattle.mf_alloc.specs.Sums.{Sums, IsWhole, AreWhole}
 use Rattle.mf_alloc.specs.Rows.{no_row, changed, pay_row, pay_into, with_paid, place_in_row, IsCell}
 use Rattle.mf_alloc.specs.Payment.{shares_of}
 use Rattle.mf_alloc.specs.PaymentLaw.{paid_in_cell, but_paid, PaidByCells}
-use Rattle.mf_alloc.proofs.PaymentLemmas.{same_portion}
+use Rattle.mf_alloc.proofs.PaymentLemmas.{same_cell, same_portion}
 use Rattle.mf_alloc.proofs.TwoPayments.{share_in, shares_by}
 use Rattle.mf_alloc.proofs.LeftOpen.{place_in_row-small, whole-at, IsLine, cell-at, line-pay_into, cells-apart, amounts_of, rows_paid-by}
 
@@ -23,11 +22,6 @@ paid-pay_into rows cell amount there whole =
     let small : p < 4 = place_in_row-small cell.portion in
     ap (λ (x : Sums). get_or x.paid p 0) (get_or-set_same rows i (pay_row p amount row) no_row (omega (arith, there.first, there.last)))
     ∙ get_or-set_same row.paid p (get_or row.paid p 0 + amount) 0 (omega (arith, is.paid, small))
-
-same_cell : (a b : Cell) → a.instalment ≡ b.instalment → a.portion ≡ b.portion → a ≡ b
-same_cell a b i p =
-    let at : ℕ → Portion → Cell = λ x y. record { instalment = x; portion = y } in
-    ap (λ x. at x a.portion) i ∙ ap (λ y. at b.instalment y) p
 
 paid-other : (rows : List Sums) (paying cell : Cell) (amount : ℕ) → IsCell (length rows) paying → IsCell (length rows) cell → cell ≢ paying → paid_in_cell (pay_into rows (share_in paying amount)) cell ≡ paid_in_cell rows cell
 paid-other rows paying cell amount there here apart =

@@ -86,6 +86,11 @@ without_paid-with_paid rows [] = refl
 without_paid-with_paid rows (share ∷ shares) =
     ap (λ x. take_out x share) (without_paid-with_paid (pay_into rows share) shares) ∙ take_out-pay_into rows share
 
+pub same_cell : (a b : Cell) → a.instalment ≡ b.instalment → a.portion ≡ b.portion → a ≡ b
+same_cell a b i p =
+    let at : ℕ → Portion → Cell = λ x y. record { instalment = x; portion = y } in
+    ap (λ x. at x a.portion) i ∙ ap (λ y. at b.instalment y) p
+
 -- a portion is told by its place
 pub same_portion : (a b : Portion) → place_in_row a ≡ place_in_row b → a ≡ b
 same_portion a b same = back a ∙ ap standard same ∙ sym (back b) where
@@ -108,7 +113,7 @@ outstanding-changed rows changing cell change there here apart keeps =
     let q : ℕ = place_in_row cell.portion in
     elim (cases_eq cell.instalment changing.instalment) [
       | inl same ↦
-          let other : q ≢ place_in_row changing.portion = λ e. apart (same_cell same (same_portion cell.portion changing.portion e)) in
+          let other : q ≢ place_in_row changing.portion = λ e. apart (same_cell cell changing same (same_portion cell.portion changing.portion e)) in
           let at : j ≡ i = omega (arith, same) in
           let read : get_or (changed rows changing.instalment change) j no_row ≡ change (get_or rows j no_row) =
           ap (λ x. get_or (changed rows changing.instalment change) x no_row) at
@@ -118,11 +123,7 @@ outstanding-changed rows changing cell change there here apart keeps =
       | inr differ ↦
           let other : j ≢ i = λ e. differ (omega (arith, there.first, here.first, e)) in
           ap (λ x. open_at x q) (get_or-set_other rows i j (change (get_or rows i no_row)) no_row other)
-    ] where
-      same_cell : {a b : Cell} → a.instalment ≡ b.instalment → a.portion ≡ b.portion → a ≡ b
-      same_cell {a} {b} i p =
-          let at : ℕ → Portion → Cell = λ x y. record { instalment = x; portion = y } in
-          ap (λ x. at x a.portion) i ∙ ap (λ y. at b.instalment y) p
+    ]
 
 -- paying into one cell
 pub outstanding-pay_into : (rows : List Row) (share : Share) (cell : Cell) → IsCell (length rows) share.cell → IsCell (length rows) cell → cell ≢ share.cell → outstanding (pay_into rows share) cell ≡ outstanding rows cell

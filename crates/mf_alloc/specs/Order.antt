@@ -1,9 +1,10 @@
 -- The orders of the named strategies at a day. Three go instalment after instalment, each with its portions in one order;
 -- the fourth takes what is due first.
-use Rattle.std.specs.Prelude.{ℕ, ◌+◌, ◌-◌, ◌*◌, ◌/◌, ◌%◌, ◌==◌, nat_le, nat_lt, if◌then◌else◌, List, length, map, count_by}
+use Rattle.std.specs.Prelude.{ℕ, Bool, ◌+◌, ◌-◌, ◌*◌, ◌/◌, ◌%◌, ◌==◌, nat_le, nat_lt, if◌then◌else◌, List, length, map, count_by}
 use Rattle.mf_alloc.specs.declared.row.Portion.{Portion}
 use Rattle.mf_alloc.specs.declared.row.Portion.TheVariants.{Penalty, Fee, Interest, Principal}
 use Rattle.mf_alloc.specs.declared.row.Cell.{Cell}
+use Rattle.mf_alloc.specs.Rows.{place_in_row}
 use Rattle.mf_alloc.specs.Sums.{Sums}
 use Rattle.mf_catalog.specs.declared.terms.StrategyName.{StrategyName}
 use Rattle.mf_catalog.specs.declared.terms.StrategyName.TheVariants.{MifosStandard, PrincipalFirst, InterestFirst, DueFirst}
@@ -15,37 +16,28 @@ pick a b c d k = if k == 0 then a else (if k == 1 then b else (if k == 2 then c 
 abbrev pub standard : ℕ → Portion
 standard = pick Penalty Fee Interest Principal
 
-abbrev pub principal_first : ℕ → Portion
-principal_first = pick Principal Interest Penalty Fee
+-- the order in which a strategy takes the portions of an instalment
+abbrev pub portion_by : StrategyName → ℕ → Portion
+portion_by MifosStandard = standard
+portion_by PrincipalFirst = pick Principal Interest Penalty Fee
+portion_by InterestFirst = pick Interest Principal Penalty Fee
+portion_by DueFirst = standard
 
-abbrev pub interest_first : ℕ → Portion
-interest_first = pick Interest Principal Penalty Fee
+abbrev pub is_same : Portion → Portion → Bool
+is_same a b = place_in_row a == place_in_row b
 
--- the cell at place k
+-- the place of a portion in an order: the first at which it stands
+abbrev pub place_among : (ℕ → Portion) → Portion → ℕ
+place_among portions p =
+    if is_same p (portions 0) then 0 else (if is_same p (portions 1) then 1 else (if is_same p (portions 2) then 2 else 3))
+
+-- instalment after instalment: the cell at place k
 abbrev pub by_instalment : (ℕ → Portion) → ℕ → Cell
 by_instalment portions k = record { instalment = k / 4 + 1; portion = portions (k % 4) }
 
 -- the place of a cell, by the place of its portion
 abbrev pub place_by_instalment : (Portion → ℕ) → Cell → ℕ
 place_by_instalment place cell = 4 * (cell.instalment - 1) + place cell.portion
-
-abbrev pub standard_place : Portion → ℕ
-standard_place Penalty = 0
-standard_place Fee = 1
-standard_place Interest = 2
-standard_place Principal = 3
-
-abbrev pub principal_first_place : Portion → ℕ
-principal_first_place Principal = 0
-principal_first_place Interest = 1
-principal_first_place Penalty = 2
-principal_first_place Fee = 3
-
-abbrev pub interest_first_place : Portion → ℕ
-interest_first_place Interest = 0
-interest_first_place Principal = 1
-interest_first_place Penalty = 2
-interest_first_place Fee = 3
 
 -- due first: over the instalments from 1 to `due`, their penalties, then their fees, their interest and their principal;
 -- then each later instalment with its four portions
@@ -55,20 +47,20 @@ due_first due k =
 
 abbrev pub due_first_place : ℕ → Cell → ℕ
 due_first_place due cell =
-    if nat_le cell.instalment due then standard_place cell.portion * due + (cell.instalment - 1)
-    else place_by_instalment standard_place cell
+    if nat_le cell.instalment due then place_among standard cell.portion * due + (cell.instalment - 1)
+    else place_by_instalment (place_among standard) cell
 
 -- the order that a strategy's name stands for, where so many instalments are due
 abbrev pub cell_by : StrategyName → ℕ → ℕ → Cell
-cell_by MifosStandard due = by_instalment standard
-cell_by PrincipalFirst due = by_instalment principal_first
-cell_by InterestFirst due = by_instalment interest_first
+cell_by MifosStandard due = by_instalment (portion_by MifosStandard)
+cell_by PrincipalFirst due = by_instalment (portion_by PrincipalFirst)
+cell_by InterestFirst due = by_instalment (portion_by InterestFirst)
 cell_by DueFirst due = due_first due
 
 abbrev pub place_by : StrategyName → ℕ → Cell → ℕ
-place_by MifosStandard due = place_by_instalment standard_place
-place_by PrincipalFirst due = place_by_instalment principal_first_place
-place_by InterestFirst due = place_by_instalment interest_first_place
+place_by MifosStandard due = place_by_instalment (place_among (portion_by MifosStandard))
+place_by PrincipalFirst due = place_by_instalment (place_among (portion_by PrincipalFirst))
+place_by InterestFirst due = place_by_instalment (place_among (portion_by InterestFirst))
 place_by DueFirst due = due_first_place due
 
 abbrev pub dues_of : List Sums → List ℕ

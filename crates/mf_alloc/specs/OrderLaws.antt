@@ -9,7 +9,7 @@ use Rattle.mf_alloc.specs.declared.row.Portion.TheVariants.{Penalty, Fee, Intere
 use Rattle.mf_alloc.specs.Rows.{IsCell}
 use Rattle.mf_catalog.specs.declared.terms.StrategyName.{StrategyName}
 use Rattle.mf_catalog.specs.declared.terms.StrategyName.TheVariants.{MifosStandard, PrincipalFirst, InterestFirst, DueFirst}
-use Rattle.mf_alloc.specs.Order.{cell_by, place_by, due_first, due_first_place, by_instalment, place_by_instalment, standard, standard_place, principal_first, principal_first_place, interest_first, interest_first_place}
+use Rattle.mf_alloc.specs.Order.{cell_by, place_by, due_first, due_first_place, by_instalment, place_by_instalment, standard, portion_by, place_among}
 
 -- the portions and their places
 pub record ArePlaces (portions : ℕ → Portion) (place : Portion → ℕ) : Type 0 where
@@ -57,26 +57,31 @@ four P a b c d k within =
           ]
     ]
 
-pub standard_places : ArePlaces standard standard_place
-standard_places = record {
-  there = four (λ k. standard_place (standard k) ≡ k) refl refl refl refl;
+-- the places of a strategy's portions
+pub places_by : (name : StrategyName) → ArePlaces (portion_by name) (place_among (portion_by name))
+places_by MifosStandard = record {
+  there = four (λ k. place_among (portion_by MifosStandard) (portion_by MifosStandard k) ≡ k) refl refl refl refl;
+  back = elim [ Penalty ↦ refl | Fee ↦ refl | Interest ↦ refl | Principal ↦ refl ];
+  small = elim [ Penalty ↦ omega arith | Fee ↦ omega arith | Interest ↦ omega arith | Principal ↦ omega arith ];
+}
+places_by PrincipalFirst = record {
+  there = four (λ k. place_among (portion_by PrincipalFirst) (portion_by PrincipalFirst k) ≡ k) refl refl refl refl;
+  back = elim [ Penalty ↦ refl | Fee ↦ refl | Interest ↦ refl | Principal ↦ refl ];
+  small = elim [ Penalty ↦ omega arith | Fee ↦ omega arith | Interest ↦ omega arith | Principal ↦ omega arith ];
+}
+places_by InterestFirst = record {
+  there = four (λ k. place_among (portion_by InterestFirst) (portion_by InterestFirst k) ≡ k) refl refl refl refl;
+  back = elim [ Penalty ↦ refl | Fee ↦ refl | Interest ↦ refl | Principal ↦ refl ];
+  small = elim [ Penalty ↦ omega arith | Fee ↦ omega arith | Interest ↦ omega arith | Principal ↦ omega arith ];
+}
+places_by DueFirst = record {
+  there = four (λ k. place_among (portion_by DueFirst) (portion_by DueFirst k) ≡ k) refl refl refl refl;
   back = elim [ Penalty ↦ refl | Fee ↦ refl | Interest ↦ refl | Principal ↦ refl ];
   small = elim [ Penalty ↦ omega arith | Fee ↦ omega arith | Interest ↦ omega arith | Principal ↦ omega arith ];
 }
 
-pub principal_first_places : ArePlaces principal_first principal_first_place
-principal_first_places = record {
-  there = four (λ k. principal_first_place (principal_first k) ≡ k) refl refl refl refl;
-  back = elim [ Penalty ↦ refl | Fee ↦ refl | Interest ↦ refl | Principal ↦ refl ];
-  small = elim [ Penalty ↦ omega arith | Fee ↦ omega arith | Interest ↦ omega arith | Principal ↦ omega arith ];
-}
-
-pub interest_first_places : ArePlaces interest_first interest_first_place
-interest_first_places = record {
-  there = four (λ k. interest_first_place (interest_first k) ≡ k) refl refl refl refl;
-  back = elim [ Penalty ↦ refl | Fee ↦ refl | Interest ↦ refl | Principal ↦ refl ];
-  small = elim [ Penalty ↦ omega arith | Fee ↦ omega arith | Interest ↦ omega arith | Principal ↦ omega arith ];
-}
+standard_places : ArePlaces standard (place_among standard)
+standard_places = places_by DueFirst
 
 -- due first, at a place of what is due and at a later one
 due-here : (due k : ℕ) → k < 4 * due → due_first due k ≡ record { instalment = k % due + 1; portion = standard (k / due) }
@@ -85,10 +90,10 @@ due-here due k here = cond-true (ltb k (4 * due)) _ _ (lt-ltb k (4 * due) here)
 due-later : (due k : ℕ) → 4 * due ≤ k → due_first due k ≡ by_instalment standard k
 due-later due k later = cond-false (ltb k (4 * due)) _ _ (le-ltb k (4 * due) later)
 
-place-here : (due : ℕ) (c : Cell) → c.instalment ≤ due → due_first_place due c ≡ standard_place c.portion * due + (c.instalment - 1)
+place-here : (due : ℕ) (c : Cell) → c.instalment ≤ due → due_first_place due c ≡ place_among standard c.portion * due + (c.instalment - 1)
 place-here due c here = cond-true (leb c.instalment due) _ _ (le-leb c.instalment due here)
 
-place-later : (due : ℕ) (c : Cell) → due < c.instalment → due_first_place due c ≡ place_by_instalment standard_place c
+place-later : (due : ℕ) (c : Cell) → due < c.instalment → due_first_place due c ≡ place_by_instalment (place_among standard) c
 place-later due c later = cond-false (leb c.instalment due) _ _ (lt-leb c.instalment due later)
 
 -- the portion of a place among what is due
@@ -109,7 +114,7 @@ back-due_first due k =
     elim (cases_lt k (4 * due)) [
       | inl here ↦
           let small : k % due < due = omega arith in
-          let portion : standard_place (standard (k / due)) ≡ k / due = standard_places.there (k / due) (due-portion due k here) in
+          let portion : place_among standard (standard (k / due)) ≡ k / due = standard_places.there (k / due) (due-portion due k here) in
           let parts = div-add-mod' k due in
           ap (due_first_place due) (due-here due k here)
           ∙ place-here due (record { instalment = k % due + 1; portion = standard (k / due) }) (omega (arith, small))
@@ -118,10 +123,10 @@ back-due_first due k =
       | inr later ↦
           ap (due_first_place due) (due-later due k later)
           ∙ place-later due (by_instalment standard k) (omega (arith, later))
-          ∙ back-by_instalment standard standard_place k standard_places
+          ∙ back-by_instalment standard (place_among standard) k standard_places
     ]
 
-place-small : (p : Portion) (due i : ℕ) → i < due → standard_place p * due + i < 4 * due
+place-small : (p : Portion) (due i : ℕ) → i < due → place_among standard p * due + i < 4 * due
 place-small Penalty due i less = omega (arith, less)
 place-small Fee due i less = omega (arith, less)
 place-small Interest due i less = omega (arith, less)
@@ -132,7 +137,7 @@ in_range-due_first n due c few is =
     elim (cases_lt due c.instalment) [
       | inl later ↦
           let same = place-later due c later in
-          let range = in_range-by_instalment standard standard_place n c standard_places is in
+          let range = in_range-by_instalment standard (place_among standard) n c standard_places is in
           omega (arith, same, range)
       | inr here ↦
           let same = place-here due c here in
@@ -143,14 +148,14 @@ in_range-due_first n due c few is =
 pub forth-due_first : (n due : ℕ) (c : Cell) → IsCell n c → due_first due (due_first_place due c) ≡ c
 forth-due_first n due c is =
     let i : ℕ = c.instalment - 1 in
-    let p : ℕ = standard_place c.portion in
+    let p : ℕ = place_among standard c.portion in
     let at : ℕ → Portion → Cell = λ x y. record { instalment = x; portion = y } in
     elim (cases_lt due c.instalment) [
       | inl later ↦
-          let far : 4 * due ≤ place_by_instalment standard_place c = omega (arith, later) in
+          let far : 4 * due ≤ place_by_instalment (place_among standard) c = omega (arith, later) in
           ap (due_first due) (place-later due c later)
-          ∙ due-later due (place_by_instalment standard_place c) far
-          ∙ forth-by_instalment standard standard_place n c standard_places is
+          ∙ due-later due (place_by_instalment (place_among standard) c) far
+          ∙ forth-by_instalment standard (place_among standard) n c standard_places is
       | inr here ↦
           let less : i < due = omega (arith, is.first, here) in
           let rest : (p * due + i) % due + 1 ≡ c.instalment = let low = mod-mul-add p due i less in omega (arith, low, is.first) in
@@ -164,27 +169,27 @@ forth-due_first n due c is =
 
 -- each name's order is lawful
 pub is_cell-cell_by : (name : StrategyName) (n due k : ℕ) → due ≤ n → k < 4 * n → IsCell n (cell_by name due k)
-is_cell-cell_by MifosStandard n due k few within = is_cell-by_instalment standard n k within
-is_cell-cell_by PrincipalFirst n due k few within = is_cell-by_instalment principal_first n k within
-is_cell-cell_by InterestFirst n due k few within = is_cell-by_instalment interest_first n k within
+is_cell-cell_by MifosStandard n due k few within = is_cell-by_instalment (portion_by MifosStandard) n k within
+is_cell-cell_by PrincipalFirst n due k few within = is_cell-by_instalment (portion_by PrincipalFirst) n k within
+is_cell-cell_by InterestFirst n due k few within = is_cell-by_instalment (portion_by InterestFirst) n k within
 is_cell-cell_by DueFirst n due k few within = is_cell-due_first n due k few within
 
 pub back-cell_by : (name : StrategyName) (due k : ℕ) → place_by name due (cell_by name due k) ≡ k
-back-cell_by MifosStandard due k = back-by_instalment standard standard_place k standard_places
-back-cell_by PrincipalFirst due k = back-by_instalment principal_first principal_first_place k principal_first_places
-back-cell_by InterestFirst due k = back-by_instalment interest_first interest_first_place k interest_first_places
+back-cell_by MifosStandard due k = back-by_instalment _ _ k (places_by MifosStandard)
+back-cell_by PrincipalFirst due k = back-by_instalment _ _ k (places_by PrincipalFirst)
+back-cell_by InterestFirst due k = back-by_instalment _ _ k (places_by InterestFirst)
 back-cell_by DueFirst due k = back-due_first due k
 
 pub in_range-place_by : (name : StrategyName) (n due : ℕ) (c : Cell) → due ≤ n → IsCell n c → place_by name due c < 4 * n
-in_range-place_by MifosStandard n due c few is = in_range-by_instalment standard standard_place n c standard_places is
-in_range-place_by PrincipalFirst n due c few is = in_range-by_instalment principal_first principal_first_place n c principal_first_places is
-in_range-place_by InterestFirst n due c few is = in_range-by_instalment interest_first interest_first_place n c interest_first_places is
+in_range-place_by MifosStandard n due c few is = in_range-by_instalment _ _ n c (places_by MifosStandard) is
+in_range-place_by PrincipalFirst n due c few is = in_range-by_instalment _ _ n c (places_by PrincipalFirst) is
+in_range-place_by InterestFirst n due c few is = in_range-by_instalment _ _ n c (places_by InterestFirst) is
 in_range-place_by DueFirst n due c few is = in_range-due_first n due c few is
 
 pub forth-place_by : (name : StrategyName) (n due : ℕ) (c : Cell) → IsCell n c → cell_by name due (place_by name due c) ≡ c
-forth-place_by MifosStandard n due c is = forth-by_instalment standard standard_place n c standard_places is
-forth-place_by PrincipalFirst n due c is = forth-by_instalment principal_first principal_first_place n c principal_first_places is
-forth-place_by InterestFirst n due c is = forth-by_instalment interest_first interest_first_place n c interest_first_places is
+forth-place_by MifosStandard n due c is = forth-by_instalment _ _ n c (places_by MifosStandard) is
+forth-place_by PrincipalFirst n due c is = forth-by_instalment _ _ n c (places_by PrincipalFirst) is
+forth-place_by InterestFirst n due c is = forth-by_instalment _ _ n c (places_by InterestFirst) is
 forth-place_by DueFirst n due c is = forth-due_first n due c is
 
 -- an order of n instalments' cells in which each place has a cell of its own

@@ -4,11 +4,10 @@
 pub mod laws;
 mod named;
 mod payment;
-mod product;
 mod row;
 mod strategy;
 
-pub use named::{DueFirst, InterestFirst, MifosStandard, PrincipalFirst};
+pub use named::{DueFirst, InterestFirst, MifosStandard, Named, PrincipalFirst};
 pub use payment::{due_by, outstanding, pay, undo};
 pub use row::{Cell, Portion, Row, Share};
 pub use strategy::Strategy;

@@ -65,7 +65,8 @@ impl OfficeLine {
         requires principal { principal ≤ 10 ^ 12 }
         requires loans { self.old.loans < 10 ^ 10 }
         ensures value { self.new ≡ with_loan self.old principal days }
-        ensures line { (office : ℕ) (loans : List Loan) → self.old ≡ line_of office loans → self.new ≡ line_of office (loans ++ record { principal = principal; days = days } ∷ []) }
+        ensures line { (office : ℕ) (loans : List Loan) → self.old ≡ line_of office loans
+            → self.new ≡ line_of office (loans ++ record { principal = principal; days = days } ∷ []) }
     {
         let principal = principal as u128;
         self.loans += 1;

@@ -35,6 +35,7 @@ impl Totals {
     /// The sums of lines, or None where they have over 10^10 loans.
     pub fn of(lines: &[OfficeLine]) -> Option<Totals>
         ensures value { IfSome result (λ totals. totals ≡ total_of lines.now) }
+        ensures few { IfSome result (λ totals. sum_by (λ (line : Line). line.loans) lines.now ≤ 10 ^ 10) }
         ensures some { sum_by (λ (line : Line). line.loans) lines.now ≤ 10 ^ 10 → result ≢ None }
     {
         let mut all = Totals::new();

@@ -27,7 +27,7 @@ pub(crate) fn count_digits(text: &[u8]) -> usize
 }
 
 /// The number that up to eleven digits are.
-pub(crate) fn value_of_digits(digits: &[u8]) -> u64
+pub fn value_of_digits(digits: &[u8]) -> u64
     requires digits { IsTrue (all_ascii_digits digits.now) }
     requires short { length digits.now ≤ 11 }
     ensures value { result ≡ digits_value 10 digits.now }
@@ -40,7 +40,8 @@ pub(crate) fn value_of_digits(digits: &[u8]) -> u64
     value
 }
 
-fn is_digits(text: &[u8]) -> bool
+/// Whether a text is of digits alone.
+pub fn is_digits(text: &[u8]) -> bool
     ensures { result ≡ list_all is_ascii_digit text.now }
 {
     text.iter().all(|byte| byte.is_ascii_digit())

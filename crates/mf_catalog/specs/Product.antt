@@ -65,9 +65,9 @@ abbrev pub charge_of : (ℕ → Option ChargeDef) → Option ℕ → Option Char
 charge_of charges None = None
 charge_of charges (Some k) = charges k
 
--- the terms that the product gives a loan
-abbrev pub terms_of : (ℕ → Option ChargeDef) → ProductMembers → Terms
-terms_of charges p = record {
+-- the terms that a product gives a loan, with these charges at disbursement, with each instalment and for an overdue one
+abbrev pub terms_with : ProductMembers → Option ChargeDef → Option ChargeDef → Option ChargeDef → Terms
+terms_with p disbursement instalment overdue = record {
   method = p.method;
   rate = p.rate;
   freq = p.freq;
@@ -75,10 +75,14 @@ terms_of charges p = record {
   principal_grace = p.principal_grace;
   interest_grace = p.interest_grace;
   strategy = p.strategy;
-  disbursement = charge_of charges p.disbursement_charge;
-  instalment = charge_of charges p.instalment_charge;
-  overdue = charge_of charges p.overdue_charge;
+  disbursement = disbursement;
+  instalment = instalment;
+  overdue = overdue;
 }
+
+-- the same with the charges that the product names
+abbrev pub terms_of : (ℕ → Option ChargeDef) → ProductMembers → Terms
+terms_of charges p = terms_with p (charge_of charges p.disbursement_charge) (charge_of charges p.instalment_charge) (charge_of charges p.overdue_charge)
 
 -- the ranges in which the members of a product are read
 pub record AreMembersWithinLimits (p : ProductMembers) : Type 0 where

@@ -100,18 +100,10 @@ pub fn terms_of(product: &Product, charges: &[ChargeDef]) -> Result<Terms, Fault
     ensures err { IfErr result (λ fault. fault ≡ F20) }
 {
     let members = &product.members;
-    Ok(Terms {
-        method: members.method,
-        rate: members.rate,
-        freq: members.freq,
-        every: members.every,
-        principal_grace: members.principal_grace,
-        interest_grace: members.interest_grace,
-        strategy: members.strategy,
-        disbursement: copy_named(charges, members.disbursement_charge)?,
-        instalment: copy_named(charges, members.instalment_charge)?,
-        overdue: copy_named(charges, members.overdue_charge)?,
-    })
+    let disbursement = copy_named(charges, members.disbursement_charge)?;
+    let instalment = copy_named(charges, members.instalment_charge)?;
+    let overdue = copy_named(charges, members.overdue_charge)?;
+    Ok(members.terms_with(disbursement, instalment, overdue))
 }
 
 /// The terms of a new loan of a principal, in cents, for a number of periods: F7 where the product is retired, then F8

@@ -1,4 +1,5 @@
-use crate::terms::{Method, StrategyName};
+use crate::charge::ChargeDef;
+use crate::terms::{Method, StrategyName, Terms};
 use mf_base::{Freq, Name};
 use std::alloc::AllocError;
 
@@ -35,6 +36,35 @@ pub struct ProductMembers {
     pub instalment_charge: Option<u32>,
     /// The number of the charge that is taken for an overdue instalment.
     pub overdue_charge: Option<u32>,
+}
+
+impl ProductMembers {
+    ghost use Rattle.std.specs.Prelude.{◌≡◌};
+    ghost use Rattle.mf_catalog.specs.Product.{terms_with as terms_given};
+
+    /// The terms that a product with these members gives a loan, with these charges at disbursement, with each
+    /// instalment and for an overdue one.
+    pub fn terms_with(
+        &self,
+        disbursement: Option<ChargeDef>,
+        instalment: Option<ChargeDef>,
+        overdue: Option<ChargeDef>,
+    ) -> Terms
+        ensures { result ≡ terms_given self.now disbursement instalment overdue }
+    {
+        Terms {
+            method: self.method,
+            rate: self.rate,
+            freq: self.freq,
+            every: self.every,
+            principal_grace: self.principal_grace,
+            interest_grace: self.interest_grace,
+            strategy: self.strategy,
+            disbursement,
+            instalment,
+            overdue,
+        }
+    }
 }
 
 // By hand, since a derived one asks of each member whether there was memory for it, and is proved for each way out.

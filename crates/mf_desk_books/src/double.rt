@@ -331,18 +331,10 @@ impl Books {
             return Err(Fault::F20);
         };
         let members = &product.members;
-        Ok(Terms {
-            method: members.method,
-            rate: members.rate,
-            freq: members.freq,
-            every: members.every,
-            principal_grace: members.principal_grace,
-            interest_grace: members.interest_grace,
-            strategy: members.strategy,
-            disbursement: self.named(members.disbursement_charge)?,
-            instalment: self.named(members.instalment_charge)?,
-            overdue: self.named(members.overdue_charge)?,
-        })
+        let disbursement = self.named(members.disbursement_charge)?;
+        let instalment = self.named(members.instalment_charge)?;
+        let overdue = self.named(members.overdue_charge)?;
+        Ok(members.terms_with(disbursement, instalment, overdue))
     }
 }
 

@@ -47,13 +47,3 @@ repeated loan amount day by = cond ((by.loan == loan) && ((by.amount == amount) 
 abbrev pub AreApart : List Use → Type 0
 AreApart [] = Unit {0}
 AreApart (u ∷ us) = AllByRecursion (λ (v : Use). u.receipt ≢ v.receipt) us × AreApart us
-
--- printable ASCII without space
-abbrev pub is_printable : ℕ → Bool
-is_printable c = nat_le 33 c && nat_le c 126
-
--- a receipt is a text of 1 to 40 such characters
-pub record IsReceipt (receipt : List ℕ) : Type 0 where
-  pub some : 1 ≤ length receipt
-  pub most : length receipt ≤ 40
-  pub printable : list_all is_printable receipt ≡ true

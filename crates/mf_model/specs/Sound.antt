@@ -4,6 +4,7 @@ use Rattle.std.specs.List.{AllByRecursion, list_all}
 use Rattle.std.specs.Str.{IsUtf8, chars}
 use Rattle.mf_base.specs.DayText.{last_entered_day}
 use Rattle.mf_office.specs.Numbers.{IsNumberUpTo}
+use Rattle.mf_office.specs.Texts.{IsAccount}
 use Rattle.mf_office.specs.declared.account.Account.{Account}
 use Rattle.mf_model.specs.declared.request.Request.{Request}
 use Rattle.mf_catalog.specs.declared.charge.Calc.{Calc}
@@ -30,7 +31,8 @@ use Rattle.mf_model.specs.declared.request.Posting.{Posting}
 use Rattle.mf_model.specs.declared.request.Posting.TheVariants.{Penalty, Waiver, WriteOff, Refund}
 use Rattle.mf_model.specs.Institution.{Institution, Catalogue, Charge, Offer, Staff, Rows, Office, Ledger, staff_in, numbered, charge_in, product_in}
 use Rattle.mf_model.specs.Stages.{disbursed_on, IsStepInRange}
-use Rattle.mf_model.specs.Receipts.{uses_from, AreApart, IsReceipt}
+use Rattle.mf_account.specs.Receipts.{IsReceipt}
+use Rattle.mf_model.specs.Receipts.{uses_from, AreApart}
 use Rattle.mf_model.specs.Tree.{IsTree}
 use Rattle.mf_model.specs.Run.{Line}
 
@@ -132,10 +134,6 @@ pub record IsSound (i : Institution) : Type 0 where
   pub catalogue : IsSoundCatalogue i.catalogue
   pub tree : IsTree i.offices
   pub each : AllByRecursion (IsSoundOffice i.catalogue (is_staff i.offices)) i.offices
-
--- an account's numbers
-abbrev pub IsAccount : Account → Type 0
-IsAccount account = IsNumberUpTo 9999 account.office × IsNumberUpTo 999999 account.number
 
 -- the members of a request lie in their ranges, as they do of each that was read
 abbrev pub IsCatalogueInRange : CatalogueRequest → Type 0

@@ -2,6 +2,5 @@ pub mod AllRecords
 pub mod Amounts
 pub mod Days
 pub mod FourFields
-pub mod Receipts
 pub mod ResultTexts
 pub mod Tests

@@ -4,6 +4,7 @@ use Rattle.std.specs.Char.{is_ascii_digit}
 use Rattle.std.specs.List.{list_all, prefix_len, suffix_len}
 use Rattle.std.specs.Str.{bytes_eq}
 use Rattle.std.specs.Str.Parse.{digits_value}
+use Rattle.mf_account.specs.Receipts.{is_receipt}
 use Rattle.mf_base.specs.Calendar.{Date, day_of, month_length}
 use Rattle.mf_base.specs.DayText.{date_text}
 use Rattle.mf_base.specs.Money.{money_limit}
@@ -19,14 +20,6 @@ from_front text = drop (prefix_len is_blank text) text
 -- a field without the spaces and tabs round it
 abbrev pub trimmed : List ℕ → List ℕ
 trimmed field = take (length (from_front field) - suffix_len is_blank (from_front field)) (from_front field)
-
--- printable ASCII without space
-abbrev pub is_printable : ℕ → Bool
-is_printable byte = nat_le 33 byte && nat_le byte 126
-
--- a receipt has 1 to 40 such bytes
-abbrev pub is_receipt : List ℕ → Bool
-is_receipt text = nat_le 1 (length text) && nat_le (length text) 40 && list_all is_printable text
 
 -- the receipt that a text is
 abbrev pub receipt_of : List ℕ → Option (List ℕ)

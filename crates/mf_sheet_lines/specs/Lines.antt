@@ -2,13 +2,14 @@
 use Rattle.std.specs.Prelude.{ℕ, ◌&&◌, Bool, false, codes, List, [], ◌∷◌, Option, Some, None, option_and_then, ◌≡◌, ◌≤◌, true}
 use Rattle.std.specs.Option.{option_map, option_map_or}
 use Rattle.std.specs.Str.{str_eq_ignore_ascii_case}
+use Rattle.mf_account.specs.Receipts.{IsReceipt}
 use Rattle.mf_base.specs.DayText.{last_entered_day}
 use Rattle.mf_base.specs.Money.{money_limit}
 use Rattle.mf_office.specs.Texts.{account_of, IsAccount}
 use Rattle.mf_sheet_lines.specs.declared.line.SheetLine.{SheetLine}
 use Rattle.mf_sheet_lines.specs.declared.line.SheetLine.TheVariants.{Repay, Bad}
 use Rattle.mf_sheet_lines.specs.declared.line.SheetRepayment.{SheetRepayment}
-use Rattle.mf_sheet_lines.specs.Fields.{is_receipt, trimmed, receipt_of, day_written, amount_of}
+use Rattle.mf_sheet_lines.specs.Fields.{trimmed, receipt_of, day_written, amount_of}
 
 -- the fields of a line, by their columns
 pub record Columns : Type 0 where
@@ -43,7 +44,7 @@ line_of fields = asked (option_and_then repayment_in (columns_of fields))
 
 -- the ranges of what a repayment says
 pub record IsRepaymentInRange (r : SheetRepayment) : Type 0 where
-  pub receipt : is_receipt r.receipt ≡ true
+  pub receipt : IsReceipt r.receipt
   pub loan : IsAccount r.loan
   pub day : r.day ≤ last_entered_day
   pub least : 1 ≤ r.amount

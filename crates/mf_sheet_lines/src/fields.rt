@@ -1,11 +1,13 @@
 //! What the fields of a sheet's line say. Spaces and tabs round a field don't count.
 
-ghost use Rattle.std.specs.Prelude.{◌≡◌, true, ◌≤◌, IfSome, length, option_map};
-ghost use Rattle.std.specs.List.{list_all, prefix_len, suffix_len};
+ghost use Rattle.std.specs.Prelude.{◌≡◌, ◌≤◌, IfSome, length, option_map};
+ghost use Rattle.std.specs.List.{prefix_len, suffix_len};
+ghost use Rattle.mf_account.specs.Receipts.{IsReceipt};
 ghost use Rattle.mf_base.specs.DayText.{last_entered_day};
 ghost use Rattle.mf_base.specs.Money.{money_limit};
-ghost use Rattle.mf_sheet_lines.specs.Fields.{is_blank as is_blank_byte, is_printable as is_printable_byte, trimmed as trimmed_field, is_receipt as is_receipt_text, receipt_of, day_written, cents_written, amount_of};
+ghost use Rattle.mf_sheet_lines.specs.Fields.{is_blank as is_blank_byte, trimmed as trimmed_field, receipt_of, day_written, cents_written, amount_of};
 
+use mf_account::is_receipt;
 use mf_base::{Day, parse_money};
 
 fn is_blank(byte: u8) -> bool
@@ -41,29 +43,10 @@ pub fn trimmed(field: &[u8]) -> &[u8]
     &rest[..rest.len() - blanks_at_end(rest)]
 }
 
-/// Whether a byte is a printable character of ASCII, and no space.
-fn is_printable(byte: u8) -> bool
-    ensures { result ≡ is_printable_byte byte }
-{
-    33 <= byte && byte <= 126
-}
-
-fn are_printable(bytes: &[u8]) -> bool
-    ensures { result ≡ list_all is_printable_byte bytes.now }
-{
-    bytes.iter().all(|byte| is_printable(*byte))
-}
-
-fn is_receipt(text: &[u8]) -> bool
-    ensures { result ≡ is_receipt_text text.now }
-{
-    1 <= text.len() && text.len() <= 40 && are_printable(text)
-}
-
 /// The receipt that a text is: 1 to 40 printable characters of ASCII, no space among them.
 pub fn receipt(text: &[u8]) -> Option<&str>
     ensures value { option_map (λ s. s.now) result ≡ receipt_of text.now }
-    ensures in_range { IfSome result (λ s. is_receipt_text s.now ≡ true) }
+    ensures in_range { IfSome result (λ s. IsReceipt s.now) }
 {
     if !is_receipt(text) {
         return None;

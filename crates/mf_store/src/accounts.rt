@@ -73,18 +73,7 @@ impl<S: Alter> Store<S> {
         let disbursement = self.named_charge(members.disbursement_charge)?;
         let instalment = self.named_charge(members.instalment_charge)?;
         let overdue = self.named_charge(members.overdue_charge)?;
-        Ok(Some(Terms {
-            method: members.method,
-            rate: members.rate,
-            freq: members.freq,
-            every: members.every,
-            principal_grace: members.principal_grace,
-            interest_grace: members.interest_grace,
-            strategy: members.strategy,
-            disbursement,
-            instalment,
-            overdue,
-        }))
+        Ok(Some(members.terms_with(disbursement, instalment, overdue)))
     }
 
     /// The account of a loan that was disbursed on a day and has these entries. Where it can have none, the call gives up.

@@ -6,7 +6,7 @@ use Rattle.mf_office.specs.Texts.{IsCaller}
 use Rattle.mf_account.specs.declared.entry.Entry.{Entry}
 use Rattle.mf_account.specs.Loan.{AreEntries}
 use Rattle.mf_model.specs.Institution.{Catalogue, Ledger, numbered, product_in}
-use Rattle.mf_model.specs.Receipts.{IsReceipt}
+use Rattle.mf_account.specs.Receipts.{IsReceipt}
 use Rattle.mf_model.specs.Sound.{IsStageBy, lends}
 use Rattle.mf_model.specs.Stages.{disbursed_on}
 use Rattle.mf_model.specs.declared.loan.Loan.{Loan}

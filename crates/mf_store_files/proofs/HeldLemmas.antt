@@ -45,7 +45,9 @@ use Rattle.mf_account.specs.declared.entry.Kind.TheVariants as kind
 use Rattle.mf_alloc.specs.declared.row.Portion.{Portion}
 use Rattle.mf_alloc.specs.declared.row.Portion.TheVariants as portion
 use Rattle.mf_model.specs.Institution.{Institution, Catalogue, Charge, Ledger, Offer, Office, Rows, Staff, office_at, numbered, charge_def, charge_in, product_of, product_in}
-use Rattle.mf_model.specs.Receipts.{Use, IsReceipt, is_printable, uses_from, uses_in, use_by, use_of}
+use Rattle.mf_account.specs.Receipts.{IsReceipt}
+use Rattle.mf_account.proofs.ReceiptLemmas.{receipt_is_text}
+use Rattle.mf_model.specs.Receipts.{Use, uses_from, uses_in, use_by, use_of}
 use Rattle.mf_model.specs.Sound.{IsSound, IsSoundOffice, IsSoundCatalogue, IsSoundCharge, IsSoundOffer, IsSoundLoan, IsStageBy, IsName, IsEntryBy, AreEntriesBy, lends, is_staff}
 use Rattle.mf_model.specs.Stages.{stage_number, disbursed_on}
 use Rattle.mf_model.specs.Tree.{parent_of, Above, Ascending}
@@ -474,17 +476,9 @@ instalment_low kind.Waive n e low h = let most = h.2 in omega (arith, most, low)
 instalment_low kind.WriteOff n e low h = let none = h.1 in omega (arith, none)
 instalment_low kind.Refund n e low h = let none = h.1 in omega (arith, none)
 
-printable_low : (t : List ℕ) → list_all is_printable t ≡ true → AllByRecursion (λ (b : ℕ). b < 128) t
-printable_low [] h = tt
-printable_low (b ∷ t) h =
-    let parts = and_parts _ _ h in
-    let within = and_parts _ _ parts.0 in
-    let last : nat_le b 126 ≡ true = within.1 in
-    ((let most : b ≤ 126 = grind (arith, nat_tests) in omega (arith, most)), printable_low t parts.1)
-
 receipt_utf8 : (o : Option (List ℕ)) → IfSome o IsReceipt → IfSome o IsUtf8
 receipt_utf8 None is = tt
-receipt_utf8 (Some t) is = IsUtf8-from_ascii t (low_bytes t (printable_low t is.printable))
+receipt_utf8 (Some t) is = receipt_is_text t is
 
 caller_utf8 : (c : Caller) → IsCaller c → IsUtf8 (caller_text c.office c.staff)
 caller_utf8 c is =

@@ -5,7 +5,7 @@ use sqlite::types::{FromSql, FromSqlError, ToSql, ValueRef};
 use std::alloc::Global;
 use std::marker::Model;
 
-/// A text of a column. Contracts see its bytes.
+/// A text of a column, a type of this crate since only such a one can be a column's. Contracts see its bytes.
 pub struct Text {
     text: String,
 }
@@ -41,7 +41,7 @@ impl Text {
     pub fn of_name(name: Name) -> Text
         ensures { result ≡ name }
     {
-        Text::new(name.into_text())
+        Text::new(name.into_string())
     }
 
     /// The text as Rust knows it.

@@ -5,7 +5,8 @@ use Rattle.std.proofs.lemmas.List.{map-append}
 use Rattle.mf_account.specs.declared.entry.Entry.{Entry}
 use Rattle.mf_model.specs.Institution.{Ledger, Office}
 use Rattle.mf_account.specs.Loan.{IsEntry}
-use Rattle.mf_model.specs.Receipts.{IsReceipt, use_of, uses_in, uses_from}
+use Rattle.mf_account.specs.Receipts.{IsReceipt}
+use Rattle.mf_model.specs.Receipts.{use_of, uses_in, uses_from}
 use Rattle.mf_store_records.specs.declared.entries.EntryRow.{EntryRow}
 use Rattle.mf_store_sound.specs.Entries.{IsEntryRow}
 use Rattle.mf_store_accounts.specs.Flat.{entry_in, own_entries, rows_of_loans, entry_rows}

@@ -3,7 +3,7 @@ use Rattle.std.specs.Prelude.{◌≡◌, ℕ, ◌≤◌, List, map, IfSome}
 use Rattle.std.specs.List.{AllByRecursion}
 use Rattle.mf_account.specs.declared.entry.Entry.{Entry}
 use Rattle.mf_account.specs.Loan.{IsEntry, AreEntries}
-use Rattle.mf_model.specs.Receipts.{IsReceipt}
+use Rattle.mf_account.specs.Receipts.{IsReceipt}
 use Rattle.mf_store_records.specs.declared.entries.EntryRow.{EntryRow}
 use Rattle.mf_store_accounts.specs.Flat.{entry_in}
 use Rattle.mf_store_accounts.specs.Ledgers.{IsReadable, IsEnteredBy}

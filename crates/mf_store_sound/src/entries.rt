@@ -6,20 +6,19 @@ ghost use Rattle.mf_account.specs.declared.entry.Entry.{Entry};
 ghost use Rattle.mf_account.specs.declared.entry.Kind.{Kind as AnyKind};
 ghost use Rattle.mf_alloc.specs.declared.row.Portion.{Portion as AnyPortion};
 ghost use Rattle.mf_alloc.specs.declared.row.Portion.TheVariants.{Penalty as PenaltyPart, Fee as FeePart, Principal};
-ghost use Rattle.mf_model.specs.Receipts.{IsReceipt, is_printable};
+ghost use Rattle.mf_account.specs.Receipts.{IsReceipt};
 ghost use Rattle.mf_store_accounts.specs.Ledgers.{IsReadable};
 ghost use Rattle.mf_store_sound.specs.Entries.{IsEntryRow};
 ghost use Rattle.mf_store_accounts.specs.Flat.{entry_in, entry_kind_number, portion_number};
-ghost use Rattle.std.specs.List.{list_all};
 
 use crate::amounts::is_amount;
 use crate::numbered::NumberedRow;
-use mf_account::Kind;
+use mf_account::{Kind, is_receipt};
 use mf_alloc::Portion;
 use mf_base::Day;
 use mf_office::Caller;
 use mf_store_accounts::{amount_from, flag_from, kind_from, number_of_portion, portion_from};
-use mf_store_records::{EntryRow, Text};
+use mf_store_records::EntryRow;
 
 /// A disbursed loan, and what its entries are checked against.
 #[derive(Clone, Copy)]
@@ -119,28 +118,13 @@ fn has_columns(periods: u32, row: &EntryRow) -> bool
     }
 }
 
-/// Whether a text is that of a receipt.
-fn is_receipt(text: &Text) -> bool
-    ensures { IsTrue result ↔ IsReceipt text.now }
-{
-    let bytes = text.as_str().as_bytes();
-    !bytes.is_empty() && bytes.len() <= 40 && are_printable(bytes)
-}
-
-/// Whether each byte is printable ASCII, and none is a space.
-fn are_printable(bytes: &[u8]) -> bool
-    ensures { result ≡ list_all is_printable bytes.now }
-{
-    bytes.iter().all(|byte| *byte >= 33 && *byte <= 126)
-}
-
 /// Whether a row has no receipt, or one with a receipt's text.
 fn has_right_receipt(row: &EntryRow) -> bool
     ensures { IsTrue result ↔ IfSome row.now.receipt IsReceipt }
 {
     match &row.receipt {
         None => true,
-        Some(text) => is_receipt(text),
+        Some(text) => is_receipt(text.as_str().as_bytes()),
     }
 }
 

@@ -10,6 +10,7 @@ ghost use Rattle.mf_wire_messages.specs.Messages.{values_of, alone, allowed_leng
 ghost use Rattle.mf_wire_messages.specs.Framing.{FoundIn, frame_at};
 
 use httparse::spans::{HeaderSpan, Span};
+use mf_base::{is_digits, value_of_digits};
 
 /// The longest body, in bytes.
 pub const LONGEST_BODY: u64 = 1 << 20;
@@ -59,24 +60,6 @@ fn find_field(head: &[u8], fields: &[HeaderSpan], name: &[u8]) -> Found
         }
     }
     found
-}
-
-fn value_of_digits(digits: &[u8]) -> u64
-    requires digits { IsTrue (all_ascii_digits digits.now) }
-    requires short { length digits.now ≤ 11 }
-    ensures { result ≡ digits_value 10 digits.now }
-{
-    let mut value = 0;
-    for digit in digits {
-        value = 10 * value + u64::from(digit - b'0');
-    }
-    value
-}
-
-fn is_digits(text: &[u8]) -> bool
-    ensures { result ≡ list_all is_ascii_digit text.now }
-{
-    text.iter().all(|byte| byte.is_ascii_digit())
 }
 
 /// The length of a body that 1 to 10 digits write, where one may be so long.

@@ -12,7 +12,7 @@ use Rattle.mf_office.specs.Numbers.{number_up_to}
 use Rattle.mf_office.specs.Texts.{account_of}
 use Rattle.mf_office.specs.declared.account.Account.{Account}
 use Rattle.mf_model.specs.Sound.{is_plain}
-use Rattle.mf_model.specs.Receipts.{is_printable}
+use Rattle.mf_account.specs.Receipts.{is_receipt}
 
 -- the JSON whose text the bytes are
 abbrev pub json_of : List ℕ → Option Data
@@ -54,10 +54,6 @@ optional_number greatest (Some d) = cond (is_some (as_null d)) (Some None) (opti
 -- a member that may be absent or null, and else is a whole number up to a greatest
 abbrev pub optional_number_at : ℕ → List ℕ → Data → Option (Option ℕ)
 optional_number_at greatest name d = optional_number greatest (get name d)
-
--- a receipt has 1 to 40 printable characters of ASCII, no space among them
-abbrev pub is_receipt : List ℕ → Bool
-is_receipt text = nat_le 1 (length text) && nat_le (length text) 40 && list_all is_printable text
 
 -- no receipt where there is none or where it is null, and else the text of one
 abbrev pub optional_receipt : Option Data → Option (Option (List ℕ))

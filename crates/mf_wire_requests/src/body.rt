@@ -1,14 +1,15 @@
 //! A request's body, as JSON.
+
 ghost use Rattle.std.specs.Prelude.{◌≡◌, ◌≤◌, Some, None, option_map, option_and_then, IfOk, IfErr, IfSome, IsTrue, ◌⊎◌};
-ghost use Rattle.std.specs.List.{list_all};
 ghost use Rattle.serde_json.specs.View.{view};
-ghost use Rattle.mf_wire_requests.specs.Bodies.{json_of, whole_at, text_at, name_at, office_at, within as within_limits, number_at, is_receipt as is_receipt_text, optional_receipt_at, optional_number_at, account_at, day_named as day_of, day_at, Gives};
+ghost use Rattle.mf_wire_requests.specs.Bodies.{json_of, whole_at, text_at, name_at, office_at, within as within_limits, number_at, optional_receipt_at, optional_number_at, account_at, day_named as day_of, day_at, Gives};
 ghost use Rattle.mf_wire_requests.specs.Named.{choice_at};
-ghost use Rattle.mf_model.specs.Sound.{IsName, IsAccount};
-ghost use Rattle.mf_model.specs.Receipts.{is_printable as is_printable_byte, IsReceipt};
+ghost use Rattle.mf_model.specs.Sound.{IsName};
+ghost use Rattle.mf_office.specs.Texts.{IsAccount};
+ghost use Rattle.mf_account.specs.Receipts.{IsReceipt};
 ghost use Rattle.mf_base.specs.DayText.{last_entered_day};
 
-use mf_account::Receipt;
+use mf_account::{Receipt, is_receipt};
 use mf_base::{Choice, Day, Fault};
 use mf_model::is_name;
 use mf_office::{Account, Name, OfficeNo};
@@ -121,28 +122,6 @@ pub fn optional_number(body: &Value, member: &str, greatest: u32) -> Option<Opti
     Some(Some(number as u32))
 }
 
-/// Whether a byte is a printable character of ASCII, and no space.
-fn is_printable(byte: u8) -> bool
-    ensures { result ≡ is_printable_byte byte }
-{
-    33 <= byte && byte <= 126
-}
-
-/// Whether all bytes are printable characters of ASCII, and no spaces.
-fn are_printable(bytes: &[u8]) -> bool
-    ensures { result ≡ list_all is_printable_byte bytes.now }
-{
-    bytes.iter().all(|byte| is_printable(*byte))
-}
-
-/// Whether a text is a receipt: 1 to 40 printable characters of ASCII, no space among them.
-fn is_receipt(text: &str) -> bool
-    ensures value { result ≡ is_receipt_text text.now }
-    ensures receipt { IsTrue result → IsReceipt text.now }
-{
-    1 <= text.len() && text.len() <= 40 && are_printable(text.as_bytes())
-}
-
 /// A member that may be absent or null, and else is a receipt. `F1` is for any other member.
 pub fn receipt(alloc: Global, body: &Value, member: &str) -> Result<Option<Receipt>, Fault>
     ensures value { Gives (optional_receipt_at member.now (view body.now)) result }
@@ -155,7 +134,7 @@ pub fn receipt(alloc: Global, body: &Value, member: &str) -> Result<Option<Recei
         return Ok(None);
     }
     let text = value.as_str().ok_or(Fault::F1)?;
-    if !is_receipt(text) {
+    if !is_receipt(text.as_bytes()) {
         return Err(Fault::F1);
     }
     Ok(Some(Receipt::new(String::from_str(alloc, text)?)))

@@ -1,7 +1,7 @@
 //! What the parameters of a path name: accounts, and the numbers that they write.
 ghost use Rattle.std.specs.Prelude.{◌≤◌, IfOk};
 ghost use Rattle.matchit.specs.Params.{AllText};
-ghost use Rattle.mf_model.specs.Sound.{IsAccount};
+ghost use Rattle.mf_office.specs.Texts.{IsAccount};
 ghost use Rattle.mf_wire_requests.specs.Bodies.{Gives};
 ghost use Rattle.mf_wire_requests.specs.PathParts.{parts_of_params, number_in, account_in};
 

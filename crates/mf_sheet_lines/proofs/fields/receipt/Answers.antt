@@ -1,5 +1,5 @@
 use Rattle.std.proofs.Common.{sym}
-use Rattle.mf_sheet_lines.proofs.Receipts.{receipt_is_text}
+use Rattle.mf_account.proofs.ReceiptLemmas.{receipt_is_text}
 use Rattle.mf_sheet_lines.proofs.fields.receipt.Goals as goal
 
 pub unreachable-requires : goal.unreachable-requires

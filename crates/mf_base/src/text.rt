@@ -1,61 +1,64 @@
 use std::alloc::AllocError;
 use std::marker::Model;
 
-/// A name of an office, a member of staff, a client, a charge or a product. Contracts see its bytes.
-pub struct Name {
+/// A text. Contracts see its bytes.
+pub struct Text {
     text: String,
 }
 
+/// A name of an office, a member of staff, a client, a charge or a product.
+pub type Name = Text;
+
 // By hand, since a derived drop is proved again in each function that may drop one.
-impl Drop for Name {
+impl Drop for Text {
     fn drop(self) {
-        let Name { text: _ } = self;
+        let Text { text: _ } = self;
     }
 }
 
-impl Model for Name {
+impl Model for Text {
     ghost use Rattle.std.specs.Prelude.{ℕ, List};
     ghost use Rattle.std.specs.String.{string_bytes};
 
     ghost Value = { List ℕ };
 
-    ghost view = { λ name. string_bytes name.text };
+    ghost view = { λ text. string_bytes text.text };
 }
 
-impl Name {
+impl Text {
     ghost use Rattle.std.specs.Prelude.{◌≡◌};
     ghost use Rattle.std.specs.String.{string_bytes};
 
-    /// The name that a text is.
-    pub fn new(text: String) -> Name
+    /// The text that a string is.
+    pub fn new(text: String) -> Text
         ensures { result ≡ string_bytes text }
     {
-        Name { text }
+        Text { text }
     }
 
-    /// The name as a text.
+    /// The text as Rust's own.
     pub fn as_str(&self) -> &str
         ensures { result.now ≡ self.now }
     {
         self.text.as_str()
     }
 
-    /// Gives the text back.
-    pub fn into_text(self) -> String
+    /// Gives the string back.
+    pub fn into_string(self) -> String
         ensures { string_bytes result ≡ self }
     {
-        let Name { text: whole } = self;
+        let Text { text: whole } = self;
         whole
     }
 }
 
-impl Clone for Name {
+impl Clone for Text {
     ghost use Rattle.std.specs.Prelude.{◌≡◌};
 
-    ghost is_clone = { λ name copy. copy ≡ name };
+    ghost is_clone = { λ text copy. copy ≡ text };
 
-    fn clone(&self) -> Result<Name, AllocError> {
-        Ok(Name {
+    fn clone(&self) -> Result<Text, AllocError> {
+        Ok(Text {
             text: self.text.clone()?,
         })
     }
