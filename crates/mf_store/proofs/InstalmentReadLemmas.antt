@@ -2,6 +2,7 @@
 use Rattle.std.proofs.Common.{◌≡◌, ◌+◌, ℕ, List, [], ◌∷◌, map, filter, Option, None, Some, refl, ap, ◌∙◌}
 use Rattle.std.specs.List.{AllByRecursion}
 use Rattle.std.proofs.lemmas.List.Elements.{All-head, All-tail}
+use Rattle.sqlite_keyed.proofs.ListLemmas.{map-map}
 use Rattle.mf_alloc.specs.Sums.{Sums, IsWhole, AreWhole}
 use Rattle.mf_account.specs.Loan.{Loan as Running, IsSound as IsSoundAccount, state_of_loan}
 use Rattle.mf_account.proofs.SoundLemmas.{good-sound}
@@ -14,7 +15,6 @@ use Rattle.mf_model.proofs.AccountLemmas.{account_sound}
 use Rattle.mf_store_records.specs.Rows.{instalment_row, is_instalment_of}
 use Rattle.mf_store_accounts.specs.Flat.{tables_of, instalment_in, numbered_from, instalments_kept, kept_of, had_by}
 use Rattle.mf_store_changes.proofs.EnteredLemmas.{loan_sound}
-use Rattle.mf_store_accounts.proofs.ListLemmas.{map_map}
 use Rattle.mf_store_changes.proofs.LoanRowLemmas.{loan_shown}
 
 -- ---- four sums
@@ -58,4 +58,4 @@ instalments_shown loan l i sound there =
     let n = loan.number in
     let kept = kept_of instalments_kept i.catalogue in
     ap (map instalment_row) (loan_shown instalment_in kept is_instalment_of (λ x n y m a. refl) x n i.offices sound.tree.ascending ∙ ap (λ o. map (instalment_in x n) (had_by kept o)) there)
-    ∙ map_map instalment_row (instalment_in x n) (kept l)
+    ∙ map-map instalment_row (instalment_in x n) (kept l)

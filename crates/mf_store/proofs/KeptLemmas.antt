@@ -4,6 +4,7 @@ use Rattle.std.specs.Option.{option_map_or}
 use Rattle.std.specs.Map.{lookup, lookup_entry, remove_entry}
 use Rattle.std.proofs.lemmas.Bool.Decides.{nat_tests}
 use Rattle.std.specs.Cmp.{nat_eq_equiv}
+use Rattle.std.proofs.lemmas.Result.{on_ok_weaker, on_err_weaker}
 use Rattle.lru.specs.LruCache.{LruCache, lru_cache, put_entries}
 use Rattle.lru.proofs.CallerLemmas.{Contains-lookup_entry, lookup-put_entries}
 use Rattle.sqlite.specs.Held.{Held, state}
@@ -22,7 +23,6 @@ use Rattle.mf_store_accounts.specs.Flat.{key_at}
 use Rattle.mf_store.specs.Learning.{Tells}
 use Rattle.mf_store.specs.declared.known.News.TheVariants.{Nothing, OfficeCounts, BusinessDay}
 use Rattle.mf_store_commits.specs.Tabled.{IsTabled, HasGoodDisk, LeavesTables, StayTabled}
-use Rattle.mf_store_accounts.proofs.ResultLemmas.{weaker_on_ok, weaker_on_err}
 use Rattle.mf_store.specs.Stands.{StandsFor, IsClean, Leaves, IsOpenUntil, Stays}
 
 module _ {S : Type 0} (g : Ghosts S) where
@@ -191,9 +191,9 @@ module _ {S : Type 0} (g : Ghosts S) where
       → Commits (StandsFor g) (IsClean g) (Leaves g) commit (record { connection = old; known = f }) (record { connection = new; known = f }) r
   known_commits commit old new f r tells c = record {
     premise = c.premise;
-    made = λ clean i s admitted. weaker_on_ok r _ _ (c.made clean i (tabled g (record { connection = old; known = f }) i s) admitted) (λ t. known_made old new f f i (committed commit i) s t (known_still f i (committed commit i) (tells i) s.knows));
+    made = λ clean i s admitted. on_ok_weaker r (λ t. known_made old new f f i (committed commit i) s t (known_still f i (committed commit i) (tells i) s.knows)) (c.made clean i (tabled g (record { connection = old; known = f }) i s) admitted);
     kept = λ clean i s admitted. c.kept clean i (tabled g (record { connection = old; known = f }) i s) admitted;
-    same = λ clean i s. weaker_on_err r _ _ (c.same clean i (tabled g (record { connection = old; known = f }) i s)) (λ t. known_made old new f f i i s t s.knows);
+    same = λ clean i s. on_err_weaker r (λ t. known_made old new f f i i s t s.knows) (c.same clean i (tabled g (record { connection = old; known = f }) i s));
     gives_up = c.gives_up;
     stop = λ clean i is s admitted l. c.stop clean i is (tabled g (record { connection = old; known = f }) i s) admitted l;
   }

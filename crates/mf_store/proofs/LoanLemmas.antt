@@ -1,10 +1,10 @@
 -- Loans: the lists of them, and their accounts.
-use Rattle.std.proofs.Common.{◌≡◌, ◌<◌, ◌+◌, ◌-◌, ℕ, zero, suc, true, false, ◌&&◌, List, [], ◌∷◌, map, filter, take, drop, slice_get, Option, None, Some, IfSome, refl, sym, ap, ◌∙◌, subst, arith, is_eq, is_gt, nat_cmp}
+use Rattle.std.proofs.Common.{◌≡◌, ◌<◌, ◌+◌, ℕ, zero, suc, true, false, ◌&&◌, List, [], ◌∷◌, map, filter, take, drop, slice_get, Option, None, Some, IfSome, refl, sym, ap, ◌∙◌, subst, arith, is_eq, is_gt, nat_cmp}
 use Rattle.std.specs.List.{AllByRecursion}
 use Rattle.std.specs.Option.{option_map}
 use Rattle.std.proofs.lemmas.Bool.{and_parts}
 use Rattle.std.proofs.lemmas.Bool.Decides.{nat_tests}
-use Rattle.sqlite_keyed.proofs.ListLemmas.{filter-filter}
+use Rattle.sqlite_keyed.proofs.ListLemmas.{filter-filter, map-map}
 use Rattle.mf_account.specs.declared.entry.Entry.{Entry}
 use Rattle.mf_account.specs.Change.{Account as Kept, replayed}
 use Rattle.mf_account.specs.Loan.{Loan as Running}
@@ -13,7 +13,7 @@ use Rattle.mf_office.specs.declared.account.Account.{Account}
 use Rattle.mf_model.specs.declared.loan.Loan.{Loan}
 use Rattle.mf_model.specs.declared.loan.LoanLine.{LoanLine}
 use Rattle.mf_model.specs.declared.loan.Stage.TheVariants.{Submitted}
-use Rattle.mf_model.specs.Accounts.{of_account, running, running_from, status_in, terms_in}
+use Rattle.mf_model.specs.Accounts.{of_account, running, running_from, terms_in}
 use Rattle.mf_model.specs.Institution.{Institution, Catalogue, Ledger, numbered}
 use Rattle.mf_model.specs.Loans.{lines_from, lines_above}
 use Rattle.mf_model.specs.Sound.{IsSound}
@@ -26,15 +26,6 @@ use Rattle.mf_store_changes.proofs.FlatLemmas.{numbered-suc}
 use Rattle.mf_store.proofs.OfficeRowsLemmas.{rows_in_office}
 use Rattle.mf_store_changes.proofs.LoanLemmas.{loan_of}
 
--- ---- what a row is read as
-
-pub line_is : (row : LoanRow) (k : Catalogue) (office number status x n : ℕ) (l : Ledger) → row ≡ loan_in x n l.loan → office ≡ row.office → number ≡ row.number → status ≡ status_in k l
-    → ◌≡◌ {A = LoanLine} (record { loan = record { office = office; number = number }; status = status }) (line_in k x n l)
-line_is row k office number status x n l e a b c = λ t. record {
-  loan = record { office = (a ∙ ap (λ (r : LoanRow). r.office) e) t; number = (b ∙ ap (λ (r : LoanRow). r.number) e) t };
-  status = c t;
-}
-
 -- ---- lists of loans
 
 take_map : {A B : Type 0} (f : A → B) (n : ℕ) (xs : List A) → take n (map f xs) ≡ map f (take n xs)
@@ -46,10 +37,6 @@ drop_map : {A B : Type 0} (f : A → B) (n : ℕ) (xs : List A) → drop n (map 
 drop_map f zero xs = refl
 drop_map f (suc n) [] = refl
 drop_map f (suc n) (x ∷ xs) = drop_map f n xs
-
-map_map : {A B C : Type 0} (g : B → C) (f : A → B) (xs : List A) → map g (map f xs) ≡ map (λ x. g (f x)) xs
-map_map g f [] = refl
-map_map g f (x ∷ xs) = ap (λ l. g (f x) ∷ l) (map_map g f xs)
 
 -- loans with their numbers
 abbrev pub counted : ℕ → List Ledger → List (ℕ × Ledger)
@@ -79,13 +66,13 @@ shown_loans after ls = take 100 (drop after (counted 1 ls))
 pub loans_shown : (x : ℕ) (i : Institution) → IsSound i → map loan_row (filter (is_loan_of x) (tables_of i).loans) ≡ map (λ (l : ℕ × Ledger). loan_row (loan_in x l.0 l.1.loan)) (counted 1 (rows_at x i).loans)
 loans_shown x i sound =
     ap (map loan_row) (rows_in_office loan_in loans_of refl is_loan_of (λ x y m a. refl) x i.offices sound.tree.ascending ∙ rows_counted x 1 (rows_at x i).loans)
-    ∙ map_map loan_row (λ (l : ℕ × Ledger). loan_in x l.0 l.1.loan) (counted 1 (rows_at x i).loans)
+    ∙ map-map loan_row (λ (l : ℕ × Ledger). loan_in x l.0 l.1.loan) (counted 1 (rows_at x i).loans)
 
 pub above_shown : (x after : ℕ) (i : Institution) → IsSound i → take 100 (map loan_row (filter (is_loan_above x after) (tables_of i).loans)) ≡ map (λ (l : ℕ × Ledger). loan_row (loan_in x l.0 l.1.loan)) (shown_loans after (rows_at x i).loans)
 above_shown x after i sound =
     ap (λ l. take 100 (map loan_row l)) (sym (filter-filter (is_loan_above x after) (is_loan_of x) (λ r h. (and_parts _ _ h).0) (tables_of i).loans)
     ∙ ap (filter (is_loan_above x after)) (rows_in_office loan_in loans_of refl is_loan_of (λ x y m a. refl) x i.offices sound.tree.ascending) ∙ above_dropped x after 1 after (map loan_of loans) (omega arith) ∙ ap (drop after) (rows_counted x 1 loans) ∙ drop_map row after (counted 1 loans))
-    ∙ ap (take 100) (map_map loan_row row (drop after (counted 1 loans))) ∙ take_map (λ (l : ℕ × Ledger). loan_row (loan_in x l.0 l.1.loan)) 100 (drop after (counted 1 loans))
+    ∙ ap (take 100) (map-map loan_row row (drop after (counted 1 loans))) ∙ take_map (λ (l : ℕ × Ledger). loan_row (loan_in x l.0 l.1.loan)) 100 (drop after (counted 1 loans))
   where
     loans : List Ledger
     loans = (rows_at x i).loans

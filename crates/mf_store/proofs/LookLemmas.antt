@@ -1,5 +1,5 @@
 -- What the look-ups by key find, in the words of the institution.
-use Rattle.std.proofs.Common.{◌≡◌, ◌≤◌, ◌-◌, ◌↔◌, ℕ, Bool, true, false, cond, IsTrue, List, [], ◌∷◌, length, map, find, Option, None, Some, refl, sym, subst, arith, is_eq, nat_cmp, ◌==◌}
+use Rattle.std.proofs.Common.{◌≡◌, ◌≤◌, ◌↔◌, ℕ, Bool, true, false, cond, IsTrue, List, [], ◌∷◌, length, map, find, Option, None, Some, refl, sym, subst, arith, is_eq, nat_cmp, ◌==◌}
 use Rattle.std.specs.Option.{option_map, is_some}
 use Rattle.std.proofs.lemmas.Bool.Decides.{nat_tests}
 use Rattle.mf_model.specs.Institution.{Institution, Office, office_at, numbered}

@@ -1,5 +1,6 @@
 -- From the calls to the commit.
 use Rattle.std.proofs.Common.{◌≡◌, List, [], ◌∷◌, Result, IfErr, OnOk, OnErr}
+use Rattle.std.proofs.lemmas.Result.{on_ok_weaker, on_err_weaker}
 use Rattle.sqlite_trees.specs.declared.store.Store.{Ghosts}
 use Rattle.mf_base.specs.declared.fault.Fault.{Fault}
 use Rattle.mf_base.specs.declared.fault.Fault.TheVariants.{F20}
@@ -12,7 +13,6 @@ use Rattle.mf_store.specs.Learning.{Tells}
 use Rattle.mf_store.specs.declared.known.News.{News}
 use Rattle.mf_store.specs.Stands.{StandsFor, IsClean, Leaves, Stays}
 use Rattle.mf_store_changes.specs.Becoming.{Becomes}
-use Rattle.mf_store_accounts.proofs.ResultLemmas.{weaker_on_ok, weaker_on_err}
 
 module _ {S : Type 0} (g : Ghosts S) (commit : Commit) where
   abbrev Made : Kept S → Kept S → Result (Unit {0}) Fault → Type 0
@@ -29,9 +29,9 @@ module _ {S : Type 0} (g : Ghosts S) (commit : Commit) where
       → Made old new r
   made_by old mid new writes news r kept becomes premise gives_up made left same stop = record {
     premise = λ clean. kept.premise (premise clean);
-    made = λ clean i s admitted. let now = premise clean in weaker_on_ok r _ (StandsFor g new (committed commit i)) (made clean) (λ m. let b = becomes now i s admitted in m i (committed commit i) (kept.same now i s) b.0 b.1);
-    kept = λ clean i s admitted. let now = premise clean in weaker_on_ok r _ (Leaves g new (committed commit i ∷ [])) (left clean) (λ m. m i (committed commit i) (kept.same now i s) (becomes now i s admitted).0);
-    same = λ clean i s. weaker_on_err r _ (StandsFor g new i) (same clean) (λ m. m i (kept.same (premise clean) i s));
+    made = λ clean i s admitted. let now = premise clean in on_ok_weaker r (λ m. let b = becomes now i s admitted in m i (committed commit i) (kept.same now i s) b.0 b.1) (made clean);
+    kept = λ clean i s admitted. let now = premise clean in on_ok_weaker r (λ m. m i (committed commit i) (kept.same now i s) (becomes now i s admitted).0) (left clean);
+    same = λ clean i s. on_err_weaker r (λ m. m i (kept.same (premise clean) i s)) (same clean);
     gives_up = gives_up;
     stop = λ clean i is s admitted l. let now = premise clean in stop clean i (committed commit i) is (kept.same now i s) (becomes now i s admitted).0 (kept.stop now is l);
   }

@@ -3,6 +3,8 @@ use Rattle.std.proofs.Common.{◌≡◌, ◌<◌, ◌+◌, ◌++◌, ◌==◌, �
 use Rattle.std.specs.List.{AllByRecursion}
 use Rattle.std.proofs.lemmas.Bool.Decides.{nat_tests}
 use Rattle.std.proofs.lemmas.List.Elements.{filter-append}
+use Rattle.std.proofs.lemmas.List.{append-nil}
+use Rattle.sqlite_keyed.proofs.ListLemmas.{all_weaker, filter_all, filter_none}
 use Rattle.mf_alloc.specs.Sums.{IsWhole}
 use Rattle.mf_account.specs.Loan.{Loan as Running, IsSound as IsSoundAccount, state_of_loan}
 use Rattle.mf_account.proofs.SoundLemmas.{good-sound}
@@ -19,14 +21,13 @@ use Rattle.mf_store_values.specs.Arrears.{Numbered, AreAbove, AreWholeLoans, row
 use Rattle.mf_store.proofs.ArrearsLemmas.{aged_told}
 use Rattle.mf_store.proofs.InstalmentReadLemmas.{numbered_whole, sums_kept}
 use Rattle.mf_store_changes.proofs.LoanRowLemmas.{all_loans, all_offices}
-use Rattle.mf_store_accounts.proofs.ListLemmas.{all_weaker, append_none, kept_all, kept_none}
 use Rattle.mf_store_changes.proofs.SoundLemmas.{office_sound}
 
 -- ---- one office's rows among all, where they stand loan by loan
 
 module _ {A R : Type 0} (make : ℕ → ℕ → A → R) (of : Ledger → List A) (p : ℕ → R → Bool) (tests : (x y m : ℕ) (a : A) → p x (make y m a) ≡ is_eq (nat_cmp x y)) where
   own_kept : (x n : ℕ) (ls : List Ledger) → filter (p x) (rows_of_loans make of x n ls) ≡ rows_of_loans make of x n ls
-  own_kept x n ls = kept_all (p x) (rows_of_loans make of x n ls) (all_loans make of (λ r. p x r ≡ true) x n ls (λ m a low. tests x x m a ∙ (let here : is_eq (nat_cmp x x) ≡ true = grind (arith, nat_tests) in here)))
+  own_kept x n ls = filter_all (p x) (rows_of_loans make of x n ls) (all_loans make of (λ r. p x r ≡ true) x n ls (λ m a low. tests x x m a ∙ (let here : is_eq (nat_cmp x x) ≡ true = grind (arith, nat_tests) in here)))
 
   other : (x y m : ℕ) (a : A) → (y == x) ≡ false → p x (make y m a) ≡ false
   other x y m a h = tests x y m a ∙ (let apart : is_eq (nat_cmp x y) ≡ false = grind (arith, nat_tests) in apart)
@@ -42,11 +43,11 @@ module _ {A R : Type 0} (make : ℕ → ℕ → A → R) (of : Ledger → List A
           let above : Above x fs = subst (λ k. Above k fs) same up.0 in
           filter-append (p x) (rows_of_loans make of f.number 1 f.rows.loans) (rows_by_loan make of fs)
           ∙ ap₂ ◌++◌ (subst (λ k. filter (p x) (rows_of_loans make of k 1 f.rows.loans) ≡ rows_of_loans make of x 1 f.rows.loans) (sym same) (own_kept x 1 f.rows.loans))
-          (kept_none (p x) (rows_by_loan make of fs) (all_offices make of (λ r. p x r ≡ false) x fs above (λ y m a low. other x y m a (let apart : (y == x) ≡ false = grind (arith, nat_tests) in apart))))
-          ∙ append_none (rows_of_loans make of x 1 f.rows.loans)
+          (filter_none (p x) (rows_by_loan make of fs) (all_offices make of (λ r. p x r ≡ false) x fs above (λ y m a low. other x y m a (let apart : (y == x) ≡ false = grind (arith, nat_tests) in apart))))
+          ∙ append-nil (rows_of_loans make of x 1 f.rows.loans)
       go false e more =
           filter-append (p x) (rows_of_loans make of f.number 1 f.rows.loans) (rows_by_loan make of fs)
-          ∙ ap₂ ◌++◌ (kept_none (p x) (rows_of_loans make of f.number 1 f.rows.loans) (all_loans make of (λ r. p x r ≡ false) f.number 1 f.rows.loans (λ m a low. other x f.number m a e))) more
+          ∙ ap₂ ◌++◌ (filter_none (p x) (rows_of_loans make of f.number 1 f.rows.loans) (all_loans make of (λ r. p x r ≡ false) f.number 1 f.rows.loans (λ m a low. other x f.number m a e))) more
 
 -- ---- loans, the first with this number, with their instalments
 
@@ -74,7 +75,7 @@ pub office_accounts : (x : ℕ) (i : Institution) → IsSound i → HaveSound i.
 office_accounts x i sound =
     let k = i.catalogue in
     let rows = rows_at x i in
-    all_weaker (IsSoundLoan k (is_staff i.offices) rows.clients) (λ l. (a : Running) → account_in k l ≡ Some a → IsSoundAccount a) rows.loans (λ l is a at. account_sound k (is_staff i.offices) rows.clients l a sound.catalogue is at) (office_sound k (is_staff i.offices) x i.offices sound.each).loans
+    all_weaker (IsSoundLoan k (is_staff i.offices) rows.clients) (λ l. (a : Running) → account_in k l ≡ Some a → IsSoundAccount a) (λ l is a at. account_sound k (is_staff i.offices) rows.clients l a sound.catalogue is at) rows.loans (office_sound k (is_staff i.offices) x i.offices sound.each).loans
 
 whole_kept : (o : Option Running) → ((a : Running) → o ≡ Some a → IsSoundAccount a) → AllByRecursion (λ item. IsWhole item.1) (of_account [] instalments_kept o)
 whole_kept None sound = tt

@@ -2,6 +2,7 @@
 use Rattle.std.proofs.Common.{◌≡◌, ◌<◌, ◌+◌, ℕ, Bool, true, false, cond, List, [], ◌∷◌, ◌++◌, map, filter, Some, refl, sym, ap, ap₂, ◌∙◌, subst, arith, is_eq, nat_cmp, ◌==◌}
 use Rattle.std.proofs.lemmas.Bool.Decides.{nat_tests}
 use Rattle.std.proofs.lemmas.List.Elements.{filter-append}
+use Rattle.std.proofs.lemmas.List.{append-nil}
 use Rattle.sqlite.specs.Order.{Row}
 use Rattle.mf_model.specs.Institution.{Institution, Office, Rows, office_at, no_rows}
 use Rattle.mf_model.specs.Sound.{IsSound}
@@ -28,10 +29,6 @@ module _ {A R : Type 0} (make : ℕ → ℕ → A → R) (of : Rows → List A) 
       let apart : (f.number == x) ≡ false = grind (arith, nat_tests) in
       filter-append (p x) (numbered_from (make f.number) 1 (of f.rows)) (all_rows make of fs) ∙ ap₂ ◌++◌ (other_left x f.number 1 (of f.rows) apart) (above_left x fs up.1)
 
-  append_none : (xs : List R) → xs ++ [] ≡ xs
-  append_none [] = refl
-  append_none (r ∷ xs) = ap (λ l. r ∷ l) (append_none xs)
-
   pub rows_in_office : (x : ℕ) (fs : List Office) → Ascending fs → filter (p x) (all_rows make of fs) ≡ numbered_from (make x) 1 (of (rows_of (office_at x fs)))
   rows_in_office x [] up = sym (ap (numbered_from (make x) 1) none)
   rows_in_office x (f ∷ fs) up = go (f.number == x) refl (rows_in_office x fs up.1)
@@ -41,7 +38,7 @@ module _ {A R : Type 0} (make : ℕ → ℕ → A → R) (of : Rows → List A) 
           let same : f.number ≡ x = grind (arith, nat_tests) in
           filter-append (p x) (numbered_from (make f.number) 1 (of f.rows)) (all_rows make of fs)
           ∙ ap₂ ◌++◌ (subst (λ n. filter (p x) (numbered_from (make n) 1 (of f.rows)) ≡ numbered_from (make x) 1 (of f.rows)) (sym same) (own_kept x 1 (of f.rows))) (above_left x fs (subst (λ n. Above n fs) same up.0))
-          ∙ append_none (numbered_from (make x) 1 (of f.rows))
+          ∙ append-nil (numbered_from (make x) 1 (of f.rows))
       go false e more = filter-append (p x) (numbered_from (make f.number) 1 (of f.rows)) (all_rows make of fs) ∙ ap₂ ◌++◌ (other_left x f.number 1 (of f.rows) e) more
 
 pub map_numbered : {A R : Type 0} (row : R → Row) (make : ℕ → A → R) (n : ℕ) (xs : List A) → map row (numbered_from make n xs) ≡ numbered_from (λ m a. row (make m a)) n xs

@@ -1,8 +1,8 @@
 -- A sound institution is the only one with its rows: each value is read back off its row, and an office's rows are those that stand first.
-use Rattle.std.proofs.Common.{◌≡◌, ◌<◌, ◌+◌, ◌∙◌, ℕ, suc, pos, Bool, true, false, cond, List, [], ◌∷◌, ◌++◌, map, take, drop, Option, Some, refl, sym, ap, subst, arith, ◌==◌, true≢false}
-use Rattle.std.specs.List.{AllByRecursion, prefix_len}
+use Rattle.std.proofs.Common.{◌≡◌, ◌<◌, ◌+◌, ◌∙◌, ℕ, Bool, true, false, cond, List, [], ◌∷◌, ◌++◌, map, Some, refl, sym, ap, subst, arith, ◌==◌, true≢false}
+use Rattle.std.specs.List.{AllByRecursion}
 use Rattle.std.proofs.lemmas.Bool.Decides.{nat_tests}
-use Rattle.std.proofs.lemmas.List.Sums.{take_while-cons}
+use Rattle.sqlite_keyed.proofs.ListLemmas.{all-map}
 use Rattle.mf_base.specs.Choices.{frequency_number}
 use Rattle.mf_base.specs.DayText.{day_text}
 use Rattle.mf_base.specs.declared.day.Freq.{Freq}
@@ -26,12 +26,11 @@ use Rattle.mf_office.specs.Texts.{IsCaller}
 use Rattle.mf_office.specs.Written.{caller_text}
 use Rattle.mf_office.specs.declared.caller.Caller.{Caller}
 use Rattle.mf_office.proofs.ReadLemmas.{caller_of-text}
-use Rattle.mf_model.specs.Institution.{Institution, Charge, Ledger, Offer, Office, Rows, Staff, no_rows}
+use Rattle.mf_model.specs.Institution.{Institution, Charge, Ledger, Offer, Office, Rows, Staff}
 use Rattle.mf_model.specs.Sound.{IsSound}
 use Rattle.mf_model.specs.Tree.{Above, Ascending, parent_of}
 use Rattle.mf_model.specs.declared.loan.Loan.{Loan}
 use Rattle.mf_store_records.specs.declared.meta.MetaRow.{MetaRow}
-use Rattle.mf_store_records.specs.declared.offices.OfficeRow.{OfficeRow}
 use Rattle.mf_store_records.specs.declared.staff.StaffRow.{StaffRow}
 use Rattle.mf_store_records.specs.declared.clients.ClientRow.{ClientRow}
 use Rattle.mf_store_records.specs.declared.charges.ChargeRow.{ChargeRow}
@@ -39,80 +38,15 @@ use Rattle.mf_store_records.specs.declared.products.ProductRow.{ProductRow}
 use Rattle.mf_store_records.specs.declared.loans.LoanRow.{LoanRow}
 use Rattle.mf_store_records.specs.declared.entries.EntryRow.{EntryRow}
 use Rattle.mf_store_changes.proofs.FlatLemmas.{portion_same}
-use Rattle.mf_store_accounts.specs.Flat.{flag_number, entry_kind_number, office_under, meta_on, staff_in, client_in, charge_as, product_as, loan_in, loans_of, entry_in, own_entries, numbered_from, all_rows, rows_of_loans, entry_rows, tables_of}
+use Rattle.mf_store_accounts.specs.Flat.{entry_kind_number, meta_on, staff_in, client_in, charge_as, product_as, loan_in, loans_of, entry_in, own_entries, numbered_from, all_rows, rows_of_loans, entry_rows, tables_of}
+use Rattle.mf_store_accounts.specs.Parts.{own, later, office_of, bare}
+use Rattle.mf_store_accounts.proofs.PartLemmas.{own_of_first, later_of_first, heads_of}
+use Rattle.mf_store_values.proofs.CatalogueLemmas.{flag_is, amount_is}
 use Rattle.mf_store_changes.proofs.EnteredLemmas.{HaveCallers, AreCalled, all_called}
-use Rattle.mf_store_accounts.proofs.ListLemmas.{all_map}
 use Rattle.mf_store_changes.proofs.LoanRowLemmas.{all_loans, all_offices}
 use Rattle.mf_store_changes.proofs.LoanLemmas.{loan_of}
 use Rattle.mf_store_values.proofs.LoanLemmas.{stage_is}
 use Rattle.mf_store_records.specs.Rows.{Lists}
-
--- ---- rows in the order of their offices: those of the first office, and those of later ones
-
--- how many rows are this office's before the first that is not
-abbrev own_count : {R : Type 0} → (R → ℕ) → ℕ → List R → ℕ
-own_count office_of x rows = prefix_len (λ r. office_of r == x) rows
-
-abbrev own : {R : Type 0} → (R → ℕ) → ℕ → List R → List R
-own office_of x rows = take (own_count office_of x rows) rows
-
-abbrev later : {R : Type 0} → (R → ℕ) → ℕ → List R → List R
-later office_of x rows = drop (own_count office_of x rows) rows
-
-own-cons : {R : Type 0} (office : R → ℕ) (x : ℕ) (r : R) (rs : List R) → own office x (r ∷ rs) ≡ cond (office r == x) (r ∷ own office x rs) []
-own-cons office x r rs = take_while-cons (λ s. office s == x) r rs
-
-later-cons : {R : Type 0} (office : R → ℕ) (x : ℕ) (r : R) (rs : List R) → later office x (r ∷ rs) ≡ cond (office r == x) (later office x rs) (r ∷ rs)
-later-cons office x r rs = go (office r == x)
-  where
-    go : (b : Bool) → drop (cond b (1 + own_count office x rs) 0) (r ∷ rs) ≡ cond b (later office x rs) (r ∷ rs)
-    go true = ap (λ n. drop n (r ∷ rs)) (let e : 1 + own_count office x rs ≡ suc (own_count office x rs) = omega arith in e)
-    go false = refl
-
-module _ {A R : Type 0} (make : ℕ → ℕ → A → R) (of : Rows → List A) (office : R → ℕ) (belongs : (x n : ℕ) (a : A) → office (make x n a) ≡ x) where
-  at_own : (x n : ℕ) (a : A) → (office (make x n a) == x) ≡ true
-  at_own x n a = let same : office (make x n a) ≡ x = belongs x n a in grind (arith, nat_tests)
-
-  own_block : (x n : ℕ) (xs : List A) (rest : List R) → own office x rest ≡ [] → own office x (numbered_from (make x) n xs ++ rest) ≡ numbered_from (make x) n xs
-  own_block x n [] rest h = h
-  own_block x n (a ∷ xs) rest h =
-      own-cons office x (make x n a) (numbered_from (make x) (n + 1) xs ++ rest) ∙ ap (λ b. cond b (make x n a ∷ own office x (numbered_from (make x) (n + 1) xs ++ rest)) []) (at_own x n a) ∙ ap (λ l. make x n a ∷ l) (own_block x (n + 1) xs rest h)
-
-  later_block : (x n : ℕ) (xs : List A) (rest : List R) → later office x rest ≡ rest → later office x (numbered_from (make x) n xs ++ rest) ≡ rest
-  later_block x n [] rest h = h
-  later_block x n (a ∷ xs) rest h =
-      later-cons office x (make x n a) (numbered_from (make x) (n + 1) xs ++ rest) ∙ ap (λ b. cond b (later office x (numbered_from (make x) (n + 1) xs ++ rest)) (make x n a ∷ numbered_from (make x) (n + 1) xs ++ rest)) (at_own x n a) ∙ later_block x (n + 1) xs rest h
-
-  -- offices with greater numbers have none of the first office's rows
-  none_own : (x : ℕ) (fs : List Office) → Above x fs → own_count office x (all_rows make of fs) ≡ 0
-  none_own x [] h = refl
-  none_own x (f ∷ fs) h = go (of f.rows) (none_own x fs h.1)
-    where
-      go : (xs : List A) → own_count office x (all_rows make of fs) ≡ 0 → own_count office x (numbered_from (make f.number) 1 xs ++ all_rows make of fs) ≡ 0
-      go [] more = more
-      go (a ∷ xs) more =
-          let low : x < f.number = h.0 in
-          let its : office (make f.number 1 a) ≡ f.number = belongs f.number 1 a in
-          let apart : (office (make f.number 1 a) == x) ≡ false = grind (arith, nat_tests) in
-          ap (λ b. cond b (1 + own_count office x (numbered_from (make f.number) (1 + 1) xs ++ all_rows make of fs)) 0) apart
-
-  own_of_first : (f : Office) (fs : List Office) → Above f.number fs → own office f.number (all_rows make of (f ∷ fs)) ≡ numbered_from (make f.number) 1 (of f.rows)
-  own_of_first f fs h = own_block f.number 1 (of f.rows) (all_rows make of fs) (ap (λ n. take n (all_rows make of fs)) (none_own f.number fs h))
-
-  later_of_first : (f : Office) (fs : List Office) → Above f.number fs → later office f.number (all_rows make of (f ∷ fs)) ≡ all_rows make of fs
-  later_of_first f fs h = later_block f.number 1 (of f.rows) (all_rows make of fs) (ap (λ n. drop n (all_rows make of fs)) (none_own f.number fs h))
-
--- the office of a row, with none of the rows that belong to it
-abbrev office_of : OfficeRow → Office
-office_of r = record { number = r.number; parent = r.parent; name = r.name; rows = no_rows }
-
--- the office, with none of the rows that belong to it
-abbrev bare : Office → Office
-bare f = record f { rows = no_rows }
-
-heads_of : (parents : ℕ → Option ℕ) (fs : List Office) → map office_of (map (office_under parents) fs) ≡ map bare fs
-heads_of parents [] = refl
-heads_of parents (f ∷ fs) = ap (λ gs. bare f ∷ gs) (heads_of parents fs)
 
 -- ---- numbers that stand for choices
 
@@ -184,20 +118,7 @@ strategy_read DueFirst = refl
 strategy_same : (a b : StrategyName) → strategy_number a ≡ strategy_number b → a ≡ b
 strategy_same a b e = sym (strategy_read a) ∙ ap strategy_at e ∙ strategy_read b
 
-abbrev flag_at : ℕ → Bool
-flag_at n = cond (n == 0) false true
-
-flag_read : (x : Bool) → flag_at (flag_number x) ≡ x
-flag_read false = refl
-flag_read true = refl
-
-flag_same : (a b : Bool) → flag_number a ≡ flag_number b → a ≡ b
-flag_same a b e = sym (flag_read a) ∙ ap flag_at e ∙ flag_read b
-
 -- ---- values, by their rows
-
-pos_same : (m n : ℕ) → pos m ≡ pos n → m ≡ n
-pos_same m n e = cc
 
 staff_same : (x n : ℕ) (a b : Staff) → staff_in x n a ≡ staff_in x n b → a ≡ b
 staff_same x n a b e = λ t. record { name = ap (λ (r : StaffRow). r.name) e t; role = role_same a.role b.role (ap (λ (r : StaffRow). r.role) e) t }
@@ -210,7 +131,7 @@ charge_same n a b e = λ t. record {
   name = ap (λ (r : ChargeRow). r.name) e t;
   kind = kind_same a.kind b.kind (ap (λ (r : ChargeRow). r.kind) e) t;
   calc = calc_same a.calc b.calc (ap (λ (r : ChargeRow). r.calc) e) t;
-  value = pos_same a.value b.value (ap (λ (r : ChargeRow). r.value) e) t;
+  value = amount_is a.value b.value (ap (λ (r : ChargeRow). r.value) e) t;
 }
 
 product_same : (n : ℕ) (a b : Offer) → product_as n a ≡ product_as n b → a ≡ b
@@ -223,8 +144,8 @@ product_same n a b e = λ t. record {
     every = (e t).every;
     principal_grace = (e t).principal_grace;
     interest_grace = (e t).interest_grace;
-    min_principal = pos_same a.members.min_principal b.members.min_principal (ap (λ (r : ProductRow). r.min_principal) e) t;
-    max_principal = pos_same a.members.max_principal b.members.max_principal (ap (λ (r : ProductRow). r.max_principal) e) t;
+    min_principal = amount_is a.members.min_principal b.members.min_principal (ap (λ (r : ProductRow). r.min_principal) e) t;
+    max_principal = amount_is a.members.max_principal b.members.max_principal (ap (λ (r : ProductRow). r.max_principal) e) t;
     min_periods = (e t).min_periods;
     max_periods = (e t).max_periods;
     strategy = strategy_same a.members.strategy b.members.strategy (ap (λ (r : ProductRow). r.strategy) e) t;
@@ -232,7 +153,7 @@ product_same n a b e = λ t. record {
     instalment_charge = (e t).instalment_charge;
     overdue_charge = (e t).overdue_charge;
   };
-  retired = flag_same a.retired b.retired (ap (λ (r : ProductRow). r.retired) e) t;
+  retired = flag_is a.retired b.retired (ap (λ (r : ProductRow). r.retired) e) t;
 }
 
 -- ---- lists of rows
@@ -326,19 +247,19 @@ module _ (apart : (d e : ℕ) → day_text d ≡ day_text e → d ≡ e) where
   loan_same : (x n : ℕ) (a b : Loan) → loan_in x n a ≡ loan_in x n b → a ≡ b
   loan_same x n a b e =
       let stage : a.stage ≡ b.stage = stage_is apart a.stage b.stage (ap (λ (r : LoanRow). r.stage) e) (ap (λ (r : LoanRow). r.approved) e) (ap (λ (r : LoanRow). r.disbursed) e) in
-      λ t. record { client = (e t).client; product = (e t).product; principal = pos_same a.principal b.principal (ap (λ (r : LoanRow). r.principal) e) t; periods = (e t).periods; stage = stage t }
+      λ t. record { client = (e t).client; product = (e t).product; principal = amount_is a.principal b.principal (ap (λ (r : LoanRow). r.principal) e) t; periods = (e t).periods; stage = stage t }
 
   entry_same : (x n : ℕ) (a b : Entry) → IsCaller a.staff → IsCaller b.staff → entry_in x n a ≡ entry_in x n b → a ≡ b
   entry_same x n a b p q e = λ t. record {
     seq = (e t).seq;
     kind = entry_kind_same a.kind b.kind (ap (λ (r : EntryRow). r.kind) e) t;
     day = apart a.day b.day (ap (λ (r : EntryRow). r.day) e) t;
-    amount = pos_same a.amount b.amount (ap (λ (r : EntryRow). r.amount) e) t;
+    amount = amount_is a.amount b.amount (ap (λ (r : EntryRow). r.amount) e) t;
     instalment = (e t).instalment;
     portion = portion_same a.portion b.portion (ap (λ (r : EntryRow). r.portion) e) t;
     receipt = (e t).receipt;
     staff = caller_same a.staff b.staff p q (ap (λ (r : EntryRow). r.staff) e) t;
-    reversed = flag_same a.reversed b.reversed (ap (λ (r : EntryRow). r.reversed) e) t;
+    reversed = flag_is a.reversed b.reversed (ap (λ (r : EntryRow). r.reversed) e) t;
   }
 
   entries_same : (x n : ℕ) (ds bs : List Entry) → HaveCallers ds → HaveCallers bs → map (entry_in x n) ds ≡ map (entry_in x n) bs → ds ≡ bs
@@ -359,7 +280,7 @@ module _ (apart : (d e : ℕ) → day_text d ≡ day_text e → d ≡ e) where
       let heads : l.loan ∷ map loan_of ls ≡ k.loan ∷ map loan_of ks = h in
       let loan : l.loan ≡ k.loan = cc in
       let loans : map loan_of ls ≡ map loan_of ks = cc in
-      let own = λ (es : List Entry). all_map (λ r. of_loan n r ≡ true) (entry_in x n) es (λ a. at_self n) in
+      let own = λ (es : List Entry). all-map (λ r. of_loan n r ≡ true) (entry_in x n) (λ a. at_self n) es in
       let others = λ (js : List Ledger). all_loans entry_in own_entries (λ r. of_loan n r ≡ false) x (n + 1) js (λ m a low. above_self n m (omega (arith, low))) in
       let parts = split_same (of_loan n) (map (entry_in x n) l.entries) (rows_of_loans entry_in own_entries x (n + 1) ls) (map (entry_in x n) k.entries) (rows_of_loans entry_in own_entries x (n + 1) ks) (own l.entries) (others ls) (own k.entries) (others ks) e in
       let entries = entries_same x n l.entries k.entries p.0 q.0 parts.0 in

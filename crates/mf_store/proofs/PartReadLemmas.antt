@@ -1,6 +1,7 @@
 -- What the rows of a loan's shares are read as, and what is resumed of a loan.
 use Rattle.std.proofs.Common.{◌≡◌, ℕ, List, [], map, filter, Option, None, Some, refl, sym, ap, ◌∙◌}
 use Rattle.std.specs.Option.{option_map}
+use Rattle.sqlite_keyed.proofs.ListLemmas.{map-map}
 use Rattle.mf_alloc.specs.Sums.{Sums}
 use Rattle.mf_catalog.specs.declared.terms.Terms.{Terms}
 use Rattle.mf_account.specs.declared.entry.Entry.{Entry}
@@ -18,7 +19,6 @@ use Rattle.mf_store_records.specs.Rows.{share_row, is_share_of}
 use Rattle.mf_store_accounts.specs.Flat.{tables_of, share_in, shares_kept, kept_of, had_by, entries_of}
 use Rattle.mf_store_accounts.specs.Kept.{part_told}
 use Rattle.mf_store_accounts.proofs.KeptLemmas.{shares_told}
-use Rattle.mf_store_accounts.proofs.ListLemmas.{map_map}
 use Rattle.mf_store.proofs.InstalmentReadLemmas.{loan_account_sound}
 use Rattle.mf_store_changes.proofs.LoanRowLemmas.{loan_shown}
 
@@ -30,7 +30,7 @@ shares_shown loan l i sound there =
     let n = loan.number in
     let kept = kept_of shares_kept i.catalogue in
     ap (map share_row) (loan_shown share_in kept is_share_of (λ x n y m a. refl) x n i.offices sound.tree.ascending ∙ ap (λ o. map (share_in x n) (had_by kept o)) there)
-    ∙ map_map share_row (share_in x n) (kept l)
+    ∙ map-map share_row (share_in x n) (kept l)
 
 -- the ledger of a loan that is there
 pub record IsLedgerOf (account : Account) (loan : Loan) (i : Institution) : Type 0 where

@@ -24,10 +24,9 @@ use mf_catalog::{ChargeDef, Terms};
 use mf_model::{Loan, LoanLine, LoanList};
 use mf_office::{Account, OfficeNo};
 use mf_store_changes::{put_change, put_schedule, row_of_entry, writes_of};
-use mf_store_records::{EntryRow, LoanRow, StoreWrite, read_row};
+use mf_store_records::{EntryRow, StoreWrite};
 use mf_store_values::{
-    account_number, disbursal_day, entries_from, is_active, loan_from, office_number,
-    settled_status, stored,
+    disbursal_day, entries_from, is_active, loan_in_row, settled_status, stored,
 };
 use sqlite::{Alter, Row};
 use std::alloc::Global;
@@ -215,10 +214,8 @@ impl<S: Alter> Store<S> {
         ensures open { IsClean S.Store self.new → IsOpen S.Store self.old → OnOk result (IsOpen S.Store self.new) }
         ensures value { IsClean S.Store self.new → (i : Institution) → StandsFor S.Store self.old i → (office number : ℕ) (l : ModelLedger) → row.now ≡ loan_stored (loan_in office number l.loan) → ledger_at (record { office = office; number = number }) i ≡ Some l → IfOk result (λ line. line ≡ line_in i.catalogue office number l) }
     {
-        let found = read_row::<LoanRow>(row)?;
-        let office = office_number(found.office)?;
-        let number = account_number(found.number)?;
-        let loan = loan_from(found)?;
+        let (account, loan) = loan_in_row(row)?;
+        let Account { office, number } = account;
         let status = self.status_of(alloc, Account { office, number }, &loan)?;
         Ok(LoanLine {
             loan: Account { office, number },

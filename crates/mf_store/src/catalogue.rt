@@ -120,7 +120,7 @@ impl<S: Alter> Store<S> {
         let row = charge_row(number, name, kind, calc, value)?;
         let now = CatalogueCounts {
             charges: number,
-            products: counts.products,
+            ..counts
         };
         self.make(&[StoreWrite::PutCharge(row)], News::Catalogue(now))
     }
@@ -138,8 +138,8 @@ impl<S: Alter> Store<S> {
         let number = counts.products + 1;
         let row = product_row(number, members)?;
         let now = CatalogueCounts {
-            charges: counts.charges,
             products: number,
+            ..counts
         };
         self.make(&[StoreWrite::AddProduct(row)], News::Catalogue(now))
     }

@@ -73,11 +73,7 @@ impl<S: Alter> Store<S> {
         ensures open { IsClean S.Store self.new → OnOk result (IsOpen S.Store self.new) }
     {
         let office = office.get();
-        let there = self.has_office(office)?;
-        if !there {
-            return Err(Fault::F20);
-        }
-        let counts = self.counts_of(office)?;
+        let counts = self.counts_there(office)?;
         if counts.staff > MOST {
             return Err(Fault::F20);
         }
@@ -90,8 +86,7 @@ impl<S: Alter> Store<S> {
         };
         let now = Counts {
             staff: number,
-            clients: counts.clients,
-            loans: counts.loans,
+            ..counts
         };
         self.make(
             &[StoreWrite::PutStaff(staff)],
@@ -106,11 +101,7 @@ impl<S: Alter> Store<S> {
         ensures open { IsClean S.Store self.new → OnOk result (IsOpen S.Store self.new) }
     {
         let office = office.get();
-        let there = self.has_office(office)?;
-        if !there {
-            return Err(Fault::F20);
-        }
-        let counts = self.counts_of(office)?;
+        let counts = self.counts_there(office)?;
         if counts.clients > MOST {
             return Err(Fault::F20);
         }
@@ -121,9 +112,8 @@ impl<S: Alter> Store<S> {
             name: Text::of_name(name),
         };
         let now = Counts {
-            staff: counts.staff,
             clients: number,
-            loans: counts.loans,
+            ..counts
         };
         self.make(
             &[StoreWrite::PutClient(client)],

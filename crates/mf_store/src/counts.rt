@@ -1,10 +1,11 @@
 //! The last number of an office's staff, clients or loans, or of the catalogue's charges or products. Numbers run from
 //! 1 without gaps, so look-ups by key find it: the cost is a logarithm of how many there are, and nothing else is read.
 
-ghost use Rattle.std.specs.Prelude.{◌≡◌, ◌<◌, ◌≤◌, ◌↔◌, IsTrue, OnOk, IfOk, IfErr};
+ghost use Rattle.std.specs.Prelude.{◌≡◌, ◌<◌, ◌≤◌, ◌↔◌, true, IsTrue, OnOk, IfOk, IfErr};
 ghost use Rattle.mf_base.specs.declared.fault.Fault.TheVariants.{F20};
 ghost use Rattle.mf_model.specs.Institution.{Institution};
 ghost use Rattle.mf_model.specs.Store.{counts_at};
+ghost use Rattle.mf_model.specs.Tree.{is_there};
 ghost use Rattle.mf_store.specs.Counts.{count_of};
 
 use crate::known::News;
@@ -97,6 +98,7 @@ impl<S: Alter> Store<S> {
         let bound = self.above_last(kind)?;
         self.last_below(kind, bound)
     }
+
     /// How many rows an office has, as the tables tell.
     fn search_counts(&mut self, office: u32) -> Result<Counts, Fault>
         ensures kept { Stays S.Store self.old self.new }
@@ -128,5 +130,19 @@ impl<S: Alter> Store<S> {
         let counts = self.search_counts(office)?;
         self.learn(News::OfficeCounts(office, counts));
         Ok(counts)
+    }
+
+    /// How many rows an office has that is there; where it isn't, the call gives up.
+    pub(crate) fn counts_there(&mut self, office: u32) -> Result<Counts, Fault>
+        ensures kept { Stays S.Store self.old self.new }
+        ensures gives_up { IfErr result (λ fault. fault ≡ F20) }
+        ensures open { IsClean S.Store self.new → IsOpen S.Store self.old → OnOk result (IsOpen S.Store self.new) }
+        ensures value { IsClean S.Store self.new → (i : Institution) → StandsFor S.Store self.old i → IfOk result (λ counts. (is_there i.offices office ≡ true) × (counts ≡ counts_at office i)) }
+    {
+        let there = self.has_office(office)?;
+        if !there {
+            return Err(Fault::F20);
+        }
+        self.counts_of(office)
     }
 }

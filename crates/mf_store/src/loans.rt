@@ -42,20 +42,15 @@ impl<S: Alter> Store<S> {
         ensures open { IsClean S.Store self.new → OnOk result (IsOpen S.Store self.new) }
     {
         let office = office.get();
-        let there = self.has_office(office)?;
-        if !there {
-            return Err(Fault::F20);
-        }
-        let counts = self.counts_of(office)?;
+        let counts = self.counts_there(office)?;
         if counts.loans > MOST || disbursal_day(&loan).is_some() {
             return Err(Fault::F20);
         }
         let number = counts.loans + 1;
         let row = loan_row(alloc, office, number, loan)?;
         let now = Counts {
-            staff: counts.staff,
-            clients: counts.clients,
             loans: number,
+            ..counts
         };
         self.make(&[StoreWrite::AddLoan(row)], News::OfficeCounts(office, now))
     }

@@ -10,12 +10,9 @@ ghost use Rattle.mf_store_accounts.specs.Flat.{loan_in};
 
 use crate::store::Store;
 use mf_base::Fault;
-use mf_office::{Account, Name, OfficeNo};
-use mf_store_records::{ClientRow, LoanRow, StaffRow, read_row};
-use mf_store_values::{
-    Ledger, OfficeRows, StaffMember, account_number, loan_from, names_from, office_number,
-    staff_from,
-};
+use mf_office::{Name, OfficeNo};
+use mf_store_records::{ClientRow, LoanRow, StaffRow};
+use mf_store_values::{Ledger, OfficeRows, StaffMember, loan_in_row, names_from, staff_from};
 use sqlite::{Alter, Row};
 use std::alloc::Global;
 use std::marker::Model;
@@ -52,11 +49,8 @@ impl<S: Alter> Store<S> {
         ensures open { IsClean S.Store self.new → IsOpen S.Store self.old → OnOk result (IsOpen S.Store self.new) }
         ensures value { IsClean S.Store self.new → (i : Institution) → StandsFor S.Store self.old i → (office number : ℕ) (l : ModelLedger) → row.now ≡ loan_row (loan_in office number l.loan) → ledger_at (record { office = office; number = number }) i ≡ Some l → IfOk result (λ ledger. ledger ≡ l) }
     {
-        let found = read_row::<LoanRow>(row)?;
-        let office = office_number(found.office)?;
-        let number = account_number(found.number)?;
-        let loan = loan_from(found)?;
-        let entries = self.entries_at(alloc, Account { office, number })?;
+        let (account, loan) = loan_in_row(row)?;
+        let entries = self.entries_at(alloc, account)?;
         Ok(Ledger { loan, entries })
     }
 

@@ -1,9 +1,8 @@
 -- Rows of the accounts of all loans, loan by loan.
-use Rattle.std.proofs.Common.{◌≡◌, ◌≢◌, ◌↔◌, ◌≤◌, ◌+◌, ◌∙◌, ◌&&◌, ℕ, suc, Bool, true, false, cond, List, [], ◌∷◌, ◌++◌, map, take, drop, length, refl, sym, ap, subst, arith, ◌==◌}
+use Rattle.std.proofs.Common.{◌≡◌, ◌≢◌, ◌↔◌, ◌≤◌, ◌∙◌, ◌&&◌, ℕ, Bool, true, false, List, [], ◌∷◌, ◌++◌, map, drop, length, refl, sym, subst, arith, ◌==◌}
 use Rattle.std.specs.List.{AllByRecursion, prefix_len}
 use Rattle.std.proofs.lemmas.Bool.Decides.{nat_tests}
 use Rattle.std.proofs.lemmas.List.{append-nil, drop_all, take-append-drop}
-use Rattle.std.proofs.lemmas.List.Sums.{take_while-cons}
 use Rattle.mf_model.specs.Institution.{Catalogue, Ledger}
 use Rattle.mf_store_records.specs.declared.entries.EntryRow.{EntryRow}
 use Rattle.mf_store_records.specs.declared.instalments.InstalmentRow.{InstalmentRow}
@@ -13,29 +12,7 @@ use Rattle.mf_store_accounts.specs.Accounts.{instalments_of, shares_of, Placed, 
 use Rattle.mf_store_accounts.specs.Flat.{loan_in, entry_in, instalment_in, share_in, own_entries}
 use Rattle.mf_store_accounts.specs.Ledgers.{IsPlainLoan}
 use Rattle.mf_store_accounts.proofs.MadeLemmas.{some_made}
-
-module _ {R : Type 0} (p : R → Bool) where
-  first-cons : (r : R) (rs : List R) → first_rows p (r ∷ rs) ≡ cond (p r) (r ∷ first_rows p rs) []
-  first-cons r rs = take_while-cons p r rs
-
-  later-cons : (r : R) (rs : List R) → later_rows p (r ∷ rs) ≡ cond (p r) (later_rows p rs) (r ∷ rs)
-  later-cons r rs = go (p r)
-    where
-      go : (b : Bool) → drop (cond b (1 + prefix_len p rs) 0) (r ∷ rs) ≡ cond b (later_rows p rs) (r ∷ rs)
-      go true = ap (λ n. drop n (r ∷ rs)) (let e : 1 + prefix_len p rs ≡ suc (prefix_len p rs) = omega arith in e)
-      go false = refl
-
-  block_first : (xs rest : List R) → AllByRecursion (λ r. p r ≡ true) xs → prefix_len p rest ≡ 0 → first_rows p (xs ++ rest) ≡ xs
-  block_first [] rest all none = ap (λ n. take n rest) none
-  block_first (r ∷ xs) rest all none = first-cons r (xs ++ rest) ∙ ap (λ b. cond b (r ∷ first_rows p (xs ++ rest)) []) all.0 ∙ ap (λ l. r ∷ l) (block_first xs rest all.1 none)
-
-  block_later : (xs rest : List R) → AllByRecursion (λ r. p r ≡ true) xs → prefix_len p rest ≡ 0 → later_rows p (xs ++ rest) ≡ rest
-  block_later [] rest all none = ap (λ n. drop n rest) none
-  block_later (r ∷ xs) rest all none = later-cons r (xs ++ rest) ∙ ap (λ b. cond b (later_rows p (xs ++ rest)) (r ∷ (xs ++ rest))) all.0 ∙ block_later xs rest all.1 none
-
-  none_first : (xs rest : List R) → AllByRecursion (λ r. p r ≡ false) xs → prefix_len p rest ≡ 0 → prefix_len p (xs ++ rest) ≡ 0
-  none_first [] rest all none = none
-  none_first (r ∷ xs) rest all none = ap (λ b. cond b (1 + prefix_len p (xs ++ rest)) 0) all.0
+use Rattle.mf_store_accounts.proofs.PartLemmas.{block_first, block_later, none_first}
 
 both_same : (x n : ℕ) → ((x == x) && (n == n)) ≡ true
 both_same x n =

@@ -1,5 +1,5 @@
 -- Answers of yes or no, and answers that may be a fault.
-use Rattle.std.proofs.Common.{◌≡◌, ◌↔◌, ◌∙◌, Bool, true, false, IsTrue, Result, Ok, Err, IfOk, OnOk, refl, sym, true≢false}
+use Rattle.std.proofs.Common.{◌≡◌, ◌↔◌, ◌∙◌, Bool, true, false, IsTrue, Result, Ok, Err, IfOk, refl, sym, true≢false}
 use Rattle.mf_base.specs.declared.fault.Fault.{Fault}
 
 -- a test that said no
@@ -12,14 +12,6 @@ no_answer h = (λ t. absurd (true≢false (sym t)), λ p. absurd (h p))
 pub yes_answer : {P : Type 0} → P → IsTrue true ↔ P
 yes_answer p = (λ t. p, λ q. refl)
 
-pub weaker_if_ok : {A : Type 0} (r : Result A Fault) (P Q : A → Type 0) → ((a : A) → P a → Q a) → IfOk r P → IfOk r Q
-weaker_if_ok (Ok a) P Q h p = h a p
-weaker_if_ok (Err e) P Q h p = tt
-
 pub both_if_ok : {A : Type 0} (r : Result A Fault) (P Q R : A → Type 0) → IfOk r P → IfOk r Q → ((a : A) → P a → Q a → R a) → IfOk r R
 both_if_ok (Ok a) P Q R p q h = h a p q
 both_if_ok (Err e) P Q R p q h = tt
-
-pub weaker_on_ok : {A : Type 0} (r : Result A Fault) (P Q : Type 0) → (P → Q) → OnOk r P → OnOk r Q
-weaker_on_ok (Ok a) P Q h p = h p
-weaker_on_ok (Err e) P Q h p = tt

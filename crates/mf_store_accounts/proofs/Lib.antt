@@ -1,5 +1,3 @@
-pub mod ListLemmas
-pub mod ResultLemmas
 pub mod AnswerLemmas
 pub mod NumberedLemmas
 pub mod SameLemmas
@@ -9,3 +7,6 @@ pub mod ShareLemmas
 pub mod AccountRowLemmas
 pub mod PlaceLemmas
 pub mod KeptLemmas
+pub mod PartLemmas
+pub mod SortedLemmas
+pub mod ReceiptLemmas

@@ -3,3 +3,4 @@ pub mod Flat
 pub mod Ledgers
 pub mod Kept
 pub mod Accounts
+pub mod Parts

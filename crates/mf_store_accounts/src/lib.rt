@@ -4,23 +4,23 @@
 
 mod account_rows;
 mod accounts;
-mod catalogue_rows;
 mod instalments;
 mod kept_entries;
 mod kept_shares;
 mod numbers;
+mod row_numbers;
 mod same;
 mod shares;
 mod terms;
 
 pub use account_rows::{are_accounts, rows_of_accounts};
 pub use accounts::account_of;
-pub use catalogue_rows::{charge_row, product_row};
 pub use instalments::instalment_row;
 pub use kept_shares::part_of;
 pub use numbers::{
     amount_from, flag_from, how_from, kind_from, number_of_how, number_of_portion, portion_from,
     signed,
 };
+pub use row_numbers::row_numbered;
 pub use same::{Same, are_same};
 pub use shares::share_row;

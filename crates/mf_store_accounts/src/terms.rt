@@ -7,8 +7,8 @@ ghost use Rattle.mf_model.specs.Accounts.{terms_in};
 ghost use Rattle.mf_model.specs.Institution.{Catalogue, Charge, Offer, charge_def as charge_with, charge_in};
 ghost use Rattle.mf_store_accounts.specs.Flat.{charge_as, product_as, numbered_from};
 
-use crate::catalogue_rows::{charge_row, product_row};
 use crate::numbers::amount_from;
+use crate::row_numbers::row_numbered;
 use mf_base::{Choice, Fault, Freq, Name};
 use mf_catalog::{Calc, ChargeDef, ChargeKind, Method, StrategyName, Terms};
 use mf_store_records::{ChargeRow, ProductRow};
@@ -49,7 +49,7 @@ fn named_charge(
     let Some(number) = named else {
         return Ok(None);
     };
-    match charge_row(charges, number) {
+    match row_numbered(charges, number) {
         Some(row) => charge_def(alloc, number, row),
         None => Ok(None),
     }
@@ -100,7 +100,7 @@ pub(crate) fn terms_of(
         numbered_from product_as 1 k.products ≡ products.now → found ≡ terms_in k product) }
     ensures gives_up { IfErr result (λ fault. fault ≡ F20) }
 {
-    let Some(row) = product_row(products, product) else {
+    let Some(row) = row_numbered(products, product) else {
         return Ok(None);
     };
     let disbursement = named_charge(alloc, charges, row.disbursement_charge)?;

@@ -11,6 +11,7 @@ use Rattle.mf_account.specs.Standing.{entry_at, with_mark}
 use Rattle.mf_model.specs.Accounts.{account_in}
 use Rattle.std.specs.List.{AllByRecursion}
 use Rattle.std.specs.Option.{is_some}
+use Rattle.sqlite_keyed.proofs.ListLemmas.{map-map}
 use Rattle.mf_account.specs.declared.entry.Entry.{Entry}
 use Rattle.mf_account.specs.Change.{Account as Kept, IsChange, IsReplayed}
 use Rattle.mf_office.specs.Numbers.{IsNumberUpTo}
@@ -35,7 +36,6 @@ use Rattle.mf_store_changes.proofs.CommitLemmas.{number_at}
 use Rattle.mf_store_changes.proofs.EntryLemmas.{AreEarlier, AreNumbered, later_numbered, entries_shown}
 use Rattle.mf_store_changes.proofs.FlatLemmas.{numbered-suc, with_numbered_later}
 use Rattle.mf_store_changes.proofs.SoundLemmas.{has_number, office_sound, own_rows}
-use Rattle.mf_store_accounts.proofs.ListLemmas.{map_map}
 
 -- ---- who entered them
 
@@ -180,7 +180,7 @@ entry_apart loan account l i sound there = (rows_after loan account l i sound th
 -- ---- what the tables show of one loan
 
 pub loan_entries_shown : (x n : ℕ) (i : Institution) → IsSound i → map entry_row (filter (is_entry_of x n) (tables_of i).entries) ≡ map (λ (e : Entry). entry_row (entry_in x n e)) (entries_of (numbered (rows_at x i).loans n))
-loan_entries_shown x n i sound = ap (map entry_row) (entries_shown x n i.offices sound.tree.ascending) ∙ map_map entry_row (entry_in x n) (entries_of (numbered (rows_at x i).loans n))
+loan_entries_shown x n i sound = ap (map entry_row) (entries_shown x n i.offices sound.tree.ascending) ∙ map-map entry_row (entry_in x n) (entries_of (numbered (rows_at x i).loans n))
 
 -- ---- accounts that are handed on
 

@@ -3,7 +3,7 @@ use Rattle.std.proofs.Common.{◌≡◌, ◌<◌, ◌≤◌, ◌+◌, ◌-◌, �
 use Rattle.std.specs.List.{AllByRecursion}
 use Rattle.std.specs.Ordering.{ordering_then}
 use Rattle.std.proofs.lemmas.Bool.Decides.{nat_tests}
-use Rattle.std.proofs.lemmas.List.{map-append, length-append}
+use Rattle.std.proofs.lemmas.List.{map-append, length-append, append-nil}
 use Rattle.mf_account.specs.declared.entry.Entry.{Entry}
 use Rattle.mf_account.specs.Standing.{entry_at, with_mark}
 use Rattle.mf_store_tables.specs.Keep.{put_item}
@@ -14,7 +14,6 @@ use Rattle.mf_model.specs.Tree.{Ascending}
 use Rattle.mf_store_records.specs.Rows.{by_entry, is_entry_of}
 use Rattle.mf_store_accounts.specs.Flat.{entry_in, own_entries, entry_rows, entries_of, reversed_entry}
 use Rattle.mf_store_changes.proofs.FlatLemmas.{put_past, put_over}
-use Rattle.mf_store_accounts.proofs.ListLemmas.{append_none}
 use Rattle.mf_store_changes.proofs.LoanRowLemmas.{put_past_all, loan_shown, rows_around, put_around}
 
 -- the rows of a loan are those of its entries
@@ -47,7 +46,7 @@ earlier_rows x n e (d ∷ es) a = (after_entry x n e.seq d.seq a.0, earlier_rows
 -- one more entry
 pub puts_last : (x n : ℕ) (e : Entry) (es : List Entry) → AreEarlier e.seq es → PutsEntry x n e es (es ++ e ∷ [])
 puts_last x n e es early =
-    ap (put_item by_entry (entry_in x n e)) (sym (append_none (map (entry_in x n) es))) ∙ put_past_all by_entry (entry_in x n e) (map (entry_in x n) es) [] (earlier_rows x n e es early)
+    ap (put_item by_entry (entry_in x n e)) (sym (append-nil (map (entry_in x n) es))) ∙ put_past_all by_entry (entry_in x n e) (map (entry_in x n) es) [] (earlier_rows x n e es early)
     ∙ sym (map-append (entry_in x n) es (e ∷ []))
 
 -- numbered from n + 1 on

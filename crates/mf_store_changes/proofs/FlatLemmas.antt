@@ -13,6 +13,7 @@ use Rattle.mf_model.specs.Institution.{Office, Rows, office_at, with_rows, with_
 use Rattle.mf_model.specs.Tree.{Above, Ascending, is_there}
 use Rattle.mf_model.specs.Store.{rows_of}
 use Rattle.mf_store_accounts.specs.Flat.{numbered_from, all_rows, portion_number}
+use Rattle.mf_store_accounts.proofs.SortedLemmas.{first_less}
 
 -- ---- puts into a list by key
 
@@ -66,9 +67,6 @@ numbered-suc xs k =
 
 lesser : (x y n m : ℕ) → y < x → ordering_then (nat_cmp x y) (nat_cmp n m) ≡ Greater
 lesser x y n m h = grind (arith, nat_tests)
-
-greater : (x y n m : ℕ) → x < y → ordering_then (nat_cmp x y) (nat_cmp n m) ≡ Less
-greater x y n m h = grind (arith, nat_tests)
 
 later : (x n m : ℕ) → m < n → ordering_then (nat_cmp x x) (nat_cmp n m) ≡ Greater
 later x n m h = grind (arith, nat_tests)
@@ -193,7 +191,7 @@ module _ {A R : Type 0} (make : ℕ → ℕ → A → R) (of : Rows → List A) 
       where
         both : AllByRecursion (λ y. cmp (make x n a) y ≡ Less) (all_rows make of fs) → (m : ℕ) (xs : List A) → AllByRecursion (λ y. cmp (make x n a) y ≡ Less) (numbered_from (make f.number) m xs ++ all_rows make of fs)
         both more m [] = more
-        both more m (b ∷ xs) = (ranks x n f.number m a b ∙ greater x f.number n m h.0, both more (m + 1) xs)
+        both more m (b ∷ xs) = (ranks x n f.number m a b ∙ first_less x f.number (nat_cmp n m) h.0, both more (m + 1) xs)
 
     -- one more row of an office, under its next number
     pub put_row_of : (x : ℕ) (a : A) (new : Rows) (fs : List Office) → Ascending fs → is_there fs x ≡ true → of new ≡ of (rows_of (office_at x fs)) ++ a ∷ []

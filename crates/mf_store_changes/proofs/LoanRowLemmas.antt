@@ -6,6 +6,8 @@ use Rattle.std.specs.Option.{is_some}
 use Rattle.std.specs.Ordering.{ordering_then}
 use Rattle.std.proofs.lemmas.Bool.Decides.{nat_tests}
 use Rattle.std.proofs.lemmas.List.Elements.{filter-append}
+use Rattle.std.proofs.lemmas.List.{append-nil, append_assoc}
+use Rattle.sqlite_keyed.proofs.ListLemmas.{all-append, all-map, all_weaker, filter_all, filter_none}
 use Rattle.sqlite_keyed.specs.Lists.{insert_sorted}
 use Rattle.mf_store_tables.specs.Keep.{put_item, drop_item}
 use Rattle.mf_model.specs.Institution.{Ledger, Office, Rows, office_at, with_rows, with_office, no_rows, numbered, with_numbered}
@@ -13,7 +15,6 @@ use Rattle.mf_model.specs.Store.{rows_of}
 use Rattle.mf_model.specs.Tree.{Above, Ascending}
 use Rattle.mf_store_accounts.specs.Flat.{rows_of_loans, rows_by_loan, had_by}
 use Rattle.mf_store_changes.proofs.FlatLemmas.{put_past, with_rows-above, below, numbered-suc, with_numbered_later}
-use Rattle.mf_store_accounts.proofs.ListLemmas.{all_append, all_map, all_weaker, append_none, append_twice, kept_all, kept_none}
 
 -- ---- all of a list
 
@@ -36,7 +37,7 @@ insert_ahead cmp r (x ∷ xs) ys a = go (is_gt (cmp r x)) (insert_ahead cmp r xs
 -- ahead of rows of greater keys
 pub put_ahead : {R : Type 0} (cmp : R → R → Ordering) (r : R) (xs ys : List R) → AllByRecursion (λ y. cmp r y ≡ Less) ys → put_item cmp r (xs ++ ys) ≡ put_item cmp r xs ++ ys
 put_ahead cmp r xs ys a =
-    ap (insert_sorted cmp r) (filter-append (λ y. not (is_eq (cmp r y))) xs ys ∙ ap (λ l. drop_item cmp r xs ++ l) (kept_all (λ y. not (is_eq (cmp r y))) ys (all_weaker (λ y. cmp r y ≡ Less) (λ y. not (is_eq (cmp r y)) ≡ true) ys (λ y h. ap (λ o. not (is_eq o)) h) a)))
+    ap (insert_sorted cmp r) (filter-append (λ y. not (is_eq (cmp r y))) xs ys ∙ ap (λ l. drop_item cmp r xs ++ l) (filter_all (λ y. not (is_eq (cmp r y))) ys (all_weaker (λ y. cmp r y ≡ Less) (λ y. not (is_eq (cmp r y)) ≡ true) (λ y h. ap (λ o. not (is_eq o)) h) ys a)))
     ∙ insert_ahead cmp r (drop_item cmp r xs) ys a
 
 -- ---- rows loan by loan
@@ -62,12 +63,12 @@ module _ {A R : Type 0} (make : ℕ → ℕ → A → R) where
     pub all_loans : (P : R → Type 0) (x n : ℕ) (ls : List Ledger) → ((m : ℕ) (a : A) → n ≤ m → P (make x m a)) → AllByRecursion P (rows_of_loans make of x n ls)
     all_loans P x n [] h = tt
     all_loans P x n (l ∷ ls) h =
-        all_append P (map (make x n) (of l)) (rows_of_loans make of x (n + 1) ls) (all_map P (make x n) (of l) (λ a. h n a (omega arith))) (all_loans P x (n + 1) ls (λ m a low. h m a (omega (arith, low))))
+        all-append P (map (make x n) (of l)) (rows_of_loans make of x (n + 1) ls) (all-map P (make x n) (λ a. h n a (omega arith)) (of l)) (all_loans P x (n + 1) ls (λ m a low. h m a (omega (arith, low))))
 
     -- what holds of each row of offices above x
     pub all_offices : (P : R → Type 0) (x : ℕ) (fs : List Office) → Above x fs → ((y m : ℕ) (a : A) → x < y → P (make y m a)) → AllByRecursion P (rows_by_loan make of fs)
     all_offices P x [] up h = tt
-    all_offices P x (f ∷ fs) up h = all_append P (rows_of_loans make of f.number 1 f.rows.loans) (rows_by_loan make of fs) (all_loans P f.number 1 f.rows.loans (λ m a low. h f.number m a up.0)) (all_offices P x fs up.1 h)
+    all_offices P x (f ∷ fs) up h = all-append P (rows_of_loans make of f.number 1 f.rows.loans) (rows_by_loan make of fs) (all_loans P f.number 1 f.rows.loans (λ m a low. h f.number m a up.0)) (all_offices P x fs up.1 h)
 
   -- The rows of two lists of offices, in which one loan has other things. The same rows stand before those of the loan in both, and the same after.
   pub record Around (x n : ℕ) (old new : List R) (block changed : List A) : Type 0 where
@@ -83,9 +84,9 @@ module _ {A R : Type 0} (make : ℕ → ℕ → A → R) where
   further x n more {block = block} {changed = changed} before a = record {
     first = more ++ a.first;
     last = a.last;
-    old_is = ap (λ l. more ++ l) a.old_is ∙ sym (append_twice more a.first (map (make x n) block ++ a.last));
-    new_is = ap (λ l. more ++ l) a.new_is ∙ sym (append_twice more a.first (map (make x n) changed ++ a.last));
-    before = all_append (IsRowOf (IsBefore x n)) more a.first before a.before;
+    old_is = ap (λ l. more ++ l) a.old_is ∙ sym (append_assoc more a.first (map (make x n) block ++ a.last));
+    new_is = ap (λ l. more ++ l) a.new_is ∙ sym (append_assoc more a.first (map (make x n) changed ++ a.last));
+    before = all-append (IsRowOf (IsBefore x n)) more a.first before a.before;
     after = a.after;
   }
 
@@ -97,11 +98,11 @@ module _ {A R : Type 0} (make : ℕ → ℕ → A → R) where
     old_is = shift old block a.old_is;
     new_is = shift new changed a.new_is;
     before = a.before;
-    after = all_append (IsRowOf (IsAfter x n)) a.last more a.after later;
+    after = all-append (IsRowOf (IsAfter x n)) a.last more a.after later;
   }
     where
       shift : (rows : List R) (items : List A) → rows ≡ a.first ++ (map (make x n) items ++ a.last) → rows ++ more ≡ a.first ++ (map (make x n) items ++ (a.last ++ more))
-      shift rows items is = ap (λ l. l ++ more) is ∙ append_twice a.first (map (make x n) items ++ a.last) more ∙ ap (λ l. a.first ++ l) (append_twice (map (make x n) items) a.last more)
+      shift rows items is = ap (λ l. l ++ more) is ∙ append_assoc a.first (map (make x n) items ++ a.last) more ∙ ap (λ l. a.first ++ l) (append_assoc (map (make x n) items) a.last more)
 
   module _ (of : Ledger → List A) where
     none_there : (n : ℕ) (l : Ledger) → numbered [] (suc n) ≡ Some l → (P : Type 0) → P
@@ -122,7 +123,7 @@ module _ {A R : Type 0} (make : ℕ → ℕ → A → R) where
           after = all_loans of (IsRowOf (IsAfter x n)) x (m + 1) ls (λ i a low. record { office = x; loan = i; item = a; row_is = refl; holds = inr (refl, omega (arith, low, same)) });
         }
     loans_around x n m (suc d) change l (k ∷ ls) is at =
-        let early : AllByRecursion (IsRowOf (IsBefore x n)) (map (make x m) (of k)) = all_map (IsRowOf (IsBefore x n)) (make x m) (of k) (λ a. record { office = x; loan = m; item = a; row_is = refl; holds = inr (refl, omega (arith, is)) }) in
+        let early : AllByRecursion (IsRowOf (IsBefore x n)) (map (make x m) (of k)) = all-map (IsRowOf (IsBefore x n)) (make x m) (λ a. record { office = x; loan = m; item = a; row_is = refl; holds = inr (refl, omega (arith, is)) }) (of k) in
         subst (λ xs. Around x n (rows_of_loans make of x m (k ∷ ls)) (rows_of_loans make of x m xs) (of l) (of (change l))) (sym (with_numbered_later d change k ls))
         (further x n (map (make x m) (of k)) early (loans_around x n (m + 1) d change l ls (omega (arith, is)) at))
 
@@ -176,8 +177,8 @@ module _ {A R : Type 0} (make : ℕ → ℕ → A → R) where
     -- among the loan's own rows
     pub put_among : (x n : ℕ) (a : A) (first mid last : List R) → AllByRecursion (IsRowOf (IsBefore x n)) first → AllByRecursion (IsRowOf (IsAfter x n)) last → put_item cmp (make x n a) (first ++ (mid ++ last)) ≡ first ++ (put_item cmp (make x n a) mid ++ last)
     put_among x n a first mid last before after =
-        put_past_all cmp (make x n a) first (mid ++ last) (all_weaker (IsRowOf (IsBefore x n)) (λ r. cmp (make x n a) r ≡ Greater) first (greater x n a) before)
-        ∙ ap (λ l. first ++ l) (put_ahead cmp (make x n a) mid last (all_weaker (IsRowOf (IsAfter x n)) (λ r. cmp (make x n a) r ≡ Less) last (less x n a) after))
+        put_past_all cmp (make x n a) first (mid ++ last) (all_weaker (IsRowOf (IsBefore x n)) (λ r. cmp (make x n a) r ≡ Greater) (greater x n a) first before)
+        ∙ ap (λ l. first ++ l) (put_ahead cmp (make x n a) mid last (all_weaker (IsRowOf (IsAfter x n)) (λ r. cmp (make x n a) r ≡ Less) (less x n a) last after))
 
     -- a put that makes one loan's rows of the others makes one list of the other
     pub put_around : (x n : ℕ) (a : A) (old new : List R) (block changed : List A) → Around x n old new block changed → put_item cmp (make x n a) (map (make x n) block) ≡ map (make x n) changed → put_item cmp (make x n a) old ≡ new
@@ -188,7 +189,7 @@ module _ {A R : Type 0} (make : ℕ → ℕ → A → R) where
 
   module _ (of : Ledger → List A) (has : ℕ → ℕ → R → Bool) (owns : (x n y m : ℕ) (a : A) → has x n (make y m a) ≡ is_eq (ordering_then (nat_cmp x y) (nat_cmp n m))) where
     own_rows : (x n : ℕ) (items : List A) → filter (has x n) (map (make x n) items) ≡ map (make x n) items
-    own_rows x n items = kept_all (has x n) (map (make x n) items) (all_map (λ r. has x n r ≡ true) (make x n) items (λ a. owns x n x n a ∙ (let same : is_eq (ordering_then (nat_cmp x x) (nat_cmp n n)) ≡ true = grind (arith, nat_tests) in same)))
+    own_rows x n items = filter_all (has x n) (map (make x n) items) (all-map (λ r. has x n r ≡ true) (make x n) (λ a. owns x n x n a ∙ (let same : is_eq (ordering_then (nat_cmp x x) (nat_cmp n n)) ≡ true = grind (arith, nat_tests) in same)) items)
 
     pub not_before : (x n : ℕ) (r : R) → IsRowOf (IsBefore x n) r → has x n r ≡ false
     not_before x n r is = ap (has x n) is.row_is ∙ owns x n is.office is.loan is.item ∙ ranked is.office is.loan is.holds
@@ -219,15 +220,15 @@ module _ {A R : Type 0} (make : ℕ → ℕ → A → R) where
         let same : n ≡ m = omega (arith, e) in
         filter-append (has x n) (map (make x m) (of l)) (rows_of_loans make of x (m + 1) ls)
         ∙ ap₂ ◌++◌ (subst (λ k. filter (has x n) (map (make x k) (of l)) ≡ map (make x n) (of l)) same (own_rows x n (of l)))
-        (kept_none (has x n) (rows_of_loans make of x (m + 1) ls) (all_loans of (λ r. has x n r ≡ false) x (m + 1) ls (λ k a low. later_loan x n k a (omega (arith, low, same)))))
-        ∙ append_none (map (make x n) (of l))
+        (filter_none (has x n) (rows_of_loans make of x (m + 1) ls) (all_loans of (λ r. has x n r ≡ false) x (m + 1) ls (λ k a low. later_loan x n k a (omega (arith, low, same)))))
+        ∙ append-nil (map (make x n) (of l))
     at_place x n m (suc d) (l ∷ ls) e =
         filter-append (has x n) (map (make x m) (of l)) (rows_of_loans make of x (m + 1) ls)
-        ∙ ap₂ ◌++◌ (kept_none (has x n) (map (make x m) (of l)) (all_map (λ r. has x n r ≡ false) (make x m) (of l) (λ a. earlier_loan x n m a (omega (arith, e)))))
+        ∙ ap₂ ◌++◌ (filter_none (has x n) (map (make x m) (of l)) (all-map (λ r. has x n r ≡ false) (make x m) (λ a. earlier_loan x n m a (omega (arith, e))) (of l)))
         (at_place x n (m + 1) d ls (omega (arith, e)))
 
     in_office : (x n : ℕ) (ls : List Ledger) → filter (has x n) (rows_of_loans make of x 1 ls) ≡ map (make x n) (had_by of (numbered ls n))
-    in_office x zero ls = kept_none (has x 0) (rows_of_loans make of x 1 ls) (all_loans of (λ r. has x 0 r ≡ false) x 1 ls (λ m a low. later_loan x 0 m a (omega (arith, low))))
+    in_office x zero ls = filter_none (has x 0) (rows_of_loans make of x 1 ls) (all_loans of (λ r. has x 0 r ≡ false) x 1 ls (λ m a low. later_loan x 0 m a (omega (arith, low))))
     in_office x (suc d) ls = at_place x (suc d) 1 d ls (omega arith) ∙ ap (λ o. map (make x (suc d)) (had_by of o)) (sym (numbered-suc ls d))
 
     none_numbered : (n : ℕ) → had_by of (numbered [] n) ≡ []
@@ -246,11 +247,11 @@ module _ {A R : Type 0} (make : ℕ → ℕ → A → R) where
             let above : Above x fs = subst (λ k. Above k fs) same up.0 in
             filter-append (has x n) (rows_of_loans make of f.number 1 f.rows.loans) (rows_by_loan make of fs)
             ∙ ap₂ ◌++◌ (subst (λ k. filter (has x n) (rows_of_loans make of k 1 f.rows.loans) ≡ map (make x n) (had_by of (numbered f.rows.loans n))) (sym same) (in_office x n f.rows.loans))
-            (kept_none (has x n) (rows_by_loan make of fs) (all_offices of (λ r. has x n r ≡ false) x fs above (λ y m a low. other_office x n y m a (let apart : (y == x) ≡ false = grind (arith, nat_tests) in apart))))
-            ∙ append_none (map (make x n) (had_by of (numbered f.rows.loans n)))
+            (filter_none (has x n) (rows_by_loan make of fs) (all_offices of (λ r. has x n r ≡ false) x fs above (λ y m a low. other_office x n y m a (let apart : (y == x) ≡ false = grind (arith, nat_tests) in apart))))
+            ∙ append-nil (map (make x n) (had_by of (numbered f.rows.loans n)))
         go false e more =
             filter-append (has x n) (rows_of_loans make of f.number 1 f.rows.loans) (rows_by_loan make of fs)
-            ∙ ap₂ ◌++◌ (kept_none (has x n) (rows_of_loans make of f.number 1 f.rows.loans) (all_loans of (λ r. has x n r ≡ false) f.number 1 f.rows.loans (λ m a low. other_office x n f.number m a e))) more
+            ∙ ap₂ ◌++◌ (filter_none (has x n) (rows_of_loans make of f.number 1 f.rows.loans) (all_loans of (λ r. has x n r ≡ false) f.number 1 f.rows.loans (λ m a low. other_office x n f.number m a e))) more
 
   -- ---- where no loan's rows change
 

@@ -2,9 +2,10 @@
 use Rattle.std.proofs.Common.{◌≡◌, ℕ, List, [], ◌∷◌, ◌++◌, map, refl, sym, ap, ◌∙◌, Ordering, Less, Greater, nat_cmp}
 use Rattle.std.specs.List.{AllByRecursion}
 use Rattle.std.specs.Ordering.{ordering_then}
+use Rattle.std.proofs.lemmas.List.{append-nil, append_assoc}
+use Rattle.sqlite_keyed.proofs.ListLemmas.{all-append}
 use Rattle.mf_store_tables.specs.Keep.{put_item}
 use Rattle.mf_store_changes.proofs.LoanRowLemmas.{Around, IsRowOf, IsBefore, IsAfter, put_past_all, put_ahead, put_among}
-use Rattle.mf_store_accounts.proofs.ListLemmas.{all_append, append_none, append_twice}
 
 -- the list with all of these put
 abbrev pub put_all : {R : Type 0} → (R → R → Ordering) → List R → List R → List R
@@ -36,14 +37,14 @@ put_all_ahead cmp (r ∷ rs) rows last a = ap (put_all cmp rs) (put_ahead cmp r 
 
 after_more : {R : Type 0} (cmp : R → R → Ordering) (r : R) (rs front : List R) → AreAfter cmp rs front → AllByRecursion (λ q. cmp q r ≡ Greater) rs → AreAfter cmp rs (front ++ r ∷ [])
 after_more cmp r [] front a b = tt
-after_more cmp r (q ∷ rs) front a b = (all_append (λ y. cmp q y ≡ Greater) front (r ∷ []) a.0 (b.0, tt), after_more cmp r rs front a.1 b.1)
+after_more cmp r (q ∷ rs) front a b = (all-append (λ y. cmp q y ≡ Greater) front (r ∷ []) a.0 (b.0, tt), after_more cmp r rs front a.1 b.1)
 
 -- behind all
 pub put_all_behind : {R : Type 0} (cmp : R → R → Ordering) (rs front : List R) → AreAfter cmp rs front → AreRising cmp rs → put_all cmp rs front ≡ front ++ rs
-put_all_behind cmp [] front a up = sym (append_none front)
+put_all_behind cmp [] front a up = sym (append-nil front)
 put_all_behind cmp (r ∷ rs) front a up =
-    ap (λ l. put_all cmp rs (put_item cmp r l)) (sym (append_none front)) ∙ ap (put_all cmp rs) (put_past_all cmp r front [] a.0)
-    ∙ put_all_behind cmp rs (front ++ r ∷ []) (after_more cmp r rs front a.1 up.0) up.1 ∙ append_twice front (r ∷ []) rs
+    ap (λ l. put_all cmp rs (put_item cmp r l)) (sym (append-nil front)) ∙ ap (put_all cmp rs) (put_past_all cmp r front [] a.0)
+    ∙ put_all_behind cmp rs (front ++ r ∷ []) (after_more cmp r rs front a.1 up.0) up.1 ∙ append_assoc front (r ∷ []) rs
 
 none_before : {R : Type 0} (cmp : R → R → Ordering) (rs : List R) → AreAfter cmp rs []
 none_before cmp [] = tt

@@ -1,31 +1,28 @@
 -- The rows of receipts: one found by its key, and what becomes of them when the institution changes.
-use Rattle.std.proofs.Common.{◌≡◌, ◌≢◌, ◌<◌, ◌+◌, ℕ, zero, suc, Bool, true, false, cond, List, [], ◌∷◌, ◌++◌, map, find, slice_get, Option, None, Some, refl, sym, ap, ◌∙◌, subst, arith, Ordering, is_eq, nat_cmp, true≢false, ◌==◌, nat_lt, append_assoc}
+use Rattle.std.proofs.Common.{◌≡◌, ◌≢◌, ◌+◌, ℕ, zero, suc, Bool, true, false, cond, List, [], ◌∷◌, ◌++◌, map, find, slice_get, Option, None, Some, refl, sym, ap, ◌∙◌, subst, arith, true≢false, ◌==◌, nat_lt, append_assoc}
 use Rattle.std.specs.List.{AllByRecursion}
 use Rattle.std.specs.Option.{is_some, option_map, option_or}
-use Rattle.std.specs.Ordering.{ordering_then}
-use Rattle.std.specs.Cmp.Lexicographic.{slice_cmp}
 use Rattle.std.specs.Str.{bytes_eq}
 use Rattle.std.proofs.lemmas.Bool.Decides.{nat_tests}
-use Rattle.std.proofs.lemmas.List.{map-append}
+use Rattle.std.proofs.lemmas.List.{append-nil, map-append}
 use Rattle.std.proofs.lemmas.List.Folds.{find-append}
-use Rattle.std.proofs.lemmas.Map.Text.{is_eq-slice_cmp}
 use Rattle.std.proofs.lemmas.Slice.Eq.{bytes_eq-Decides}
+use Rattle.sqlite_keyed.proofs.ListLemmas.{all-append}
 use Rattle.sqlite_keyed.specs.Lists.{sort_by}
 use Rattle.mf_account.specs.declared.entry.Entry.{Entry}
 use Rattle.mf_store_tables.specs.Keep.{put_item}
 use Rattle.mf_model.specs.Institution.{Institution, Ledger, Office, Rows, office_at, with_rows, with_office, no_rows, numbered, with_numbered}
 use Rattle.mf_model.specs.Loans.{with_entries}
 use Rattle.mf_model.specs.Receipts.{Use, use_by, use_of, uses_in, uses_from, used, AreApart}
-use Rattle.mf_model.specs.Sound.{IsSound, IsSoundOffice, is_staff}
+use Rattle.mf_model.specs.Sound.{IsSound}
 use Rattle.mf_model.specs.Store.{rows_of, use_at}
 use Rattle.mf_model.specs.Tree.{Above, Ascending}
-use Rattle.mf_model.proofs.Growing.{all_map as all_weaker}
 use Rattle.mf_model.proofs.ReceiptLemmas.{IsPut}
 use Rattle.mf_store_records.specs.Rows.{by_receipt, is_receipt}
 use Rattle.mf_store_records.specs.declared.receipts.ReceiptRow.{ReceiptRow}
 use Rattle.mf_store_records.proofs.TableLemmas.{by_receipt_total}
 use Rattle.mf_store_accounts.specs.ReceiptRows.{receipt_in, carried, receipt_rows}
-use Rattle.mf_store_accounts.proofs.ListLemmas.{all_append}
+use Rattle.mf_store_accounts.proofs.ReceiptLemmas.{apart_bytes, own_key, other_key, AreOthers, others_in, others_of, others_above, AreAllApart, receipts_apart}
 use Rattle.mf_store_changes.proofs.FlatLemmas.{with_rows-above, numbered-suc, with_numbered_later}
 use Rattle.mf_store_changes.proofs.SortedLemmas.{IsOfOne, find_sorted, put_among}
 
@@ -41,53 +38,7 @@ or_none : {A : Type 0} (o : Option A) → option_or o None ≡ o
 or_none None = refl
 or_none (Some r) = refl
 
--- ---- the key of a receipt
-
-same_office : (x : ℕ) (o : Ordering) → ordering_then (nat_cmp x x) o ≡ o
-same_office x o = grind (arith, nat_tests)
-
-apart_office : (x y : ℕ) (o : Ordering) → (y == x) ≡ false → is_eq (ordering_then (nat_cmp x y) o) ≡ false
-apart_office x y o h = grind (arith, nat_tests)
-
-turned : (xs ys : List ℕ) → bytes_eq xs ys ≡ bytes_eq ys xs
-turned xs ys = go (bytes_eq xs ys) (bytes_eq ys xs) refl refl
-  where
-    go : (a b : Bool) → bytes_eq xs ys ≡ a → bytes_eq ys xs ≡ b → a ≡ b
-    go true true e h = refl
-    go true false e h = sym ((bytes_eq-Decides ys xs).1 (sym ((bytes_eq-Decides xs ys).0 e))) ∙ h
-    go false true e h = sym e ∙ (bytes_eq-Decides xs ys).1 (sym ((bytes_eq-Decides ys xs).0 h))
-    go false false e h = refl
-
--- within its office a receipt is found by its bytes
-own_key : (x : ℕ) (r : List ℕ) (u : Use) → is_receipt x r (receipt_in x u) ≡ bytes_eq u.receipt r
-own_key x r u = ap is_eq (same_office x (slice_cmp nat_cmp r u.receipt)) ∙ is_eq-slice_cmp r u.receipt ∙ turned r u.receipt
-
-other_key : (x y : ℕ) (r : List ℕ) (u : Use) → (y == x) ≡ false → is_receipt x r (receipt_in y u) ≡ false
-other_key x y r u h = apart_office x y (slice_cmp nat_cmp r u.receipt) h
-
-apart_bytes : (xs ys : List ℕ) → xs ≢ ys → bytes_eq xs ys ≡ false
-apart_bytes xs ys h = go (bytes_eq xs ys) refl
-  where
-    go : (b : Bool) → bytes_eq xs ys ≡ b → b ≡ false
-    go true e = absurd (h ((bytes_eq-Decides xs ys).0 e))
-    go false e = refl
-
 -- ---- one receipt found
-
--- no row of these uses has the key
-abbrev pub AreOthers : ℕ → List ℕ → List ReceiptRow → Type 0
-AreOthers x r rows = AllByRecursion (λ (row : ReceiptRow). is_receipt x r row ≡ false) rows
-
-others_in : (x y : ℕ) (r : List ℕ) (us : List Use) → (y == x) ≡ false → AreOthers x r (map (receipt_in y) us)
-others_in x y r [] h = tt
-others_in x y r (u ∷ us) h = (other_key x y r u h, others_in x y r us h)
-
-pub others_above : (x : ℕ) (r : List ℕ) (fs : List Office) → Above x fs → AreOthers x r (carried fs)
-others_above x r [] up = tt
-others_above x r (f ∷ fs) up =
-    let low : x < f.number = up.0 in
-    let apart : (f.number == x) ≡ false = grind (arith, nat_tests) in
-    all_append (λ (row : ReceiptRow). is_receipt x r row ≡ false) (map (receipt_in f.number) (uses_from 1 f.rows.loans)) (carried fs) (others_in x f.number r (uses_from 1 f.rows.loans) apart) (others_above x r fs up.1)
 
 found_in_office : (x : ℕ) (r : List ℕ) (us : List Use) → find (is_receipt x r) (map (receipt_in x) us) ≡ option_map (receipt_in x) (used r us)
 found_in_office x r [] = refl
@@ -113,17 +64,6 @@ found x r (f ∷ fs) up = find-append p (map (receipt_in f.number) (uses_from 1 
         ∙ subst (λ k. find p (map (receipt_in k) (uses_from 1 f.rows.loans)) ≡ option_map (receipt_in x) (used r (uses_from 1 f.rows.loans))) (sym same) (found_in_office x r (uses_from 1 f.rows.loans))
     go false e more = ap (λ o. option_or o (find p (carried fs))) (none_found p (map (receipt_in f.number) (uses_from 1 f.rows.loans)) (others_in x f.number r (uses_from 1 f.rows.loans) e)) ∙ more
 
--- the receipts of each office are apart
-abbrev pub AreAllApart : List Office → Type 0
-AreAllApart fs = AllByRecursion (λ (f : Office). AreApart (uses_from 1 f.rows.loans)) fs
-
-pub all_apart : (i : Institution) → IsSound i → AreAllApart i.offices
-all_apart i sound = all_weaker (IsSoundOffice i.catalogue (is_staff i.offices)) (λ (f : Office). AreApart (uses_from 1 f.rows.loans)) i.offices (λ f is. is.rows.receipts) sound.each
-
-pub others_of : (x : ℕ) (r : List ℕ) (u : Use) (us : List Use) → u.receipt ≡ r → AllByRecursion (λ (v : Use). u.receipt ≢ v.receipt) us → AreOthers x r (map (receipt_in x) us)
-others_of x r u [] is a = tt
-others_of x r u (v ∷ us) is a = (own_key x r v ∙ apart_bytes v.receipt r (λ same. a.0 (is ∙ sym same)), others_of x r u us is a.1)
-
 -- no key comes twice
 one_in_office : (x y : ℕ) (r : List ℕ) (us : List Use) (rest : List ReceiptRow) → AreApart us → (y ≡ x → AreOthers x r rest) → IsOfOne by_receipt (is_receipt x r) rest → IsOfOne by_receipt (is_receipt x r) (map (receipt_in y) us ++ rest)
 one_in_office x y r [] rest apart others one = one
@@ -134,7 +74,7 @@ one_in_office x y r (u ∷ us) rest apart others one = (go (y == x) refl, one_in
         let same : y ≡ x = grind (arith, nat_tests) in
         let own : is_receipt x r (receipt_in x u) ≡ true = subst (λ k. is_receipt x r (receipt_in k u) ≡ true) same h in
         let is : u.receipt ≡ r = (bytes_eq-Decides u.receipt r).0 (sym (own_key x r u) ∙ own) in
-        all_append (λ (row : ReceiptRow). is_receipt x r row ≡ false) (map (receipt_in y) us) rest (subst (λ k. AreOthers x r (map (receipt_in k) us)) (sym same) (others_of x r u us is apart.0)) (others same)
+        all-append (λ (row : ReceiptRow). is_receipt x r row ≡ false) (map (receipt_in y) us) rest (subst (λ k. AreOthers x r (map (receipt_in k) us)) (sym same) (others_of x r u us is apart.0)) (others same)
     go false e h = absurd (true≢false (sym h ∙ other_key x y r u e))
 
 one_carried : (x : ℕ) (r : List ℕ) (fs : List Office) → Ascending fs → AreAllApart fs → IsOfOne by_receipt (is_receipt x r) (carried fs)
@@ -143,7 +83,7 @@ one_carried x r (f ∷ fs) up apart = one_in_office x f.number r (uses_from 1 f.
 
 -- the row of a receipt is the one of the entry that carries it
 pub receipt_found : (x : ℕ) (r : List ℕ) (i : Institution) → IsSound i → find (is_receipt x r) (receipt_rows i.offices) ≡ option_map (receipt_in x) (use_at x r i)
-receipt_found x r i sound = find_sorted by_receipt (is_receipt x r) (carried i.offices) (one_carried x r i.offices sound.tree.ascending (all_apart i sound)) ∙ found x r i.offices sound.tree.ascending
+receipt_found x r i sound = find_sorted by_receipt (is_receipt x r) (carried i.offices) (one_carried x r i.offices sound.tree.ascending (receipts_apart i sound)) ∙ found x r i.offices sound.tree.ascending
 
 -- ---- where no entry changes
 
@@ -176,12 +116,8 @@ no_receipts_in new fs is = ap (sort_by by_receipt) (carried_none new fs is)
 
 -- ---- one entry more
 
-append_none : {A : Type 0} (xs : List A) → xs ++ [] ≡ xs
-append_none [] = refl
-append_none (x ∷ xs) = ap (λ l. x ∷ l) (append_none xs)
-
 uses_last : (n : ℕ) (e : Entry) (es : List Entry) → uses_in n (es ++ e ∷ []) ≡ uses_in n es ++ use_of e.receipt n e
-uses_last n e [] = append_none (use_of e.receipt n e)
+uses_last n e [] = append-nil (use_of e.receipt n e)
 uses_last n e (x ∷ es) = ap (λ us. use_of x.receipt n x ++ us) (uses_last n e es) ∙ sym (append_assoc (use_of x.receipt n x) (uses_in n es) (use_of e.receipt n e))
 
 use_put : (n m d : ℕ) (e : Entry) (es : List Entry) (l : Ledger) (ls : List Ledger) → n ≡ m + d → slice_get ls d ≡ Some l → es ≡ l.entries ++ e ∷ []

@@ -7,13 +7,13 @@ use Rattle.std.proofs.lemmas.Bool.{cases_eq}
 use Rattle.std.proofs.lemmas.Bool.Decides.{nat_tests}
 use Rattle.std.proofs.lemmas.List.{map-append}
 use Rattle.std.proofs.lemmas.List.Elements.{filter-append}
+use Rattle.sqlite_keyed.proofs.ListLemmas.{all-append, all_weaker, filter_all, filter_none}
 use Rattle.lru.proofs.Splits.{Contains-nil, Contains-cons, Contains-head, Contains-tail}
 use Rattle.mf_account.specs.declared.settled.Settled.{Settled}
 use Rattle.mf_store_records.specs.Rows.{by_share, is_share_in}
 use Rattle.mf_store_records.specs.declared.shares.ShareRow.{ShareRow}
 use Rattle.mf_store_accounts.specs.Flat.{share_in, numbered_from, placed_parts, parts_from}
 use Rattle.mf_store_changes.proofs.LoanRowLemmas.{Around, IsRowOf, IsBefore, IsAfter}
-use Rattle.mf_store_accounts.proofs.ListLemmas.{all_append, all_weaker, kept_all, kept_none}
 use Rattle.mf_store_changes.proofs.PutAllLemmas.{put_all, AreRising, put_all_past, put_all_ahead, put_all_first, put_all_among}
 
 -- ---- the rows by entry
@@ -53,7 +53,7 @@ all_shares : (P : ShareRow → Type 0) (x n : ℕ) (f : ℕ → List Settled) (m
 all_shares P x n f m zero h = tt
 all_shares P x n f m (suc c) h =
     subst (AllByRecursion P) (sym (shares_split x n f m c))
-    (all_append P (entry_parts x n m (f m)) (shares_from x n f (m + 1) c) (all_parts P x n m 1 (f m) (λ k s low. h m k s (omega arith))) (all_shares P x n f (m + 1) c (λ seq k s low. h seq k s (omega (arith, low)))))
+    (all-append P (entry_parts x n m (f m)) (shares_from x n f (m + 1) c) (all_parts P x n m 1 (f m) (λ k s low. h m k s (omega arith))) (all_shares P x n f (m + 1) c (λ seq k s low. h seq k s (omega (arith, low)))))
 
 -- ---- the rows of one entry removed
 
@@ -71,8 +71,8 @@ removed x n s f m zero = refl
 removed x n s f m (suc c) =
     ap (filter (not_of x n s)) (shares_split x n f m c) ∙ filter-append (not_of x n s) (entry_parts x n m (f m)) (shares_from x n f (m + 1) c)
     ∙ ap₂ ◌++◌ (elim (cases_eq m s) [
-      | inl same ↦ kept_none (not_of x n s) (entry_parts x n m (f m)) (all_parts (λ r. not_of x n s r ≡ false) x n m 1 (f m) (λ k t low. own_entry x n s m same)) ∙ ap (entry_parts x n m) (sym (own_parts s m [] f same))
-      | inr apart ↦ kept_all (not_of x n s) (entry_parts x n m (f m)) (all_parts (λ r. not_of x n s r ≡ true) x n m 1 (f m) (λ k t low. other_entry x n s m apart)) ∙ ap (entry_parts x n m) (sym (other_parts s m [] f apart))
+      | inl same ↦ filter_none (not_of x n s) (entry_parts x n m (f m)) (all_parts (λ r. not_of x n s r ≡ false) x n m 1 (f m) (λ k t low. own_entry x n s m same)) ∙ ap (entry_parts x n m) (sym (own_parts s m [] f same))
+      | inr apart ↦ filter_all (not_of x n s) (entry_parts x n m (f m)) (all_parts (λ r. not_of x n s r ≡ true) x n m 1 (f m) (λ k t low. other_entry x n s m apart)) ∙ ap (entry_parts x n m) (sym (other_parts s m [] f apart))
     ]) (removed x n s f (m + 1) c)
     ∙ sym (shares_split x n (with_parts s [] f) m c)
 
@@ -181,8 +181,8 @@ removed_among : (x n s : ℕ) (first mid last : List ShareRow) → AllByRecursio
     → filter (not_of x n s) (first ++ (mid ++ last)) ≡ first ++ (filter (not_of x n s) mid ++ last)
 removed_among x n s first mid last before after =
     filter-append (not_of x n s) first (mid ++ last)
-    ∙ ap₂ ◌++◌ (kept_all (not_of x n s) first (all_weaker (IsRowOf share_in (IsBefore share_in x n)) (λ r. not_of x n s r ≡ true) first (not_before x n s) before))
-    (filter-append (not_of x n s) mid last ∙ ap (λ l. filter (not_of x n s) mid ++ l) (kept_all (not_of x n s) last (all_weaker (IsRowOf share_in (IsAfter share_in x n)) (λ r. not_of x n s r ≡ true) last (not_after x n s) after)))
+    ∙ ap₂ ◌++◌ (filter_all (not_of x n s) first (all_weaker (IsRowOf share_in (IsBefore share_in x n)) (λ r. not_of x n s r ≡ true) (not_before x n s) first before))
+    (filter-append (not_of x n s) mid last ∙ ap (λ l. filter (not_of x n s) mid ++ l) (filter_all (not_of x n s) last (all_weaker (IsRowOf share_in (IsAfter share_in x n)) (λ r. not_of x n s r ≡ true) (not_after x n s) last after)))
 
 replaced_among : (x n : ℕ) (new : ℕ → List Settled) (ss : List ℕ) (first mid last : List ShareRow) → AllByRecursion (IsRowOf share_in (IsBefore share_in x n)) first → AllByRecursion (IsRowOf share_in (IsAfter share_in x n)) last
     → replaced_each x n new ss (first ++ (mid ++ last)) ≡ first ++ (replaced_each x n new ss mid ++ last)

@@ -4,26 +4,17 @@ use Rattle.std.specs.List.{AllByRecursion}
 use Rattle.std.specs.Cmp.{IsTotalOrder}
 use Rattle.std.specs.Ordering.{ordering_reverse}
 use Rattle.sqlite_keyed.specs.Lists.{insert_sorted, sort_by}
-use Rattle.sqlite_trees.specs.Tree.{IsAscending}
 use Rattle.mf_store_tables.specs.Keep.{put_item, drop_item}
-use Rattle.mf_store_accounts.proofs.ListLemmas.{all_weaker}
+use Rattle.mf_store_accounts.proofs.SortedLemmas.{all_sorted}
 
 module _ {X : Type 0} (cmp : X → X → Ordering) where
-  all_inserted : (P : X → Type 0) (r : X) (xs : List X) → P r → AllByRecursion P xs → AllByRecursion P (insert_sorted cmp r xs)
-  all_inserted P r [] h all = (h, tt)
-  all_inserted P r (x ∷ xs) h all = elim (is_gt (cmp r x)) as (λ b. AllByRecursion P (cond b (x ∷ insert_sorted cmp r xs) (r ∷ x ∷ xs))) [ true ↦ (all.0, all_inserted P r xs h all.1) | false ↦ (h, all) ]
-
-  pub all_sorted : (P : X → Type 0) (xs : List X) → AllByRecursion P xs → AllByRecursion P (sort_by cmp xs)
-  all_sorted P [] all = tt
-  all_sorted P (x ∷ xs) all = all_inserted P x (sort_by cmp xs) all.0 (all_sorted P xs all.1)
-
   none_dropped : (r : X) (xs : List X) → AllByRecursion (λ y. is_eq (cmp r y) ≡ false) xs → drop_item cmp r xs ≡ xs
   none_dropped r [] all = refl
   none_dropped r (x ∷ xs) all = rw (all.0, none_dropped r xs all.1)
 
   -- a row with a new key is put as the sorting puts it
   put_new : (r : X) (xs : List X) → AllByRecursion (λ y. is_eq (cmp r y) ≡ false) xs → put_item cmp r (sort_by cmp xs) ≡ sort_by cmp (r ∷ xs)
-  put_new r xs all = ap (insert_sorted cmp r) (none_dropped r (sort_by cmp xs) (all_sorted (λ y. is_eq (cmp r y) ≡ false) xs all))
+  put_new r xs all = ap (insert_sorted cmp r) (none_dropped r (sort_by cmp xs) (all_sorted cmp (λ y. is_eq (cmp r y) ≡ false) xs all))
 
   module _ (p : X → Bool) where
     insert_same : (r : X) (xs : List X) → p r ≡ true → AllByRecursion (λ y. p y ≡ false) xs → find p (insert_sorted cmp r xs) ≡ Some r
@@ -53,7 +44,7 @@ module _ {X : Type 0} (cmp : X → X → Ordering) where
     find_sorted (x ∷ xs) one = go (p x) refl one.0 (find_sorted xs one.1)
       where
         go : (b : Bool) → p x ≡ b → (b ≡ true → AllByRecursion (λ y. p y ≡ false) xs) → find p (sort_by cmp xs) ≡ find p xs → find p (insert_sorted cmp x (sort_by cmp xs)) ≡ cond b (Some x) (find p xs)
-        go true e none more = insert_same x (sort_by cmp xs) e (all_sorted (λ y. p y ≡ false) xs (none refl))
+        go true e none more = insert_same x (sort_by cmp xs) e (all_sorted cmp (λ y. p y ≡ false) xs (none refl))
         go false e none more = insert_other x (sort_by cmp xs) e ∙ more
 
   module _ (total : IsTotalOrder cmp) where
@@ -111,19 +102,3 @@ module _ {X : Type 0} (cmp : X → X → Ordering) where
     -- one row more in the list that is sorted, with a new key
     pub put_among : (r : X) (xs ys : List X) → AllByRecursion (λ y. is_eq (cmp r y) ≡ false) xs → AllByRecursion (λ y. is_eq (cmp r y) ≡ false) (xs ++ ys) → put_item cmp r (sort_by cmp (xs ++ ys)) ≡ sort_by cmp (xs ++ r ∷ ys)
     put_among r xs ys first all = put_new r (xs ++ ys) all ∙ moved r xs ys first
-
--- ---- rows of which no key comes twice, sorted
-
-module _ {X : Type 0} (cmp : X → X → Ordering) (total : IsTotalOrder cmp) where
-  rises_inserted : (r : X) (xs : List X) → AllByRecursion (λ y. is_eq (cmp r y) ≡ false) xs → IsAscending (λ a b. cmp a b ≡ Less) xs → IsAscending (λ a b. cmp a b ≡ Less) (insert_sorted cmp r xs)
-  rises_inserted r [] apart up = (tt, tt)
-  rises_inserted r (x ∷ xs) apart up = go (cmp r x) refl (rises_inserted r xs apart.1 up.1)
-    where
-      go : (o : Ordering) → cmp r x ≡ o → IsAscending (λ a b. cmp a b ≡ Less) (insert_sorted cmp r xs) → IsAscending (λ a b. cmp a b ≡ Less) (cond (is_gt o) (x ∷ insert_sorted cmp r xs) (r ∷ x ∷ xs))
-      go Less e more = ((e, all_weaker (λ y. cmp x y ≡ Less) (λ y. cmp r y ≡ Less) xs (λ y. total.trans r x y e) up.0), up)
-      go Equal e more = absurd (true≢false (sym (ap is_eq e) ∙ apart.0))
-      go Greater e more = (all_inserted cmp (λ y. cmp x y ≡ Less) r xs (total.antisymm x r ∙ ap ordering_reverse e) up.0, more)
-
-  pub rises_sorted : (xs : List X) → IsAscending (λ a b. is_eq (cmp a b) ≡ false) xs → IsAscending (λ a b. cmp a b ≡ Less) (sort_by cmp xs)
-  rises_sorted [] apart = tt
-  rises_sorted (x ∷ xs) apart = rises_inserted x (sort_by cmp xs) (all_sorted cmp (λ y. is_eq (cmp x y) ≡ false) xs apart.0) (rises_sorted xs apart.1)

@@ -1,5 +1,6 @@
 -- From writes to the commit that they make.
 use Rattle.std.proofs.Common.{◌≡◌, List, [], ◌∷◌, Result, IfErr, OnOk, OnErr}
+use Rattle.std.proofs.lemmas.Result.{on_ok_weaker, on_err_weaker}
 use Rattle.sqlite.specs.Held.{Held}
 use Rattle.sqlite_trees.specs.declared.store.Store.{Ghosts}
 use Rattle.mf_base.specs.declared.fault.Fault.{Fault}
@@ -8,7 +9,6 @@ use Rattle.mf_model.specs.declared.commit.Commit.{Commit}
 use Rattle.mf_model.specs.Institution.{Institution}
 use Rattle.mf_model.specs.Store.{Commits, IsAdmitted, committed}
 use Rattle.mf_store_records.specs.declared.writes.StoreWrite.{StoreWrite}
-use Rattle.mf_store_accounts.proofs.ResultLemmas.{weaker_on_ok, weaker_on_err}
 use Rattle.mf_store_changes.specs.Becoming.{Becomes}
 use Rattle.mf_store_commits.specs.Tabled.{IsTabled, HasGoodDisk, LeavesTables}
 
@@ -23,9 +23,9 @@ pub made_by : {S : Type 0} (g : Ghosts S) (commit : Commit) (old new : Held S) (
     → Commits (IsTabled g) (HasGoodDisk g) (LeavesTables g) commit old new r
 made_by g commit old new writes r becomes premise gives_up made left same stop = record {
   premise = premise;
-  made = λ clean i s admitted. weaker_on_ok r _ (IsTabled g new (committed commit i)) (made clean) (λ m. m i (committed commit i) s (becomes i s admitted));
-  kept = λ clean i s admitted. weaker_on_ok r _ (LeavesTables g new (committed commit i ∷ [])) (left clean) (λ m. m i (committed commit i) s (becomes i s admitted));
-  same = λ clean i s. weaker_on_err r _ (IsTabled g new i) (same clean) (λ m. m i s);
+  made = λ clean i s admitted. on_ok_weaker r (λ m. m i (committed commit i) s (becomes i s admitted)) (made clean);
+  kept = λ clean i s admitted. on_ok_weaker r (λ m. m i (committed commit i) s (becomes i s admitted)) (left clean);
+  same = λ clean i s. on_err_weaker r (λ m. m i s) (same clean);
   gives_up = gives_up;
   stop = λ clean i is s admitted l. stop clean i (committed commit i) is s (becomes i s admitted) l;
 }

@@ -6,6 +6,7 @@ use Rattle.std.proofs.lemmas.List.{length-map, length-append}
 use Rattle.std.proofs.lemmas.List.Elements.{recursion_from_All}
 use Rattle.std.proofs.lemmas.Nat.{mul-le}
 use Rattle.std.proofs.lemmas.Str.{IsUtf8-from_ascii}
+use Rattle.sqlite_keyed.proofs.ListLemmas.{all-append, all_weaker}
 use Rattle.mf_base.specs.Calendar.{date_of, months_on, day_after}
 use Rattle.mf_base.specs.DayText.{two_digits, date_text, day_text, last_day, last_entered_day}
 use Rattle.mf_base.specs.declared.day.Freq.{Freq}
@@ -45,7 +46,6 @@ use Rattle.mf_store_records.specs.declared.instalments.InstalmentRow.{Instalment
 use Rattle.mf_store_records.specs.declared.shares.ShareRow.{ShareRow}
 use Rattle.mf_store_accounts.specs.Flat.{numbered_from, tables_of, instalment_in, share_in, how_number, portion_number, instalments_kept, shares_kept, placed_parts, parts_from, kept_of, rows_of_loans, rows_by_loan}
 use Rattle.mf_store_files.proofs.HeldLemmas.{is_number, is_amount, is_text, stored_held, low_bytes, digits_low, portion_low}
-use Rattle.mf_store_accounts.proofs.ListLemmas.{all_append, all_weaker}
 
 -- ---- instalments
 
@@ -60,10 +60,10 @@ utf8_by day h =
     let month = digits_low date.month (let m = (IsDate-date_of day).last_month in omega (arith, m)) in
     let its_day = digits_low date.day (let d = short.day in omega (arith, d)) in
     let after_month : AllByRecursion low (45 ∷ two_digits date.day) = (omega arith, its_day) in
-    let from_month = all_append low (two_digits date.month) (45 ∷ two_digits date.day) month after_month in
+    let from_month = all-append low (two_digits date.month) (45 ∷ two_digits date.day) month after_month in
     let after_year : AllByRecursion low (45 ∷ (two_digits date.month ++ 45 ∷ two_digits date.day)) = (omega arith, from_month) in
-    let from_year = all_append low (two_digits (date.year % 100)) (45 ∷ (two_digits date.month ++ 45 ∷ two_digits date.day)) year after_year in
-    let bytes : AllByRecursion low (date_text date) = all_append low (two_digits (date.year / 100)) (two_digits (date.year % 100) ++ 45 ∷ (two_digits date.month ++ 45 ∷ two_digits date.day)) years from_year in
+    let from_year = all-append low (two_digits (date.year % 100)) (45 ∷ (two_digits date.month ++ 45 ∷ two_digits date.day)) year after_year in
+    let bytes : AllByRecursion low (date_text date) = all-append low (two_digits (date.year / 100)) (two_digits (date.year % 100) ++ 45 ∷ (two_digits date.month ++ 45 ∷ two_digits date.day)) years from_year in
     subst IsUtf8 (sym (date_text-day day)) (IsUtf8-from_ascii (date_text date) (low_bytes (date_text date) bytes))
 
 -- no loan is due later
@@ -143,13 +143,13 @@ module _ {A R : Type 0} (make : ℕ → ℕ → A → R) (read : Running → Lis
   kept_of_loans : (clients : List (List ℕ)) (x m : ℕ) (ls : List Ledger) → x ≤ 9999 → m + length ls ≤ 1000000 → AllByRecursion (IsSoundLoan k staffed clients) ls → AllByRecursion H (rows_of_loans make (kept_of read k) x m ls)
   kept_of_loans clients x m [] low_x few all = tt
   kept_of_loans clients x m (l ∷ ls) low_x few all =
-      all_append H (map (make x m) (kept_of read k l)) (rows_of_loans make (kept_of read k) x (m + 1) ls)
+      all-append H (map (make x m) (kept_of read k l)) (rows_of_loans make (kept_of read k) x (m + 1) ls)
       (kept_of_loan clients x m l low_x (omega (arith, few)) all.0 (account_in k l) refl) (kept_of_loans clients x (m + 1) ls low_x (omega (arith, few)) all.1)
 
   kept_of_offices : (fs : List Office) → AllByRecursion (IsSoundOffice k staffed) fs → AllByRecursion H (rows_by_loan make (kept_of read k) fs)
   kept_of_offices [] all = tt
   kept_of_offices (f ∷ fs) all =
-      all_append H (rows_of_loans make (kept_of read k) f.number 1 f.rows.loans) (rows_by_loan make (kept_of read k) fs)
+      all-append H (rows_of_loans make (kept_of read k) f.number 1 f.rows.loans) (rows_by_loan make (kept_of read k) fs)
       (kept_of_loans f.rows.clients f.number 1 f.rows.loans all.0.number.1 (let most = all.0.rows.loan_limit in omega (arith, most)) all.0.rows.loans) (kept_of_offices fs all.1)
 
 account_instalments : (x m : ℕ) (a : Running) → x ≤ 9999 → m ≤ 999999 → IsSoundAccount a → AllByRecursion HeldInstalment (map (instalment_in x m) (instalments_kept a))
@@ -252,7 +252,7 @@ module _ (n : ℕ) (order : ℕ → Cell) (cells : (k : ℕ) → k < 4 * n → (
 
     parts_low : HasInstalment e.kind e n → AllByRecursion (IsPartOf n) (parts_of order e before)
     parts_low there =
-        all_append (IsPartOf n) (parts_cleared order e before.rows) (parts_paid order e before) (cleared_of e.kind e before.rows size there)
+        all-append (IsPartOf n) (parts_cleared order e before.rows) (parts_paid order e before) (cleared_of e.kind e before.rows size there)
         (all_filtered (IsPartOf n) is_some_part paid_all (range_parts n (paid_at order amount_paid) 0 (4 * length before.rows) (λ k low. cells k (omega (arith, low, size)))))
 
     parts_few : length (parts_of order e before) ≤ 8 * n + 1
@@ -283,7 +283,7 @@ module _ (n : ℕ) (short : n ≤ 360) (orders : Orders) (cells : (e : Entry) (k
       let count = numbered_size e.seq 1 (parts_of (orders e) e before) in
       let few = parts_few n (orders e) (cells e) e before size in
       let rest = more.1 in
-      (all_append (IsSettledOf n) own (settled_by orders es next) (numbered_low n e.seq 1 (parts_of (orders e) e before) (parts_low n (orders e) (cells e) e before size each.0.there)) more.0, omega (arith, both, count, few, rest, short))
+      (all-append (IsSettledOf n) own (settled_by orders es next) (numbered_low n e.seq 1 (parts_of (orders e) e before) (parts_low n (orders e) (cells e) e before size each.0.there)) more.0, omega (arith, both, count, few, rest, short))
 
 account_settled : (a : Running) → IsSoundAccount a → AllByRecursion (IsSettledOf 360) (settled_of_loan a) × (length (settled_of_loan a) < 2 ^ 31)
 account_settled a sound =
@@ -294,7 +294,7 @@ account_settled a sound =
     let few = it.1 in
     let standing_few = length-standing-le a.entries in
     let all_few = sound.entries.few in
-    (all_weaker (IsSettledOf a.periods) (IsSettledOf 360) (settled_of_loan a) (λ s low. omega (arith, low, periods)) it.0, omega (arith, few, standing_few, all_few))
+    (all_weaker (IsSettledOf a.periods) (IsSettledOf 360) (λ s low. omega (arith, low, periods)) (settled_of_loan a) it.0, omega (arith, few, standing_few, all_few))
 
 placed_held : (x m seq place : ℕ) (parts : List Settled) → x ≤ 9999 → m ≤ 999999 → seq ≤ 9999 → place + length parts < 2 ^ 32 → AllByRecursion (IsSettledOf 360) parts → AllByRecursion HeldShare (map (share_in x m) (numbered_from (λ at part. (seq, (at, part))) place parts))
 placed_held x m seq place [] low_x low_m low_seq few all = tt
@@ -312,7 +312,7 @@ shares_held x m settled seq (suc count) low_x low_m most few all =
     let own = settled_in seq settled in
     let fewer = few_filtered (λ (s : Settled). s.seq == seq) settled in
     subst (AllByRecursion HeldShare) (sym (mapped_append (share_in x m) (placed_parts seq own) (parts_from (λ s. settled_in s settled) (seq + 1) count)))
-    (all_append HeldShare (map (share_in x m) (placed_parts seq own)) (map (share_in x m) (parts_from (λ s. settled_in s settled) (seq + 1) count))
+    (all-append HeldShare (map (share_in x m) (placed_parts seq own)) (map (share_in x m) (parts_from (λ s. settled_in s settled) (seq + 1) count))
     (placed_held x m seq 1 own low_x low_m (omega (arith, most)) (omega (arith, fewer, few)) (all_filtered (IsSettledOf 360) (λ (s : Settled). s.seq == seq) settled all))
     (shares_held x m settled (seq + 1) count low_x low_m (omega (arith, most)) few all))
 

@@ -2,7 +2,7 @@
 use Rattle.std.proofs.Common.{◌≡◌, ◌≤◌, ◌<◌, ◌+◌, ◌^◌, ◌/◌, ◌%◌, ◌==◌, inl, inr, pos, nat_le, ℕ, ℤ, zero, suc, Bool, true, false, cond, List, [], ◌∷◌, ◌++◌, map, length, slice_get, Option, Some, None, refl, sym, ap, ◌∙◌, subst, arith, true≢false, codes}
 use Rattle.std.specs.Option.{option_map, is_some}
 use Rattle.std.specs.Prelude.{IfSome}
-use Rattle.std.specs.List.{AllByRecursion, list_all}
+use Rattle.std.specs.List.{AllByRecursion}
 use Rattle.std.specs.Str.{IsAscii, IsUtf8}
 use Rattle.std.specs.Fmt.{decimal}
 use Rattle.std.proofs.lemmas.Bool.{and_parts}
@@ -11,6 +11,7 @@ use Rattle.std.proofs.lemmas.Fmt.{IsAscii-decimal}
 use Rattle.std.proofs.lemmas.List.Elements.{recursion_from_All}
 use Rattle.std.proofs.lemmas.Option.{slice_get_within}
 use Rattle.std.proofs.lemmas.Str.{IsUtf8-append, IsUtf8-from_ascii}
+use Rattle.sqlite_keyed.proofs.ListLemmas.{all-append}
 use Rattle.sqlite.specs.declared.types.Value.TheVariants.{Int, Text as Words}
 use Rattle.mf_base.specs.Calendar.{date_of}
 use Rattle.mf_base.specs.Choices.{frequency_number}
@@ -69,9 +70,8 @@ use Rattle.mf_store_accounts.specs.Flat.{numbered_from, all_rows, schema_number,
 use Rattle.mf_store_accounts.specs.ReceiptRows.{receipt_in, carried}
 use Rattle.mf_store_changes.proofs.EnteredLemmas.{staff_are_callers}
 use Rattle.mf_store_changes.proofs.FlatLemmas.{numbered-suc}
-use Rattle.mf_store_accounts.proofs.ListLemmas.{all_append}
 use Rattle.mf_store_changes.proofs.SoundLemmas.{has_number}
-use Rattle.mf_store_changes.proofs.SortedLemmas.{all_sorted}
+use Rattle.mf_store_accounts.proofs.SortedLemmas.{all_sorted}
 
 -- ---- one column
 
@@ -110,7 +110,7 @@ module _ {A R : Type 0} (P : A → Type 0) (H : R → Type 0) where
   rows_held S limit make of held each [] all = tt
   rows_held S limit make of held each (f ∷ fs) all =
       let its = each f all.0 in
-      all_append H (numbered_from (make f.number) 1 (of f.rows)) (all_rows make of fs) (numbered_held limit (make f.number) (λ n a low p. held f.number n a its.0 low p) 1 (of f.rows) (let most = its.1 in omega arith) its.2) (rows_held S limit make of held each fs all.1)
+      all-append H (numbered_from (make f.number) 1 (of f.rows)) (all_rows make of fs) (numbered_held limit (make f.number) (λ n a low p. held f.number n a its.0 low p) 1 (of f.rows) (let most = its.1 in omega arith) its.2) (rows_held S limit make of held each fs all.1)
 
 abbrev HeldClient : ClientRow → Type 0
 HeldClient x = HasFields client_fields (client_row x)
@@ -141,10 +141,10 @@ day_utf8 day h =
     let month = digits_low date.month (let m = (IsDate-date_of day).last_month in omega arith) in
     let its_day = digits_low date.day (let d = short.day in omega arith) in
     let after_month : AllByRecursion low (45 ∷ two_digits date.day) = (omega arith, its_day) in
-    let from_month = all_append low (two_digits date.month) (45 ∷ two_digits date.day) month after_month in
+    let from_month = all-append low (two_digits date.month) (45 ∷ two_digits date.day) month after_month in
     let after_year : AllByRecursion low (45 ∷ (two_digits date.month ++ 45 ∷ two_digits date.day)) = (omega arith, from_month) in
-    let from_year = all_append low (two_digits (date.year % 100)) (45 ∷ (two_digits date.month ++ 45 ∷ two_digits date.day)) year after_year in
-    let bytes : AllByRecursion low (date_text date) = all_append low (two_digits (date.year / 100)) (two_digits (date.year % 100) ++ 45 ∷ (two_digits date.month ++ 45 ∷ two_digits date.day)) years from_year in
+    let from_year = all-append low (two_digits (date.year % 100)) (45 ∷ (two_digits date.month ++ 45 ∷ two_digits date.day)) year after_year in
+    let bytes : AllByRecursion low (date_text date) = all-append low (two_digits (date.year / 100)) (two_digits (date.year % 100) ++ 45 ∷ (two_digits date.month ++ 45 ∷ two_digits date.day)) years from_year in
     subst IsUtf8 (sym (date_text-day day)) (IsUtf8-from_ascii (date_text date) (low_bytes (date_text date) bytes))
 
 key_utf8 : (n : ℕ) (parents : ℕ → Option ℕ) → ((x p : ℕ) → parents x ≡ Some p → p ≤ 9999) → (x : ℕ) → x ≤ 9999 → IsUtf8 (key_within n parents x)
@@ -546,7 +546,7 @@ module _ (today : ℕ) (last : today ≤ last_entered_day) (staffed : Caller →
     of_loans_held x n [] low_x few all = tt
     of_loans_held x n (l ∷ ls) low_x few all =
         let lent = lends_low k sound l.loan.product l.loan.principal l.loan.periods all.0.product in
-        all_append HeldEntry (map (entry_in x n) l.entries) (rows_of_loans entry_in own_entries x (n + 1) ls)
+        all-append HeldEntry (map (entry_in x n) l.entries) (rows_of_loans entry_in own_entries x (n + 1) ls)
         (of_loan_held x n l.loan.periods (disbursed_on l.loan.stage) l.entries low_x (omega (arith, few)) lent.1 (subst (λ d. AreEntriesBy d staffed l.loan.periods (disbursed_on l.loan.stage) l.entries) is_today all.0.entries))
         (of_loans_held x (n + 1) ls low_x (omega (arith, few)) all.1)
 
@@ -554,7 +554,7 @@ of_offices_held : (i : Institution) → IsSound i → (fs : List Office) → All
 of_offices_held i sound [] all = tt
 of_offices_held i sound (f ∷ fs) all =
     let staffed = is_staff i.offices in
-    all_append HeldEntry (rows_of_loans entry_in own_entries f.number 1 f.rows.loans) (entry_rows fs)
+    all-append HeldEntry (rows_of_loans entry_in own_entries f.number 1 f.rows.loans) (entry_rows fs)
     (of_loans_held i.catalogue.day sound.catalogue.day staffed (staff_are_callers i.catalogue staffed i.offices sound.each) i.catalogue sound.catalogue refl f.rows.clients f.number 1 f.rows.loans all.0.number.1 (let most = all.0.rows.loan_limit in omega (arith, most)) all.0.rows.loans)
     (of_offices_held i sound fs all.1)
 
@@ -574,7 +574,7 @@ module _ (today : ℕ) (staffed : Caller → Bool) where
   uses_of_entries : (x m n : ℕ) (es : List Entry) → x ≤ 9999 → m ≤ 999999 → n + length es ≤ 10000 → AreNumberedFrom n es → AllByRecursion (IsEntryBy today staffed) es → AllByRecursion (λ u. HeldReceipt (receipt_in x u)) (uses_in m es)
   uses_of_entries x m n [] low_x low_m few own by = tt
   uses_of_entries x m n (e ∷ es) low_x low_m few own by =
-      all_append (λ u. HeldReceipt (receipt_in x u)) (use_of e.receipt m e) (uses_in m es) (one e.receipt (receipt_utf8 e.receipt by.0.receipt)) (uses_of_entries x m (n + 1) es low_x low_m (omega (arith, few)) own.1 by.1)
+      all-append (λ u. HeldReceipt (receipt_in x u)) (use_of e.receipt m e) (uses_in m es) (one e.receipt (receipt_utf8 e.receipt by.0.receipt)) (uses_of_entries x m (n + 1) es low_x low_m (omega (arith, few)) own.1 by.1)
     where
       one : (o : Option (List ℕ)) → IfSome o IsUtf8 → AllByRecursion (λ u. HeldReceipt (receipt_in x u)) (use_of o m e)
       one None utf8 = tt
@@ -587,14 +587,14 @@ module _ (today : ℕ) (staffed : Caller → Bool) where
 uses_of_loans : (k : Catalogue) (staffed : Caller → Bool) (clients : List (List ℕ)) (x n : ℕ) (ls : List Ledger) → x ≤ 9999 → n + length ls ≤ 1000000 → AllByRecursion (IsSoundLoan k staffed clients) ls → AllByRecursion (λ u. HeldReceipt (receipt_in x u)) (uses_from n ls)
 uses_of_loans k staffed clients x n [] low_x few all = tt
 uses_of_loans k staffed clients x n (l ∷ ls) low_x few all =
-    all_append (λ u. HeldReceipt (receipt_in x u)) (uses_in n l.entries) (uses_from (n + 1) ls)
+    all-append (λ u. HeldReceipt (receipt_in x u)) (uses_in n l.entries) (uses_from (n + 1) ls)
     (uses_of_loan k.day staffed x n l.loan.periods (disbursed_on l.loan.stage) l.entries low_x (omega (arith, few)) all.0.entries)
     (uses_of_loans k staffed clients x (n + 1) ls low_x (omega (arith, few)) all.1)
 
 carried_held : (k : Catalogue) (staffed : Caller → Bool) (fs : List Office) → AllByRecursion (IsSoundOffice k staffed) fs → AllByRecursion HeldReceipt (carried fs)
 carried_held k staffed [] all = tt
 carried_held k staffed (f ∷ fs) all =
-    all_append HeldReceipt (map (receipt_in f.number) (uses_from 1 f.rows.loans)) (carried fs)
+    all-append HeldReceipt (map (receipt_in f.number) (uses_from 1 f.rows.loans)) (carried fs)
     (stored_held HeldReceipt (receipt_in f.number) (uses_from 1 f.rows.loans) (uses_of_loans k staffed f.rows.clients f.number 1 f.rows.loans all.0.number.1 (let most = all.0.rows.loan_limit in omega (arith, most)) all.0.rows.loans))
     (carried_held k staffed fs all.1)
 

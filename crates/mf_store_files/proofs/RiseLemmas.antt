@@ -1,8 +1,9 @@
 -- The rows of a sound institution rise by the key of their table.
-use Rattle.std.proofs.Common.{◌≡◌, ◌<◌, ◌≤◌, ◌+◌, ◌∙◌, ℕ, zero, suc, length, Bool, false, List, [], ◌∷◌, ◌++◌, map, Option, None, Some, refl, sym, subst, arith, Ordering, Less, is_eq, nat_cmp}
+use Rattle.std.proofs.Common.{◌≡◌, ◌<◌, ◌≤◌, ◌+◌, ◌∙◌, ℕ, zero, suc, length, Bool, List, [], ◌∷◌, map, Option, None, Some, refl, sym, subst, arith, Ordering, Less, nat_cmp}
 use Rattle.std.specs.List.{AllByRecursion}
 use Rattle.std.specs.Ordering.{ordering_then}
 use Rattle.std.proofs.lemmas.Bool.Decides.{nat_tests}
+use Rattle.sqlite_keyed.proofs.ListLemmas.{all-append, all-map, all_weaker, ascending-append}
 use Rattle.sqlite_trees.specs.Tree.{IsAscending}
 use Rattle.mf_office.specs.declared.caller.Caller.{Caller}
 use Rattle.mf_account.specs.Change.{settled_in}
@@ -11,39 +12,32 @@ use Rattle.mf_account.specs.declared.entry.Entry.{Entry}
 use Rattle.mf_account.specs.declared.settled.Settled.{Settled}
 use Rattle.mf_alloc.specs.Sums.{Sums}
 use Rattle.mf_model.specs.Accounts.{account_in, of_account}
-use Rattle.mf_model.specs.Institution.{Institution, Ledger, Office, Rows}
-use Rattle.mf_model.specs.Receipts.{Use, AreApart, uses_from}
+use Rattle.mf_model.specs.Institution.{Institution, Ledger, Office}
 use Rattle.mf_model.specs.Sound.{IsSound, IsSoundOffice, IsSoundLoan, AreEntriesBy, is_staff}
 use Rattle.mf_model.specs.Stages.{disbursed_on}
 use Rattle.mf_model.specs.Tree.{Above, Ascending, parent_of}
 use Rattle.mf_store_records.specs.Rows.{by_meta, by_office, by_staff, by_client, by_charge, by_product, by_loan, by_entry, by_receipt, by_instalment, by_share}
 use Rattle.mf_store_records.specs.declared.offices.OfficeRow.{OfficeRow}
-use Rattle.mf_store_records.specs.declared.receipts.ReceiptRow.{ReceiptRow}
 use Rattle.mf_store_records.proofs.TableLemmas.{by_receipt_total}
-use Rattle.mf_store_accounts.specs.Flat.{numbered_from, all_rows, tables_of, office_under, staff_in, client_in, charge_as, product_as, loan_in, entry_in, instalment_in, share_in, instalments_kept, placed_parts, parts_from, shares_kept, kept_of, loans_of, rows_of_loans, rows_by_loan, own_entries}
-use Rattle.mf_store_accounts.specs.ReceiptRows.{receipt_in, carried}
+use Rattle.mf_store_accounts.specs.Flat.{numbered_from, tables_of, office_under, staff_in, client_in, charge_as, product_as, loan_in, entry_in, instalment_in, share_in, instalments_kept, placed_parts, parts_from, shares_kept, kept_of, loans_of, rows_of_loans, rows_by_loan, own_entries}
+use Rattle.mf_store_accounts.specs.ReceiptRows.{carried}
+use Rattle.mf_store_accounts.proofs.ReceiptLemmas.{receipts_apart}
+use Rattle.mf_store_accounts.proofs.SortedLemmas.{first_less, rises_sorted}
 use Rattle.mf_store_files.proofs.HeldLemmas.{AreNumberedFrom, numbers_by_place}
-use Rattle.mf_store_accounts.proofs.ListLemmas.{all_append, all_map, all_weaker}
 use Rattle.mf_store_changes.proofs.LoanRowLemmas.{all_loans, all_offices}
-use Rattle.mf_store_changes.proofs.ReceiptRowLemmas.{AreOthers, AreAllApart, all_apart, others_of, others_above}
-use Rattle.mf_store_changes.proofs.SortedLemmas.{rises_sorted}
+use Rattle.mf_store_sound.proofs.ReceiptLemmas.{no_ties_of}
+use Rattle.mf_store_sound.proofs.StaffLemmas.{rows_rise}
 
 -- ---- orders of keys
 
 lower : (n m : ℕ) → n < m → nat_cmp n m ≡ Less
 lower n m h = grind (arith, nat_tests)
 
-greater_office : (x y : ℕ) (o : Ordering) → x < y → ordering_then (nat_cmp x y) o ≡ Less
-greater_office x y o h = grind (arith, nat_tests)
-
 greater_number : (x n m : ℕ) (o : Ordering) → n < m → ordering_then (nat_cmp x x) (ordering_then (nat_cmp n m) o) ≡ Less
 greater_number x n m o h = grind (arith, nat_tests)
 
 same_number : (x n : ℕ) (o : Ordering) → ordering_then (nat_cmp x x) (ordering_then (nat_cmp n n) o) ≡ o
 same_number x n o = grind (arith, nat_tests)
-
-second_number : (x n m : ℕ) → n < m → ordering_then (nat_cmp x x) (nat_cmp n m) ≡ Less
-second_number x n m h = grind (arith, nat_tests)
 
 -- ---- rows by one number
 
@@ -65,41 +59,7 @@ module _ (parents : ℕ → Option ℕ) where
   under_rise [] up = tt
   under_rise (f ∷ fs) up = (office_after f fs up.0, under_rise fs up.1)
 
--- ---- rows by office and number
-
-module _ {A R : Type 0} (make : ℕ → ℕ → A → R) (of : Rows → List A) (cmp : R → R → Ordering) (ranks : (x n y m : ℕ) (a b : A) → cmp (make x n a) (make y m b) ≡ ordering_then (nat_cmp x y) (nat_cmp n m)) where
-  abbrev IsFirst : ℕ → ℕ → A → R → Type 0
-  IsFirst x n a r = cmp (make x n a) r ≡ Less
-
-  -- rows of a greater office, and of the same under greater numbers, come later
-  after_office : (x n : ℕ) (a : A) (y m : ℕ) (xs : List A) (rest : List R) → x < y → AllByRecursion (IsFirst x n a) rest → AllByRecursion (IsFirst x n a) (numbered_from (make y) m xs ++ rest)
-  after_office x n a y m [] rest lt all = all
-  after_office x n a y m (b ∷ xs) rest lt all = (ranks x n y m a b ∙ greater_office x y (nat_cmp n m) lt, after_office x n a y (m + 1) xs rest lt all)
-
-  after_number : (x n : ℕ) (a : A) (m : ℕ) (xs : List A) (rest : List R) → n < m → AllByRecursion (IsFirst x n a) rest → AllByRecursion (IsFirst x n a) (numbered_from (make x) m xs ++ rest)
-  after_number x n a m [] rest lt all = all
-  after_number x n a m (b ∷ xs) rest lt all = (
-    ranks x n x m a b ∙ second_number x n m lt,
-    after_number x n a (m + 1) xs rest (omega (arith, lt)) all,
-  )
-
-  all_after : (x n : ℕ) (a : A) (fs : List Office) → Above x fs → AllByRecursion (IsFirst x n a) (all_rows make of fs)
-  all_after x n a [] h = tt
-  all_after x n a (f ∷ fs) h = after_office x n a f.number 1 (of f.rows) (all_rows make of fs) h.0 (all_after x n a fs h.1)
-
-  block_rises : (x n : ℕ) (xs : List A) (rest : List R) → ((k : ℕ) (a : A) → AllByRecursion (IsFirst x k a) rest) → IsAscending (λ a b. cmp a b ≡ Less) rest → IsAscending (λ a b. cmp a b ≡ Less) (numbered_from (make x) n xs ++ rest)
-  block_rises x n [] rest all up = up
-  block_rises x n (a ∷ xs) rest all up = (after_number x n a (n + 1) xs rest (omega arith) (all n a), block_rises x (n + 1) xs rest all up)
-
-  rows_rise : (fs : List Office) → Ascending fs → IsAscending (λ a b. cmp a b ≡ Less) (all_rows make of fs)
-  rows_rise [] up = tt
-  rows_rise (f ∷ fs) up = block_rises f.number 1 (of f.rows) (all_rows make of fs) (λ k a. all_after f.number k a fs up.0) (rows_rise fs up.1)
-
 -- ---- rows by office, loan and what follows
-
-append_rises : {R : Type 0} (P : R → R → Type 0) (xs ys : List R) → IsAscending P xs → IsAscending P ys → AllByRecursion (λ x. AllByRecursion (P x) ys) xs → IsAscending P (xs ++ ys)
-append_rises P [] ys a b c = b
-append_rises P (x ∷ xs) ys a b c = (all_append (P x) xs ys a.0 c.0, append_rises P xs ys a.1 b c.1)
 
 module _ {A R : Type 0} (make : ℕ → ℕ → A → R) (of : Ledger → List A) (cmp : R → R → Ordering) (key : A → A → Ordering)
     (ranks : (x n y m : ℕ) (a b : A) → cmp (make x n a) (make y m b) ≡ ordering_then (nat_cmp x y) (ordering_then (nat_cmp n m) (key a b))) where
@@ -121,17 +81,17 @@ module _ {A R : Type 0} (make : ℕ → ℕ → A → R) (of : Ledger → List A
   each_loan x n [] up = tt
   each_loan x n (l ∷ ls) up =
       let rest = rows_of_loans make of x (n + 1) ls in
-      append_rises (λ a b. cmp a b ≡ Less) (map (make x n) (of l)) rest (one_loan x n (of l) up.0) (each_loan x (n + 1) ls up.1)
-      (all_map (λ r. AllByRecursion (λ s. cmp r s ≡ Less) rest) (make x n) (of l) (λ a. all_loans make of (λ s. cmp (make x n a) s ≡ Less) x (n + 1) ls (λ m b low. ranks x n x m a b ∙ greater_number x n m (key a b) (omega (arith, low)))))
+      ascending-append (λ a b. cmp a b ≡ Less) (map (make x n) (of l)) rest (one_loan x n (of l) up.0) (each_loan x (n + 1) ls up.1)
+      (all-map (λ r. AllByRecursion (λ s. cmp r s ≡ Less) rest) (make x n) (λ a. all_loans make of (λ s. cmp (make x n a) s ≡ Less) x (n + 1) ls (λ m b low. ranks x n x m a b ∙ greater_number x n m (key a b) (omega (arith, low)))) (of l))
 
   -- the rows that each loan has rise, loan by loan and office by office, where those of one loan do
   pub by_loan_rise : (fs : List Office) → Ascending fs → AllByRecursion (λ (f : Office). AllByRecursion (λ (l : Ledger). AreRising (of l)) f.rows.loans) fs → Rises (rows_by_loan make of fs)
   by_loan_rise [] up each = tt
   by_loan_rise (f ∷ fs) up each =
       let rest = rows_by_loan make of fs in
-      append_rises (λ a b. cmp a b ≡ Less) (rows_of_loans make of f.number 1 f.rows.loans) rest (each_loan f.number 1 f.rows.loans each.0) (by_loan_rise fs up.1 each.1)
+      ascending-append (λ a b. cmp a b ≡ Less) (rows_of_loans make of f.number 1 f.rows.loans) rest (each_loan f.number 1 f.rows.loans each.0) (by_loan_rise fs up.1 each.1)
       (all_loans make of (λ r. AllByRecursion (λ s. cmp r s ≡ Less) rest) f.number 1 f.rows.loans (λ m a low. all_offices make of (λ s. cmp (make f.number m a) s ≡ Less) f.number fs up.0
-      (λ y k b lt. ranks f.number m y k a b ∙ greater_office f.number y (ordering_then (nat_cmp m k) (key a b)) lt)))
+      (λ y k b lt. ranks f.number m y k a b ∙ first_less f.number y (ordering_then (nat_cmp m k) (key a b)) lt)))
 
 -- ---- entries
 
@@ -181,33 +141,18 @@ all_placed Q seq place (part ∷ parts) h = (h (place, part), all_placed Q seq (
 all_parts : (Q : ℕ × (ℕ × Settled) → Type 0) (parts : ℕ → List Settled) (seq count : ℕ) → ((s : ℕ) (p : ℕ × Settled) → seq ≤ s → Q (s, p)) → AllByRecursion Q (parts_from parts seq count)
 all_parts Q parts seq zero h = tt
 all_parts Q parts seq (suc count) h =
-    all_append Q (placed_parts seq (parts seq)) (parts_from parts (seq + 1) count) (all_placed Q seq 1 (parts seq) (λ p. h seq p (omega arith))) (all_parts Q parts (seq + 1) count (λ s p low. h s p (omega (arith, low))))
+    all-append Q (placed_parts seq (parts seq)) (parts_from parts (seq + 1) count) (all_placed Q seq 1 (parts seq) (λ p. h seq p (omega arith))) (all_parts Q parts (seq + 1) count (λ s p low. h s p (omega (arith, low))))
 
 parts_rise : (parts : ℕ → List Settled) (seq count : ℕ) → IsAscending (λ x y. placed_cmp x y ≡ Less) (parts_from parts seq count)
 parts_rise parts seq zero = tt
 parts_rise parts seq (suc count) =
     let rest = parts_from parts (seq + 1) count in
-    append_rises (λ x y. placed_cmp x y ≡ Less) (placed_parts seq (parts seq)) rest
+    ascending-append (λ x y. placed_cmp x y ≡ Less) (placed_parts seq (parts seq)) rest
     (numbered_rise (λ at part. (seq, (at, part))) placed_cmp (λ n m x y. same_entry seq (nat_cmp n m)) 1 (parts seq)) (parts_rise parts (seq + 1) count)
-    (all_placed (λ x. AllByRecursion (λ y. placed_cmp x y ≡ Less) rest) seq 1 (parts seq) (λ p. all_parts (λ y. placed_cmp (seq, p) y ≡ Less) parts (seq + 1) count (λ s q low. greater_office seq s (nat_cmp p.0 q.0) (omega (arith, low)))))
+    (all_placed (λ x. AllByRecursion (λ y. placed_cmp x y ≡ Less) rest) seq 1 (parts seq) (λ p. all_parts (λ y. placed_cmp (seq, p) y ≡ Less) parts (seq + 1) count (λ s q low. first_less seq s (nat_cmp p.0 q.0) (omega (arith, low)))))
 
 kept_shares_rise : (a : Running) → IsAscending (λ x y. placed_cmp x y ≡ Less) (shares_kept a)
 kept_shares_rise a = parts_rise (λ seq. settled_in seq (settled_of_loan a)) 1 (length a.entries)
-
--- ---- receipts
-
--- no key comes twice
-abbrev HaveNoTies : List ReceiptRow → Type 0
-HaveNoTies = IsAscending (λ a b. is_eq (by_receipt a b) ≡ false)
-
-no_ties_in : (x : ℕ) (us : List Use) (rest : List ReceiptRow) → AreApart us → ((u : Use) → AreOthers x u.receipt rest) → HaveNoTies rest → HaveNoTies (map (receipt_in x) us ++ rest)
-no_ties_in x [] rest apart others none = none
-no_ties_in x (u ∷ us) rest apart others none =
-    (all_append (λ (row : ReceiptRow). is_eq (by_receipt (receipt_in x u) row) ≡ false) (map (receipt_in x) us) rest (others_of x u.receipt u us refl apart.0) (others u), no_ties_in x us rest apart.1 others none)
-
-no_ties : (fs : List Office) → Ascending fs → AreAllApart fs → HaveNoTies (carried fs)
-no_ties [] up apart = tt
-no_ties (f ∷ fs) up apart = no_ties_in f.number (uses_from 1 f.rows.loans) (carried fs) apart.0 (λ u. others_above f.number u.receipt fs up.0) (no_ties fs up.1 apart.1)
 
 -- ---- the tables
 
@@ -237,12 +182,10 @@ entries_rise i sound =
     let staffed = is_staff i.offices in
     let k = i.catalogue in
     by_loan_rise entry_in own_entries by_entry (λ (a b : Entry). nat_cmp a.seq b.seq) (λ x n y m a b. refl) i.offices sound.tree.ascending
-    (all_weaker (IsSoundOffice k staffed) (λ (f : Office). AllByRecursion (λ (l : Ledger). IsAscending (λ (a b : Entry). nat_cmp a.seq b.seq ≡ Less) l.entries) f.rows.loans) i.offices
-    (λ f is. all_weaker (IsSoundLoan k staffed f.rows.clients) (λ (l : Ledger). IsAscending (λ (a b : Entry). nat_cmp a.seq b.seq ≡ Less) l.entries) f.rows.loans
-    (λ l one. entries_by k.day staffed l.loan.periods (disbursed_on l.loan.stage) l.entries one.entries) is.rows.loans) sound.each)
+    (all_weaker (IsSoundOffice k staffed) (λ (f : Office). AllByRecursion (λ (l : Ledger). IsAscending (λ (a b : Entry). nat_cmp a.seq b.seq ≡ Less) l.entries) f.rows.loans) (λ f is. all_weaker (IsSoundLoan k staffed f.rows.clients) (λ (l : Ledger). IsAscending (λ (a b : Entry). nat_cmp a.seq b.seq ≡ Less) l.entries) (λ l one. entries_by k.day staffed l.loan.periods (disbursed_on l.loan.stage) l.entries one.entries) f.rows.loans is.rows.loans) i.offices sound.each)
 
 pub receipts_rise : (i : Institution) → IsSound i → IsAscending (λ a b. by_receipt a b ≡ Less) (tables_of i).receipts
-receipts_rise i sound = rises_sorted by_receipt by_receipt_total (carried i.offices) (no_ties i.offices sound.tree.ascending (all_apart i sound))
+receipts_rise i sound = rises_sorted by_receipt by_receipt_total (carried i.offices) (no_ties_of i.offices sound.tree.ascending (receipts_apart i sound))
 
 pub instalments_rise : (i : Institution) → IsSound i → IsAscending (λ a b. by_instalment a b ≡ Less) (tables_of i).instalments
 instalments_rise i sound =

@@ -1,10 +1,5 @@
 -- What a query and the calls made of it come to.
-use Rattle.std.proofs.Common.{◌≡◌, ℕ, inl, inr, Bool, List, Option, None, Some, Result, Ok, Err, ◌≤◌, IfOk, OnOk, IsTrue, refl, sym, ◌∙◌, subst, arith, map, filter, find, slice_get}
-use denote.Ref.{Bor}
-use Rattle.std.specs.Option.{option_copied}
-use Rattle.sqlite.specs.declared.types.Value.TheVariants.{Null, Text}
-use Rattle.sqlite.specs.Values.{bound_value, or_null}
-use Rattle.mf_store_tables.specs.Values.{or_text}
+use Rattle.std.proofs.Common.{◌≡◌, ℕ, inl, inr, Bool, List, Option, Some, Result, Ok, Err, ◌≤◌, IfOk, IsTrue, sym, ◌∙◌, subst, arith, map, filter, find, slice_get}
 use Rattle.sqlite.specs.Tree.{Trees}
 use Rattle.sqlite.specs.Order.{Row}
 use Rattle.sqlite.specs.State.{State, HasCleanDisk, Survives}
@@ -14,7 +9,7 @@ use Rattle.sqlite.proofs.StateLemmas.{survives_then}
 use Rattle.sqlite_keyed.proofs.ListLemmas.{slice_get-filter}
 use Rattle.mf_store_records.specs.Tables.{schema}
 use Rattle.mf_store_tables.specs.Queries.{Answers}
-use Rattle.mf_store_tables.specs.Writes.{Serves}
+use Rattle.mf_store_tables.specs.Writes.{Ran, Serves}
 use Rattle.mf_store_records.specs.Rows.{Lists}
 use Rattle.mf_store_records.specs.Writes.{schema_of, Holds}
 use Rattle.mf_store_records.specs.Calls.{IsUnchanged, IsKeeping, OnlyFaultsShut, Shows}
@@ -53,23 +48,9 @@ module _ (was is : State) where
     ];
   }
 
--- what holds in any case holds at Ok
-pub at_ok : {A E : Type 0} (r : Result A E) (P : Type 0) → P → OnOk r P
-at_ok (Ok x) P h = h
-at_ok (Err e) P h = tt
-
-pub weaker_if_ok : {A E : Type 0} (r : Result A E) (P Q : A → Type 0) → ((x : A) → P x → Q x) → IfOk r P → IfOk r Q
-weaker_if_ok (Ok x) P Q f h = f x h
-weaker_if_ok (Err e) P Q f h = tt
-
 -- the first of the rows that pass the test
 pub first_is : {R : Type 0} (row : R → Row) (p : R → Bool) (items : List R) (rows : List Row) (found : Option R) → rows ≡ map row (filter p items) → ((rs : List R) → rows ≡ map row rs → found ≡ slice_get rs 0) → found ≡ find p items
 first_is row p items rows found are reads = reads (filter p items) are ∙ slice_get-filter p items
-
--- an absent text is bound as NULL
-pub bound_text : (o : Option (Bor (List ℕ))) (t : Option (List ℕ)) → option_copied o ≡ t → bound_value (or_null (λ s. Text s.now) o) ≡ or_text t
-bound_text None t e = subst (λ u. Null ≡ or_text u) e refl
-bound_text (Some s) t e = subst (λ u. Text s.now ≡ or_text u) e refl
 
 -- what a query shows of the lists that the tables keep
 pub shown : {V E : Type 0} (r : Result V E) (rows_of : V → List Row) (s : State) (sql : List ℕ) (params : Row) (lists : Lists) (P : V → Type 0) → ((v : V) → Serves schema_of Holds s.now (Some lists) → Answers sql params s.now (rows_of v) → P v)
@@ -80,3 +61,7 @@ shown (Err e) rows_of s sql params lists P law kept h = tt
 -- two statements of one transaction, one after the other: a stop leaves nothing more
 pub goes_on : (was mid is : State) → Survives was mid (λ _. ⊥) → Survives mid is (λ _. ⊥) → Survives was is (λ _. ⊥)
 goes_on was mid is = survives_then was mid is (λ _. ⊥) (λ _. ⊥) (λ _. ⊥) (λ _ db none. none) (λ _ db none. none)
+
+-- a statement ran with these values, told otherwise
+pub ran_with : (sql : List ℕ) (was is : State) (given row : Row) → given ≡ row → Ran sql given was is → Ran sql row was is
+ran_with sql was is given row same ran = subst (λ r. Ran sql r was is) same ran

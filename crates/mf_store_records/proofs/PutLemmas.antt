@@ -1,11 +1,12 @@
 -- What one statement makes of all tables together.
-use Rattle.std.proofs.Common.{◌≡◌, ℕ, pos, not, List, None, Some, Ok, Option, IsSome, [], ◌∷◌, filter, sym, subst, arith, true≢false}
+use Rattle.std.proofs.Common.{◌≡◌, ◌≢◌, ℕ, pos, Bool, true, false, cond, List, None, Some, Option, IsSome, [], ◌∷◌, refl, sym, subst, arith, ◌==◌, true≢false}
+use Rattle.std.proofs.lemmas.Bool.Decides.{nat_tests}
 use Rattle.sqlite.specs.Effect.{Database}
 use Rattle.sqlite.specs.Order.{Row}
 use Rattle.sqlite.specs.declared.types.Value.TheVariants.{Int}
-use Rattle.sqlite.specs.State.{State, Executes}
-use Rattle.sqlite_catalog.specs.Listing.{IsSound}
-use Rattle.mf_store_tables.specs.Keep.{Keeps, put_item}
+use Rattle.sqlite.specs.State.{State}
+use Rattle.sqlite.specs.Tree.{Trees}
+use Rattle.mf_store_tables.specs.Keep.{Keeps}
 use Rattle.mf_store_tables.specs.Making.{IsEmpty}
 use Rattle.mf_store_tables.specs.Tables.{no_schema}
 use Rattle.mf_store_tables.specs.Writes.{Ran, Serves}
@@ -13,7 +14,7 @@ use Rattle.mf_store_tables.proofs.KeepLemmas.{keeps_none}
 use Rattle.mf_store_tables.proofs.KeptLemmas.{Spares}
 use Rattle.mf_store_tables.proofs.MakeLemmas.{makes_one}
 use Rattle.mf_store_records.specs.Tables.{schema}
-use Rattle.mf_store_records.specs.Rows.{Lists, no_rows, meta_row, office_row, staff_row, client_row, charge_row, product_row, loan_row, entry_row, receipt_row, instalment_row, share_row, by_meta, by_office, by_staff, by_client, by_charge, by_product, by_loan, by_entry, by_receipt, by_instalment, by_share, is_share_in, put_meta, put_office, put_staff, put_client, put_charge, put_product, put_loan, put_entry, put_receipt, put_instalment, put_share, drop_shares}
+use Rattle.mf_store_records.specs.Rows.{Lists, no_rows, meta_row, office_row, staff_row, client_row, charge_row, product_row, loan_row, entry_row, receipt_row, instalment_row, share_row, by_meta, by_office, by_staff, by_client, by_charge, by_product, by_loan, by_entry, by_receipt, by_instalment, by_share, put_meta, put_office, put_staff, put_client, put_charge, put_product, put_loan, put_entry, put_receipt, put_instalment, put_share, drop_shares}
 use Rattle.mf_store_records.specs.declared.meta.MetaRow.{MetaRow}
 use Rattle.mf_store_records.specs.declared.offices.OfficeRow.{OfficeRow}
 use Rattle.mf_store_records.specs.declared.staff.StaffRow.{StaffRow}
@@ -26,7 +27,7 @@ use Rattle.mf_store_records.specs.declared.receipts.ReceiptRow.{ReceiptRow}
 use Rattle.mf_store_records.specs.declared.instalments.InstalmentRow.{InstalmentRow}
 use Rattle.mf_store_records.specs.declared.shares.EntryKey.{EntryKey}
 use Rattle.mf_store_records.specs.declared.shares.ShareRow.{ShareRow}
-use Rattle.mf_store_records.specs.Writes.{changed, schema_of, Holds, Making, Putting}
+use Rattle.mf_store_records.specs.Writes.{changed, schema_of, Holds, HoldsLists, Making, Putting}
 use Rattle.mf_store_records.proofs.Texts.{create_meta, create_offices, create_staff, create_clients, create_charges, create_products, create_loans, create_entries, create_receipts, create_instalments, create_shares, defines_meta, defines_offices, defines_staff, defines_clients, defines_charges, defines_products, defines_loans, defines_entries, defines_receipts, defines_instalments, defines_shares, made_is, upsert_meta, upsert_product, upsert_loan, upsert_entry, upsert_instalment, upsert_share, delete_shares}
 use Rattle.mf_store_records.proofs.AddLemmas.{insert_office, insert_staff, insert_client, insert_charge, insert_product, insert_loan, insert_entry, insert_receipt, adds_office, adds_staff, adds_client, adds_charge, adds_product, adds_loan, adds_entry, adds_receipt}
 use Rattle.mf_store_records.proofs.TableLemmas.{by_meta_total, by_office_total, by_staff_total, by_client_total, by_charge_total, by_product_total, by_loan_total, by_entry_total, by_receipt_total, by_instalment_total, by_share_total, puts_meta, puts_product, puts_loan, puts_entry, puts_instalment, puts_share, removes_shares}
@@ -37,325 +38,160 @@ StandsAs = Serves schema_of Holds
 nothing_there : {A : Type 0} → (let none : Option Lists = None in IsSome none) → A
 nothing_there h = absurd (true≢false (sym h))
 
-pub putting_meta : (x : MetaRow) (old new : State) → Ran upsert_meta (meta_row x) old new → Putting (put_meta x) old new
-putting_meta x old new ran = record { mode = ran.mode; was_open = ran.was_open; turns = turns }
+-- ---- a write of one table, which spares the others
+
+-- what the tables keep
+record Rows (trees : Trees) (m : Lists) : Type 0 where
+  meta : Keeps meta_row by_meta (trees 0) m.meta
+  offices : Keeps office_row by_office (trees 2) m.offices
+  staff : Keeps staff_row by_staff (trees 5) m.staff
+  clients : Keeps client_row by_client (trees 7) m.clients
+  charges : Keeps charge_row by_charge (trees 9) m.charges
+  products : Keeps product_row by_product (trees 11) m.products
+  loans : Keeps loan_row by_loan (trees 13) m.loans
+  entries : Keeps entry_row by_entry (trees 15) m.entries
+  receipts : Keeps receipt_row by_receipt (trees 17) m.receipts
+  instalments : Keeps instalment_row by_instalment (trees 19) m.instalments
+  shares : Keeps share_row by_share (trees 21) m.shares
+
+-- the trees after a write, but the one that was written as it was before
+abbrev spared : ℕ → Trees → Trees → Trees
+spared at old new k = cond (k == at) (old k) (new k)
+
+spared_is : (at : ℕ) (old new : Trees) (k : ℕ) → (k ≢ at → new k ≡ old k) → spared at old new k ≡ old k
+spared_is at old new k same = go (k == at) refl
   where
-    turns : (lists : Option Lists) → StandsAs old.now lists → IsSome lists → StandsAs new.now (changed (put_meta x) lists)
+    go : (b : Bool) → (k == at) ≡ b → cond b (old k) (new k) ≡ old k
+    go true e = refl
+    go false e = same (let apart : k ≢ at = grind (arith, nat_tests) in apart)
+
+-- these keep what was kept
+still : (at : ℕ) (old new : Trees) (m : Lists) → Spares schema at old new → HoldsLists old m → Rows (spared at old new) m
+still at old new m same h = record {
+  meta = subst (λ t. Keeps meta_row by_meta t m.meta) (sym (spared_is at old new 0 same.0)) h.meta;
+  offices = subst (λ t. Keeps office_row by_office t m.offices) (sym (spared_is at old new 2 same.1.0)) h.offices;
+  staff = subst (λ t. Keeps staff_row by_staff t m.staff) (sym (spared_is at old new 5 same.1.1.0)) h.staff;
+  clients = subst (λ t. Keeps client_row by_client t m.clients) (sym (spared_is at old new 7 same.1.1.1.0)) h.clients;
+  charges = subst (λ t. Keeps charge_row by_charge t m.charges) (sym (spared_is at old new 9 same.1.1.1.1.0)) h.charges;
+  products = subst (λ t. Keeps product_row by_product t m.products) (sym (spared_is at old new 11 same.1.1.1.1.1.0)) h.products;
+  loans = subst (λ t. Keeps loan_row by_loan t m.loans) (sym (spared_is at old new 13 same.1.1.1.1.1.1.0)) h.loans;
+  entries = subst (λ t. Keeps entry_row by_entry t m.entries) (sym (spared_is at old new 15 same.1.1.1.1.1.1.1.0)) h.entries;
+  receipts = subst (λ t. Keeps receipt_row by_receipt t m.receipts) (sym (spared_is at old new 17 same.1.1.1.1.1.1.1.1.0)) h.receipts;
+  instalments = subst (λ t. Keeps instalment_row by_instalment t m.instalments) (sym (spared_is at old new 19 same.1.1.1.1.1.1.1.1.1.0)) h.instalments;
+  shares = subst (λ t. Keeps share_row by_share t m.shares) (sym (spared_is at old new 21 same.1.1.1.1.1.1.1.1.1.1.0)) h.shares;
+}
+
+steps : (change : Lists → Lists) (sql : List ℕ) (params : Row) (old new : State) → Ran sql params old new → ((m : Lists) → StandsAs old.now (Some m) → StandsAs new.now (Some (change m))) → Putting change old new
+steps change sql params old new ran turn = record { mode = ran.mode; was_open = ran.was_open; turns = turns }
+  where
+    turns : (lists : Option Lists) → StandsAs old.now lists → IsSome lists → StandsAs new.now (changed change lists)
     turns None s there = nothing_there there
-    turns (Some m) s there =
-        let did = puts_meta x old new ran.count m.meta s.schema_is s.holds.meta ran.ran in
-        let spared = did.2 in record {
-          schema_is = did.0;
-          holds = record {
-            sound = did.3;
-            meta = did.1;
-            offices = subst (λ t. Keeps office_row by_office t m.offices) (sym (spared.1.0 (λ e. absurd (omega arith)))) s.holds.offices;
-            staff = subst (λ t. Keeps staff_row by_staff t m.staff) (sym (spared.1.1.0 (λ e. absurd (omega arith)))) s.holds.staff;
-            clients = subst (λ t. Keeps client_row by_client t m.clients) (sym (spared.1.1.1.0 (λ e. absurd (omega arith)))) s.holds.clients;
-            charges = subst (λ t. Keeps charge_row by_charge t m.charges) (sym (spared.1.1.1.1.0 (λ e. absurd (omega arith)))) s.holds.charges;
-            products = subst (λ t. Keeps product_row by_product t m.products) (sym (spared.1.1.1.1.1.0 (λ e. absurd (omega arith)))) s.holds.products;
-            loans = subst (λ t. Keeps loan_row by_loan t m.loans) (sym (spared.1.1.1.1.1.1.0 (λ e. absurd (omega arith)))) s.holds.loans;
-            entries = subst (λ t. Keeps entry_row by_entry t m.entries) (sym (spared.1.1.1.1.1.1.1.0 (λ e. absurd (omega arith)))) s.holds.entries;
-            receipts = subst (λ t. Keeps receipt_row by_receipt t m.receipts) (sym (spared.1.1.1.1.1.1.1.1.0 (λ e. absurd (omega arith)))) s.holds.receipts;
-            instalments = subst (λ t. Keeps instalment_row by_instalment t m.instalments) (sym (spared.1.1.1.1.1.1.1.1.1.0 (λ e. absurd (omega arith)))) s.holds.instalments;
-            shares = subst (λ t. Keeps share_row by_share t m.shares) (sym (spared.1.1.1.1.1.1.1.1.1.1.0 (λ e. absurd (omega arith)))) s.holds.shares;
-          };
-        }
+    turns (Some m) s there = turn m s
+
+pub putting_meta : (x : MetaRow) (old new : State) → Ran upsert_meta (meta_row x) old new → Putting (put_meta x) old new
+putting_meta x old new ran =
+    steps (put_meta x) upsert_meta (meta_row x) old new ran (λ m s.
+    let did = puts_meta x old new ran.count m.meta s.schema_is s.holds.meta ran.ran in
+    let same = still 0 old.now.trees new.now.trees m did.2 s.holds in
+    record { schema_is = did.0; holds = record { sound = did.3; meta = did.1; offices = same.offices; staff = same.staff; clients = same.clients; charges = same.charges; products = same.products; loans = same.loans; entries = same.entries; receipts = same.receipts; instalments = same.instalments; shares = same.shares } })
 
 pub putting_office : (x : OfficeRow) (old new : State) → Ran insert_office (office_row x) old new → Putting (put_office x) old new
-putting_office x old new ran = record { mode = ran.mode; was_open = ran.was_open; turns = turns }
-  where
-    turns : (lists : Option Lists) → StandsAs old.now lists → IsSome lists → StandsAs new.now (changed (put_office x) lists)
-    turns None s there = nothing_there there
-    turns (Some m) s there =
-        let did = adds_office x old new ran.count m.offices s.schema_is s.holds.offices ran.ran in
-        let spared = did.2 in record {
-          schema_is = did.0;
-          holds = record {
-            sound = did.3;
-            meta = subst (λ t. Keeps meta_row by_meta t m.meta) (sym (spared.0 (λ e. absurd (omega arith)))) s.holds.meta;
-            offices = did.1;
-            staff = subst (λ t. Keeps staff_row by_staff t m.staff) (sym (spared.1.1.0 (λ e. absurd (omega arith)))) s.holds.staff;
-            clients = subst (λ t. Keeps client_row by_client t m.clients) (sym (spared.1.1.1.0 (λ e. absurd (omega arith)))) s.holds.clients;
-            charges = subst (λ t. Keeps charge_row by_charge t m.charges) (sym (spared.1.1.1.1.0 (λ e. absurd (omega arith)))) s.holds.charges;
-            products = subst (λ t. Keeps product_row by_product t m.products) (sym (spared.1.1.1.1.1.0 (λ e. absurd (omega arith)))) s.holds.products;
-            loans = subst (λ t. Keeps loan_row by_loan t m.loans) (sym (spared.1.1.1.1.1.1.0 (λ e. absurd (omega arith)))) s.holds.loans;
-            entries = subst (λ t. Keeps entry_row by_entry t m.entries) (sym (spared.1.1.1.1.1.1.1.0 (λ e. absurd (omega arith)))) s.holds.entries;
-            receipts = subst (λ t. Keeps receipt_row by_receipt t m.receipts) (sym (spared.1.1.1.1.1.1.1.1.0 (λ e. absurd (omega arith)))) s.holds.receipts;
-            instalments = subst (λ t. Keeps instalment_row by_instalment t m.instalments) (sym (spared.1.1.1.1.1.1.1.1.1.0 (λ e. absurd (omega arith)))) s.holds.instalments;
-            shares = subst (λ t. Keeps share_row by_share t m.shares) (sym (spared.1.1.1.1.1.1.1.1.1.1.0 (λ e. absurd (omega arith)))) s.holds.shares;
-          };
-        }
+putting_office x old new ran =
+    steps (put_office x) insert_office (office_row x) old new ran (λ m s.
+    let did = adds_office x old new ran.count m.offices s.schema_is s.holds.offices ran.ran in
+    let same = still 2 old.now.trees new.now.trees m did.2 s.holds in
+    record { schema_is = did.0; holds = record { sound = did.3; meta = same.meta; offices = did.1; staff = same.staff; clients = same.clients; charges = same.charges; products = same.products; loans = same.loans; entries = same.entries; receipts = same.receipts; instalments = same.instalments; shares = same.shares } })
 
 pub putting_staff : (x : StaffRow) (old new : State) → Ran insert_staff (staff_row x) old new → Putting (put_staff x) old new
-putting_staff x old new ran = record { mode = ran.mode; was_open = ran.was_open; turns = turns }
-  where
-    turns : (lists : Option Lists) → StandsAs old.now lists → IsSome lists → StandsAs new.now (changed (put_staff x) lists)
-    turns None s there = nothing_there there
-    turns (Some m) s there =
-        let did = adds_staff x old new ran.count m.staff s.schema_is s.holds.staff ran.ran in
-        let spared = did.2 in record {
-          schema_is = did.0;
-          holds = record {
-            sound = did.3;
-            meta = subst (λ t. Keeps meta_row by_meta t m.meta) (sym (spared.0 (λ e. absurd (omega arith)))) s.holds.meta;
-            offices = subst (λ t. Keeps office_row by_office t m.offices) (sym (spared.1.0 (λ e. absurd (omega arith)))) s.holds.offices;
-            staff = did.1;
-            clients = subst (λ t. Keeps client_row by_client t m.clients) (sym (spared.1.1.1.0 (λ e. absurd (omega arith)))) s.holds.clients;
-            charges = subst (λ t. Keeps charge_row by_charge t m.charges) (sym (spared.1.1.1.1.0 (λ e. absurd (omega arith)))) s.holds.charges;
-            products = subst (λ t. Keeps product_row by_product t m.products) (sym (spared.1.1.1.1.1.0 (λ e. absurd (omega arith)))) s.holds.products;
-            loans = subst (λ t. Keeps loan_row by_loan t m.loans) (sym (spared.1.1.1.1.1.1.0 (λ e. absurd (omega arith)))) s.holds.loans;
-            entries = subst (λ t. Keeps entry_row by_entry t m.entries) (sym (spared.1.1.1.1.1.1.1.0 (λ e. absurd (omega arith)))) s.holds.entries;
-            receipts = subst (λ t. Keeps receipt_row by_receipt t m.receipts) (sym (spared.1.1.1.1.1.1.1.1.0 (λ e. absurd (omega arith)))) s.holds.receipts;
-            instalments = subst (λ t. Keeps instalment_row by_instalment t m.instalments) (sym (spared.1.1.1.1.1.1.1.1.1.0 (λ e. absurd (omega arith)))) s.holds.instalments;
-            shares = subst (λ t. Keeps share_row by_share t m.shares) (sym (spared.1.1.1.1.1.1.1.1.1.1.0 (λ e. absurd (omega arith)))) s.holds.shares;
-          };
-        }
+putting_staff x old new ran =
+    steps (put_staff x) insert_staff (staff_row x) old new ran (λ m s.
+    let did = adds_staff x old new ran.count m.staff s.schema_is s.holds.staff ran.ran in
+    let same = still 5 old.now.trees new.now.trees m did.2 s.holds in
+    record { schema_is = did.0; holds = record { sound = did.3; meta = same.meta; offices = same.offices; staff = did.1; clients = same.clients; charges = same.charges; products = same.products; loans = same.loans; entries = same.entries; receipts = same.receipts; instalments = same.instalments; shares = same.shares } })
 
 pub putting_client : (x : ClientRow) (old new : State) → Ran insert_client (client_row x) old new → Putting (put_client x) old new
-putting_client x old new ran = record { mode = ran.mode; was_open = ran.was_open; turns = turns }
-  where
-    turns : (lists : Option Lists) → StandsAs old.now lists → IsSome lists → StandsAs new.now (changed (put_client x) lists)
-    turns None s there = nothing_there there
-    turns (Some m) s there =
-        let did = adds_client x old new ran.count m.clients s.schema_is s.holds.clients ran.ran in
-        let spared = did.2 in record {
-          schema_is = did.0;
-          holds = record {
-            sound = did.3;
-            meta = subst (λ t. Keeps meta_row by_meta t m.meta) (sym (spared.0 (λ e. absurd (omega arith)))) s.holds.meta;
-            offices = subst (λ t. Keeps office_row by_office t m.offices) (sym (spared.1.0 (λ e. absurd (omega arith)))) s.holds.offices;
-            staff = subst (λ t. Keeps staff_row by_staff t m.staff) (sym (spared.1.1.0 (λ e. absurd (omega arith)))) s.holds.staff;
-            clients = did.1;
-            charges = subst (λ t. Keeps charge_row by_charge t m.charges) (sym (spared.1.1.1.1.0 (λ e. absurd (omega arith)))) s.holds.charges;
-            products = subst (λ t. Keeps product_row by_product t m.products) (sym (spared.1.1.1.1.1.0 (λ e. absurd (omega arith)))) s.holds.products;
-            loans = subst (λ t. Keeps loan_row by_loan t m.loans) (sym (spared.1.1.1.1.1.1.0 (λ e. absurd (omega arith)))) s.holds.loans;
-            entries = subst (λ t. Keeps entry_row by_entry t m.entries) (sym (spared.1.1.1.1.1.1.1.0 (λ e. absurd (omega arith)))) s.holds.entries;
-            receipts = subst (λ t. Keeps receipt_row by_receipt t m.receipts) (sym (spared.1.1.1.1.1.1.1.1.0 (λ e. absurd (omega arith)))) s.holds.receipts;
-            instalments = subst (λ t. Keeps instalment_row by_instalment t m.instalments) (sym (spared.1.1.1.1.1.1.1.1.1.0 (λ e. absurd (omega arith)))) s.holds.instalments;
-            shares = subst (λ t. Keeps share_row by_share t m.shares) (sym (spared.1.1.1.1.1.1.1.1.1.1.0 (λ e. absurd (omega arith)))) s.holds.shares;
-          };
-        }
+putting_client x old new ran =
+    steps (put_client x) insert_client (client_row x) old new ran (λ m s.
+    let did = adds_client x old new ran.count m.clients s.schema_is s.holds.clients ran.ran in
+    let same = still 7 old.now.trees new.now.trees m did.2 s.holds in
+    record { schema_is = did.0; holds = record { sound = did.3; meta = same.meta; offices = same.offices; staff = same.staff; clients = did.1; charges = same.charges; products = same.products; loans = same.loans; entries = same.entries; receipts = same.receipts; instalments = same.instalments; shares = same.shares } })
 
 pub putting_charge : (x : ChargeRow) (old new : State) → Ran insert_charge (charge_row x) old new → Putting (put_charge x) old new
-putting_charge x old new ran = record { mode = ran.mode; was_open = ran.was_open; turns = turns }
-  where
-    turns : (lists : Option Lists) → StandsAs old.now lists → IsSome lists → StandsAs new.now (changed (put_charge x) lists)
-    turns None s there = nothing_there there
-    turns (Some m) s there =
-        let did = adds_charge x old new ran.count m.charges s.schema_is s.holds.charges ran.ran in
-        let spared = did.2 in record {
-          schema_is = did.0;
-          holds = record {
-            sound = did.3;
-            meta = subst (λ t. Keeps meta_row by_meta t m.meta) (sym (spared.0 (λ e. absurd (omega arith)))) s.holds.meta;
-            offices = subst (λ t. Keeps office_row by_office t m.offices) (sym (spared.1.0 (λ e. absurd (omega arith)))) s.holds.offices;
-            staff = subst (λ t. Keeps staff_row by_staff t m.staff) (sym (spared.1.1.0 (λ e. absurd (omega arith)))) s.holds.staff;
-            clients = subst (λ t. Keeps client_row by_client t m.clients) (sym (spared.1.1.1.0 (λ e. absurd (omega arith)))) s.holds.clients;
-            charges = did.1;
-            products = subst (λ t. Keeps product_row by_product t m.products) (sym (spared.1.1.1.1.1.0 (λ e. absurd (omega arith)))) s.holds.products;
-            loans = subst (λ t. Keeps loan_row by_loan t m.loans) (sym (spared.1.1.1.1.1.1.0 (λ e. absurd (omega arith)))) s.holds.loans;
-            entries = subst (λ t. Keeps entry_row by_entry t m.entries) (sym (spared.1.1.1.1.1.1.1.0 (λ e. absurd (omega arith)))) s.holds.entries;
-            receipts = subst (λ t. Keeps receipt_row by_receipt t m.receipts) (sym (spared.1.1.1.1.1.1.1.1.0 (λ e. absurd (omega arith)))) s.holds.receipts;
-            instalments = subst (λ t. Keeps instalment_row by_instalment t m.instalments) (sym (spared.1.1.1.1.1.1.1.1.1.0 (λ e. absurd (omega arith)))) s.holds.instalments;
-            shares = subst (λ t. Keeps share_row by_share t m.shares) (sym (spared.1.1.1.1.1.1.1.1.1.1.0 (λ e. absurd (omega arith)))) s.holds.shares;
-          };
-        }
-
--- what a text makes of its own table and of the others
-abbrev Puts_product : List ℕ → Type 1
-Puts_product sql = (x : ProductRow) (old new : State) (count : ℕ) (items : List ProductRow) → old.now.schema ≡ schema → Keeps product_row by_product (old.now.trees 11) items → Executes sql (product_row x) old new (Ok count)
-    → (new.now.schema ≡ schema) × Keeps product_row by_product (new.now.trees 11) (put_item by_product x items) × Spares schema 11 old.now.trees new.now.trees × IsSound schema new.now.trees
-
-product_written : (sql : List ℕ) → Puts_product sql → (x : ProductRow) (old new : State) → Ran sql (product_row x) old new → Putting (put_product x) old new
-product_written sql puts x old new ran = record { mode = ran.mode; was_open = ran.was_open; turns = turns }
-  where
-    turns : (lists : Option Lists) → StandsAs old.now lists → IsSome lists → StandsAs new.now (changed (put_product x) lists)
-    turns None s there = nothing_there there
-    turns (Some m) s there =
-        let did = puts x old new ran.count m.products s.schema_is s.holds.products ran.ran in
-        let spared = did.2 in record {
-          schema_is = did.0;
-          holds = record {
-            sound = did.3;
-            meta = subst (λ t. Keeps meta_row by_meta t m.meta) (sym (spared.0 (λ e. absurd (omega arith)))) s.holds.meta;
-            offices = subst (λ t. Keeps office_row by_office t m.offices) (sym (spared.1.0 (λ e. absurd (omega arith)))) s.holds.offices;
-            staff = subst (λ t. Keeps staff_row by_staff t m.staff) (sym (spared.1.1.0 (λ e. absurd (omega arith)))) s.holds.staff;
-            clients = subst (λ t. Keeps client_row by_client t m.clients) (sym (spared.1.1.1.0 (λ e. absurd (omega arith)))) s.holds.clients;
-            charges = subst (λ t. Keeps charge_row by_charge t m.charges) (sym (spared.1.1.1.1.0 (λ e. absurd (omega arith)))) s.holds.charges;
-            products = did.1;
-            loans = subst (λ t. Keeps loan_row by_loan t m.loans) (sym (spared.1.1.1.1.1.1.0 (λ e. absurd (omega arith)))) s.holds.loans;
-            entries = subst (λ t. Keeps entry_row by_entry t m.entries) (sym (spared.1.1.1.1.1.1.1.0 (λ e. absurd (omega arith)))) s.holds.entries;
-            receipts = subst (λ t. Keeps receipt_row by_receipt t m.receipts) (sym (spared.1.1.1.1.1.1.1.1.0 (λ e. absurd (omega arith)))) s.holds.receipts;
-            instalments = subst (λ t. Keeps instalment_row by_instalment t m.instalments) (sym (spared.1.1.1.1.1.1.1.1.1.0 (λ e. absurd (omega arith)))) s.holds.instalments;
-            shares = subst (λ t. Keeps share_row by_share t m.shares) (sym (spared.1.1.1.1.1.1.1.1.1.1.0 (λ e. absurd (omega arith)))) s.holds.shares;
-          };
-        }
+putting_charge x old new ran =
+    steps (put_charge x) insert_charge (charge_row x) old new ran (λ m s.
+    let did = adds_charge x old new ran.count m.charges s.schema_is s.holds.charges ran.ran in
+    let same = still 9 old.now.trees new.now.trees m did.2 s.holds in
+    record { schema_is = did.0; holds = record { sound = did.3; meta = same.meta; offices = same.offices; staff = same.staff; clients = same.clients; charges = did.1; products = same.products; loans = same.loans; entries = same.entries; receipts = same.receipts; instalments = same.instalments; shares = same.shares } })
 
 pub putting_product : (x : ProductRow) (old new : State) → Ran upsert_product (product_row x) old new → Putting (put_product x) old new
-putting_product = product_written upsert_product puts_product
+putting_product x old new ran =
+    steps (put_product x) upsert_product (product_row x) old new ran (λ m s.
+    let did = puts_product x old new ran.count m.products s.schema_is s.holds.products ran.ran in
+    let same = still 11 old.now.trees new.now.trees m did.2 s.holds in
+    record { schema_is = did.0; holds = record { sound = did.3; meta = same.meta; offices = same.offices; staff = same.staff; clients = same.clients; charges = same.charges; products = did.1; loans = same.loans; entries = same.entries; receipts = same.receipts; instalments = same.instalments; shares = same.shares } })
 
 pub adding_product : (x : ProductRow) (old new : State) → Ran insert_product (product_row x) old new → Putting (put_product x) old new
-adding_product = product_written insert_product adds_product
-
--- what a text makes of its own table and of the others
-abbrev Puts_loan : List ℕ → Type 1
-Puts_loan sql = (x : LoanRow) (old new : State) (count : ℕ) (items : List LoanRow) → old.now.schema ≡ schema → Keeps loan_row by_loan (old.now.trees 13) items → Executes sql (loan_row x) old new (Ok count)
-    → (new.now.schema ≡ schema) × Keeps loan_row by_loan (new.now.trees 13) (put_item by_loan x items) × Spares schema 13 old.now.trees new.now.trees × IsSound schema new.now.trees
-
-loan_written : (sql : List ℕ) → Puts_loan sql → (x : LoanRow) (old new : State) → Ran sql (loan_row x) old new → Putting (put_loan x) old new
-loan_written sql puts x old new ran = record { mode = ran.mode; was_open = ran.was_open; turns = turns }
-  where
-    turns : (lists : Option Lists) → StandsAs old.now lists → IsSome lists → StandsAs new.now (changed (put_loan x) lists)
-    turns None s there = nothing_there there
-    turns (Some m) s there =
-        let did = puts x old new ran.count m.loans s.schema_is s.holds.loans ran.ran in
-        let spared = did.2 in record {
-          schema_is = did.0;
-          holds = record {
-            sound = did.3;
-            meta = subst (λ t. Keeps meta_row by_meta t m.meta) (sym (spared.0 (λ e. absurd (omega arith)))) s.holds.meta;
-            offices = subst (λ t. Keeps office_row by_office t m.offices) (sym (spared.1.0 (λ e. absurd (omega arith)))) s.holds.offices;
-            staff = subst (λ t. Keeps staff_row by_staff t m.staff) (sym (spared.1.1.0 (λ e. absurd (omega arith)))) s.holds.staff;
-            clients = subst (λ t. Keeps client_row by_client t m.clients) (sym (spared.1.1.1.0 (λ e. absurd (omega arith)))) s.holds.clients;
-            charges = subst (λ t. Keeps charge_row by_charge t m.charges) (sym (spared.1.1.1.1.0 (λ e. absurd (omega arith)))) s.holds.charges;
-            products = subst (λ t. Keeps product_row by_product t m.products) (sym (spared.1.1.1.1.1.0 (λ e. absurd (omega arith)))) s.holds.products;
-            loans = did.1;
-            entries = subst (λ t. Keeps entry_row by_entry t m.entries) (sym (spared.1.1.1.1.1.1.1.0 (λ e. absurd (omega arith)))) s.holds.entries;
-            receipts = subst (λ t. Keeps receipt_row by_receipt t m.receipts) (sym (spared.1.1.1.1.1.1.1.1.0 (λ e. absurd (omega arith)))) s.holds.receipts;
-            instalments = subst (λ t. Keeps instalment_row by_instalment t m.instalments) (sym (spared.1.1.1.1.1.1.1.1.1.0 (λ e. absurd (omega arith)))) s.holds.instalments;
-            shares = subst (λ t. Keeps share_row by_share t m.shares) (sym (spared.1.1.1.1.1.1.1.1.1.1.0 (λ e. absurd (omega arith)))) s.holds.shares;
-          };
-        }
+adding_product x old new ran =
+    steps (put_product x) insert_product (product_row x) old new ran (λ m s.
+    let did = adds_product x old new ran.count m.products s.schema_is s.holds.products ran.ran in
+    let same = still 11 old.now.trees new.now.trees m did.2 s.holds in
+    record { schema_is = did.0; holds = record { sound = did.3; meta = same.meta; offices = same.offices; staff = same.staff; clients = same.clients; charges = same.charges; products = did.1; loans = same.loans; entries = same.entries; receipts = same.receipts; instalments = same.instalments; shares = same.shares } })
 
 pub putting_loan : (x : LoanRow) (old new : State) → Ran upsert_loan (loan_row x) old new → Putting (put_loan x) old new
-putting_loan = loan_written upsert_loan puts_loan
+putting_loan x old new ran =
+    steps (put_loan x) upsert_loan (loan_row x) old new ran (λ m s.
+    let did = puts_loan x old new ran.count m.loans s.schema_is s.holds.loans ran.ran in
+    let same = still 13 old.now.trees new.now.trees m did.2 s.holds in
+    record { schema_is = did.0; holds = record { sound = did.3; meta = same.meta; offices = same.offices; staff = same.staff; clients = same.clients; charges = same.charges; products = same.products; loans = did.1; entries = same.entries; receipts = same.receipts; instalments = same.instalments; shares = same.shares } })
 
 pub adding_loan : (x : LoanRow) (old new : State) → Ran insert_loan (loan_row x) old new → Putting (put_loan x) old new
-adding_loan = loan_written insert_loan adds_loan
-
--- what a text makes of its own table and of the others
-abbrev Puts_entry : List ℕ → Type 1
-Puts_entry sql = (x : EntryRow) (old new : State) (count : ℕ) (items : List EntryRow) → old.now.schema ≡ schema → Keeps entry_row by_entry (old.now.trees 15) items → Executes sql (entry_row x) old new (Ok count)
-    → (new.now.schema ≡ schema) × Keeps entry_row by_entry (new.now.trees 15) (put_item by_entry x items) × Spares schema 15 old.now.trees new.now.trees × IsSound schema new.now.trees
-
-entry_written : (sql : List ℕ) → Puts_entry sql → (x : EntryRow) (old new : State) → Ran sql (entry_row x) old new → Putting (put_entry x) old new
-entry_written sql puts x old new ran = record { mode = ran.mode; was_open = ran.was_open; turns = turns }
-  where
-    turns : (lists : Option Lists) → StandsAs old.now lists → IsSome lists → StandsAs new.now (changed (put_entry x) lists)
-    turns None s there = nothing_there there
-    turns (Some m) s there =
-        let did = puts x old new ran.count m.entries s.schema_is s.holds.entries ran.ran in
-        let spared = did.2 in record {
-          schema_is = did.0;
-          holds = record {
-            sound = did.3;
-            meta = subst (λ t. Keeps meta_row by_meta t m.meta) (sym (spared.0 (λ e. absurd (omega arith)))) s.holds.meta;
-            offices = subst (λ t. Keeps office_row by_office t m.offices) (sym (spared.1.0 (λ e. absurd (omega arith)))) s.holds.offices;
-            staff = subst (λ t. Keeps staff_row by_staff t m.staff) (sym (spared.1.1.0 (λ e. absurd (omega arith)))) s.holds.staff;
-            clients = subst (λ t. Keeps client_row by_client t m.clients) (sym (spared.1.1.1.0 (λ e. absurd (omega arith)))) s.holds.clients;
-            charges = subst (λ t. Keeps charge_row by_charge t m.charges) (sym (spared.1.1.1.1.0 (λ e. absurd (omega arith)))) s.holds.charges;
-            products = subst (λ t. Keeps product_row by_product t m.products) (sym (spared.1.1.1.1.1.0 (λ e. absurd (omega arith)))) s.holds.products;
-            loans = subst (λ t. Keeps loan_row by_loan t m.loans) (sym (spared.1.1.1.1.1.1.0 (λ e. absurd (omega arith)))) s.holds.loans;
-            entries = did.1;
-            receipts = subst (λ t. Keeps receipt_row by_receipt t m.receipts) (sym (spared.1.1.1.1.1.1.1.1.0 (λ e. absurd (omega arith)))) s.holds.receipts;
-            instalments = subst (λ t. Keeps instalment_row by_instalment t m.instalments) (sym (spared.1.1.1.1.1.1.1.1.1.0 (λ e. absurd (omega arith)))) s.holds.instalments;
-            shares = subst (λ t. Keeps share_row by_share t m.shares) (sym (spared.1.1.1.1.1.1.1.1.1.1.0 (λ e. absurd (omega arith)))) s.holds.shares;
-          };
-        }
+adding_loan x old new ran =
+    steps (put_loan x) insert_loan (loan_row x) old new ran (λ m s.
+    let did = adds_loan x old new ran.count m.loans s.schema_is s.holds.loans ran.ran in
+    let same = still 13 old.now.trees new.now.trees m did.2 s.holds in
+    record { schema_is = did.0; holds = record { sound = did.3; meta = same.meta; offices = same.offices; staff = same.staff; clients = same.clients; charges = same.charges; products = same.products; loans = did.1; entries = same.entries; receipts = same.receipts; instalments = same.instalments; shares = same.shares } })
 
 pub putting_entry : (x : EntryRow) (old new : State) → Ran upsert_entry (entry_row x) old new → Putting (put_entry x) old new
-putting_entry = entry_written upsert_entry puts_entry
+putting_entry x old new ran =
+    steps (put_entry x) upsert_entry (entry_row x) old new ran (λ m s.
+    let did = puts_entry x old new ran.count m.entries s.schema_is s.holds.entries ran.ran in
+    let same = still 15 old.now.trees new.now.trees m did.2 s.holds in
+    record { schema_is = did.0; holds = record { sound = did.3; meta = same.meta; offices = same.offices; staff = same.staff; clients = same.clients; charges = same.charges; products = same.products; loans = same.loans; entries = did.1; receipts = same.receipts; instalments = same.instalments; shares = same.shares } })
 
 pub adding_entry : (x : EntryRow) (old new : State) → Ran insert_entry (entry_row x) old new → Putting (put_entry x) old new
-adding_entry = entry_written insert_entry adds_entry
+adding_entry x old new ran =
+    steps (put_entry x) insert_entry (entry_row x) old new ran (λ m s.
+    let did = adds_entry x old new ran.count m.entries s.schema_is s.holds.entries ran.ran in
+    let same = still 15 old.now.trees new.now.trees m did.2 s.holds in
+    record { schema_is = did.0; holds = record { sound = did.3; meta = same.meta; offices = same.offices; staff = same.staff; clients = same.clients; charges = same.charges; products = same.products; loans = same.loans; entries = did.1; receipts = same.receipts; instalments = same.instalments; shares = same.shares } })
 
 pub putting_receipt : (x : ReceiptRow) (old new : State) → Ran insert_receipt (receipt_row x) old new → Putting (put_receipt x) old new
-putting_receipt x old new ran = record { mode = ran.mode; was_open = ran.was_open; turns = turns }
-  where
-    turns : (lists : Option Lists) → StandsAs old.now lists → IsSome lists → StandsAs new.now (changed (put_receipt x) lists)
-    turns None s there = nothing_there there
-    turns (Some m) s there =
-        let did = adds_receipt x old new ran.count m.receipts s.schema_is s.holds.receipts ran.ran in
-        let spared = did.2 in record {
-          schema_is = did.0;
-          holds = record {
-            sound = did.3;
-            meta = subst (λ t. Keeps meta_row by_meta t m.meta) (sym (spared.0 (λ e. absurd (omega arith)))) s.holds.meta;
-            offices = subst (λ t. Keeps office_row by_office t m.offices) (sym (spared.1.0 (λ e. absurd (omega arith)))) s.holds.offices;
-            staff = subst (λ t. Keeps staff_row by_staff t m.staff) (sym (spared.1.1.0 (λ e. absurd (omega arith)))) s.holds.staff;
-            clients = subst (λ t. Keeps client_row by_client t m.clients) (sym (spared.1.1.1.0 (λ e. absurd (omega arith)))) s.holds.clients;
-            charges = subst (λ t. Keeps charge_row by_charge t m.charges) (sym (spared.1.1.1.1.0 (λ e. absurd (omega arith)))) s.holds.charges;
-            products = subst (λ t. Keeps product_row by_product t m.products) (sym (spared.1.1.1.1.1.0 (λ e. absurd (omega arith)))) s.holds.products;
-            loans = subst (λ t. Keeps loan_row by_loan t m.loans) (sym (spared.1.1.1.1.1.1.0 (λ e. absurd (omega arith)))) s.holds.loans;
-            entries = subst (λ t. Keeps entry_row by_entry t m.entries) (sym (spared.1.1.1.1.1.1.1.0 (λ e. absurd (omega arith)))) s.holds.entries;
-            receipts = did.1;
-            instalments = subst (λ t. Keeps instalment_row by_instalment t m.instalments) (sym (spared.1.1.1.1.1.1.1.1.1.0 (λ e. absurd (omega arith)))) s.holds.instalments;
-            shares = subst (λ t. Keeps share_row by_share t m.shares) (sym (spared.1.1.1.1.1.1.1.1.1.1.0 (λ e. absurd (omega arith)))) s.holds.shares;
-          };
-        }
+putting_receipt x old new ran =
+    steps (put_receipt x) insert_receipt (receipt_row x) old new ran (λ m s.
+    let did = adds_receipt x old new ran.count m.receipts s.schema_is s.holds.receipts ran.ran in
+    let same = still 17 old.now.trees new.now.trees m did.2 s.holds in
+    record { schema_is = did.0; holds = record { sound = did.3; meta = same.meta; offices = same.offices; staff = same.staff; clients = same.clients; charges = same.charges; products = same.products; loans = same.loans; entries = same.entries; receipts = did.1; instalments = same.instalments; shares = same.shares } })
 
 pub putting_instalment : (x : InstalmentRow) (old new : State) → Ran upsert_instalment (instalment_row x) old new → Putting (put_instalment x) old new
-putting_instalment x old new ran = record { mode = ran.mode; was_open = ran.was_open; turns = turns }
-  where
-    turns : (lists : Option Lists) → StandsAs old.now lists → IsSome lists → StandsAs new.now (changed (put_instalment x) lists)
-    turns None s there = nothing_there there
-    turns (Some m) s there =
-        let did = puts_instalment x old new ran.count m.instalments s.schema_is s.holds.instalments ran.ran in
-        let spared = did.2 in record {
-          schema_is = did.0;
-          holds = record {
-            sound = did.3;
-            meta = subst (λ t. Keeps meta_row by_meta t m.meta) (sym (spared.0 (λ e. absurd (omega arith)))) s.holds.meta;
-            offices = subst (λ t. Keeps office_row by_office t m.offices) (sym (spared.1.0 (λ e. absurd (omega arith)))) s.holds.offices;
-            staff = subst (λ t. Keeps staff_row by_staff t m.staff) (sym (spared.1.1.0 (λ e. absurd (omega arith)))) s.holds.staff;
-            clients = subst (λ t. Keeps client_row by_client t m.clients) (sym (spared.1.1.1.0 (λ e. absurd (omega arith)))) s.holds.clients;
-            charges = subst (λ t. Keeps charge_row by_charge t m.charges) (sym (spared.1.1.1.1.0 (λ e. absurd (omega arith)))) s.holds.charges;
-            products = subst (λ t. Keeps product_row by_product t m.products) (sym (spared.1.1.1.1.1.0 (λ e. absurd (omega arith)))) s.holds.products;
-            loans = subst (λ t. Keeps loan_row by_loan t m.loans) (sym (spared.1.1.1.1.1.1.0 (λ e. absurd (omega arith)))) s.holds.loans;
-            entries = subst (λ t. Keeps entry_row by_entry t m.entries) (sym (spared.1.1.1.1.1.1.1.0 (λ e. absurd (omega arith)))) s.holds.entries;
-            receipts = subst (λ t. Keeps receipt_row by_receipt t m.receipts) (sym (spared.1.1.1.1.1.1.1.1.0 (λ e. absurd (omega arith)))) s.holds.receipts;
-            instalments = did.1;
-            shares = subst (λ t. Keeps share_row by_share t m.shares) (sym (spared.1.1.1.1.1.1.1.1.1.1.0 (λ e. absurd (omega arith)))) s.holds.shares;
-          };
-        }
-
--- what a text makes of the shares and of the other tables
-abbrev Turns_shares : (List ShareRow → List ShareRow) → State → State → Type 0
-Turns_shares change old new = (items : List ShareRow) → old.now.schema ≡ schema → Keeps share_row by_share (old.now.trees 21) items
-    → (new.now.schema ≡ schema) × Keeps share_row by_share (new.now.trees 21) (change items) × Spares schema 21 old.now.trees new.now.trees × IsSound schema new.now.trees
-
-shares_written : (change : List ShareRow → List ShareRow) (sql : List ℕ) (params : Row) (old new : State) → Ran sql params old new → Turns_shares change old new → Putting (λ lists. record lists { shares = change lists.shares }) old new
-shares_written change sql params old new ran shares_turn = record { mode = ran.mode; was_open = ran.was_open; turns = turns }
-  where
-    turns : (lists : Option Lists) → StandsAs old.now lists → IsSome lists → StandsAs new.now (changed (λ lists. record lists { shares = change lists.shares }) lists)
-    turns None s there = nothing_there there
-    turns (Some m) s there =
-        let did = shares_turn m.shares s.schema_is s.holds.shares in
-        let spared = did.2 in record {
-          schema_is = did.0;
-          holds = record {
-            sound = did.3;
-            meta = subst (λ t. Keeps meta_row by_meta t m.meta) (sym (spared.0 (λ e. absurd (omega arith)))) s.holds.meta;
-            offices = subst (λ t. Keeps office_row by_office t m.offices) (sym (spared.1.0 (λ e. absurd (omega arith)))) s.holds.offices;
-            staff = subst (λ t. Keeps staff_row by_staff t m.staff) (sym (spared.1.1.0 (λ e. absurd (omega arith)))) s.holds.staff;
-            clients = subst (λ t. Keeps client_row by_client t m.clients) (sym (spared.1.1.1.0 (λ e. absurd (omega arith)))) s.holds.clients;
-            charges = subst (λ t. Keeps charge_row by_charge t m.charges) (sym (spared.1.1.1.1.0 (λ e. absurd (omega arith)))) s.holds.charges;
-            products = subst (λ t. Keeps product_row by_product t m.products) (sym (spared.1.1.1.1.1.0 (λ e. absurd (omega arith)))) s.holds.products;
-            loans = subst (λ t. Keeps loan_row by_loan t m.loans) (sym (spared.1.1.1.1.1.1.0 (λ e. absurd (omega arith)))) s.holds.loans;
-            entries = subst (λ t. Keeps entry_row by_entry t m.entries) (sym (spared.1.1.1.1.1.1.1.0 (λ e. absurd (omega arith)))) s.holds.entries;
-            receipts = subst (λ t. Keeps receipt_row by_receipt t m.receipts) (sym (spared.1.1.1.1.1.1.1.1.0 (λ e. absurd (omega arith)))) s.holds.receipts;
-            instalments = subst (λ t. Keeps instalment_row by_instalment t m.instalments) (sym (spared.1.1.1.1.1.1.1.1.1.0 (λ e. absurd (omega arith)))) s.holds.instalments;
-            shares = did.1;
-          };
-        }
+putting_instalment x old new ran =
+    steps (put_instalment x) upsert_instalment (instalment_row x) old new ran (λ m s.
+    let did = puts_instalment x old new ran.count m.instalments s.schema_is s.holds.instalments ran.ran in
+    let same = still 19 old.now.trees new.now.trees m did.2 s.holds in
+    record { schema_is = did.0; holds = record { sound = did.3; meta = same.meta; offices = same.offices; staff = same.staff; clients = same.clients; charges = same.charges; products = same.products; loans = same.loans; entries = same.entries; receipts = same.receipts; instalments = did.1; shares = same.shares } })
 
 pub putting_share : (x : ShareRow) (old new : State) → Ran upsert_share (share_row x) old new → Putting (put_share x) old new
-putting_share x old new ran = shares_written (put_item by_share x) upsert_share (share_row x) old new ran (λ items has k. puts_share x old new ran.count items has k ran.ran)
+putting_share x old new ran =
+    steps (put_share x) upsert_share (share_row x) old new ran (λ m s.
+    let did = puts_share x old new ran.count m.shares s.schema_is s.holds.shares ran.ran in
+    let same = still 21 old.now.trees new.now.trees m did.2 s.holds in
+    record { schema_is = did.0; holds = record { sound = did.3; meta = same.meta; offices = same.offices; staff = same.staff; clients = same.clients; charges = same.charges; products = same.products; loans = same.loans; entries = same.entries; receipts = same.receipts; instalments = same.instalments; shares = did.1 } })
 
 pub removing_shares : (e : EntryKey) (old new : State) → Ran delete_shares (Int (pos e.office) ∷ Int (pos e.loan) ∷ Int (pos e.seq) ∷ []) old new → Putting (drop_shares e) old new
 removing_shares e old new ran =
-    shares_written (filter (λ x. not (is_share_in e.office e.loan e.seq x))) delete_shares _ old new ran (λ items has k. removes_shares e.office e.loan e.seq old new ran.count items has k ran.ran)
+    steps (drop_shares e) delete_shares _ old new ran (λ m s.
+    let did = removes_shares e.office e.loan e.seq old new ran.count m.shares s.schema_is s.holds.shares ran.ran in
+    let same = still 21 old.now.trees new.now.trees m did.2 s.holds in
+    record { schema_is = did.0; holds = record { sound = did.3; meta = same.meta; offices = same.offices; staff = same.staff; clients = same.clients; charges = same.charges; products = same.products; loans = same.loans; entries = same.entries; receipts = same.receipts; instalments = same.instalments; shares = did.1 } })
 
 -- ---- the tables made
 

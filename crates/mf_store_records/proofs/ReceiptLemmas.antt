@@ -1,5 +1,5 @@
 -- Receipts in the order of offices and bytes.
-use Rattle.std.proofs.Common.{◌≡◌, ℕ, true, false, ◌&&◌, ◌==◌, List, refl, sym, ap, ap₂, ◌∙◌, arith, Ordering, Less, Equal, Greater, is_eq, is_lt, nat_cmp, true≢false}
+use Rattle.std.proofs.Common.{◌≡◌, ℕ, true, ◌&&◌, ◌==◌, List, refl, sym, ap, ap₂, ◌∙◌, arith, Ordering, Less, Equal, Greater, is_eq, is_lt, nat_cmp, true≢false}
 use Rattle.std.specs.Str.{bytes_eq}
 use Rattle.std.proofs.lemmas.Bool.Decides.{nat_tests}
 use Rattle.std.proofs.lemmas.Map.Text.{is_eq-slice_cmp}
@@ -8,7 +8,7 @@ use Rattle.mf_store_records.specs.Rows.{is_receipt, is_receipt_before}
 use Rattle.mf_store_records.specs.declared.receipts.ReceiptRow.{ReceiptRow}
 use Rattle.mf_store_records.proofs.TableLemmas.{by_receipt_total}
 
-less : (o : Ordering) → is_lt o ≡ true → o ≡ Less
+pub less : (o : Ordering) → is_lt o ≡ true → o ≡ Less
 less Less h = refl
 less Equal h = absurd (true≢false (sym h))
 less Greater h = absurd (true≢false (sym h))

@@ -1,5 +1,5 @@
 -- The rows of the tables, each table's as a list in the order of its key; and which of them the queries look for.
-use Rattle.std.specs.Prelude.{◌≡◌, ℕ, pos, Bool, true, false, not, ◌&&◌, List, [], ◌∷◌, filter}
+use Rattle.std.specs.Prelude.{◌≡◌, ℕ, pos, Bool, true, not, ◌&&◌, List, [], ◌∷◌, filter}
 use Rattle.std.specs.declared.cmp.Ordering.{Ordering}
 use Rattle.std.specs.Ordering.{nat_cmp, ordering_then, is_eq, is_lt, is_ge, is_gt}
 use Rattle.std.specs.Cmp.Lexicographic.{slice_cmp}

@@ -31,4 +31,4 @@ pub use shares::{EntryKey, ShareRow};
 pub use staff::StaffRow;
 pub use table::{Columns, Listed, Table, ask, find_row, list_rows, read_row};
 pub use text::Text;
-pub use writes::StoreWrite;
+pub use writes::{CREATE_INSTALMENTS, CREATE_SHARES, StoreWrite};

@@ -74,10 +74,12 @@ const CREATE_ENTRIES: &str =
 const CREATE_RECEIPTS: &str =
     "CREATE TABLE receipts (office INTEGER NOT NULL, receipt TEXT NOT NULL, loan INTEGER NOT NULL, seq INTEGER NOT NULL, PRIMARY KEY (office, receipt)) STRICT";
 
-const CREATE_INSTALMENTS: &str =
+/// Makes the table instalments.
+pub const CREATE_INSTALMENTS: &str =
     "CREATE TABLE instalments (office INTEGER NOT NULL, loan INTEGER NOT NULL, number INTEGER NOT NULL, due TEXT NOT NULL, owed_penalty INTEGER NOT NULL, paid_penalty INTEGER NOT NULL, waived_penalty INTEGER NOT NULL, written_off_penalty INTEGER NOT NULL, owed_fee INTEGER NOT NULL, paid_fee INTEGER NOT NULL, waived_fee INTEGER NOT NULL, written_off_fee INTEGER NOT NULL, owed_interest INTEGER NOT NULL, paid_interest INTEGER NOT NULL, waived_interest INTEGER NOT NULL, written_off_interest INTEGER NOT NULL, owed_principal INTEGER NOT NULL, paid_principal INTEGER NOT NULL, waived_principal INTEGER NOT NULL, written_off_principal INTEGER NOT NULL, PRIMARY KEY (office, loan, number)) STRICT";
 
-const CREATE_SHARES: &str =
+/// Makes the table shares.
+pub const CREATE_SHARES: &str =
     "CREATE TABLE shares (office INTEGER NOT NULL, loan INTEGER NOT NULL, seq INTEGER NOT NULL, place INTEGER NOT NULL, instalment INTEGER NOT NULL, portion INTEGER NOT NULL, how INTEGER NOT NULL, amount INTEGER NOT NULL, PRIMARY KEY (office, loan, seq, place)) STRICT";
 
 fn make_tables<S: Alter>(tx: &mut Transaction<'_, S>) -> Result<(), Error>

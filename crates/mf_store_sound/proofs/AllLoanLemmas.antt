@@ -1,13 +1,13 @@
 -- The loans of all offices in one list, and their rows.
 use Rattle.std.proofs.Common.{◌≡◌, ◌<◌, ◌+◌, ◌∙◌, ℕ, List, [], ◌∷◌, ◌++◌, map, refl, sym, ap, arith, append_assoc}
 use Rattle.std.specs.List.{AllByRecursion}
+use Rattle.sqlite_keyed.proofs.ListLemmas.{all-append}
 use Rattle.mf_model.specs.Institution.{Catalogue, Ledger, Office}
 use Rattle.mf_model.specs.Tree.{Above, Ascending}
 use Rattle.mf_store_accounts.specs.Accounts.{Placed, placed_loans, all_placed, rows_of, row_of, IsOther, AreApartLoans, IsPlainPlaced}
 use Rattle.mf_store_accounts.specs.Flat.{numbered_from, all_rows, rows_of_loans, rows_by_loan, loans_of, loan_in}
 use Rattle.mf_store_accounts.specs.Ledgers.{IsPlainLoan}
 use Rattle.mf_store_sound.specs.Sound.{IsPlainRows}
-use Rattle.mf_store_sound.proofs.PartLemmas.{all_append}
 
 module _ {A R : Type 0} (make : ℕ → ℕ → A → R) (of : Ledger → List A) where
   office_rows_of : (x n : ℕ) (ls : List Ledger) (ps : List Placed) → rows_of make of (placed_loans x n ls ++ ps) ≡ rows_of_loans make of x n ls ++ rows_of make of ps
@@ -36,13 +36,13 @@ greater_office p x m (l ∷ ls) h = (record { same_office = λ e f. absurd (omeg
 
 offices_above : (p : Placed) (fs : List Office) → Above p.office fs → AllByRecursion (IsOther p) (all_placed fs)
 offices_above p [] up = tt
-offices_above p (f ∷ fs) up = all_append (IsOther p) (placed_loans f.number 1 f.rows.loans) (all_placed fs) (greater_office p f.number 1 f.rows.loans up.0) (offices_above p fs up.1)
+offices_above p (f ∷ fs) up = all-append (IsOther p) (placed_loans f.number 1 f.rows.loans) (all_placed fs) (greater_office p f.number 1 f.rows.loans up.0) (offices_above p fs up.1)
 
 office_apart : (x n : ℕ) (ls : List Ledger) (ps : List Placed) → ((p : Placed) → p.office ≡ x → AllByRecursion (IsOther p) ps) → AreApartLoans ps → AreApartLoans (placed_loans x n ls ++ ps)
 office_apart x n [] ps others apart = apart
 office_apart x n (l ∷ ls) ps others apart =
     let p : Placed = record { office = x; number = n; ledger = l } in
-    (all_append (IsOther p) (placed_loans x (n + 1) ls) ps (greater_numbers p x (n + 1) ls (omega arith)) (others p refl), office_apart x (n + 1) ls ps others apart)
+    (all-append (IsOther p) (placed_loans x (n + 1) ls) ps (greater_numbers p x (n + 1) ls (omega arith)) (others p refl), office_apart x (n + 1) ls ps others apart)
 
 pub all_apart : (fs : List Office) → Ascending fs → AreApartLoans (all_placed fs)
 all_apart [] up = tt
@@ -54,4 +54,4 @@ office_plain k names x n (l ∷ ls) all = (record { clients = names; plain = all
 
 pub all_plain : (k : Catalogue) (fs : List Office) → AllByRecursion (λ (f : Office). IsPlainRows k f.rows) fs → AllByRecursion (IsPlainPlaced k) (all_placed fs)
 all_plain k [] all = tt
-all_plain k (f ∷ fs) all = all_append (IsPlainPlaced k) (placed_loans f.number 1 f.rows.loans) (all_placed fs) (office_plain k f.rows.clients f.number 1 f.rows.loans all.0.loans) (all_plain k fs all.1)
+all_plain k (f ∷ fs) all = all-append (IsPlainPlaced k) (placed_loans f.number 1 f.rows.loans) (all_placed fs) (office_plain k f.rows.clients f.number 1 f.rows.loans all.0.loans) (all_plain k fs all.1)

@@ -4,7 +4,6 @@ pub mod ProductLemmas
 pub mod OfficeRowLemmas
 pub mod OfficeTreeLemmas
 pub mod LoanLemmas
-pub mod PartLemmas
 pub mod EntryLemmas
 pub mod SealLemmas
 pub mod EnteredLemmas

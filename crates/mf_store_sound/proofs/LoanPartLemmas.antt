@@ -10,14 +10,14 @@ use Rattle.mf_model.specs.declared.loan.Loan.{Loan}
 use Rattle.mf_store_records.specs.declared.entries.EntryRow.{EntryRow}
 use Rattle.mf_store_records.specs.declared.loans.LoanRow.{LoanRow}
 use Rattle.mf_store_accounts.specs.Flat.{numbered_from, loan_in, entry_in, own_entries, rows_of_loans}
-use Rattle.mf_store_sound.specs.Parts.{own_count, own, later}
+use Rattle.mf_store_accounts.specs.Parts.{own_count, own, later}
 use Rattle.mf_store_accounts.specs.Ledgers.{AreEntriesIn, IsPlainLoan}
 use Rattle.mf_store_sound.specs.Sound.{IsLoanPart, AreLoanParts}
 use Rattle.mf_store_accounts.specs.Ledgers.{IsOwnLoan}
 use Rattle.mf_store_sound.specs.Stages.{AreEntriesOf}
 use Rattle.mf_store_sound.specs.Stored.{IsRowOf}
-use Rattle.mf_store_sound.proofs.PartLemmas.{own_of_loan, later_of_loan}
-use Rattle.mf_store_sound.proofs.StoredLemmas.{from_place}
+use Rattle.mf_store_accounts.proofs.PartLemmas.{own_of_loan, later_of_loan}
+use Rattle.mf_store_accounts.proofs.MadeLemmas.{at_row}
 
 abbrev pub loan_of : EntryRow → ℕ
 loan_of r = r.loan
@@ -109,7 +109,7 @@ module _ (k : Catalogue) (names : List (List ℕ)) (x : ℕ) where
   pub loan_passed : (X : Type 0) (loans : List LoanRow) (i n : ℕ) (r : LoanRow) (rows first rest : List EntryRow) → i < length loans → r ≡ get_or loans i r → first ≡ own loan_of n rows → rest ≡ later loan_of n rows
       → IsLoanPart k names x n r first → (X ↔ AreLoanParts k names x n (drop i loans) rows) → X ↔ AreLoanParts k names x (n + 1) (drop (i + 1) loans) rest
   loan_passed X loans i n r rows first rest h is e f part so_far =
-      let here = from_place loans i r h is in (
+      let here = at_row loans i r h is in (
         λ given. subst (AreLoanParts k names x (n + 1) (drop (i + 1) loans)) (sym f) (loans_apart n r (drop (i + 1) loans) rows (subst (λ ls. AreLoanParts k names x n ls rows) here (so_far.0 given))).1,
         λ more. so_far.1 (subst (λ ls. AreLoanParts k names x n ls rows) (sym here) (loans_together n r (drop (i + 1) loans) rows (subst (IsLoanPart k names x n r) e part) (subst (AreLoanParts k names x (n + 1) (drop (i + 1) loans)) f more))),
       )
@@ -118,7 +118,7 @@ module _ (k : Catalogue) (names : List (List ℕ)) (x : ℕ) where
   pub loan_refused : (X : Type 0) (loans : List LoanRow) (i n : ℕ) (r : LoanRow) (rows first : List EntryRow) → i < length loans → r ≡ get_or loans i r → first ≡ own loan_of n rows
       → (IsLoanPart k names x n r first → ⊥) → (X ↔ AreLoanParts k names x n (drop i loans) rows) → X → ⊥
   loan_refused X loans i n r rows first h is e none so_far given =
-      none (subst (IsLoanPart k names x n r) (sym e) (loans_apart n r (drop (i + 1) loans) rows (subst (λ ls. AreLoanParts k names x n ls rows) (from_place loans i r h is) (so_far.0 given))).0)
+      none (subst (IsLoanPart k names x n r) (sym e) (loans_apart n r (drop (i + 1) loans) rows (subst (λ ls. AreLoanParts k names x n ls rows) (at_row loans i r h is) (so_far.0 given))).0)
 
   -- each was one, and nothing is left
   pub loans_passed : (X : Type 0) (loans : List LoanRow) (i n : ℕ) (rows : List EntryRow) (B : Type 0) → length loans ≤ i → (B ↔ (rows ≡ [])) → (X ↔ AreLoanParts k names x n (drop i loans) rows) → B ↔ X

@@ -11,11 +11,12 @@ use Rattle.mf_store_records.specs.declared.loans.LoanRow.{LoanRow}
 use Rattle.mf_store_records.specs.declared.offices.OfficeRow.{OfficeRow}
 use Rattle.mf_store_records.specs.declared.staff.StaffRow.{StaffRow}
 use Rattle.mf_store_accounts.specs.Flat.{numbered_from, all_rows, rows_of_loans, entry_rows, own_entries, loans_of, staff_in, client_in, loan_in, entry_in}
-use Rattle.mf_store_sound.specs.Parts.{own_count, own, later, office_of, bare}
+use Rattle.mf_store_accounts.specs.Parts.{own_count, own, later, office_of, bare}
 use Rattle.mf_store_sound.specs.Sound.{AreLoanParts, IsPlainRows, IsOfficePart, AreOfficeParts}
 use Rattle.mf_store_sound.specs.Stored.{IsRowOf, AllFrom}
-use Rattle.mf_store_sound.proofs.PartLemmas.{own_of_first, later_of_first, own_of_office, later_of_office}
-use Rattle.mf_store_sound.proofs.StoredLemmas.{from_place, gathered, parted}
+use Rattle.mf_store_accounts.proofs.PartLemmas.{own_of_first, later_of_first, own_of_office, later_of_office}
+use Rattle.mf_store_accounts.proofs.MadeLemmas.{at_row}
+use Rattle.mf_store_sound.proofs.StoredLemmas.{gathered, parted}
 
 pub length_numbered : {A R : Type 0} (make : ℕ → A → R) (n : ℕ) (xs : List A) → length (numbered_from make n xs) ≡ length xs
 length_numbered make n [] = refl
@@ -150,23 +151,23 @@ module _ (k : Catalogue) where
     }
 
   pub ascends_on : (rows : List OfficeRow) (i : ℕ) (o : OfficeRow) → i < length rows → o ≡ get_or rows i o → Ascending (map office_of (drop i rows)) → Ascending (map office_of (drop (i + 1) rows))
-  ascends_on rows i o h is up = (subst (λ os. Ascending (map office_of os)) (from_place rows i o h is) up).1
+  ascends_on rows i o h is up = (subst (λ os. Ascending (map office_of os)) (at_row rows i o h is) up).1
 
   module _ (rows : List OfficeRow) (i : ℕ) (o : OfficeRow) (staff : List StaffRow) (clients : List ClientRow) (loans : List LoanRow) (entries : List EntryRow) (h : i < length rows) (is : o ≡ get_or rows i o) (up : Ascending (map office_of (drop i rows))) where
     above_here : Above o.number (map office_of (drop (i + 1) rows))
-    above_here = (subst (λ os. Ascending (map office_of os)) (from_place rows i o h is) up).0
+    above_here = (subst (λ os. Ascending (map office_of os)) (at_row rows i o h is) up).0
 
     -- the office at i has its part, so all have theirs where the later ones have
     pub part_passed : (X : Type 0) → First o (drop (i + 1) rows) staff clients loans entries → (X ↔ AreOfficeParts k (drop i rows) staff clients loans entries) → X ↔ Others o (drop (i + 1) rows) staff clients loans entries
     part_passed X first so_far = (
-      λ x. (parts_apart o (drop (i + 1) rows) staff clients loans entries above_here (subst (λ os. AreOfficeParts k os staff clients loans entries) (from_place rows i o h is) (so_far.0 x))).1,
-      λ more. so_far.1 (subst (λ os. AreOfficeParts k os staff clients loans entries) (sym (from_place rows i o h is)) (parts_together o (drop (i + 1) rows) staff clients loans entries first more)),
+      λ x. (parts_apart o (drop (i + 1) rows) staff clients loans entries above_here (subst (λ os. AreOfficeParts k os staff clients loans entries) (at_row rows i o h is) (so_far.0 x))).1,
+      λ more. so_far.1 (subst (λ os. AreOfficeParts k os staff clients loans entries) (sym (at_row rows i o h is)) (parts_together o (drop (i + 1) rows) staff clients loans entries first more)),
     )
 
     -- the office at i has not
     pub part_refused : (X : Type 0) → (First o (drop (i + 1) rows) staff clients loans entries → ⊥) → (X ↔ AreOfficeParts k (drop i rows) staff clients loans entries) → X → ⊥
     part_refused X none so_far x =
-        none (parts_apart o (drop (i + 1) rows) staff clients loans entries above_here (subst (λ os. AreOfficeParts k os staff clients loans entries) (from_place rows i o h is) (so_far.0 x))).0
+        none (parts_apart o (drop (i + 1) rows) staff clients loans entries above_here (subst (λ os. AreOfficeParts k os staff clients loans entries) (at_row rows i o h is) (so_far.0 x))).0
 
   -- each office had its part, and nothing is left
   pub parts_passed : (X : Type 0) (rows : List OfficeRow) (i : ℕ) (staff : List StaffRow) (clients : List ClientRow) (loans : List LoanRow) (entries : List EntryRow) (B : Type 0) → length rows ≤ i → (X ↔ AreOfficeParts k (drop i rows) staff clients loans entries)

@@ -11,18 +11,18 @@ use Rattle.std.proofs.lemmas.List.Sorted.{IsNonDecreasingBy-from_default}
 use Rattle.mf_office.specs.Keys.{child_key}
 use Rattle.mf_store_records.specs.declared.offices.OfficeRow.{OfficeRow}
 use Rattle.mf_store_sound.specs.Offices.{AscendFrom, row_at, HasParentsText}
-use Rattle.mf_store_sound.proofs.StoredLemmas.{from_place}
+use Rattle.mf_store_accounts.proofs.MadeLemmas.{at_row}
 
 -- ---- numbers that go up
 
 pub ascends : (X : Type 0) (rows : List OfficeRow) (i n : ℕ) (o : OfficeRow) → i < length rows → o ≡ get_or rows i o → n < o.number → (X ↔ AscendFrom n (drop i rows)) → X ↔ AscendFrom o.number (drop (i + 1) rows)
 ascends X rows i n o h is up so_far =
-    let here = from_place rows i o h is in
+    let here = at_row rows i o h is in
     (λ x. (subst (AscendFrom n) here (so_far.0 x)).1, λ more. so_far.1 (subst (AscendFrom n) (sym here) (up, more)))
 
 pub ascends_not : (X : Type 0) (rows : List OfficeRow) (i n : ℕ) (o : OfficeRow) → i < length rows → o ≡ get_or rows i o → o.number ≤ n → (X ↔ AscendFrom n (drop i rows)) → X → ⊥
 ascends_not X rows i n o h is low so_far x =
-    let up : n < o.number = (subst (AscendFrom n) (from_place rows i o h is) (so_far.0 x)).0 in absurd (omega arith)
+    let up : n < o.number = (subst (AscendFrom n) (at_row rows i o h is) (so_far.0 x)).0 in absurd (omega arith)
 
 pub ascended : (X : Type 0) (rows : List OfficeRow) (i n : ℕ) → length rows ≤ i → (X ↔ AscendFrom n (drop i rows)) → X
 ascended X rows i n h so_far = so_far.1 (subst (AscendFrom n) (sym (drop_all i rows h)) tt)
@@ -71,11 +71,11 @@ child_text_is rows parent p above r b is there h = subst (λ q. IsTrue b ↔ Has
 module _ (P : OfficeRow → Type 0) where
   pub each_passed : (X : Type 0) (rows : List OfficeRow) (i : ℕ) (o : OfficeRow) → i < length rows → o ≡ get_or rows i o → P o → (X ↔ AllByRecursion P (drop i rows)) → X ↔ AllByRecursion P (drop (i + 1) rows)
   each_passed X rows i o h is p so_far =
-      let here = from_place rows i o h is in
+      let here = at_row rows i o h is in
       (λ x. (subst (AllByRecursion P) here (so_far.0 x)).1, λ more. so_far.1 (subst (AllByRecursion P) (sym here) (p, more)))
 
   pub each_refused : (X : Type 0) (rows : List OfficeRow) (i : ℕ) (o : OfficeRow) → i < length rows → o ≡ get_or rows i o → (P o → ⊥) → (X ↔ AllByRecursion P (drop i rows)) → X → ⊥
-  each_refused X rows i o h is none so_far x = none (subst (AllByRecursion P) (from_place rows i o h is) (so_far.0 x)).0
+  each_refused X rows i o h is none so_far x = none (subst (AllByRecursion P) (at_row rows i o h is) (so_far.0 x)).0
 
   pub all_passed : (X : Type 0) (rows : List OfficeRow) (i : ℕ) → length rows ≤ i → (X ↔ AllByRecursion P (drop i rows)) → X
   all_passed X rows i h so_far = so_far.1 (subst (AllByRecursion P) (sym (drop_all i rows h)) tt)

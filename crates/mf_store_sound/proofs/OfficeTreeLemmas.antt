@@ -9,17 +9,13 @@ use Rattle.mf_office.specs.Tree.{IsTreeOf}
 use Rattle.mf_model.specs.Institution.{office_at}
 use Rattle.mf_model.specs.Tree.{Above, Ascending, parent_of, is_there}
 use Rattle.mf_store_records.specs.declared.offices.OfficeRow.{OfficeRow}
-use Rattle.mf_store_accounts.specs.Flat.{office_under}
+use Rattle.mf_store_accounts.specs.Flat.{above_of, office_under}
 use Rattle.mf_store_sound.specs.Offices.{IsNumberedAndNamed, AreOffices, AscendFrom, row_at, HasParentsText, IsOfficeRow, AreOfficeRows}
-use Rattle.mf_store_sound.specs.Parts.{office_of}
+use Rattle.mf_store_accounts.specs.Parts.{office_of}
 
 -- texts that grow by parents are the keys of a tree, and only they
 abbrev pub KeysLaw : Type 0
 KeysLaw = (there : ℕ → Bool) (parents : ℕ → Option ℕ) (text : ℕ → List ℕ) → GrowsByParents there parents text ↔ (IsTreeOf there parents × ((x : ℕ) → there x ≡ true → text x ≡ key_of parents x))
-
-abbrev parent_in : Option OfficeRow → Option ℕ
-parent_in None = None
-parent_in (Some r) = r.parent
 
 abbrev text_in : Option OfficeRow → List ℕ
 text_in None = []
@@ -33,11 +29,11 @@ office_found (r ∷ rs) x = go (r.number == x) (office_found rs x)
     go true e = refl
     go false e = e
 
-parent_found : (rows : List OfficeRow) (x : ℕ) → parent_of (map office_of rows) x ≡ parent_in (row_at x rows)
+parent_found : (rows : List OfficeRow) (x : ℕ) → parent_of (map office_of rows) x ≡ above_of (row_at x rows)
 parent_found [] x = refl
 parent_found (r ∷ rs) x = go (r.number == x) (parent_found rs x)
   where
-    go : (b : Bool) → parent_of (map office_of rs) x ≡ parent_in (row_at x rs) → cond b r.parent (parent_of (map office_of rs) x) ≡ parent_in (cond b (Some r) (row_at x rs))
+    go : (b : Bool) → parent_of (map office_of rs) x ≡ above_of (row_at x rs) → cond b r.parent (parent_of (map office_of rs) x) ≡ above_of (cond b (Some r) (row_at x rs))
     go true e = refl
     go false e = e
 
@@ -56,9 +52,9 @@ some_row (Some r) h = (r, refl)
 
 -- ---- numbers that go up
 
-above_of : (n : ℕ) (rows : List OfficeRow) → AscendFrom n rows → Above n (map office_of rows)
-above_of n [] up = tt
-above_of n (r ∷ rs) up = (up.0, later n r.number rs up.0 up.1)
+rows_above : (n : ℕ) (rows : List OfficeRow) → AscendFrom n rows → Above n (map office_of rows)
+rows_above n [] up = tt
+rows_above n (r ∷ rs) up = (up.0, later n r.number rs up.0 up.1)
   where
     later : (n m : ℕ) (rs : List OfficeRow) → n < m → AscendFrom m rs → Above n (map office_of rs)
     later n m [] lt up = tt
@@ -66,7 +62,7 @@ above_of n (r ∷ rs) up = (up.0, later n r.number rs up.0 up.1)
 
 ascending_of : (n : ℕ) (rows : List OfficeRow) → AscendFrom n rows → Ascending (map office_of rows)
 ascending_of n [] up = tt
-ascending_of n (r ∷ rs) up = (above_of r.number rs up.1, ascending_of r.number rs up.1)
+ascending_of n (r ∷ rs) up = (rows_above r.number rs up.1, ascending_of r.number rs up.1)
 
 ascend_of : (n : ℕ) (rows : List OfficeRow) → Above n (map office_of rows) → Ascending (map office_of rows) → AscendFrom n rows
 ascend_of n [] low up = tt
@@ -132,7 +128,7 @@ module _ (rows : List OfficeRow) where
   there_row x r e = ap is_some (office_found rows x) ∙ ap (λ o. is_some (option_map office_of o)) e
 
   parent_row : (x : ℕ) (r : OfficeRow) → row_at x rows ≡ Some r → parents x ≡ r.parent
-  parent_row x r e = parent_found rows x ∙ ap parent_in e
+  parent_row x r e = parent_found rows x ∙ ap above_of e
 
   text_row : (x : ℕ) (r : OfficeRow) → row_at x rows ≡ Some r → text x ≡ r.hkey
   text_row x r e = ap text_in e
@@ -141,7 +137,7 @@ module _ (rows : List OfficeRow) where
   parent_there : (x p : ℕ) → parents x ≡ Some p → there x ≡ true
   parent_there x p e = go (row_at x rows) refl (sym (parent_found rows x) ∙ e)
     where
-      go : (o : Option OfficeRow) → row_at x rows ≡ o → parent_in o ≡ Some p → there x ≡ true
+      go : (o : Option OfficeRow) → row_at x rows ≡ o → above_of o ≡ Some p → there x ≡ true
       go None is h = absurd (cc)
       go (Some r) is h = there_row x r is
 

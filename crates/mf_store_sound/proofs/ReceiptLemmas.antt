@@ -1,28 +1,28 @@
 -- Receipts in the order of their key, where no key comes twice.
-use Rattle.std.proofs.Common.{◌≡◌, ◌≢◌, ◌↔◌, ◌<◌, ◌≤◌, ◌+◌, ◌-◌, ◌∙◌, ◌&&◌, ℕ, zero, suc, Bool, true, false, cond, List, [], ◌∷◌, ◌++◌, map, filter, length, get_or, refl, sym, ap, subst, arith, Ordering, Less, Equal, Greater, is_eq, is_lt, is_gt, true≢false, ◌==◌, IsPermutation, IsSorted}
+use Rattle.std.proofs.Common.{◌≡◌, ◌≢◌, ◌↔◌, ◌<◌, ◌≤◌, ◌+◌, ◌-◌, ◌∙◌, ◌&&◌, ℕ, zero, suc, Bool, true, false, cond, List, [], ◌∷◌, ◌++◌, map, filter, length, get_or, refl, sym, ap, subst, arith, Ordering, Less, Equal, Greater, is_eq, is_lt, true≢false, ◌==◌, IsPermutation, IsSorted}
 use Rattle.std.specs.List.{AllByRecursion}
 use Rattle.std.specs.Cmp.{IsTotalOrder}
-use Rattle.std.specs.Ordering.{ordering_reverse}
 use Rattle.std.specs.Str.{bytes_eq}
 use Rattle.std.proofs.lemmas.Bool.Decides.{nat_tests}
 use Rattle.std.proofs.lemmas.Cmp.{tied_itself}
 use Rattle.std.proofs.lemmas.List.{get_or_default}
 use Rattle.std.proofs.lemmas.List.Sorted.{IsPermutation-sym, IsPermutation-trans, length_permutation}
 use Rattle.std.proofs.lemmas.Slice.Eq.{bytes_eq-Decides}
-use Rattle.sqlite_keyed.proofs.ListLemmas.{all_weaker, ascending_weaker, IsPermutation-filter, filter_none}
+use Rattle.sqlite_keyed.proofs.ListLemmas.{all_weaker, ascending_weaker, IsPermutation-filter, filter_none, all-append}
 use Rattle.sqlite_keyed.proofs.SortLemmas.{sorted_unique, sorted_is-sort_by, IsPermutation-sort_by}
-use Rattle.sqlite_keyed.specs.Lists.{insert_sorted, sort_by}
+use Rattle.sqlite_keyed.specs.Lists.{sort_by}
 use Rattle.sqlite_trees.specs.Tree.{IsAscending}
 use Rattle.mf_model.specs.Institution.{Office}
 use Rattle.mf_model.specs.Receipts.{Use, uses_from, AreApart}
-use Rattle.mf_model.specs.Tree.{Above, Ascending}
+use Rattle.mf_model.specs.Tree.{Ascending}
 use Rattle.mf_store_records.specs.Rows.{by_receipt, is_receipt, is_receipt_before, AreReceiptsInOrder}
 use Rattle.mf_store_records.specs.declared.entries.EntryRow.{EntryRow}
 use Rattle.mf_store_records.specs.declared.receipts.ReceiptRow.{ReceiptRow}
-use Rattle.mf_store_records.proofs.ReceiptLemmas.{before_later, is_receipt-bytes}
+use Rattle.mf_store_records.proofs.ReceiptLemmas.{less, before_later, is_receipt-bytes}
 use Rattle.mf_store_records.proofs.TableLemmas.{by_receipt_total}
 use Rattle.mf_store_accounts.specs.ReceiptRows.{receipt_in, carried, carried_by, AreReceiptsOf}
-use Rattle.mf_store_sound.proofs.PartLemmas.{all_append}
+use Rattle.mf_store_accounts.proofs.ReceiptLemmas.{others_of, others_above, AreAllApart}
+use Rattle.mf_store_accounts.proofs.SortedLemmas.{rises_sorted}
 use Rattle.mf_store_sound.proofs.StaffLemmas.{rising_is_sorted}
 
 -- ---- lists with no ties
@@ -83,35 +83,8 @@ module _ {X : Type 0} (cmp : X → X → Ordering) (total : IsTotalOrder cmp) wh
   pub none_tied : (xs : List X) → Rises (sort_by cmp xs) → NoTies xs
   none_tied xs up = no_ties xs (few_permuted (sort_by cmp xs) xs (IsPermutation-sort_by cmp total xs) (few_in_order (sort_by cmp xs) up))
 
-  all_inserted : (P : X → Type 0) (new : X) (xs : List X) → P new → AllByRecursion P xs → AllByRecursion P (insert_sorted cmp new xs)
-  all_inserted P new [] h all = (h, tt)
-  all_inserted P new (x ∷ xs) h all = elim (is_gt (cmp new x)) as (λ b. AllByRecursion P (cond b (x ∷ insert_sorted cmp new xs) (new ∷ x ∷ xs))) [ true ↦ (all.0, all_inserted P new xs h all.1) | false ↦ (h, all) ]
-
-  all_sorted : (P : X → Type 0) (xs : List X) → AllByRecursion P xs → AllByRecursion P (sort_by cmp xs)
-  all_sorted P [] all = tt
-  all_sorted P (x ∷ xs) all = all_inserted P x (sort_by cmp xs) all.0 (all_sorted P xs all.1)
-
-  rises_inserted : (new : X) (xs : List X) → AllByRecursion (λ y. is_eq (cmp new y) ≡ false) xs → Rises xs → Rises (insert_sorted cmp new xs)
-  rises_inserted new [] apart up = (tt, tt)
-  rises_inserted new (x ∷ xs) apart up = go (cmp new x) refl (rises_inserted new xs apart.1 up.1)
-    where
-      go : (o : Ordering) → cmp new x ≡ o → Rises (insert_sorted cmp new xs) → Rises (cond (is_gt o) (x ∷ insert_sorted cmp new xs) (new ∷ x ∷ xs))
-      go Less e more = ((e, all_weaker _ (λ y. cmp new y ≡ Less) (λ y. total.trans new x y e) xs up.0), up)
-      go Equal e more = absurd (true≢false (sym (ap is_eq e) ∙ apart.0))
-      go Greater e more = (all_inserted (λ y. cmp x y ≡ Less) new xs (total.antisymm x new ∙ ap ordering_reverse e) up.0, more)
-
-  -- and where there are none it rises
-  pub rises_sorted : (xs : List X) → NoTies xs → Rises (sort_by cmp xs)
-  rises_sorted [] apart = tt
-  rises_sorted (x ∷ xs) apart = rises_inserted x (sort_by cmp xs) (all_sorted (λ y. is_eq (cmp x y) ≡ false) xs apart.0) (rises_sorted xs apart.1)
-
-less_is : (o : Ordering) → is_lt o ≡ true → o ≡ Less
-less_is Less h = refl
-less_is Equal h = absurd (true≢false (sym h))
-less_is Greater h = absurd (true≢false (sym h))
-
 rises_in_order : (rows : List ReceiptRow) → AreReceiptsInOrder rows → Rises by_receipt by_receipt_total rows
-rises_in_order rows up = ascending_weaker (λ a b. is_receipt_before a b ≡ true) (λ a b. by_receipt a b ≡ Less) (λ a b h. less_is (by_receipt a b) h) rows up
+rises_in_order rows up = ascending_weaker (λ a b. is_receipt_before a b ≡ true) (λ a b. by_receipt a b ≡ Less) (λ a b h. less (by_receipt a b) h) rows up
 
 in_order_rises : (rows : List ReceiptRow) → Rises by_receipt by_receipt_total rows → AreReceiptsInOrder rows
 in_order_rises rows up = ascending_weaker (λ a b. by_receipt a b ≡ Less) (λ a b. is_receipt_before a b ≡ true) (λ a b h. ap is_lt h) rows up
@@ -176,44 +149,12 @@ receipt_itself x u v is = is_receipt-bytes x u.receipt (receipt_in x v) ∙ (λ 
     same : (x == x) ≡ true
     same = grind (arith, nat_tests)
 
-bytes_apart : (xs ys : List ℕ) → xs ≢ ys → bytes_eq xs ys ≡ false
-bytes_apart xs ys h = go (bytes_eq xs ys) refl
-  where
-    go : (b : Bool) → bytes_eq xs ys ≡ b → b ≡ false
-    go true e = absurd (h ((bytes_eq-Decides xs ys).0 e))
-    go false e = refl
-
-and_false : (b : Bool) → (b && false) ≡ false
-and_false true = refl
-and_false false = refl
-
-receipt_apart : (x : ℕ) (u v : Use) → u.receipt ≢ v.receipt → is_receipt x u.receipt (receipt_in x v) ≡ false
-receipt_apart x u v h = is_receipt-bytes x u.receipt (receipt_in x v) ∙ ap (λ b. (x == x) && b) (bytes_apart u.receipt v.receipt h) ∙ and_false (x == x)
-
-office_apart : (x y : ℕ) (r : List ℕ) (v : Use) → x < y → is_receipt x r (receipt_in y v) ≡ false
-office_apart x y r v h = is_receipt-bytes x r (receipt_in y v) ∙ ap (λ b. b && bytes_eq r v.receipt) (let apart : (x == y) ≡ false = grind (arith, nat_tests) in apart)
-
-others_in : (x y : ℕ) (r : List ℕ) (us : List Use) → x < y → AllByRecursion (λ (row : ReceiptRow). is_receipt x r row ≡ false) (map (receipt_in y) us)
-others_in x y r [] h = tt
-others_in x y r (u ∷ us) h = (office_apart x y r u h, others_in x y r us h)
-
-others_above : (x : ℕ) (r : List ℕ) (fs : List Office) → Above x fs → AllByRecursion (λ (row : ReceiptRow). is_receipt x r row ≡ false) (carried fs)
-others_above x r [] up = tt
-others_above x r (f ∷ fs) up = all_append (λ (row : ReceiptRow). is_receipt x r row ≡ false) (map (receipt_in f.number) (uses_from 1 f.rows.loans)) (carried fs) (others_in x f.number r (uses_from 1 f.rows.loans) up.0) (others_above x r fs up.1)
-
-apart_from : (x : ℕ) (u : Use) (us : List Use) → AllByRecursion (λ (v : Use). u.receipt ≢ v.receipt) us → AllByRecursion (λ (row : ReceiptRow). is_receipt x u.receipt row ≡ false) (map (receipt_in x) us)
-apart_from x u [] all = tt
-apart_from x u (v ∷ us) all = (receipt_apart x u v all.0, apart_from x u us all.1)
-
 no_ties_in : (x : ℕ) (us : List Use) (rest : List ReceiptRow) → AreApart us → ((r : List ℕ) → AllByRecursion (λ (row : ReceiptRow). is_receipt x r row ≡ false) rest) → NoTies by_receipt by_receipt_total rest → NoTies by_receipt by_receipt_total (map (receipt_in x) us ++ rest)
 no_ties_in x [] rest apart others none = none
-no_ties_in x (u ∷ us) rest apart others none = (all_append (λ (row : ReceiptRow). is_receipt x u.receipt row ≡ false) (map (receipt_in x) us) rest (apart_from x u us apart.0) (others u.receipt), no_ties_in x us rest apart.1 others none)
+no_ties_in x (u ∷ us) rest apart others none = (all-append (λ (row : ReceiptRow). is_receipt x u.receipt row ≡ false) (map (receipt_in x) us) rest (others_of x u.receipt u us refl apart.0) (others u.receipt), no_ties_in x us rest apart.1 others none)
 
--- the receipts of each office are apart
-abbrev pub AreAllApart : List Office → Type 0
-AreAllApart fs = AllByRecursion (λ (f : Office). AreApart (uses_from 1 f.rows.loans)) fs
-
-no_ties_of : (fs : List Office) → Ascending fs → AreAllApart fs → NoTies by_receipt by_receipt_total (carried fs)
+-- no key comes twice
+pub no_ties_of : (fs : List Office) → Ascending fs → AreAllApart fs → NoTies by_receipt by_receipt_total (carried fs)
 no_ties_of [] up apart = tt
 no_ties_of (f ∷ fs) up apart = no_ties_in f.number (uses_from 1 f.rows.loans) (carried fs) apart.0 (λ r. others_above f.number r fs up.0) (no_ties_of fs up.1 apart.1)
 

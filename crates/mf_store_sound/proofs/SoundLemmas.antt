@@ -3,7 +3,7 @@ use Rattle.std.proofs.Common.{◌≡◌, ◌↔◌, ◌<◌, ◌≤◌, ◌+◌,
 use Rattle.std.specs.List.{AllByRecursion, list_all}
 use Rattle.std.specs.Option.{is_some}
 use Rattle.std.proofs.lemmas.Bool.Decides.{nat_tests}
-use Rattle.sqlite_keyed.proofs.ListLemmas.{all_weaker, all_from_test, test_from_all}
+use Rattle.sqlite_keyed.proofs.ListLemmas.{all_weaker, all_from_test, test_from_all, all-append}
 use Rattle.sqlite_keyed.specs.Lists.{sort_by}
 use Rattle.mf_base.specs.DayText.{last_entered_day}
 use Rattle.mf_office.specs.Numbers.{IsNumberUpTo}
@@ -33,17 +33,18 @@ use Rattle.mf_store_sound.specs.Callers.{is_named_staff, is_by_staff}
 use Rattle.mf_store_accounts.specs.Ledgers.{IsEnteredBy}
 use Rattle.mf_store_accounts.specs.Flat.{charge_as, product_as, office_under, numbered_from, all_rows, staff_in, entry_in, own_entries, rows_of_loans, entry_rows}
 use Rattle.mf_store_sound.specs.Offices.{IsNumberedAndNamed, AreOffices}
-use Rattle.mf_store_sound.specs.Parts.{office_of, bare}
+use Rattle.mf_store_accounts.specs.Parts.{office_of, bare}
+use Rattle.mf_store_accounts.proofs.PartLemmas.{heads_of}
 use Rattle.mf_store_accounts.specs.ReceiptRows.{carried_by, receipt_rows, AreReceiptsOf}
 use Rattle.mf_store_accounts.specs.Ledgers.{AreEntriesIn, IsPlainLoan}
+use Rattle.mf_store_accounts.proofs.ReceiptLemmas.{AreAllApart, receipts_apart}
 use Rattle.mf_store_sound.specs.Schemas.{meta_under}
 use Rattle.mf_store_sound.specs.Sound.{IsPlainRows, AreOfficeParts, AreUnder}
 use Rattle.mf_store_sound.specs.Stored.{IsRowOf, AllFrom}
 use Rattle.mf_store_sound.proofs.AllLoanLemmas.{all_rows_of, all_loan_rows, all_apart, all_plain}
 use Rattle.mf_store_sound.proofs.EntryLemmas.{carried_is}
 use Rattle.mf_store_sound.proofs.OfficePartLemmas.{above_bare, length_numbered}
-use Rattle.mf_store_sound.proofs.PartLemmas.{all_append}
-use Rattle.mf_store_sound.proofs.ReceiptLemmas.{AreAllApart, in_order_apart, apart_in_order}
+use Rattle.mf_store_sound.proofs.ReceiptLemmas.{in_order_apart, apart_in_order}
 use Rattle.mf_store_sound.proofs.StoredLemmas.{AreRowsOf, gathered, parted}
 
 -- ---- who is there
@@ -133,7 +134,7 @@ module _ (fs : List Office) where
     named_loans : (clients : List (List ℕ)) (x m : ℕ) (ls : List Ledger) → AllByRecursion (IsPlainLoan k clients) ls → AreThereIn ls → Named (rows_of_loans entry_in own_entries x m ls)
     named_loans clients x m [] plain there = tt
     named_loans clients x m (l ∷ ls) plain there =
-        all_append (λ (r : EntryRow). is_by_staff fs r ≡ true) (map (entry_in x m) l.entries) (rows_of_loans entry_in own_entries x (m + 1) ls)
+        all-append (λ (r : EntryRow). is_by_staff fs r ≡ true) (map (entry_in x m) l.entries) (rows_of_loans entry_in own_entries x (m + 1) ls)
         (named_entries k.day l.loan.periods x m l.entries (each_entered k.day l.loan.periods (disbursed_on l.loan.stage) l.entries plain.0.entries) there.0) (named_loans clients x (m + 1) ls plain.1 there.1)
 
     there_loans : (clients : List (List ℕ)) (x m : ℕ) (ls : List Ledger) → AllByRecursion (IsPlainLoan k clients) ls → Named (rows_of_loans entry_in own_entries x m ls) → AreThereIn ls
@@ -147,7 +148,7 @@ module _ (fs : List Office) where
 
     named_offices : (gs : List Office) → ArePlain gs → AreAllThere gs → Named (entry_rows gs)
     named_offices [] plain there = tt
-    named_offices (f ∷ gs) plain there = all_append (λ (r : EntryRow). is_by_staff fs r ≡ true) (rows_of_loans entry_in own_entries f.number 1 f.rows.loans) (entry_rows gs) (named_loans f.rows.clients f.number 1 f.rows.loans plain.0.loans there.0) (named_offices gs plain.1 there.1)
+    named_offices (f ∷ gs) plain there = all-append (λ (r : EntryRow). is_by_staff fs r ≡ true) (rows_of_loans entry_in own_entries f.number 1 f.rows.loans) (entry_rows gs) (named_loans f.rows.clients f.number 1 f.rows.loans plain.0.loans there.0) (named_offices gs plain.1 there.1)
 
     there_offices : (gs : List Office) → ArePlain gs → Named (entry_rows gs) → AreAllThere gs
     there_offices [] plain named = tt
@@ -264,10 +265,6 @@ under_bare : (parents : ℕ → Option ℕ) (fs : List Office) → map (office_u
 under_bare parents [] = refl
 under_bare parents (f ∷ fs) = ap (λ rs. office_under parents f ∷ rs) (under_bare parents fs)
 
-heads_of : (parents : ℕ → Option ℕ) (fs : List Office) → map office_of (map (office_under parents) fs) ≡ map bare fs
-heads_of parents [] = refl
-heads_of parents (f ∷ fs) = ap (λ gs. bare f ∷ gs) (heads_of parents fs)
-
 each_row : (k : Catalogue) (s : Caller → Bool) (parents : ℕ → Option ℕ) (fs : List Office) → AllByRecursion (IsSoundOffice k s) fs → AllByRecursion IsNumberedAndNamed (map (office_under parents) fs)
 each_row k s parents [] a = tt
 each_row k s parents (f ∷ fs) a = (record { number = a.0.number; name = a.0.name }, each_row k s parents fs a.1)
@@ -342,10 +339,9 @@ module _ (schema : ℕ) (t : Lists) (h : AreUnder schema t) where
   pub receipts_part : AreReceiptsOf t.receipts t.entries
   receipts_part =
       let fs = h.institution.offices in
-      let apart = all_weaker (IsSoundOffice h.institution.catalogue (is_staff h.institution.offices)) (λ (f : Office). AreApart (uses_from 1 f.rows.loans)) (λ f s. s.rows.receipts) h.institution.offices h.sound.each in
       let rows = ap (λ (l : Lists). l.receipts) h.rows_are in
       record {
-        in_order = subst AreReceiptsInOrder rows (in_order_apart h.institution.offices h.sound.tree.ascending apart);
+        in_order = subst AreReceiptsInOrder rows (in_order_apart h.institution.offices h.sound.tree.ascending (receipts_apart h.institution h.sound));
         rows_are = (λ z. sort_by by_receipt (carried_by (sym entries_are z))) ∙ (λ z. sort_by by_receipt (sym (carried_is h.institution.offices) z)) ∙ rows;
       }
 

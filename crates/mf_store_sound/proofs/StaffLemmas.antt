@@ -16,11 +16,9 @@ use Rattle.mf_store_records.specs.Rows.{by_staff}
 use Rattle.mf_store_records.specs.declared.staff.StaffRow.{StaffRow}
 use Rattle.mf_store_records.proofs.TableLemmas.{by_staff_total}
 use Rattle.mf_store_accounts.specs.Flat.{numbered_from, all_rows, staff_in}
+use Rattle.mf_store_accounts.proofs.SortedLemmas.{first_less}
 
 -- ---- the rows rise by office and number
-
-greater_office : (x y n m : ℕ) → x < y → ordering_then (nat_cmp x y) (nat_cmp n m) ≡ Less
-greater_office x y n m h = grind (arith, nat_tests)
 
 greater_number : (x n m : ℕ) → n < m → ordering_then (nat_cmp x x) (nat_cmp n m) ≡ Less
 greater_number x n m h = grind (arith, nat_tests)
@@ -32,7 +30,7 @@ module _ {A R : Type 0} (make : ℕ → ℕ → A → R) (of : Rows → List A) 
   -- rows of a greater office, and of the same under greater numbers, come later
   after_office : (x n : ℕ) (a : A) (y m : ℕ) (xs : List A) (rest : List R) → x < y → AllByRecursion (IsAfter x n a) rest → AllByRecursion (IsAfter x n a) (numbered_from (make y) m xs ++ rest)
   after_office x n a y m [] rest lt all = all
-  after_office x n a y m (b ∷ xs) rest lt all = (ranks x n y m a b ∙ greater_office x y n m lt, after_office x n a y (m + 1) xs rest lt all)
+  after_office x n a y m (b ∷ xs) rest lt all = (ranks x n y m a b ∙ first_less x y (nat_cmp n m) lt, after_office x n a y (m + 1) xs rest lt all)
 
   after_number : (x n : ℕ) (a : A) (m : ℕ) (xs : List A) (rest : List R) → n < m → AllByRecursion (IsAfter x n a) rest → AllByRecursion (IsAfter x n a) (numbered_from (make x) m xs ++ rest)
   after_number x n a m [] rest lt all = all

@@ -1,9 +1,10 @@
 -- Rows of values, one by one: how a loop over rows decides them.
-use Rattle.std.proofs.Common.{◌≡◌, ◌↔◌, ◌<◌, ◌≤◌, ◌+◌, ◌∙◌, ℕ, suc, Bool, false, List, [], ◌∷◌, length, get_or, drop, IsTrue, refl, sym, subst, add-one, drop-cons, true≢false, arith, ◌==◌}
+use Rattle.std.proofs.Common.{◌≡◌, ◌↔◌, ◌<◌, ◌≤◌, ◌+◌, ◌∙◌, ℕ, suc, Bool, false, List, [], ◌∷◌, length, get_or, drop, IsTrue, refl, sym, subst, true≢false, arith, ◌==◌}
 use Rattle.std.specs.List.{AllByRecursion}
 use Rattle.std.proofs.lemmas.Bool.Decides.{nat_tests}
 use Rattle.std.proofs.lemmas.List.{drop_all}
 use Rattle.mf_store_accounts.specs.Flat.{numbered_from}
+use Rattle.mf_store_accounts.proofs.MadeLemmas.{at_row}
 use Rattle.mf_store_sound.specs.Stored.{IsRowOf, AllFrom}
 
 -- nothing is left
@@ -12,10 +13,6 @@ nothing_is [] b e = (λ t. refl, λ t. e)
 nothing_is (r ∷ rs) b e =
     let some : (suc (length rs) == 0) ≡ false = grind (arith, nat_tests) in
     (λ yes. absurd (true≢false (sym yes ∙ e ∙ some)), λ is. absurd (cc))
-
--- the rows from this place on, and the one that is there
-pub from_place : {R : Type 0} (rows : List R) (i : ℕ) (r : R) → i < length rows → r ≡ get_or rows i r → drop i rows ≡ r ∷ drop (i + 1) rows
-from_place rows i r h is = drop-cons rows i r h ∙ (λ k. sym is k ∷ drop (sym (add-one i) k) rows)
 
 -- rows of values one by one, and all together
 module _ {A R : Type 0} (make : ℕ → A → R) (Passes : A → Type 0) where
@@ -45,11 +42,11 @@ module _ {A R : Type 0} (make : ℕ → A → R) (Passes : A → Type 0) where
 module _ {R : Type 0} (P : ℕ → R → Type 0) where
   -- the one at i has it, so all have it where those after it have
   pub from_passed : (X : Type 0) (rows : List R) (i n : ℕ) (r : R) → i < length rows → r ≡ get_or rows i r → P n r → (X ↔ AllFrom P n (drop i rows)) → X ↔ AllFrom P (n + 1) (drop (i + 1) rows)
-  from_passed X rows i n r h is p so_far = (λ x. (subst (AllFrom P n) (from_place rows i r h is) (so_far.0 x)).1, λ more. so_far.1 (subst (AllFrom P n) (sym (from_place rows i r h is)) (p, more)))
+  from_passed X rows i n r h is p so_far = (λ x. (subst (AllFrom P n) (at_row rows i r h is) (so_far.0 x)).1, λ more. so_far.1 (subst (AllFrom P n) (sym (at_row rows i r h is)) (p, more)))
 
   -- the one at i has not
   pub from_refused : (X : Type 0) (rows : List R) (i n : ℕ) (r : R) → i < length rows → r ≡ get_or rows i r → (P n r → ⊥) → (X ↔ AllFrom P n (drop i rows)) → X → ⊥
-  from_refused X rows i n r h is none so_far x = none (subst (AllFrom P n) (from_place rows i r h is) (so_far.0 x)).0
+  from_refused X rows i n r h is none so_far x = none (subst (AllFrom P n) (at_row rows i r h is) (so_far.0 x)).0
 
   -- each had it
   pub from_end : (X : Type 0) (rows : List R) (i n : ℕ) → length rows ≤ i → (X ↔ AllFrom P n (drop i rows)) → X

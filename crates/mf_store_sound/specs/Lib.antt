@@ -1,5 +1,4 @@
 pub mod Stored
-pub mod Parts
 pub mod Offices
 pub mod Entries
 pub mod Stages

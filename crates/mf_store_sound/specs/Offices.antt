@@ -7,7 +7,7 @@ use Rattle.mf_model.specs.Sound.{IsName}
 use Rattle.mf_model.specs.Tree.{IsTree, parent_of}
 use Rattle.mf_store_records.specs.declared.offices.OfficeRow.{OfficeRow}
 use Rattle.mf_store_accounts.specs.Flat.{office_under}
-use Rattle.mf_store_sound.specs.Parts.{office_of}
+use Rattle.mf_store_accounts.specs.Parts.{office_of}
 
 -- an office's number and its name
 pub record IsNumberedAndNamed (r : OfficeRow) : Type 0 where

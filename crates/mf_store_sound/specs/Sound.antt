@@ -12,7 +12,7 @@ use Rattle.mf_store_records.specs.declared.staff.StaffRow.{StaffRow}
 use Rattle.mf_store_accounts.specs.Flat.{numbered_from, all_rows, rows_of_loans, entry_rows, own_entries, loans_of, staff_in, client_in, loan_in, entry_in, tables_of}
 use Rattle.mf_store_accounts.specs.Ledgers.{IsPlainLoan}
 use Rattle.mf_store_sound.specs.Schemas.{first_tables_of, tables_under, without_accounts}
-use Rattle.mf_store_sound.specs.Parts.{bare, office_of}
+use Rattle.mf_store_accounts.specs.Parts.{bare, office_of}
 
 -- the rows are those of one loan of an office, and of its entries
 pub record IsLoanPart (k : Catalogue) (clients : List (List ℕ)) (office number : ℕ) (row : LoanRow) (entries : List EntryRow) : Type 0 where

@@ -15,7 +15,7 @@ ghost use Rattle.mf_store_sound.specs.Stored.{IsRowOf};
 use crate::entered::are_loan_entries;
 use crate::entries::DisbursedLoan;
 use mf_base::Day;
-use mf_store_accounts::{amount_from, product_row};
+use mf_store_accounts::{amount_from, row_numbered};
 use mf_store_records::{EntryRow, LoanRow, ProductRow, Text};
 
 /// An office that lends, and what its loans are checked against.
@@ -107,7 +107,7 @@ fn does_lend(products: &[ProductRow], row: &LoanRow) -> bool
         loan_in row.now.office row.now.number l ≡ row.now →
         result ≡ lends (product_in k l.product) l.principal l.periods }
 {
-    match product_row(products, row.product) {
+    match row_numbered(products, row.product) {
         Some(product) => is_allowed(product, row),
         None => false,
     }

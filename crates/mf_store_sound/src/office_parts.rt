@@ -5,7 +5,7 @@ ghost use Rattle.mf_base.specs.DayText.{last_entered_day};
 ghost use Rattle.mf_model.specs.Institution.{Catalogue};
 ghost use Rattle.mf_model.specs.Tree.{Ascending};
 ghost use Rattle.mf_store_accounts.specs.Flat.{product_as, numbered_from};
-ghost use Rattle.mf_store_sound.specs.Parts.{own, later, office_of};
+ghost use Rattle.mf_store_accounts.specs.Parts.{own, later, office_of};
 ghost use Rattle.mf_store_sound.specs.Sound.{IsOfficePart, AreOfficeParts};
 
 use crate::loan_parts::are_loans;

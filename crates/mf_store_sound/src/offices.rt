@@ -7,7 +7,7 @@ ghost use Rattle.mf_model.specs.Tree.{Ascending};
 ghost use Rattle.mf_office.specs.Keys.{child_key, head_key, key_depth};
 ghost use Rattle.mf_store_sound.specs.Offices.{IsNumberedAndNamed, AscendFrom, row_at, HasParentsText};
 ghost use Rattle.mf_store_sound.specs.Offices.{IsOfficeRow, AreOfficeRows, AreOffices};
-ghost use Rattle.mf_store_sound.specs.Parts.{office_of};
+ghost use Rattle.mf_store_accounts.specs.Parts.{office_of};
 
 use mf_base::Fault;
 use mf_model::is_name;

@@ -16,7 +16,7 @@ use mf_catalog::{
     ChargeKind, GREATEST_RATE, MOST_GRACE, MOST_PERIODS, Method, StrategyName, longest_step,
 };
 use mf_model::is_name;
-use mf_store_accounts::{amount_from, charge_row, flag_from};
+use mf_store_accounts::{amount_from, flag_from, row_numbered};
 use mf_store_records::{ChargeRow, ProductRow};
 
 /// Whether each number that stands for a choice is that of one, and no amount is negative.
@@ -85,7 +85,7 @@ fn is_of_kind(charges: &[ChargeRow], kind: ChargeKind, named: Option<u32>) -> bo
     let Some(number) = named else {
         return true;
     };
-    match charge_row(charges, number) {
+    match row_numbered(charges, number) {
         Some(charge) => charge.kind == kind.number(),
         None => false,
     }

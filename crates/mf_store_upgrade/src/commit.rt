@@ -1,6 +1,6 @@
 //! The first schema brought to the second in one commit.
 
-ghost use Rattle.std.specs.Prelude.{◌≡◌, ◌⊎◌, ◌++◌, map, false, Some, IsTrue, OnOk, OnErr, IfOk, IfErr};
+ghost use Rattle.std.specs.Prelude.{◌≡◌, ◌⊎◌, false, Some, IsTrue, OnOk, OnErr, IfOk, IfErr};
 ghost use Rattle.mf_base.specs.declared.fault.Fault.TheVariants.{F20};
 ghost use Rattle.sqlite.specs.Held.{state};
 ghost use Rattle.sqlite.specs.State.{HasCleanDisk};
@@ -8,10 +8,8 @@ ghost use Rattle.sqlite.specs.Tree.{Trees};
 ghost use Rattle.mf_store_records.specs.Calls.{OnlyFaultsShut};
 ghost use Rattle.mf_store_records.specs.Rows.{Lists};
 ghost use Rattle.mf_store_records.specs.Writes.{Holds as HoldsOwn};
-ghost use Rattle.mf_store_records.specs.declared.writes.StoreWrite.TheVariants.{PutInstalment, PutShare};
 ghost use Rattle.mf_store_upgrade.specs.Upgrade.{upgrade_writes, upgraded, CanUpgrade};
 ghost use Rattle.mf_store_upgrade.specs.Upgraded.{IsKeepingFirst, IsUpgradedTo};
-ghost use Rattle.mf_store_upgrade.specs.declared.UpgradeWrite.TheVariants.{Put};
 
 use crate::UpgradeWrite;
 use mf_base::Fault;
@@ -19,28 +17,6 @@ use mf_store_records::{InstalmentRow, MetaRow, ShareRow, StoreWrite};
 use mf_store_tables::apply;
 use sqlite::{Alter, Connection};
 use std::alloc::Global;
-
-/// Adds the puts of the rows of instalments.
-fn put_instalments(rows: Vec<InstalmentRow>, writes: &mut Vec<UpgradeWrite>) -> Result<(), Fault>
-    ensures writes { OnOk result (writes.new.items ≡ writes.old.items ++ map (λ x. Put (PutInstalment x)) rows.items) }
-    ensures gives_up { IfErr result (λ fault. fault ≡ F20) }
-{
-    for row in rows {
-        writes.push(UpgradeWrite::Put(StoreWrite::PutInstalment(row)))?;
-    }
-    Ok(())
-}
-
-/// Adds the puts of the rows of shares.
-fn put_shares(rows: Vec<ShareRow>, writes: &mut Vec<UpgradeWrite>) -> Result<(), Fault>
-    ensures writes { OnOk result (writes.new.items ≡ writes.old.items ++ map (λ x. Put (PutShare x)) rows.items) }
-    ensures gives_up { IfErr result (λ fault. fault ≡ F20) }
-{
-    for row in rows {
-        writes.push(UpgradeWrite::Put(StoreWrite::PutShare(row)))?;
-    }
-    Ok(())
-}
 
 /// The two tables, their rows, and the row of meta.
 fn all_writes(
@@ -54,8 +30,12 @@ fn all_writes(
 {
     let mut writes = Vec::new(alloc);
     writes.push(UpgradeWrite::MakeAccountTables)?;
-    put_instalments(instalments, &mut writes)?;
-    put_shares(shares, &mut writes)?;
+    for instalment in instalments {
+        writes.push(UpgradeWrite::Put(StoreWrite::PutInstalment(instalment)))?;
+    }
+    for share in shares {
+        writes.push(UpgradeWrite::Put(StoreWrite::PutShare(share)))?;
+    }
     writes.push(UpgradeWrite::Put(StoreWrite::PutMeta(meta)))?;
     Ok(writes)
 }

@@ -12,15 +12,9 @@ ghost use Rattle.mf_store_upgrade.specs.Upgrade.{Kept, schema_kept, Holds, Fits,
 mod commit;
 
 pub use commit::upgrade;
-use mf_store_records::StoreWrite;
+use mf_store_records::{CREATE_INSTALMENTS, CREATE_SHARES, StoreWrite};
 use mf_store_tables::{Write, run};
 use sqlite::{Alter, Error, Transaction};
-
-const CREATE_INSTALMENTS: &str =
-    "CREATE TABLE instalments (office INTEGER NOT NULL, loan INTEGER NOT NULL, number INTEGER NOT NULL, due TEXT NOT NULL, owed_penalty INTEGER NOT NULL, paid_penalty INTEGER NOT NULL, waived_penalty INTEGER NOT NULL, written_off_penalty INTEGER NOT NULL, owed_fee INTEGER NOT NULL, paid_fee INTEGER NOT NULL, waived_fee INTEGER NOT NULL, written_off_fee INTEGER NOT NULL, owed_interest INTEGER NOT NULL, paid_interest INTEGER NOT NULL, waived_interest INTEGER NOT NULL, written_off_interest INTEGER NOT NULL, owed_principal INTEGER NOT NULL, paid_principal INTEGER NOT NULL, waived_principal INTEGER NOT NULL, written_off_principal INTEGER NOT NULL, PRIMARY KEY (office, loan, number)) STRICT";
-
-const CREATE_SHARES: &str =
-    "CREATE TABLE shares (office INTEGER NOT NULL, loan INTEGER NOT NULL, seq INTEGER NOT NULL, place INTEGER NOT NULL, instalment INTEGER NOT NULL, portion INTEGER NOT NULL, how INTEGER NOT NULL, amount INTEGER NOT NULL, PRIMARY KEY (office, loan, seq, place)) STRICT";
 
 /// What the commit is made of that brings the first schema to the second.
 #[derive(Drop)]

@@ -3,9 +3,10 @@ use Rattle.std.proofs.Common.{◌≡◌, ◌≢◌, ◌<◌, ◌+◌, ◌==◌, 
 use Rattle.std.specs.List.{AllByRecursion, list_any}
 use Rattle.std.specs.Option.{is_some}
 use Rattle.std.proofs.lemmas.Bool.Decides.{nat_tests}
-use Rattle.std.proofs.lemmas.List.{map-append}
+use Rattle.std.proofs.lemmas.List.{map-append, append-nil, append_assoc}
 use Rattle.std.proofs.lemmas.List.Elements.{filter-append}
 use Rattle.std.proofs.lemmas.List.Sums.{fold-append, sum_by_push}
+use Rattle.sqlite_keyed.proofs.ListLemmas.{all-append}
 use Rattle.sqlite.specs.Order.{Row}
 use Rattle.mf_alloc.specs.Sums.{Sums, IsWhole, open_at, is_open}
 use Rattle.mf_account.specs.Balance.{open_in}
@@ -16,7 +17,6 @@ use Rattle.mf_store_accounts.specs.Flat.{instalment_in}
 use Rattle.mf_store_values.specs.Arrears.{Numbered, AreAbove, AreWholeLoans, rows_of_loan, rows_of_office, aged_rows, aged_loans, IsLineOf}
 use Rattle.mf_store_values.specs.Folding.{aged_by, with_row, Progress, step, IsAt, IsReadAs}
 use Rattle.mf_store_values.specs.declared.fold.LoanSoFar.{LoanSoFar}
-use Rattle.mf_store_accounts.proofs.ListLemmas.{all_append, append_none, append_twice}
 
 -- ---- one loan
 
@@ -29,7 +29,7 @@ due_more rows row = ap (λ l. fold earlier None (map due_of l)) (filter-append i
   where
     go : (b : Bool) → fold earlier None (map due_of (filter is_open rows ++ cond b (row ∷ []) [])) ≡ cond b (earlier (earliest_due rows) row.due) (earliest_due rows)
     go true = ap (fold earlier None) (map-append due_of (filter is_open rows) (row ∷ [])) ∙ fold-append earlier None (map due_of (filter is_open rows)) (row.due ∷ [])
-    go false = ap (λ l. fold earlier None (map due_of l)) (append_none (filter is_open rows))
+    go false = ap (λ l. fold earlier None (map due_of l)) (append-nil (filter is_open rows))
 
 -- there is a due day where something is outstanding
 some_due : (o : Option ℕ) (rows : List Sums) → is_some (fold earlier o (map due_of (filter is_open rows))) ≡ (is_some o || list_any is_open rows)
@@ -123,11 +123,11 @@ abbrev sums_in : List (ℕ × Sums) → List Sums
 sums_in xs = map (λ item. item.1) xs
 
 run_own : (today : ℕ) (p : Progress) (n : ℕ) (xs : List (ℕ × Sums)) → n ≡ p.loan → run today p (own n xs) ≡ record p { rows = p.rows ++ sums_in xs }
-run_own today p n [] e = ap (λ r. record p { rows = r }) (sym (append_none p.rows))
+run_own today p n [] e = ap (λ r. record p { rows = r }) (sym (append-nil p.rows))
 run_own today p n (x ∷ xs) e =
     let yes : (n == p.loan) ≡ true = grind (arith, nat_tests) in
     ap (λ b. run today (cond b (record p { rows = p.rows ++ x.1 ∷ [] }) (record { counted = p.counted ++ aged_rows today p.rows; loan = n; rows = x.1 ∷ [] })) (own n xs)) yes
-    ∙ run_own today (record p { rows = p.rows ++ x.1 ∷ [] }) n xs e ∙ ap (λ r. record p { rows = r }) (append_twice p.rows (x.1 ∷ []) (sums_in xs))
+    ∙ run_own today (record p { rows = p.rows ++ x.1 ∷ [] }) n xs e ∙ ap (λ r. record p { rows = r }) (append_assoc p.rows (x.1 ∷ []) (sums_in xs))
 
 lower : (m n : ℕ) (ls : List Numbered) → m < n → AreAbove n ls → AreAbove m ls
 lower m n [] low up = tt
@@ -135,7 +135,7 @@ lower m n (l ∷ ls) low up = (omega (arith, low, up.0), up.1)
 
 -- loan by loan
 run_loans : (today : ℕ) (p : Progress) (ls : List Numbered) → AreAbove p.loan ls → done today (run today p (placed ls)) ≡ p.counted ++ (aged_rows today p.rows ++ aged_loans today ls)
-run_loans today p [] up = ap (λ l. p.counted ++ l) (sym (append_none (aged_rows today p.rows)))
+run_loans today p [] up = ap (λ l. p.counted ++ l) (sym (append-nil (aged_rows today p.rows)))
 run_loans today p (l ∷ ls) up =
     go l.1 (run_loans today p ls (lower p.loan l.0 ls up.0 up.1)) (λ rows. run_loans today (record { counted = p.counted ++ aged_rows today p.rows; loan = l.0; rows = rows }) ls up.1)
   where
@@ -149,7 +149,7 @@ run_loans today p (l ∷ ls) up =
         let first : Progress = record { counted = p.counted ++ aged_rows today p.rows; loan = l.0; rows = x.1 ∷ [] } in
         ap (λ b. done today (run today (cond b (record p { rows = p.rows ++ x.1 ∷ [] }) first) (own l.0 xs ++ placed ls))) no
         ∙ ap (done today) (run_append today first (own l.0 xs) (placed ls) ∙ ap (λ q. run today q (placed ls)) (run_own today first l.0 xs refl))
-        ∙ more (x.1 ∷ sums_in xs) ∙ append_twice p.counted (aged_rows today p.rows) (aged_rows today (x.1 ∷ sums_in xs) ++ aged_loans today ls)
+        ∙ more (x.1 ∷ sums_in xs) ∙ append_assoc p.counted (aged_rows today p.rows) (aged_rows today (x.1 ∷ sums_in xs) ++ aged_loans today ls)
 
 own_rows : (office n : ℕ) (xs : List (ℕ × Sums)) → map (item_row office) (own n xs) ≡ map instalment_stored (map (instalment_in office n) xs)
 own_rows office n [] = refl
@@ -169,7 +169,7 @@ own_whole n (x ∷ xs) all = (all.0, own_whole n xs all.1)
 
 placed_whole : (ls : List Numbered) → AreWholeLoans ls → AreWholeItems (placed ls)
 placed_whole [] all = tt
-placed_whole (l ∷ ls) all = all_append (λ (x : Item). IsWhole x.1.1) (own l.0 l.1) (placed ls) (own_whole l.0 l.1 all.0) (placed_whole ls all.1)
+placed_whole (l ∷ ls) all = all-append (λ (x : Item). IsWhole x.1.1) (own l.0 l.1) (placed ls) (own_whole l.0 l.1 all.0) (placed_whole ls all.1)
 
 -- ---- the rows that were taken
 

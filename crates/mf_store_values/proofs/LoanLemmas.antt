@@ -1,5 +1,5 @@
 -- What the row of a loan is read as.
-use Rattle.std.proofs.Common.{◌≡◌, ◌-◌, ℕ, pos, Some, refl, sym, ap, ◌∙◌, arith}
+use Rattle.std.proofs.Common.{◌≡◌, ℕ, pos, Some, refl, sym, ap, ◌∙◌, arith}
 use Rattle.mf_base.specs.DayText.{day_text}
 use Rattle.mf_model.specs.declared.loan.Loan.{Loan}
 use Rattle.mf_model.specs.declared.loan.Stage.{Stage}

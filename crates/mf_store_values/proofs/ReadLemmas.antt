@@ -1,11 +1,10 @@
 -- Rows that are read in turn, and what some of them are read as.
-use Rattle.std.proofs.Common.{◌≡◌, ◌<◌, ◌≤◌, ◌+◌, ◌-◌, ℕ, zero, suc, List, [], ◌∷◌, ◌++◌, map, length, take, get_or, Option, refl, sym, ap, ap₂, ◌∙◌, subst, arith}
+use Rattle.std.proofs.Common.{◌≡◌, ◌<◌, ◌≤◌, ◌+◌, ℕ, zero, suc, List, [], ◌∷◌, ◌++◌, map, length, take, get_or, Option, refl, sym, ap, ap₂, ◌∙◌, subst, arith}
 use Rattle.std.specs.List.{AllByRecursion}
-use Rattle.std.proofs.lemmas.List.{take_more, map-append, length-map, get_or-map}
+use Rattle.std.proofs.lemmas.List.{take_more, map-append, length-map, get_or-map, take_all}
 use Rattle.sqlite.specs.Order.{Row}
 use Rattle.mf_model.specs.Institution.{Office, Staff, new_office}
 use Rattle.mf_store_accounts.specs.Flat.{numbered_from, staff_in, office_under}
-use Rattle.mf_store_accounts.proofs.ListLemmas.{take_whole}
 use Rattle.mf_office.specs.declared.staff.Role.{Role}
 use Rattle.mf_store_records.specs.declared.staff.StaffRow.{StaffRow}
 use Rattle.mf_store_records.specs.declared.offices.OfficeRow.{OfficeRow}
@@ -29,7 +28,7 @@ mapped_more P row line rows n item d x xs ys ls are all low is more before reads
 pub mapped_all : {A L : Type 0} (row : A → Row) (line : A → L) (rows : List Row) (n : ℕ) (xs : List L) (ls : List A) → rows ≡ map row ls → length rows ≤ n → xs ≡ map line (take n ls) → xs ≡ map line ls
 mapped_all row line rows n xs ls are past is =
     let same : length rows ≡ length ls = ap length are ∙ length-map ls row in
-    is ∙ ap (map line) (take_whole n ls (omega (arith, same, past)))
+    is ∙ ap (map line) (take_all n ls (omega (arith, same, past)))
 
 length_numbered : {A : Type 0} (row : ℕ → A → Row) (n : ℕ) (xs : List A) → length (numbered_from row n xs) ≡ length xs
 length_numbered row n [] = refl
@@ -50,7 +49,7 @@ read_more row rows k item y xs ys all are low is more before reads =
 pub read_all : {A : Type 0} (row : ℕ → A → Row) (rows : List Row) (k : ℕ) (xs all : List A) → rows ≡ numbered_from row 1 all → length rows ≤ k → xs ≡ take k all → xs ≡ all
 read_all row rows k xs all are past is =
     let same : length rows ≡ length all = ap length are ∙ length_numbered row 1 all in
-    is ∙ take_whole k all (omega (arith, same, past))
+    is ∙ take_all k all (omega (arith, same, past))
 
 pub member_is : (found : StaffRow) (name : List ℕ) (role : Role) (x n : ℕ) (s : Staff) → found ≡ staff_in x n s → name ≡ found.name → role ≡ s.role → ◌≡◌ {A = Staff} (record { name = name; role = role }) s
 member_is found name role x n s e b d = λ k. record { name = (b ∙ ap (λ (r : StaffRow). r.name) e) k; role = d k }

@@ -19,11 +19,14 @@ use Rattle.mf_store_records.specs.Tables.{schema}
 use Rattle.mf_store_records.proofs.CallLemmas.{unchanged}
 use Rattle.mf_store_records.proofs.ReadLemmas.{instalments_of_office_shows}
 use Rattle.mf_store_records.proofs.Texts.{instalments_of_office, instalments_of_office_plain}
-use Rattle.mf_store_accounts.proofs.ResultLemmas.{both_on_ok}
 use Rattle.sqlite_trees.specs.declared.store.Store.{Ghosts}
 use Rattle.sqlite.specs.Tree.{Trees}
 use Rattle.mf_store_values.specs.Arrears.{Numbered, AreAbove, AreWholeLoans, rows_of_office, aged_loans, IsLineOf}
 use Rattle.mf_store_values.specs.Folding.{IsKept, Folds, Refuses}
+
+both_on_ok : {A E : Type 0} (r : Result A E) (P Q O : Type 0) → OnOk r P → OnOk r O → (P → O → Q) → OnOk r Q
+both_on_ok (Ok x) P Q O h o f = f h o
+both_on_ok (Err e) P Q O h o f = tt
 
 -- what begins an answer begins it over the same tables
 begins_same : (sql : List ℕ) (params : Row) (was is : State) (rows : List Row) → is.now ≡ was.now → Begins sql params is rows → Begins sql params was rows

@@ -6,13 +6,16 @@ ghost use Rattle.mf_base.specs.DayText.{day_text};
 ghost use Rattle.mf_model.specs.Stages.{stage_number, disbursed_on};
 ghost use Rattle.mf_model.specs.declared.loan.Loan.{Loan as ModelLoan};
 ghost use Rattle.mf_model.specs.declared.loan.Stage.{Stage as ModelStage};
+ghost use Rattle.mf_store_records.specs.Rows.{loan_row as loan_stored};
 ghost use Rattle.mf_store_accounts.specs.Flat.{loan_in, approval_text, disbursal_text};
 
+use crate::offices::office_number;
 use crate::values::unsigned;
 use mf_base::{Day, Fault, texts_of_days};
 use mf_model::{Loan, Stage};
-use mf_office::AccountNo;
-use mf_store_records::{LoanRow, Text};
+use mf_office::{Account, AccountNo};
+use mf_store_records::{LoanRow, Text, read_row};
+use sqlite::Row;
 
 /// The day of a text.
 pub(crate) fn day_from(text: &Text) -> Result<Day, Fault>
@@ -45,7 +48,7 @@ fn stage_from(number: u32, approved: Option<Text>, disbursed: Option<Text>) -> R
 }
 
 /// The number of a client or a loan that a row keeps. F20 where it is none, which no number in the tables is.
-pub fn account_number(number: u32) -> Result<AccountNo, Fault>
+pub(crate) fn account_number(number: u32) -> Result<AccountNo, Fault>
     ensures number { IfOk result (λ n. n ≡ number) }
     ensures gives_up { IfErr result (λ fault. fault ≡ F20) }
 {
@@ -70,6 +73,18 @@ pub fn loan_from(row: LoanRow) -> Result<Loan, Fault>
         periods: row.periods,
         stage,
     })
+}
+
+/// The loan of a row as the tables give it, with its number.
+pub fn loan_in_row(row: &Row) -> Result<(Account, Loan), Fault>
+    ensures loan { IfOk result (λ found. (office number : ℕ) (l : ModelLoan) → row.now ≡ loan_stored (loan_in office number l) → (found.0 ≡ record { office = office; number = number }) × (found.1 ≡ l)) }
+    ensures gives_up { IfErr result (λ fault. fault ≡ F20) }
+{
+    let found = read_row::<LoanRow>(row)?;
+    let office = office_number(found.office)?;
+    let number = account_number(found.number)?;
+    let loan = loan_from(found)?;
+    Ok((Account { office, number }, loan))
 }
 
 /// The day on which a loan was disbursed.

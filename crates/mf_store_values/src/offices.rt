@@ -15,7 +15,7 @@ use sqlite::Row;
 use std::alloc::Global;
 
 /// The number of an office that a row keeps. F20 where it is none, which no number in the tables is.
-pub fn office_number(number: u32) -> Result<OfficeNo, Fault>
+pub(crate) fn office_number(number: u32) -> Result<OfficeNo, Fault>
     ensures number { IfOk result (λ n. n ≡ number) }
     ensures gives_up { IfErr result (λ fault. fault ≡ F20) }
 {

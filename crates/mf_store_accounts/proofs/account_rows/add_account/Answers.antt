@@ -1,10 +1,10 @@
 use Rattle.std.proofs.Common.{◌++◌, map, length, refl, sym, ap, ◌∙◌}
 use Rattle.std.proofs.lemmas.List.{append-nil}
+use Rattle.std.proofs.lemmas.Result.{on_ok_weaker}
 use Rattle.mf_account.specs.Change.{Account as Kept, settled_in}
 use Rattle.mf_model.specs.Accounts.{account_in}
 use Rattle.mf_store_accounts.specs.Flat.{instalment_in, share_in, numbered_from, instalments_kept, shares_kept, parts_from}
 use Rattle.mf_store_accounts.proofs.AccountLemmas.{read_none, read_some}
-use Rattle.mf_store_accounts.proofs.AnswerLemmas.{weaker_on_ok}
 use Rattle.mf_store_accounts.proofs.account_rows.add_account.Goals as goal
 
 pub returns-in_default-clause-added : goal.returns-in_default-clause-added
@@ -19,7 +19,7 @@ returns-in_default-clause-added c k sound e f names l plain is es =
 
 pub returns-clause-added : goal.returns-clause-added
 returns-clause-added c =
-    weaker_on_ok c.add_shares.result _ _ (λ added k sound e f names l plain is es.
+    on_ok_weaker c.add_shares.result (λ added k sound e f names l plain is es.
     let row = c.args.row.now in
     let some = sym c.in-Some.is ∙ c.in_ok-found.ensures.account k sound e f row.office row.number names l plain is es in
     let rows = read_some instalments_kept (λ (b : Kept). numbered_from (λ n r. (n, r)) 1 b.state.rows) (account_in k l) c.in-Some.account (λ a. refl) some in

@@ -1,5 +1,5 @@
 use Rattle.std.proofs.Common.{◌∙◌}
-use Rattle.mf_store_accounts.proofs.ResultLemmas.{weaker_if_ok}
+use Rattle.std.proofs.lemmas.Result.{IfOk-weaker}
 use Rattle.mf_store_files.proofs.AdoptLemmas.{of_any, nothing_present, nothing_first, present_first}
 use Rattle.mf_store_files.proofs.adopted.adopt.Goals as goal
 
@@ -9,7 +9,7 @@ returns-in-Nothing-clause-sound g c =
 
 pub returns-in-Nothing-clause-stands : goal.returns-in-Nothing-clause-stands
 returns-in-Nothing-clause-stands g c =
-    weaker_if_ok c.found.result _ _ (λ store was_open clean i tabled. absurd (nothing_present _ c.in-Nothing.is (c.tables_found.ensures.present (c.schema.ensures.value ∙ (tabled.serves (was_open clean)).schema_is)))) c.found.ensures.was_open
+    IfOk-weaker c.found.result _ _ (λ store was_open clean i tabled. absurd (nothing_present _ c.in-Nothing.is (c.tables_found.ensures.present (c.schema.ensures.value ∙ (tabled.serves (was_open clean)).schema_is)))) c.found.ensures.was_open
 
 pub returns-in-Nothing-clause-sound_first : goal.returns-in-Nothing-clause-sound_first
 returns-in-Nothing-clause-sound_first g c =
@@ -17,7 +17,7 @@ returns-in-Nothing-clause-sound_first g c =
 
 pub returns-in-Nothing-clause-stands_first : goal.returns-in-Nothing-clause-stands_first
 returns-in-Nothing-clause-stands_first g c =
-    weaker_if_ok c.found.result _ _ (λ store was_open clean i tabled. absurd (nothing_first _ c.in-Nothing.is (c.tables_found.ensures.first (c.schema.ensures.value ∙ (tabled.keeps (was_open clean)).schema_is)))) c.found.ensures.was_open
+    IfOk-weaker c.found.result _ _ (λ store was_open clean i tabled. absurd (nothing_first _ c.in-Nothing.is (c.tables_found.ensures.first (c.schema.ensures.value ∙ (tabled.keeps (was_open clean)).schema_is)))) c.found.ensures.was_open
 
 pub returns-in-Present-clause-made_leaves : goal.returns-in-Present-clause-made_leaves
 returns-in-Present-clause-made_leaves g c =
@@ -29,11 +29,11 @@ returns-in-Present-clause-sound_first g c =
 
 pub returns-in-Present-clause-stands_first : goal.returns-in-Present-clause-stands_first
 returns-in-Present-clause-stands_first g c =
-    weaker_if_ok c.take_over.result _ _ (λ store was_open clean i tabled. absurd (present_first _ c.in-Present.is (c.tables_found.ensures.first (c.schema.ensures.value ∙ (tabled.keeps (was_open clean)).schema_is)))) c.take_over.ensures.was_open
+    IfOk-weaker c.take_over.result _ _ (λ store was_open clean i tabled. absurd (present_first _ c.in-Present.is (c.tables_found.ensures.first (c.schema.ensures.value ∙ (tabled.keeps (was_open clean)).schema_is)))) c.take_over.ensures.was_open
 
 pub returns-in-Present-clause-leaves_first : goal.returns-in-Present-clause-leaves_first
 returns-in-Present-clause-leaves_first g c =
-    weaker_if_ok c.take_over.result _ _ (λ store was_open clean i tabled. absurd (present_first _ c.in-Present.is (c.tables_found.ensures.first (c.schema.ensures.value ∙ (tabled.keeps (was_open clean)).schema_is)))) c.take_over.ensures.was_open
+    IfOk-weaker c.take_over.result _ _ (λ store was_open clean i tabled. absurd (present_first _ c.in-Present.is (c.tables_found.ensures.first (c.schema.ensures.value ∙ (tabled.keeps (was_open clean)).schema_is)))) c.take_over.ensures.was_open
 
 pub returns-in-First-clause-made_leaves : goal.returns-in-First-clause-made_leaves
 returns-in-First-clause-made_leaves g c =
@@ -45,8 +45,8 @@ returns-in-First-clause-sound g c =
 
 pub returns-in-First-clause-stands : goal.returns-in-First-clause-stands
 returns-in-First-clause-stands g c =
-    weaker_if_ok c.take_over_first.result _ _ (λ store was_open clean i tabled. absurd (present_first _ (c.tables_found.ensures.present (c.schema.ensures.value ∙ (tabled.serves (was_open clean)).schema_is)) c.in-First.is)) c.take_over_first.ensures.was_open
+    IfOk-weaker c.take_over_first.result _ _ (λ store was_open clean i tabled. absurd (present_first _ (c.tables_found.ensures.present (c.schema.ensures.value ∙ (tabled.serves (was_open clean)).schema_is)) c.in-First.is)) c.take_over_first.ensures.was_open
 
 pub returns-in-First-clause-leaves : goal.returns-in-First-clause-leaves
 returns-in-First-clause-leaves g c =
-    weaker_if_ok c.take_over_first.result _ _ (λ store was_open clean i tabled. absurd (present_first _ (c.tables_found.ensures.present (c.schema.ensures.value ∙ (tabled.serves (was_open clean)).schema_is)) c.in-First.is)) c.take_over_first.ensures.was_open
+    IfOk-weaker c.take_over_first.result _ _ (λ store was_open clean i tabled. absurd (present_first _ (c.tables_found.ensures.present (c.schema.ensures.value ∙ (tabled.serves (was_open clean)).schema_is)) c.in-First.is)) c.take_over_first.ensures.was_open

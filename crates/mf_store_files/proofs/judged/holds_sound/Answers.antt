@@ -1,6 +1,6 @@
 use Rattle.std.proofs.Common.{IsTrue}
+use Rattle.std.proofs.lemmas.Result.{IfOk-weaker}
 use Rattle.sqlite.specs.Held.{state}
-use Rattle.mf_store_accounts.proofs.ResultLemmas.{weaker_if_ok}
 use Rattle.mf_store_files.specs.Held.{HoldsSound}
 use Rattle.mf_store_files.proofs.TableLemmas.{at_none, at_some}
 use Rattle.mf_store_files.proofs.JudgedLemmas.{can_be_held, holds_sound, are_of_sound}
@@ -15,10 +15,10 @@ pub returns-clause-yes : goal.returns-clause-yes
 returns-clause-yes g c clean ours rowids =
     let trees = (state g.S.Store c.args.connection.now).now.trees in
     let keeps = at_some c.in_ok-tables.field-0 _ c.in-Some.tables c.in-Some.is (c.in_ok-tables.ensures.keeps clean ours rowids) in
-    weaker_if_ok c.is_sound.result _ (λ answer. IsTrue answer → HoldsSound trees) (λ answer exact yes. holds_sound trees c.in-Some.tables keeps (exact.0 yes)) c.is_sound.ensures.exact
+    IfOk-weaker c.is_sound.result _ (λ answer. IsTrue answer → HoldsSound trees) (λ answer exact yes. holds_sound trees c.in-Some.tables keeps (exact.0 yes)) c.is_sound.ensures.exact
 
 pub returns-clause-only : goal.returns-clause-only
 returns-clause-only g c clean ours =
     let trees = (state g.S.Store c.args.connection.now).now.trees in
     let only = at_some c.in_ok-tables.field-0 _ c.in-Some.tables c.in-Some.is (c.in_ok-tables.ensures.only clean ours) in
-    weaker_if_ok c.is_sound.result _ (λ answer. HoldsSound trees → IsTrue answer) (λ answer exact h. exact.1 (are_of_sound trees c.in-Some.tables only h)) c.is_sound.ensures.exact
+    IfOk-weaker c.is_sound.result _ (λ answer. HoldsSound trees → IsTrue answer) (λ answer exact h. exact.1 (are_of_sound trees c.in-Some.tables only h)) c.is_sound.ensures.exact

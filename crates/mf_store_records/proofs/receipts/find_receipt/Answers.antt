@@ -1,11 +1,12 @@
 use Rattle.std.proofs.Common.{◌∙◌}
+use Rattle.std.proofs.lemmas.Result.{IfOk-weaker}
 use Rattle.sqlite.specs.Held.{state}
 use Rattle.mf_store_records.specs.Rows.{receipt_row, is_receipt}
-use Rattle.mf_store_records.proofs.CallLemmas.{weaker_if_ok, first_is}
+use Rattle.mf_store_records.proofs.CallLemmas.{first_is}
 use Rattle.mf_store_records.proofs.receipts.find_receipt.Goals as goal
 
 pub returns-clause-row : goal.returns-clause-row
 returns-clause-row g c clean lists kept =
     let s = rw (c.params-to_sql.ensures, c.params-to_sql-2.ensures) at (c.in_ok-rows.ensures.shows clean) in
     let are = c.find_text.ensures.shows (c.args.office, c.args.receipt.now) lists (state g.S.Store c.args.connection.now).now c.in_ok-rows.rows.items (kept s.is_open) s.answers in
-    weaker_if_ok c.first.result _ _ (λ x reads. first_is receipt_row (is_receipt c.args.office c.args.receipt.now) lists.receipts c.in_ok-rows.rows.items x are (λ rs e. reads rs (c.deref.ensures.value ∙ e))) c.first.ensures.row
+    IfOk-weaker c.first.result _ _ (λ x reads. first_is receipt_row (is_receipt c.args.office c.args.receipt.now) lists.receipts c.in_ok-rows.rows.items x are (λ rs e. reads rs (c.deref.ensures.value ∙ e))) c.first.ensures.row

@@ -1,4 +1,4 @@
-use Rattle.mf_store_accounts.proofs.AnswerLemmas.{weaker_if_ok}
+use Rattle.std.proofs.lemmas.Result.{IfOk-weaker}
 use Rattle.mf_store_sound.proofs.OfficeTreeLemmas.{offices_from_rows, rows_from_offices}
 use Rattle.mf_store_sound.proofs.offices.are_offices.Goals as goal
 
@@ -6,4 +6,4 @@ pub returns-clause-offices : goal.returns-clause-offices
 returns-clause-offices c =
     let law = c.tree_by_its_keys.ensures in
     let rows = c.args.offices.now in
-    weaker_if_ok c.are_office_rows.result _ _ (λ yes h. (λ y. offices_from_rows rows law (h.0 y), λ a. h.1 (rows_from_offices rows law a))) c.are_office_rows.ensures.rows
+    IfOk-weaker c.are_office_rows.result _ _ (λ yes h. (λ y. offices_from_rows rows law (h.0 y), λ a. h.1 (rows_from_offices rows law a))) c.are_office_rows.ensures.rows

@@ -1,16 +1,16 @@
 use Rattle.std.proofs.Common.{◌≡◌, refl}
+use Rattle.std.proofs.lemmas.Result.{IfOk-weaker}
 use Rattle.mf_model.specs.Institution.{Institution}
 use Rattle.mf_model.specs.Sound.{IsSound}
 use Rattle.mf_store_accounts.specs.Accounts.{AreAccounts}
 use Rattle.mf_store_accounts.specs.Flat.{tables_of}
-use Rattle.mf_store_accounts.proofs.AnswerLemmas.{weaker_if_ok}
 use Rattle.mf_store_sound.specs.Schemas.{first_tables_of}
 use Rattle.mf_store_sound.proofs.WholeLemmas.{told_of_parts, rows_are_of}
 use Rattle.mf_store_sound.proofs.sound.account_rows.Goals as goal
 
 pub returns-clause-rows : goal.returns-clause-rows
 returns-clause-rows c =
-    weaker_if_ok c.rows_of_accounts.result _ (λ rows. (i : Institution) → IsSound i → first_tables_of i ≡ c.args.tables.now → (rows.0.items ≡ (tables_of i).instalments) × (rows.1.items ≡ (tables_of i).shares)) (λ rows told.
+    IfOk-weaker c.rows_of_accounts.result _ (λ rows. (i : Institution) → IsSound i → first_tables_of i ≡ c.args.tables.now → (rows.0.items ≡ (tables_of i).instalments) × (rows.1.items ≡ (tables_of i).shares)) (λ rows told.
     rows_are_of c.args.tables.now rows.0.items rows.1.items
     (
     told_of_parts (λ none other k ps. AreAccounts k ps rows.0.items rows.1.items) c.args.tables.now _ c.tables.view_is c.deref.result.now c.deref-2.result.now c.deref-3.result.now c.deref-4.result.now _ _

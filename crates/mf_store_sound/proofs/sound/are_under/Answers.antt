@@ -1,6 +1,6 @@
 use Rattle.std.proofs.Common.{◌↔◌, ◌∙◌, IsTrue, false, sym, true≢false}
+use Rattle.std.proofs.lemmas.Result.{IfOk-weaker}
 use Rattle.mf_store_sound.specs.Sound.{AreUnder}
-use Rattle.mf_store_accounts.proofs.AnswerLemmas.{weaker_if_ok}
 use Rattle.mf_store_sound.proofs.SoundLemmas.{of_parts, day_of, charges_part, charges_are, products_part, products_are, offices_part, offices_parts, staff_are, callers_part, under_is}
 use Rattle.mf_store_accounts.proofs.AnswerLemmas.{refuses, no_answer}
 use Rattle.mf_store_sound.proofs.sound.are_under.Goals as goal
@@ -39,7 +39,7 @@ returns-then-not-are_by_staff-clause-exact c =
 
 pub returns-clause-exact : goal.returns-clause-exact
 returns-clause-exact c =
-    weaker_if_ok c.are_receipts.result _ (λ answer. IsTrue answer ↔ AreUnder c.args.schema c.args.tables.now) (λ answer told.
+    IfOk-weaker c.are_receipts.result _ (λ answer. IsTrue answer ↔ AreUnder c.args.schema c.args.tables.now) (λ answer told.
     of_parts c.args.schema (IsTrue answer) c.args.tables.now _ c.tables.view_is c.as_slice-meta.result.now c.as_slice-offices.result.now c.as_slice-staff.result.now c.as_slice-clients.result.now c.as_slice-charges.result.now c.as_slice-products.result.now c.as_slice-loans.result.now c.as_slice-entries.result.now c.as_slice-receipts.result.now
     c.as_slice-meta.ensures.value c.as_slice-offices.ensures.value c.as_slice-staff.ensures.value c.as_slice-clients.ensures.value c.as_slice-charges.ensures.value c.as_slice-products.ensures.value c.as_slice-loans.ensures.value c.as_slice-entries.ensures.value c.as_slice-receipts.ensures.value
     (

@@ -1,6 +1,7 @@
 use Rattle.std.proofs.Common.{◌↔◌, IsTrue}
+use Rattle.std.proofs.lemmas.Result.{IfOk-weaker}
 use Rattle.mf_store_accounts.specs.Accounts.{AreAccounts}
-use Rattle.mf_store_accounts.proofs.AnswerLemmas.{refuses, no_answer, weaker_if_ok}
+use Rattle.mf_store_accounts.proofs.AnswerLemmas.{refuses, no_answer}
 use Rattle.mf_store_sound.specs.Sound.{AreOfSound}
 use Rattle.mf_store_sound.proofs.WholeLemmas.{told_of_parts, under_of_whole, whole_is}
 use Rattle.mf_store_sound.proofs.sound.is_sound.Goals as goal
@@ -10,7 +11,7 @@ returns-then-not-branch-clause-exact c = no_answer (λ h. refuses c.in_ok-are_un
 
 pub returns-clause-exact : goal.returns-clause-exact
 returns-clause-exact c =
-    weaker_if_ok c.are_accounts.result _ (λ answer. IsTrue answer ↔ AreOfSound c.args.tables.now) (λ answer told.
+    IfOk-weaker c.are_accounts.result _ (λ answer. IsTrue answer ↔ AreOfSound c.args.tables.now) (λ answer told.
     whole_is c.args.tables.now (IsTrue answer) ((c.in_ok-are_under.ensures {u = tt}).exact.0 c.if-not-branch.false)
     (
     told_of_parts (λ instalments shares k ps. IsTrue answer ↔ AreAccounts k ps instalments shares) c.args.tables.now _ c.tables.view_is c.deref.result.now c.deref-2.result.now c.deref-3.result.now c.deref-4.result.now c.deref-5.result.now c.deref-6.result.now

@@ -1,10 +1,10 @@
 use Rattle.std.proofs.Common.{◌∙◌}
+use Rattle.std.proofs.lemmas.List.{map-id}
 use Rattle.mf_account.specs.declared.entry.Entry.{Entry as ModelEntry}
 use Rattle.mf_office.specs.Texts.{IsCaller}
 use Rattle.mf_store_records.specs.Rows.{entry_row as entry_stored}
 use Rattle.mf_store_accounts.specs.Flat.{entry_in}
 use Rattle.mf_store_values.proofs.ReadLemmas.{mapped_more, mapped_all}
-use Rattle.mf_store_accounts.proofs.ListLemmas.{map_self}
 use Rattle.mf_store_values.proofs.entries.entries_from.Goals as goal
 
 pub loop-row-preserved : goal.loop-row-preserved
@@ -15,4 +15,4 @@ loop-row-preserved c office loan es called are =
 
 pub returns-clause-entries : goal.returns-clause-entries
 returns-clause-entries c office loan es called are =
-    mapped_all (λ (e : ModelEntry). entry_stored (entry_in office loan e)) (λ (e : ModelEntry). e) c.args.rows.now c.loop-row.row-index c.loop-row.entries.items es are c.loop-row-test.false (c.loop-row.invariant office loan es called are) ∙ map_self es
+    mapped_all (λ (e : ModelEntry). entry_stored (entry_in office loan e)) (λ (e : ModelEntry). e) c.args.rows.now c.loop-row.row-index c.loop-row.entries.items es are c.loop-row-test.false (c.loop-row.invariant office loan es called are) ∙ map-id es

@@ -1,10 +1,10 @@
 use Rattle.std.proofs.Common.{[], ◌∷◌, ◌++◌, refl, inl, inr, ◌∙◌}
+use Rattle.std.proofs.lemmas.Result.{on_ok_weaker}
 use Rattle.sqlite.specs.Held.{state}
 use Rattle.sqlite.proofs.Callers.{unchanged_then}
 use Rattle.mf_store_records.proofs.CallLemmas.{goes_on}
 use Rattle.mf_store_values.proofs.FoldLemmas.{tells_none, tells_more, tells_line}
 use Rattle.mf_store_values.proofs.RowsLemmas.{no_ok, clean_before, survives_same, kept_same, kept_then, given_begins, given_open, given_shown, folds_refused}
-use Rattle.mf_store_accounts.proofs.ResultLemmas.{at_ok, weaker_on_ok}
 use Rattle.mf_store_values.proofs.fold.fold_loans.Goals as goal
 
 pub rows-init : goal.rows-init
@@ -43,12 +43,12 @@ returns-in-None-clause-folds g c =
           given_begins g.S.Store sql params old mid so_far.0 before.1 before.0;
       whole = λ clean sql params has.
           let before = so_far.1 (clean_before (state g.S.Store mid) (state g.S.Store new) c.next_instalment.ensures.survives clean) sql params has in
-          at_ok c.count.result _ (given_shown g.S.Store sql params old mid new so_far.0 so_far.0 before.1 before.0 (takes clean sql params so_far.0 before.0));
-      line_is = weaker_on_ok c.count.result _ _ c.count.ensures.line (λ added. tells_line c.args.day so_far.0 c.args.line.now c.rows.read c.rows.line c.count.new.line added so_far.2);
+          on_ok_weaker c.count.result (λ _. given_shown g.S.Store sql params old mid new so_far.0 so_far.0 before.1 before.0 (takes clean sql params so_far.0 before.0)) c.count.ensures.line;
+      line_is = on_ok_weaker c.count.result (λ added. tells_line c.args.day so_far.0 c.args.line.now c.rows.read c.rows.line c.count.new.line added so_far.2) c.count.ensures.line;
     }
 
 pub returns-in-None-clause-open : goal.returns-in-None-clause-open
-returns-in-None-clause-open g c clean = at_ok c.count.result _ (c.in_ok-next_instalment.ensures.same clean).0.is_open
+returns-in-None-clause-open g c clean = on_ok_weaker c.count.result (λ _. (c.in_ok-next_instalment.ensures.same clean).0.is_open) c.count.ensures.line
 
 pub returns-in_err-take-in-Some-clause-folds : goal.returns-in_err-take-in-Some-clause-folds
 returns-in_err-take-in-Some-clause-folds g c =

@@ -1,12 +1,12 @@
 use Rattle.std.proofs.Common.{◌∷◌, [], ap, ◌∙◌}
+use Rattle.std.proofs.lemmas.Result.{IfOk-weaker}
 use Rattle.mf_store_records.specs.declared.instalments.InstalmentRow.{InstalmentRow}
 use Rattle.mf_store_values.proofs.InstalmentLemmas.{same_four}
-use Rattle.mf_store_accounts.proofs.ResultLemmas.{weaker_if_ok}
 use Rattle.mf_store_values.proofs.instalments.instalment_from.Goals as goal
 
 pub returns-clause-row : goal.returns-clause-row
 returns-clause-row c =
-    weaker_if_ok c.instalment_of.result _ _
+    IfOk-weaker c.instalment_of.result _ _
     (λ found read office loan number sums whole is.
     let owed = same_four c.in_ok-owed.owed sums.owed whole.owed (c.in_ok-owed.ensures.sums ∙ (λ t. (is t).owed_penalty ∷ (is t).owed_fee ∷ (is t).owed_interest ∷ (is t).owed_principal ∷ [])) in
     let paid = same_four c.in_ok-paid.paid sums.paid whole.paid (c.in_ok-paid.ensures.sums ∙ (λ t. (is t).paid_penalty ∷ (is t).paid_fee ∷ (is t).paid_interest ∷ (is t).paid_principal ∷ [])) in

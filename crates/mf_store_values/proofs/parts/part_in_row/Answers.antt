@@ -1,11 +1,11 @@
 use Rattle.std.proofs.Common.{◌≡◌, Some, sym, ◌∙◌}
+use Rattle.std.proofs.lemmas.Result.{IfOk-weaker}
 use Rattle.mf_store_accounts.specs.Flat.{share_in}
 use Rattle.mf_store_accounts.specs.Kept.{part_told}
-use Rattle.mf_store_accounts.proofs.ResultLemmas.{weaker_if_ok}
 use Rattle.mf_store_values.proofs.parts.part_in_row.Goals as goal
 
 pub returns-clause-part : goal.returns-clause-part
 returns-clause-part c =
-    weaker_if_ok c.stored.result _ _
+    IfOk-weaker c.stored.result _ _
     (λ part is office loan placed row. let told : Some (part_told placed) ≡ Some part = sym (c.part_of.ensures.part office loan placed (sym (c.in_ok-found.ensures.row (share_in office loan placed) row))) ∙ is in sym cc)
     c.stored.ensures.value

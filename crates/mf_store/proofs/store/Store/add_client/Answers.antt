@@ -1,4 +1,4 @@
-use Rattle.std.proofs.Common.{◌≡◌, ◌+◌, true, [], ◌∷◌, length, sym, ap, ◌∙◌, rules}
+use Rattle.std.proofs.Common.{◌+◌, [], ◌∷◌, length, sym, ap, ◌∙◌}
 use Rattle.mf_model.specs.declared.commit.Commit.TheVariants.{AddClient}
 use Rattle.mf_model.specs.Store.{rows_at}
 use Rattle.mf_model.specs.declared.store.Counts.{Counts}
@@ -7,7 +7,6 @@ use Rattle.mf_store_records.specs.declared.clients.ClientRow.{ClientRow}
 use Rattle.mf_store_records.specs.declared.writes.StoreWrite.TheVariants.{PutClient}
 use Rattle.mf_store.proofs.MadeLemmas.{made_by}
 use Rattle.mf_store_changes.proofs.CommitLemmas.{client_becomes, same_client}
-use Rattle.mf_store.proofs.KeptLemmas.{stays_then}
 use Rattle.mf_store.specs.declared.known.News.TheVariants.{OfficeCounts}
 use Rattle.mf_store.proofs.NewsLemmas.{client_tells}
 use Rattle.mf_store.proofs.store.Store.add_client.Goals as goal
@@ -15,15 +14,14 @@ use Rattle.mf_store.proofs.store.Store.add_client.Goals as goal
 pub returns-clause-commits : goal.returns-clause-commits
 returns-clause-commits g c =
     let old = c.args.self.now in
-    let first = c.has_office.new.self in
-    let mid = c.counts_of.new.self in
+    let mid = c.counts_there.new.self in
     let client : ClientRow = record { office = c.get-office.result; number = c.in_ok-counts.counts.clients + 1; name = c.of_name.result } in
-    let there : c.in_ok-there.there ≡ true = search rules in
     let known = c.in_ok-counts.counts in
-    made_by g.S.Store (AddClient c.args.office c.args.name) old mid c.make.new.self (PutClient client ∷ []) (OfficeCounts c.get-office.result (record { staff = known.staff; clients = known.clients + 1; loans = known.loans })) c.make.result (stays_then g.S.Store old first mid c.in_ok-there.ensures.kept c.in_ok-counts.ensures.kept)
-    (λ clean i s admitted. let sound = admitted.sound in let before = c.in_ok-counts.ensures.kept.premise clean in
-    let here = ap (is_there i.offices) (sym c.get-office.ensures.value) ∙ sym (c.in_ok-there.ensures.value before i s) ∙ there in
-    let counts = c.in_ok-counts.ensures.value clean i (c.in_ok-there.ensures.kept.same before i s) in (
+    made_by g.S.Store (AddClient c.args.office c.args.name) old mid c.make.new.self (PutClient client ∷ []) (OfficeCounts c.get-office.result (record { staff = known.staff; clients = known.clients + 1; loans = known.loans })) c.make.result c.in_ok-counts.ensures.kept
+    (λ clean i s admitted. let sound = admitted.sound in
+    let told = c.in_ok-counts.ensures.value clean i s in
+    let here = ap (is_there i.offices) (sym c.get-office.ensures.value) ∙ told.0 in
+    let counts = told.1 in (
       client_becomes c.args.office c.args.name i client s.sound sound here
           (same_client c.get-office.result c.args.office known.clients (length (rows_at c.args.office i).clients) c.of_name.result c.args.name c.get-office.ensures.value
           (ap (λ (k : Counts). k.clients) counts ∙ ap (λ x. length (rows_at x i).clients) c.get-office.ensures.value) c.of_name.ensures),

@@ -1,4 +1,4 @@
-use Rattle.std.proofs.Common.{◌≡◌, ◌+◌, true, [], ◌∷◌, length, sym, ap, ◌∙◌, rules}
+use Rattle.std.proofs.Common.{◌+◌, [], ◌∷◌, length, sym, ap, ◌∙◌}
 use Rattle.mf_model.specs.declared.commit.Commit.TheVariants.{AddStaff}
 use Rattle.mf_model.specs.Store.{rows_at}
 use Rattle.mf_model.specs.declared.store.Counts.{Counts}
@@ -8,7 +8,6 @@ use Rattle.mf_store_records.specs.declared.staff.StaffRow.{StaffRow}
 use Rattle.mf_store_records.specs.declared.writes.StoreWrite.TheVariants.{PutStaff}
 use Rattle.mf_store.proofs.MadeLemmas.{made_by}
 use Rattle.mf_store_changes.proofs.CommitLemmas.{staff_becomes, same_staff}
-use Rattle.mf_store.proofs.KeptLemmas.{stays_then}
 use Rattle.mf_store.specs.declared.known.News.TheVariants.{OfficeCounts}
 use Rattle.mf_store.proofs.NewsLemmas.{staff_tells}
 use Rattle.mf_store.proofs.store.Store.add_staff.Goals as goal
@@ -16,15 +15,14 @@ use Rattle.mf_store.proofs.store.Store.add_staff.Goals as goal
 pub returns-clause-commits : goal.returns-clause-commits
 returns-clause-commits g c =
     let old = c.args.self.now in
-    let first = c.has_office.new.self in
-    let mid = c.counts_of.new.self in
+    let mid = c.counts_there.new.self in
     let staff : StaffRow = record { office = c.get-office.result; number = c.in_ok-counts.counts.staff + 1; name = c.of_name.result; role = c.number.result } in
-    let there : c.in_ok-there.there ≡ true = search rules in
     let known = c.in_ok-counts.counts in
-    made_by g.S.Store (AddStaff c.args.office c.args.name c.args.role) old mid c.make.new.self (PutStaff staff ∷ []) (OfficeCounts c.get-office.result (record { staff = known.staff + 1; clients = known.clients; loans = known.loans })) c.make.result (stays_then g.S.Store old first mid c.in_ok-there.ensures.kept c.in_ok-counts.ensures.kept)
-    (λ clean i s admitted. let sound = admitted.sound in let before = c.in_ok-counts.ensures.kept.premise clean in
-    let here = ap (is_there i.offices) (sym c.get-office.ensures.value) ∙ sym (c.in_ok-there.ensures.value before i s) ∙ there in
-    let counts = c.in_ok-counts.ensures.value clean i (c.in_ok-there.ensures.kept.same before i s) in (
+    made_by g.S.Store (AddStaff c.args.office c.args.name c.args.role) old mid c.make.new.self (PutStaff staff ∷ []) (OfficeCounts c.get-office.result (record { staff = known.staff + 1; clients = known.clients; loans = known.loans })) c.make.result c.in_ok-counts.ensures.kept
+    (λ clean i s admitted. let sound = admitted.sound in
+    let told = c.in_ok-counts.ensures.value clean i s in
+    let here = ap (is_there i.offices) (sym c.get-office.ensures.value) ∙ told.0 in
+    let counts = told.1 in (
       staff_becomes c.args.office c.args.name c.args.role i staff s.sound sound here
           (same_staff c.get-office.result c.args.office known.staff (length (rows_at c.args.office i).staff) c.number.result (role_number c.args.role) c.of_name.result c.args.name c.get-office.ensures.value
           (ap (λ (k : Counts). k.staff) counts ∙ ap (λ x. length (rows_at x i).staff) c.get-office.ensures.value) c.number.ensures c.of_name.ensures),

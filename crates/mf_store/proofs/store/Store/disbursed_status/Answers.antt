@@ -1,12 +1,12 @@
 use Rattle.std.proofs.Common.{◌≡◌, true, List, sym, ap, ◌∙◌, rules}
 use Rattle.std.specs.List.{list_any}
+use Rattle.std.proofs.lemmas.Result.{IfOk-weaker}
 use Rattle.mf_alloc.specs.Sums.{Sums, is_open}
 use Rattle.mf_model.specs.Accounts.{status_in}
 use Rattle.mf_store_accounts.specs.Flat.{entries_of}
 use Rattle.mf_store_values.specs.Statuses.{status_told}
 use Rattle.mf_store.proofs.ArrearsLemmas.{active_status}
 use Rattle.mf_store.proofs.InstalmentReadLemmas.{loan_account_sound}
-use Rattle.mf_store_accounts.proofs.ResultLemmas.{weaker_if_ok}
 use Rattle.mf_store.proofs.StatusLemmas.{status_read}
 use Rattle.mf_store.proofs.store.Store.disbursed_status.Goals as goal
 
@@ -15,7 +15,7 @@ returns-clause-value g c clean i s l at day on =
     let before = c.in_ok-entries.ensures.kept.premise clean in
     let rows = c.deref-3.ensures.value ∙ c.in_ok-rows.ensures.value before i s l at in
     let entries = c.deref-2.ensures.value ∙ c.in_ok-entries.ensures.value clean i (c.in_ok-rows.ensures.kept.same before i s) ∙ ap entries_of at in
-    weaker_if_ok c.settled_status.result _ (λ status. status ≡ status_in i.catalogue l)
+    IfOk-weaker c.settled_status.result _ (λ status. status ≡ status_in i.catalogue l)
     (λ status told. told ∙ (λ t. status_told (entries t) (rows t)) ∙ status_read c.args.account l i day s.sound at on) c.settled_status.ensures.status
 
 pub returns-then-is_active-clause-value : goal.returns-then-is_active-clause-value

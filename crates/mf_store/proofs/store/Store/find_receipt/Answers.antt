@@ -1,7 +1,7 @@
 use Rattle.std.proofs.Common.{◌∙◌}
+use Rattle.std.proofs.lemmas.Result.{IfOk-weaker}
 use Rattle.mf_store_changes.proofs.ReceiptRowLemmas.{receipt_found}
 use Rattle.mf_store_accounts.specs.Flat.{tables_of}
-use Rattle.mf_store_accounts.proofs.ResultLemmas.{weaker_if_ok}
 use Rattle.mf_store_commits.proofs.StandLemmas.{unchanged_stays}
 use Rattle.mf_store.proofs.KeptLemmas.{known_stays}
 use Rattle.mf_store.proofs.store.Store.find_receipt.Goals as goal
@@ -12,4 +12,4 @@ returns-clause-kept g c =
 
 pub returns-clause-value : goal.returns-clause-value
 returns-clause-value g c =
-    rw (← c.self.view_is) (λ clean i s. weaker_if_ok c.find_receipt.result _ _ (λ x is. is ∙ receipt_found c.args.office c.args.receipt.now i s.sound) (c.find_receipt.ensures.row clean (tables_of i) s.serves))
+    rw (← c.self.view_is) (λ clean i s. IfOk-weaker c.find_receipt.result _ _ (λ x is. is ∙ receipt_found c.args.office c.args.receipt.now i s.sound) (c.find_receipt.ensures.row clean (tables_of i) s.serves))

@@ -1,10 +1,10 @@
 use Rattle.std.proofs.Common.{◌≡◌, ℕ, Option, None, List, map, sym, ap, ◌∙◌, rules}
+use Rattle.std.proofs.lemmas.Result.{IfOk-weaker}
 use Rattle.mf_model.specs.Institution.{Office}
 use Rattle.mf_model.specs.Tree.{parent_of, seen_by}
 use Rattle.mf_model.specs.Desk.{line_of}
 use Rattle.mf_store_records.specs.Rows.{office_row}
 use Rattle.mf_store_accounts.specs.Flat.{key_at, office_under}
-use Rattle.mf_store_accounts.proofs.ResultLemmas.{weaker_if_ok}
 use Rattle.mf_store.proofs.VisibleLemmas.{none_seen, offices_are}
 use Rattle.mf_store.proofs.store.Store.offices.Goals as goal
 
@@ -19,5 +19,5 @@ returns-clause-value g c clean i s =
     let shown = c.in_ok-rows.ensures.rows clean i (c.in_ok-found.ensures.kept.same before i s) in
     let found = c.in_ok-found.ensures.value before i s ∙ ap (λ x. key_at x i) c.get.ensures.value in
     let rows = offices_are i s.sound (c.tree_of_offices.ensures i s.sound) c.args.to c.in_ok-found.found c.in-Some.above c.as_str.result.now c.as_str-2.result.now c.in-Some.is found (c.as_str.ensures.value ∙ c.in_ok-low.ensures.low) (c.as_str-2.ensures.value ∙ c.in_ok-low.ensures.high) in
-    weaker_if_ok c.offices_from.result (λ list. (parents : ℕ → Option ℕ) (fs : List Office) → c.deref.result.now ≡ map (λ f. office_row (office_under parents f)) fs → list ≡ map line_of fs) (λ list. list ≡ map line_of (seen_by c.args.to i.offices))
+    IfOk-weaker c.offices_from.result (λ list. (parents : ℕ → Option ℕ) (fs : List Office) → c.deref.result.now ≡ map (λ f. office_row (office_under parents f)) fs → list ≡ map line_of fs) (λ list. list ≡ map line_of (seen_by c.args.to i.offices))
     (λ list h. h (parent_of i.offices) (seen_by c.args.to i.offices) (c.deref.ensures.value ∙ shown ∙ rows)) c.offices_from.ensures.offices

@@ -1,8 +1,8 @@
 use Rattle.std.proofs.Common.{◌≡◌, ap, ap₂, ◌∙◌}
 use Rattle.std.specs.Option.{is_some}
+use Rattle.std.proofs.lemmas.Result.{IfOk-weaker}
 use Rattle.mf_model.specs.Tree.{seen_office}
 use Rattle.mf_store_accounts.specs.Flat.{key_at, sees}
-use Rattle.mf_store_accounts.proofs.ResultLemmas.{weaker_if_ok}
 use Rattle.mf_store.proofs.VisibleLemmas.{visible_is}
 use Rattle.mf_store.proofs.store.Store.visible.Goals as goal
 
@@ -11,5 +11,5 @@ returns-clause-value g c clean i s =
     let before = c.in_ok-below.ensures.kept.premise clean in
     let one = c.in_ok-above.ensures.value before i s ∙ ap (λ x. key_at x i) c.get.ensures.value in
     let two = c.in_ok-below.ensures.value clean i (c.in_ok-above.ensures.kept.same before i s) ∙ ap (λ x. key_at x i) c.get-2.ensures.value in
-    weaker_if_ok c.is_below.result (λ seen. seen ≡ sees c.in_ok-above.above c.in_ok-below.below) (λ seen. seen ≡ is_some (seen_office c.args.to c.args.office i))
+    IfOk-weaker c.is_below.result (λ seen. seen ≡ sees c.in_ok-above.above c.in_ok-below.below) (λ seen. seen ≡ is_some (seen_office c.args.to c.args.office i))
     (λ seen e. e ∙ ap₂ sees one two ∙ visible_is i s.sound (c.tree_of_offices.ensures i s.sound) c.args.to c.args.office) c.is_below.ensures.value

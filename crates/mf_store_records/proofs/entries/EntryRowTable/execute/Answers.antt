@@ -1,17 +1,10 @@
-use Rattle.std.proofs.Common.{◌≡◌, ◌∙◌, ap, refl, subst}
+use Rattle.std.proofs.Common.{rules}
 use Rattle.std.proofs.lemmas.Result.{on_ok_weaker}
 use Rattle.sqlite.specs.Held.{state}
-use Rattle.sqlite.specs.Order.{Row}
-use Rattle.sqlite.specs.Values.{bound_value}
-use Rattle.mf_store_tables.specs.Writes.{Ran}
-use Rattle.mf_store_tables.proofs.CompareLemmas.{also}
-use Rattle.mf_store_records.proofs.CallLemmas.{bound_text}
 use Rattle.mf_store_records.specs.Rows.{entry_row}
+use Rattle.mf_store_records.proofs.CallLemmas.{ran_with}
 use Rattle.mf_store_records.proofs.entries.EntryRowTable.execute.Goals as goal
 
 pub returns-clause-ok : goal.returns-clause-ok
 returns-clause-ok g c clean inside =
-    let old = state g.S.Store c.args.tx.now.conn.now in
-    let new = state g.S.Store c.run.new.tx.conn.now in
-    let given = λ (p : Row) (it : Ran c.args.sql.now p old new) (same : p ≡ entry_row c.args.self.now). subst (λ r. Ran c.args.sql.now r old new) same it in
-    on_ok_weaker c.run.result (λ it. given _ it (also (ap bound_value c.params-to_sql.ensures) (also (ap bound_value c.params-to_sql-2.ensures) (also (ap bound_value c.params-to_sql-3.ensures) (also (ap bound_value c.params-to_sql-4.ensures) (also (ap bound_value c.params-to_sql-5.ensures) (also (ap bound_value c.params-to_sql-6.ensures) (also (ap bound_value c.params-to_sql-7.ensures) (also (ap bound_value c.params-to_sql-8.ensures) (also (ap bound_value c.params-to_sql-9.ensures ∙ bound_text _ _ c.as_ref.ensures.value) (also (ap bound_value c.params-to_sql-10.ensures) (also (ap bound_value c.params-to_sql-11.ensures) (refl))))))))))))) (c.run.ensures.ok clean inside)
+    on_ok_weaker c.run.result (ran_with c.args.sql.now (state g.S.Store c.args.tx.now.conn.now) (state g.S.Store c.run.new.tx.conn.now) _ (entry_row c.args.self.now) (search rules)) (c.run.ensures.ok clean inside)

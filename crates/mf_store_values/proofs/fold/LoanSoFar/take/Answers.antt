@@ -1,17 +1,16 @@
 use Rattle.std.proofs.Common.{ap, sym, subst, ◌∙◌}
+use Rattle.std.proofs.lemmas.Result.{on_ok_weaker}
 use Rattle.mf_store_values.specs.Folding.{IsAt, step, with_row}
 use Rattle.mf_store_values.proofs.FoldLemmas.{same_loan, next_loan}
-use Rattle.mf_store_accounts.proofs.ResultLemmas.{weaker_on_ok}
 use Rattle.mf_store_values.proofs.fold.LoanSoFar.take.Goals as goal
 use Rattle.mf_store_values.proofs.fold.LoanSoFar.take.Goals.{then-loan-self+in_ok-count, else-loan-self}
 
 pub returns-clause-value : goal.returns-clause-value
 returns-clause-value c =
-    weaker_on_ok c.add.result _ _ c.add.ensures.value
-    (λ added office p at. elim c.if-loan-self.branch [
+    on_ok_weaker c.add.result (λ added office p at. elim c.if-loan-self.branch [
       | then-loan-self+in_ok-count w ↦
           next_loan office c.args.today p c.args.self.now c.if-loan-self.self c.add.new.self c.args.line.now c.if-loan-self.line c.args.found.0 c.args.found.1 w.if-loan-self.true (w.self-is ∙ w.new.ensures) added (λ x loans is. w.line-is ∙ w.in_ok-count.ensures.line x loans is) at
       | else-loan-self w ↦
           subst (λ l. IsAt office (step c.args.today p c.args.found) c.add.new.self l) (sym w.line-is)
           (same_loan office c.args.today p c.args.self.now c.add.new.self c.args.line.now c.args.found.0 c.args.found.1 w.if-loan-self.false (added ∙ ap (λ s. with_row s c.args.found.1) w.self-is) at)
-    ])
+    ]) c.add.ensures.value

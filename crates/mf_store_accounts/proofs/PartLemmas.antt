@@ -1,51 +1,64 @@
 -- Rows of one owner after another, apart.
-use Rattle.std.proofs.Common.{◌≡◌, ◌<◌, ◌+◌, ◌∙◌, ℕ, suc, Bool, true, false, cond, List, [], ◌∷◌, ◌++◌, map, length, get_or, take, drop, refl, ap, arith, ◌==◌}
-use Rattle.std.specs.List.{AllByRecursion}
+use Rattle.std.proofs.Common.{◌≡◌, ◌<◌, ◌+◌, ◌∙◌, ℕ, suc, Bool, true, false, cond, List, [], ◌∷◌, ◌++◌, map, length, get_or, take, drop, Option, refl, ap, arith, ◌==◌}
+use Rattle.std.specs.List.{AllByRecursion, prefix_len}
 use Rattle.std.proofs.lemmas.Bool.Decides.{nat_tests}
 use Rattle.std.proofs.lemmas.List.Sums.{take_while-cons}
+use Rattle.sqlite_keyed.proofs.ListLemmas.{all-append, all_weaker}
 use Rattle.mf_model.specs.Institution.{Ledger, Office, Rows}
 use Rattle.mf_model.specs.Tree.{Above}
-use Rattle.mf_store_accounts.specs.Flat.{numbered_from, all_rows, rows_of_loans, rows_by_loan}
-use Rattle.mf_store_sound.specs.Parts.{own_count, own, later}
-use Rattle.mf_store_sound.proofs.StoredLemmas.{from_place}
+use Rattle.mf_store_accounts.specs.Accounts.{first_rows, later_rows}
+use Rattle.mf_store_accounts.specs.Flat.{office_under, numbered_from, all_rows, rows_of_loans, rows_by_loan}
+use Rattle.mf_store_accounts.specs.Parts.{own_count, own, later, office_of, bare}
+use Rattle.mf_store_accounts.proofs.MadeLemmas.{at_row}
 
-module _ {R : Type 0} (owner : R → ℕ) (x : ℕ) where
-  own-cons : (r : R) (rs : List R) → own owner x (r ∷ rs) ≡ cond (owner r == x) (r ∷ own owner x rs) []
-  own-cons r rs = take_while-cons (λ s. owner s == x) r rs
+module _ {R : Type 0} (p : R → Bool) where
+  first-cons : (r : R) (rs : List R) → first_rows p (r ∷ rs) ≡ cond (p r) (r ∷ first_rows p rs) []
+  first-cons r rs = take_while-cons p r rs
 
-  later-cons : (r : R) (rs : List R) → later owner x (r ∷ rs) ≡ cond (owner r == x) (later owner x rs) (r ∷ rs)
-  later-cons r rs = go (owner r == x)
+  later-cons : (r : R) (rs : List R) → later_rows p (r ∷ rs) ≡ cond (p r) (later_rows p rs) (r ∷ rs)
+  later-cons r rs = go (p r)
     where
-      go : (b : Bool) → drop (cond b (1 + own_count owner x rs) 0) (r ∷ rs) ≡ cond b (later owner x rs) (r ∷ rs)
-      go true = ap (λ n. drop n (r ∷ rs)) (let e : 1 + own_count owner x rs ≡ suc (own_count owner x rs) = omega arith in e)
+      go : (b : Bool) → drop (cond b (1 + prefix_len p rs) 0) (r ∷ rs) ≡ cond b (later_rows p rs) (r ∷ rs)
+      go true = ap (λ n. drop n (r ∷ rs)) (let e : 1 + prefix_len p rs ≡ suc (prefix_len p rs) = omega arith in e)
       go false = refl
 
+  -- rows that pass, before rows of which the first does not
+  pub block_first : (xs rest : List R) → AllByRecursion (λ r. p r ≡ true) xs → prefix_len p rest ≡ 0 → first_rows p (xs ++ rest) ≡ xs
+  block_first [] rest all none = ap (λ n. take n rest) none
+  block_first (r ∷ xs) rest all none = first-cons r (xs ++ rest) ∙ ap (λ b. cond b (r ∷ first_rows p (xs ++ rest)) []) all.0 ∙ ap (λ l. r ∷ l) (block_first xs rest all.1 none)
+
+  pub block_later : (xs rest : List R) → AllByRecursion (λ r. p r ≡ true) xs → prefix_len p rest ≡ 0 → later_rows p (xs ++ rest) ≡ rest
+  block_later [] rest all none = ap (λ n. drop n rest) none
+  block_later (r ∷ xs) rest all none = later-cons r (xs ++ rest) ∙ ap (λ b. cond b (later_rows p (xs ++ rest)) (r ∷ (xs ++ rest))) all.0 ∙ block_later xs rest all.1 none
+
+  pub none_first : (xs rest : List R) → AllByRecursion (λ r. p r ≡ false) xs → prefix_len p rest ≡ 0 → prefix_len p (xs ++ rest) ≡ 0
+  none_first [] rest all none = none
+  none_first (r ∷ xs) rest all none = ap (λ b. cond b (1 + prefix_len p (xs ++ rest)) 0) all.0
+
+module _ {R : Type 0} (owner : R → ℕ) (x : ℕ) where
   at_own : (r : R) → owner r ≡ x → (owner r == x) ≡ true
   at_own r same = grind (arith, nat_tests)
 
+  at_other : (r : R) → x < owner r → (owner r == x) ≡ false
+  at_other r low = grind (arith, nat_tests)
+
   -- rows of one owner, before rows of which none is its own
   pub own_block : (xs rest : List R) → AllByRecursion (λ r. owner r ≡ x) xs → own_count owner x rest ≡ 0 → own owner x (xs ++ rest) ≡ xs
-  own_block [] rest all none = ap (λ n. take n rest) none
-  own_block (r ∷ xs) rest all none = own-cons r (xs ++ rest) ∙ ap (λ b. cond b (r ∷ own owner x (xs ++ rest)) []) (at_own r all.0) ∙ ap (λ l. r ∷ l) (own_block xs rest all.1 none)
+  own_block xs rest all none = block_first (λ r. owner r == x) xs rest (all_weaker (λ r. owner r ≡ x) (λ r. (owner r == x) ≡ true) at_own xs all) none
 
   pub later_block : (xs rest : List R) → AllByRecursion (λ r. owner r ≡ x) xs → own_count owner x rest ≡ 0 → later owner x (xs ++ rest) ≡ rest
-  later_block [] rest all none = ap (λ n. drop n rest) none
-  later_block (r ∷ xs) rest all none = later-cons r (xs ++ rest) ∙ ap (λ b. cond b (later owner x (xs ++ rest)) (r ∷ (xs ++ rest))) (at_own r all.0) ∙ later_block xs rest all.1 none
+  later_block xs rest all none = block_later (λ r. owner r == x) xs rest (all_weaker (λ r. owner r ≡ x) (λ r. (owner r == x) ≡ true) at_own xs all) none
 
   -- rows of owners with greater numbers
   pub none_own : (xs rest : List R) → AllByRecursion (λ r. x < owner r) xs → own_count owner x rest ≡ 0 → own_count owner x (xs ++ rest) ≡ 0
-  none_own [] rest all none = none
-  none_own (r ∷ xs) rest all none =
-      let low : x < owner r = all.0 in
-      let apart : (owner r == x) ≡ false = grind (arith, nat_tests) in
-      ap (λ b. cond b (1 + own_count owner x (xs ++ rest)) 0) apart
+  none_own xs rest all none = none_first (λ r. owner r == x) xs rest (all_weaker (λ r. x < owner r) (λ r. (owner r == x) ≡ false) at_other xs all) none
 
   -- how many are its own from this place on
   pub own_here : (rows : List R) (i : ℕ) (r : R) → i < length rows → r ≡ get_or rows i r → owner r ≡ x → own_count owner x (drop i rows) ≡ 1 + own_count owner x (drop (i + 1) rows)
-  own_here rows i r h is same = ap (own_count owner x) (from_place rows i r h is) ∙ ap (λ b. cond b (1 + own_count owner x (drop (i + 1) rows)) 0) (at_own r same)
+  own_here rows i r h is same = ap (own_count owner x) (at_row rows i r h is) ∙ ap (λ b. cond b (1 + own_count owner x (drop (i + 1) rows)) 0) (at_own r same)
 
   pub none_here : (rows : List R) (i : ℕ) (r : R) → i < length rows → r ≡ get_or rows i r → (owner r == x) ≡ false → own_count owner x (drop i rows) ≡ 0
-  none_here rows i r h is apart = ap (own_count owner x) (from_place rows i r h is) ∙ ap (λ b. cond b (1 + own_count owner x (drop (i + 1) rows)) 0) apart
+  none_here rows i r h is apart = ap (own_count owner x) (at_row rows i r h is) ∙ ap (λ b. cond b (1 + own_count owner x (drop (i + 1) rows)) 0) apart
 
 all_same : {R : Type 0} (owner : R → ℕ) (x y : ℕ) (xs : List R) → x < y → AllByRecursion (λ r. owner r ≡ y) xs → AllByRecursion (λ r. x < owner r) xs
 all_same owner x y [] lt all = tt
@@ -67,10 +80,6 @@ module _ {A R : Type 0} (make : ℕ → ℕ → A → R) (of : Rows → List A) 
 
   pub later_of_first : (f : Office) (fs : List Office) → Above f.number fs → later office f.number (all_rows make of (f ∷ fs)) ≡ all_rows make of fs
   later_of_first f fs h = later_block office f.number (numbered_from (make f.number) 1 (of f.rows)) (all_rows make of fs) (all_own f.number 1 (of f.rows)) (none_above f.number fs h)
-
-pub all_append : {A : Type 0} (P : A → Type 0) (xs ys : List A) → AllByRecursion P xs → AllByRecursion P ys → AllByRecursion P (xs ++ ys)
-all_append P [] ys p q = q
-all_append P (x ∷ xs) ys p q = (p.0, all_append P xs ys p.1 q)
 
 -- ---- rows of what loans have, loan by loan and office by office
 module _ {A R : Type 0} (make : ℕ → ℕ → A → R) (of : Ledger → List A) where
@@ -96,7 +105,7 @@ module _ {A R : Type 0} (make : ℕ → ℕ → A → R) (of : Ledger → List A
 
     all_of_office : (x n : ℕ) (ls : List Ledger) → AllByRecursion (λ r. office r ≡ x) (rows_of_loans make of x n ls)
     all_of_office x n [] = tt
-    all_of_office x n (l ∷ ls) = all_append (λ r. office r ≡ x) (map (make x n) (of l)) (rows_of_loans make of x (n + 1) ls) (of_office x n (of l)) (all_of_office x (n + 1) ls)
+    all_of_office x n (l ∷ ls) = all-append (λ r. office r ≡ x) (map (make x n) (of l)) (rows_of_loans make of x (n + 1) ls) (of_office x n (of l)) (all_of_office x (n + 1) ls)
 
     no_office_above : (x : ℕ) (fs : List Office) → Above x fs → own_count office x (rows_by_loan make of fs) ≡ 0
     no_office_above x [] h = refl
@@ -108,3 +117,9 @@ module _ {A R : Type 0} (make : ℕ → ℕ → A → R) (of : Ledger → List A
 
     pub later_of_office : (f : Office) (fs : List Office) → Above f.number fs → later office f.number (rows_by_loan make of (f ∷ fs)) ≡ rows_by_loan make of fs
     later_of_office f fs h = later_block office f.number (rows_of_loans make of f.number 1 f.rows.loans) (rows_by_loan make of fs) (all_of_office f.number 1 f.rows.loans) (no_office_above f.number fs h)
+
+-- ---- offices, with none of the rows that belong to them
+
+pub heads_of : (parents : ℕ → Option ℕ) (fs : List Office) → map office_of (map (office_under parents) fs) ≡ map bare fs
+heads_of parents [] = refl
+heads_of parents (f ∷ fs) = ap (λ gs. bare f ∷ gs) (heads_of parents fs)
