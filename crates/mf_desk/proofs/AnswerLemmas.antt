@@ -1,7 +1,7 @@
 -- What is decided is shown, and then made.
-use Rattle.std.proofs.Common.{◌≡◌, ℕ, true, false, List, ◌∷◌, Option, Some, None, Ok, Err, sym, ap, ◌∙◌, subst, arith}
-use Rattle.std.specs.Prelude.{Result, IfOk, IfErr, IfSome, ◌⊎◌, ◌==◌, option_map}
-use Rattle.std.proofs.lemmas.Bool.Decides.{nat_tests}
+use Rattle.std.proofs.Common.{◌≡◌, ℕ, true, false, List, ◌∷◌, Option, Some, None, Ok, Err, refl, sym, ap, ◌∙◌, subst}
+use Rattle.std.specs.Prelude.{Result, IfOk, IfErr, IfSome, ◌⊎◌, option_map}
+use Rattle.std.proofs.lemmas.Bool.{eq-eqb}
 use Rattle.mf_office.specs.declared.caller.Caller.{Caller}
 use Rattle.mf_base.specs.declared.fault.Fault.{Fault}
 use Rattle.mf_base.specs.declared.fault.Fault.TheVariants.{F20}
@@ -21,9 +21,6 @@ use Rattle.mf_desk.specs.Answers.{Decides, Tells, Changes, decision_outcome, cal
 -- what a caller is answered is read off what its office sees
 abbrev pub IsAnsweredByView : Type 0
 IsAnsweredByView = (o : ℕ) (call : Call) (i : Institution) → IsTree i.offices → from_office o call ≡ true → outcome call (view o i) ≡ outcome call i
-
-same_number : (x : ℕ) → (x == x) ≡ true
-same_number x = grind (arith, nat_tests)
 
 -- an accepted request leaves a sound institution
 abbrev pub KeepsSound : Type 0
@@ -88,4 +85,4 @@ module _ {S : Type 0} (stands : S → Institution → Type 0) (clean : S → Typ
   }
     where
       alike : (i : Institution) → stands old i → reply (call_of c request) (view c.office i) ≡ reply (call_of c request) i
-      alike i s = ap reply_in (by_view c.office (call_of c request) i (sound old i s).tree (same_number c.office))
+      alike i s = ap reply_in (by_view c.office (call_of c request) i (sound old i s).tree (eq-eqb c.office c.office refl))

@@ -1,7 +1,7 @@
 -- The charges that a product names are the same in the list of them as in the catalogue.
-use Rattle.std.proofs.Common.{◌≡◌, ℕ, Bool, true, false, cond, List, [], Option, Some, None, Ok, Err, refl, sym, ap, ◌∙◌, subst, inl, inr, arith}
+use Rattle.std.proofs.Common.{◌≡◌, ℕ, Bool, true, false, cond, List, [], Option, Some, None, Ok, Err, refl, sym, ap, ◌∙◌, subst, inl, inr}
 use Rattle.std.specs.Prelude.{◌==◌, ◌&&◌, Result, is_some}
-use Rattle.std.proofs.lemmas.Bool.Decides.{nat_tests}
+use Rattle.std.proofs.lemmas.Bool.{eq-eqb, eqb-true}
 use Rattle.mf_base.specs.declared.fault.Fault.{Fault}
 use Rattle.mf_base.specs.declared.fault.Fault.TheVariants.{F4, F8}
 use Rattle.mf_catalog.specs.declared.charge.ChargeDef.{ChargeDef}
@@ -18,13 +18,10 @@ use Rattle.mf_desk.specs.Answers.{Asks, Decides, in_catalogue}
 use Rattle.mf_desk.specs.Charges.{number_of, charge_named, charge_before, list_of}
 use Rattle.mf_desk.proofs.Decisions.{Learns, learns, learns_both, learned_decides, learned_refuses}
 
-same_number : (n : ℕ) → (n == n) ≡ true
-same_number n = grind (arith, nat_tests)
-
 -- a charge is found where it stands first, and where it stands later
 there_first : (charge : Option ChargeDef) (others : List ChargeDef) → is_there (charge_at (charge_before charge others)) (number_of charge) ≡ true
 there_first None others = refl
-there_first (Some c) others = ap (λ b. is_some (cond b (Some c) (charge_at others c.number))) (same_number c.number)
+there_first (Some c) others = ap (λ b. is_some (cond b (Some c) (charge_at others c.number))) (eq-eqb c.number c.number refl)
 
 there_later : (charge : Option ChargeDef) (others : List ChargeDef) (named : Option ℕ) → is_there (charge_at others) named ≡ true → is_there (charge_at (charge_before charge others)) named ≡ true
 there_later None others named h = h
@@ -53,16 +50,13 @@ IsOf charges (Some c) = charges c.number ≡ Some c
 abbrev Agree : (ℕ → Option ChargeDef) → List ChargeDef → Type 0
 Agree charges xs = (n : ℕ) → is_some (charge_at xs n) ≡ true → charge_at xs n ≡ charges n
 
-equal_numbers : (x y : ℕ) → (x == y) ≡ true → x ≡ y
-equal_numbers x y h = grind (arith, nat_tests)
-
 agree_at : (charges : ℕ → Option ChargeDef) (c : ChargeDef) (found : Option ChargeDef) (n : ℕ) (b : Bool) → charges c.number ≡ Some c → (is_some found ≡ true → found ≡ charges n) → (b ≡ true → c.number ≡ n) → is_some (cond b (Some c) found) ≡ true → cond b (Some c) found ≡ charges n
 agree_at charges c found n true h a e t = sym h ∙ ap charges (e refl)
 agree_at charges c found n false h a e t = a t
 
 agree_before : (charges : ℕ → Option ChargeDef) (d : Option ChargeDef) (xs : List ChargeDef) → IsOf charges d → Agree charges xs → Agree charges (charge_before d xs)
 agree_before charges None xs h a = a
-agree_before charges (Some c) xs h a = λ n t. agree_at charges c (charge_at xs n) n (c.number == n) h (a n) (equal_numbers c.number n) t
+agree_before charges (Some c) xs h a = λ n t. agree_at charges c (charge_at xs n) n (c.number == n) h (a n) (eqb-true c.number n) t
 
 agree_none : (charges : ℕ → Option ChargeDef) → Agree charges []
 agree_none charges n t = absurd (cc)

@@ -14,6 +14,11 @@ use Rattle.mf_model.specs.Desk.{Plan, plan, need, meets, Outcome, outcome, staff
 use Rattle.mf_model.specs.Store.{Reads, role_of}
 use Rattle.mf_desk.specs.Answers.{plan_outcome, request_outcome, call_of, decision_outcome, Decides, Asks}
 
+-- nothing is there where nothing can be
+pub none_there : {X : Type 0} (o : Option X) → ((x : X) → o ≡ Some x → ⊥) → o ≡ None
+none_there None never = refl
+none_there (Some x) never = absurd (never x refl)
+
 module _ {S : Type 0} (stands : S → Institution → Type 0) (clean : S → Type 0) (leaves : S → List Institution → Type 0) where
   -- what is decided after a reading, where the value that was read leads from the one outcome to the other
   pub then_decides : {R : Type 0} (value : Institution → R) (told then_told : Institution → Outcome) (old mid new : S) (r : R) (result : Result Decision Fault) → Reads stands clean leaves value old mid (Ok r) → ((i : Institution) → r ≡ value i → told i ≡ then_told i) → Decides stands clean leaves then_told mid new result → Decides stands clean leaves told old new result

@@ -39,7 +39,7 @@ fn decide<S: InstitutionStore>(
 
 /// Answers a request. What `show` makes of the reply is the answer. It is made before the change, so that no allocation
 /// can fail once the change stands. At Err nothing is changed: it is the refusal, or what `show` refused, or F20 where it
-/// is out of memory or the store failed. It is F19, which tells of a file that is opened, only where `show` refused so.
+/// is out of memory or the store failed. It is F19, which is reported of a file that is opened, only where `show` refused so.
 ///
 /// What is answered is also what the caller would be answered by an institution that has only what the caller's
 /// office sees.

@@ -4,7 +4,7 @@ ghost use Rattle.mf_model.specs.declared.reply.Reply.TheVariants as reply;
 use mf_model::{Commit, LoanReply, Reply};
 use mf_office::Account;
 
-/// What is decided of a request before anything is changed: the reply, and the change that it tells, if it makes one.
+/// What is decided of a request before anything is changed: the reply, and the change that it reports, if it makes one.
 #[derive(Drop)]
 pub struct Decision {
     pub reply: Reply,
@@ -22,14 +22,14 @@ impl Decision {
         }
     }
 
-    /// What is told of a loan, and no change.
+    /// What is replied of a loan, and no change.
     pub fn tell(loan: Account, told: LoanReply) -> Decision
         ensures { result ≡ record { reply = reply.Loan loan told; commit = None } }
     {
         Decision::show(Reply::Loan { loan, told })
     }
 
-    /// A change, and the reply that tells it.
+    /// A change, and the reply that reports it.
     pub fn change(commit: Commit, reply: Reply) -> Decision
         ensures { result ≡ record { reply = reply; commit = Some commit } }
     {

@@ -85,7 +85,7 @@ fn entries(alloc: Global, account: Option<LoanAccount>) -> Result<EntryList, Fau
     }
 }
 
-/// What is told of a part of a loan; F20 where it is out of memory.
+/// What is replied of a part of a loan; F20 where it is out of memory.
 fn told(
     alloc: Global,
     part: Part,

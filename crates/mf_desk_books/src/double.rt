@@ -57,14 +57,6 @@ impl Drop for Books {
     }
 }
 
-/// The name that a text is.
-fn name(alloc: Global, text: &str) -> Result<Name, Fault>
-    ensures text { IfOk result (λ name. name ≡ text.now) }
-    ensures err { IfErr result (λ fault. fault ≡ Fault.F20) }
-{
-    Ok(Name::new(String::from_str(alloc, text)?))
-}
-
 /// The office of a number; F1 where no office can have it.
 fn office_no(number: u32) -> Result<OfficeNo, Fault>
     ensures { IfOk result (IsNumberUpTo 9999) }
@@ -85,7 +77,7 @@ impl Books {
         let office = Office {
             number: office_no(1)?,
             parent: None,
-            name: name(alloc, "Head Office")?,
+            name: Name::new(String::from_str(alloc, "Head Office")?),
         };
         let mut branches = Vec::new(alloc);
         branches.push(Branch {
@@ -180,8 +172,7 @@ impl Books {
     fn add_staff(&mut self, office: OfficeNo, role: Role) -> Result<(), Fault>
         ensures { IfErr result (λ fault. fault ≡ Fault.F20) }
     {
-        let at = self.place(office);
-        if let Some(branch) = self.branches.get_mut(at) {
+        if let Some(branch) = self.branch_mut(office) {
             branch.staff.push(role)?;
         }
         Ok(())
@@ -190,8 +181,7 @@ impl Books {
     fn add_client(&mut self, office: OfficeNo, name: Name) -> Result<(), Fault>
         ensures { IfErr result (λ fault. fault ≡ Fault.F20) }
     {
-        let at = self.place(office);
-        if let Some(branch) = self.branches.get_mut(at) {
+        if let Some(branch) = self.branch_mut(office) {
             branch.clients.push(name)?;
         }
         Ok(())
@@ -229,6 +219,12 @@ impl Books {
         Ok(())
     }
 
+    fn find_product(&self, number: u32) -> Option<&Product> {
+        self.products
+            .iter()
+            .find(|product| product.number == number)
+    }
+
     fn retire(&mut self, number: u32) {
         for product in self.products.iter_mut() {
             if product.number == number {
@@ -237,46 +233,36 @@ impl Books {
         }
     }
 
-    fn place(&self, office: OfficeNo) -> usize {
+    fn branch_mut(&mut self, office: OfficeNo) -> Option<&mut Branch> {
         self.branches
-            .iter()
-            .position(|branch| branch.office.number == office)
-            .unwrap_or(self.branches.len())
+            .iter_mut()
+            .find(|branch| branch.office.number == office)
     }
 
     fn add_loan(&mut self, office: OfficeNo, loan: Row) -> Result<(), Fault>
         ensures { IfErr result (λ fault. fault ≡ Fault.F20) }
     {
-        let at = self.place(office);
-        let Some(branch) = self.branches.get_mut(at) else {
-            return Ok(());
-        };
-        branch.loans.push(loan)?;
+        if let Some(branch) = self.branch_mut(office) {
+            branch.loans.push(loan)?;
+        }
         Ok(())
     }
 
-    fn set_stage(&mut self, loan: Account, stage: Stage) {
-        let at = self.place(loan.office);
+    fn loan_mut(&mut self, loan: Account) -> Option<&mut Row> {
         let place = loan.number.get() - 1;
-        let Some(branch) = self.branches.get_mut(at) else {
-            return;
-        };
-        let Some(found) = branch.loans.get_mut(place as usize) else {
-            return;
-        };
-        found.set_stage(stage);
+        self.branch_mut(loan.office)?.loans.get_mut(place as usize)
+    }
+
+    fn set_stage(&mut self, loan: Account, stage: Stage) {
+        if let Some(row) = self.loan_mut(loan) {
+            row.set_stage(stage);
+        }
     }
 
     fn enter(&mut self, loan: Account, account: LoanAccount) {
-        let at = self.place(loan.office);
-        let place = loan.number.get() - 1;
-        let Some(branch) = self.branches.get_mut(at) else {
-            return;
-        };
-        let Some(found) = branch.loans.get_mut(place as usize) else {
-            return;
-        };
-        found.enter(account);
+        if let Some(row) = self.loan_mut(loan) {
+            row.enter(account);
+        }
     }
 
     fn find_loan(&self, loan: Account) -> Option<&Row> {
@@ -327,10 +313,7 @@ impl Books {
     fn terms(&self, product: u32) -> Result<Terms, Fault>
         ensures { IfErr result (λ fault. fault ≡ Fault.F20) }
     {
-        let Some(product) = self.products.iter().find(|other| other.number == product) else {
-            return Err(Fault::F20);
-        };
-        let members = &product.members;
+        let members = &self.find_product(product).ok_or(Fault::F20)?.members;
         let disbursement = self.named(members.disbursement_charge)?;
         let instalment = self.named(members.instalment_charge)?;
         let overdue = self.named(members.overdue_charge)?;
@@ -414,7 +397,7 @@ impl InstitutionStore for Books {
         })
     }
 
-    fn client(&mut self, alloc: Global, client: Account) -> Result<Option<Name>, Fault> {
+    fn client(&mut self, _alloc: Global, client: Account) -> Result<Option<Name>, Fault> {
         self.count_call()?;
         let Some(branch) = self.find(client.office) else {
             return Ok(None);
@@ -423,7 +406,7 @@ impl InstitutionStore for Books {
         let Some(found) = branch.clients.get(place as usize) else {
             return Ok(None);
         };
-        Ok(Some(name(alloc, found.as_str())?))
+        Ok(Some(found.clone()?))
     }
 
     fn business_day(&mut self, _alloc: Global) -> Result<Day, Fault> {
@@ -444,19 +427,12 @@ impl InstitutionStore for Books {
 
     fn charge(&mut self, _alloc: Global, number: u32) -> Result<Option<ChargeDef>, Fault> {
         self.count_call()?;
-        match self.charges.iter().find(|charge| charge.number == number) {
-            Some(charge) => Ok(Some(charge.clone()?)),
-            None => Ok(None),
-        }
+        self.named(Some(number))
     }
 
     fn product(&mut self, _alloc: Global, number: u32) -> Result<Option<Product>, Fault> {
         self.count_call()?;
-        match self
-            .products
-            .iter()
-            .find(|product| product.number == number)
-        {
+        match self.find_product(number) {
             Some(product) => Ok(Some(product.clone()?)),
             None => Ok(None),
         }
@@ -521,7 +497,7 @@ impl InstitutionStore for Books {
                 offices.push(Office {
                     number: branch.office.number,
                     parent: branch.office.parent,
-                    name: name(alloc, branch.office.name.as_str())?,
+                    name: branch.office.name.clone()?,
                 })?;
             }
         }

@@ -37,19 +37,8 @@ fn days_of(stage: &Stage) -> (Option<Day>, Option<Day>) {
     }
 }
 
-/// A copy of a receipt.
-fn copy_receipt(alloc: Global, receipt: &Option<Receipt>) -> Result<Option<Receipt>, Fault>
-    ensures { IfErr result (λ fault. fault ≡ Fault.F20) }
-{
-    let Some(receipt) = receipt else {
-        return Ok(None);
-    };
-    let text = String::from_str(alloc, receipt.as_str())?;
-    Ok(Some(Receipt::new(text)))
-}
-
 /// A copy of an entry.
-fn copy_entry(alloc: Global, entry: &Entry) -> Result<Entry, Fault>
+fn copy_entry(entry: &Entry) -> Result<Entry, Fault>
     ensures { IfErr result (λ fault. fault ≡ Fault.F20) }
 {
     Ok(Entry {
@@ -59,7 +48,7 @@ fn copy_entry(alloc: Global, entry: &Entry) -> Result<Entry, Fault>
         amount: entry.amount,
         instalment: entry.instalment,
         portion: entry.portion,
-        receipt: copy_receipt(alloc, &entry.receipt)?,
+        receipt: entry.receipt.clone()?,
         staff: entry.staff,
         reversed: entry.reversed,
     })
@@ -71,7 +60,7 @@ fn copy_entries(alloc: Global, entries: &[Entry]) -> Result<Vec<Entry>, Fault>
 {
     let mut copies = Vec::new(alloc);
     for entry in entries {
-        copies.push(copy_entry(alloc, entry)?)?;
+        copies.push(copy_entry(entry)?)?;
     }
     Ok(copies)
 }

@@ -1,4 +1,4 @@
-//! Streams whose every reply is known.
+//! Streams and a message whose every reply is known.
 
 /// A client is entered and read; lines that are refused.
 pub const FIRST: &str = "1/1 POST /clients {\"office\":1,\"name\":\"Amina\"}\n\
@@ -65,3 +65,11 @@ pub const ENTERED: &str = "receipt,loan,date,amount,result\n\
 R-1,0001-000001,2024-02-29,200,entered\n\
 R-2,0001-000001,2024-03-31,500.00,entered\n\
 R-3,0001-000009,2024-03-31,1.5,F4\n";
+
+/// A message that adds a client.
+pub const CLIENT: &str =
+    "POST /clients HTTP/1.1\r\nHost: localhost\r\nX-Staff: 1/1\r\nContent-Length: 27\r\n\r\n{\"office\":1,\"name\":\"Amina\"}";
+
+/// The response to it, where the client is the first of the head office.
+pub const CREATED: &str =
+    "HTTP/1.1 201 Created\r\nContent-Type: application/json\r\nContent-Length: 24\r\nConnection: close\r\n\r\n{\"client\":\"0001-000001\"}";

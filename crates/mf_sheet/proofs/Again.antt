@@ -2,7 +2,7 @@
 use Rattle.std.proofs.Common.{◌≡◌, ◌≢◌, ℕ, Bool, true, false, cond, List, [], ◌∷◌, ◌++◌, length, Option, Some, None, Result, Ok, Err, inl, inr, refl, sym, ap, ◌∙◌, subst, arith}
 use Rattle.std.specs.Prelude.{◌==◌, ◌&&◌, ◌||◌, not, nat_lt, nat_le, option_map}
 use Rattle.std.specs.Str.{bytes_eq}
-use Rattle.std.proofs.lemmas.Bool.{cases_eq}
+use Rattle.std.proofs.lemmas.Bool.{cases_eq, eq-eqb}
 use Rattle.std.proofs.lemmas.Bool.Decides.{nat_tests}
 use Rattle.std.proofs.lemmas.List.Folds.{list_any-append}
 use Rattle.std.proofs.lemmas.Slice.Eq.{bytes_eq-Decides}
@@ -161,15 +161,12 @@ on_other_day n m amount day e other = ap (λ b. cond ((n == m) && ((e.amount == 
     either true false = refl
     either false b = refl
 
-eq_self : (x : ℕ) → (x == x) ≡ true
-eq_self x = grind (arith, nat_tests)
-
 -- the same loan, amount and day
 pub the_same : (n : ℕ) (e : Entry) → repeated n e.amount e.day (use_by n e) ≡ Ok e.seq
 the_same n e =
-    ap (λ b. cond (b && ((e.amount == e.amount) && (e.day == e.day))) (Ok e.seq) (Err F15)) (eq_self n)
-    ∙ ap (λ b. cond (b && (e.day == e.day)) (Ok e.seq) (Err F15)) (eq_self e.amount)
-    ∙ ap (λ b. cond b (Ok e.seq) (Err F15)) (eq_self e.day)
+    ap (λ b. cond (b && ((e.amount == e.amount) && (e.day == e.day))) (Ok e.seq) (Err F15)) (eq-eqb n n refl)
+    ∙ ap (λ b. cond (b && (e.day == e.day)) (Ok e.seq) (Err F15)) (eq-eqb e.amount e.amount refl)
+    ∙ ap (λ b. cond b (Ok e.seq) (Err F15)) (eq-eqb e.day e.day refl)
 
 -- One repayment was entered in an office. What another of the office was told before and is told now.
 module _ (d : Caller) (q : SheetRepayment) (k : Catalogue) (f : Office) (l : Ledger) (a : Running)

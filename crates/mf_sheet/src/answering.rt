@@ -31,7 +31,7 @@ fn request_of(line: SheetLine) -> Request
     }
 }
 
-/// The result that a success is told as.
+/// The result that a success is reported as.
 fn told(reply: &Reply) -> SheetResult
     ensures { result ≡ told_by reply.now }
 {

@@ -90,9 +90,9 @@ fn collect_rows<S: InstitutionStore, W: Sink>(
 /// Answers a collection sheet, which somebody sends, line by line as repayments, and writes the sheet of their results.
 /// The first F20 is written and ends the sheet.
 ///
-/// A fault tells how many results were written whole. `Memory` is told where the sheet can't be read, and nothing is
+/// A fault says how many results were written whole. `Memory` is reported where the sheet can't be read, and nothing is
 /// answered or written, and where there is no room for the record of a line's result, which is made before the line is
-/// answered: that line is not run. After `Write`, which is told only where the writer failed in this call, the line
+/// answered: that line is not run. After `Write`, which is reported only where the writer failed in this call, the line
 /// whose result was being written is the last that was run, and none was where the heading was being written.
 pub fn collect<S: InstitutionStore, W: Sink>(
     alloc: Global,

@@ -1,4 +1,5 @@
-//! Laws of what a sheet's lines are told. Each function does nothing: its contract is the law.
+//! Laws of the results of a sheet's lines. Each function does nothing: its contract is the law.
+
 ghost use Rattle.std.specs.Prelude.{◌≡◌, ℕ, List, None, Ok};
 ghost use Rattle.mf_office.specs.declared.caller.Caller.{Caller};
 ghost use Rattle.mf_model.specs.Institution.{Institution};

@@ -4,11 +4,12 @@ use Rattle.std.specs.Prelude.{◌==◌, nat_le, IfSome}
 use Rattle.std.specs.List.{prefix_len}
 use Rattle.std.specs.Char.{is_ascii_digit}
 use Rattle.std.specs.Str.Parse.{digits_value}
+use Rattle.std.proofs.lemmas.Bool.{and_parts, le-leb, leb-true}
 use Rattle.std.proofs.lemmas.Bool.Decides.{nat_tests}
 use Rattle.mf_base.specs.Money.{IsFraction, IsMoneyText, money_limit}
 use Rattle.mf_base.proofs.MoneyLemmas.{IsRead-is, IsMoneyText-is}
 use Rattle.mf_sheet_lines.specs.Fields.{cents_after, cents_by, cents_written, up_to_limit}
-use Rattle.mf_sheet_lines.proofs.Tests.{both, passed, after_two, nothing, le_test, le_tested}
+use Rattle.mf_sheet_lines.proofs.Tests.{passed, after_two, nothing}
 
 digit_is : (byte : ℕ) → is_ascii_digit byte ≡ true → (48 ≤ byte) × (byte ≤ 57)
 digit_is byte digit = (grind (arith, nat_tests), grind (arith, nat_tests))
@@ -25,7 +26,7 @@ fraction_is [] rest is = let zero_cents : rest ≡ 0 = sym (cc) in inl (refl, ze
 fraction_is (p ∷ []) rest is = absurd (cc)
 fraction_is (p ∷ t ∷ []) rest is =
     let read = passed _ _ rest is in
-    let tests = both _ _ read.0 in
+    let tests = and_parts _ _ read.0 in
     let point = point_is p tests.0 in
     let digit = digit_is t tests.1 in
     let value : 10 * (t - 48) ≡ rest = cc in
@@ -33,8 +34,8 @@ fraction_is (p ∷ t ∷ []) rest is =
     inr (inl (t - 48, omega arith, ap (λ (a : ℕ). a ∷ t ∷ []) point ∙ ap (λ (a : ℕ). 46 ∷ a ∷ []) tenths, sym value))
 fraction_is (p ∷ t ∷ o ∷ []) rest is =
     let read = passed _ _ rest is in
-    let tests = both _ _ read.0 in
-    let marks = both _ _ tests.0 in
+    let tests = and_parts _ _ read.0 in
+    let marks = and_parts _ _ tests.0 in
     let point = point_is p marks.0 in
     let tens = digit_is t marks.1 in
     let ones = digit_is o tests.1 in
@@ -58,21 +59,21 @@ in_limit : (cents c : ℕ) → up_to_limit cents ≡ Some c → (cents ≤ money
 in_limit cents c is =
     let read = passed (nat_le cents money_limit) (Some cents) c is in
     let same : c ≡ cents = cc in
-    (le_tested cents money_limit read.0, same)
+    (leb-true cents money_limit read.0, same)
 
 -- what is read is what the text stands for
 read_is : (text : List ℕ) (n c : ℕ) → n ≡ prefix_len is_ascii_digit text → cents_by n text ≡ Some c → IsMoneyText text c
 read_is text n c first is =
     let read = passed _ _ c is in
-    let tests = both _ _ read.0 in
+    let tests = and_parts _ _ read.0 in
     let sum = after_two _ (cents_after (drop n text)) c read.1 in
     let limit = in_limit _ c sum.2 in
-    IsMoneyText-is text (take n text) (drop n text) n (digits_value 10 (take n text)) sum.0 c first refl refl refl (le_tested 1 n tests.0) (le_tested n 11 tests.1) (fraction_is (drop n text) sum.0 sum.1) limit.1 (omega (arith, limit.0, limit.1))
+    IsMoneyText-is text (take n text) (drop n text) n (digits_value 10 (take n text)) sum.0 c first refl refl refl (leb-true 1 n tests.0) (leb-true n 11 tests.1) (fraction_is (drop n text) sum.0 sum.1) limit.1 (omega (arith, limit.0, limit.1))
 
 is_read : (text : List ℕ) (n c : ℕ) → n ≡ prefix_len is_ascii_digit text → IsMoneyText text c → cents_by n text ≡ Some c
 is_read text n c first m =
     let read = IsRead-is text (take n text) (drop n text) n c first refl refl m in
-    rw (le_test 1 n read.some, le_test n 11 read.at_most, is_fraction (drop n text) read.rest read.back_is, ← read.value, le_test c money_limit read.limit) refl
+    rw (le-leb 1 n read.some, le-leb n 11 read.at_most, is_fraction (drop n text) read.rest read.back_is, ← read.value, le-leb c money_limit read.limit) refl
 
 pub cents_written_is : (text : List ℕ) (r : Option ℕ) → IfSome r (IsMoneyText text) → ((cents : ℕ) → IsMoneyText text cents → r ≡ Some cents) → r ≡ cents_written text
 unfolding cents_written

@@ -5,6 +5,7 @@ use Rattle.std.specs.Str.{bytes_eq}
 use Rattle.std.specs.Str.Parse.{digits_value}
 use Rattle.std.specs.Char.{digit_value}
 use Rattle.std.specs.Int.{IsInRange}
+use Rattle.std.proofs.lemmas.Bool.{and_parts, le-leb, leb-true}
 use Rattle.std.proofs.lemmas.Slice.Eq.{bytes_eq-Decides}
 use Rattle.std.proofs.lemmas.Str.{digit_value_digit}
 use Rattle.mf_base.specs.Calendar.{Date, IsDate, date_of, day_of, month_length}
@@ -12,7 +13,7 @@ use Rattle.mf_base.specs.DayText.{date_text, day_text, last_entered_day, two_dig
 use Rattle.mf_base.proofs.CalendarLemmas.{month_length_bounds, day_of-date_of, IsDate-date_of}
 use Rattle.mf_base.proofs.DayTextLemmas.{date_text-day, day_text-is, entered_year-date_of, last_entered_year}
 use Rattle.mf_sheet_lines.specs.Fields.{date_in, is_entered, day_written}
-use Rattle.mf_sheet_lines.proofs.Tests.{both, passed, nothing, le_test, le_tested}
+use Rattle.mf_sheet_lines.proofs.Tests.{passed, nothing}
 
 digit : (n : ℕ) → n < 10 → digit_value (48 + n) ≡ n
 digit n small = let range : IsInRange 48 57 (48 + n) = (omega arith, omega arith) in omega (arith, digit_value_digit (48 + n) range)
@@ -33,23 +34,23 @@ date_in-text date year month day = date_same _ date (four date.year year) (two d
 
 entered : (date : Date) → IsDate date → date.year < 2100 → is_entered date ≡ true
 entered date is year =
-    rw (le_test 2000 date.year is.year, le_test date.year 2099 (omega arith), le_test 1 date.month is.first_month, le_test date.month 12 is.last_month, le_test 1 date.day is.first_day, le_test date.day (month_length date.year date.month) is.last_day) refl
+    rw (le-leb 2000 date.year is.year, le-leb date.year 2099 (omega arith), le-leb 1 date.month is.first_month, le-leb date.month 12 is.last_month, le-leb 1 date.day is.first_day, le-leb date.day (month_length date.year date.month) is.last_day) refl
 
 is_entered_date : (date : Date) → is_entered date ≡ true → IsDate date × (date.year < 2100)
 is_entered_date date is =
-    let days = both _ _ is in
-    let first = both _ _ days.0 in
-    let months = both _ _ first.0 in
-    let least = both _ _ months.0 in
-    let years = both _ _ least.0 in (
+    let days = and_parts _ _ is in
+    let first = and_parts _ _ days.0 in
+    let months = and_parts _ _ first.0 in
+    let least = and_parts _ _ months.0 in
+    let years = and_parts _ _ least.0 in (
       record {
-        year = le_tested _ _ years.0;
-        first_month = le_tested _ _ least.1;
-        last_month = le_tested _ _ months.1;
-        first_day = le_tested _ _ first.1;
-        last_day = le_tested _ _ days.1;
+        year = leb-true _ _ years.0;
+        first_month = leb-true _ _ least.1;
+        last_month = leb-true _ _ months.1;
+        first_day = leb-true _ _ first.1;
+        last_day = leb-true _ _ days.1;
       },
-      omega (arith, le_tested _ _ years.1),
+      omega (arith, leb-true _ _ years.1),
     )
 
 -- the text of a day is read as that day
@@ -71,7 +72,7 @@ read_is : (text : List ℕ) (day : ℕ) → day_written text ≡ Some day → (d
 unfolding day_written
 read_is text day is =
     let read = passed _ _ day is in
-    let tests = both _ _ read.0 in
+    let tests = and_parts _ _ read.0 in
     let there = is_entered_date (date_in text) tests.0 in
     let number : day_of (date_in text) ≡ day = cc in
     let written = (bytes_eq-Decides text (date_text (date_in text))).0 tests.1 in (

@@ -1,5 +1,5 @@
 -- What a line of a sheet asks for.
-use Rattle.std.specs.Prelude.{ℕ, ◌&&◌, Bool, false, codes, List, [], ◌∷◌, Option, Some, None, option_and_then, ◌≡◌, ◌≤◌, true}
+use Rattle.std.specs.Prelude.{ℕ, ◌&&◌, Bool, false, codes, List, [], ◌∷◌, Option, Some, None, option_and_then, ◌≤◌}
 use Rattle.std.specs.Option.{option_map, option_map_or}
 use Rattle.std.specs.Str.{str_eq_ignore_ascii_case}
 use Rattle.mf_account.specs.Receipts.{IsReceipt}

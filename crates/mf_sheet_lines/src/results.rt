@@ -194,12 +194,6 @@ pub fn result_sheet(alloc: Global, bytes: &[u8], results: &[SheetResult]) -> Res
     ensures ok { IfOk result (λ text. text.items ≡ result_text bytes.now results.now) }
     ensures refusal { IfErr result (λ fault. (fault ≡ Fault.F20) ⊎ ((fault ≡ Fault.F1) × (longest < length bytes.now))) }
 {
-    let rows = match sheet_rows(alloc, bytes) {
-        Ok(rows) => rows,
-        Err(fault) => return Err(fault),
-    };
-    match text_of_records(alloc, rows.as_slice(), results) {
-        Ok(text) => Ok(text),
-        Err(fault) => Err(fault),
-    }
+    let rows = sheet_rows(alloc, bytes)?;
+    text_of_records(alloc, rows.as_slice(), results)
 }

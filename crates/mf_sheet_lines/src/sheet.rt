@@ -151,12 +151,7 @@ pub fn read_sheet(alloc: Global, bytes: &[u8]) -> Result<Sheet, Fault>
     ensures rows { IfOk result (λ sheet. sheet ≡ rows_of bytes.now) }
     ensures refusal { IfErr result (λ fault. (fault ≡ Fault.F20) ⊎ ((fault ≡ Fault.F1) × (longest < length bytes.now))) }
 {
-    let rows = match sheet_rows(alloc, bytes) {
-        Ok(rows) => rows,
-        Err(fault) => return Err(fault),
-    };
-    match read_rows(alloc, rows) {
-        Ok(rows) => Ok(Sheet { rows }),
-        Err(fault) => Err(fault),
-    }
+    let rows = sheet_rows(alloc, bytes)?;
+    let rows = read_rows(alloc, rows)?;
+    Ok(Sheet { rows })
 }

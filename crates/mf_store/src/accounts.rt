@@ -86,7 +86,8 @@ impl<S: Alter> Store<S> {
         ensures kept { Stays S.Store self.old self.new }
         ensures gives_up { IfErr result (λ fault. fault ≡ F20) }
         ensures open { IsClean S.Store self.new → IsOpen S.Store self.old → OnOk result (IsOpen S.Store self.new) }
-        ensures value { IsClean S.Store self.new → (i : Institution) → StandsFor S.Store self.old i → IfOk result (λ account. option_map replayed (running_from loan.now entries.items (Some day) (terms_in i.catalogue loan.now.product)) ≡ Some account) }
+        ensures value { IsClean S.Store self.new → (i : Institution) → StandsFor S.Store self.old i
+            → IfOk result (λ account. option_map replayed (running_from loan.now entries.items (Some day) (terms_in i.catalogue loan.now.product)) ≡ Some account) }
     {
         let named = self.terms_of(loan.product)?;
         let terms = stored(named)?;
@@ -113,7 +114,8 @@ impl<S: Alter> Store<S> {
         ensures kept { Stays S.Store self.old self.new }
         ensures gives_up { IfErr result (λ fault. fault ≡ F20) }
         ensures open { IsClean S.Store self.new → OnOk result (IsOpen S.Store self.new) }
-        ensures value { IsClean S.Store self.new → (i : Institution) → StandsFor S.Store self.old i → loan_at account i ≡ Some loan.now → disbursed_on loan.now.stage ≡ Some day → IfOk result (λ resumed. account_at account i ≡ Some resumed) }
+        ensures value { IsClean S.Store self.new → (i : Institution) → StandsFor S.Store self.old i → loan_at account i ≡ Some loan.now
+            → disbursed_on loan.now.stage ≡ Some day → IfOk result (λ resumed. account_at account i ≡ Some resumed) }
     {
         let Account { office, number } = account;
         let named = self.terms_of(loan.product)?;
@@ -145,7 +147,8 @@ impl<S: Alter> Store<S> {
     ) -> Result<(), Fault>
         ensures kept { Stays S.Store self.old self.new }
         ensures gives_up { IfErr result (λ fault. fault ≡ F20) }
-        ensures writes { IsClean S.Store self.new → (i : Institution) → StandsFor S.Store self.old i → OnOk result (writes.new.items ≡ writes.old.items ++ schedule_put office number (kept_of instalments_kept i.catalogue (record { loan = loan.now; entries = [] }))) }
+        ensures writes { IsClean S.Store self.new → (i : Institution) → StandsFor S.Store self.old i
+            → OnOk result (writes.new.items ≡ writes.old.items ++ schedule_put office number (kept_of instalments_kept i.catalogue (record { loan = loan.now; entries = [] }))) }
         ensures more { OnOk result (length writes.old.items ≤ length writes.new.items) }
     {
         let Some(day) = disbursal_day(loan) else {
@@ -183,7 +186,8 @@ impl<S: Alter> Store<S> {
         ensures kept { Stays S.Store self.old self.new }
         ensures gives_up { IfErr result (λ fault. fault ≡ F20) }
         ensures open { IsClean S.Store self.new → OnOk result (IsOpen S.Store self.new) }
-        ensures value { IsClean S.Store self.new → (i : Institution) → StandsFor S.Store self.old i → (l : ModelLedger) → ledger_at account i ≡ Some l → (day : ℕ) → disbursed_on l.loan.stage ≡ Some day → IfOk result (λ status. status ≡ status_in i.catalogue l) }
+        ensures value { IsClean S.Store self.new → (i : Institution) → StandsFor S.Store self.old i → (l : ModelLedger) → ledger_at account i ≡ Some l
+            → (day : ℕ) → disbursed_on l.loan.stage ≡ Some day → IfOk result (λ status. status ≡ status_in i.catalogue l) }
     {
         let Account { office, number } = account;
         let rows = self.instalments_at(alloc, Account { office, number })?;
@@ -199,7 +203,8 @@ impl<S: Alter> Store<S> {
         ensures kept { Stays S.Store self.old self.new }
         ensures gives_up { IfErr result (λ fault. fault ≡ F20) }
         ensures open { IsClean S.Store self.new → IsOpen S.Store self.old → OnOk result (IsOpen S.Store self.new) }
-        ensures value { IsClean S.Store self.new → (i : Institution) → StandsFor S.Store self.old i → (l : ModelLedger) → ledger_at account i ≡ Some l → l.loan ≡ loan.now → IfOk result (λ status. status ≡ status_in i.catalogue l) }
+        ensures value { IsClean S.Store self.new → (i : Institution) → StandsFor S.Store self.old i → (l : ModelLedger) → ledger_at account i ≡ Some l
+            → l.loan ≡ loan.now → IfOk result (λ status. status ≡ status_in i.catalogue l) }
     {
         match disbursal_day(loan) {
             None => Ok(loan.stage.status()),
@@ -212,7 +217,9 @@ impl<S: Alter> Store<S> {
         ensures kept { Stays S.Store self.old self.new }
         ensures gives_up { IfErr result (λ fault. fault ≡ F20) }
         ensures open { IsClean S.Store self.new → IsOpen S.Store self.old → OnOk result (IsOpen S.Store self.new) }
-        ensures value { IsClean S.Store self.new → (i : Institution) → StandsFor S.Store self.old i → (office number : ℕ) (l : ModelLedger) → row.now ≡ loan_stored (loan_in office number l.loan) → ledger_at (record { office = office; number = number }) i ≡ Some l → IfOk result (λ line. line ≡ line_in i.catalogue office number l) }
+        ensures value { IsClean S.Store self.new → (i : Institution) → StandsFor S.Store self.old i → (office number : ℕ) (l : ModelLedger)
+            → row.now ≡ loan_stored (loan_in office number l.loan) → ledger_at (record { office = office; number = number }) i ≡ Some l
+            → IfOk result (λ line. line ≡ line_in i.catalogue office number l) }
     {
         let (account, loan) = loan_in_row(row)?;
         let Account { office, number } = account;

@@ -25,7 +25,8 @@ impl<S: Alter> Store<S> {
         ensures kept { Stays S.Store self.old self.new }
         ensures gives_up { IfErr result (λ fault. fault ≡ F20) }
         ensures open { IsClean S.Store self.new → IsOpen S.Store self.old → OnOk result (IsOpen S.Store self.new) }
-        ensures value { IsClean S.Store self.new → (i : Institution) → StandsFor S.Store self.old i → today ≡ i.catalogue.day → IfOk result (λ line. line ≡ line_of_loans office (active_in i.catalogue (rows_at office i).loans)) }
+        ensures value { IsClean S.Store self.new → (i : Institution) → StandsFor S.Store self.old i → today ≡ i.catalogue.day
+            → IfOk result (λ line. line ≡ line_of_loans office (active_in i.catalogue (rows_at office i).loans)) }
     {
         self.read_line(office, today)
     }
@@ -40,7 +41,8 @@ impl<S: Alter> Store<S> {
         ensures kept { Stays S.Store self.old self.new }
         ensures gives_up { IfErr result (λ fault. fault ≡ F20) }
         ensures open { IsClean S.Store self.new → IsOpen S.Store self.old → OnOk result (IsOpen S.Store self.new) }
-        ensures value { IsClean S.Store self.new → (i : Institution) → StandsFor S.Store self.old i → today ≡ i.catalogue.day → IfOk result (λ list. list ≡ map (line_at i) offices.now) }
+        ensures value { IsClean S.Store self.new → (i : Institution) → StandsFor S.Store self.old i → today ≡ i.catalogue.day
+            → IfOk result (λ list. list ≡ map (line_at i) offices.now) }
     {
         let mut lines = Vec::new(alloc);
         for office in offices {

@@ -31,7 +31,8 @@ impl<S: Alter> Store<S> {
         ensures open { IsClean S.Store self.new → OnOk result (IsOpen S.Store self.new) }
         ensures whole { IfOk result (λ rows. AreWhole rows.items) }
         ensures within { IfOk result (λ rows. AreWithin rows.items) }
-        ensures value { IsClean S.Store self.new → (i : Institution) → StandsFor S.Store self.old i → (l : ModelLedger) → ledger_at loan i ≡ Some l → IfOk result (λ rows. rows.items ≡ of_account [] (λ a. (state_of_loan a).rows) (account_in i.catalogue l)) }
+        ensures value { IsClean S.Store self.new → (i : Institution) → StandsFor S.Store self.old i → (l : ModelLedger) → ledger_at loan i ≡ Some l
+            → IfOk result (λ rows. rows.items ≡ of_account [] (λ a. (state_of_loan a).rows) (account_in i.catalogue l)) }
     {
         let rows = self.list::<InstalmentRow>((loan.office.get(), loan.number.get()))?;
         instalments_from(alloc, &rows)

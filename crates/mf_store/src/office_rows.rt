@@ -47,7 +47,9 @@ impl<S: Alter> Store<S> {
         ensures kept { Stays S.Store self.old self.new }
         ensures gives_up { IfErr result (λ fault. fault ≡ F20) }
         ensures open { IsClean S.Store self.new → IsOpen S.Store self.old → OnOk result (IsOpen S.Store self.new) }
-        ensures value { IsClean S.Store self.new → (i : Institution) → StandsFor S.Store self.old i → (office number : ℕ) (l : ModelLedger) → row.now ≡ loan_row (loan_in office number l.loan) → ledger_at (record { office = office; number = number }) i ≡ Some l → IfOk result (λ ledger. ledger ≡ l) }
+        ensures value { IsClean S.Store self.new → (i : Institution) → StandsFor S.Store self.old i → (office number : ℕ) (l : ModelLedger)
+            → row.now ≡ loan_row (loan_in office number l.loan) → ledger_at (record { office = office; number = number }) i ≡ Some l
+            → IfOk result (λ ledger. ledger ≡ l) }
     {
         let (account, loan) = loan_in_row(row)?;
         let entries = self.entries_at(alloc, account)?;

@@ -24,7 +24,8 @@ impl<S: Alter> Store<S> {
         ensures kept { Stays S.Store self.old self.new }
         ensures gives_up { IfErr result (λ fault. fault ≡ F20) }
         ensures open { IsClean S.Store self.new → OnOk result (IsOpen S.Store self.new) }
-        ensures value { IsClean S.Store self.new → (i : Institution) → StandsFor S.Store self.old i → (l : ModelLedger) → ledger_at loan i ≡ Some l → IfOk result (λ parts. parts.items ≡ map part_told (kept_of shares_kept i.catalogue l)) }
+        ensures value { IsClean S.Store self.new → (i : Institution) → StandsFor S.Store self.old i → (l : ModelLedger) → ledger_at loan i ≡ Some l
+            → IfOk result (λ parts. parts.items ≡ map part_told (kept_of shares_kept i.catalogue l)) }
     {
         let rows = self.list::<ShareRow>((loan.office.get(), loan.number.get()))?;
         parts_from(alloc, &rows)

@@ -79,7 +79,8 @@ impl<S: Alter> Store<S> {
         ensures kept { Stays S.Store self.old self.new }
         ensures gives_up { IfErr result (λ fault. fault ≡ F20) }
         ensures open { IsClean S.Store self.new → OnOk result (IsOpen S.Store self.new) }
-        ensures value { IsClean S.Store self.new → (i : Institution) → StandsFor S.Store self.old i → IfOk result (λ x. x ≡ option_map (receipt_in office) (use_at office receipt.now i)) }
+        ensures value { IsClean S.Store self.new → (i : Institution) → StandsFor S.Store self.old i
+            → IfOk result (λ x. x ≡ option_map (receipt_in office) (use_at office receipt.now i)) }
     {
         find_receipt(&mut self.connection, office, receipt)
     }
@@ -89,7 +90,8 @@ impl<S: Alter> Store<S> {
         ensures kept { Stays S.Store self.old self.new }
         ensures gives_up { IfErr result (λ fault. fault ≡ F20) }
         ensures open { IsClean S.Store self.new → OnOk result (IsOpen S.Store self.new) }
-        ensures rows { IsClean S.Store self.new → (i : Institution) → StandsFor S.Store self.old i → IfOk result (λ rows. rows.items ≡ map T.Table.stored (filter (T.is_in part) (T.Table.list (tables_of i)))) }
+        ensures rows { IsClean S.Store self.new → (i : Institution) → StandsFor S.Store self.old i
+            → IfOk result (λ rows. rows.items ≡ map T.Table.stored (filter (T.is_in part) (T.Table.list (tables_of i)))) }
     {
         list_rows::<T, S>(&mut self.connection, part)
     }
@@ -99,7 +101,8 @@ impl<S: Alter> Store<S> {
         ensures kept { Stays S.Store self.old self.new }
         ensures gives_up { IfErr result (λ fault. fault ≡ F20) }
         ensures open { IsClean S.Store self.new → OnOk result (IsOpen S.Store self.new) }
-        ensures rows { IsClean S.Store self.new → (i : Institution) → StandsFor S.Store self.old i → IfOk result (λ rows. rows.items ≡ take 100 (map loan_row (filter (is_loan_above office after) (tables_of i).loans))) }
+        ensures rows { IsClean S.Store self.new → (i : Institution) → StandsFor S.Store self.old i
+            → IfOk result (λ rows. rows.items ≡ take 100 (map loan_row (filter (is_loan_above office after) (tables_of i).loans))) }
     {
         loans_above(&mut self.connection, office, after)
     }
@@ -109,7 +112,8 @@ impl<S: Alter> Store<S> {
         ensures kept { Stays S.Store self.old self.new }
         ensures gives_up { IfErr result (λ fault. fault ≡ F20) }
         ensures open { IsClean S.Store self.new → OnOk result (IsOpen S.Store self.new) }
-        ensures rows { IsClean S.Store self.new → (i : Institution) → StandsFor S.Store self.old i → IfOk result (λ rows. rows.items ≡ map office_row (filter (is_in_range low.now high.now) (tables_of i).offices)) }
+        ensures rows { IsClean S.Store self.new → (i : Institution) → StandsFor S.Store self.old i
+            → IfOk result (λ rows. rows.items ≡ map office_row (filter (is_in_range low.now high.now) (tables_of i).offices)) }
     {
         offices_within(&mut self.connection, low, high)
     }
@@ -272,10 +276,12 @@ impl<S: Alter> Store<S> {
         ensures gives_up { IfErr result (λ fault. fault ≡ F20) }
         ensures shuts { FaultsAloneShut S.Store self.old self.new }
         ensures open { IsClean S.Store self.new → OnOk result (IsOpen S.Store self.new) }
-        ensures made { IsClean S.Store self.new → OnOk result ((i j : Institution) → StandsFor S.Store self.old i → Becomes writes.now i j → Tells news i j → StandsFor S.Store self.new j) }
+        ensures made { IsClean S.Store self.new
+            → OnOk result ((i j : Institution) → StandsFor S.Store self.old i → Becomes writes.now i j → Tells news i j → StandsFor S.Store self.new j) }
         ensures left { IsClean S.Store self.new → OnOk result ((i j : Institution) → StandsFor S.Store self.old i → Becomes writes.now i j → Leaves S.Store self.new (j ∷ [])) }
         ensures same { IsClean S.Store self.new → OnErr result ((i : Institution) → StandsFor S.Store self.old i → StandsFor S.Store self.new i) }
-        ensures stop { IsClean S.Store self.new → (i j : Institution) (is : List Institution) → StandsFor S.Store self.old i → Becomes writes.now i j → Leaves S.Store self.old is → Leaves S.Store self.new (j ∷ is) }
+        ensures stop { IsClean S.Store self.new → (i j : Institution) (is : List Institution) → StandsFor S.Store self.old i → Becomes writes.now i j
+            → Leaves S.Store self.old is → Leaves S.Store self.new (j ∷ is) }
     {
         write(&mut self.connection, writes)?;
         self.known.learn(news);

@@ -86,7 +86,8 @@ fn take_over_first<S: Alter>(
 ) -> Result<Store<S>, (Fault, Connection<S>)>
     requires alone { connection.in_transaction ≡ false }
     ensures premise { IfOk result (λ store. IsClean S.Store store → HasCleanDisk (state S.Store connection)) }
-    ensures sound { IfOk result (λ store. IsClean S.Store store → (state S.Store connection).now.schema ≡ first_schema → HaveFirstRowids (state S.Store connection).now.trees → HoldsSoundFirst (state S.Store connection).now.trees) }
+    ensures sound { IfOk result (λ store. IsClean S.Store store → (state S.Store connection).now.schema ≡ first_schema
+        → HaveFirstRowids (state S.Store connection).now.trees → HoldsSoundFirst (state S.Store connection).now.trees) }
     ensures stands { IfOk result (λ store. IsClean S.Store store → (i : Institution) → IsTabledFirst S.Store connection i → StandsFor S.Store store i) }
     ensures leaves { IfOk result (λ store. IsClean S.Store store → (i : Institution) → IsTabledFirst S.Store connection i → Leaves S.Store store (i ∷ [])) }
     ensures was_open { IfOk result (λ store. IsClean S.Store store → IsTrue (state S.Store connection).is_open) }
@@ -140,7 +141,8 @@ pub fn adopt<S: Alter>(
     ensures refused { IfErr result (λ e. e.0 ≡ F19 → HasCleanDisk (state S.Store e.1) → (state S.Store connection).now.schema ≡ schema → ¬ HoldsSound (state S.Store connection).now.trees) }
 
     // Where they are those of the first schema, whatever rows stand there.
-    ensures sound_first { IfOk result (λ store. IsClean S.Store store → (state S.Store connection).now.schema ≡ first_schema → HaveFirstRowids (state S.Store connection).now.trees → HoldsSoundFirst (state S.Store connection).now.trees) }
+    ensures sound_first { IfOk result (λ store. IsClean S.Store store → (state S.Store connection).now.schema ≡ first_schema
+        → HaveFirstRowids (state S.Store connection).now.trees → HoldsSoundFirst (state S.Store connection).now.trees) }
     ensures stands_first { IfOk result (λ store. IsClean S.Store store → (i : Institution) → IsTabledFirst S.Store connection i → StandsFor S.Store store i) }
     ensures leaves_first { IfOk result (λ store. IsClean S.Store store → (i : Institution) → IsTabledFirst S.Store connection i → Leaves S.Store store (i ∷ [])) }
     ensures left_first { IfErr result (λ e. (state S.Store connection).now.schema ≡ first_schema → IsLeftFirst S.Store connection e.1) }

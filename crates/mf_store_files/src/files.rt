@@ -43,7 +43,8 @@ fn connect<S: Start>(
 ) -> Result<Connection<FileStore<FileFrom<S>>>, Fault>
     ensures none { IfOk result (λ c. HasCleanDisk (file_state c) → HasNoTables (image_at S.Start) → Serves schema_of Holds (file_state c).now None) }
     ensures ours { IfOk result (λ c. HasCleanDisk (file_state c) → (trees : Trees) → HoldsDatabase (image_at S.Start) trees → IsSound schema trees → (file_state c).now ≡ record { schema = schema; trees = trees }) }
-    ensures ours_first { IfOk result (λ c. HasCleanDisk (file_state c) → (trees : Trees) → HoldsDatabase (image_at S.Start) trees → IsSound first_schema trees → (file_state c).now ≡ record { schema = first_schema; trees = trees }) }
+    ensures ours_first { IfOk result (λ c. HasCleanDisk (file_state c) → (trees : Trees) → HoldsDatabase (image_at S.Start) trees
+        → IsSound first_schema trees → (file_state c).now ≡ record { schema = first_schema; trees = trees }) }
     ensures rowids { IfOk result (λ c. HasCleanDisk (file_state c) → (file_state c).now.schema ≡ schema → HaveRowids (file_state c).now.trees) }
     ensures first_rowids { IfOk result (λ c. HasCleanDisk (file_state c) → (file_state c).now.schema ≡ first_schema → HaveFirstRowids (file_state c).now.trees) }
     ensures open { IfOk result (λ c. HasCleanDisk (file_state c) → IsTrue (file_state c).is_open) }

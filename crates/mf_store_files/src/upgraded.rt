@@ -37,7 +37,8 @@ pub(crate) fn upgrade_tables<S: Alter>(
     // The institution is the one whose rows the tables kept.
     ensures made { HasCleanDisk (state S.Store connection.new) → OnOk result ((i : Institution) → IsSound i → first_tables_of i ≡ tables → IsKeepingFirst (state S.Store connection.old) (first_tables_of i)
         → IsUpgradedTo (state S.Store connection.new) (tables_of i)) }
-    ensures same { HasCleanDisk (state S.Store connection.new) → IsTrue (state S.Store connection.new).is_open → OnErr result ((state S.Store connection.new).now ≡ (state S.Store connection.old).now) }
+    ensures same { HasCleanDisk (state S.Store connection.new) → IsTrue (state S.Store connection.new).is_open
+        → OnErr result ((state S.Store connection.new).now ≡ (state S.Store connection.old).now) }
 
     // A stop leaves what it could leave before, or the tables of the second schema, whole.
     ensures stop { HasCleanDisk (state S.Store connection.new) → (i : Institution) → IsSound i → first_tables_of i ≡ tables → IsKeepingFirst (state S.Store connection.old) (first_tables_of i)

@@ -122,7 +122,8 @@ fn instalment_in_row(row: &Row) -> Result<Instalment, Fault>
 
 /// The instalments of the rows, in order.
 pub fn instalments_from(alloc: Global, rows: &[Row]) -> Result<Vec<Instalment>, Fault>
-    ensures rows { IfOk result (λ list. (office loan : ℕ) (all : List (ℕ × Sums)) → AllByRecursion (λ item. IsWhole item.1) all → rows.now ≡ map (λ item. instalment_stored (instalment_in office loan item)) all → list.items ≡ map (λ item. item.1) all) }
+    ensures rows { IfOk result (λ list. (office loan : ℕ) (all : List (ℕ × Sums)) → AllByRecursion (λ item. IsWhole item.1) all
+        → rows.now ≡ map (λ item. instalment_stored (instalment_in office loan item)) all → list.items ≡ map (λ item. item.1) all) }
     ensures whole { IfOk result (λ list. AreWhole list.items) }
     ensures within { IfOk result (λ list. AreWithin list.items) }
     ensures gives_up { IfErr result (λ fault. fault ≡ F20) }

@@ -1,6 +1,7 @@
 -- From the desk's answer to the text of a reply.
-use Rattle.std.proofs.Common.{◌≡◌, ℕ, ◌≤◌, nat_le, Bool, true, false, cond, List, Option, Some, None, Result, Err, sym, ap, ◌∙◌, subst, arith}
+use Rattle.std.proofs.Common.{◌≡◌, ℕ, ◌≤◌, nat_le, Bool, true, false, cond, List, Option, Some, None, Result, Err, sym, ap, ◌∙◌, subst}
 use Rattle.std.specs.Prelude.{◌&&◌, is_some, option_map, option_and_then, length, ◌∷◌}
+use Rattle.std.proofs.lemmas.Bool.{le-leb}
 use Rattle.mf_base.specs.declared.fault.Fault.{Fault}
 use Rattle.mf_base.specs.declared.fault.Fault.TheVariants.{F20}
 use Rattle.mf_model.specs.declared.request.Call.{Call}
@@ -59,17 +60,14 @@ caller_in line p e = at (split_space line) e
     at None e = absurd (cc)
     at (Some first) e = rest first (split_space first.1) e
 
-short : (n : ℕ) → n ≤ 65536 → nat_le n 65536 ≡ true
-short n h = grind arith
-
 pub call_in_parts : (line : List ℕ) (p : Parts) → length line ≤ 65536 → Some p ≡ parts_of line → call_of_parts p ≡ call_of line
 call_in_parts line p fits e =
     let c = caller_in line p e in
-    let r : cond (nat_le (length line) 65536) (asked_in (parts_of line)) (Unreadable Malformed) ≡ asked_in (Some p) = ap (λ b. cond b (asked_in (parts_of line)) (Unreadable Malformed)) (short (length line) fits) ∙ ap asked_in (sym e) in
+    let r : cond (nat_le (length line) 65536) (asked_in (parts_of line)) (Unreadable Malformed) ≡ asked_in (Some p) = ap (λ b. cond b (asked_in (parts_of line)) (Unreadable Malformed)) (le-leb (length line) 65536 fits) ∙ ap asked_in (sym e) in
     sym (ap (λ (x : Option Caller). record { caller = x; request = (call_of line).request }) c ∙ ap (λ (x : Request). record { caller = caller_of p.caller; request = x }) r)
 
 pub no_parts : (line : List ℕ) → length line ≤ 65536 → None ≡ parts_of line → (call_of line).request ≡ Unreadable Malformed
-no_parts line fits e = ap (λ b. cond b (asked_in (parts_of line)) (Unreadable Malformed)) (short (length line) fits) ∙ ap asked_in (sym e)
+no_parts line fits e = ap (λ b. cond b (asked_in (parts_of line)) (Unreadable Malformed)) (le-leb (length line) 65536 fits) ∙ ap asked_in (sym e)
 
 pub too_long : (line : List ℕ) → nat_le (length line) 65536 ≡ false → (call_of line).request ≡ Unreadable Malformed
 too_long line e = ap (λ b. cond b (asked_in (parts_of line)) (Unreadable Malformed)) e

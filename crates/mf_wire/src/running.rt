@@ -19,9 +19,9 @@ use std::alloc::Global;
 /// and one of over 65,536 bytes is refused as malformed. Each other line gets exactly one reply: a status, a space, a
 /// body and a line feed.
 ///
-/// What is read of a line is kept in a buffer that is made first: where it can't be, `Memory` is told, and nothing is
+/// What is read of a line is kept in a buffer that is made first: where it can't be, `Memory` is reported, and nothing is
 /// read, answered or written. After `Read` the unfinished line is not run. After `Write` the line whose reply was being
-/// written is the last that was run. `Read` and `Write` are told only where the reader or the writer failed in this
+/// written is the last that was run. `Read` and `Write` are reported only where the reader or the writer failed in this
 /// call, whatever it had done before, and `Read` also where 2^60 bytes came without an end.
 pub fn run<S: InstitutionStore, R: Source, W: Sink>(
     alloc: Global,

@@ -98,9 +98,9 @@ fn put_response<W: Sink>(sink: &mut W, response: &Response) -> Result<(), WriteF
 /// message that is anything else, or is cut, is refused as malformed, and one for whose body there is no room is F20.
 /// To HEAD the body of the reply is left off, where the head was read.
 ///
-/// The room for the head is made first: where it can't be, `Memory` is told, and nothing is read, answered or written.
+/// The room for the head is made first: where it can't be, `Memory` is reported, and nothing is read, answered or written.
 /// After `Read` nothing was answered or written. After `Write` the message was answered, and a beginning of its response
-/// was written. `Read` and `Write` are told only where the reader or the writer failed in this call.
+/// was written. `Read` and `Write` are reported only where the reader or the writer failed in this call.
 pub fn serve_one<S: InstitutionStore, R: Source, W: Sink>(
     alloc: Global,
     desk: &Desk,
@@ -113,10 +113,7 @@ pub fn serve_one<S: InstitutionStore, R: Source, W: Sink>(
     ensures unwritten { IfErr result (λ f. f.cause ≢ cause.Write → sink.new ≡ sink.old) }
     ensures memory { IfErr result (λ f. f.cause ≡ cause.Memory → source.new ≡ source.old) }
 {
-    let arrival = match read_message(alloc, source) {
-        Ok(arrival) => arrival,
-        Err(fault) => return Err(fault),
-    };
+    let arrival = read_message(alloc, source)?;
     let Some(response) = answer_arrival(alloc, desk, store, arrival) else {
         return Ok(false);
     };

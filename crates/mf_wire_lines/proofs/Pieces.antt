@@ -1,5 +1,6 @@
 -- Cutting a stream that comes in pieces.
 use Rattle.std.proofs.Common.{◌≡◌, ◌==◌, ℕ, zero, suc, ◌-◌, ◌<◌, ◌≤◌, ◌⊎◌, inl, inr, true, false, cond, List, [], ◌∷◌, ◌++◌, length, take, slice_index, refl, sym, ap, ◌∙◌, arith, append_assoc, append-nil, drop, take-append-drop}
+use Rattle.std.proofs.lemmas.Bool.{cases_lt, ne_eqb}
 use Rattle.std.proofs.lemmas.List.{take_all, length-take-le}
 use Rattle.std.specs.List.{slice_split, onto_first}
 use Rattle.mf_wire_lines.specs.Cut.{ended_of, last_of, ended_lines, begun_line, request, without_return}
@@ -97,26 +98,20 @@ long_without_return line h =
       | false ↦ omega arith
     ]
 
-le_or_lt : (a b : ℕ) → (a ≤ b) ⊎ (b < a)
-le_or_lt a b = grind arith
-
 pub held_alike : (line : List ℕ) → Alike (take 65538 line) line
-held_alike line = elim (le_or_lt (length line) 65538) [
-  | inl h ↦ inl (take_all 65538 line h)
-  | inr h ↦ let le : 65538 ≤ length line = omega arith in
+held_alike line = elim (cases_lt 65538 (length line)) [
+  | inl h ↦ let le : 65538 ≤ length line = omega arith in
       inr (omega (arith, length-take-le 65538 line le), omega arith)
+  | inr h ↦ inl (take_all 65538 line h)
 ]
 
 pub ended_alike : (line : List ℕ) → Alike (without_return (take 65538 line)) (without_return line)
-ended_alike line = elim (le_or_lt (length line) 65538) [
-  | inl h ↦ inl (ap without_return (take_all 65538 line h))
-  | inr h ↦ let le : 65538 ≤ length line = omega arith in
+ended_alike line = elim (cases_lt 65538 (length line)) [
+  | inl h ↦ let le : 65538 ≤ length line = omega arith in
       let held : 65538 ≤ length (take 65538 line) = omega (arith, length-take-le 65538 line le) in
       inr (long_without_return (take 65538 line) held, long_without_return line le)
+  | inr h ↦ inl (ap without_return (take_all 65538 line h))
 ]
-
-eqb_no : (b : ℕ) → (b ≡ 10 → ⊥) → (b == 10) ≡ false
-eqb_no b h = grind arith
 
 pub ended_at_end : (begun xs : List ℕ) (b : ℕ) → b ≡ 10 → ended_from begun (xs ++ b ∷ []) ≡ ended_from begun xs ++ request (without_return (begun_from begun xs))
 ended_at_end begun xs b e = ended_from-append begun xs (b ∷ []) ∙ ap (λ l. ended_from begun xs ++ l) (ap (λ k. ended_from (begun_from begun xs) (k ∷ [])) e ∙ append-nil _)
@@ -125,10 +120,10 @@ pub begun_at_end : (begun xs : List ℕ) (b : ℕ) → b ≡ 10 → begun_from b
 begun_at_end begun xs b e = begun_from-append begun xs (b ∷ []) ∙ ap (λ k. begun_from (begun_from begun xs) (k ∷ [])) e
 
 pub ended_within : (begun xs : List ℕ) (b : ℕ) → (b ≡ 10 → ⊥) → ended_from begun (xs ++ b ∷ []) ≡ ended_from begun xs
-ended_within begun xs b h = ended_from-append begun xs (b ∷ []) ∙ ap (λ l. ended_from begun xs ++ l) (ap (λ t. cond t (request (without_return (begun_from begun xs)) ++ []) []) (eqb_no b h)) ∙ append-nil (ended_from begun xs)
+ended_within begun xs b h = ended_from-append begun xs (b ∷ []) ∙ ap (λ l. ended_from begun xs ++ l) (ap (λ t. cond t (request (without_return (begun_from begun xs)) ++ []) []) (ne_eqb b 10 h)) ∙ append-nil (ended_from begun xs)
 
 pub begun_within : (begun xs : List ℕ) (b : ℕ) → (b ≡ 10 → ⊥) → begun_from begun (xs ++ b ∷ []) ≡ begun_from begun xs ++ b ∷ []
-begun_within begun xs b h = begun_from-append begun xs (b ∷ []) ∙ ap (λ t. cond t [] (begun_from begun xs ++ b ∷ [])) (eqb_no b h)
+begun_within begun xs b h = begun_from-append begun xs (b ∷ []) ∙ ap (λ t. cond t [] (begun_from begun xs ++ b ∷ [])) (ne_eqb b 10 h)
 
 -- the lines of a whole, from those of a front
 pub ended_rest : (begun xs : List ℕ) (i : ℕ) → (rest : List (List ℕ)) × (ended_from begun xs ≡ ended_from begun (take i xs) ++ rest)

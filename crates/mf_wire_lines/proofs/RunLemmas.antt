@@ -1,5 +1,6 @@
 -- Runs one after another.
-use Rattle.std.proofs.Common.{◌≡◌, ℕ, ◌+◌, ◌<◌, inl, inr, List, [], ◌∷◌, ◌++◌, length, false, nat_le, refl, sym, ap, ◌∙◌, subst, arith, append_assoc, append-nil, length-append, take, Option}
+use Rattle.std.proofs.Common.{◌≡◌, ℕ, ◌+◌, ◌<◌, inl, inr, List, [], ◌∷◌, ◌++◌, length, refl, sym, ap, ◌∙◌, subst, arith, append_assoc, append-nil, length-append, take, Option}
+use Rattle.std.proofs.lemmas.Bool.{lt-leb}
 use Rattle.std.specs.Io.KnownBytes.{Appends}
 use Rattle.std.proofs.KnownBytes.{Appends-trans, Appends-nil}
 use Rattle.mf_wire_lines.specs.Cut.{request}
@@ -55,13 +56,10 @@ Answered-one step old new line text before after some s w = rw (request_some lin
   counted = refl;
 })
 
-long_test : (n : ℕ) → 65536 < n → nat_le n 65536 ≡ false
-long_test n h = grind arith
-
 pub LineStep-alike : {S : Type 0} (step : S → List ℕ → List ℕ → S → Type 0) (old new : S) (line other text : List ℕ) → Alike line other → LineStep step old line text new → LineStep step old other text new
 LineStep-alike step old new line other text a s = elim a [
   | inl e ↦ subst (λ l. LineStep step old l text new) e s
-  | inr h ↦ rw (long_test (length other) h.1) (rw (long_test (length line) h.0) at s)
+  | inr h ↦ rw (lt-leb (length other) 65536 h.1) (rw (lt-leb (length line) 65536 h.0) at s)
 ]
 
 pub Half-alike : {S : Type 0} (step : S → List ℕ → List ℕ → S → Type 0) (old new : S) (line other : List ℕ) (before after : Option (List ℕ)) → Alike line other

@@ -17,10 +17,7 @@ pub fn put<W: Sink>(sink: &mut W, bytes: &[u8]) -> Result<(), WriteFault>
 {
     let mut done = 0;
     while done < bytes.len() {
-        match sink.write_some(&bytes[done..]) {
-            Ok(n) => done += n,
-            Err(WriteFault) => return Err(WriteFault),
-        }
+        done += sink.write_some(&bytes[done..])?;
     }
     Ok(())
 }

@@ -1,5 +1,6 @@
 -- A body that is read piece by piece.
 use Rattle.std.proofs.Common.{◌≡◌, ℕ, ◌+◌, ◌-◌, ◌<◌, ◌≤◌, List, ◌++◌, refl, sym, ap, ◌∙◌, subst, arith, length, length-append, take, Option, Bool, true, false, nat_eq}
+use Rattle.std.proofs.lemmas.Bool.{eqb-true}
 use Rattle.std.proofs.lemmas.List.{take_all, length-take-le}
 use Rattle.std.proofs.lemmas.Slice.{take-put_mid}
 use borrow.Rule.Slice.PartMut.{mid_of, put_mid}
@@ -8,9 +9,6 @@ use Rattle.std.specs.Io.KnownBytes.{Consumes, IsAtEnd}
 use Rattle.mf_wire_messages.specs.Arrivals.{TellsBody}
 use Rattle.mf_wire_messages.proofs.HeadLemmas.{kept, piece_fits}
 
-same_number : (n m : ℕ) → nat_eq n m ≡ true → n ≡ m
-same_number n m e = grind arith
-
 other_number : (n m : ℕ) → nat_eq n m ≡ false → n ≤ m → n < m
 other_number n m e le = grind arith
 
@@ -18,7 +16,7 @@ told_either : (t : Bool) (a b : Option (List ℕ)) (n : ℕ) (begun piece : List
     → Consumes a b (take n piece) → (n < length piece → IsAtEnd b) → TellsBody a b begun (begun ++ piece) t
 told_either true a b n begun piece e le ate end =
     let long : length (begun ++ piece) ≡ length begun + length piece = length-append begun piece in
-    let same : n ≡ length piece = omega (arith, long, same_number n (length (begun ++ piece) - length begun) e) in
+    let same : n ≡ length piece = omega (arith, long, eqb-true n (length (begun ++ piece) - length begun) e) in
     let all : take n piece ≡ piece = take_all n piece (omega (arith, same)) in (
       take n piece,
       ate,

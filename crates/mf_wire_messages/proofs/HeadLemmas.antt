@@ -1,5 +1,6 @@
 -- A head that is read piece by piece.
 use Rattle.std.proofs.Common.{◌≡◌, ◌≢◌, ◌==◌, ℕ, ◌+◌, ◌-◌, ◌<◌, ◌≤◌, List, [], ◌∷◌, ◌++◌, refl, sym, ap, ◌∙◌, subst, arith, length, length-append, length-drop, take, drop, Option, None, Some, take-append-drop, append-nil, if◌then◌else◌, Bool, true, false}
+use Rattle.std.proofs.lemmas.Bool.{eqb-true}
 use Rattle.std.proofs.lemmas.List.{take-append-le, length-take-le}
 use borrow.Rule.Slice.PartMut.{mid_of, put_mid, same_len_mid}
 use Rattle.std.proofs.Math.Seq.{take-append-add, take-append_seam}
@@ -71,14 +72,11 @@ some_taken size n room piece within bound some =
 above : (n : ℕ) → (n == 0) ≡ false → 0 < n
 above n e = grind arith
 
-none_yet : (n : ℕ) → (n == 0) ≡ true → n ≡ 0
-none_yet n e = grind arith
-
 ended_either : (t : Bool) (a b c : Option (List ℕ)) (size n : ℕ) (room piece after : List ℕ) (fields : List HeaderSpan) → (size == 0) ≡ t → size ≤ length room → n ≡ 0 → 0 < length piece
     → Consumes a b (take size room) → Consumes b c (take n piece) → (n ≡ 0 → 0 < length piece → IsAtEnd c) → (0 < size → HasNoRequest (take size room))
     → TellsHead a c after fields (if t then Nothing else Refused)
 ended_either true a b c size n room piece after fields h within e lt p q end none =
-    (Consumes-trans a b c [] [] (subst (λ k. Consumes a b (take k room)) (none_yet size h) p) (subst (λ k. Consumes b c (take k piece)) e q), end e lt)
+    (Consumes-trans a b c [] [] (subst (λ k. Consumes a b (take k room)) (eqb-true size 0 h) p) (subst (λ k. Consumes b c (take k piece)) e q), end e lt)
 ended_either false a b c size n room piece after fields h within e lt p q end none = (
   take size room,
   subst (Consumes a c) (append-nil (take size room)) (Consumes-trans a b c (take size room) [] p (subst (λ k. Consumes b c (take k piece)) e q)),

@@ -1,5 +1,6 @@
 -- A message by its head and the bytes after it.
 use Rattle.std.proofs.Common.{◌≡◌, ◌≢◌, inl, inr, ℕ, ◌<◌, ◌≤◌, List, [], ◌∷◌, ◌++◌, refl, sym, ap, ap₂, ◌∙◌, subst, arith, length, length-append, take, drop, map, append_assoc, append-nil, Option, None, Some, Bool, true, false, cond, nat_le, option_and_then}
+use Rattle.std.proofs.lemmas.Bool.{le-leb, lt-leb}
 use Rattle.std.proofs.lemmas.List.{take-append-le, length-take-le, length-map}
 use Rattle.std.specs.Io.KnownBytes.{Consumes, IsAtEnd}
 use Rattle.httparse.specs.Grammar.{RequestHead}
@@ -31,19 +32,13 @@ head_there bytes more fields spans head short few within at = record {
 pub unframed : (head : RequestHead) (rest : List ℕ) → frame_of (map name_and_value head.fields) ≡ None → request_of head rest ≡ None
 unframed head rest e = ap (option_and_then (request_within head rest)) e
 
-over : (n m : ℕ) → m < n → nat_le n m ≡ false
-over n m lt = grind arith
-
-pub upto : (n m : ℕ) → n ≤ m → nat_le n m ≡ true
-upto n m le = grind arith
-
 -- the body is cut
 pub cut_short : (head : RequestHead) (begun more : List ℕ) (left : Option (List ℕ)) (frame : List ℕ × ℕ) (size : ℕ) → frame_of (map name_and_value head.fields) ≡ Some frame → size ≡ frame.1
     → length (begun ++ more) < size → IsAtEnd left → request_of head (begun ++ (more ++ following left)) ≡ None
 cut_short head begun more left frame size e same short end =
     let all : begun ++ (more ++ following left) ≡ begun ++ more = ap (λ l. begun ++ l) (ap (λ l. more ++ l) (none_follows left end) ∙ append-nil more) in
     ap (request_of head) all ∙ ap (option_and_then (request_within head (begun ++ more))) e
-    ∙ ap (λ t. cond t (Some (record { staff = frame.0; method = head.method; target = head.target; body = take frame.1 (begun ++ more) })) None) (over frame.1 (length (begun ++ more)) (omega (arith, same, short)))
+    ∙ ap (λ t. cond t (Some (record { staff = frame.0; method = head.method; target = head.target; body = take frame.1 (begun ++ more) })) None) (lt-leb frame.1 (length (begun ++ more)) (omega (arith, same, short)))
 
 -- the body is whole
 pub whole_request : (head : RequestHead) (begun more body : List ℕ) (left : Option (List ℕ)) (frame : List ℕ × ℕ) → frame_of (map name_and_value head.fields) ≡ Some frame → length body ≡ frame.1
@@ -56,7 +51,7 @@ whole_request head begun more body left frame e same fits content =
     let taken : take frame.1 rest ≡ body =
     ap (take frame.1) parts ∙ take-append-le frame.1 (begun ++ more) (following left) (omega (arith, same, fits)) ∙ ap (λ n. take n (begun ++ more)) (sym same) ∙ sym content in
     ap (option_and_then (request_within head rest)) e
-    ∙ ap (λ t. cond t (Some (record { staff = frame.0; method = head.method; target = head.target; body = take frame.1 rest })) None) (upto frame.1 (length rest) (omega (arith, same, fits, long, length-append (begun ++ more) (following left))))
+    ∙ ap (λ t. cond t (Some (record { staff = frame.0; method = head.method; target = head.target; body = take frame.1 rest })) None) (le-leb frame.1 (length rest) (omega (arith, same, fits, long, length-append (begun ++ more) (following left))))
     ∙ ap (λ b. Some (record { staff = frame.0; method = head.method; target = head.target; body = b })) taken
 
 -- the head and its message are read one after the other

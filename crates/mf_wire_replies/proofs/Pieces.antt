@@ -1,10 +1,5 @@
 -- Texts of JSON that are put together piece by piece.
-use Rattle.std.proofs.Common.{ℕ, List, ◌++◌, codes, IfOk, Result, Ok, Err}
-
--- what holds of an answer holds where more does
-pub weaker : {A E : Type 0} (r : Result A E) (P Q : A → Type 0) → ((x : A) → P x → Q x) → IfOk r P → IfOk r Q
-weaker (Ok x) P Q f h = f x h
-weaker (Err e) P Q f h = tt
+use Rattle.std.proofs.Common.{ℕ, List, ◌++◌, codes}
 
 -- sums by portion, by how these are written
 abbrev pub sums_by : (fees interest penalties principal : List ℕ) → List ℕ

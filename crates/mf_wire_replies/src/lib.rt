@@ -1,4 +1,4 @@
-//! What a success is told by: its HTTP status, its body in JSON, and its line.
+//! What a success is replied by: its HTTP status, its body in JSON, and its line.
 #![tactic(auto)]
 
 mod showing;

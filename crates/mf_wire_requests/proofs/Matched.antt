@@ -4,6 +4,7 @@ use Rattle.std.specs.Prelude.{◌==◌, ◌&&◌, nat_lt, ltb, leb, IfSome}
 use Rattle.std.specs.Char.{is_ascii}
 use Rattle.std.specs.List.{list_all}
 use Rattle.std.specs.Str.{IsAscii, IsUtf8}
+use Rattle.std.proofs.lemmas.Bool.{and_parts}
 use Rattle.std.proofs.lemmas.Bool.Decides.{nat_tests}
 use Rattle.std.proofs.lemmas.Str.{IsAscii-take, IsAscii-drop, IsUtf8-from_ascii}
 use Rattle.std.proofs.lemmas.Str.Ascii.{IsAscii-nil}
@@ -19,17 +20,13 @@ use Rattle.mf_wire_requests.specs.Routes.{with_route, desk_routes}
 head_ascii : (x : ℕ) (b : Bool) → (nat_lt x 128 && b) ≡ true → x < 128
 head_ascii x b h = grind (arith, nat_tests)
 
-rest_ascii : (a b : Bool) → (a && b) ≡ true → b ≡ true
-rest_ascii true b h = h
-rest_ascii false b h = absurd (cc)
-
 more_ascii : (x : ℕ) (xs : List ℕ) → x < 128 → IsAscii xs → IsAscii (x ∷ xs)
 more_ascii x xs h a zero = h
 more_ascii x xs h a (suc i) = a i
 
 pub ascii_bytes : (bs : List ℕ) → list_all is_ascii bs ≡ true → IsAscii bs
 ascii_bytes [] h = IsAscii-nil
-ascii_bytes (x ∷ xs) h = more_ascii x xs (head_ascii x (list_all is_ascii xs) h) (ascii_bytes xs (rest_ascii (nat_lt x 128) (list_all is_ascii xs) h))
+ascii_bytes (x ∷ xs) h = more_ascii x xs (head_ascii x (list_all is_ascii xs) h) (ascii_bytes xs (and_parts (nat_lt x 128) (list_all is_ascii xs) h).1)
 
 part_text : (bs : List ℕ) (start end : ℕ) → IsAscii bs → IsUtf8 (part_of bs start end)
 part_text bs start end h = IsUtf8-from_ascii (part_of bs start end) (either (leb start end && leb end (length bs)))
@@ -111,11 +108,7 @@ IsAsciiRoute route = list_all is_ascii route.text ≡ true
 
 keys_from : (rs : RowsOf (RouteOf Methods)) → list_all (λ row. list_all is_ascii row.1.text) rs ≡ true → AllKeys IsAsciiRoute rs
 keys_from [] h = tt
-keys_from ((t, route) ∷ rest) h = (first_ascii (list_all is_ascii route.text) _ h, keys_from rest (rest_ascii (list_all is_ascii route.text) _ h))
-  where
-    first_ascii : (a b : Bool) → (a && b) ≡ true → a ≡ true
-    first_ascii true b h = refl
-    first_ascii false b h = absurd (cc)
+keys_from ((t, route) ∷ rest) h = let both = and_parts (list_all is_ascii route.text) _ h in (both.0, keys_from rest both.1)
 
 desk_keys : list_all (λ row. list_all is_ascii row.1.text) desk_routes ≡ true
 unfolding desk_routes with_route matchit_on_literals

@@ -46,23 +46,27 @@ within least greatest n = cond (nat_le least n && nat_le n greatest) (Some n) No
 abbrev pub number_at : ℕ → ℕ → List ℕ → Data → Option ℕ
 number_at least greatest name d = option_and_then (within least greatest) (whole_at name d)
 
--- no number where there is none or where it is null, and else a whole number up to a greatest
-abbrev pub optional_number : ℕ → Option Data → Option (Option ℕ)
-optional_number greatest None = Some None
-optional_number greatest (Some d) = cond (is_some (as_null d)) (Some None) (option_map (λ n. Some n) (option_and_then (within 0 greatest) (option_and_then as_u64 (as_number d))))
+-- a value that is not null
+abbrev pub unless_null : Option Data → Option Data
+unless_null None = None
+unless_null (Some d) = cond (is_some (as_null d)) None (Some d)
+
+-- a member that is neither absent nor null
+abbrev pub present_at : List ℕ → Data → Option Data
+present_at name d = unless_null (get name d)
+
+-- nothing where there is no value, and else what it is read as
+abbrev pub optional : {A : Type 0} → (Data → Option A) → Option Data → Option (Option A)
+optional reading None = Some None
+optional reading (Some d) = option_map (λ a. Some a) (reading d)
 
 -- a member that may be absent or null, and else is a whole number up to a greatest
 abbrev pub optional_number_at : ℕ → List ℕ → Data → Option (Option ℕ)
-optional_number_at greatest name d = optional_number greatest (get name d)
-
--- no receipt where there is none or where it is null, and else the text of one
-abbrev pub optional_receipt : Option Data → Option (Option (List ℕ))
-optional_receipt None = Some None
-optional_receipt (Some d) = cond (is_some (as_null d)) (Some None) (option_map (λ text. Some text) (option_and_then (λ text. cond (is_receipt text) (Some text) None) (as_str d)))
+optional_number_at greatest name d = optional (λ n. option_and_then (within 0 greatest) (option_and_then as_u64 (as_number n))) (present_at name d)
 
 -- a member that may be absent or null, and else is a receipt
 abbrev pub optional_receipt_at : List ℕ → Data → Option (Option (List ℕ))
-optional_receipt_at name d = optional_receipt (get name d)
+optional_receipt_at name d = optional (λ r. option_and_then (λ text. cond (is_receipt text) (Some text) None) (as_str r)) (present_at name d)
 
 -- a member that is an account's text
 abbrev pub account_at : List ℕ → Data → Option Account

@@ -2,7 +2,7 @@
 
 ghost use Rattle.std.specs.Prelude.{◌≡◌, ◌≤◌, Some, None, option_map, option_and_then, IfOk, IfErr, IfSome, IsTrue, ◌⊎◌};
 ghost use Rattle.serde_json.specs.View.{view};
-ghost use Rattle.mf_wire_requests.specs.Bodies.{json_of, whole_at, text_at, name_at, office_at, within as within_limits, number_at, optional_receipt_at, optional_number_at, account_at, day_named as day_of, day_at, Gives};
+ghost use Rattle.mf_wire_requests.specs.Bodies.{json_of, whole_at, text_at, name_at, office_at, within as within_limits, number_at, present_at, optional_receipt_at, optional_number_at, account_at, day_named as day_of, day_at, Gives};
 ghost use Rattle.mf_wire_requests.specs.Named.{choice_at};
 ghost use Rattle.mf_model.specs.Sound.{IsName};
 ghost use Rattle.mf_office.specs.Texts.{IsAccount};
@@ -108,16 +108,21 @@ pub fn number(body: &Value, member: &str, least: u32, greatest: u32) -> Option<u
     Some(number as u32)
 }
 
+/// A member that is neither absent nor null.
+fn present<'b>(body: &'b Value, member: &str) -> Option<&'b Value>
+    ensures { option_map (λ v. view v.now) result ≡ present_at member.now (view body.now) }
+{
+    let value = body.get(member)?;
+    if value.is_null() { None } else { Some(value) }
+}
+
 /// A member that may be absent or null, and else is a whole number up to a greatest. None is for any other member.
 pub fn optional_number(body: &Value, member: &str, greatest: u32) -> Option<Option<u32>>
     ensures { result ≡ optional_number_at greatest member.now (view body.now) }
 {
-    let Some(value) = body.get(member) else {
+    let Some(value) = present(body, member) else {
         return Some(None);
     };
-    if value.is_null() {
-        return Some(None);
-    }
     let number = within(value.as_u64()?, 0, greatest as u64)?;
     Some(Some(number as u32))
 }
@@ -127,12 +132,9 @@ pub fn receipt(alloc: Global, body: &Value, member: &str) -> Result<Option<Recei
     ensures value { Gives (optional_receipt_at member.now (view body.now)) result }
     ensures in_range { IfOk result (λ receipt. IfSome receipt IsReceipt) }
 {
-    let Some(value) = body.get(member) else {
+    let Some(value) = present(body, member) else {
         return Ok(None);
     };
-    if value.is_null() {
-        return Ok(None);
-    }
     let text = value.as_str().ok_or(Fault::F1)?;
     if !is_receipt(text.as_bytes()) {
         return Err(Fault::F1);

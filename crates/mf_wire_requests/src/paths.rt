@@ -1,4 +1,5 @@
 //! What the parameters of a path name: accounts, and the numbers that they write.
+
 ghost use Rattle.std.specs.Prelude.{◌≤◌, IfOk};
 ghost use Rattle.matchit.specs.Params.{AllText};
 ghost use Rattle.mf_office.specs.Texts.{IsAccount};

@@ -1,4 +1,5 @@
 //! The parts of a request line: who sends it, the method, the path, and the body.
+
 ghost use Rattle.std.specs.Prelude.{◌≡◌, option_map};
 ghost use Rattle.std.specs.List.{list_all};
 ghost use Rattle.mf_wire_requests.specs.RequestLine.{parts_now, parts_of, is_token as token_test, is_token_byte};

@@ -1,4 +1,5 @@
 //! Which route a path has, and what its methods ask.
+
 ghost use Rattle.std.specs.Prelude.{◌≡◌, true, [], IfOk, IfErr, IfSome, OnOk, map, option_map};
 ghost use Rattle.matchit.specs.declared.error.InsertError.TheVariants.{OutOfMemory};
 ghost use Rattle.mf_wire_requests.specs.Routes.{with_route, takes_route, takes_table, routes_of, desk_routes, matched_route, route_at};

@@ -14,8 +14,8 @@ use std::alloc::Global;
 /// Answers the request lines of a source over a new institution in memory, which begins on a day, and gives how many
 /// replies were written.
 ///
-/// Its errors are those of `mf_wire::run`. Memory is also told where there is none for the institution; with Memory
-/// nothing was read, answered or written.
+/// Its errors are those of `mf_wire::run`. Memory is also reported where there is none for the institution; with
+/// Memory nothing was read, answered or written.
 pub fn answer_lines<R: Source, W: Sink>(
     alloc: Global,
     day: Day,

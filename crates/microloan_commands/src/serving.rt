@@ -56,7 +56,7 @@ fn serve_next<S: InstitutionStore, L: OpenListener<Stream = TcpStream>>(
 /// `mf_wire::serve_one` does. It gives how many responses were written whole.
 ///
 /// A connection that can't be accepted counts as one, and so does one whose streams fail; the next is served. Memory is
-/// told where there is none for the routes, which are made first: nothing is accepted or answered then.
+/// reported where there is none for the routes, which are made first: nothing is accepted or answered then.
 pub fn serve_connections<S: InstitutionStore, L: OpenListener<Stream = TcpStream>>(
     alloc: Global,
     store: &mut S,

@@ -17,7 +17,7 @@ use std::alloc::{AllocError, Global};
 pub enum SheetFault {
     /// It has more than 1,048,576 bytes: nothing was answered or written.
     TooLong,
-    /// A stream failed, or there was no memory. It tells how many results were written whole.
+    /// A stream failed, or there was no memory. It says how many results were written whole.
     Stream(StreamFault),
 }
 
@@ -56,9 +56,9 @@ fn read_whole<R: Source>(alloc: Global, source: &mut R) -> Result<Vec<u8>, Sheet
 /// Reads a source to its end, answers it as a collection sheet that somebody sends, as `mf_sheet::collect` does, and
 /// writes the sheet of its results.
 ///
-/// A source of more than 1,048,576 bytes is refused, and nothing is answered or written. `Read` is told where the
-/// reader failed in this call, and nothing was answered or written then. `Memory` is also told where there is no room
-/// to read, and nothing was read then.
+/// A source of more than 1,048,576 bytes is refused, and nothing is answered or written. `Read` is reported where
+/// the reader failed in this call, and nothing was answered or written then. `Memory` is also reported where there is no
+/// room to read, and nothing was read then.
 pub fn collect_sheet<S: InstitutionStore, R: Source, W: Sink>(
     alloc: Global,
     store: &mut S,
@@ -68,10 +68,7 @@ pub fn collect_sheet<S: InstitutionStore, R: Source, W: Sink>(
 ) -> Result<(), SheetFault>
     ensures ends { Ends (RunsRows S.stands S.clean S.leaves caller) store.old store.new (streams_of R.unread R.faults W.written W.faults source.old source.new sink.old sink.new) result }
 {
-    let sheet = match read_whole(alloc, source) {
-        Ok(sheet) => sheet,
-        Err(fault) => return Err(fault),
-    };
+    let sheet = read_whole(alloc, source)?;
     match collect(alloc, store, caller, sheet.as_slice(), sink) {
         Ok(()) => Ok(()),
         Err(fault) => Err(SheetFault::Stream(fault)),

@@ -1,6 +1,9 @@
 -- The commands of the program and their options, as `clap` reads them.
-use Rattle.std.specs.Prelude.{[], ◌∷◌, codes, Some, true}
+use Rattle.std.specs.Prelude.{List, [], ◌∷◌, codes, fold, Some, true}
 use Rattle.clap.specs.Words.{App, Rule, Text, new_app, new_rule, with_rule, with_subcommand}
+use Rattle.microloan_words.specs.declared.options.CommandOption.{CommandOption}
+use Rattle.microloan_words.specs.declared.options.Need.{Need}
+use Rattle.microloan_words.specs.declared.options.Need.TheVariants.{Optional, Required, Default}
 
 -- an option by its long name, with one value
 abbrev pub option_rule : Text → Rule
@@ -14,42 +17,56 @@ required_rule id = record (option_rule id) { required = true }
 abbrev pub default_rule : Text → Text → Rule
 default_rule id text = record (option_rule id) { defaults = text ∷ [] }
 
--- `schedule` with the options that say which loan
-abbrev pub loan_app : App
-loan_app =
-    with_rule (with_rule (with_rule (with_rule (with_rule (new_app (codes "schedule"))
-    (required_rule (codes "method")))
-    (required_rule (codes "principal")))
-    (required_rule (codes "rate")))
-    (required_rule (codes "periods")))
-    (required_rule (codes "day"))
+-- an option as the program's tables declare it
+abbrev pub rule_needed : Text → Need → Rule
+rule_needed id Optional = option_rule id
+rule_needed id Required = required_rule id
+rule_needed id (Default text) = default_rule id text.now
 
--- `schedule` with all its options
-abbrev pub schedule_app : App
-schedule_app =
-    with_rule (with_rule (with_rule (with_rule loan_app
-    (default_rule (codes "frequency") (codes "months")))
-    (default_rule (codes "every") (codes "1")))
-    (default_rule (codes "principal-grace") (codes "0")))
-    (default_rule (codes "interest-grace") (codes "0"))
+abbrev pub rule_for : CommandOption → Rule
+rule_for option = rule_needed option.id.now option.need
+
+-- a command with one more of these
+abbrev pub with_declared : App → CommandOption → App
+with_declared app option = with_rule app (rule_for option)
+
+-- a command by its name, with its options
+abbrev pub app_with : Text → List Rule → App
+app_with name rules = fold with_rule (new_app name) rules
 
 -- `batch` with its options
 abbrev pub batch_app : App
-batch_app = with_rule (with_rule (new_app (codes "batch"))
-    (option_rule (codes "file")))
-    (default_rule (codes "day") (codes "2024-01-01"))
+batch_app = app_with (codes "batch") (
+    option_rule (codes "file")
+    ∷ default_rule (codes "day") (codes "2024-01-01")
+    ∷ [])
 
 -- `serve` with its options
 abbrev pub serve_app : App
-serve_app = with_rule (with_rule (with_rule (with_rule (new_app (codes "serve"))
-    (required_rule (codes "file")))
-    (required_rule (codes "port")))
-    (default_rule (codes "count") (codes "0")))
-    (default_rule (codes "day") (codes "2024-01-01"))
+serve_app = app_with (codes "serve") (
+    required_rule (codes "file")
+    ∷ required_rule (codes "port")
+    ∷ default_rule (codes "count") (codes "0")
+    ∷ default_rule (codes "day") (codes "2024-01-01")
+    ∷ [])
 
 -- a command over a file, asked for by a member of staff
 abbrev pub staff_app : Text → App
-staff_app name = with_rule (with_rule (new_app name) (required_rule (codes "file"))) (required_rule (codes "staff"))
+staff_app name = app_with name (required_rule (codes "file") ∷ required_rule (codes "staff") ∷ [])
+
+-- `schedule` with its options
+abbrev pub schedule_app : App
+schedule_app = app_with (codes "schedule") (
+    required_rule (codes "method")
+    ∷ required_rule (codes "principal")
+    ∷ required_rule (codes "rate")
+    ∷ required_rule (codes "periods")
+    ∷ required_rule (codes "day")
+    ∷ default_rule (codes "frequency") (codes "months")
+    ∷ default_rule (codes "every") (codes "1")
+    ∷ default_rule (codes "principal-grace") (codes "0")
+    ∷ default_rule (codes "interest-grace") (codes "0")
+    ∷ [])
 
 -- the program, which wants a command
 abbrev pub bare_app : App

@@ -1,50 +1,185 @@
-ghost use Rattle.std.specs.Prelude.{◌≡◌, codes, IfOk, false};
-ghost use Rattle.clap.specs.Words.{App, app_of, rule_of, new_app, with_rule, with_subcommand};
+ghost use Rattle.std.specs.Prelude.{◌≡◌, codes, IfOk, false, fold};
+ghost use Rattle.clap.specs.Words.{App, app_of, rule_of, new_app, with_subcommand};
 ghost use Rattle.clap.specs.declared.Command.TheViews.{out-Command as fields_of};
-ghost use Rattle.microloan_words.specs.Options.{option_rule, required_rule, default_rule, batch_app, serve_app, staff_app, loan_app, schedule_app, bare_app, desk_app, microloan_app};
+ghost use Rattle.microloan_words.specs.Options.{rule_for, with_declared, batch_app, serve_app, staff_app, schedule_app, bare_app, desk_app, microloan_app};
 
 use crate::values::DEFAULT_DAY;
 use clap::{Arg, Command};
 use std::alloc::{AllocError, Global};
 
-/// An option by its long name, with one value.
-fn plain_option<'a>(alloc: Global, id: &'a str, value: &'a str, help: &'a str) -> Arg<'a>
-    ensures rule { rule_of result ≡ option_rule id.entry.now }
-    ensures local { result.global ≡ false }
-{
-    Arg::new(alloc, id).long(id).value_name(value).help(help)
+/// Whether an option must be given, or has a text that stands where it isn't.
+pub(crate) enum Need {
+    Optional,
+    Required,
+    Default(&'static str),
 }
 
-/// An option that must be given.
-fn required_option<'a>(alloc: Global, id: &'a str, value: &'a str, help: &'a str) -> Arg<'a>
-    ensures rule { rule_of result ≡ required_rule id.entry.now }
-    ensures local { result.global ≡ false }
-{
-    plain_option(alloc, id, value, help).required(true)
+/// An option of a command, by its long name, with one value.
+pub(crate) struct CommandOption {
+    id: &'static str,
+    value_name: &'static str,
+    help: &'static str,
+    need: Need,
 }
 
-/// An option with the text that stands where it isn't given.
-fn default_option<'a>(
-    alloc: Global,
-    id: &'a str,
-    value: &'a str,
-    default: &'a str,
-    help: &'a str,
-) -> Arg<'a>
-    ensures rule { rule_of result ≡ default_rule id.entry.now default.entry.now }
+/// The file of an institution, which must be given.
+const FILE: CommandOption = CommandOption {
+    id: "file",
+    value_name: "PATH",
+    help: "The file that holds the institution",
+    need: Need::Required,
+};
+
+/// The day on which a new institution begins.
+const FIRST_DAY: CommandOption = CommandOption {
+    id: "day",
+    value_name: "DAY",
+    help: "First day of a new institution",
+    need: Need::Default(DEFAULT_DAY),
+};
+
+/// The options of `batch`.
+const BATCH_OPTIONS: [CommandOption; 2] = [
+    CommandOption {
+        id: "file",
+        value_name: "PATH",
+        help: "The file that holds the institution; none: memory",
+        need: Need::Optional,
+    },
+    FIRST_DAY,
+];
+
+/// The options of `serve`.
+const SERVE_OPTIONS: [CommandOption; 4] = [
+    FILE,
+    CommandOption {
+        id: "port",
+        value_name: "PORT",
+        help: "The port on 127.0.0.1: 1 to 65535",
+        need: Need::Required,
+    },
+    CommandOption {
+        id: "count",
+        value_name: "COUNT",
+        help: "Connections to serve; 0: without end",
+        need: Need::Default("0"),
+    },
+    FIRST_DAY,
+];
+
+/// The options of a command over a file that a member of staff asks for.
+const STAFF_OPTIONS: [CommandOption; 2] = [
+    FILE,
+    CommandOption {
+        id: "staff",
+        value_name: "STAFF",
+        help: "Who asks: an office, a slash and a member of its staff",
+        need: Need::Required,
+    },
+];
+
+/// The options of `schedule`.
+const SCHEDULE_OPTIONS: [CommandOption; 9] = [
+    CommandOption {
+        id: "method",
+        value_name: "METHOD",
+        help: "The plan of principal and interest; see below",
+        need: Need::Required,
+    },
+    CommandOption {
+        id: "principal",
+        value_name: "CENTS",
+        help: "Amount lent in whole cents: 1 to 1000000000000",
+        need: Need::Required,
+    },
+    CommandOption {
+        id: "rate",
+        value_name: "RATE",
+        help: "Hundredths of a percent a year: 0 to 100000",
+        need: Need::Required,
+    },
+    CommandOption {
+        id: "periods",
+        value_name: "COUNT",
+        help: "Number of instalments: 1 to 360",
+        need: Need::Required,
+    },
+    CommandOption {
+        id: "day",
+        value_name: "DAY",
+        help: "Disbursement: 2000-01-01 to 2099-12-31",
+        need: Need::Required,
+    },
+    CommandOption {
+        id: "frequency",
+        value_name: "UNIT",
+        help: "Period in weeks or months",
+        need: Need::Default("months"),
+    },
+    CommandOption {
+        id: "every",
+        value_name: "COUNT",
+        help: "Length: 1-52 weeks or 1-12 months",
+        need: Need::Default("1"),
+    },
+    CommandOption {
+        id: "principal-grace",
+        value_name: "COUNT",
+        help: "Instalments without principal",
+        need: Need::Default("0"),
+    },
+    CommandOption {
+        id: "interest-grace",
+        value_name: "COUNT",
+        help: "Instalments without interest",
+        need: Need::Default("0"),
+    },
+];
+
+/// An option as `clap` takes it.
+fn arg_of<'a>(alloc: Global, option: &CommandOption) -> Arg<'a>
+    ensures rule { rule_of result ≡ rule_for option.now }
     ensures local { result.global ≡ false }
 {
-    plain_option(alloc, id, value, help).default_value(default)
+    let arg = Arg::new(alloc, option.id)
+        .long(option.id)
+        .value_name(option.value_name)
+        .help(option.help);
+    match option.need {
+        Need::Optional => arg,
+        Need::Required => arg.required(true),
+        Need::Default(text) => arg.default_value(text),
+    }
 }
 
 /// The command with one more option.
-fn with_option<'a>(command: Command<'a>, option: Arg<'a>) -> Result<Command<'a>, AllocError>
-    requires option { option.global ≡ false }
-    requires command { (fields_of command).has_globals ≡ false }
-    ensures app { IfOk result (λ c. app_of c ≡ with_rule (app_of command.entry) (rule_of option.entry)) }
+fn with_option<'a>(
+    alloc: Global,
+    command: Command<'a>,
+    option: &CommandOption,
+) -> Result<Command<'a>, AllocError>
+    requires { (fields_of command).has_globals ≡ false }
+    ensures app { IfOk result (λ c. app_of c ≡ with_declared (app_of command.entry) option.now) }
     ensures local { IfOk result (λ c. (fields_of c).has_globals ≡ false) }
 {
-    command.arg(option)
+    command.arg(arg_of(alloc, option))
+}
+
+/// The command with more options.
+fn with_options<'a>(
+    alloc: Global,
+    command: Command<'a>,
+    options: &[CommandOption],
+) -> Result<Command<'a>, AllocError>
+    requires { (fields_of command).has_globals ≡ false }
+    ensures app { IfOk result (λ c. app_of c ≡ fold with_declared (app_of command.entry) options.now) }
+    ensures local { IfOk result (λ c. (fields_of c).has_globals ≡ false) }
+{
+    let mut command = command;
+    for option in options {
+        command = with_option(alloc, command, option)?;
+    }
+    Ok(command)
 }
 
 /// A command with its line in help, and the text behind its options.
@@ -55,41 +190,60 @@ fn described<'a>(alloc: Global, name: &'a str, about: &'a str, after: &'a str) -
     Command::new(alloc, name).about(about).after_help(after)
 }
 
-/// `schedule` with the options that say which loan.
-fn loan_options<'a>(alloc: Global) -> Result<Command<'a>, AllocError>
-    ensures app { IfOk result (λ c. app_of c ≡ loan_app) }
+/// The command `batch`.
+fn batch_command<'a>(alloc: Global) -> Result<Command<'a>, AllocError>
+    ensures app { IfOk result (λ c. app_of c ≡ batch_app) }
     ensures local { IfOk result (λ c. (fields_of c).has_globals ≡ false) }
 {
-    let method = required_option(
+    let command = described(
         alloc,
-        "method",
-        "METHOD",
-        "The plan of principal and interest; see below",
+        "batch",
+        "Answer request lines",
+        "Each line of standard input is `caller method path`, then a space and a JSON\nbody where the request has one. Each reply is a status, a space and a body.\ndocs/routes.md has every request with its members and replies.\n\nA file that is missing or empty gets a new institution. Days are 2000-01-01 to\n2099-12-31.\n\nExample:\n  echo '1/1 POST /clients {\"office\":1,\"name\":\"Amina\"}' | microloan batch",
     );
-    let command = with_option(schedule_named(alloc), method)?;
-    let principal = required_option(
+    with_options(alloc, command, BATCH_OPTIONS.as_slice())
+}
+
+/// The command `serve`.
+fn serve_command<'a>(alloc: Global) -> Result<Command<'a>, AllocError>
+    ensures app { IfOk result (λ c. app_of c ≡ serve_app) }
+    ensures local { IfOk result (λ c. (fields_of c).has_globals ≡ false) }
+{
+    let command = described(
         alloc,
-        "principal",
-        "CENTS",
-        "Amount lent in whole cents: 1 to 1000000000000",
+        "serve",
+        "Answer HTTP messages, one a connection",
+        "Each message names who asks in its field X-Staff, as 1/1. Connections are served\none after the other, so a slow client holds up the others.\n\nA file that is missing or empty gets a new institution. Days are 2000-01-01 to\n2099-12-31.\n\nExample:\n  microloan serve --file desk.db --port 8080\n  curl -H 'X-Staff: 1/1' http://127.0.0.1:8080/offices",
     );
-    let command = with_option(command, principal)?;
-    let rate = required_option(
+    with_options(alloc, command, SERVE_OPTIONS.as_slice())
+}
+
+/// The command `collect`.
+fn collect_command<'a>(alloc: Global) -> Result<Command<'a>, AllocError>
+    ensures app { IfOk result (λ c. app_of c ≡ staff_app (codes "collect")) }
+    ensures local { IfOk result (λ c. (fields_of c).has_globals ≡ false) }
+{
+    let command = described(
         alloc,
-        "rate",
-        "RATE",
-        "Hundredths of a percent a year: 0 to 100000",
+        "collect",
+        "Enter the repayments of a collection sheet",
+        "Standard input is the sheet, CSV with the columns receipt,loan,date,amount, at\nmost 1048576 bytes. Standard output is the sheet with a fifth column, result:\nentered, repeated or the number of a refusal. A sheet may be sent again.\n\nExample:\n  microloan collect --file desk.db --staff 1/1 < sheet.csv > results.csv",
     );
-    let command = with_option(command, rate)?;
-    let periods = required_option(alloc, "periods", "COUNT", "Number of instalments: 1 to 360");
-    let command = with_option(command, periods)?;
-    let day = required_option(
+    with_options(alloc, command, STAFF_OPTIONS.as_slice())
+}
+
+/// The command `report`.
+fn report_command<'a>(alloc: Global) -> Result<Command<'a>, AllocError>
+    ensures app { IfOk result (λ c. app_of c ≡ staff_app (codes "report")) }
+    ensures local { IfOk result (λ c. (fields_of c).has_globals ≡ false) }
+{
+    let command = described(
         alloc,
-        "day",
-        "DAY",
-        "Disbursement: 2000-01-01 to 2099-12-31",
+        "report",
+        "Print the report of arrears",
+        "A line for the office of the one who asks and for each office below it, by\nnumber, and a line for all. The columns: office, active loans, outstanding\nprincipal, then that of loans 1-30, 31-60, 61-90 and over 90 days overdue, and\nthe percentage more than 30 days overdue.\n\nExample:\n  microloan report --file desk.db --staff 1/1",
     );
-    with_option(command, day)
+    with_options(alloc, command, STAFF_OPTIONS.as_slice())
 }
 
 /// `schedule` with its texts and no options.
@@ -113,156 +267,7 @@ fn schedule_command<'a>(alloc: Global) -> Result<Command<'a>, AllocError>
     ensures app { IfOk result (λ c. app_of c ≡ schedule_app) }
     ensures local { IfOk result (λ c. (fields_of c).has_globals ≡ false) }
 {
-    let command = loan_options(alloc)?;
-    let frequency = default_option(
-        alloc,
-        "frequency",
-        "UNIT",
-        "months",
-        "Period in weeks or months",
-    );
-    let command = with_option(command, frequency)?;
-    let every = default_option(
-        alloc,
-        "every",
-        "COUNT",
-        "1",
-        "Length: 1-52 weeks or 1-12 months",
-    );
-    let command = with_option(command, every)?;
-    let principal_grace = default_option(
-        alloc,
-        "principal-grace",
-        "COUNT",
-        "0",
-        "Instalments without principal",
-    );
-    let command = with_option(command, principal_grace)?;
-    let interest_grace = default_option(
-        alloc,
-        "interest-grace",
-        "COUNT",
-        "0",
-        "Instalments without interest",
-    );
-    with_option(command, interest_grace)
-}
-
-/// The option that names the file of an institution, which must be given.
-fn file_option<'a>(alloc: Global) -> Arg<'a>
-    ensures rule { rule_of result ≡ required_rule (codes "file") }
-    ensures local { result.global ≡ false }
-{
-    required_option(alloc, "file", "PATH", "The file that holds the institution")
-}
-
-/// The option of the day on which a new institution begins.
-fn day_option<'a>(alloc: Global) -> Arg<'a>
-    ensures rule { rule_of result ≡ default_rule (codes "day") (codes "2024-01-01") }
-    ensures local { result.global ≡ false }
-{
-    default_option(
-        alloc,
-        "day",
-        "DAY",
-        DEFAULT_DAY,
-        "First day of a new institution",
-    )
-}
-
-/// The command `batch`.
-fn batch_command<'a>(alloc: Global) -> Result<Command<'a>, AllocError>
-    ensures app { IfOk result (λ c. app_of c ≡ batch_app) }
-    ensures local { IfOk result (λ c. (fields_of c).has_globals ≡ false) }
-{
-    let command = described(
-        alloc,
-        "batch",
-        "Answer request lines",
-        "Each line of standard input is `caller method path`, then a space and a JSON\nbody where the request has one. Each reply is a status, a space and a body.\ndocs/routes.md has every request with its members and replies.\n\nA file that is missing or empty gets a new institution. Days are 2000-01-01 to\n2099-12-31.\n\nExample:\n  echo '1/1 POST /clients {\"office\":1,\"name\":\"Amina\"}' | microloan batch",
-    );
-    let file = plain_option(
-        alloc,
-        "file",
-        "PATH",
-        "The file that holds the institution; none: memory",
-    );
-    let command = with_option(command, file)?;
-    with_option(command, day_option(alloc))
-}
-
-/// The command `serve`.
-fn serve_command<'a>(alloc: Global) -> Result<Command<'a>, AllocError>
-    ensures app { IfOk result (λ c. app_of c ≡ serve_app) }
-    ensures local { IfOk result (λ c. (fields_of c).has_globals ≡ false) }
-{
-    let texts = described(
-        alloc,
-        "serve",
-        "Answer HTTP messages, one a connection",
-        "Each message names who asks in its field X-Staff, as 1/1. Connections are served\none after the other, so a slow client holds up the others.\n\nA file that is missing or empty gets a new institution. Days are 2000-01-01 to\n2099-12-31.\n\nExample:\n  microloan serve --file desk.db --port 8080\n  curl -H 'X-Staff: 1/1' http://127.0.0.1:8080/offices",
-    );
-    let command = with_option(texts, file_option(alloc))?;
-    let port = required_option(alloc, "port", "PORT", "The port on 127.0.0.1: 1 to 65535");
-    let command = with_option(command, port)?;
-    let count = default_option(
-        alloc,
-        "count",
-        "COUNT",
-        "0",
-        "Connections to serve; 0: without end",
-    );
-    let command = with_option(command, count)?;
-    with_option(command, day_option(alloc))
-}
-
-/// The options of a command over a file that a member of staff asks for.
-fn with_staff<'a>(
-    alloc: Global,
-    command: Command<'a>,
-    name: &str,
-) -> Result<Command<'a>, AllocError>
-    requires app { app_of command ≡ new_app name.now }
-    requires local { (fields_of command).has_globals ≡ false }
-    ensures app { IfOk result (λ c. app_of c ≡ staff_app name.now) }
-    ensures local { IfOk result (λ c. (fields_of c).has_globals ≡ false) }
-{
-    let command = with_option(command, file_option(alloc))?;
-    let staff = required_option(
-        alloc,
-        "staff",
-        "STAFF",
-        "Who asks: an office, a slash and a member of its staff",
-    );
-    with_option(command, staff)
-}
-
-/// The command `collect`.
-fn collect_command<'a>(alloc: Global) -> Result<Command<'a>, AllocError>
-    ensures app { IfOk result (λ c. app_of c ≡ staff_app (codes "collect")) }
-    ensures local { IfOk result (λ c. (fields_of c).has_globals ≡ false) }
-{
-    let command = described(
-        alloc,
-        "collect",
-        "Enter the repayments of a collection sheet",
-        "Standard input is the sheet, CSV with the columns receipt,loan,date,amount, at\nmost 1048576 bytes. Standard output is the sheet with a fifth column, result:\nentered, repeated or the number of a refusal. A sheet may be sent again.\n\nExample:\n  microloan collect --file desk.db --staff 1/1 < sheet.csv > results.csv",
-    );
-    with_staff(alloc, command, "collect")
-}
-
-/// The command `report`.
-fn report_command<'a>(alloc: Global) -> Result<Command<'a>, AllocError>
-    ensures app { IfOk result (λ c. app_of c ≡ staff_app (codes "report")) }
-    ensures local { IfOk result (λ c. (fields_of c).has_globals ≡ false) }
-{
-    let command = described(
-        alloc,
-        "report",
-        "Print the report of arrears",
-        "A line for the office of the one who asks and for each office below it, by\nnumber, and a line for all. The columns: office, active loans, outstanding\nprincipal, then that of loans 1-30, 31-60, 61-90 and over 90 days overdue, and\nthe percentage more than 30 days overdue.\n\nExample:\n  microloan report --file desk.db --staff 1/1",
-    );
-    with_staff(alloc, command, "report")
+    with_options(alloc, schedule_named(alloc), SCHEDULE_OPTIONS.as_slice())
 }
 
 /// The program with one more command. That may have failed to be made, so that it is this call alone that drops a program.

@@ -1,4 +1,5 @@
 //! Charges and products as JSON.
+
 ghost use Rattle.std.specs.Prelude.{◌≡◌, IfOk, IfErr};
 ghost use Rattle.serde_json.specs.View.{members_view};
 ghost use Rattle.mf_model.specs.declared.reply.Reply.TheVariants.{ChargeShown, ProductShown};

@@ -1,4 +1,5 @@
 //! Lists of values, as JSON.
+
 ghost use Rattle.std.specs.Prelude.{◌≡◌, IfOk, IfErr, map};
 ghost use Rattle.serde_json.specs.Data.{Data, array};
 ghost use Rattle.serde_json.specs.View.{view, items_of};

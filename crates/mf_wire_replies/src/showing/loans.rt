@@ -1,4 +1,5 @@
 //! Loans as JSON.
+
 ghost use Rattle.std.specs.Prelude.{◌≡◌, ℕ, List, true, IfOk, IfErr, string_bytes};
 ghost use Rattle.json.specs.Print.{quoted};
 ghost use Rattle.serde_json.specs.View.{view};
@@ -121,7 +122,7 @@ fn shown_text(alloc: Global, account: Account, loan: &Statement) -> Result<Strin
     loan_body(alloc, client.as_str(), account.as_str(), loan)
 }
 
-/// What is told of a loan.
+/// What is replied of a loan.
 pub fn loan_told(alloc: Global, loan: Account, told: &LoanReply) -> Result<Body, Fault>
     ensures ok { IfOk result (IsBodyOf (LoanTold loan told.now)) }
     ensures err { IfErr result (λ f. f ≡ Fault.F20) }
@@ -142,7 +143,7 @@ pub fn loan_told(alloc: Global, loan: Account, told: &LoanReply) -> Result<Body,
     }
 }
 
-/// The HTTP status of what is told of a loan.
+/// The HTTP status of what is replied of a loan.
 pub fn told_status(told: &LoanReply) -> u16
     ensures { result ≡ told_status told.now }
 {

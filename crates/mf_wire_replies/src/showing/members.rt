@@ -1,4 +1,5 @@
 //! Values that may be null, and the members of an object.
+
 ghost use Rattle.std.specs.Prelude.{◌≡◌, IfOk, OnOk, option_map};
 ghost use Rattle.serde_json.specs.Data.{string, object, no_members, put as with_member};
 ghost use Rattle.serde_json.specs.View.{view, members_view};

@@ -1,4 +1,5 @@
 //! What the bodies of requests on the business day and on charges ask.
+
 ghost use Rattle.std.specs.Prelude.{option_and_then, IfOk};
 ghost use Rattle.mf_model.specs.Sound.{IsInRange};
 ghost use Rattle.mf_wire_requests.specs.Bodies.{json_of, Gives};

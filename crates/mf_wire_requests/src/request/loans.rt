@@ -1,4 +1,5 @@
 //! What is asked of loans.
+
 ghost use Rattle.std.specs.Prelude.{◌≡◌, ◌≤◌, option_and_then, IfOk, IfSome};
 ghost use Rattle.serde_json.specs.View.{view};
 ghost use Rattle.matchit.specs.Params.{AllText};

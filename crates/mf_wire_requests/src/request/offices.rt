@@ -1,4 +1,5 @@
 //! What is asked of offices, staff and clients.
+
 ghost use Rattle.std.specs.Prelude.{option_and_then, IfOk};
 ghost use Rattle.matchit.specs.Params.{AllText};
 ghost use Rattle.mf_model.specs.Sound.{IsInRange};

@@ -1,4 +1,5 @@
 //! What is asked of a new product.
+
 ghost use Rattle.std.specs.Prelude.{◌≡◌, option_and_then, IfOk, IfSome};
 ghost use Rattle.serde_json.specs.View.{view};
 ghost use Rattle.mf_model.specs.Sound.{IsInRange, IsName, AreMembers};

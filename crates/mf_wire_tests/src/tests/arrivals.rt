@@ -1,8 +1,8 @@
 //! Messages over streams in memory, whole, in single bytes, and cut.
 
-use super::{CLIENT, CREATED};
 use mf_base::{Cause, Fault, StreamFault};
-use mf_desk_books::Narrow;
+use mf_desk_books::streams::{CLIENT, CREATED};
+use mf_desk_books::{Narrow, Torn};
 use mf_wire_lines::{WatchedReader, WatchedWriter};
 use mf_wire_messages::{Arrival, read_message, write_refusal, write_reply};
 use std::alloc::Global;
@@ -16,27 +16,16 @@ const CLIENT_TOLD: &str = "1/1 POST /clients {\"office\":1,\"name\":\"Amina\"}";
 const REFUSED: &str =
     "HTTP/1.1 400 Bad Request\r\nContent-Type: application/json\r\nContent-Length: 14\r\nConnection: close\r\n\r\n{\"fault\":\"F1\"}";
 
-/// Gives its bytes one by one, and then ends or fails.
+/// Gives its bytes one by one, and then ends.
 #[derive(Drop)]
 struct Drops<'a> {
     bytes: &'a [u8],
-    fails: bool,
 }
 
 impl Read for Drops<'_> {
     fn read(&mut self, buf: &mut [u8]) -> io::Result<usize> {
-        let Some(byte) = self.bytes.first() else {
-            if self.fails {
-                return Err(io::Error::from(io::ErrorKind::BrokenPipe));
-            }
-            return Ok(0);
-        };
-        let Some(place) = buf.first_mut() else {
-            return Ok(0);
-        };
-        *place = *byte;
-        self.bytes = &self.bytes[1..];
-        Ok(1)
+        let room = buf.len().min(1);
+        self.bytes.read(&mut buf[..room])
     }
 }
 
@@ -59,15 +48,12 @@ fn shown(alloc: Global, arrival: &Arrival) -> Result<Vec<u8>, Fail> {
     Ok(text)
 }
 
-/// The stream is told as that, whether it comes at once or byte by byte.
+/// The stream is reported as that, whether it comes at once or byte by byte.
 fn assert_told(rt: &impl Abort, alloc: Global, stream: &[u8], expected: &str) -> Result<(), Fail> {
     let mut whole = WatchedReader::new(stream);
     let arrival = read_message(alloc, &mut whole)?;
     assert_eq!(rt; shown(alloc, &arrival)?.as_slice(), expected.as_bytes());
-    let mut drops = WatchedReader::new(Drops {
-        bytes: stream,
-        fails: false,
-    });
+    let mut drops = WatchedReader::new(Drops { bytes: stream });
     let arrival = read_message(alloc, &mut drops)?;
     assert_eq!(rt; shown(alloc, &arrival)?.as_slice(), expected.as_bytes());
     Ok(())
@@ -179,9 +165,8 @@ fn the_most_fields(rt: HostRuntime) -> Result<(), Fail> {
 fn a_reader_that_fails(rt: HostRuntime) -> Result<(), Fail> {
     let alloc = rt.alloc();
     for length in [0usize, 30, CLIENT.len() - 1] {
-        let mut source = WatchedReader::new(Drops {
+        let mut source = WatchedReader::new(Torn {
             bytes: &CLIENT.as_bytes()[..length],
-            fails: true,
         });
         let fault = StreamFault {
             answered: 0,

@@ -58,6 +58,19 @@ fn replies(alloc: Global, books: &mut Books, lines: &str) -> Result<Vec<u8>, Fai
     Ok(told(alloc, books, lines).ok_or("every line answered")?)
 }
 
+/// The institution gives these replies to lines.
+fn assert_replies(
+    rt: &impl Abort,
+    alloc: Global,
+    books: &mut Books,
+    lines: &str,
+    expected: &str,
+) -> Result<(), Fail> {
+    let written = replies(alloc, books, lines)?;
+    assert_eq!(rt; written.as_slice(), expected.as_bytes());
+    Ok(())
+}
+
 /// The institution with that loan, where it could be made.
 fn made(alloc: Global) -> Option<Books> {
     let day = Day::parse(b"2024-01-31")?;

@@ -1,8 +1,8 @@
 //! The commands over an institution in vectors: a sheet from a source, the report's text, connections to a port.
 
 use mf_base::{Cause, Day, Fault, StreamFault};
-use mf_desk_books::Books;
-use mf_desk_books::streams::{ENTERED, LENT, SHEET};
+use mf_desk_books::streams::{CLIENT, CREATED, ENTERED, LENT, SHEET};
+use mf_desk_books::{Books, Torn};
 use mf_office::Caller;
 use mf_wire::run;
 use mf_wire_lines::{WatchedReader, WatchedWriter};
@@ -30,21 +30,6 @@ const THIRTY_DAYS: &str =
 const THIRTY_ONE_DAYS: &str =
     "   1           1                  666.67                    0.00                  666.67                    0.00                    0.00  100.00
  all           1                  666.67                    0.00                  666.67                    0.00                    0.00  100.00\n";
-
-/// A message that makes a client, and its response.
-const CLIENT: &str = "POST /clients HTTP/1.1\r\n\
-Host: localhost\r\n\
-X-Staff: 1/1\r\n\
-Content-Length: 27\r\n\
-\r\n\
-{\"office\":1,\"name\":\"Amina\"}";
-
-const CREATED: &str = "HTTP/1.1 201 Created\r\n\
-Content-Type: application/json\r\n\
-Content-Length: 24\r\n\
-Connection: close\r\n\
-\r\n\
-{\"client\":\"0001-000001\"}";
 
 /// The response to a head that is cut.
 const CUT: &str = "HTTP/1.1 400 Bad Request\r\n\
@@ -140,21 +125,6 @@ fn the_longest_sheet(rt: HostRuntime) -> Result<(), Fail> {
     assert_eq!(rt; ended.err(), Some(SheetFault::TooLong));
     assert!(rt; written.is_empty());
     Ok(())
-}
-
-/// Gives some bytes, and then fails.
-#[derive(Drop)]
-struct Torn<'a> {
-    bytes: &'a [u8],
-}
-
-impl<'a> Read for Torn<'a> {
-    fn read(&mut self, buf: &mut [u8]) -> io::Result<usize> {
-        if self.bytes.is_empty() {
-            return Err(io::Error::from(io::ErrorKind::BrokenPipe));
-        }
-        self.bytes.read(buf)
-    }
 }
 
 /// Nothing is answered of a sheet that can't be read to its end.

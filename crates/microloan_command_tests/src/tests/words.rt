@@ -1,4 +1,5 @@
 //! The words that are read, and what is said of those that are not.
+
 use mf_base::{Day, Freq};
 use mf_catalog::Method;
 use mf_office::Caller;

@@ -1,21 +1,16 @@
-use Rattle.std.proofs.Common.{◌≡◌, Option, Some, None, Err, cond, refl, ap, sym, ◌∙◌}
+use Rattle.std.proofs.Common.{Some, None, Err, cond, ap, sym, ◌∙◌}
 use Rattle.mf_base.specs.declared.fault.Fault.TheVariants.{F2, F3}
-use Rattle.mf_office.specs.declared.staff.Role.{Role}
 use Rattle.mf_model.specs.Desk.{outcome}
 use Rattle.mf_model.specs.Store.{role_of}
 use Rattle.mf_desk.specs.Answers.{call_of, request_outcome}
-use Rattle.mf_desk.proofs.Decisions.{then_decides, then_refuses, sent_unknown, sent_known}
+use Rattle.mf_desk.proofs.Decisions.{none_there, then_decides, then_refuses, sent_unknown, sent_known}
 use Rattle.mf_desk.proofs.answering.decide.Goals as goal
-
-is_none : (role : Option Role) → ((r : Role) → role ≡ Some r → ⊥) → role ≡ None
-is_none None h = refl
-is_none (Some r) h = absurd (h r refl)
 
 pub returns-in_default-2-clause-decides : goal.returns-in_default-2-clause-decides
 returns-in_default-2-clause-decides g c =
     let s = g.S.InstitutionStore in
     then_refuses s.stands s.clean s.leaves (role_of c.args.caller.now) (outcome (call_of c.args.caller.now c.args.request)) c.args.store.now c.role.new.self None F2
-    (rw (is_none c.in_ok-role.field-0 c.in_default-2.not-Some) at c.in_ok-role.ensures) (λ i e. sent_unknown c.args.caller.now c.args.request i c.in_default.not-Unreadable e)
+    (rw (none_there c.in_ok-role.field-0 c.in_default-2.not-Some) at c.in_ok-role.ensures) (λ i e. sent_unknown c.args.caller.now c.args.request i c.in_default.not-Unreadable e)
 
 pub returns-then-not-may_send-clause-decides : goal.returns-then-not-may_send-clause-decides
 returns-then-not-may_send-clause-decides g c =

@@ -9,11 +9,8 @@ use Rattle.mf_office.specs.Tree.{is_at_or_below}
 use Rattle.mf_model.specs.Institution.{Catalogue, Office, office_at}
 use Rattle.mf_model.specs.Tree.{parent_of}
 use Rattle.mf_model.specs.Sound.{is_staff, IsSoundOffice}
+use Rattle.mf_desk.proofs.Decisions.{none_there}
 use Rattle.mf_desk.proofs.sight.find_office.Goals as goal
-
-none : (r : Option ℕ) → ((x : ℕ) → r ≡ Some x → ⊥) → r ≡ None
-none None h = refl
-none (Some x) h = absurd (h x refl)
 
 another_number : (n x : ℕ) → IsNumberUpTo 9999 n → number_up_to 9999 x ≡ None → (n == x) ≡ false
 another_number n x b e = grind (arith, nat_tests, b.0, b.1)
@@ -36,6 +33,6 @@ returns-in_default-clause-asks g c =
       gives = λ k i s. tt;
       refuses = λ k i s. inr (ap (λ f. cond (is_some f) (Ok x) (Err F4))
           (unseen (is_at_or_below (parent_of i.offices) x o) (office_at x i.offices)
-          (no_such_office i.catalogue (is_staff i.offices) x i.offices (g.met.S.InstitutionStore.sound c.args.store.now i s).each (sym c.new.ensures ∙ none c.new.result c.in_default.not-Some))));
+          (no_such_office i.catalogue (is_staff i.offices) x i.offices (g.met.S.InstitutionStore.sound c.args.store.now i s).each (sym c.new.ensures ∙ none_there c.new.result c.in_default.not-Some))));
       stop = λ k is l. l;
     }

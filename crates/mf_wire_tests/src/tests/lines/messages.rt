@@ -1,8 +1,8 @@
 //! HTTP messages, each answered over an institution in vectors.
 
 use super::{assert_replies, new_books};
-use crate::tests::{CLIENT, CREATED};
 use mf_base::{Cause, Fault, StreamFault};
+use mf_desk_books::streams::{CLIENT, CREATED};
 use mf_desk_books::{Books, Narrow, Torn};
 use mf_wire::{Desk, answer_text, serve_one};
 use mf_wire_lines::{WatchedReader, WatchedWriter};

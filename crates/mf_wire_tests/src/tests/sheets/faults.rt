@@ -28,7 +28,7 @@ pub fn whole_records(text: &[u8]) -> usize {
     text.iter().filter(|byte| **byte == b'\n').count()
 }
 
-/// What a sheet is told whose writer fails when so many records are whole, the heading among them.
+/// How a sheet ends whose writer fails when so many records are whole, the heading among them.
 fn fault_after(records: usize) -> StreamFault {
     StreamFault {
         answered: records.saturating_sub(1) as u64,

@@ -1,23 +1,23 @@
 //! Sheets that are sent again, and receipts that are used again.
 
-use super::{REPEATED, assert_results, lent, replies};
+use super::{REPEATED, assert_replies, assert_results, lent, replies};
 use mf_desk_books::Books;
 use mf_desk_books::streams::{ENTERED, SHEET};
 use std::alloc::Global;
 use std::process::Abort;
 use std::test::Fail;
 
-/// What is told of the loan after the sheet.
+/// What is replied of the loan after the sheet.
 const SHOWN: &str =
     "200 {\"client\":\"0001-000001\",\"day\":\"2024-01-31\",\"disbursement_fee\":0,\"loan\":\"0001-000001\",\"outstanding\":{\"fees\":0,\"interest\":0,\"penalties\":0,\"principal\":32000},\"overpaid\":0,\"paid\":{\"fees\":0,\"interest\":2000,\"penalties\":0,\"principal\":68000},\"periods\":3,\"principal\":100000,\"product\":1,\"refunded\":0,\"status\":300,\"waived\":{\"fees\":0,\"interest\":0,\"penalties\":0,\"principal\":0},\"written_off\":{\"fees\":0,\"interest\":0,\"penalties\":0,\"principal\":0}}\n";
 
-/// What is told of it once the first entry is reversed too.
+/// What is replied of it once the first entry is reversed too.
 const SHOWN_REVERSED: &str =
     "200 {\"client\":\"0001-000001\",\"day\":\"2024-01-31\",\"disbursement_fee\":0,\"loan\":\"0001-000001\",\"outstanding\":{\"fees\":0,\"interest\":333,\"penalties\":0,\"principal\":51667},\"overpaid\":0,\"paid\":{\"fees\":0,\"interest\":1667,\"penalties\":0,\"principal\":48333},\"periods\":3,\"principal\":100000,\"product\":1,\"refunded\":0,\"status\":300,\"waived\":{\"fees\":0,\"interest\":0,\"penalties\":0,\"principal\":0},\"written_off\":{\"fees\":0,\"interest\":0,\"penalties\":0,\"principal\":0}}\n";
 
 const SHOW: &str = "1/1 GET /loans/0001-000001\n";
 
-/// All that is told of the loan.
+/// All that is replied of the loan.
 const SHOW_ALL: &str = "1/1 GET /loans/0001-000001\n\
 1/1 GET /loans/0001-000001/schedule\n\
 1/1 GET /loans/0001-000001/entries\n";
@@ -97,8 +97,7 @@ fn a_sheet_sent_twice_acts_once(rt: HostRuntime) -> Result<(), Fail> {
     let mut books = lent(alloc)?;
     let (sheet, entered) = (SHEET.as_bytes(), ENTERED.as_bytes());
     assert_results(&rt, alloc, &mut books, "1/1", sheet, entered)?;
-    let shown = replies(alloc, &mut books, SHOW)?;
-    assert_eq!(rt; shown.as_slice(), SHOWN.as_bytes());
+    assert_replies(&rt, alloc, &mut books, SHOW, SHOWN)?;
     assert_changes_nothing(&rt, alloc, &mut books, "1/1", sheet, REPEATED)
 }
 
@@ -106,8 +105,7 @@ fn a_sheet_sent_twice_acts_once(rt: HostRuntime) -> Result<(), Fail> {
 fn a_receipt_used_again(rt: HostRuntime) -> Result<(), Fail> {
     let alloc = rt.alloc();
     let mut books = lent(alloc)?;
-    let made = replies(alloc, &mut books, MORE_LOANS)?;
-    assert_eq!(rt; made.as_slice(), MORE_LOANS_REPLIES.as_bytes());
+    assert_replies(&rt, alloc, &mut books, MORE_LOANS, MORE_LOANS_REPLIES)?;
     let (sheet, entered) = (SHEET.as_bytes(), ENTERED.as_bytes());
     assert_results(&rt, alloc, &mut books, "1/1", sheet, entered)?;
     let (sheet, told) = (USED_AGAIN.as_bytes(), USED_AGAIN_RESULTS.as_bytes());
@@ -121,16 +119,15 @@ fn a_receipt_of_a_reversed_entry(rt: HostRuntime) -> Result<(), Fail> {
     let mut books = lent(alloc)?;
     let sheet = SHEET.as_bytes();
     assert_results(&rt, alloc, &mut books, "1/1", sheet, ENTERED.as_bytes())?;
-    let reversed = replies(
+    assert_replies(
+        &rt,
         alloc,
         &mut books,
         "1/1 POST /loans/0001-000001/entries/1/reverse\n",
+        "200 {\"entry\":1}\n",
     )?;
-    assert_eq!(rt; reversed.as_slice(), b"200 {\"entry\":1}\n".as_slice());
     assert_results(&rt, alloc, &mut books, "1/1", sheet, REPEATED.as_bytes())?;
-    let shown = replies(alloc, &mut books, SHOW)?;
-    assert_eq!(rt; shown.as_slice(), SHOWN_REVERSED.as_bytes());
-    Ok(())
+    assert_replies(&rt, alloc, &mut books, SHOW, SHOWN_REVERSED)
 }
 
 /// What was refused is refused again, where its own sheet came between with another number.
@@ -138,8 +135,7 @@ fn a_receipt_of_a_reversed_entry(rt: HostRuntime) -> Result<(), Fail> {
 fn refusals_of_a_sheet_sent_twice(rt: HostRuntime) -> Result<(), Fail> {
     let alloc = rt.alloc();
     let mut books = lent(alloc)?;
-    let made = replies(alloc, &mut books, MORE_LOANS)?;
-    assert_eq!(rt; made.as_slice(), MORE_LOANS_REPLIES.as_bytes());
+    assert_replies(&rt, alloc, &mut books, MORE_LOANS, MORE_LOANS_REPLIES)?;
     let (sheet, told) = (CHANGING.as_bytes(), CHANGING_RESULTS.as_bytes());
     assert_results(&rt, alloc, &mut books, "1/1", sheet, told)?;
     assert_changes_nothing(&rt, alloc, &mut books, "1/1", sheet, CHANGED_RESULTS)
@@ -150,8 +146,7 @@ fn refusals_of_a_sheet_sent_twice(rt: HostRuntime) -> Result<(), Fail> {
 fn senders(rt: HostRuntime) -> Result<(), Fail> {
     let alloc = rt.alloc();
     let mut books = lent(alloc)?;
-    let made = replies(alloc, &mut books, MORE_LOANS)?;
-    assert_eq!(rt; made.as_slice(), MORE_LOANS_REPLIES.as_bytes());
+    assert_replies(&rt, alloc, &mut books, MORE_LOANS, MORE_LOANS_REPLIES)?;
     for (staff, told) in [
         (
             "9/9",

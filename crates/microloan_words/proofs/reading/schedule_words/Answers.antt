@@ -1,13 +1,9 @@
-use Rattle.std.proofs.Common.{◌≡◌, ◌∙◌, true, false, List, Option, Some, ap, sym, subst, codes}
-use Rattle.std.specs.Prelude.{is_some}
+use Rattle.std.proofs.Common.{◌≡◌, ◌∙◌, List, Some, ap, sym, subst, codes}
 use Rattle.clap.specs.Words.{Row, found_of, rows_of}
 use Rattle.mf_catalog.specs.Limits.{longest_step}
 use Rattle.microloan_words.specs.Asked.{IsNumberAt}
+use Rattle.microloan_words.proofs.OptionLemmas.{read}
 use Rattle.microloan_words.proofs.reading.schedule_words.Goals as goal
-
--- an option that reads isn't refused
-read : {X : Type 0} {P : Type 0} (r : Option X) (v : X) → false ≡ is_some r → r ≡ Some v → P
-read r v none some = let there : is_some r ≡ true = ap is_some some in cc
 
 pub returns-in_err-principal-clause-every : goal.returns-in_err-principal-clause-every
 returns-in_err-principal-clause-every c asked h = read _ _ c.in_err-principal.ensures.variant (c.number_at.ensures.every asked.principal h.principal)
