@@ -16,7 +16,7 @@ use Rattle.mf_account.specs.declared.entry.Kind.TheVariants.{Repay, Fee, Penalty
 use Rattle.mf_account.specs.Kinds.{is_write_off}
 use Rattle.mf_account.specs.Effect.{State, after, with_settled, parts_by, own_effect, state_acted}
 use Rattle.mf_account.specs.Account.{after_all, first_state}
-use Rattle.mf_account.specs.Standing.{standing, entry_at, no_entry}
+use Rattle.mf_account.specs.Standing.{standing_entries, entry_at, no_entry}
 use Rattle.mf_account.specs.Loan.{Loan, IsSound, schedule_of, orders_of, state_of_loan, status_of_loan}
 use Rattle.mf_account.specs.Rewind.{state_before}
 use Rattle.mf_account.proofs.ClearingLemmas.{writes-off_by_cells}
@@ -66,9 +66,9 @@ closed-none (row ∷ rows) closed =
     ap (λ x. nat_lt 0 x || list_any is_open rows) nothing_left ∙ closed-none rows (λ i p within small. closed (suc i) p (omega (arith, within)) small)
 
 -- the last standing entry is made on what those before it leave
-last-state : (loan : Loan) (k : ℕ) → k + 1 ≡ length (standing loan.entries) → state_of_loan loan ≡ after (orders_of loan (entry_at (standing loan.entries) k)) (entry_at (standing loan.entries) k) (state_before loan k)
+last-state : (loan : Loan) (k : ℕ) → k + 1 ≡ length (standing_entries loan.entries) → state_of_loan loan ≡ after (orders_of loan (entry_at (standing_entries loan.entries) k)) (entry_at (standing_entries loan.entries) k) (state_before loan k)
 last-state loan k is =
-    let all : List Entry = standing loan.entries in
+    let all : List Entry = standing_entries loan.entries in
     let first : State = first_state (schedule_of loan) in
     let end : drop k all ≡ entry_at all k ∷ [] = drop_more all k no_entry (omega (arith, is)) ∙ ap (λ l. entry_at all k ∷ l) (drop_all (k + 1) all (omega (arith, is))) in
     ap (λ es. after_all (orders_of loan) es first) (sym (take-append-drop k all))
@@ -89,7 +89,7 @@ is_written_off entries = list_any (λ (e : Entry). not e.reversed && is_write_of
 
 none_open : (loan : Loan) → IsSound loan → is_written_off loan.entries ≡ true → list_any is_open (state_of_loan loan).rows ≡ false
 none_open loan sound stands =
-    let all : List Entry = standing loan.entries in
+    let all : List Entry = standing_entries loan.entries in
     elim (cases_lt 0 (length all)) [
       | inl some ↦
           let k : ℕ = length all - 1 in

@@ -5,7 +5,7 @@ use Rattle.mf_alloc.specs.Order.{dues_of}
 use Rattle.mf_account.specs.declared.entry.Entry.{Entry}
 use Rattle.mf_account.specs.declared.settled.Settled.{Settled}
 use Rattle.mf_account.specs.Effect.{State, after, parts_of}
-use Rattle.mf_account.specs.Account.{Orders, orders_by, after_all, settled_by, numbered}
+use Rattle.mf_account.specs.Account.{Orders, orders_by, after_all, settled_by, parts_numbered}
 use Rattle.mf_account.specs.Applicable.{AreApplicable}
 use Rattle.mf_account.proofs.ReplayLemmas.{length-after}
 use Rattle.mf_account.proofs.DueLemmas.{dues-after, orders-same}
@@ -31,11 +31,11 @@ applied-none orders base all rest now settled first whole empty fits =
     (subst (λ (x : List Entry). IsApplied orders base all x now []) (sym whole)
     (subst (λ (x : State). IsApplied orders base all all x []) (sym first) begin))
 
-pub applied-more : (orders : Orders) (base : State) (all rest left : List Entry) (entry : Entry) (now next : State) (settled parts more : List Settled) → IsApplied orders base all rest now settled → rest ≡ entry ∷ left → next ≡ after (orders entry) entry now → parts ≡ numbered entry.seq 1 (parts_of (orders entry) entry now) → more ≡ settled ++ parts → IsApplied orders base all left next more
+pub applied-more : (orders : Orders) (base : State) (all rest left : List Entry) (entry : Entry) (now next : State) (settled parts more : List Settled) → IsApplied orders base all rest now settled → rest ≡ entry ∷ left → next ≡ after (orders entry) entry now → parts ≡ parts_numbered entry.seq 1 (parts_of (orders entry) entry now) → more ≡ settled ++ parts → IsApplied orders base all left next more
 applied-more orders base all rest left entry now next settled parts more so_far splits applied own joined =
     let here : IsApplied orders base all (entry ∷ left) now settled = subst (λ (x : List Entry). IsApplied orders base all x now settled) splits so_far in
     let then : State = after (orders entry) entry now in
-    let own_parts : List Settled = numbered entry.seq 1 (parts_of (orders entry) entry now) in
+    let own_parts : List Settled = parts_numbered entry.seq 1 (parts_of (orders entry) entry now) in
     let exact : IsApplied orders base all left then (settled ++ own_parts) = record {
       size = length-after orders entry now ∙ here.size;
       dues = dues-after (orders entry) entry now ∙ here.dues;

@@ -6,7 +6,7 @@ use Rattle.std.proofs.lemmas.List.{length-set, get_or-set_same, get_or-set_other
 use Rattle.std.proofs.lemmas.List.Elements.{All-head, All-tail, All-set}
 use Rattle.std.proofs.lemmas.List.Sums.{sum_by-append, sum_by-take-drop, sum_by-take-le}
 use Rattle.mf_alloc.specs.Sums.{Sums, IsWhole, AreWhole, IsRowWithin, AreWithin}
-use Rattle.mf_alloc.specs.Rows.{no_row, row_at, changed, minus_at, place_in_row}
+use Rattle.mf_alloc.specs.Rows.{no_row, row_at, rows_changed_at, minus_at, place_in_row}
 use Rattle.mf_account.specs.declared.entry.Entry.{Entry}
 use Rattle.mf_account.specs.declared.entry.Kind.{Kind}
 use Rattle.mf_account.specs.declared.entry.Kind.TheVariants.{Repay, Fee, Penalty, Waive, WriteOff, Refund}
@@ -90,7 +90,7 @@ within-without_settled rows (part ∷ parts) within =
     ]
 
 -- nor where less is owed of one instalment, if not more is settled of it
-pub within-lowered : (rows : List Sums) (instalment p amount : ℕ) (default : Sums) → instalment - 1 < length rows → IsRowWithin (unowe_row p amount (get_or rows (instalment - 1) default)) → AreWithin rows → AreWithin (changed rows instalment (unowe_row p amount))
+pub within-lowered : (rows : List Sums) (instalment p amount : ℕ) (default : Sums) → instalment - 1 < length rows → IsRowWithin (unowe_row p amount (get_or rows (instalment - 1) default)) → AreWithin rows → AreWithin (rows_changed_at rows instalment (unowe_row p amount))
 within-lowered rows instalment p amount default here own within =
     All-set IsRowWithin rows (instalment - 1) (unowe_row p amount (row_at rows instalment))
     (subst (λ (r : Sums). IsRowWithin (unowe_row p amount r)) (get_or_default rows (instalment - 1) default no_row here) own) within

@@ -9,7 +9,7 @@ use Rattle.std.proofs.lemmas.List.Elements.{All-from_recursion, recursion_from_A
 use Rattle.std.proofs.lemmas.List.Sorted.{All-permutation, IsPermutation-sym}
 use Rattle.mf_account.specs.declared.entry.Entry.{Entry}
 use Rattle.mf_account.specs.declared.replay.Place.{Place}
-use Rattle.mf_account.specs.Standing.{standing, no_entry, entry_at, entries_at, places_from}
+use Rattle.mf_account.specs.Standing.{standing_entries, no_entry, entry_at, entries_at, places_from}
 use Rattle.mf_account.specs.StandingLaw.{IsAmong, Precedes, Ascends, IsStandingOf}
 use Rattle.mf_account.proofs.StandingIsOne.{before-again, standing-alone}
 
@@ -214,7 +214,7 @@ map_twice f [] = refl
 map_twice f (p ∷ ps) = ap (λ l. f p.at ∷ l) (map_twice f ps)
 
 pub sorted-standing : (es : List Entry) (sorted : List Place) → ((i : ℕ) → i < length es → (entry_at es i).seq ≡ i + 1) → IsPermutation (places_from 0 es) sorted → IsNonDecreasingBy (λ (p : Place). p.day) sorted
-    → IsStableByKey (λ (p : Place). p.day) nat_cmp (places_from 0 es) sorted → entries_at es (map (λ (p : Place). p.at) sorted) ≡ standing es
+    → IsStableByKey (λ (p : Place). p.day) nat_cmp (places_from 0 es) sorted → entries_at es (map (λ (p : Place). p.at) sorted) ≡ standing_entries es
 sorted-standing es sorted numbers moved days stable =
     let f = entry_at es in
     let all : AllByRecursion (IsPlaceIn f 0 (length es)) sorted = all_moved (IsPlaceIn f 0 (length es)) (places_from 0 es) sorted moved (places_are f 0 (length es) es (omega arith) (read_all es)) in

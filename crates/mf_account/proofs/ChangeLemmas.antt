@@ -11,7 +11,7 @@ use Rattle.std.proofs.lemmas.List.Elements.{filter-append, All-nil, All-cons, Al
 use Rattle.mf_account.specs.declared.settled.Settled.{Settled}
 use Rattle.mf_account.specs.Effect.{State}
 use Rattle.mf_account.specs.Loan.{Loan, state_of_loan, settled_of_loan}
-use Rattle.mf_account.specs.Change.{Changed, AreThose, AreAll, HasOtherRow, HasOtherParts, IsChange, settled_in}
+use Rattle.mf_account.specs.Change.{ChangedNumbers, AreThose, AreAll, HasOtherRow, HasOtherParts, IsChange, settled_in}
 use Rattle.mf_account.specs.Applicable.{no_settled}
 
 pub those-none : (P : ℕ → Type 0) → AreThose 0 P []
@@ -91,7 +91,7 @@ other-step seq before after i k within_i within_k own_i own_k other e =
     other (ap (λ x. get_or x 0 no_settled) (sym (in-own seq before i within_i own_i) ∙ e ∙ in-own seq after k within_k own_k))
 
 -- what differs between the books and parts of two loans
-pub change-is : (before after : Loan) (old new : State) (old_parts new_parts : List Settled) (change : Changed) → old ≡ state_of_loan before → old_parts ≡ settled_of_loan before → new ≡ state_of_loan after → new_parts ≡ settled_of_loan after → length old.rows ≡ after.periods → AreThose (length old.rows) (HasOtherRow old.rows new.rows) change.rows → AreThose (length after.entries) (HasOtherParts old_parts new_parts) change.seqs → IsChange before after change
+pub change-is : (before after : Loan) (old new : State) (old_parts new_parts : List Settled) (change : ChangedNumbers) → old ≡ state_of_loan before → old_parts ≡ settled_of_loan before → new ≡ state_of_loan after → new_parts ≡ settled_of_loan after → length old.rows ≡ after.periods → AreThose (length old.rows) (HasOtherRow old.rows new.rows) change.rows → AreThose (length after.entries) (HasOtherParts old_parts new_parts) change.seqs → IsChange before after change
 change-is before after old new old_parts new_parts change old_is old_parts_is new_is new_parts_is periods rows seqs = record {
   rows =
       subst (λ (n : ℕ). AreThose n (HasOtherRow (state_of_loan before).rows (state_of_loan after).rows) change.rows) periods

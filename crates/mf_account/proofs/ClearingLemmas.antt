@@ -6,7 +6,7 @@ use Rattle.std.proofs.lemmas.Bool.{cases_eq, cond_both, ltb-false}
 use Rattle.std.proofs.lemmas.List.{length-set, get_or-set_same, get_or-set_other}
 use Rattle.mf_alloc.specs.declared.row.Cell.{Cell}
 use Rattle.mf_alloc.specs.Sums.{Sums, open_at, IsWhole, AreWhole}
-use Rattle.mf_alloc.specs.Rows.{no_row, row_at, changed, place_in_row, IsCell, outstanding}
+use Rattle.mf_alloc.specs.Rows.{no_row, row_at, rows_changed_at, place_in_row, IsCell, outstanding}
 use Rattle.mf_alloc.proofs.PaymentLemmas.{same_cell, same_portion}
 use Rattle.mf_alloc.proofs.LeftOpen.{place_in_row-small, whole-at, IsLine, cell-at, cells-apart}
 use Rattle.mf_account.specs.declared.settled.How.{How}
@@ -61,8 +61,8 @@ in-other how rows clearing cell amount there here apart =
           let other : q ≢ p = λ e. apart (same_cell cell clearing same (same_portion cell.portion clearing.portion e)) in
           let at : j ≡ i = omega (arith, same) in
           let row : Sums = get_or rows j no_row in
-          let read : get_or (changed rows clearing.instalment change) j no_row ≡ change row =
-          ap (λ x. get_or (changed rows clearing.instalment change) x no_row) at
+          let read : get_or (rows_changed_at rows clearing.instalment change) j no_row ≡ change row =
+          ap (λ x. get_or (rows_changed_at rows clearing.instalment change) x no_row) at
           ∙ get_or-set_same rows i (change (get_or rows i no_row)) no_row (omega (arith, there.first, there.last))
           ∙ sym (ap (λ x. change (get_or rows x no_row)) at) in
           ap (λ (x : Sums). get_or (sum_of how x) q 0) read

@@ -14,7 +14,7 @@ use Rattle.mf_alloc.specs.declared.row.Cell.{Cell}
 use Rattle.mf_alloc.specs.declared.row.Portion.{Portion}
 use Rattle.mf_alloc.specs.declared.row.Portion.TheVariants.{Penalty as PenaltyPart, Fee as FeePart, Interest, Principal}
 use Rattle.mf_alloc.specs.Sums.{Sums, open_at, IsWhole, AreWhole}
-use Rattle.mf_alloc.specs.Rows.{outstanding, no_row, row_at, changed, place_in_row, IsCell}
+use Rattle.mf_alloc.specs.Rows.{outstanding, no_row, row_at, rows_changed_at, place_in_row, IsCell}
 use Rattle.mf_alloc.specs.Payment.{shares_of}
 use Rattle.mf_alloc.specs.Order.{cell_by, place_by, standard}
 use Rattle.mf_alloc.specs.OrderLaws.{in_range-place_by, forth-place_by}
@@ -29,11 +29,11 @@ use Rattle.mf_account.specs.Kinds.{money_in}
 use Rattle.mf_account.specs.Effect.{State, Part, after, settle, settle_row, owe_row, with_settled, with_charge, whole_part, is_some_part, some_parts, parts_by, parts_cleared, parts_paid, parts_of, own_effect, state_acted, own_share, later_share, paid_at}
 use Rattle.mf_account.specs.AtOnce.{paid_part, rows_charged}
 use Rattle.mf_account.specs.Account.{Orders, after_all, first_state, row_of, sum_at}
-use Rattle.mf_account.specs.Standing.{standing}
+use Rattle.mf_account.specs.Standing.{standing_entries}
 use Rattle.mf_account.specs.Applicable.{IsSettleable}
 use Rattle.mf_account.specs.Undo.{paid_by, paid_in}
 use Rattle.mf_account.specs.Loan.{Loan, HasColumns, IsEntry, IsSound, schedule_of, orders_of, cell_places_of, state_of_loan}
-use Rattle.mf_account.specs.Balance.{balances_of, repaid, HasRoom, balances_by}
+use Rattle.mf_account.specs.Balance.{balances_of, sum_repaid, HasRoom, balances_by}
 use Rattle.mf_account.proofs.EffectLemmas.{with_settled-paid}
 use Rattle.mf_account.proofs.OnceLemmas.{rows-after, money-after, refunded-after, length-acted}
 use Rattle.mf_account.proofs.UndoLemmas.{money_out-le}
@@ -92,7 +92,7 @@ paid-with_settled rows (part ∷ parts) whole fits =
     omega (arith, one, own, rest, all)
 
 -- a change that leaves a sum of each row leaves that of all rows
-pub sum-same : (f : Sums → ℕ) (rows : List Sums) (instalment : ℕ) (change : Sums → Sums) → ((row : Sums) → f (change row) ≡ f row) → sum_by f (changed rows instalment change) ≡ sum_by f rows
+pub sum-same : (f : Sums → ℕ) (rows : List Sums) (instalment : ℕ) (change : Sums → Sums) → ((row : Sums) → f (change row) ≡ f row) → sum_by f (rows_changed_at rows instalment change) ≡ sum_by f rows
 sum-same f rows instalment change same =
     elim (cases_lt (instalment - 1) (length rows)) [
       | inl within ↦
@@ -143,9 +143,9 @@ paid-first [] = refl
 paid-first (i ∷ schedule) = let rest = paid-first schedule in let all = sum_by-append row_paid (row_of i ∷ []) (map row_of schedule) in omega (arith, rest, all)
 
 -- what is repaid is paid, overpaid or refunded
-pub held-sound : (loan : Loan) → IsSound loan → money_held (state_of_loan loan) ≡ brought (standing loan.entries)
+pub held-sound : (loan : Loan) → IsSound loan → money_held (state_of_loan loan) ≡ brought (standing_entries loan.entries)
 held-sound loan sound =
-    let all = held-all loan.periods (2 ^ 54) (orders_of loan) (cell_places_of loan) (standing loan.entries) (first_state (schedule_of loan))
+    let all = held-all loan.periods (2 ^ 54) (orders_of loan) (cell_places_of loan) (standing_entries loan.entries) (first_state (schedule_of loan))
     (lawful-of loan) (each-standing loan sound) (first-good loan sound) in
     let none = paid-first (schedule_of loan) in
     omega (arith, all, none)
@@ -292,7 +292,7 @@ pub principal-sound : (loan : Loan) → IsSound loan → HasPrincipal loan.princ
 principal-sound loan sound =
     let first : HasPrincipal loan.principal (first_state (schedule_of loan)) =
     subst (λ (x : ℕ). HasPrincipal x (first_state (schedule_of loan))) (scheduled-principal-sum loan.terms loan.principal loan.periods loan.day sound.limits) (principal-first (schedule_of loan)) in
-    principal-all loan.principal loan.periods (orders_of loan) (standing loan.entries) (first_state (schedule_of loan))
+    principal-all loan.principal loan.periods (orders_of loan) (standing_entries loan.entries) (first_state (schedule_of loan))
     (All-standing (IsEntry loan.periods 0) loan.entries (λ k d within. let own : IsEntry loan.periods loan.day (get_or loan.entries k d) = sound.entries.each k d within in record { from = omega arith; columns = own.columns }))
     first
 
@@ -344,7 +344,7 @@ closed-all n used name dues (entry ∷ entries) before few each good closed =
 
 pub closed-sound : (loan : Loan) → IsSound loan → IsClosed (state_of_loan loan)
 closed-sound loan sound =
-    closed-all loan.periods (2 ^ 54) loan.terms.strategy (due_at loan) (standing loan.entries) (first_state (schedule_of loan)) (due_at-le loan) (each-standing loan sound) (first-good loan sound)
+    closed-all loan.periods (2 ^ 54) loan.terms.strategy (due_at loan) (standing_entries loan.entries) (first_state (schedule_of loan)) (due_at-le loan) (each-standing loan sound) (first-good loan sound)
     (λ some. absurd (omega (arith, some)))
 
 -- so what is outstanding adds up to nothing
@@ -357,7 +357,7 @@ none-open p (row ∷ rows) none =
     omega (arith, own, rest, all)
 
 -- the same, of the balances
-pub balances-repaid : (loan : Loan) → IsSound loan → sum (balances_of loan).paid + (balances_of loan).overpaid + (balances_of loan).refunded ≡ repaid loan.entries
+pub balances-repaid : (loan : Loan) → IsSound loan → sum (balances_of loan).paid + (balances_of loan).overpaid + (balances_of loan).refunded ≡ sum_repaid loan.entries
 balances-repaid loan sound =
     let all = held-sound loan sound in
     let columns = paid-columns (state_of_loan loan).rows (good-sound loan sound).whole in

@@ -5,7 +5,7 @@ use Rattle.std.proofs.lemmas.List.{length-map}
 use Rattle.std.proofs.lemmas.List.Sums.{count_by-le-length}
 use Rattle.mf_alloc.specs.declared.row.Cell.{Cell}
 use Rattle.mf_alloc.specs.Sums.{Sums}
-use Rattle.mf_alloc.specs.Rows.{no_row, changed, place_in_row}
+use Rattle.mf_alloc.specs.Rows.{no_row, rows_changed_at, place_in_row}
 use Rattle.mf_alloc.specs.Order.{dues_of, due_by, order_at}
 use Rattle.mf_account.specs.declared.entry.Entry.{Entry}
 use Rattle.mf_account.specs.declared.entry.Kind.{Kind}
@@ -23,7 +23,7 @@ dues-set [] (suc i) change same = refl
 dues-set (row ∷ rows) zero change same = ap (λ d. d ∷ dues_of rows) (same row)
 dues-set (row ∷ rows) (suc i) change same = ap (λ ds. row.due ∷ ds) (dues-set rows i change same)
 
-dues-changed : (rows : List Sums) (instalment : ℕ) (change : Sums → Sums) → ((row : Sums) → (change row).due ≡ row.due) → dues_of (changed rows instalment change) ≡ dues_of rows
+dues-changed : (rows : List Sums) (instalment : ℕ) (change : Sums → Sums) → ((row : Sums) → (change row).due ≡ row.due) → dues_of (rows_changed_at rows instalment change) ≡ dues_of rows
 dues-changed rows instalment change same = dues-set rows (instalment - 1) change same
 
 due-settle_row : (how : How) (p amount : ℕ) (row : Sums) → (settle_row how p amount row).due ≡ row.due

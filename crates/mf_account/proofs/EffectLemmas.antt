@@ -22,21 +22,21 @@ use Rattle.mf_account.specs.declared.settled.How.TheVariants.{Paid, Waived, Writ
 use Rattle.mf_account.specs.Kinds.{money_out}
 use Rattle.mf_account.specs.Effect.{State, Part, settle, settle_row, with_settled, whole_part, is_some_part, with_charge, owe_row, parts_by, parts_cleared}
 use Rattle.mf_account.specs.AtOnce.{with_cleared, after_at_once, parts_at_once, shares_at_once, rows_charged, rows_cleared, money_to_pay, paid_part}
-use Rattle.mf_account.specs.Account.{numbered, part_of}
+use Rattle.mf_account.specs.Account.{parts_numbered, part_of}
 use Rattle.mf_account.specs.Applicable.{HasRow, HasCell, IsSettleable}
 
-pub length-numbered : (seq place : ℕ) (parts : List Part) → length (numbered seq place parts) ≡ length parts
+pub length-numbered : (seq place : ℕ) (parts : List Part) → length (parts_numbered seq place parts) ≡ length parts
 length-numbered seq place [] = refl
 length-numbered seq place (part ∷ parts) = ap suc (length-numbered seq (place + 1) parts)
 
-pub numbered-append : (seq place : ℕ) (xs ys : List Part) → numbered seq place (xs ++ ys) ≡ numbered seq place xs ++ numbered seq (place + length xs) ys
-numbered-append seq place [] ys = let e : place ≡ place + 0 = omega arith in ap (λ x. numbered seq x ys) e
+pub numbered-append : (seq place : ℕ) (xs ys : List Part) → parts_numbered seq place (xs ++ ys) ≡ parts_numbered seq place xs ++ parts_numbered seq (place + length xs) ys
+numbered-append seq place [] ys = let e : place ≡ place + 0 = omega arith in ap (λ x. parts_numbered seq x ys) e
 numbered-append seq place (part ∷ parts) ys =
     let own : Settled = record { seq = seq; place = place; cell = part.cell; how = part.how; amount = part.amount } in
     let e : place + 1 + length parts ≡ place + suc (length parts) = omega arith in
-    ap (λ x. own ∷ x) (numbered-append seq (place + 1) parts ys ∙ ap (λ x. numbered seq (place + 1) parts ++ numbered seq x ys) e)
+    ap (λ x. own ∷ x) (numbered-append seq (place + 1) parts ys ∙ ap (λ x. parts_numbered seq (place + 1) parts ++ parts_numbered seq x ys) e)
 
-pub part_of-numbered : (seq place : ℕ) (parts : List Part) → map part_of (numbered seq place parts) ≡ parts
+pub part_of-numbered : (seq place : ℕ) (parts : List Part) → map part_of (parts_numbered seq place parts) ≡ parts
 part_of-numbered seq place [] = refl
 part_of-numbered seq place (part ∷ parts) = ap (λ x. part ∷ x) (part_of-numbered seq (place + 1) parts)
 
@@ -101,16 +101,16 @@ abbrev pub written_below : (ℕ → Cell) → List Sums → ℕ → List Part
 written_below order rows k = filter is_some_part (map (λ j. whole_part WrittenOff rows (order j)) (range_with_len 0 k))
 
 -- one place more
-pub written_more : (order : ℕ → Cell) (rows : List Sums) (seq k : ℕ) (cell : Cell) (so_far all : List Settled) → so_far ≡ numbered seq 1 (written_below order rows k) → cell ≡ order k → all ≡ so_far ++ numbered seq (1 + length so_far) (filter is_some_part (whole_part WrittenOff rows cell ∷ [])) → all ≡ numbered seq 1 (written_below order rows (k + 1))
+pub written_more : (order : ℕ → Cell) (rows : List Sums) (seq k : ℕ) (cell : Cell) (so_far all : List Settled) → so_far ≡ parts_numbered seq 1 (written_below order rows k) → cell ≡ order k → all ≡ so_far ++ parts_numbered seq (1 + length so_far) (filter is_some_part (whole_part WrittenOff rows cell ∷ [])) → all ≡ parts_numbered seq 1 (written_below order rows (k + 1))
 written_more order rows seq k cell so_far all before here more =
     let last : Cell → List Part = λ c. filter is_some_part (whole_part WrittenOff rows c ∷ []) in
     let size : length so_far ≡ length (written_below order rows k) = ap length before ∙ length-numbered seq 1 (written_below order rows k) in
     more
-    ∙ ap (λ x. so_far ++ numbered seq (1 + length so_far) (last x)) here
-    ∙ ap (λ x. so_far ++ numbered seq (1 + x) (last (order k))) size
-    ∙ ap (λ x. x ++ numbered seq (1 + length (written_below order rows k)) (last (order k))) before
+    ∙ ap (λ x. so_far ++ parts_numbered seq (1 + length so_far) (last x)) here
+    ∙ ap (λ x. so_far ++ parts_numbered seq (1 + x) (last (order k))) size
+    ∙ ap (λ x. x ++ parts_numbered seq (1 + length (written_below order rows k)) (last (order k))) before
     ∙ sym (numbered-append seq 1 (written_below order rows k) (last (order k)))
-    ∙ ap (numbered seq 1) (sym (filter_of_map_range_with_len_more is_some_part (λ j. whole_part WrittenOff rows (order j)) 0 k k (omega arith)))
+    ∙ ap (parts_numbered seq 1) (sym (filter_of_map_range_with_len_more is_some_part (λ j. whole_part WrittenOff rows (order j)) 0 k k (omega arith)))
 
 -- a payment's parts
 pub with_settled-paid : (rows : List Sums) (shares : List Share) → with_settled rows (map paid_part shares) ≡ with_paid rows shares
@@ -122,7 +122,7 @@ with_settled-append rows [] ys = refl
 with_settled-append rows (part ∷ parts) ys = with_settled-append (settle rows part) parts ys
 
 -- parts with places, of which the parts can be settled
-pub settleable-numbered : (rows : List Sums) (seq : ℕ) (parts : List Part) (settled : List Settled) → settled ≡ numbered seq 1 parts → IsSettleable rows parts → IsSettleable rows (map part_of settled)
+pub settleable-numbered : (rows : List Sums) (seq : ℕ) (parts : List Part) (settled : List Settled) → settled ≡ parts_numbered seq 1 parts → IsSettleable rows parts → IsSettleable rows (map part_of settled)
 settleable-numbered rows seq parts settled same can =
     subst (IsSettleable rows) (sym (ap (map part_of) same ∙ part_of-numbered seq 1 parts)) can
 
@@ -150,7 +150,7 @@ has_cell Refund entry rows charged same has = tt
 has_cell Waive entry rows charged same has = let size : length charged ≡ length rows = ap length same in (has.0, omega (arith, size, has.1))
 
 -- one more of a payment's parts
-pub add_more : (seq place here : ℕ) (shares : List Share) (k : ℕ) (default share : Share) (first so_far all : List Settled) → so_far ≡ first ++ numbered seq place (map paid_part (take k shares)) → k < length shares → share ≡ get_or shares k default → here ≡ place + k → all ≡ so_far ++ record { seq = seq; place = here; cell = share.cell; how = Paid; amount = share.amount } ∷ [] → all ≡ first ++ numbered seq place (map paid_part (take (k + 1) shares))
+pub add_more : (seq place here : ℕ) (shares : List Share) (k : ℕ) (default share : Share) (first so_far all : List Settled) → so_far ≡ first ++ parts_numbered seq place (map paid_part (take k shares)) → k < length shares → share ≡ get_or shares k default → here ≡ place + k → all ≡ so_far ++ record { seq = seq; place = here; cell = share.cell; how = Paid; amount = share.amount } ∷ [] → all ≡ first ++ parts_numbered seq place (map paid_part (take (k + 1) shares))
 add_more seq place here shares k default share first so_far all before within is at more =
     let parts : List Part = map paid_part (take k shares) in
     let size : length parts ≡ k = length-map (take k shares) paid_part ∙ length-take-le k shares (omega arith) in
@@ -159,14 +159,14 @@ add_more seq place here shares k default share first so_far all before within is
     ∙ map-append paid_part (take k shares) (share ∷ []) in
     let places : here ≡ place + length parts = at ∙ ap (λ x. place + x) (sym size) in
     more
-    ∙ ap (λ x. so_far ++ numbered seq x (paid_part share ∷ [])) places
-    ∙ ap (λ x. x ++ numbered seq (place + length parts) (paid_part share ∷ [])) before
-    ∙ append_assoc first (numbered seq place parts) (numbered seq (place + length parts) (paid_part share ∷ []))
+    ∙ ap (λ x. so_far ++ parts_numbered seq x (paid_part share ∷ [])) places
+    ∙ ap (λ x. x ++ parts_numbered seq (place + length parts) (paid_part share ∷ [])) before
+    ∙ append_assoc first (parts_numbered seq place parts) (parts_numbered seq (place + length parts) (paid_part share ∷ []))
     ∙ ap (λ x. first ++ x) (sym (numbered-append seq place parts (paid_part share ∷ [])))
-    ∙ ap (λ x. first ++ numbered seq place x) (sym next)
+    ∙ ap (λ x. first ++ parts_numbered seq place x) (sym next)
 
 -- the cleared parts settled
-pub with_cleared-from : (order : ℕ → Cell) (entry : Entry) (seq : ℕ) (charged new : List Sums) (parts : List Settled) → parts ≡ numbered seq 1 (parts_cleared order entry charged) → new ≡ with_settled charged (map part_of parts) → new ≡ with_cleared order entry charged
+pub with_cleared-from : (order : ℕ → Cell) (entry : Entry) (seq : ℕ) (charged new : List Sums) (parts : List Settled) → parts ≡ parts_numbered seq 1 (parts_cleared order entry charged) → new ≡ with_settled charged (map part_of parts) → new ≡ with_cleared order entry charged
 with_cleared-from order entry seq charged new parts are settled =
     settled ∙ ap (λ x. with_settled charged (map part_of x)) are ∙ ap (with_settled charged) (part_of-numbered seq 1 (parts_cleared order entry charged))
 
@@ -193,12 +193,12 @@ state-applied order entry before cleared paid shares money rest given clear pays
     ∙ ap (λ g. at (after_at_once order entry before).rows (after_at_once order entry before).overpaid (before.refunded + g)) gives
 
 -- and its parts
-pub parts-applied : (order : ℕ → Cell) (entry : Entry) (before : State) (seq : ℕ) (cleared : List Sums) (shares : List Share) (money : ℕ) (first all : List Settled) → cleared ≡ rows_cleared order entry before → money ≡ money_to_pay entry before → shares ≡ shares_of order cleared money → first ≡ numbered seq 1 (parts_cleared order entry (rows_charged entry before)) → all ≡ first ++ numbered seq (1 + length first) (map paid_part shares) → all ≡ numbered seq 1 (parts_at_once order entry before)
+pub parts-applied : (order : ℕ → Cell) (entry : Entry) (before : State) (seq : ℕ) (cleared : List Sums) (shares : List Share) (money : ℕ) (first all : List Settled) → cleared ≡ rows_cleared order entry before → money ≡ money_to_pay entry before → shares ≡ shares_of order cleared money → first ≡ parts_numbered seq 1 (parts_cleared order entry (rows_charged entry before)) → all ≡ first ++ parts_numbered seq (1 + length first) (map paid_part shares) → all ≡ parts_numbered seq 1 (parts_at_once order entry before)
 parts-applied order entry before seq cleared shares money first all clear pays are own more =
     let clears : List Part = parts_cleared order entry (rows_charged entry before) in
     let size : length first ≡ length clears = ap length own ∙ length-numbered seq 1 clears in
     more
-    ∙ ap (λ x. first ++ numbered seq (1 + x) (map paid_part shares)) size
-    ∙ ap (λ x. x ++ numbered seq (1 + length clears) (map paid_part shares)) own
-    ∙ ap (λ x. numbered seq 1 clears ++ numbered seq (1 + length clears) (map paid_part x)) (shares-are order entry before cleared shares money clear pays are)
+    ∙ ap (λ x. first ++ parts_numbered seq (1 + x) (map paid_part shares)) size
+    ∙ ap (λ x. x ++ parts_numbered seq (1 + length clears) (map paid_part shares)) own
+    ∙ ap (λ x. parts_numbered seq 1 clears ++ parts_numbered seq (1 + length clears) (map paid_part x)) (shares-are order entry before cleared shares money clear pays are)
     ∙ sym (numbered-append seq 1 clears (map paid_part (shares_at_once order entry before)))

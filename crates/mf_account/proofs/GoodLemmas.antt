@@ -8,7 +8,7 @@ use Rattle.std.proofs.lemmas.List.Sums.{sum_by-append, sum_by-set}
 use Rattle.mf_alloc.specs.declared.row.Cell.{Cell}
 use Rattle.mf_alloc.specs.declared.row.Share.{Share}
 use Rattle.mf_alloc.specs.Sums.{Sums, open_at, IsRowWithin, AreWithin, IsWhole, AreWhole}
-use Rattle.mf_alloc.specs.Rows.{no_row, row_at, changed, plus_at, place_in_row, IsPayable, pay_into}
+use Rattle.mf_alloc.specs.Rows.{no_row, row_at, rows_changed_at, plus_at, place_in_row, IsPayable, pay_into}
 use Rattle.mf_alloc.specs.OrderLaws.{IsOrder}
 use Rattle.mf_alloc.proofs.PaymentLemmas.{shares_payable}
 use Rattle.mf_alloc.proofs.LeftOpen.{IsLine, place_in_row-small}
@@ -28,14 +28,14 @@ use Rattle.mf_account.proofs.OnceLemmas.{rows-after, parts-once, money-after, re
 use Rattle.mf_account.proofs.UndoLemmas.{money_out-le}
 
 -- one row changed, where it is one of the rows and where it is none
-changed-keeps : (P : List Sums → Type 0) (rows : List Sums) (instalment : ℕ) (change : Sums → Sums) → P rows → (instalment - 1 < length rows → P (changed rows instalment change)) → P (changed rows instalment change)
+changed-keeps : (P : List Sums → Type 0) (rows : List Sums) (instalment : ℕ) (change : Sums → Sums) → P rows → (instalment - 1 < length rows → P (rows_changed_at rows instalment change)) → P (rows_changed_at rows instalment change)
 changed-keeps P rows instalment change now here =
     elim (cases_lt (instalment - 1) (length rows)) [
       | inl within ↦ here within
       | inr past ↦ subst P (sym (set_past rows (instalment - 1) (change (row_at rows instalment)) past)) now
     ]
 
-pub whole-changed : (rows : List Sums) (instalment : ℕ) (change : Sums → Sums) → ((row : Sums) → IsWhole row → IsWhole (change row)) → AreWhole rows → AreWhole (changed rows instalment change)
+pub whole-changed : (rows : List Sums) (instalment : ℕ) (change : Sums → Sums) → ((row : Sums) → IsWhole row → IsWhole (change row)) → AreWhole rows → AreWhole (rows_changed_at rows instalment change)
 whole-changed rows instalment change keeps whole =
     changed-keeps AreWhole rows instalment change whole
     (λ within. All-set IsWhole rows (instalment - 1) (change (row_at rows instalment)) (keeps (row_at rows instalment) (whole (instalment - 1) no_row within)) whole)
@@ -111,7 +111,7 @@ within-with_settled rows (part ∷ parts) whole within fits =
     (within-settle_row part.how p part.amount row (place_in_row-small part.cell.portion) (whole i no_row here) (within i no_row here) fits.1) within)
     fits.2
 
-within-charged : (rows : List Sums) (instalment p amount : ℕ) → p < 4 → AreWhole rows → AreWithin rows → AreWithin (changed rows instalment (owe_row p amount))
+within-charged : (rows : List Sums) (instalment p amount : ℕ) → p < 4 → AreWhole rows → AreWithin rows → AreWithin (rows_changed_at rows instalment (owe_row p amount))
 within-charged rows instalment p amount small whole within =
     changed-keeps AreWithin rows instalment (owe_row p amount) within
     (λ here. All-set IsRowWithin rows (instalment - 1) (owe_row p amount (row_at rows instalment))
@@ -160,7 +160,7 @@ settleable-after n order place entry before line has =
 abbrev pub owed_at : ℕ → Sums → ℕ
 owed_at q row = get_or row.owed q 0
 
-pub sum-changed : (f : Sums → ℕ) (rows : List Sums) (instalment more : ℕ) (change : Sums → Sums) → ((row : Sums) → f (change row) ≤ f row + more) → sum_by f (changed rows instalment change) ≤ sum_by f rows + more
+pub sum-changed : (f : Sums → ℕ) (rows : List Sums) (instalment more : ℕ) (change : Sums → Sums) → ((row : Sums) → f (change row) ≤ f row + more) → sum_by f (rows_changed_at rows instalment change) ≤ sum_by f rows + more
 sum-changed f rows instalment more change grows =
     changed-keeps (λ x. sum_by f x ≤ sum_by f rows + more) rows instalment change (omega arith)
     (λ within.

@@ -3,7 +3,7 @@ use Rattle.std.proofs.Common.{◌≡◌, ℕ, zero, suc, ◌-◌, ◌<◌, ◌�
 use Rattle.std.specs.Prelude.{insert, fold}
 use Rattle.std.proofs.lemmas.Bool.{cases_lt, cases_Bool, cond_both}
 use Rattle.mf_account.specs.declared.entry.Entry.{Entry}
-use Rattle.mf_account.specs.Standing.{is_before, placed, with_entry, no_entry, NoneBefore, IsInOrder}
+use Rattle.mf_account.specs.Standing.{is_before, order_with, with_entry, no_entry, NoneBefore, IsInOrder}
 use Rattle.mf_account.proofs.StandingLemmas.{placed-insert}
 use Rattle.mf_account.proofs.StandingIsOne.{before-parts, before-again, before-asym, before-trans}
 
@@ -54,16 +54,16 @@ none_before-weaker e x (y ∷ ys) before none = (
   none_before-weaker e x ys before none.1,
 )
 
-none_before-placed : (x e : Entry) (xs : List Entry) → is_before e x ≡ false → NoneBefore x xs → NoneBefore x (placed e xs)
+none_before-placed : (x e : Entry) (xs : List Entry) → is_before e x ≡ false → NoneBefore x xs → NoneBefore x (order_with e xs)
 none_before-placed x e [] one none = (one, tt)
 none_before-placed x e (y ∷ ys) one none =
-    cond_both (is_before e y) (e ∷ y ∷ ys) (y ∷ placed e ys) (NoneBefore x)
+    cond_both (is_before e y) (e ∷ y ∷ ys) (y ∷ order_with e ys) (NoneBefore x)
     (λ _. (one, none)) (λ _. (none.0, none_before-placed x e ys one none.1))
 
-in_order-placed : (e : Entry) (xs : List Entry) → IsInOrder xs → IsInOrder (placed e xs)
+in_order-placed : (e : Entry) (xs : List Entry) → IsInOrder xs → IsInOrder (order_with e xs)
 in_order-placed e [] is = (tt, tt)
 in_order-placed e (x ∷ xs) is =
-    cond_both (is_before e x) (e ∷ x ∷ xs) (x ∷ placed e xs) IsInOrder
+    cond_both (is_before e x) (e ∷ x ∷ xs) (x ∷ order_with e xs) IsInOrder
     (λ before. ((before-not e x before, none_before-weaker e x xs before is.0), is))
     (λ later. (none_before-placed x e xs later is.0, in_order-placed e xs is.1))
 
@@ -71,7 +71,7 @@ in_order-placed e (x ∷ xs) is =
 pub in_order-fold : (order xs : List Entry) → IsInOrder order → IsInOrder (fold with_entry order xs)
 in_order-fold order [] is = is
 in_order-fold order (x ∷ xs) is =
-    in_order-fold (with_entry order x) xs (cond_both x.reversed order (placed x order) IsInOrder (λ _. is) (λ _. in_order-placed x order is))
+    in_order-fold (with_entry order x) xs (cond_both x.reversed order (order_with x order) IsInOrder (λ _. is) (λ _. in_order-placed x order is))
 
 none_before-at : (e : Entry) (xs : List Entry) (j : ℕ) → NoneBefore e xs → j < length xs → is_before (get_or xs j no_entry) e ≡ false
 none_before-at e [] j none within = absurd (omega arith)
@@ -85,7 +85,7 @@ in_order-at (x ∷ xs) zero (suc j) is less within = none_before-at x xs j is.0 
 in_order-at (x ∷ xs) (suc i) (suc j) is less within = in_order-at xs i j is.1 (omega arith) (omega arith)
 
 -- an entry put behind the last that it does not come before
-pub placed-after : (e : Entry) (xs : List Entry) (k : ℕ) (other : Entry) → k ≤ length xs → IsInOrder xs → ((j : ℕ) → k ≤ j → j < length xs → is_before e (get_or xs j no_entry) ≡ true) → 0 < k → get_or xs (k - 1) no_entry ≡ other → is_before e other ≡ false → placed e xs ≡ insert xs k e
+pub placed-after : (e : Entry) (xs : List Entry) (k : ℕ) (other : Entry) → k ≤ length xs → IsInOrder xs → ((j : ℕ) → k ≤ j → j < length xs → is_before e (get_or xs j no_entry) ≡ true) → 0 < k → get_or xs (k - 1) no_entry ≡ other → is_before e other ≡ false → order_with e xs ≡ insert xs k e
 placed-after e xs k other within is later some at none =
     let last : is_before e (get_or xs (k - 1) no_entry) ≡ false = ap (is_before e) at ∙ none in
     placed-insert e xs k within
@@ -97,7 +97,7 @@ placed-after e xs k other within is later some at none =
     (λ below. later k (omega arith) below)
 
 -- an entry that comes before all
-pub placed-before_all : (e : Entry) (xs : List Entry) → ((j : ℕ) → j < length xs → is_before e (get_or xs j no_entry) ≡ true) → placed e xs ≡ insert xs 0 e
+pub placed-before_all : (e : Entry) (xs : List Entry) → ((j : ℕ) → j < length xs → is_before e (get_or xs j no_entry) ≡ true) → order_with e xs ≡ insert xs 0 e
 placed-before_all e xs later = placed-insert e xs 0 (omega arith) (λ j below. absurd (omega arith)) (λ below. later 0 below)
 
 -- one more that it comes before

@@ -4,7 +4,7 @@ use Rattle.std.specs.Prelude.{insert, remove, All}
 use Rattle.std.proofs.lemmas.List.{length-map, length-set, get_or-map, get_or_default}
 use Rattle.std.proofs.lemmas.List.Elements.{All-head, All-tail, All-take, All-drop, All-append, All-weaker}
 use Rattle.mf_account.specs.declared.entry.Entry.{Entry}
-use Rattle.mf_account.specs.Standing.{placed, standing, no_entry, entry_at, entries_at, with_mark}
+use Rattle.mf_account.specs.Standing.{order_with, standing_entries, no_entry, entry_at, entries_at, with_mark}
 use Rattle.mf_account.specs.StandingLaw.{IsAmong}
 use Rattle.mf_account.specs.Loan.{AreEntries}
 use Rattle.mf_account.proofs.SoundLemmas.{entry_at-before, entry_at-last, marked-other}
@@ -15,7 +15,7 @@ use Rattle.mf_account.proofs.RemovedLemmas.{removed-apart, standing-removed}
 use Rattle.mf_account.proofs.RedoneLemmas.{standing-entered}
 
 -- as many as there are standing entries
-pub length-order : (entries : List Entry) (order : List ℕ) → entries_at entries order ≡ standing entries → length order ≡ length (standing entries)
+pub length-order : (entries : List Entry) (order : List ℕ) → entries_at entries order ≡ standing_entries entries → length order ≡ length (standing_entries entries)
 length-order entries order is = sym (length-map order (λ i. get_or entries i no_entry)) ∙ ap length is
 
 -- the last of an order
@@ -33,12 +33,12 @@ longer-same entries e (i ∷ order) within =
     ap (λ (x : Entry). x ∷ entries_at (entries ++ e ∷ []) order) (entry_at-before entries e i (All-head (λ i. i < length entries) i order within))
     ∙ ap (λ (x : List Entry). entry_at entries i ∷ x) (longer-same entries e order (All-tail (λ i. i < length entries) i order within))
 
-pub order-entered : (entries : List Entry) (order : List ℕ) (place : ℕ) (e : Entry) → All (λ i. i < length entries) order → entries_at entries order ≡ standing entries → e.reversed ≡ false → placed e (standing entries) ≡ insert (standing entries) place e → entries_at (entries ++ e ∷ []) (insert order place (length entries)) ≡ standing (entries ++ e ∷ [])
+pub order-entered : (entries : List Entry) (order : List ℕ) (place : ℕ) (e : Entry) → All (λ i. i < length entries) order → entries_at entries order ≡ standing_entries entries → e.reversed ≡ false → order_with e (standing_entries entries) ≡ insert (standing_entries entries) place e → entries_at (entries ++ e ∷ []) (insert order place (length entries)) ≡ standing_entries (entries ++ e ∷ [])
 order-entered entries order place e within is stands place_is =
     entries_at-insert (entries ++ e ∷ []) order place (length entries)
     ∙ ap (λ (x : List Entry). insert x place (entry_at (entries ++ e ∷ []) (length entries))) (longer-same entries e order within ∙ is)
-    ∙ ap (λ (x : Entry). insert (standing entries) place x) (entry_at-last entries e (length entries) refl)
-    ∙ sym (standing-entered entries (standing entries) place e stands refl place_is)
+    ∙ ap (λ (x : Entry). insert (standing_entries entries) place x) (entry_at-last entries e (length entries) refl)
+    ∙ sym (standing-entered entries (standing_entries entries) place e stands refl place_is)
 
 pub within-entered : (entries : List Entry) (order : List ℕ) (place : ℕ) (e : Entry) → All (λ i. i < length entries) order → All (λ i. i < length (entries ++ e ∷ [])) (insert order place (length entries))
 within-entered entries order place e within =
@@ -60,9 +60,9 @@ map-remove f [] (suc k) = refl
 map-remove f (x ∷ xs) zero = refl
 map-remove f (x ∷ xs) (suc k) = ap (λ (y : List Entry). f x ∷ y) (map-remove f xs k)
 
-order-apart : (n day : ℕ) (entries : List Entry) (order : List ℕ) (at k : ℕ) → AreEntries n day entries → entries_at entries order ≡ standing entries → k < length (standing entries) → entry_at (standing entries) k ≡ entry_at entries at → All (λ i. i ≢ at) (remove order k)
+order-apart : (n day : ℕ) (entries : List Entry) (order : List ℕ) (at k : ℕ) → AreEntries n day entries → entries_at entries order ≡ standing_entries entries → k < length (standing_entries entries) → entry_at (standing_entries entries) k ≡ entry_at entries at → All (λ i. i ≢ at) (remove order k)
 order-apart n day entries order at k are is within here = λ j d below same.
-    let all : List Entry = standing entries in
+    let all : List Entry = standing_entries entries in
     let e : Entry = entry_at all k in
     let others : entries_at entries (remove order k) ≡ remove all k = map-remove (λ i. get_or entries i no_entry) order k ∙ ap (λ (x : List Entry). remove x k) is in
     let size : length (remove all k) ≡ length (remove order k) = sym (ap length others) ∙ length-map (remove order k) (λ i. get_or entries i no_entry) in
@@ -74,7 +74,7 @@ order-apart n day entries order at k are is within here = λ j d below same.
     removed-apart e all k (standing-is-one n day entries are).0.ascends within refl
     (subst (λ (x : Entry). IsAmong x (remove all k)) read (at-among (remove all k) j (omega (arith, size, below))))
 
-pub order-removed : (n day : ℕ) (entries : List Entry) (order : List ℕ) (at k : ℕ) → AreEntries n day entries → AreEntries n day (with_mark entries at true) → at < length entries → entries_at entries order ≡ standing entries → k < length (standing entries) → entry_at (standing entries) k ≡ entry_at entries at → entries_at (with_mark entries at true) (remove order k) ≡ standing (with_mark entries at true)
+pub order-removed : (n day : ℕ) (entries : List Entry) (order : List ℕ) (at k : ℕ) → AreEntries n day entries → AreEntries n day (with_mark entries at true) → at < length entries → entries_at entries order ≡ standing_entries entries → k < length (standing_entries entries) → entry_at (standing_entries entries) k ≡ entry_at entries at → entries_at (with_mark entries at true) (remove order k) ≡ standing_entries (with_mark entries at true)
 order-removed n day entries order at k are are_marked there is within here =
     marked-same-at entries at (remove order k) (order-apart n day entries order at k are is within here)
     ∙ map-remove (λ i. get_or entries i no_entry) order k

@@ -15,9 +15,9 @@ use Rattle.mf_account.specs.declared.replay.Standing.{Standing}
 use Rattle.mf_account.specs.Applicable.{no_settled}
 use Rattle.mf_account.specs.Told.{AreNumberedTo}
 use Rattle.mf_account.specs.Effect.{State, Part, after, parts_of}
-use Rattle.mf_account.specs.Account.{Orders, numbered, settled_by, first_state}
+use Rattle.mf_account.specs.Account.{Orders, parts_numbered, settled_by, first_state}
 use Rattle.mf_account.specs.Change.{settled_in}
-use Rattle.mf_account.specs.Standing.{standing, no_entry, entry_at, entries_at, AreApart}
+use Rattle.mf_account.specs.Standing.{standing_entries, no_entry, entry_at, entries_at, AreApart}
 use Rattle.mf_account.specs.Loan.{Loan, IsSound, schedule_of, orders_of, settled_of_loan}
 use Rattle.mf_account.proofs.TailLemmas.{numbers-standing}
 use Rattle.mf_account.proofs.ToldLemmas.{parts-numbered}
@@ -111,15 +111,15 @@ module _ (key : ℕ → ℕ) where
   abbrev entry_key : Entry → ℕ
   entry_key e = key e.seq
 
-  at_least_numbered : (seq place : ℕ) (parts : List Part) (ys : List Settled) → AtLeast part_key (key seq) ys → AtLeast part_key (key seq) (numbered seq place parts ++ ys)
+  at_least_numbered : (seq place : ℕ) (parts : List Part) (ys : List Settled) → AtLeast part_key (key seq) ys → AtLeast part_key (key seq) (parts_numbered seq place parts ++ ys)
   at_least_numbered seq place [] ys later = later
   at_least_numbered seq place (part ∷ parts) ys later = (omega arith, at_least_numbered seq (place + 1) parts ys later)
 
-  at_least_behind : (q seq place : ℕ) (parts : List Part) (ys : List Settled) → q ≤ key seq → AtLeast part_key q ys → AtLeast part_key q (numbered seq place parts ++ ys)
+  at_least_behind : (q seq place : ℕ) (parts : List Part) (ys : List Settled) → q ≤ key seq → AtLeast part_key q ys → AtLeast part_key q (parts_numbered seq place parts ++ ys)
   at_least_behind q seq place [] ys le later = later
   at_least_behind q seq place (part ∷ parts) ys le later = (le, at_least_behind q seq (place + 1) parts ys le later)
 
-  rises_numbered : (seq place : ℕ) (parts : List Part) (ys : List Settled) → AtLeast part_key (key seq) ys → Rises part_key ys → Rises part_key (numbered seq place parts ++ ys)
+  rises_numbered : (seq place : ℕ) (parts : List Part) (ys : List Settled) → AtLeast part_key (key seq) ys → Rises part_key ys → Rises part_key (parts_numbered seq place parts ++ ys)
   rises_numbered seq place [] ys later up = up
   rises_numbered seq place (part ∷ parts) ys later up = (at_least_numbered seq (place + 1) parts ys later, rises_numbered seq (place + 1) parts ys later up)
 
@@ -138,7 +138,7 @@ module _ (key : ℕ → ℕ) where
 
 -- what holds of the numbers of entries holds of those of their parts
 module _ (P : ℕ → Type 0) where
-  all_numbered : (seq place : ℕ) (parts : List Part) (ys : List Settled) → P seq → AllByRecursion (λ (s : Settled). P s.seq) ys → AllByRecursion (λ (s : Settled). P s.seq) (numbered seq place parts ++ ys)
+  all_numbered : (seq place : ℕ) (parts : List Part) (ys : List Settled) → P seq → AllByRecursion (λ (s : Settled). P s.seq) ys → AllByRecursion (λ (s : Settled). P s.seq) (parts_numbered seq place parts ++ ys)
   all_numbered seq place [] ys own later = later
   all_numbered seq place (part ∷ parts) ys own later = (own, all_numbered seq (place + 1) parts ys own later)
 
@@ -234,39 +234,39 @@ all_from P [] all = tt
 all_from P (x ∷ xs) all = (all 0 x (omega arith), all_from P xs (λ k d below. all (suc k) d (omega arith)))
 
 -- no two places of an order are the same
-pub apart-order : (loan : Loan) (order : List ℕ) → IsSound loan → All (λ i. i < length loan.entries) order → entries_at loan.entries order ≡ standing loan.entries → AreApart order
+pub apart-order : (loan : Loan) (order : List ℕ) → IsSound loan → All (λ i. i < length loan.entries) order → entries_at loan.entries order ≡ standing_entries loan.entries → AreApart order
 apart-order loan order sound within is i j less below same =
-    let size : length order ≡ length (standing loan.entries) = sym (length-map order (λ i. get_or loan.entries i no_entry)) ∙ ap length is in
+    let size : length order ≡ length (standing_entries loan.entries) = sym (length-map order (λ i. get_or loan.entries i no_entry)) ∙ ap length is in
     let one = number-at loan order i no_entry sound within (omega (arith, less, below)) in
     let other = number-at loan order j no_entry sound within below in
-    let seqs : (entry_at (standing loan.entries) i).seq ≡ (entry_at (standing loan.entries) j).seq =
+    let seqs : (entry_at (standing_entries loan.entries) i).seq ≡ (entry_at (standing_entries loan.entries) j).seq =
     ap (λ (x : List Entry). (entry_at x i).seq) (sym is) ∙ one ∙ ap (λ n. n + 1) same ∙ sym other ∙ ap (λ (x : List Entry). (entry_at x j).seq) is in
     numbers-standing loan.periods loan.day loan.entries i j sound.entries less (omega (arith, below, size)) seqs
 
 -- sorted by the places of their entries, parts are the loan's where each entry's are
-pub ordered-is : (loan : Loan) (order : List ℕ) (place : ℕ → ℕ) (sorted : List Settled) → IsSound loan → All (λ i. i < length loan.entries) order → entries_at loan.entries order ≡ standing loan.entries → ((k : ℕ) → k < length order → place (get_or order k 0) ≡ k) → ((seq : ℕ) → settled_in seq sorted ≡ settled_in seq (settled_of_loan loan)) → Rises (λ (s : Settled). place (s.seq - 1)) sorted → sorted ≡ settled_of_loan loan
+pub ordered-is : (loan : Loan) (order : List ℕ) (place : ℕ → ℕ) (sorted : List Settled) → IsSound loan → All (λ i. i < length loan.entries) order → entries_at loan.entries order ≡ standing_entries loan.entries → ((k : ℕ) → k < length order → place (get_or order k 0) ≡ k) → ((seq : ℕ) → settled_in seq sorted ≡ settled_in seq (settled_of_loan loan)) → Rises (λ (s : Settled). place (s.seq - 1)) sorted → sorted ≡ settled_of_loan loan
 ordered-is loan order place sorted sound within is at same up =
     let es : List Entry = entries_at loan.entries order in
     let size : length es ≡ length order = length-map order (λ i. get_or loan.entries i no_entry) in
     let number : (k : ℕ) (d : Entry) → k < length es → (get_or es k d).seq ≡ get_or order k 0 + 1 = λ k d below. number-at loan order k d sound within (omega (arith, size, below)) in
-    let has : AllByRecursion (λ (e : Entry). HasPlace order e.seq) (standing loan.entries) =
+    let has : AllByRecursion (λ (e : Entry). HasPlace order e.seq) (standing_entries loan.entries) =
     subst (λ (x : List Entry). AllByRecursion (λ (e : Entry). HasPlace order e.seq) x) is
     (all_from (λ (e : Entry). HasPlace order e.seq) es (λ k d below. (k, omega (arith, size, below), number k d below))) in
     let keyed : (k : ℕ) (d : Entry) → k < length es → key_of order place at (get_or es k d).seq ≡ k = λ k d below.
     let less : (get_or es k d).seq - 1 ≡ get_or order k 0 = (let n = number k d below in omega (arith, n)) in
     ap place less ∙ at k (omega (arith, size, below)) in
-    let rising : Rises (entry_key (key_of order place at)) (standing loan.entries) =
+    let rising : Rises (entry_key (key_of order place at)) (standing_entries loan.entries) =
     subst (Rises (entry_key (key_of order place at))) is
     (rises_from (entry_key (key_of order place at)) es (λ i j d le below.
     let one = keyed i d (omega (arith, le, below)) in
     let other = keyed j d below in
     omega (arith, one, other, le))) in
-    let own : AllByRecursion (λ (s : Settled). HasPlace order s.seq) (settled_of_loan loan) = all_settled (HasPlace order) (orders_of loan) (standing loan.entries) (first_state (schedule_of loan)) has in
+    let own : AllByRecursion (λ (s : Settled). HasPlace order s.seq) (settled_of_loan loan) = all_settled (HasPlace order) (orders_of loan) (standing_entries loan.entries) (first_state (schedule_of loan)) has in
     let seen : AllByRecursion (λ (s : Settled). HasPlace order s.seq) sorted =
     all_from_some (HasPlace order) sorted (λ seq some. let size = ap length (same seq) in some_has (HasPlace order) seq (settled_of_loan loan) own (omega (arith, some, size))) in
     rises_unique (part_key (key_of order place at)) sorted (settled_of_loan loan)
     up
-    (rises_settled (key_of order place at) (orders_of loan) (standing loan.entries) (first_state (schedule_of loan)) rising)
+    (rises_settled (key_of order place at) (orders_of loan) (standing_entries loan.entries) (first_state (schedule_of loan)) rising)
     (same_keys order place at sorted (settled_of_loan loan) seen own same)
 
 -- ---- parts with the places of their entries
@@ -353,7 +353,7 @@ moved_so : (places : List ℕ) (ps sorted : List Standing) → IsPermutation ps 
 moved_so places ps sorted moved so = recursion_from_All (HasItsPlace places) sorted (All-permutation (HasItsPlace places) ps sorted moved (All-from_recursion (HasItsPlace places) ps so))
 
 -- sorted by place, the parts are the loan's where each entry's are
-pub sorted-parts : (loan : Loan) (order places : List ℕ) (xs : List Settled) (sorted : List Standing) → IsSound loan → All (λ i. i < length loan.entries) order → entries_at loan.entries order ≡ standing loan.entries → ((k : ℕ) → k < length order → get_or places (get_or order k 0) 0 ≡ k) → ((seq : ℕ) → settled_in seq xs ≡ settled_in seq (settled_of_loan loan))
+pub sorted-parts : (loan : Loan) (order places : List ℕ) (xs : List Settled) (sorted : List Standing) → IsSound loan → All (λ i. i < length loan.entries) order → entries_at loan.entries order ≡ standing_entries loan.entries → ((k : ℕ) → k < length order → get_or places (get_or order k 0) 0 ≡ k) → ((seq : ℕ) → settled_in seq xs ≡ settled_in seq (settled_of_loan loan))
     → IsPermutation (map (with_place places) xs) sorted → IsNonDecreasingBy (λ (p : Standing). p.place) sorted → IsStableByKey (λ (p : Standing). p.place) nat_cmp (map (with_place places) xs) sorted → map part_in sorted ≡ settled_of_loan loan
 sorted-parts loan order places xs sorted sound within is at same moved up stable =
     let ps : List Standing = map (with_place places) xs in

@@ -21,7 +21,7 @@ use Rattle.mf_account.specs.Effect.{State, Part, settle, settle_row, owe_row, wi
 use Rattle.mf_account.specs.AtOnce.{rows_charged}
 use Rattle.mf_account.specs.Account.{Orders, after_all, first_state, row_of}
 use Rattle.mf_account.specs.Applicable.{HasInstalment}
-use Rattle.mf_account.specs.Standing.{standing, no_entry, entry_at}
+use Rattle.mf_account.specs.Standing.{standing_entries, no_entry, entry_at}
 use Rattle.mf_account.specs.StandingLaw.{IsAmong}
 use Rattle.mf_account.specs.Loan.{Loan, HasColumns, IsEntry, IsSound, schedule_of, orders_of, cell_places_of, state_of_loan}
 use Rattle.mf_account.specs.Refusals.{is_penalty_on, has_penalty}
@@ -130,9 +130,9 @@ first-owes (x ∷ schedule) zero = refl
 first-owes (x ∷ schedule) (suc i) = first-owes schedule i
 
 -- an instalment owes what its standing penalties come to
-loan-owes : (loan : Loan) (instalment : ℕ) → IsSound loan → 1 ≤ instalment → penalties_owed instalment (state_of_loan loan).rows ≡ added instalment (standing loan.entries)
+loan-owes : (loan : Loan) (instalment : ℕ) → IsSound loan → 1 ≤ instalment → penalties_owed instalment (state_of_loan loan).rows ≡ added instalment (standing_entries loan.entries)
 loan-owes loan instalment sound first =
-    let all = all-owes loan.periods (2 ^ 54) instalment (orders_of loan) (cell_places_of loan) (standing loan.entries) (first_state (schedule_of loan)) first
+    let all = all-owes loan.periods (2 ^ 54) instalment (orders_of loan) (cell_places_of loan) (standing_entries loan.entries) (first_state (schedule_of loan)) first
     (lawful-of loan) (each-standing loan sound) (first-good loan sound) in
     let none = first-owes (schedule_of loan) (instalment - 1) in
     omega (arith, all, none)
@@ -178,9 +178,9 @@ adds-penalty instalment e some =
     ]
 
 -- where an instalment owes penalties one stands on it
-owing-has : (loan : Loan) (instalment : ℕ) → IsSound loan → 0 < added instalment (standing loan.entries) → has_penalty loan.entries instalment ≡ true
+owing-has : (loan : Loan) (instalment : ℕ) → IsSound loan → 0 < added instalment (standing_entries loan.entries) → has_penalty loan.entries instalment ≡ true
 owing-has loan instalment sound some =
-    let found = some-adds instalment (standing loan.entries) some in
+    let found = some-adds instalment (standing_entries loan.entries) some in
     let x : Entry = found.0 in
     let own = (standing-is-one loan.periods loan.day loan.entries sound.entries).0.from x found.1 in
     let index = among-index x loan.entries own.0 in
@@ -188,7 +188,7 @@ owing-has loan instalment sound some =
     list_any_at (is_penalty_on instalment) loan.entries index.0 no_entry index.1 (ap (is_penalty_on instalment) index.2 ∙ holds)
 
 -- and where one stands on it, it owes penalties
-having-owes : (loan : Loan) (instalment : ℕ) → IsSound loan → has_penalty loan.entries instalment ≡ true → 0 < added instalment (standing loan.entries)
+having-owes : (loan : Loan) (instalment : ℕ) → IsSound loan → has_penalty loan.entries instalment ≡ true → 0 < added instalment (standing_entries loan.entries)
 having-owes loan instalment sound any =
     let found = Any-from_list_any (is_penalty_on instalment) loan.entries any in
     let k : ℕ = found.0 in
@@ -197,11 +197,11 @@ having-owes loan instalment sound any =
     let both = and_parts (not x.reversed) (is_penalty x.kind && eqb x.instalment instalment) found.4 in
     let penalty = and_parts (is_penalty x.kind) (eqb x.instalment instalment) both.1 in
     let among : IsAmong x loan.entries = subst (λ (y : Entry). IsAmong y loan.entries) read (at-among loan.entries k found.2) in
-    let stands : IsAmong x (standing loan.entries) = (standing-is-one loan.periods loan.day loan.entries sound.entries).0.to x among (not_true x.reversed both.0) in
+    let stands : IsAmong x (standing_entries loan.entries) = (standing-is-one loan.periods loan.day loan.entries sound.entries).0.to x among (not_true x.reversed both.0) in
     let is : IsEntry loan.periods loan.day x = subst (IsEntry loan.periods loan.day) read (sound.entries.each k no_entry found.2) in
     let amount = penalty-some x.kind loan.periods x is.columns penalty.0 in
     let own : adds instalment x ≡ x.amount = cond-true (is_penalty x.kind && eqb x.instalment instalment) x.amount 0 both.1 in
-    let most = one-adds instalment x (standing loan.entries) stands in
+    let most = one-adds instalment x (standing_entries loan.entries) stands in
     omega (arith, amount, own, most)
 
 -- so the row alone tells it

@@ -11,10 +11,10 @@ use Rattle.mf_account.specs.declared.settled.Settled.{Settled}
 use Rattle.mf_account.specs.Effect.{State}
 use Rattle.mf_account.specs.Account.{Orders, orders_by, after_all, settled_by, first_state}
 use Rattle.mf_account.specs.Applicable.{AreApplicable}
-use Rattle.mf_account.specs.Standing.{placed, with_entry, standing, no_entry, entry_at, entries_at, with_mark}
+use Rattle.mf_account.specs.Standing.{order_with, with_entry, standing_entries, no_entry, entry_at, entries_at, with_mark}
 use Rattle.mf_account.specs.StandingLaw.{IsStandingOf}
 use Rattle.mf_account.specs.Loan.{Loan, AreEntries, IsSound, cells_of, orders_of, schedule_of, state_of_loan, settled_of_loan}
-use Rattle.mf_account.specs.Change.{Changed, AreThose, AreAll, HasOtherRow, HasOtherParts, IsChange, settled_in}
+use Rattle.mf_account.specs.Change.{ChangedNumbers, AreThose, AreAll, HasOtherRow, HasOtherParts, IsChange, settled_in}
 use Rattle.mf_account.specs.Rewind.{IsRedone, state_before, settled_upto}
 use Rattle.mf_account.proofs.SoundLemmas.{applicable-sound}
 use Rattle.mf_account.proofs.DueLemmas.{dues-after_all, orders-same}
@@ -29,11 +29,11 @@ fold-push : (order xs : List Entry) (e : Entry) → fold with_entry order (xs ++
 fold-push order [] e = refl
 fold-push order (x ∷ xs) e = fold-push (with_entry order x) xs e
 
-pub standing-entered : (entries others : List Entry) (place : ℕ) (e : Entry) → e.reversed ≡ false → others ≡ standing entries → placed e others ≡ insert others place e → standing (entries ++ e ∷ []) ≡ take place (standing entries) ++ e ∷ drop place (standing entries)
+pub standing-entered : (entries others : List Entry) (place : ℕ) (e : Entry) → e.reversed ≡ false → others ≡ standing_entries entries → order_with e others ≡ insert others place e → standing_entries (entries ++ e ∷ []) ≡ take place (standing_entries entries) ++ e ∷ drop place (standing_entries entries)
 standing-entered entries others place e stands is place_is =
     fold-push [] entries e
-    ∙ cond-false e.reversed (standing entries) (placed e (standing entries)) stands
-    ∙ ap (placed e) (sym is)
+    ∙ cond-false e.reversed (standing_entries entries) (order_with e (standing_entries entries)) stands
+    ∙ ap (order_with e) (sym is)
     ∙ place_is
     ∙ ap (λ xs. insert xs place e) is
 
@@ -58,11 +58,11 @@ within-later entries seen order slice k size same within =
     All-take (λ i. i < length seen) (length slice - k) (drop k slice) (All-drop (λ i. i < length seen) k slice all)
 
 -- where an order has an entry that stands
-pub order-has : (n day : ℕ) (entries : List Entry) (order : List ℕ) (at : ℕ) → AreEntries n day entries → All (λ i. i < length entries) order → entries_at entries order ≡ standing entries → at < length entries → (entry_at entries at).reversed ≡ false → Contains order at
+pub order-has : (n day : ℕ) (entries : List Entry) (order : List ℕ) (at : ℕ) → AreEntries n day entries → All (λ i. i < length entries) order → entries_at entries order ≡ standing_entries entries → at < length entries → (entry_at entries at).reversed ≡ false → Contains order at
 order-has n day entries order at are within is there stands =
-    let own : IsStandingOf entries (standing entries) = (standing-is-one n day entries are).0 in
+    let own : IsStandingOf entries (standing_entries entries) = (standing-is-one n day entries are).0 in
     let among = own.to (entry_at entries at) (at-among entries at there) stands in
-    let index = among-index (entry_at entries at) (standing entries) among in
+    let index = among-index (entry_at entries at) (standing_entries entries) among in
     let k : ℕ = index.0 in
     let size : length (entries_at entries order) ≡ length order = length-map order (λ i. get_or entries i no_entry) in
     let same = ap length is in
@@ -81,32 +81,32 @@ at-order entries all order k at is within here =
     ap (λ x. entry_at x k) (sym is) ∙ get_or-map (λ i. get_or entries i no_entry) order k 0 no_entry within ∙ ap (entry_at entries) here
 
 -- the standing entries with one less
-pub standing-without-it : (n day : ℕ) (entries : List Entry) (at k : ℕ) → AreEntries n day entries → AreEntries n day (with_mark entries at true) → at < length entries → k < length (standing entries) → entry_at (standing entries) k ≡ entry_at entries at → standing (with_mark entries at true) ≡ take k (standing entries) ++ drop (k + 1) (standing entries)
+pub standing-without-it : (n day : ℕ) (entries : List Entry) (at k : ℕ) → AreEntries n day entries → AreEntries n day (with_mark entries at true) → at < length entries → k < length (standing_entries entries) → entry_at (standing_entries entries) k ≡ entry_at entries at → standing_entries (with_mark entries at true) ≡ take k (standing_entries entries) ++ drop (k + 1) (standing_entries entries)
 standing-without-it n day entries at k are are_marked there within here =
     standing-removed n day entries at k are are_marked there within here
-    ∙ remove-parts (standing entries) k
-    ∙ ap (λ n. take k (standing entries) ++ drop n (standing entries)) (sym (add-one k))
+    ∙ remove-parts (standing_entries entries) k
+    ∙ ap (λ n. take k (standing_entries entries) ++ drop n (standing_entries entries)) (sym (add-one k))
 
 -- the orders of a loan are those over its rows at any place
 orders-before : (old : Loan) (k : ℕ) → orders_by (cells_of old) (state_before old k).rows ≡ orders_of old
 orders-before old k =
     orders-same (cells_of old) (state_before old k).rows (first_state (schedule_of old)).rows
-    (dues-after_all (orders_of old) (take k (standing old.entries)) (first_state (schedule_of old)))
+    (dues-after_all (orders_of old) (take k (standing_entries old.entries)) (first_state (schedule_of old)))
 
-pub fits-redone : (old : Loan) (es back applied : List Entry) (k : ℕ) (book : State) → IsSound (record old { entries = es }) → standing es ≡ take k (standing old.entries) ++ back → book ≡ state_before old k → applied ≡ back → AreApplicable (orders_by (cells_of old) book.rows) applied book
+pub fits-redone : (old : Loan) (es back applied : List Entry) (k : ℕ) (book : State) → IsSound (record old { entries = es }) → standing_entries es ≡ take k (standing_entries old.entries) ++ back → book ≡ state_before old k → applied ≡ back → AreApplicable (orders_by (cells_of old) book.rows) applied book
 fits-redone old es back applied k book sound stands book_is applied_is =
-    let all : AreApplicable (orders_of old) (take k (standing old.entries) ++ back) (first_state (schedule_of old)) =
+    let all : AreApplicable (orders_of old) (take k (standing_entries old.entries) ++ back) (first_state (schedule_of old)) =
     subst (λ (x : List Entry). AreApplicable (orders_of old) x (first_state (schedule_of old))) stands (applicable-sound (record old { entries = es }) sound) in
     subst (λ (x : List Entry). AreApplicable (orders_by (cells_of old) book.rows) x book) (sym applied_is)
     (subst (λ (x : State). AreApplicable (orders_by (cells_of old) x.rows) back x) (sym book_is)
     (subst (λ (o : Orders). AreApplicable o back (state_before old k)) (sym (orders-before old k))
-    (applicable-append (orders_of old) (take k (standing old.entries)) back (first_state (schedule_of old)) all)))
+    (applicable-append (orders_of old) (take k (standing_entries old.entries)) back (first_state (schedule_of old)) all)))
 
-pub redone-from : (old : Loan) (es back applied : List Entry) (k kept : ℕ) (book next : State) (parts : List Settled) → standing es ≡ take k (standing old.entries) ++ back → kept ≤ length (settled_of_loan old) → take kept (settled_of_loan old) ≡ settled_upto old k → book ≡ state_before old k → applied ≡ back → next ≡ after_all (orders_by (cells_of old) book.rows) applied book → parts ≡ settled_by (orders_by (cells_of old) book.rows) applied book → IsRedone old (record old { entries = es }) next kept parts
+pub redone-from : (old : Loan) (es back applied : List Entry) (k kept : ℕ) (book next : State) (parts : List Settled) → standing_entries es ≡ take k (standing_entries old.entries) ++ back → kept ≤ length (settled_of_loan old) → take kept (settled_of_loan old) ≡ settled_upto old k → book ≡ state_before old k → applied ≡ back → next ≡ after_all (orders_by (cells_of old) book.rows) applied book → parts ≡ settled_by (orders_by (cells_of old) book.rows) applied book → IsRedone old (record old { entries = es }) next kept parts
 redone-from old es back applied k kept book next parts stands within front book_is applied_is next_is parts_is =
     let orders : Orders = orders_of old in
     let first : State = first_state (schedule_of old) in
-    let before : List Entry = take k (standing old.entries) in
+    let before : List Entry = take k (standing_entries old.entries) in
     record {
       book_is = next_is
           ∙ ap (λ x. after_all (orders_by (cells_of old) book.rows) x book) applied_is
@@ -129,10 +129,10 @@ redone-from old es back applied k kept book next parts stands within front book_
 none-of-number : (loan : Loan) (seq : ℕ) → IsSound loan → (1 ≤ seq → seq ≤ length loan.entries → ⊥) → settled_in seq (settled_of_loan loan) ≡ []
 none-of-number loan seq sound outside =
     none-in seq (settled_of_loan loan)
-    (numbers-apart (orders_of loan) seq (standing loan.entries) (first_state (schedule_of loan)) (λ j below same.
+    (numbers-apart (orders_of loan) seq (standing_entries loan.entries) (first_state (schedule_of loan)) (λ j below same.
     let at = standing-at loan.periods loan.day loan.entries j sound.entries below in
     let number = sound.entries.numbers at.0 at.1.within in
-    let own : (entry_at loan.entries at.0).seq ≡ (entry_at (standing loan.entries) j).seq = ap (λ (x : Entry). x.seq) at.1.same in
+    let own : (entry_at loan.entries at.0).seq ≡ (entry_at (standing_entries loan.entries) j).seq = ap (λ (x : Entry). x.seq) at.1.same in
     let there = at.1.within in
     outside (omega (arith, number, own, same)) (omega (arith, number, own, same, there))))
 
@@ -148,7 +148,7 @@ other-within before after sound_before sound_after more seq differ =
     ]
 
 -- what a change changes, seen from the parts that stay on
-pub change-tails : (before after : Loan) (old new : State) (kept : ℕ) (tail parts : List Settled) (change : Changed) → IsSound before → IsSound after → length before.entries ≤ length after.entries → old ≡ state_of_loan before → tail ≡ drop kept (settled_of_loan before) → IsRedone before after new kept parts → length old.rows ≡ after.periods → AreThose (length old.rows) (HasOtherRow old.rows new.rows) change.rows → AreAll (HasOtherParts tail parts) change.seqs → IsChange before after change
+pub change-tails : (before after : Loan) (old new : State) (kept : ℕ) (tail parts : List Settled) (change : ChangedNumbers) → IsSound before → IsSound after → length before.entries ≤ length after.entries → old ≡ state_of_loan before → tail ≡ drop kept (settled_of_loan before) → IsRedone before after new kept parts → length old.rows ≡ after.periods → AreThose (length old.rows) (HasOtherRow old.rows new.rows) change.rows → AreAll (HasOtherParts tail parts) change.seqs → IsChange before after change
 change-tails before after old new kept tail parts change sound_before sound_after more old_is tail_is redone periods rows seqs =
     let all : List Settled = settled_of_loan before in
     let front : List Settled = take kept all in

@@ -3,7 +3,7 @@ use Rattle.std.proofs.Common.{◌≡◌, ◌≢◌, ℕ, zero, suc, ◌<◌, tru
 use Rattle.std.specs.Prelude.{remove}
 use Rattle.std.proofs.lemmas.List.{length-set, get_or-set_same, get_or-set_other}
 use Rattle.mf_account.specs.declared.entry.Entry.{Entry}
-use Rattle.mf_account.specs.Standing.{is_before, standing, no_entry, entry_at, with_mark}
+use Rattle.mf_account.specs.Standing.{is_before, standing_entries, no_entry, entry_at, with_mark}
 use Rattle.mf_account.specs.StandingLaw.{IsAmong, Precedes, Ascends, IsStandingOf}
 use Rattle.mf_account.specs.Loan.{AreEntries}
 use Rattle.mf_account.proofs.StandingIsOne.{before-asym, precedes-among, standing-is-one}
@@ -52,9 +52,9 @@ among-set e v (x ∷ xs) zero other (inr later) = inr later
 among-set e v (x ∷ xs) (suc at) other (inl is) = inl is
 among-set e v (x ∷ xs) (suc at) other (inr later) = inr (among-set e v xs at other later)
 
-pub standing-removed : (n day : ℕ) (entries : List Entry) (at k : ℕ) → AreEntries n day entries → AreEntries n day (with_mark entries at true) → at < length entries → k < length (standing entries) → entry_at (standing entries) k ≡ entry_at entries at → standing (with_mark entries at true) ≡ remove (standing entries) k
+pub standing-removed : (n day : ℕ) (entries : List Entry) (at k : ℕ) → AreEntries n day entries → AreEntries n day (with_mark entries at true) → at < length entries → k < length (standing_entries entries) → entry_at (standing_entries entries) k ≡ entry_at entries at → standing_entries (with_mark entries at true) ≡ remove (standing_entries entries) k
 standing-removed n day entries at k are are_marked there within is =
-    let all : List Entry = standing entries in
+    let all : List Entry = standing_entries entries in
     let marked : List Entry = with_mark entries at true in
     let own : IsStandingOf entries all = (standing-is-one n day entries are).0 in
     let size : length marked ≡ length entries = length-set entries at (record (entry_at entries at) { reversed = true }) in

@@ -9,7 +9,7 @@ use Rattle.mf_account.specs.declared.entry.Kind.TheVariants.{Refund}
 use Rattle.mf_account.specs.Kinds.{money_in, money_out}
 use Rattle.mf_account.specs.Effect.{State, after}
 use Rattle.mf_account.specs.Account.{after_all, first_state, sum_at}
-use Rattle.mf_account.specs.Standing.{standing, no_entry, entry_at, entries_at}
+use Rattle.mf_account.specs.Standing.{standing_entries, no_entry, entry_at, entries_at}
 use Rattle.mf_account.specs.Loan.{Loan, IsSound, schedule_of, orders_of, state_of_loan}
 use Rattle.mf_account.specs.Rewind.{state_before}
 use Rattle.mf_account.specs.Safe.{most_kept}
@@ -30,15 +30,15 @@ brought-most (e ∷ entries) =
     let right = sum_by-append (λ (x : Entry). x.amount) (e ∷ []) entries in
     omega (arith, rest, one, left, right)
 
-pub brought-room : (loan : Loan) → IsSound loan → brought (standing loan.entries) < 2 ^ 63
+pub brought-room : (loan : Loan) → IsSound loan → brought (standing_entries loan.entries) < 2 ^ 63
 brought-room loan sound =
-    let most = brought-most (standing loan.entries) in
+    let most = brought-most (standing_entries loan.entries) in
     let all = standing-amounts loan sound in
     omega (arith, most, all)
 
-pub brought-kept : (loan : Loan) → IsSound loan → brought (standing loan.entries) ≤ most_kept
+pub brought-kept : (loan : Loan) → IsSound loan → brought (standing_entries loan.entries) ≤ most_kept
 brought-kept loan sound =
-    let most = brought-most (standing loan.entries) in
+    let most = brought-most (standing_entries loan.entries) in
     let all = standing-amounts loan sound in
     omega (arith, most, all)
 
@@ -58,7 +58,7 @@ brought-step entries order k e within there is =
 abbrev pub paid_in_all : List Sums → ℕ
 paid_in_all rows = sum_at (λ (r : Sums). r.paid) 0 rows + sum_at (λ (r : Sums). r.paid) 1 rows + sum_at (λ (r : Sums). r.paid) 2 rows + sum_at (λ (r : Sums). r.paid) 3 rows
 
-pub held : (loan : Loan) → IsSound loan → paid_in_all (state_of_loan loan).rows + (state_of_loan loan).overpaid + (state_of_loan loan).refunded ≡ brought (standing loan.entries)
+pub held : (loan : Loan) → IsSound loan → paid_in_all (state_of_loan loan).rows + (state_of_loan loan).overpaid + (state_of_loan loan).refunded ≡ brought (standing_entries loan.entries)
 held loan sound =
     let all = held-sound loan sound in
     let columns = paid-columns (state_of_loan loan).rows (good-sound loan sound).whole in
@@ -68,9 +68,9 @@ abbrev pub EndsInRefund : List Entry → ℕ → Type 0
 EndsInRefund entries n = (0 < n) × ((entry_at entries (n - 1)).kind ≡ Refund)
 
 -- after a refund nothing is overpaid
-none-overpaid : (loan : Loan) → IsSound loan → EndsInRefund (standing loan.entries) (length (standing loan.entries)) → (state_of_loan loan).overpaid ≡ 0
+none-overpaid : (loan : Loan) → IsSound loan → EndsInRefund (standing_entries loan.entries) (length (standing_entries loan.entries)) → (state_of_loan loan).overpaid ≡ 0
 none-overpaid loan sound ends =
-    let all : List Entry = standing loan.entries in
+    let all : List Entry = standing_entries loan.entries in
     let k : ℕ = length all - 1 in
     let within : k < length all = omega (arith, ends.0) in
     let e : Entry = entry_at all k in
@@ -85,9 +85,9 @@ none-overpaid loan sound ends =
     omega (arith, money, brings, gives, left)
 
 -- with no refund nothing is refunded
-none-refunded-all : (loan : Loan) → IsSound loan → (EndsInRefund (standing loan.entries) (length (standing loan.entries)) → ⊥) → (state_of_loan loan).refunded ≡ 0
+none-refunded-all : (loan : Loan) → IsSound loan → (EndsInRefund (standing_entries loan.entries) (length (standing_entries loan.entries)) → ⊥) → (state_of_loan loan).refunded ≡ 0
 none-refunded-all loan sound other =
-    let all : List Entry = standing loan.entries in
+    let all : List Entry = standing_entries loan.entries in
     none-refunded (orders_of loan) all (first_state (schedule_of loan)) refl
     (λ j less is.
     elim (cases_lt (j + 1) (length all)) [
@@ -97,24 +97,24 @@ none-refunded-all loan sound other =
           other (omega (arith, less), ap (λ n. (entry_at all n).kind) (sym last) ∙ is)
     ])
 
-pub ends-in : (loan : Loan) (entries : List Entry) (order : List ℕ) → entries_at entries order ≡ standing entries → entries ≡ loan.entries → (P : Type 0 → Type 0) → P (EndsInRefund (entries_at entries order) (length order)) → P (EndsInRefund (standing loan.entries) (length (standing loan.entries)))
+pub ends-in : (loan : Loan) (entries : List Entry) (order : List ℕ) → entries_at entries order ≡ standing_entries entries → entries ≡ loan.entries → (P : Type 0 → Type 0) → P (EndsInRefund (entries_at entries order) (length order)) → P (EndsInRefund (standing_entries loan.entries) (length (standing_entries loan.entries)))
 ends-in loan entries order is same P holds =
-    let all : entries_at entries order ≡ standing loan.entries = is ∙ ap standing same in
-    let size : length order ≡ length (standing loan.entries) = sym (length-map order (λ i. get_or entries i no_entry)) ∙ ap length all in
-    subst (λ (n : ℕ). P (EndsInRefund (standing loan.entries) n)) size
+    let all : entries_at entries order ≡ standing_entries loan.entries = is ∙ ap standing_entries same in
+    let size : length order ≡ length (standing_entries loan.entries) = sym (length-map order (λ i. get_or entries i no_entry)) ∙ ap length all in
+    subst (λ (n : ℕ). P (EndsInRefund (standing_entries loan.entries) n)) size
     (subst (λ (x : List Entry). P (EndsInRefund x (length order))) all holds)
 
 abbrev book_at : List Sums → ℕ → ℕ → State
 book_at rows overpaid refunded = record { rows = rows; overpaid = overpaid; refunded = refunded }
 
-pub resumed-refund : (loan : Loan) (rows : List Sums) (total paid : ℕ) → IsSound loan → rows ≡ (state_of_loan loan).rows → total ≡ brought (standing loan.entries) → paid ≡ paid_in_all (state_of_loan loan).rows → EndsInRefund (standing loan.entries) (length (standing loan.entries)) → book_at rows 0 (total - paid) ≡ state_of_loan loan
+pub resumed-refund : (loan : Loan) (rows : List Sums) (total paid : ℕ) → IsSound loan → rows ≡ (state_of_loan loan).rows → total ≡ brought (standing_entries loan.entries) → paid ≡ paid_in_all (state_of_loan loan).rows → EndsInRefund (standing_entries loan.entries) (length (standing_entries loan.entries)) → book_at rows 0 (total - paid) ≡ state_of_loan loan
 resumed-refund loan rows total paid sound same total_is paid_is ends =
     let none = none-overpaid loan sound ends in
     let all = held loan sound in
     let rest : total - paid ≡ (state_of_loan loan).refunded = omega (arith, none, all, total_is, paid_is) in
     ap (λ r. book_at r 0 (total - paid)) same ∙ ap (λ o. book_at (state_of_loan loan).rows o (total - paid)) (sym none) ∙ ap (λ f. book_at (state_of_loan loan).rows (state_of_loan loan).overpaid f) rest
 
-pub resumed-other : (loan : Loan) (rows : List Sums) (total paid : ℕ) → IsSound loan → rows ≡ (state_of_loan loan).rows → total ≡ brought (standing loan.entries) → paid ≡ paid_in_all (state_of_loan loan).rows → (EndsInRefund (standing loan.entries) (length (standing loan.entries)) → ⊥) → book_at rows (total - paid) 0 ≡ state_of_loan loan
+pub resumed-other : (loan : Loan) (rows : List Sums) (total paid : ℕ) → IsSound loan → rows ≡ (state_of_loan loan).rows → total ≡ brought (standing_entries loan.entries) → paid ≡ paid_in_all (state_of_loan loan).rows → (EndsInRefund (standing_entries loan.entries) (length (standing_entries loan.entries)) → ⊥) → book_at rows (total - paid) 0 ≡ state_of_loan loan
 resumed-other loan rows total paid sound same total_is paid_is other =
     let none = none-refunded-all loan sound other in
     let all = held loan sound in

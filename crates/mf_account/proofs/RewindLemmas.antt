@@ -17,13 +17,13 @@ use Rattle.mf_account.specs.declared.settled.Settled.{Settled}
 use Rattle.mf_account.specs.Effect.{State, Part, after, parts_of}
 use Rattle.mf_account.specs.Kinds.{money_out}
 use Rattle.mf_account.specs.AtOnce.{money_to_pay}
-use Rattle.mf_account.specs.Account.{Orders, after_all, settled_by, numbered, part_of}
+use Rattle.mf_account.specs.Account.{Orders, after_all, settled_by, parts_numbered, part_of}
 use Rattle.mf_account.specs.Undo.{unowe_row, before_entry, paid_in, without_charge, without_settled}
 use Rattle.mf_account.specs.Standing.{no_entry, entry_at}
 use Rattle.mf_account.specs.Applicable.{no_settled, HasCharge, AreInRows}
 use Rattle.mf_account.specs.Rewind.{IsRewindable, IsBack}
 use Rattle.mf_alloc.specs.Sums.{Sums, IsRowWithin, AreWithin}
-use Rattle.mf_alloc.specs.Rows.{changed, no_row}
+use Rattle.mf_alloc.specs.Rows.{rows_changed_at, no_row}
 use Rattle.std.proofs.lemmas.List.{length-set, get_or-set_same}
 use Rattle.mf_account.specs.Applicable.{HasInstalment}
 use Rattle.mf_account.proofs.EffectLemmas.{part_of-numbered}
@@ -42,24 +42,24 @@ after_all-snoc : (orders : Orders) (entries : List Entry) (entry : Entry) (from 
 after_all-snoc orders [] entry from = refl
 after_all-snoc orders (first ∷ entries) entry from = after_all-snoc orders entries entry (after (orders first) first from)
 
-settled_by-snoc : (orders : Orders) (entries : List Entry) (entry : Entry) (from : State) → settled_by orders (entries ++ entry ∷ []) from ≡ settled_by orders entries from ++ numbered entry.seq 1 (parts_of (orders entry) entry (after_all orders entries from))
+settled_by-snoc : (orders : Orders) (entries : List Entry) (entry : Entry) (from : State) → settled_by orders (entries ++ entry ∷ []) from ≡ settled_by orders entries from ++ parts_numbered entry.seq 1 (parts_of (orders entry) entry (after_all orders entries from))
 settled_by-snoc orders [] entry from = append-nil _
 settled_by-snoc orders (first ∷ entries) entry from =
-    let own : List Settled = numbered first.seq 1 (parts_of (orders first) first from) in
+    let own : List Settled = parts_numbered first.seq 1 (parts_of (orders first) first from) in
     ap (λ x. own ++ x) (settled_by-snoc orders entries entry (after (orders first) first from))
-    ∙ sym (append_assoc own (settled_by orders entries (after (orders first) first from)) (numbered entry.seq 1 (parts_of (orders entry) entry (after_all orders entries (after (orders first) first from)))))
+    ∙ sym (append_assoc own (settled_by orders entries (after (orders first) first from)) (parts_numbered entry.seq 1 (parts_of (orders entry) entry (after_all orders entries (after (orders first) first from)))))
 
 -- parts carry their entry's number
-numbers-numbered : (seq place : ℕ) (parts : List Part) → All (λ (s : Settled). s.seq ≡ seq) (numbered seq place parts)
+numbers-numbered : (seq place : ℕ) (parts : List Part) → All (λ (s : Settled). s.seq ≡ seq) (parts_numbered seq place parts)
 numbers-numbered seq place [] = All-nil (λ (s : Settled). s.seq ≡ seq)
 numbers-numbered seq place (part ∷ parts) =
-    All-cons (λ (s : Settled). s.seq ≡ seq) (record { seq = seq; place = place; cell = part.cell; how = part.how; amount = part.amount }) (numbered seq (place + 1) parts) refl (numbers-numbered seq (place + 1) parts)
+    All-cons (λ (s : Settled). s.seq ≡ seq) (record { seq = seq; place = place; cell = part.cell; how = part.how; amount = part.amount }) (parts_numbered seq (place + 1) parts) refl (numbers-numbered seq (place + 1) parts)
 
 -- and none another's
 pub numbers-apart : (orders : Orders) (q : ℕ) (entries : List Entry) (from : State) → ((j : ℕ) → j < length entries → (entry_at entries j).seq ≢ q) → All (λ (s : Settled). s.seq ≢ q) (settled_by orders entries from)
 numbers-apart orders q [] from apart = All-nil (λ (s : Settled). s.seq ≢ q)
 numbers-apart orders q (entry ∷ entries) from apart =
-    let own : List Settled = numbered entry.seq 1 (parts_of (orders entry) entry from) in
+    let own : List Settled = parts_numbered entry.seq 1 (parts_of (orders entry) entry from) in
     let others : List Settled = settled_by orders entries (after (orders entry) entry from) in
     All-append (λ (s : Settled). s.seq ≢ q) own others
     (All-weaker (λ (s : Settled). s.seq ≡ entry.seq) (λ (s : Settled). s.seq ≢ q) (λ s e f. apart 0 (omega arith) (sym e ∙ f)) own (numbers-numbered entry.seq 1 (parts_of (orders entry) entry from)))
@@ -120,10 +120,10 @@ still-all n orders places (entry ∷ entries) from lawful there still =
     (still-after n (orders entry) (places entry) entry from (lawful entry) (there 0 (omega arith)) still)
 
 -- each part of entries in order is in a cell
-cells-numbered : (n : ℕ) (rows : List Sums) (seq place : ℕ) (parts : List Part) → IsSettleable rows parts → length rows ≡ n → AreInRows n (numbered seq place parts)
+cells-numbered : (n : ℕ) (rows : List Sums) (seq place : ℕ) (parts : List Part) → IsSettleable rows parts → length rows ≡ n → AreInRows n (parts_numbered seq place parts)
 cells-numbered n rows seq place [] fits size = All-nil (λ (s : Settled). IsCell n s.cell)
 cells-numbered n rows seq place (part ∷ parts) fits size =
-    All-cons (λ (s : Settled). IsCell n s.cell) (record { seq = seq; place = place; cell = part.cell; how = part.how; amount = part.amount }) (numbered seq (place + 1) parts)
+    All-cons (λ (s : Settled). IsCell n s.cell) (record { seq = seq; place = place; cell = part.cell; how = part.how; amount = part.amount }) (parts_numbered seq (place + 1) parts)
     (subst (λ (x : ℕ). IsCell x part.cell) size fits.0)
     (cells-numbered n (settle rows part) seq (place + 1) parts fits.2 (length-with_settled rows (part ∷ []) ∙ size))
 
@@ -131,7 +131,7 @@ pub cells-settled_by : (n : ℕ) (orders : Orders) (places : Entry → Cell → 
 cells-settled_by n orders places [] from lawful there still = All-nil (λ (s : Settled). IsCell n s.cell)
 cells-settled_by n orders places (entry ∷ entries) from lawful there still =
     let line : IsLine n (orders entry) (places entry) from.rows = record { size = still.size; is = lawful entry; whole = still.whole } in
-    All-append (λ (s : Settled). IsCell n s.cell) (numbered entry.seq 1 (parts_of (orders entry) entry from)) (settled_by orders entries (after (orders entry) entry from))
+    All-append (λ (s : Settled). IsCell n s.cell) (parts_numbered entry.seq 1 (parts_of (orders entry) entry from)) (settled_by orders entries (after (orders entry) entry from))
     (cells-numbered n (rows_charged entry from) entry.seq 1 (parts_of (orders entry) entry from)
     (settleable-after n (orders entry) (places entry) entry from line (there 0 (omega arith))) (length-with_charge entry.kind entry from.rows ∙ still.size))
     (cells-settled_by n orders places entries (after (orders entry) entry from) lawful (λ j less. there (suc j) (omega arith))
@@ -169,7 +169,7 @@ step_back orders places from first now tail settled own i k start is back within
     let order : ℕ → Cell = orders entry in
     let parts : List Part = parts_of order entry past in
     let xs : List Settled = settled_by orders earlier from in
-    let ys : List Settled = numbered entry.seq 1 parts in
+    let ys : List Settled = parts_numbered entry.seq 1 parts in
     let left_size : length earlier ≡ i = length-take-le i tail (omega arith) in
     let split : take (i + 1) tail ≡ earlier ++ entry ∷ [] = take_more tail i no_entry within in
     let state : now ≡ after order entry past = back.state ∙ ap (λ x. after_all orders x from) split ∙ after_all-snoc orders earlier entry from in
@@ -260,11 +260,11 @@ back-after orders from now next tail settled own i k start e step is taken = rec
 }
 
 -- the row that a charge leaves when it is taken back
-pub uncharged-row : (rows : List Sums) (instalment p amount : ℕ) (default : Sums) → 1 ≤ instalment → instalment ≤ length rows → AreWithin (changed rows instalment (unowe_row p amount)) → IsRowWithin (unowe_row p amount (get_or rows (instalment - 1) default))
+pub uncharged-row : (rows : List Sums) (instalment p amount : ℕ) (default : Sums) → 1 ≤ instalment → instalment ≤ length rows → AreWithin (rows_changed_at rows instalment (unowe_row p amount)) → IsRowWithin (unowe_row p amount (get_or rows (instalment - 1) default))
 uncharged-row rows instalment p amount default first last within =
     let i : ℕ = instalment - 1 in
     let here : i < length rows = omega arith in
     let new : Sums = unowe_row p amount (get_or rows i no_row) in
-    let size : length (changed rows instalment (unowe_row p amount)) ≡ length rows = length-set rows i new in
+    let size : length (rows_changed_at rows instalment (unowe_row p amount)) ≡ length rows = length-set rows i new in
     subst (λ (r : Sums). IsRowWithin (unowe_row p amount r)) (get_or_default rows i no_row default here)
     (subst IsRowWithin (get_or-set_same rows i new no_row here) (within i no_row (omega (arith, size, here))))

@@ -14,7 +14,7 @@ use Rattle.mf_account.specs.Account.{Orders, orders_by, after_all, settled_by}
 use Rattle.mf_account.specs.Applicable.{AreApplicable, AreInRows}
 use Rattle.mf_account.specs.Loan.{Loan, IsSound, cells_of}
 use Rattle.mf_account.specs.Safe.{most_kept, IsShaped, IsBounded, IsSafe}
-use Rattle.mf_account.specs.Standing.{standing, no_entry, entry_at}
+use Rattle.mf_account.specs.Standing.{standing_entries, no_entry, entry_at}
 use Rattle.mf_account.specs.Told.{settled_amount, IsNumberedTo, AreNumberedTo}
 use Rattle.mf_account.proofs.DueLemmas.{due_by-le}
 use Rattle.mf_account.proofs.GoodLemmas.{IsReplayable, amounts, applicable-all, good-all}
@@ -36,7 +36,7 @@ lawful-over loan book size e =
     let most = due_by-le e.day book.rows in
     lawful loan.terms.strategy loan.periods (due_by e.day book.rows) (omega (arith, most, size))
 
-numbered-standing : (loan : Loan) → IsSound loan → All (IsEntryTo (length loan.entries)) (standing loan.entries)
+numbered-standing : (loan : Loan) → IsSound loan → All (IsEntryTo (length loan.entries)) (standing_entries loan.entries)
 numbered-standing loan sound =
     All-standing (IsEntryTo (length loan.entries)) loan.entries
     (λ k default within.
@@ -45,7 +45,7 @@ numbered-standing loan sound =
     (omega (arith, is), omega (arith, is, within)))
 
 -- what is applied, where new entries stand as old ones up to a place and then as these
-module _ (old : Loan) (es back applied : List Entry) (k : ℕ) (book : State) (sound : IsSound (record old { entries = es })) (stands : standing es ≡ take k (standing old.entries) ++ back) (is : applied ≡ back) (bounded : IsBounded old.periods (2 * most_kept) book) where
+module _ (old : Loan) (es back applied : List Entry) (k : ℕ) (book : State) (sound : IsSound (record old { entries = es })) (stands : standing_entries es ≡ take k (standing_entries old.entries) ++ back) (is : applied ≡ back) (bounded : IsBounded old.periods (2 * most_kept) book) where
   abbrev new : Loan
   new = record old { entries = es }
 
@@ -55,16 +55,16 @@ module _ (old : Loan) (es back applied : List Entry) (k : ℕ) (book : State) (s
   each : All (IsReplayable old.periods) applied
   each =
       subst (All (IsReplayable old.periods)) (sym is)
-      (all-behind (IsReplayable old.periods) (take k (standing old.entries)) back (subst (All (IsReplayable old.periods)) stands (each-standing new sound)))
+      (all-behind (IsReplayable old.periods) (take k (standing_entries old.entries)) back (subst (All (IsReplayable old.periods)) stands (each-standing new sound)))
 
   number : All (IsEntryTo (length es)) applied
   number =
       subst (All (IsEntryTo (length es))) (sym is)
-      (all-behind (IsEntryTo (length es)) (take k (standing old.entries)) back (subst (All (IsEntryTo (length es))) stands (numbered-standing new sound)))
+      (all-behind (IsEntryTo (length es)) (take k (standing_entries old.entries)) back (subst (All (IsEntryTo (length es))) stands (numbered-standing new sound)))
 
   few : length applied ≤ 9999
   few =
-      let size = ap length stands ∙ length-append (take k (standing old.entries)) back in
+      let size = ap length stands ∙ length-append (take k (standing_entries old.entries)) back in
       let same = ap length is in
       let most = length-standing-le es in
       omega (arith, size, same, most, sound.entries.few)

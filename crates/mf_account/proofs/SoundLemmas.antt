@@ -22,7 +22,7 @@ use Rattle.mf_account.specs.declared.entry.Kind.{Kind}
 use Rattle.mf_account.specs.declared.entry.Kind.TheVariants.{Repay, Fee, Penalty, Waive, WriteOff, Refund}
 use Rattle.mf_account.specs.Kinds.{is_seal}
 use Rattle.mf_account.specs.Account.{first_state, row_of}
-use Rattle.mf_account.specs.Standing.{is_before, placed, with_entry, standing, no_entry, entry_at, with_mark}
+use Rattle.mf_account.specs.Standing.{is_before, order_with, with_entry, standing_entries, no_entry, entry_at, with_mark}
 use Rattle.mf_account.specs.Applicable.{AreApplicable}
 use Rattle.mf_account.specs.Loan.{Loan, HasColumns, IsEntry, SealIsLast, AreEntries, IsSound, schedule_of, orders_of, cell_places_of, state_of_loan}
 use Rattle.mf_account.specs.Refusals.{is_standing_seal, is_sealed, is_out_of_order, is_out_of_limits, HasForm, IsOffered, IsAdmitted}
@@ -117,38 +117,38 @@ pub replayable : (n day : ℕ) (e : Entry) → IsEntry n day e → IsReplayable 
 replayable n day e is = record { most = most-by e.kind n e is.columns; there = there-by e.kind n e is.columns }
 
 -- what holds of all entries holds of the standing ones
-All-placed : (P : Entry → Type 0) (e : Entry) (xs : List Entry) → P e → All P xs → All P (placed e xs)
+All-placed : (P : Entry → Type 0) (e : Entry) (xs : List Entry) → P e → All P xs → All P (order_with e xs)
 All-placed P e [] here each = All-cons P e [] here each
 All-placed P e (x ∷ xs) here each =
-    cond_both (is_before e x) (e ∷ x ∷ xs) (x ∷ placed e xs) (All P)
+    cond_both (is_before e x) (e ∷ x ∷ xs) (x ∷ order_with e xs) (All P)
     (λ _. All-cons P e (x ∷ xs) here each)
-    (λ _. All-cons P x (placed e xs) (All-head P x xs each) (All-placed P e xs here (All-tail P x xs each)))
+    (λ _. All-cons P x (order_with e xs) (All-head P x xs each) (All-placed P e xs here (All-tail P x xs each)))
 
 All-fold : (P : Entry → Type 0) (order xs : List Entry) → All P order → All P xs → All P (fold with_entry order xs)
 All-fold P order [] before each = before
 All-fold P order (x ∷ xs) before each =
     All-fold P (with_entry order x) xs
-    (cond_both x.reversed order (placed x order) (All P) (λ _. before) (λ _. All-placed P x order (All-head P x xs each) before))
+    (cond_both x.reversed order (order_with x order) (All P) (λ _. before) (λ _. All-placed P x order (All-head P x xs each) before))
     (All-tail P x xs each)
 
-pub All-standing : (P : Entry → Type 0) (entries : List Entry) → All P entries → All P (standing entries)
+pub All-standing : (P : Entry → Type 0) (entries : List Entry) → All P entries → All P (standing_entries entries)
 All-standing P entries each = All-fold P [] entries (All-nil P) each
 
-length-placed : (e : Entry) (xs : List Entry) → length (placed e xs) ≡ length xs + 1
+length-placed : (e : Entry) (xs : List Entry) → length (order_with e xs) ≡ length xs + 1
 length-placed e [] = refl
 length-placed e (x ∷ xs) =
     let rest = length-placed e xs in
-    cond_both (is_before e x) (e ∷ x ∷ xs) (x ∷ placed e xs) (λ y. length y ≡ length (x ∷ xs) + 1) (λ _. omega arith) (λ _. omega (arith, rest))
+    cond_both (is_before e x) (e ∷ x ∷ xs) (x ∷ order_with e xs) (λ y. length y ≡ length (x ∷ xs) + 1) (λ _. omega arith) (λ _. omega (arith, rest))
 
 length-fold : (order xs : List Entry) → length (fold with_entry order xs) ≤ length order + length xs
 length-fold order [] = omega arith
 length-fold order (x ∷ xs) =
     let one : length (with_entry order x) ≤ length order + 1 =
-    cond_both x.reversed order (placed x order) (λ y. length y ≤ length order + 1) (λ _. omega arith) (λ _. let grown = length-placed x order in omega (arith, grown)) in
+    cond_both x.reversed order (order_with x order) (λ y. length y ≤ length order + 1) (λ _. omega arith) (λ _. let grown = length-placed x order in omega (arith, grown)) in
     let rest = length-fold (with_entry order x) xs in
     omega (arith, one, rest)
 
-pub length-standing-le : (entries : List Entry) → length (standing entries) ≤ length entries
+pub length-standing-le : (entries : List Entry) → length (standing_entries entries) ≤ length entries
 length-standing-le entries = let all = length-fold [] entries in omega (arith, all)
 
 pub amounts-most : (n : ℕ) (entries : List Entry) → All (IsReplayable n) entries → amounts entries ≤ 10 ^ 12 * length entries
@@ -160,14 +160,14 @@ amounts-most n (e ∷ entries) each =
     omega (arith, one.most, rest, all)
 
 -- the standing entries of a sound loan
-pub each-standing : (loan : Loan) → IsSound loan → All (IsReplayable loan.periods) (standing loan.entries)
+pub each-standing : (loan : Loan) → IsSound loan → All (IsReplayable loan.periods) (standing_entries loan.entries)
 each-standing loan sound =
     All-standing (IsReplayable loan.periods) loan.entries
     (All-weaker (IsEntry loan.periods loan.day) (IsReplayable loan.periods) (replayable loan.periods loan.day) loan.entries sound.entries.each)
 
-pub standing-amounts : (loan : Loan) → IsSound loan → amounts (standing loan.entries) ≤ 9999 * 10 ^ 12
+pub standing-amounts : (loan : Loan) → IsSound loan → amounts (standing_entries loan.entries) ≤ 9999 * 10 ^ 12
 standing-amounts loan sound =
-    let most = amounts-most loan.periods (standing loan.entries) (each-standing loan sound) in
+    let most = amounts-most loan.periods (standing_entries loan.entries) (each-standing loan sound) in
     let few = length-standing-le loan.entries in
     omega (arith, most, few, sound.entries.few)
 
@@ -177,15 +177,15 @@ first-good loan sound =
     subst (λ (n : ℕ). IsBounded n (2 ^ 54) (first_state (schedule_of loan))) (length-schedule loan) (good-first (schedule_of loan) (2 ^ 54) (omega (arith, owed)))
 
 -- no sum overflows on the way
-pub applicable-sound : (loan : Loan) → IsSound loan → AreApplicable (orders_of loan) (standing loan.entries) (first_state (schedule_of loan))
+pub applicable-sound : (loan : Loan) → IsSound loan → AreApplicable (orders_of loan) (standing_entries loan.entries) (first_state (schedule_of loan))
 applicable-sound loan sound =
     let sum = standing-amounts loan sound in
-    applicable-all loan.periods (2 ^ 54) (orders_of loan) (cell_places_of loan) (standing loan.entries) (first_state (schedule_of loan))
+    applicable-all loan.periods (2 ^ 54) (orders_of loan) (cell_places_of loan) (standing_entries loan.entries) (first_state (schedule_of loan))
     (lawful-of loan) (each-standing loan sound) (first-good loan sound) (omega (arith, sum))
 
-pub good-sound : (loan : Loan) → IsSound loan → IsBounded loan.periods (2 ^ 54 + amounts (standing loan.entries)) (state_of_loan loan)
+pub good-sound : (loan : Loan) → IsSound loan → IsBounded loan.periods (2 ^ 54 + amounts (standing_entries loan.entries)) (state_of_loan loan)
 good-sound loan sound =
-    good-all loan.periods (2 ^ 54) (orders_of loan) (cell_places_of loan) (standing loan.entries) (first_state (schedule_of loan))
+    good-all loan.periods (2 ^ 54) (orders_of loan) (cell_places_of loan) (standing_entries loan.entries) (first_state (schedule_of loan))
     (lawful-of loan) (each-standing loan sound) (first-good loan sound)
 
 -- what no refusal says

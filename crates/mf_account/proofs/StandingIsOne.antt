@@ -3,7 +3,7 @@ use Rattle.std.proofs.Common.{◌≡◌, ◌≢◌, ℕ, suc, ◌+◌, ◌<◌, 
 use Rattle.std.specs.Prelude.{fold}
 use Rattle.std.proofs.lemmas.Bool.{cases_lt, cases_Bool, cond_both, ltb-true, ltb-false, eqb-true, and_parts}
 use Rattle.mf_account.specs.declared.entry.Entry.{Entry}
-use Rattle.mf_account.specs.Standing.{is_before, placed, with_entry, standing, entry_at}
+use Rattle.mf_account.specs.Standing.{is_before, order_with, with_entry, standing_entries, entry_at}
 use Rattle.mf_account.specs.StandingLaw.{IsAmong, Precedes, Ascends, IsStandingOf, StandingIsOne}
 use Rattle.mf_account.proofs.SoundLemmas.{before-from}
 
@@ -89,20 +89,20 @@ ascending-unique (x ∷ xs) (y ∷ ys) up_x up_y to from =
     ap (λ z. z ∷ xs) head ∙ ap (λ zs. y ∷ zs) tail
 
 -- an entry put into its place
-among-placed : (e x : Entry) (xs : List Entry) → IsAmong e (placed x xs) → (e ≡ x) ⊎ IsAmong e xs
+among-placed : (e x : Entry) (xs : List Entry) → IsAmong e (order_with x xs) → (e ≡ x) ⊎ IsAmong e xs
 among-placed e x [] among = among
 among-placed e x (y ∷ ys) among =
-    cond_both (is_before x y) (x ∷ y ∷ ys) (y ∷ placed x ys) (λ l. IsAmong e l → (e ≡ x) ⊎ IsAmong e (y ∷ ys))
+    cond_both (is_before x y) (x ∷ y ∷ ys) (y ∷ order_with x ys) (λ l. IsAmong e l → (e ≡ x) ⊎ IsAmong e (y ∷ ys))
     (λ _ among. among)
     (λ _ among. elim among [
       | inl is ↦ inr (inl is)
       | inr later ↦ elim (among-placed e x ys later) [ inl is ↦ inl is | inr rest ↦ inr (inr rest) ]
     ]) among
 
-placed-among : (e x : Entry) (xs : List Entry) → (e ≡ x) ⊎ IsAmong e xs → IsAmong e (placed x xs)
+placed-among : (e x : Entry) (xs : List Entry) → (e ≡ x) ⊎ IsAmong e xs → IsAmong e (order_with x xs)
 placed-among e x [] among = among
 placed-among e x (y ∷ ys) among =
-    cond_both (is_before x y) (x ∷ y ∷ ys) (y ∷ placed x ys) (IsAmong e)
+    cond_both (is_before x y) (x ∷ y ∷ ys) (y ∷ order_with x ys) (IsAmong e)
     (λ _. among)
     (λ _. elim among [
       | inl is ↦ inr (placed-among e x ys (inl is))
@@ -113,17 +113,17 @@ precedes-all : (a b : Entry) (xs : List Entry) → is_before a b ≡ true → Pr
 precedes-all a b [] one all = tt
 precedes-all a b (x ∷ xs) one all = (before-trans a b x one all.0, precedes-all a b xs one all.1)
 
-precedes-placed : (a x : Entry) (xs : List Entry) → is_before a x ≡ true → Precedes a xs → Precedes a (placed x xs)
+precedes-placed : (a x : Entry) (xs : List Entry) → is_before a x ≡ true → Precedes a xs → Precedes a (order_with x xs)
 precedes-placed a x [] one all = (one, tt)
 precedes-placed a x (y ∷ ys) one all =
-    cond_both (is_before x y) (x ∷ y ∷ ys) (y ∷ placed x ys) (Precedes a)
+    cond_both (is_before x y) (x ∷ y ∷ ys) (y ∷ order_with x ys) (Precedes a)
     (λ _. (one, all)) (λ _. (all.0, precedes-placed a x ys one all.1))
 
-ascends-placed : (x : Entry) (xs : List Entry) → Ascends xs → ((e : Entry) → IsAmong e xs → e.seq < x.seq) → Ascends (placed x xs)
+ascends-placed : (x : Entry) (xs : List Entry) → Ascends xs → ((e : Entry) → IsAmong e xs → e.seq < x.seq) → Ascends (order_with x xs)
 ascends-placed x [] up earlier = (tt, tt)
 ascends-placed x (y ∷ ys) up earlier =
     let number = earlier y (inl refl) in
-    cond_both (is_before x y) (x ∷ y ∷ ys) (y ∷ placed x ys) Ascends
+    cond_both (is_before x y) (x ∷ y ∷ ys) (y ∷ order_with x ys) Ascends
     (λ first. ((first, precedes-all x y ys first up.0), up))
     (λ later. (precedes-placed y x ys (before-other x y later (λ same. omega (arith, number, same))) up.0, ascends-placed x ys up.1 (λ e among. earlier e (inr among))))
 
@@ -156,7 +156,7 @@ fold-placed k order [] up earlier numbers = record {
 fold-placed k order (x ∷ xs) up earlier numbers =
     elim (cases_Bool x.reversed) [
       | inl reversed ↦
-          let same : with_entry order x ≡ order = Rattle.std.proofs.lemmas.Bool.cond-true x.reversed order (placed x order) reversed in
+          let same : with_entry order x ≡ order = Rattle.std.proofs.lemmas.Bool.cond-true x.reversed order (order_with x order) reversed in
           let rest : IsPlaced order xs (fold with_entry order xs) =
           fold-placed (k + 1) order xs up (λ e among. let less = earlier e among in omega (arith, less)) numbers.1 in
           subst (λ (o : List Entry). IsPlaced order (x ∷ xs) (fold with_entry o xs)) (sym same)
@@ -170,9 +170,9 @@ fold-placed k order (x ∷ xs) up earlier numbers =
             ];
           })
       | inr stands_x ↦
-          let same : with_entry order x ≡ placed x order = Rattle.std.proofs.lemmas.Bool.cond-false x.reversed order (placed x order) stands_x in
-          let rest : IsPlaced (placed x order) xs (fold with_entry (placed x order) xs) =
-          fold-placed (k + 1) (placed x order) xs (ascends-placed x order up (λ e among. let less = earlier e among in omega (arith, less, numbers.0)))
+          let same : with_entry order x ≡ order_with x order = Rattle.std.proofs.lemmas.Bool.cond-false x.reversed order (order_with x order) stands_x in
+          let rest : IsPlaced (order_with x order) xs (fold with_entry (order_with x order) xs) =
+          fold-placed (k + 1) (order_with x order) xs (ascends-placed x order up (λ e among. let less = earlier e among in omega (arith, less, numbers.0)))
           (λ e among. elim (among-placed e x order among) [
             | inl is ↦ let own : e.seq ≡ x.seq = ap (λ (y : Entry). y.seq) is in omega (arith, own, numbers.0)
             | inr before ↦ let less = earlier e before in omega (arith, less)
@@ -195,9 +195,9 @@ fold-placed k order (x ∷ xs) up earlier numbers =
           })
     ]
 
-standing-placed : (entries : List Entry) → ((i : ℕ) → i < length entries → (entry_at entries i).seq ≡ i + 1) → IsStandingOf entries (standing entries)
+standing-placed : (entries : List Entry) → ((i : ℕ) → i < length entries → (entry_at entries i).seq ≡ i + 1) → IsStandingOf entries (standing_entries entries)
 standing-placed entries numbers =
-    let all : IsPlaced [] entries (standing entries) =
+    let all : IsPlaced [] entries (standing_entries entries) =
     fold-placed 1 [] entries tt (λ e among. absurd among) (numbered-from 1 entries (λ i within. let number = numbers i within in omega (arith, number))) in
     record {
       ascends = all.up;
@@ -205,10 +205,10 @@ standing-placed entries numbers =
       to = all.to;
     }
 
-pub standing-alone : (entries : List Entry) → ((i : ℕ) → i < length entries → (entry_at entries i).seq ≡ i + 1) → (others : List Entry) → IsStandingOf entries others → others ≡ standing entries
+pub standing-alone : (entries : List Entry) → ((i : ℕ) → i < length entries → (entry_at entries i).seq ≡ i + 1) → (others : List Entry) → IsStandingOf entries others → others ≡ standing_entries entries
 standing-alone entries numbers others is =
     let own = standing-placed entries numbers in
-    ascending-unique others (standing entries) is.ascends own.ascends
+    ascending-unique others (standing_entries entries) is.ascends own.ascends
     (λ e among. let both = is.from e among in own.to e both.0 both.1)
     (λ e among. let both = own.from e among in is.to e both.0 both.1)
 

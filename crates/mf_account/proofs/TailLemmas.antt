@@ -9,9 +9,9 @@ use Rattle.mf_account.specs.declared.entry.Kind.TheVariants.{Refund}
 use Rattle.mf_account.specs.declared.settled.Settled.{Settled}
 use Rattle.mf_account.specs.Kinds.{is_seal}
 use Rattle.mf_account.specs.Effect.{State, after, parts_of}
-use Rattle.mf_account.specs.Account.{Orders, after_all, settled_by, numbered, first_state}
+use Rattle.mf_account.specs.Account.{Orders, after_all, settled_by, parts_numbered, first_state}
 use Rattle.mf_account.specs.Applicable.{HasInstalment, AreApplicable}
-use Rattle.mf_account.specs.Standing.{is_before, standing, no_entry, entry_at}
+use Rattle.mf_account.specs.Standing.{is_before, standing_entries, no_entry, entry_at}
 use Rattle.mf_account.specs.StandingLaw.{IsAmong, Precedes, Ascends, IsStandingOf}
 use Rattle.mf_account.specs.Loan.{Loan, AreEntries, IsSound, schedule_of, orders_of, cell_places_of, state_of_loan, settled_of_loan}
 use Rattle.mf_account.specs.Rewind.{IsRewindable, state_before, tail_of, settled_from, settled_upto, TailsCanBeRewound, IsBack}
@@ -45,26 +45,26 @@ ascends-at (x ∷ xs) (suc i) (suc j) up less within = ascends-at xs i j up.1 (o
 -- where a standing entry stands among the entries
 pub record IsAt (entries : List Entry) (j i : ℕ) : Type 0 where
   pub within : i < length entries
-  pub same : entry_at entries i ≡ entry_at (standing entries) j
+  pub same : entry_at entries i ≡ entry_at (standing_entries entries) j
   pub stands : (entry_at entries i).reversed ≡ false
 
-pub standing-at : (n day : ℕ) (entries : List Entry) (j : ℕ) → AreEntries n day entries → j < length (standing entries) → (i : ℕ) × IsAt entries j i
+pub standing-at : (n day : ℕ) (entries : List Entry) (j : ℕ) → AreEntries n day entries → j < length (standing_entries entries) → (i : ℕ) × IsAt entries j i
 standing-at n day entries j are within =
-    let is : IsStandingOf entries (standing entries) = (standing-is-one n day entries are).0 in
-    let from = is.from (entry_at (standing entries) j) (at-among (standing entries) j within) in
-    let at = among-index (entry_at (standing entries) j) entries from.0 in
+    let is : IsStandingOf entries (standing_entries entries) = (standing-is-one n day entries are).0 in
+    let from = is.from (entry_at (standing_entries entries) j) (at-among (standing_entries entries) j within) in
+    let at = among-index (entry_at (standing_entries entries) j) entries from.0 in
     (at.0, record { within = at.1; same = at.2; stands = ap (λ (x : Entry). x.reversed) at.2 ∙ from.1 })
 
 -- two of them stand at two places
-apart-at : (n day : ℕ) (entries : List Entry) (i j a b : ℕ) → AreEntries n day entries → i < j → j < length (standing entries) → IsAt entries i a → IsAt entries j b → a ≢ b
+apart-at : (n day : ℕ) (entries : List Entry) (i j a b : ℕ) → AreEntries n day entries → i < j → j < length (standing_entries entries) → IsAt entries i a → IsAt entries j b → a ≢ b
 apart-at n day entries i j a b are less within one other same =
-    let is : IsStandingOf entries (standing entries) = (standing-is-one n day entries are).0 in
-    let equal : entry_at (standing entries) i ≡ entry_at (standing entries) j = sym one.same ∙ ap (entry_at entries) same ∙ other.same in
-    let before = ascends-at (standing entries) i j is.ascends less within in
-    let own : is_before (entry_at (standing entries) j) (entry_at (standing entries) j) ≡ true = ap (λ x. is_before x (entry_at (standing entries) j)) (sym equal) ∙ before in
-    before-asym (entry_at (standing entries) j) (entry_at (standing entries) j) own own
+    let is : IsStandingOf entries (standing_entries entries) = (standing-is-one n day entries are).0 in
+    let equal : entry_at (standing_entries entries) i ≡ entry_at (standing_entries entries) j = sym one.same ∙ ap (entry_at entries) same ∙ other.same in
+    let before = ascends-at (standing_entries entries) i j is.ascends less within in
+    let own : is_before (entry_at (standing_entries entries) j) (entry_at (standing_entries entries) j) ≡ true = ap (λ x. is_before x (entry_at (standing_entries entries) j)) (sym equal) ∙ before in
+    before-asym (entry_at (standing_entries entries) j) (entry_at (standing_entries entries) j) own own
 
-pub numbers-standing : (n day : ℕ) (entries : List Entry) (i j : ℕ) → AreEntries n day entries → i < j → j < length (standing entries) → (entry_at (standing entries) i).seq ≢ (entry_at (standing entries) j).seq
+pub numbers-standing : (n day : ℕ) (entries : List Entry) (i j : ℕ) → AreEntries n day entries → i < j → j < length (standing_entries entries) → (entry_at (standing_entries entries) i).seq ≢ (entry_at (standing_entries entries) j).seq
 numbers-standing n day entries i j are less within same =
     let one = standing-at n day entries i are (omega (arith, less, within)) in
     let other = standing-at n day entries j are within in
@@ -74,7 +74,7 @@ numbers-standing n day entries i j are less within same =
     apart-at n day entries i j one.0 other.0 are less within one.1 other.1 (omega (arith, first, second, seqs))
 
 -- a seal that stands is the last
-pub seal_last-standing : (n day : ℕ) (entries : List Entry) (j : ℕ) → AreEntries n day entries → j + 1 < length (standing entries) → is_seal (entry_at (standing entries) j).kind ≡ true → ⊥
+pub seal_last-standing : (n day : ℕ) (entries : List Entry) (j : ℕ) → AreEntries n day entries → j + 1 < length (standing_entries entries) → is_seal (entry_at (standing_entries entries) j).kind ≡ true → ⊥
 seal_last-standing n day entries j are within is =
     let one = standing-at n day entries j are (omega (arith, within)) in
     let next = standing-at n day entries (j + 1) are within in
@@ -82,11 +82,11 @@ seal_last-standing n day entries j are within is =
     let apart : one.0 ≢ next.0 = apart-at n day entries j (j + 1) one.0 next.0 are (omega arith) within one.1 next.1 in
     let seal : is_seal (entry_at entries one.0).kind ≡ true = ap (λ (x : Entry). is_seal x.kind) one.1.same ∙ is in
     let last = are.seal_last one.0 next.0 one.1.within next.1.within apart one.1.stands next.1.stands seal in
-    let back : is_before (entry_at (standing entries) (j + 1)) (entry_at (standing entries) j) ≡ true =
-    ap (λ x. is_before x (entry_at (standing entries) j)) (sym next.1.same) ∙ ap (is_before (entry_at entries next.0)) (sym one.1.same) ∙ last in
-    before-asym (entry_at (standing entries) j) (entry_at (standing entries) (j + 1)) (ascends-at (standing entries) j (j + 1) up (omega arith) within) back
+    let back : is_before (entry_at (standing_entries entries) (j + 1)) (entry_at (standing_entries entries) j) ≡ true =
+    ap (λ x. is_before x (entry_at (standing_entries entries) j)) (sym next.1.same) ∙ ap (is_before (entry_at entries next.0)) (sym one.1.same) ∙ last in
+    before-asym (entry_at (standing_entries entries) j) (entry_at (standing_entries entries) (j + 1)) (ascends-at (standing_entries entries) j (j + 1) up (omega arith) within) back
 
-pub refund_last-standing : (n day : ℕ) (entries : List Entry) (j : ℕ) → AreEntries n day entries → j + 1 < length (standing entries) → (entry_at (standing entries) j).kind ≢ Refund
+pub refund_last-standing : (n day : ℕ) (entries : List Entry) (j : ℕ) → AreEntries n day entries → j + 1 < length (standing_entries entries) → (entry_at (standing_entries entries) j).kind ≢ Refund
 refund_last-standing n day entries j are within is = seal_last-standing n day entries j are within (ap is_seal is)
 
 pub after_all-append : (orders : Orders) (xs ys : List Entry) (from : State) → after_all orders (xs ++ ys) from ≡ after_all orders ys (after_all orders xs from)
@@ -96,19 +96,19 @@ after_all-append orders (x ∷ xs) ys from = after_all-append orders xs ys (afte
 pub settled_by-append : (orders : Orders) (xs ys : List Entry) (from : State) → settled_by orders (xs ++ ys) from ≡ settled_by orders xs from ++ settled_by orders ys (after_all orders xs from)
 settled_by-append orders [] ys from = refl
 settled_by-append orders (x ∷ xs) ys from =
-    let own : List Settled = numbered x.seq 1 (parts_of (orders x) x from) in
+    let own : List Settled = parts_numbered x.seq 1 (parts_of (orders x) x from) in
     ap (λ z. own ++ z) (settled_by-append orders xs ys (after (orders x) x from))
     ∙ sym (append_assoc own (settled_by orders xs (after (orders x) x from)) (settled_by orders ys (after_all orders xs (after (orders x) x from))))
 
-pub good-before : (loan : Loan) (k : ℕ) → IsSound loan → IsBounded loan.periods (2 ^ 54 + amounts (take k (standing loan.entries))) (state_before loan k)
+pub good-before : (loan : Loan) (k : ℕ) → IsSound loan → IsBounded loan.periods (2 ^ 54 + amounts (take k (standing_entries loan.entries))) (state_before loan k)
 good-before loan k sound =
-    good-all loan.periods (2 ^ 54) (orders_of loan) (cell_places_of loan) (take k (standing loan.entries)) (first_state (schedule_of loan))
-    (lawful-of loan) (All-take (IsReplayable loan.periods) k (standing loan.entries) (each-standing loan sound)) (first-good loan sound)
+    good-all loan.periods (2 ^ 54) (orders_of loan) (cell_places_of loan) (take k (standing_entries loan.entries)) (first_state (schedule_of loan))
+    (lawful-of loan) (All-take (IsReplayable loan.periods) k (standing_entries loan.entries) (each-standing loan sound)) (first-good loan sound)
 
 -- from a place before which nothing is refunded
 pub rewindable-from : (loan : Loan) (k : ℕ) → IsSound loan → (state_before loan k).refunded ≡ 0 → IsRewindable (orders_of loan) (cell_places_of loan) (state_before loan k) (tail_of loan k) (settled_from loan k) (state_of_loan loan)
 rewindable-from loan k sound none =
-    let all : List Entry = standing loan.entries in
+    let all : List Entry = standing_entries loan.entries in
     let from : State = state_before loan k in
     let good : IsBounded loan.periods (2 ^ 54 + amounts (take k all)) from = good-before loan k sound in
     let parted = sum_by-take-drop (λ (e : Entry). e.amount) all k in
@@ -134,9 +134,9 @@ rewindable-from loan k sound none =
       room = omega (arith, good.money, parted, most);
     }
 
-pub none-before : (loan : Loan) (k : ℕ) → IsSound loan → k < length (standing loan.entries) → (state_before loan k).refunded ≡ 0
+pub none-before : (loan : Loan) (k : ℕ) → IsSound loan → k < length (standing_entries loan.entries) → (state_before loan k).refunded ≡ 0
 none-before loan k sound within =
-    let all : List Entry = standing loan.entries in
+    let all : List Entry = standing_entries loan.entries in
     let size = length-take-le k all (omega (arith, within)) in
     none-refunded (orders_of loan) (take k all) (first_state (schedule_of loan)) refl
     (λ j less is. refund_last-standing loan.periods loan.day loan.entries j sound.entries (omega (arith, size, less, within))
@@ -144,21 +144,21 @@ none-before loan k sound within =
 
 pub settled-parts : (loan : Loan) (k : ℕ) → settled_of_loan loan ≡ settled_upto loan k ++ settled_from loan k
 settled-parts loan k =
-    let all : List Entry = standing loan.entries in
+    let all : List Entry = standing_entries loan.entries in
     sym (ap (λ x. settled_by (orders_of loan) x (first_state (schedule_of loan))) (take-append-drop k all)) ∙ settled_by-append (orders_of loan) (take k all) (drop k all) (first_state (schedule_of loan))
 
 pub tails-rewound : TailsCanBeRewound
 tails-rewound loan k sound within = (rewindable-from loan k sound (none-before loan k sound within), settled-parts loan k)
 
 -- all of them, as the account keeps them
-pub rewindable-whole : (loan : Loan) (tail : List Entry) (settled : List Settled) (now : State) → IsSound loan → tail ≡ standing loan.entries → settled ≡ settled_of_loan loan → now ≡ state_of_loan loan → IsRewindable (orders_of loan) (cell_places_of loan) (first_state (schedule_of loan)) tail settled now
+pub rewindable-whole : (loan : Loan) (tail : List Entry) (settled : List Settled) (now : State) → IsSound loan → tail ≡ standing_entries loan.entries → settled ≡ settled_of_loan loan → now ≡ state_of_loan loan → IsRewindable (orders_of loan) (cell_places_of loan) (first_state (schedule_of loan)) tail settled now
 rewindable-whole loan tail settled now sound tail_is settled_is now_is =
-    let whole : IsRewindable (orders_of loan) (cell_places_of loan) (first_state (schedule_of loan)) (standing loan.entries) (settled_of_loan loan) (state_of_loan loan) = rewindable-from loan 0 sound refl in
+    let whole : IsRewindable (orders_of loan) (cell_places_of loan) (first_state (schedule_of loan)) (standing_entries loan.entries) (settled_of_loan loan) (state_of_loan loan) = rewindable-from loan 0 sound refl in
     subst (λ (x : List Entry). IsRewindable (orders_of loan) (cell_places_of loan) (first_state (schedule_of loan)) x settled now) (sym tail_is)
-    (subst (λ (x : List Settled). IsRewindable (orders_of loan) (cell_places_of loan) (first_state (schedule_of loan)) (standing loan.entries) x now) (sym settled_is)
-    (subst (λ (x : State). IsRewindable (orders_of loan) (cell_places_of loan) (first_state (schedule_of loan)) (standing loan.entries) (settled_of_loan loan) x) (sym now_is) whole))
+    (subst (λ (x : List Settled). IsRewindable (orders_of loan) (cell_places_of loan) (first_state (schedule_of loan)) (standing_entries loan.entries) x now) (sym settled_is)
+    (subst (λ (x : State). IsRewindable (orders_of loan) (cell_places_of loan) (first_state (schedule_of loan)) (standing_entries loan.entries) (settled_of_loan loan) x) (sym now_is) whole))
 
-pub back-whole : (loan : Loan) (tail : List Entry) (settled : List Settled) (place k : ℕ) (now : State) → IsBack (orders_of loan) (first_state (schedule_of loan)) tail settled place k now → tail ≡ standing loan.entries → settled ≡ settled_of_loan loan → (now ≡ state_before loan place) × (take k (settled_of_loan loan) ≡ settled_upto loan place)
+pub back-whole : (loan : Loan) (tail : List Entry) (settled : List Settled) (place k : ℕ) (now : State) → IsBack (orders_of loan) (first_state (schedule_of loan)) tail settled place k now → tail ≡ standing_entries loan.entries → settled ≡ settled_of_loan loan → (now ≡ state_before loan place) × (take k (settled_of_loan loan) ≡ settled_upto loan place)
 back-whole loan tail settled place k now back tail_is settled_is = (
   back.state ∙ ap (λ x. after_all (orders_of loan) (take place x) (first_state (schedule_of loan))) tail_is,
   ap (take k) (sym settled_is) ∙ back.settled_so_far ∙ ap (λ x. settled_by (orders_of loan) (take place x) (first_state (schedule_of loan))) tail_is,

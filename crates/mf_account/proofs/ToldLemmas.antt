@@ -18,8 +18,8 @@ use Rattle.mf_account.specs.declared.settled.How.TheVariants.{Paid, Waived, Writ
 use Rattle.mf_account.specs.declared.settled.Settled.{Settled}
 use Rattle.mf_account.specs.Effect.{State, Part, after, settle, settle_row, owe_row, with_settled, with_charge, parts_of}
 use Rattle.mf_account.specs.AtOnce.{rows_charged}
-use Rattle.mf_account.specs.Account.{Orders, after_all, numbered, settled_by, first_state, row_of, sum_at}
-use Rattle.mf_account.specs.Standing.{standing, no_entry, entry_at}
+use Rattle.mf_account.specs.Account.{Orders, after_all, parts_numbered, settled_by, first_state, row_of, sum_at}
+use Rattle.mf_account.specs.Standing.{standing_entries, no_entry, entry_at}
 use Rattle.mf_account.specs.Applicable.{HasInstalment, IsSettleable, AreInRows}
 use Rattle.mf_account.specs.Loan.{Loan, IsSound, schedule_of, orders_of, cell_places_of, state_of_loan, settled_of_loan}
 use Rattle.mf_account.specs.Told.{settled_amount, IsNumberedTo, AreNumberedTo, AreRowsSmall}
@@ -77,11 +77,11 @@ settled-after n used order place entry before is has good =
     let charge = settled-with_charge entry.kind entry before.rows in
     omega (arith, rows, settled, charge)
 
-amount-numbered : (seq place : ℕ) (parts : List Part) → settled_amount (numbered seq place parts) ≡ parts_amount parts
+amount-numbered : (seq place : ℕ) (parts : List Part) → settled_amount (parts_numbered seq place parts) ≡ parts_amount parts
 amount-numbered seq place [] = refl
 amount-numbered seq place (part ∷ parts) =
     let rest = amount-numbered seq (place + 1) parts in
-    let left = sum_by-append (λ (s : Settled). s.amount) (record { seq = seq; place = place; cell = part.cell; how = part.how; amount = part.amount } ∷ []) (numbered seq (place + 1) parts) in
+    let left = sum_by-append (λ (s : Settled). s.amount) (record { seq = seq; place = place; cell = part.cell; how = part.how; amount = part.amount } ∷ []) (parts_numbered seq (place + 1) parts) in
     let right = sum_by-append (λ (x : Part). x.amount) (part ∷ []) parts in
     omega (arith, rest, left, right)
 
@@ -90,7 +90,7 @@ settled-all n used orders places [] before is each good = omega arith
 settled-all n used orders places (entry ∷ entries) before is each good =
     let one : IsReplayable n entry = All-head (IsReplayable n) entry entries each in
     let next : State = after (orders entry) entry before in
-    let own_parts : List Settled = numbered entry.seq 1 (parts_of (orders entry) entry before) in
+    let own_parts : List Settled = parts_numbered entry.seq 1 (parts_of (orders entry) entry before) in
     let own = settled-after n used (orders entry) (places entry) entry before (is entry) one.there good in
     let amount = amount-numbered entry.seq 1 (parts_of (orders entry) entry before) in
     let rest = settled-all n (used + entry.amount) orders places entries next is (All-tail (IsReplayable n) entry entries each) (good-after n used (orders entry) (places entry) entry before (is entry) one.there good) in
@@ -104,7 +104,7 @@ settled-first (i ∷ schedule) = let rest = settled-first schedule in let all = 
 -- what the parts of a loan come to is what is settled in its rows
 amount-sound : (loan : Loan) → IsSound loan → settled_amount (settled_of_loan loan) ≡ total_settled (state_of_loan loan).rows
 amount-sound loan sound =
-    let all = settled-all loan.periods (2 ^ 54) (orders_of loan) (cell_places_of loan) (standing loan.entries) (first_state (schedule_of loan))
+    let all = settled-all loan.periods (2 ^ 54) (orders_of loan) (cell_places_of loan) (standing_entries loan.entries) (first_state (schedule_of loan))
     (lawful-of loan) (each-standing loan sound) (first-good loan sound) in
     let none = settled-first (schedule_of loan) in
     omega (arith, all, none)
@@ -175,16 +175,16 @@ rows-small n state is i default within =
 abbrev pub IsEntryTo : ℕ → Entry → Type 0
 IsEntryTo n e = (1 ≤ e.seq) × (e.seq ≤ n)
 
-numbers-numbered : (n seq place : ℕ) (parts : List Part) → (1 ≤ seq) × (seq ≤ n) → AreNumberedTo n (numbered seq place parts)
+numbers-numbered : (n seq place : ℕ) (parts : List Part) → (1 ≤ seq) × (seq ≤ n) → AreNumberedTo n (parts_numbered seq place parts)
 numbers-numbered n seq place [] is = All-nil (IsNumberedTo n)
 numbers-numbered n seq place (part ∷ parts) is =
-    All-cons (IsNumberedTo n) (record { seq = seq; place = place; cell = part.cell; how = part.how; amount = part.amount }) (numbered seq (place + 1) parts) is
+    All-cons (IsNumberedTo n) (record { seq = seq; place = place; cell = part.cell; how = part.how; amount = part.amount }) (parts_numbered seq (place + 1) parts) is
     (numbers-numbered n seq (place + 1) parts is)
 
 pub numbers-settled : (n : ℕ) (orders : Orders) (entries : List Entry) (before : State) → All (IsEntryTo n) entries → AreNumberedTo n (settled_by orders entries before)
 numbers-settled n orders [] before each = All-nil (IsNumberedTo n)
 numbers-settled n orders (entry ∷ entries) before each =
-    All-append (IsNumberedTo n) (numbered entry.seq 1 (parts_of (orders entry) entry before)) (settled_by orders entries (after (orders entry) entry before))
+    All-append (IsNumberedTo n) (parts_numbered entry.seq 1 (parts_of (orders entry) entry before)) (settled_by orders entries (after (orders entry) entry before))
     (numbers-numbered n entry.seq 1 (parts_of (orders entry) entry before) (All-head (IsEntryTo n) entry entries each))
     (numbers-settled n orders entries (after (orders entry) entry before) (All-tail (IsEntryTo n) entry entries each))
 
@@ -196,13 +196,13 @@ parts-numbered loan sound =
     let same : get_or loan.entries k default ≡ entry_at loan.entries k = get_or_default loan.entries k default no_entry within in
     let is = ap (λ (e : Entry). e.seq) same ∙ sound.entries.numbers k within in
     (omega (arith, is), omega (arith, is, within)) in
-    numbers-settled n (orders_of loan) (standing loan.entries) (first_state (schedule_of loan)) (All-standing (IsEntryTo n) loan.entries each)
+    numbers-settled n (orders_of loan) (standing_entries loan.entries) (first_state (schedule_of loan)) (All-standing (IsEntryTo n) loan.entries each)
 
 -- each part of a loan is of one of its cells
 cells-sound : (loan : Loan) → IsSound loan → AreInRows loan.periods (settled_of_loan loan)
 cells-sound loan sound =
     let good = first-good loan sound in
-    cells-settled_by loan.periods (orders_of loan) (cell_places_of loan) (standing loan.entries) (first_state (schedule_of loan)) (lawful-of loan)
+    cells-settled_by loan.periods (orders_of loan) (cell_places_of loan) (standing_entries loan.entries) (first_state (schedule_of loan)) (lawful-of loan)
     (λ j below. (each-standing loan sound j no_entry below).there) (record { size = good.size; whole = good.whole; within = good.within })
 
 -- what a replay gives is safe

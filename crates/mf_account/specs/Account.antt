@@ -10,7 +10,7 @@ use Rattle.mf_account.specs.declared.entry.Entry.{Entry}
 use Rattle.mf_account.specs.declared.settled.Settled.{Settled}
 use Rattle.mf_account.specs.Kinds.{is_write_off}
 use Rattle.mf_account.specs.Effect.{State, Part, after, parts_of}
-use Rattle.mf_account.specs.Standing.{standing}
+use Rattle.mf_account.specs.Standing.{standing_entries}
 
 -- the order of cells at an entry
 abbrev pub Orders : Type 0
@@ -26,11 +26,11 @@ after_all orders [] before = before
 after_all orders (entry ∷ entries) before = after_all orders entries (after (orders entry) entry before)
 
 -- an entry's parts, with its number and their places
-abbrev pub numbered : ℕ → ℕ → List Part → List Settled
-numbered seq place [] = []
-numbered seq place (part ∷ parts) =
+abbrev pub parts_numbered : ℕ → ℕ → List Part → List Settled
+parts_numbered seq place [] = []
+parts_numbered seq place (part ∷ parts) =
     record { seq = seq; place = place; cell = part.cell; how = part.how; amount = part.amount }
-    ∷ numbered seq (place + 1) parts
+    ∷ parts_numbered seq (place + 1) parts
 
 abbrev pub part_of : Settled → Part
 part_of settled = record { cell = settled.cell; how = settled.how; amount = settled.amount }
@@ -39,7 +39,7 @@ part_of settled = record { cell = settled.cell; how = settled.how; amount = sett
 abbrev pub settled_by : Orders → List Entry → State → List Settled
 settled_by orders [] before = []
 settled_by orders (entry ∷ entries) before =
-    numbered entry.seq 1 (parts_of (orders entry) entry before)
+    parts_numbered entry.seq 1 (parts_of (orders entry) entry before)
     ++ settled_by orders entries (after (orders entry) entry before)
 
 -- an instalment with nothing paid
@@ -51,10 +51,10 @@ first_state schedule = record { rows = map row_of schedule; overpaid = 0; refund
 
 -- the account of a schedule and entries
 abbrev pub state_of : Orders → List Instalment → List Entry → State
-state_of orders schedule entries = after_all orders (standing entries) (first_state schedule)
+state_of orders schedule entries = after_all orders (standing_entries entries) (first_state schedule)
 
 abbrev pub settled_of : Orders → List Instalment → List Entry → List Settled
-settled_of orders schedule entries = settled_by orders (standing entries) (first_state schedule)
+settled_of orders schedule entries = settled_by orders (standing_entries entries) (first_state schedule)
 
 -- the parts of one entry, as shares
 abbrev pub share_of : Settled → Share

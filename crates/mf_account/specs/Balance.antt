@@ -8,7 +8,7 @@ use Rattle.mf_account.specs.declared.entry.Entry.{Entry}
 use Rattle.mf_account.specs.Kinds.{money_in}
 use Rattle.mf_account.specs.Effect.{State}
 use Rattle.mf_account.specs.Account.{sum_at}
-use Rattle.mf_account.specs.Standing.{standing}
+use Rattle.mf_account.specs.Standing.{standing_entries}
 use Rattle.mf_account.specs.Loan.{Loan, state_of_loan, fee_of_loan}
 
 -- one of a row's sums, by portion
@@ -42,8 +42,8 @@ abbrev pub balances_of : Loan → Balances
 balances_of loan = balances_by (fee_of_loan loan) (state_of_loan loan)
 
 -- what the standing repayments come to
-abbrev pub repaid : List Entry → ℕ
-repaid entries = sum_by (λ (e : Entry). money_in e.kind e.amount) (standing entries)
+abbrev pub sum_repaid : List Entry → ℕ
+sum_repaid entries = sum_by (λ (e : Entry). money_in e.kind e.amount) (standing_entries entries)
 
 -- each sum fits 64 bits
 pub record HasRoomAt (p : ℕ) (rows : List Sums) : Type 0 where

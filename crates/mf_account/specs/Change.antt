@@ -9,7 +9,7 @@ use Rattle.mf_account.specs.Effect.{State}
 use Rattle.mf_account.specs.Loan.{Loan, state_of_loan, settled_of_loan}
 
 -- instalments and entries, by their numbers
-pub record Changed : Type 0 where
+pub record ChangedNumbers : Type 0 where
   pub rows : List ℕ
   pub seqs : List ℕ
 
@@ -19,14 +19,14 @@ pub record Account : Type 0 where
   pub loan : Loan
   pub state : State
   pub settled : List Settled
-  pub change : Changed
+  pub change : ChangedNumbers
 
-abbrev pub no_change : Changed
+abbrev pub no_change : ChangedNumbers
 no_change = record { rows = []; seqs = [] }
 
 -- the account of a loan: what replaying its standing entries over its fresh schedule gives, and nothing changed since
-abbrev pub replayed : Loan → Account
-replayed loan = record { loan = loan; state = state_of_loan loan; settled = settled_of_loan loan; change = no_change }
+abbrev pub account_by_replay : Loan → Account
+account_by_replay loan = record { loan = loan; state = state_of_loan loan; settled = settled_of_loan loan; change = no_change }
 
 -- what is kept of an account is what a replay gives
 pub record IsReplayed (a : Account) : Type 0 where
@@ -61,6 +61,6 @@ abbrev pub HasOtherParts : List Settled → List Settled → ℕ → Type 0
 HasOtherParts before after seq = settled_in seq before ≢ settled_in seq after
 
 -- exactly the instalments whose rows differ between two loans, and the entries whose settled parts do
-pub record IsChange (before after : Loan) (change : Changed) : Type 0 where
+pub record IsChange (before after : Loan) (change : ChangedNumbers) : Type 0 where
   pub rows : AreThose after.periods (HasOtherRow (state_of_loan before).rows (state_of_loan after).rows) change.rows
   pub seqs : AreThose (length after.entries) (HasOtherParts (settled_of_loan before) (settled_of_loan after)) change.seqs

@@ -4,7 +4,7 @@ use Rattle.std.specs.List.{range_with_len}
 use Rattle.mf_alloc.specs.declared.row.Cell.{Cell}
 use Rattle.mf_alloc.specs.declared.row.Portion.TheVariants.{Penalty as PenaltyPart, Fee as FeePart}
 use Rattle.mf_alloc.specs.Sums.{Sums}
-use Rattle.mf_alloc.specs.Rows.{outstanding, changed, plus_at, place_in_row, pay_row, with_paid}
+use Rattle.mf_alloc.specs.Rows.{outstanding, rows_changed_at, plus_at, place_in_row, pay_row, with_paid}
 use Rattle.mf_alloc.specs.Payment.{share_at, shares_of, rest_of}
 use Rattle.mf_account.specs.declared.entry.Entry.{Entry}
 use Rattle.mf_account.specs.declared.entry.Kind.{Kind}
@@ -33,7 +33,7 @@ abbrev pub owe_row : ℕ → ℕ → Sums → Sums
 owe_row p amount row = record row { owed = plus_at row.owed p amount }
 
 abbrev pub settle : List Sums → Part → List Sums
-settle rows part = changed rows part.cell.instalment (settle_row part.how (place_in_row part.cell.portion) part.amount)
+settle rows part = rows_changed_at rows part.cell.instalment (settle_row part.how (place_in_row part.cell.portion) part.amount)
 
 -- all parts, first to last
 abbrev pub with_settled : List Sums → List Part → List Sums
@@ -42,8 +42,8 @@ with_settled rows (part ∷ parts) = with_settled (settle rows part) parts
 
 -- a fee or penalty is added to what its cell owes
 abbrev pub with_charge : Kind → Entry → List Sums → List Sums
-with_charge Fee entry rows = changed rows entry.instalment (owe_row (place_in_row FeePart) entry.amount)
-with_charge Penalty entry rows = changed rows entry.instalment (owe_row (place_in_row PenaltyPart) entry.amount)
+with_charge Fee entry rows = rows_changed_at rows entry.instalment (owe_row (place_in_row FeePart) entry.amount)
+with_charge Penalty entry rows = rows_changed_at rows entry.instalment (owe_row (place_in_row PenaltyPart) entry.amount)
 with_charge Repay entry rows = rows
 with_charge Waive entry rows = rows
 with_charge WriteOff entry rows = rows

@@ -14,7 +14,7 @@ use Rattle.mf_account.specs.declared.settled.Settled.{Settled}
 use Rattle.mf_account.specs.Kinds.{is_seal}
 use Rattle.mf_account.specs.Effect.{State}
 use Rattle.mf_account.specs.Account.{Orders, orders_by, first_state, state_of, settled_of, status_of}
-use Rattle.mf_account.specs.Standing.{is_before, standing, entry_at, entries_at}
+use Rattle.mf_account.specs.Standing.{is_before, standing_entries, entry_at, entries_at}
 use Rattle.mf_account.specs.Safe.{IsSafe}
 
 pub record Loan : Type 0 where
@@ -87,7 +87,7 @@ status_of_loan loan = status_of loan.entries (state_of_loan loan)
 pub record IsKept (loan : Loan) (order : List ℕ) (schedule : List Instalment) (fee : ℕ) (state : State) (settled : List Settled) : Type 0 where
   pub sound : IsSound loan
   pub within : All (λ at. at < length loan.entries) order
-  pub order_is : entries_at loan.entries order ≡ standing loan.entries
+  pub order_is : entries_at loan.entries order ≡ standing_entries loan.entries
   pub schedule_is : schedule ≡ schedule_of loan
   pub fee_is : fee ≡ fee_of_loan loan
   pub safe : IsSafe loan.periods (length loan.entries) state settled

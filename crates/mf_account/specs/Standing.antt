@@ -11,17 +11,17 @@ abbrev pub is_before : Entry → Entry → Bool
 is_before a b = nat_lt a.day b.day || ((a.day == b.day) && nat_lt a.seq b.seq)
 
 -- an entry put into its place
-abbrev pub placed : Entry → List Entry → List Entry
-placed entry [] = entry ∷ []
-placed entry (first ∷ others) =
-    if is_before entry first then entry ∷ first ∷ others else first ∷ placed entry others
+abbrev pub order_with : Entry → List Entry → List Entry
+order_with entry [] = entry ∷ []
+order_with entry (first ∷ others) =
+    if is_before entry first then entry ∷ first ∷ others else first ∷ order_with entry others
 
 -- those not reversed, each in its place
 abbrev pub with_entry : List Entry → Entry → List Entry
-with_entry order entry = if entry.reversed then order else placed entry order
+with_entry order entry = if entry.reversed then order else order_with entry order
 
-abbrev pub standing : List Entry → List Entry
-standing entries = fold with_entry [] entries
+abbrev pub standing_entries : List Entry → List Entry
+standing_entries entries = fold with_entry [] entries
 
 -- an entry for what is not there
 abbrev pub no_entry : Entry

@@ -1,7 +1,7 @@
 -- The standing entries are the one list of those not reversed that ascends by day and number.
 use Rattle.std.specs.Prelude.{◌≡◌, ℕ, ◌⊎◌, true, false, List, [], ◌∷◌}
 use Rattle.mf_account.specs.declared.entry.Entry.{Entry}
-use Rattle.mf_account.specs.Standing.{is_before, standing}
+use Rattle.mf_account.specs.Standing.{is_before, standing_entries}
 use Rattle.mf_account.specs.Loan.{AreEntries}
 
 abbrev pub IsAmong : Entry → List Entry → Type 0
@@ -28,4 +28,4 @@ pub record IsStandingOf (entries others : List Entry) : Type 0 where
 abbrev pub StandingIsOne : Type 0
 StandingIsOne =
     (n day : ℕ) (entries : List Entry) → AreEntries n day entries →
-    IsStandingOf entries (standing entries) × ((others : List Entry) → IsStandingOf entries others → others ≡ standing entries)
+    IsStandingOf entries (standing_entries entries) × ((others : List Entry) → IsStandingOf entries others → others ≡ standing_entries entries)

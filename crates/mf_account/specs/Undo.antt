@@ -2,7 +2,7 @@
 use Rattle.std.specs.Prelude.{ℕ, ◌+◌, ◌-◌, ◌≢◌, List, [], ◌∷◌, sum_by}
 use Rattle.mf_alloc.specs.declared.row.Portion.TheVariants.{Penalty as PenaltyPart, Fee as FeePart}
 use Rattle.mf_alloc.specs.Sums.{Sums}
-use Rattle.mf_alloc.specs.Rows.{changed, minus_at, place_in_row, unpay_row}
+use Rattle.mf_alloc.specs.Rows.{rows_changed_at, minus_at, place_in_row, unpay_row}
 use Rattle.mf_account.specs.declared.entry.Entry.{Entry}
 use Rattle.mf_account.specs.declared.entry.Kind.{Kind}
 use Rattle.mf_account.specs.declared.entry.Kind.TheVariants.{Repay, Fee, Penalty, Waive, WriteOff, Refund}
@@ -21,7 +21,7 @@ abbrev pub unowe_row : ℕ → ℕ → Sums → Sums
 unowe_row p amount row = record row { owed = minus_at row.owed p amount }
 
 abbrev pub unsettle : List Sums → Part → List Sums
-unsettle rows part = changed rows part.cell.instalment (unsettle_row part.how (place_in_row part.cell.portion) part.amount)
+unsettle rows part = rows_changed_at rows part.cell.instalment (unsettle_row part.how (place_in_row part.cell.portion) part.amount)
 
 -- all parts, last to first
 abbrev pub without_settled : List Sums → List Part → List Sums
@@ -29,8 +29,8 @@ without_settled rows [] = rows
 without_settled rows (part ∷ parts) = unsettle (without_settled rows parts) part
 
 abbrev pub without_charge : Kind → Entry → List Sums → List Sums
-without_charge Fee entry rows = changed rows entry.instalment (unowe_row (place_in_row FeePart) entry.amount)
-without_charge Penalty entry rows = changed rows entry.instalment (unowe_row (place_in_row PenaltyPart) entry.amount)
+without_charge Fee entry rows = rows_changed_at rows entry.instalment (unowe_row (place_in_row FeePart) entry.amount)
+without_charge Penalty entry rows = rows_changed_at rows entry.instalment (unowe_row (place_in_row PenaltyPart) entry.amount)
 without_charge Repay entry rows = rows
 without_charge Waive entry rows = rows
 without_charge WriteOff entry rows = rows

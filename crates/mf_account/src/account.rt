@@ -3,14 +3,14 @@ ghost use Rattle.mf_base.specs.declared.fault.Fault.{Fault as FaultNumber};
 ghost use Rattle.mf_base.specs.DayText.{last_entered_day};
 ghost use Rattle.mf_catalog.specs.Limits.{IsChargeWithinLimits};
 ghost use Rattle.mf_schedule.specs.Fresh.{IsLoanWithinLimits};
-ghost use Rattle.mf_account.specs.Standing.{entry_at, standing, placed, with_mark};
+ghost use Rattle.mf_account.specs.Standing.{entry_at, standing_entries, order_with, with_mark};
 ghost use Rattle.mf_alloc.specs.Sums.{AreWhole, AreWithin};
 ghost use Rattle.mf_account.specs.Account.{shares_in, status_of};
 ghost use Rattle.mf_account.specs.Charges.{fee_amount as fee_amount_of, fee_instalment as fee_instalment_of, fee_refused, penalty_amount as penalty_amount_of};
-ghost use Rattle.mf_account.specs.Change.{Account, IsChange, IsReplayed, AreKeptOf, replayed, settled_in};
+ghost use Rattle.mf_account.specs.Change.{Account, IsChange, IsReplayed, AreKeptOf, account_by_replay, settled_in};
 ghost use Rattle.mf_account.specs.Loan.{Loan, IsKept, IsSound, AreEntries, settled_of_loan, fee_of_loan};
 ghost use Rattle.mf_account.specs.Rewind.{IsRedone, state_before, settled_upto};
-ghost use Rattle.mf_account.specs.Balance.{balances_by, open_in, repaid};
+ghost use Rattle.mf_account.specs.Balance.{balances_by, open_in, sum_repaid};
 ghost use Rattle.mf_account.specs.Safe.{most_kept, IsShaped, IsBounded, IsSafe};
 ghost use Rattle.mf_account.specs.Refusals.{refusal_of, reversal_refused, is_sealed as is_sealed_by, IsOffered, IsAdmitted, IsEntryFault};
 ghost use Rattle.mf_account.specs.Told.{settled_amount, AreRowsSmall, AreNumbered, AreNumberedTo};
@@ -100,7 +100,7 @@ impl LoanAccount {
         requires limits { IsLoanWithinLimits terms principal periods }
         requires day { day ≤ last_entered_day }
         requires entries { AreEntries periods day entries.items }
-        ensures account { IfOk result (λ account. account ≡ replayed (record { terms = terms; principal = principal; periods = periods; day = day; entries = entries.items })) }
+        ensures account { IfOk result (λ account. account ≡ account_by_replay (record { terms = terms; principal = principal; periods = periods; day = day; entries = entries.items })) }
         ensures only { IsOkUnless result Fault.F20 }
     {
         let schedule = fresh(alloc, &terms, principal, periods, day)?;
@@ -132,7 +132,7 @@ impl LoanAccount {
         day: Day,
         entries: Vec<Entry>,
     ) -> Result<Option<LoanAccount>, Fault>
-        ensures account { IfOk result (λ found. IfSome found (λ account. account ≡ replayed (record { terms = terms; principal = principal; periods = periods; day = day; entries = entries.items }))) }
+        ensures account { IfOk result (λ found. IfSome found (λ account. account ≡ account_by_replay (record { terms = terms; principal = principal; periods = periods; day = day; entries = entries.items }))) }
         ensures none { IfOk result (λ found. IsSound (record { terms = terms; principal = principal; periods = periods; day = day; entries = entries.items }) → found ≢ None) }
         ensures only { IsOkUnless result Fault.F20 }
     {
@@ -165,7 +165,7 @@ impl LoanAccount {
         requires apart { AreWithin rows.items }
         ensures account { IsSound (record { terms = terms; principal = principal; periods = periods; day = day; entries = entries.items })
             → AreKeptOf (record { terms = terms; principal = principal; periods = periods; day = day; entries = entries.items }) rows.items settled.items
-            → IfOk result (λ found. found ≡ Some (replayed (record { terms = terms; principal = principal; periods = periods; day = day; entries = entries.items }))) }
+            → IfOk result (λ found. found ≡ Some (account_by_replay (record { terms = terms; principal = principal; periods = periods; day = day; entries = entries.items }))) }
         ensures only { IsOkUnless result Fault.F20 }
     {
         if is_loan_within_limits(&terms, principal, periods)
@@ -197,7 +197,7 @@ impl LoanAccount {
         requires whole { AreWhole rows.items }
         requires apart { AreWithin rows.items }
         ensures account { AreKeptOf (record { terms = terms; principal = principal; periods = periods; day = day; entries = entries.items }) rows.items settled.items
-            → IfOk result (λ found. found ≡ Some (replayed (record { terms = terms; principal = principal; periods = periods; day = day; entries = entries.items }))) }
+            → IfOk result (λ found. found ≡ Some (account_by_replay (record { terms = terms; principal = principal; periods = periods; day = day; entries = entries.items }))) }
         ensures only { IsOkUnless result Fault.F20 }
     {
         if rows.len() != periods as usize {
@@ -275,8 +275,8 @@ impl LoanAccount {
 
     /// Where an entry belongs among the standing ones.
     fn place_of(&self, entry: &Entry) -> usize
-        ensures within { result ≤ length (standing self.now.loan.entries) }
-        ensures place { placed entry.now (standing self.now.loan.entries) ≡ insert (standing self.now.loan.entries) result entry.now }
+        ensures within { result ≤ length (standing_entries self.now.loan.entries) }
+        ensures place { order_with entry.now (standing_entries self.now.loan.entries) ≡ insert (standing_entries self.now.loan.entries) result entry.now }
     {
         position(&self.entries, &self.order, entry)
     }
@@ -291,8 +291,8 @@ impl LoanAccount {
     ) -> Result<(Book, usize, Vec<Settled>), Fault>
         requires sound { IsSound (record self.now.loan { entries = self.now.loan.entries ++ entry.now ∷ [] }) }
         requires stands { entry.now.reversed ≡ false }
-        requires within { place ≤ length (standing self.now.loan.entries) }
-        requires place { placed entry.now (standing self.now.loan.entries) ≡ insert (standing self.now.loan.entries) place entry.now }
+        requires within { place ≤ length (standing_entries self.now.loan.entries) }
+        requires place { order_with entry.now (standing_entries self.now.loan.entries) ≡ insert (standing_entries self.now.loan.entries) place entry.now }
         ensures redone { IsReplayed self.now
             → IfOk result (λ r. IsRedone self.now.loan (record self.now.loan { entries = self.now.loan.entries ++ entry.now ∷ [] }) r.0 r.1 r.2.items) }
         ensures kept { IfOk result (λ r. r.1 ≤ length self.now.settled) }
@@ -343,7 +343,7 @@ impl LoanAccount {
 
     /// The book before the standing entries from a place on, and how many parts are settled by then.
     fn rewound(&self, alloc: Global, place: usize) -> Result<(Book, usize), Fault>
-        requires place { place ≤ length (standing self.now.loan.entries) }
+        requires place { place ≤ length (standing_entries self.now.loan.entries) }
         ensures within { IfOk result (λ both. both.1 ≤ length self.now.settled) }
         ensures bounded { IfOk result (λ both. IsBounded self.now.loan.periods (2 * most_kept) both.0) }
         ensures back { IsReplayed self.now
@@ -431,8 +431,8 @@ impl LoanAccount {
     fn place_at(&self, at: usize) -> usize
         requires there { at < length self.now.loan.entries }
         requires stands { (entry_at self.now.loan.entries at).reversed ≡ false }
-        ensures within { result < length (standing self.now.loan.entries) }
-        ensures there { entry_at (standing self.now.loan.entries) result ≡ entry_at self.now.loan.entries at }
+        ensures within { result < length (standing_entries self.now.loan.entries) }
+        ensures there { entry_at (standing_entries self.now.loan.entries) result ≡ entry_at self.now.loan.entries at }
     {
         place_in(&self.order, at)
     }
@@ -443,9 +443,9 @@ impl LoanAccount {
         alloc: Global,
         place: usize,
     ) -> Result<(Book, usize, Vec<Settled>), Fault>
-        requires within { place < length (standing self.now.loan.entries) }
+        requires within { place < length (standing_entries self.now.loan.entries) }
         ensures redone { IsReplayed self.now → (at : ℕ) → at < length self.now.loan.entries
-            → entry_at (standing self.now.loan.entries) place ≡ entry_at self.now.loan.entries at
+            → entry_at (standing_entries self.now.loan.entries) place ≡ entry_at self.now.loan.entries at
             → IfOk result (λ r. IsRedone self.now.loan (record self.now.loan { entries = with_mark self.now.loan.entries at true }) r.0 r.1 r.2.items) }
         ensures kept { IfOk result (λ r. r.1 ≤ length self.now.settled) }
         ensures safe { IfOk result (λ r. IsSafe self.now.loan.periods (length self.now.loan.entries) r.0 (take r.1 self.now.settled ++ r.2.items)) }
@@ -540,7 +540,7 @@ impl LoanAccount {
     /// disbursed is paid, written off or outstanding; and where something is overpaid nothing is outstanding.
     pub fn balances(&self) -> Balances
         ensures value { result ≡ balances_by (fee_of_loan self.now.loan) self.now.state }
-        ensures repaid { IsReplayed self.now → sum result.paid + result.overpaid + result.refunded ≡ repaid self.now.loan.entries }
+        ensures repaid { IsReplayed self.now → sum result.paid + result.overpaid + result.refunded ≡ sum_repaid self.now.loan.entries }
         ensures principal { IsReplayed self.now → slice_index result.paid 3 + slice_index result.written_off 3 + slice_index result.outstanding 3 ≡ self.now.loan.principal }
         ensures apart { IsReplayed self.now → 0 < result.overpaid → sum result.outstanding ≡ 0 }
         ensures whole { (p : ℕ) → p < 4

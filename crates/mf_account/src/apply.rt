@@ -2,7 +2,7 @@ ghost use Rattle.std.specs.Prelude.{◌≡◌, ℕ, ◌≤◌, IfOk, OnOk, IsOkU
 ghost use Rattle.mf_alloc.specs.Order.{order_at};
 ghost use Rattle.mf_account.specs.Effect.{after, parts_of, with_charge, parts_cleared};
 ghost use Rattle.mf_account.specs.AtOnce.{with_cleared};
-ghost use Rattle.mf_account.specs.Account.{numbered};
+ghost use Rattle.mf_account.specs.Account.{parts_numbered};
 ghost use Rattle.mf_account.specs.Applicable.{HasRow, IsApplicable};
 
 use crate::effect::{add_paid, charge_and_clear, money_in, money_out};
@@ -23,7 +23,7 @@ fn charge_and_clear_in<T: Strategy>(
     requires row { HasRow entry.now.kind entry.now rows.old.items }
     ensures rows { OnOk result (rows.new.items ≡ with_cleared (order_at (T.cell_at strategy.now) rows.old.items entry.now.day) entry.now (with_charge entry.now.kind entry.now rows.old.items)) }
     ensures size { length rows.new.items ≡ length rows.old.items }
-    ensures parts { IfOk result (λ parts. parts.items ≡ numbered entry.now.seq 1 (parts_cleared (order_at (T.cell_at strategy.now) rows.old.items entry.now.day) entry.now (with_charge entry.now.kind entry.now rows.old.items))) }
+    ensures parts { IfOk result (λ parts. parts.items ≡ parts_numbered entry.now.seq 1 (parts_cleared (order_at (T.cell_at strategy.now) rows.old.items entry.now.day) entry.now (with_charge entry.now.kind entry.now rows.old.items))) }
     ensures few { IfOk result (λ parts. vec_len parts ≤ 1440) }
     ensures only { IsOkUnless result Fault.F20 }
 {
@@ -41,7 +41,7 @@ pub(crate) fn apply_entry<T: Strategy>(
     requires fits { IsApplicable entry.now (book.old) }
     ensures state { OnOk result (book.new ≡ after (order_at (T.cell_at strategy.now) book.old.rows entry.now.day) entry.now (book.old)) }
     ensures only { IsOkUnless result Fault.F20 }
-    ensures parts { IfOk result (λ parts. parts.items ≡ numbered entry.now.seq 1 (parts_of (order_at (T.cell_at strategy.now) book.old.rows entry.now.day) entry.now (book.old))) }
+    ensures parts { IfOk result (λ parts. parts.items ≡ parts_numbered entry.now.seq 1 (parts_of (order_at (T.cell_at strategy.now) book.old.rows entry.now.day) entry.now (book.old))) }
 {
     let mut parts = charge_and_clear_in(alloc, strategy, &mut book.rows, entry)?;
     let given = money_out(entry.kind, book.overpaid);

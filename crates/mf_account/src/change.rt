@@ -25,9 +25,9 @@ impl Drop for Change {
 }
 
 impl Model for Change {
-    ghost use Rattle.mf_account.specs.Change.{Changed};
+    ghost use Rattle.mf_account.specs.Change.{ChangedNumbers};
 
-    ghost Value = { Changed };
+    ghost Value = { ChangedNumbers };
 
     ghost view = { λ change. record { rows = change.rows.items; seqs = change.seqs.items } };
 }

@@ -17,7 +17,7 @@ use mf_catalog::{
 };
 
 /// The most entries that a loan may have.
-pub(crate) const MOST_ENTRIES: usize = 9999;
+pub const MOST_ENTRIES: usize = 9999;
 
 /// Whether a charge's value lies within the limits.
 pub(crate) fn is_charge_within_limits(charge: &ChargeDef) -> bool

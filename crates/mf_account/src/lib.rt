@@ -23,5 +23,6 @@ pub use account::LoanAccount;
 pub use balances::Balances;
 pub use change::Change;
 pub use entry::{Entry, Kind};
+pub use lawful::MOST_ENTRIES;
 pub use receipt::{Receipt, is_receipt};
 pub use settled::{Book, How, Settled};

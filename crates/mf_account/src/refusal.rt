@@ -1,5 +1,5 @@
 ghost use Rattle.std.specs.Prelude.{◌≡◌, ℕ, ◌-◌, ◌<◌, ◌≤◌, ◌&&◌, not, false, IsTrue, IfNone, length, is_some, All};
-ghost use Rattle.mf_account.specs.Standing.{entry_at, entries_at, last_kind_of, standing};
+ghost use Rattle.mf_account.specs.Standing.{entry_at, entries_at, last_kind_of, standing_entries};
 ghost use Rattle.mf_alloc.specs.Rows.{row_at};
 ghost use Rattle.mf_account.specs.Applicable.{HasInstalment};
 ghost use Rattle.mf_account.specs.Loan.{Loan, AreEntries, IsSound, state_of_loan};
@@ -26,8 +26,8 @@ fn is_write_off(kind: Kind) -> bool
 /// The kind of the last of the standing entries, whose places are given in their order.
 fn last_kind(entries: &[Entry], order: &[usize]) -> Option<Kind>
     requires within { All (λ at. at < length entries.now) order.now }
-    requires order { entries_at entries.now order.now ≡ standing entries.now }
-    ensures { result ≡ last_kind_of (standing entries.now) }
+    requires order { entries_at entries.now order.now ≡ standing_entries entries.now }
+    ensures { result ≡ last_kind_of (standing_entries entries.now) }
 {
     let last = order.last()?;
     Some(entries[*last].kind)
@@ -36,7 +36,7 @@ fn last_kind(entries: &[Entry], order: &[usize]) -> Option<Kind>
 /// Whether a write-off stands. It is then the last of the standing entries, whose places are given in their order.
 fn has_write_off(entries: &[Entry], order: &[usize]) -> bool
     requires within { All (λ at. at < length entries.now) order.now }
-    requires order { entries_at entries.now order.now ≡ standing entries.now }
+    requires order { entries_at entries.now order.now ≡ standing_entries entries.now }
     requires entries { (n : ℕ) × (day : ℕ) × AreEntries n day entries.now }
     ensures { result ≡ list_any (λ (e : EntryRecord). not e.reversed && is_write_off_kind e.kind) entries.now }
 {
@@ -54,7 +54,7 @@ fn is_any_open(rows: &[Row]) -> bool
 /// where something is overpaid, else 600.
 pub(crate) fn status(entries: &[Entry], order: &[usize], rows: &[Row], overpaid: u64) -> u16
     requires within { All (λ at. at < length entries.now) order.now }
-    requires order { entries_at entries.now order.now ≡ standing entries.now }
+    requires order { entries_at entries.now order.now ≡ standing_entries entries.now }
     requires entries { (n : ℕ) × (day : ℕ) × AreEntries n day entries.now }
     ensures { result ≡ status_of entries.now (record { rows = rows.now; overpaid = overpaid; refunded = 0 }) }
 {
@@ -73,7 +73,7 @@ pub(crate) fn status(entries: &[Entry], order: &[usize], rows: &[Row], overpaid:
 /// order.
 pub(crate) fn is_sealed(entries: &[Entry], order: &[usize]) -> bool
     requires within { All (λ at. at < length entries.now) order.now }
-    requires order { entries_at entries.now order.now ≡ standing entries.now }
+    requires order { entries_at entries.now order.now ≡ standing_entries entries.now }
     requires entries { (n : ℕ) × (day : ℕ) × AreEntries n day entries.now }
     ensures { result ≡ is_sealed_by entries.now }
 {

@@ -1,7 +1,7 @@
 ghost use Rattle.std.specs.Prelude.{◌≡◌, ◌≢◌, ℕ, ◌+◌, ◌-◌, ◌<◌, ◌≤◌, ◌∷◌, [], ◌++◌, None, IfOk, IfSome, OnOk, IsOkUnless, length, map, All, insert, slice_index, true};
 ghost use Rattle.std.specs.List.{Contains};
 ghost use Rattle.mf_account.specs.Account.{row_of as first_row, first_state, state_of, settled_of, after_all, settled_by, orders_by};
-ghost use Rattle.mf_account.specs.Standing.{is_before as comes_before, placed, standing, entry_at, entries_at, with_mark, IsInOrder, places_from, AreApart};
+ghost use Rattle.mf_account.specs.Standing.{is_before as comes_before, order_with, standing_entries, entry_at, entries_at, with_mark, IsInOrder, places_from, AreApart};
 ghost use Rattle.mf_account.specs.Applicable.{AreApplicable};
 ghost use Rattle.mf_account.specs.declared.replay.Place.{Place as PlaceRecord};
 ghost use Rattle.mf_account.specs.declared.replay.Standing.{Standing as StandingRecord};
@@ -32,7 +32,7 @@ pub(crate) fn position(entries: &[Entry], order: &[usize], entry: &Entry) -> usi
     requires within { All (λ i. i < length entries.now) order.now }
     requires ordered { IsInOrder (entries_at entries.now order.now) }
     ensures within { result ≤ length order.now }
-    ensures place { placed entry.now (entries_at entries.now order.now) ≡ insert (entries_at entries.now order.now) result entry.now }
+    ensures place { order_with entry.now (entries_at entries.now order.now) ≡ insert (entries_at entries.now order.now) result entry.now }
 {
     let mut k = order.len();
     while k > 0 {
@@ -98,7 +98,7 @@ fn all_at(alloc: Global, places: &[Place]) -> Result<Vec<usize>, Fault>
 pub(crate) fn standing_order(alloc: Global, entries: &[Entry]) -> Result<Vec<usize>, Fault>
     requires numbers { (i : ℕ) → i < length entries.now → (entry_at entries.now i).seq ≡ i + 1 }
     ensures within { IfOk result (λ order. All (λ i. i < length entries.now) order.items) }
-    ensures order { IfOk result (λ order. entries_at entries.now order.items ≡ standing entries.now) }
+    ensures order { IfOk result (λ order. entries_at entries.now order.items ≡ standing_entries entries.now) }
     ensures only { IsOkUnless result Fault.F20 }
 {
     let mut places = standing_places(alloc, entries)?;
@@ -167,7 +167,7 @@ fn sorted_parts(
 ) -> Result<Vec<Settled>, Fault>
     requires within { All (λ at. at < entries) order.now }
     requires numbers { AreNumberedTo entries settled.now }
-    ensures loan { (loan : Loan) → IsSound loan → length loan.entries ≡ entries → entries_at loan.entries order.now ≡ standing loan.entries
+    ensures loan { (loan : Loan) → IsSound loan → length loan.entries ≡ entries → entries_at loan.entries order.now ≡ standing_entries loan.entries
         → ((seq : ℕ) → settled_in seq settled.now ≡ settled_in seq (settled_of_loan loan))
         → IfOk result (λ sorted. sorted.items ≡ settled_of_loan loan) }
     ensures only { IsOkUnless result Fault.F20 }
@@ -189,11 +189,11 @@ pub(crate) fn in_order(
 ) -> Result<Option<Vec<Settled>>, Fault>
     requires within { All (λ at. at < entries) order.now }
     ensures placed { IfOk result (λ found. IfSome found (λ parts. ArePlaced instalments entries parts.items)) }
-    ensures loan { (loan : Loan) → IsSound loan → length loan.entries ≡ entries → entries_at loan.entries order.now ≡ standing loan.entries
+    ensures loan { (loan : Loan) → IsSound loan → length loan.entries ≡ entries → entries_at loan.entries order.now ≡ standing_entries loan.entries
         → ((seq : ℕ) → settled_in seq settled.now ≡ settled_in seq (settled_of_loan loan))
         → IfOk result (λ found. IfSome found (λ parts. parts.items ≡ settled_of_loan loan)) }
     ensures some { (loan : Loan) → IsSound loan → length loan.entries ≡ entries → loan.periods ≡ instalments
-        → entries_at loan.entries order.now ≡ standing loan.entries → ((seq : ℕ) → settled_in seq settled.now ≡ settled_in seq (settled_of_loan loan))
+        → entries_at loan.entries order.now ≡ standing_entries loan.entries → ((seq : ℕ) → settled_in seq settled.now ≡ settled_in seq (settled_of_loan loan))
         → IfOk result (λ found. found ≢ None) }
     ensures only { IsOkUnless result Fault.F20 }
 {
@@ -303,8 +303,8 @@ pub(crate) fn replayed<T: Strategy>(
 ) -> Result<(Book, Vec<Settled>), Fault>
     requires few { length schedule.now ≤ 360 }
     requires within { All (λ i. i < length entries.now) order.now }
-    requires order { entries_at entries.now order.now ≡ standing entries.now }
-    requires fits { AreApplicable (orders_by (T.cell_at strategy.now) (first_state schedule.now).rows) (standing entries.now) (first_state schedule.now) }
+    requires order { entries_at entries.now order.now ≡ standing_entries entries.now }
+    requires fits { AreApplicable (orders_by (T.cell_at strategy.now) (first_state schedule.now).rows) (standing_entries entries.now) (first_state schedule.now) }
     ensures state { IfOk result (λ both. both.0 ≡ state_of (orders_by (T.cell_at strategy.now) (first_state schedule.now).rows) schedule.now entries.now) }
     ensures settled { IfOk result (λ both. both.1.items ≡ settled_of (orders_by (T.cell_at strategy.now) (first_state schedule.now).rows) schedule.now entries.now) }
     ensures only { IsOkUnless result Fault.F20 }

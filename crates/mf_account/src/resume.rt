@@ -5,7 +5,7 @@ ghost use Rattle.mf_account.specs.declared.entry.Kind.TheVariants.{Refund};
 ghost use Rattle.mf_account.specs.Kinds.{money_in as money_of};
 ghost use Rattle.mf_account.specs.Account.{sum_at};
 ghost use Rattle.mf_account.specs.Balance.{HasRoom};
-ghost use Rattle.mf_account.specs.Standing.{entries_at, entry_at, standing};
+ghost use Rattle.mf_account.specs.Standing.{entries_at, entry_at, standing_entries};
 ghost use Rattle.mf_account.specs.Loan.{Loan, IsSound, state_of_loan};
 ghost use Rattle.mf_account.specs.Safe.{most_kept, IsBounded};
 
@@ -56,7 +56,7 @@ fn ends_in_refund(entries: &[Entry], order: &[usize]) -> bool
 /// where a refund stands, which is then the last. None where the rows come to more than is kept.
 pub(crate) fn resumed_book(entries: &[Entry], order: &[usize], rows: Vec<Row>) -> Option<Book>
     requires within { All (λ i. i < length entries.now) order.now }
-    requires order { entries_at entries.now order.now ≡ standing entries.now }
+    requires order { entries_at entries.now order.now ≡ standing_entries entries.now }
     requires sound { (loan : Loan) × IsSound loan × (entries.now ≡ loan.entries) }
     requires whole { AreWhole rows.items }
     requires apart { AreWithin rows.items }

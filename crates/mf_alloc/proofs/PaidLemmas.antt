@@ -6,7 +6,7 @@ use Rattle.std.proofs.lemmas.List.{get_or-set_same, get_or-set_other}
 use Rattle.mf_alloc.specs.declared.row.Cell.{Cell}
 use Rattle.mf_alloc.specs.declared.row.Share.{Share}
 use Rattle.mf_alloc.specs.Sums.{Sums, IsWhole, AreWhole}
-use Rattle.mf_alloc.specs.Rows.{no_row, changed, pay_row, pay_into, with_paid, place_in_row, IsCell}
+use Rattle.mf_alloc.specs.Rows.{no_row, rows_changed_at, pay_row, pay_into, with_paid, place_in_row, IsCell}
 use Rattle.mf_alloc.specs.Payment.{shares_of}
 use Rattle.mf_alloc.specs.PaymentLaw.{paid_in_cell, but_paid, PaidByCells}
 use Rattle.mf_alloc.proofs.PaymentLemmas.{same_cell, same_portion}
@@ -34,8 +34,8 @@ paid-other rows paying cell amount there here apart =
       | inl same ↦
           let other : q ≢ p = λ e. apart (same_cell cell paying same (same_portion cell.portion paying.portion e)) in
           let at : j ≡ i = omega (arith, same) in
-          let read : get_or (changed rows paying.instalment change) j no_row ≡ change (get_or rows j no_row) =
-          ap (λ x. get_or (changed rows paying.instalment change) x no_row) at
+          let read : get_or (rows_changed_at rows paying.instalment change) j no_row ≡ change (get_or rows j no_row) =
+          ap (λ x. get_or (rows_changed_at rows paying.instalment change) x no_row) at
           ∙ get_or-set_same rows i (change (get_or rows i no_row)) no_row (omega (arith, there.first, there.last))
           ∙ sym (ap (λ x. change (get_or rows x no_row)) at) in
           ap (λ (x : Sums). get_or x.paid q 0) read

@@ -15,7 +15,7 @@ use Rattle.mf_alloc.specs.declared.row.Portion.{Portion}
 use Rattle.mf_alloc.specs.declared.row.Portion.TheVariants.{Penalty, Fee, Interest, Principal}
 use Rattle.mf_alloc.specs.Sums.{open_at}
 use Rattle.mf_alloc.specs.Order.{standard}
-use Rattle.mf_alloc.specs.Rows.{outstanding, no_row, row_at, plus_at, minus_at, changed, pay_row, unpay_row, pay_into, take_out, with_paid, without_paid, place_in_row, IsCell, IsPayable}
+use Rattle.mf_alloc.specs.Rows.{outstanding, no_row, row_at, plus_at, minus_at, rows_changed_at, pay_row, unpay_row, pay_into, take_out, with_paid, without_paid, place_in_row, IsCell, IsPayable}
 use Rattle.mf_alloc.specs.OrderLaws.{IsOrder}
 use Rattle.mf_alloc.specs.Payment.{start, share_at, is_some_share, shares_below, total_of, shares_of, rest_of}
 
@@ -65,7 +65,7 @@ pub unpay-pay : (p amount : ℕ) (row : Row) → unpay_row p amount (pay_row p a
 unpay-pay p amount row = ap (λ (sums : List ℕ). record row { paid = sums }) (minus_at-plus_at row.paid p amount)
 
 -- a row changed and changed back
-pub changed-back : (rows : List Row) (instalment : ℕ) (there back : Row → Row) → ((row : Row) → back (there row) ≡ row) → changed (changed rows instalment there) instalment back ≡ rows
+pub changed-back : (rows : List Row) (instalment : ℕ) (there back : Row → Row) → ((row : Row) → back (there row) ≡ row) → rows_changed_at (rows_changed_at rows instalment there) instalment back ≡ rows
 changed-back rows instalment there back undoes =
     let i : ℕ = instalment - 1 in
     elim (cases_lt i (length rows)) [
@@ -106,7 +106,7 @@ open_at-pay_row row p q amount apart =
     ap (λ x. get_or row.owed q 0 - x - get_or row.waived q 0 - get_or row.written_off q 0) (get_or-set_other row.paid p q (get_or row.paid p 0 + amount) 0 apart)
 
 -- a change of one sum of a row leaves what is outstanding in the other cells
-pub outstanding-changed : (rows : List Row) (changing cell : Cell) (change : Row → Row) → IsCell (length rows) changing → IsCell (length rows) cell → cell ≢ changing → ((row : Row) (q : ℕ) → q ≢ place_in_row changing.portion → open_at (change row) q ≡ open_at row q) → outstanding (changed rows changing.instalment change) cell ≡ outstanding rows cell
+pub outstanding-changed : (rows : List Row) (changing cell : Cell) (change : Row → Row) → IsCell (length rows) changing → IsCell (length rows) cell → cell ≢ changing → ((row : Row) (q : ℕ) → q ≢ place_in_row changing.portion → open_at (change row) q ≡ open_at row q) → outstanding (rows_changed_at rows changing.instalment change) cell ≡ outstanding rows cell
 outstanding-changed rows changing cell change there here apart keeps =
     let i : ℕ = changing.instalment - 1 in
     let j : ℕ = cell.instalment - 1 in
@@ -115,8 +115,8 @@ outstanding-changed rows changing cell change there here apart keeps =
       | inl same ↦
           let other : q ≢ place_in_row changing.portion = λ e. apart (same_cell cell changing same (same_portion cell.portion changing.portion e)) in
           let at : j ≡ i = omega (arith, same) in
-          let read : get_or (changed rows changing.instalment change) j no_row ≡ change (get_or rows j no_row) =
-          ap (λ x. get_or (changed rows changing.instalment change) x no_row) at
+          let read : get_or (rows_changed_at rows changing.instalment change) j no_row ≡ change (get_or rows j no_row) =
+          ap (λ x. get_or (rows_changed_at rows changing.instalment change) x no_row) at
           ∙ get_or-set_same rows i (change (get_or rows i no_row)) no_row (omega (arith, there.first, there.last))
           ∙ sym (ap (λ x. change (get_or rows x no_row)) at) in
           ap (λ x. open_at x q) read ∙ keeps (get_or rows j no_row) q other

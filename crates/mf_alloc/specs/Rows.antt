@@ -38,8 +38,8 @@ abbrev pub minus_at : List ℕ → ℕ → ℕ → List ℕ
 minus_at sums p amount = slice_set sums p (slice_index sums p - amount)
 
 -- one instalment's row changed
-abbrev pub changed : List Row → ℕ → (Row → Row) → List Row
-changed rows instalment change = slice_set rows (instalment - 1) (change (row_at rows instalment))
+abbrev pub rows_changed_at : List Row → ℕ → (Row → Row) → List Row
+rows_changed_at rows instalment change = slice_set rows (instalment - 1) (change (row_at rows instalment))
 
 abbrev pub pay_row : ℕ → ℕ → Row → Row
 pay_row p amount row = record row { paid = plus_at row.paid p amount }
@@ -49,10 +49,10 @@ unpay_row p amount row = record row { paid = minus_at row.paid p amount }
 
 -- a share is paid into its cell, or taken out of it
 abbrev pub pay_into : List Row → Share → List Row
-pay_into rows share = changed rows share.cell.instalment (pay_row (place_in_row share.cell.portion) share.amount)
+pay_into rows share = rows_changed_at rows share.cell.instalment (pay_row (place_in_row share.cell.portion) share.amount)
 
 abbrev pub take_out : List Row → Share → List Row
-take_out rows share = changed rows share.cell.instalment (unpay_row (place_in_row share.cell.portion) share.amount)
+take_out rows share = rows_changed_at rows share.cell.instalment (unpay_row (place_in_row share.cell.portion) share.amount)
 
 -- all of them, first to last; and back, last to first
 abbrev pub with_paid : List Row → List Share → List Row

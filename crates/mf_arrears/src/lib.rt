@@ -7,4 +7,4 @@ mod report;
 
 pub use ageing::{arrears, class, days_past, earlier};
 pub use line::{Class, OfficeLine};
-pub use report::{Totals, report_text};
+pub use report::{MOST_LOANS, Totals, report_text};

@@ -9,8 +9,8 @@ use mf_base::{Fault, money_text, push_right};
 use std::alloc::Global;
 use std::marker::Model;
 
-/// Totals are of at most so many loans.
-const MOST_LOANS: u64 = 10_000_000_000;
+/// A line of the report, and its totals, count at most so many loans.
+pub const MOST_LOANS: u64 = 10_000_000_000;
 
 /// The sums of several offices' lines, in cents.
 #[derive(Drop)]

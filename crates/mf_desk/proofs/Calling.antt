@@ -1,5 +1,5 @@
 -- From what the desk says of an answer to a line of a run.
-use Rattle.std.proofs.Common.{◌≡◌, inl, inr, Bool, true, false, List, Option, None, Result, Ok, Err, refl, sym, subst}
+use Rattle.std.proofs.Common.{◌≡◌, inl, inr, Bool, true, false, Option, None, Result, Ok, Err, refl, sym, subst}
 use Rattle.mf_base.specs.declared.fault.Fault.{Fault}
 use Rattle.mf_base.specs.declared.fault.Fault.TheVariants.{F20}
 use Rattle.mf_model.specs.declared.request.Call.{Call}
@@ -7,6 +7,7 @@ use Rattle.mf_model.specs.declared.reply.Reply.{Reply}
 use Rattle.mf_model.specs.Institution.{Institution, Change, after_maybe}
 use Rattle.mf_model.specs.Desk.{Outcome, outcome, reply, reply_in, change_in}
 use Rattle.mf_model.specs.Store.{left_by}
+use Rattle.mf_model.specs.declared.store.InstitutionStore.{Ghosts}
 use Rattle.mf_desk.specs.Answers.{Tells, Changes}
 use Rattle.mf_desk.specs.Runs.{AnswersLine, Calls}
 
@@ -14,11 +15,11 @@ refused_keeps : (o : Outcome) (f : Fault) → reply_in o ≡ Err f → change_in
 refused_keeps (Err e) f h = refl
 refused_keeps (Ok p) f h = absurd (cc)
 
-module _ {S : Type 0} (stands : S → Institution → Type 0) (clean : S → Type 0) (leaves : S → List Institution → Type 0) where
+module _ {S : Type 0} (store : Ghosts S) where
   -- The answer of the desk, told of a line. What shows a reply refuses it only where it is out of memory.
   pub told_of_answer : {T : Type 0} (shows : Reply → Result T Fault → Type 0) (told : Result Reply Fault → Type 0) (call : Call) (old new : S) (result : Result T Fault)
       → ((t : T) (r : Reply) → result ≡ Ok t → shows r (Ok t) → told (Ok r)) → ((f : Fault) → result ≡ Err f → told (Err f)) → ((r : Reply) (f : Fault) → shows r (Err f) → f ≡ F20)
-      → Tells stands clean leaves shows (reply call) old new result → Changes stands clean leaves {T = T} call old new result → Calls stands clean leaves told call old new
+      → Tells store shows (reply call) old new result → Changes store {T = T} call old new result → Calls store told call old new
   told_of_answer {T = T} shows told call old new (Ok t) ok err f20 s a = record {
     premise = a.premise;
     answered = λ c i h. let w = s.shown c i h in
@@ -35,16 +36,16 @@ module _ {S : Type 0} (stands : S → Institution → Type 0) (clean : S → Typ
     ];
   }
     where
-      given : (c : clean new) (i : Institution) (h : stands old i) → f ≡ F20 → (given_up : Bool) × AnswersLine stands clean leaves told (record { call = call; given_up = given_up }) i old new
+      given : (c : store.clean new) (i : Institution) (h : store.stands old i) → f ≡ F20 → (given_up : Bool) × AnswersLine store told (record { call = call; given_up = given_up }) i old new
       given c i h e = (true, record { replied = subst (λ (x : Fault). told (Err x)) e (err f refl); follows = a.same c i h; stop = λ is l. a.stop_refused c i is h l })
 
-      refused : (c : clean new) (i : Institution) (h : stands old i) → reply call i ≡ Err f → (given_up : Bool) × AnswersLine stands clean leaves told (record { call = call; given_up = given_up }) i old new
+      refused : (c : store.clean new) (i : Institution) (h : store.stands old i) → reply call i ≡ Err f → (given_up : Bool) × AnswersLine store told (record { call = call; given_up = given_up }) i old new
       refused c i h r =
           let none : change_in (outcome call i) ≡ None = refused_keeps (outcome call i) f r in (
             false,
             record {
               replied = subst told (sym r) (err f refl);
-              follows = subst (λ (k : Option Change). stands new (after_maybe k i)) (sym none) (a.same c i h);
-              stop = λ is l. subst (λ (k : Option Change). leaves new (left_by k false i is)) (sym none) (subst (λ (k : Option Change). leaves new (left_by k true i is)) none (a.stop_refused c i is h l));
+              follows = subst (λ (k : Option Change). store.stands new (after_maybe k i)) (sym none) (a.same c i h);
+              stop = λ is l. subst (λ (k : Option Change). store.leaves new (left_by k false i is)) (sym none) (subst (λ (k : Option Change). store.leaves new (left_by k true i is)) none (a.stop_refused c i is h l));
             },
           )

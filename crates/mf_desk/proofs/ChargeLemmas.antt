@@ -13,6 +13,7 @@ use Rattle.mf_model.specs.Institution.{Institution, charge_in}
 use Rattle.mf_model.specs.Outcomes.{with_found}
 use Rattle.mf_model.specs.Catalogue.{make_product, add_product}
 use Rattle.mf_model.specs.Desk.{of_catalogue}
+use Rattle.mf_model.specs.declared.store.InstitutionStore.{Ghosts}
 use Rattle.mf_desk.specs.declared.decision.Decision.{Decision}
 use Rattle.mf_desk.specs.Answers.{Asks, Decides, in_catalogue}
 use Rattle.mf_desk.specs.Charges.{number_of, charge_named, charge_before, list_of}
@@ -150,19 +151,19 @@ told_missing p i fault h =
     ap (λ t. of_catalogue (cond t (cond (is_consistent f p) (make_product p i.catalogue) (Err F8)) (Err F4))) (last_missing (is_there f p.disbursement_charge) (is_there f p.instalment_charge) (is_there f p.overdue_charge) n.1)
     ∙ ap (λ (x : Fault). Err x) (sym n.0)
 
-module _ {S : Type 0} (stands : S → Institution → Type 0) (clean : S → Type 0) (leaves : S → List Institution → Type 0) where
+module _ {S : Type 0} (store : Ghosts S) where
   -- each charge that the product names was read
   abbrev AllRead : ProductMembers → Option ChargeDef → Option ChargeDef → Option ChargeDef → Institution → Type 0
   AllRead p d m o i = ((charge_named p.disbursement_charge i ≡ Ok d) × (charge_named p.instalment_charge i ≡ Ok m)) × (charge_named p.overdue_charge i ≡ Ok o)
 
-  all_read : (p : ProductMembers) (d m o : Option ChargeDef) (old one two new : S) → Asks stands clean leaves (charge_named p.disbursement_charge) old one (Ok d) → Asks stands clean leaves (charge_named p.instalment_charge) one two (Ok m) → Asks stands clean leaves (charge_named p.overdue_charge) two new (Ok o) → Learns stands clean leaves (AllRead p d m o) old new
+  all_read : (p : ProductMembers) (d m o : Option ChargeDef) (old one two new : S) → Asks store (charge_named p.disbursement_charge) old one (Ok d) → Asks store (charge_named p.instalment_charge) one two (Ok m) → Asks store (charge_named p.overdue_charge) two new (Ok o) → Learns store (AllRead p d m o) old new
   all_read p d m o old one two new rd rm ro =
-      learns_both stands clean leaves (λ i. (charge_named p.disbursement_charge i ≡ Ok d) × (charge_named p.instalment_charge i ≡ Ok m)) (λ i. charge_named p.overdue_charge i ≡ Ok o) old two new
-      (learns_both stands clean leaves (λ i. charge_named p.disbursement_charge i ≡ Ok d) (λ i. charge_named p.instalment_charge i ≡ Ok m) old one two (learns stands clean leaves (charge_named p.disbursement_charge) old one d rd) (learns stands clean leaves (charge_named p.instalment_charge) one two m rm))
-      (learns stands clean leaves (charge_named p.overdue_charge) two new o ro)
+      learns_both store (λ i. (charge_named p.disbursement_charge i ≡ Ok d) × (charge_named p.instalment_charge i ≡ Ok m)) (λ i. charge_named p.overdue_charge i ≡ Ok o) old two new
+      (learns_both store (λ i. charge_named p.disbursement_charge i ≡ Ok d) (λ i. charge_named p.instalment_charge i ≡ Ok m) old one two (learns store (charge_named p.disbursement_charge) old one d rd) (learns store (charge_named p.instalment_charge) one two m rm))
+      (learns store (charge_named p.overdue_charge) two new o ro)
 
   -- the last charge is missing
-  pub then_missing : (p : ProductMembers) (d m : Option ChargeDef) (old one two new : S) → Asks stands clean leaves (charge_named p.disbursement_charge) old one (Ok d) → Asks stands clean leaves (charge_named p.instalment_charge) one two (Ok m) → (fault : Fault) → Asks stands clean leaves (charge_named p.overdue_charge) two new (Err fault) → Decides stands clean leaves (in_catalogue (add_product p)) old new (Err fault)
+  pub then_missing : (p : ProductMembers) (d m : Option ChargeDef) (old one two new : S) → Asks store (charge_named p.disbursement_charge) old one (Ok d) → Asks store (charge_named p.instalment_charge) one two (Ok m) → (fault : Fault) → Asks store (charge_named p.overdue_charge) two new (Err fault) → Decides store (in_catalogue (add_product p)) old new (Err fault)
   then_missing p d m old one two new rd rm fault ro = record {
     premise = λ k. rd.premise (rm.premise (ro.premise k));
     same = λ k i s. ro.same k i (rm.same (ro.premise k) i (rd.same (rm.premise (ro.premise k)) i s));
@@ -173,13 +174,13 @@ module _ {S : Type 0} (stands : S → Institution → Type 0) (clean : S → Typ
   }
 
   -- a consistent product is made
-  pub then_made : (p : ProductMembers) (d m o : Option ChargeDef) (old one two mid : S) → number_of d ≡ p.disbursement_charge → number_of m ≡ p.instalment_charge → number_of o ≡ p.overdue_charge → Asks stands clean leaves (charge_named p.disbursement_charge) old one (Ok d) → Asks stands clean leaves (charge_named p.instalment_charge) one two (Ok m) → Asks stands clean leaves (charge_named p.overdue_charge) two mid (Ok o) → (new : S) (result : Result Decision Fault) → is_consistent (charge_at (list_of d m o)) p ≡ true → Decides stands clean leaves (in_catalogue (make_product p)) mid new result → Decides stands clean leaves (in_catalogue (add_product p)) old new result
+  pub then_made : (p : ProductMembers) (d m o : Option ChargeDef) (old one two mid : S) → number_of d ≡ p.disbursement_charge → number_of m ≡ p.instalment_charge → number_of o ≡ p.overdue_charge → Asks store (charge_named p.disbursement_charge) old one (Ok d) → Asks store (charge_named p.instalment_charge) one two (Ok m) → Asks store (charge_named p.overdue_charge) two mid (Ok o) → (new : S) (result : Result Decision Fault) → is_consistent (charge_at (list_of d m o)) p ≡ true → Decides store (in_catalogue (make_product p)) mid new result → Decides store (in_catalogue (add_product p)) old new result
   then_made p d m o old one two mid d_is m_is o_is rd rm ro new result e next =
-      learned_decides stands clean leaves (AllRead p d m o) (in_catalogue (add_product p)) (in_catalogue (make_product p)) old mid new result (all_read p d m o old one two mid rd rm ro)
+      learned_decides store (AllRead p d m o) (in_catalogue (add_product p)) (in_catalogue (make_product p)) old mid new result (all_read p d m o old one two mid rd rm ro)
       (λ i h. told_there d m o p i true d_is m_is o_is h.0.0 h.0.1 h.1 e) next
 
   -- another is refused
-  pub then_inconsistent : (p : ProductMembers) (d m o : Option ChargeDef) (old one two new : S) → number_of d ≡ p.disbursement_charge → number_of m ≡ p.instalment_charge → number_of o ≡ p.overdue_charge → Asks stands clean leaves (charge_named p.disbursement_charge) old one (Ok d) → Asks stands clean leaves (charge_named p.instalment_charge) one two (Ok m) → Asks stands clean leaves (charge_named p.overdue_charge) two new (Ok o) → is_consistent (charge_at (list_of d m o)) p ≡ false → Decides stands clean leaves (in_catalogue (add_product p)) old new (Err F8)
+  pub then_inconsistent : (p : ProductMembers) (d m o : Option ChargeDef) (old one two new : S) → number_of d ≡ p.disbursement_charge → number_of m ≡ p.instalment_charge → number_of o ≡ p.overdue_charge → Asks store (charge_named p.disbursement_charge) old one (Ok d) → Asks store (charge_named p.instalment_charge) one two (Ok m) → Asks store (charge_named p.overdue_charge) two new (Ok o) → is_consistent (charge_at (list_of d m o)) p ≡ false → Decides store (in_catalogue (add_product p)) old new (Err F8)
   then_inconsistent p d m o old one two new d_is m_is o_is rd rm ro e =
-      learned_refuses stands clean leaves (AllRead p d m o) (in_catalogue (add_product p)) old new F8 (all_read p d m o old one two new rd rm ro)
+      learned_refuses store (AllRead p d m o) (in_catalogue (add_product p)) old new F8 (all_read p d m o old one two new rd rm ro)
       (λ i h. inr (told_there d m o p i false d_is m_is o_is h.0.0 h.0.1 h.1 e))

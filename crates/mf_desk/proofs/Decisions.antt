@@ -12,6 +12,7 @@ use Rattle.mf_desk.specs.declared.decision.Decision.{Decision}
 use Rattle.mf_model.specs.Institution.{Institution, Staff}
 use Rattle.mf_model.specs.Desk.{Plan, plan, need, meets, Outcome, outcome, staff_at, where_permitted, sent_by}
 use Rattle.mf_model.specs.Store.{Reads, role_of}
+use Rattle.mf_model.specs.declared.store.InstitutionStore.{Ghosts}
 use Rattle.mf_desk.specs.Answers.{plan_outcome, request_outcome, call_of, decision_outcome, Decides, Asks}
 
 -- nothing is there where nothing can be
@@ -19,9 +20,9 @@ pub none_there : {X : Type 0} (o : Option X) → ((x : X) → o ≡ Some x → �
 none_there None never = refl
 none_there (Some x) never = absurd (never x refl)
 
-module _ {S : Type 0} (stands : S → Institution → Type 0) (clean : S → Type 0) (leaves : S → List Institution → Type 0) where
+module _ {S : Type 0} (store : Ghosts S) where
   -- what is decided after a reading, where the value that was read leads from the one outcome to the other
-  pub then_decides : {R : Type 0} (value : Institution → R) (told then_told : Institution → Outcome) (old mid new : S) (r : R) (result : Result Decision Fault) → Reads stands clean leaves value old mid (Ok r) → ((i : Institution) → r ≡ value i → told i ≡ then_told i) → Decides stands clean leaves then_told mid new result → Decides stands clean leaves told old new result
+  pub then_decides : {R : Type 0} (value : Institution → R) (told then_told : Institution → Outcome) (old mid new : S) (r : R) (result : Result Decision Fault) → Reads store.stands store.clean store.leaves value old mid (Ok r) → ((i : Institution) → r ≡ value i → told i ≡ then_told i) → Decides store then_told mid new result → Decides store told old new result
   then_decides value told then_told old mid new r result read leads d = record {
     premise = λ k. read.premise (d.premise k);
     same = λ k i s. d.same k i (read.same (d.premise k) i s);
@@ -32,7 +33,7 @@ module _ {S : Type 0} (stands : S → Institution → Type 0) (clean : S → Typ
   }
 
   -- a refusal after a reading
-  pub then_refuses : {R : Type 0} (value : Institution → R) (told : Institution → Outcome) (old new : S) (r : R) (fault : Fault) → Reads stands clean leaves value old new (Ok r) → ((i : Institution) → r ≡ value i → told i ≡ Err fault) → Decides stands clean leaves told old new (Err fault)
+  pub then_refuses : {R : Type 0} (value : Institution → R) (told : Institution → Outcome) (old new : S) (r : R) (fault : Fault) → Reads store.stands store.clean store.leaves value old new (Ok r) → ((i : Institution) → r ≡ value i → told i ≡ Err fault) → Decides store told old new (Err fault)
   then_refuses value told old new r fault read leads = record {
     premise = read.premise;
     same = read.same;
@@ -44,12 +45,12 @@ module _ {S : Type 0} (stands : S → Institution → Type 0) (clean : S → Typ
 
   -- what is known of the institution after some readings
   pub record Learns (Holds : Institution → Type 0) (old new : S) : Type 0 where
-    pub premise : clean new → clean old
-    pub same : clean new → (i : Institution) → stands old i → stands new i
-    pub holds : clean new → (i : Institution) → stands old i → Holds i
-    pub stop : clean new → (is : List Institution) → leaves old is → leaves new is
+    pub premise : store.clean new → store.clean old
+    pub same : store.clean new → (i : Institution) → store.stands old i → store.stands new i
+    pub holds : store.clean new → (i : Institution) → store.stands old i → Holds i
+    pub stop : store.clean new → (is : List Institution) → store.leaves old is → store.leaves new is
 
-  pub learns : {R : Type 0} (value : Institution → Result R Fault) (old new : S) (r : R) → Asks stands clean leaves value old new (Ok r) → Learns (λ i. value i ≡ Ok r) old new
+  pub learns : {R : Type 0} (value : Institution → Result R Fault) (old new : S) (r : R) → Asks store value old new (Ok r) → Learns (λ i. value i ≡ Ok r) old new
   learns value old new r ask = record { premise = ask.premise; same = ask.same; holds = ask.gives; stop = ask.stop }
 
   pub learns_both : (P Q : Institution → Type 0) (old mid new : S) → Learns P old mid → Learns Q mid new → Learns (λ i. P i × Q i) old new
@@ -61,7 +62,7 @@ module _ {S : Type 0} (stands : S → Institution → Type 0) (clean : S → Typ
   }
 
   -- what is decided after that
-  pub learned_decides : (Holds : Institution → Type 0) (told then_told : Institution → Outcome) (old mid new : S) (result : Result Decision Fault) → Learns Holds old mid → ((i : Institution) → Holds i → told i ≡ then_told i) → Decides stands clean leaves then_told mid new result → Decides stands clean leaves told old new result
+  pub learned_decides : (Holds : Institution → Type 0) (told then_told : Institution → Outcome) (old mid new : S) (result : Result Decision Fault) → Learns Holds old mid → ((i : Institution) → Holds i → told i ≡ then_told i) → Decides store then_told mid new result → Decides store told old new result
   learned_decides Holds told then_told old mid new result l leads d = record {
     premise = λ k. l.premise (d.premise k);
     same = λ k i s. d.same k i (l.same (d.premise k) i s);
@@ -72,7 +73,7 @@ module _ {S : Type 0} (stands : S → Institution → Type 0) (clean : S → Typ
   }
 
   -- a refusal after that
-  pub learned_refuses : (Holds : Institution → Type 0) (told : Institution → Outcome) (old new : S) (fault : Fault) → Learns Holds old new → ((i : Institution) → Holds i → (fault ≡ F20) ⊎ (told i ≡ Err fault)) → Decides stands clean leaves told old new (Err fault)
+  pub learned_refuses : (Holds : Institution → Type 0) (told : Institution → Outcome) (old new : S) (fault : Fault) → Learns Holds old new → ((i : Institution) → Holds i → (fault ≡ F20) ⊎ (told i ≡ Err fault)) → Decides store told old new (Err fault)
   learned_refuses Holds told old new fault l leads = record {
     premise = l.premise;
     same = l.same;

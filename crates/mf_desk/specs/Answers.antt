@@ -21,6 +21,7 @@ use Rattle.mf_model.specs.Outcomes.{where_found}
 use Rattle.mf_model.specs.declared.loan.ReceiptUse.{ReceiptUse}
 use Rattle.mf_model.specs.declared.request.LoanRequest.{LoanRequest}
 use Rattle.mf_model.specs.Store.{receipt_at, rows_at, client_at, loan_at, account_at, change_of, left_by, IsHanded}
+use Rattle.mf_model.specs.declared.store.InstitutionStore.{Ghosts}
 
 -- what becomes of a plan, or of what reads as no request
 abbrev pub plan_outcome : Result Plan Fault → Caller → Institution → Outcome
@@ -94,33 +95,33 @@ in_ledger loan act i = in_rows loan.office (λ k rows. in_loan loan (act k) rows
 abbrev pub arrears_told : Caller → Institution → Result (List Line) Fault
 arrears_told c i = cond (is_some (staff_at i c)) (Ok (arrears_seen c.office i)) (Err F2)
 
-module _ {S : Type 0} (stands : S → Institution → Type 0) (clean : S → Type 0) (leaves : S → List Institution → Type 0) where
+module _ {S : Type 0} (store : Ghosts S) where
   -- A decision reads the store and changes nothing. It is the outcome, its refusal the outcome's, and it may give up. What its commit hands on is as a store asks.
   pub record Decides (told : Institution → Outcome) (old new : S) (result : Result Decision Fault) : Type 0 where
-    pub premise : clean new → clean old
-    pub same : clean new → (i : Institution) → stands old i → stands new i
-    pub decides : clean new → (i : Institution) → stands old i → IfOk result (λ d. told i ≡ decision_outcome d i)
-    pub refuses : clean new → (i : Institution) → stands old i → IfErr result (λ fault. (fault ≡ F20) ⊎ (told i ≡ Err fault))
-    pub handed : clean new → (i : Institution) → stands old i → IfOk result (λ d. IfSome d.commit (λ c. IsHanded c i))
-    pub stop : clean new → (is : List Institution) → leaves old is → leaves new is
+    pub premise : store.clean new → store.clean old
+    pub same : store.clean new → (i : Institution) → store.stands old i → store.stands new i
+    pub decides : store.clean new → (i : Institution) → store.stands old i → IfOk result (λ d. told i ≡ decision_outcome d i)
+    pub refuses : store.clean new → (i : Institution) → store.stands old i → IfErr result (λ fault. (fault ≡ F20) ⊎ (told i ≡ Err fault))
+    pub handed : store.clean new → (i : Institution) → store.stands old i → IfOk result (λ d. IfSome d.commit (λ c. IsHanded c i))
+    pub stop : store.clean new → (is : List Institution) → store.leaves old is → store.leaves new is
 
   -- What is worked out of a reading of the store, which changes nothing. It is what the institution gives, its refusal the institution's, and it may give up.
   pub record Asks {R : Type 0} (value : Institution → Result R Fault) (old new : S) (result : Result R Fault) : Type 0 where
-    pub premise : clean new → clean old
-    pub same : clean new → (i : Institution) → stands old i → stands new i
-    pub gives : clean new → (i : Institution) → stands old i → IfOk result (λ r. value i ≡ Ok r)
-    pub refuses : clean new → (i : Institution) → stands old i → IfErr result (λ fault. (fault ≡ F20) ⊎ (value i ≡ Err fault))
-    pub stop : clean new → (is : List Institution) → leaves old is → leaves new is
+    pub premise : store.clean new → store.clean old
+    pub same : store.clean new → (i : Institution) → store.stands old i → store.stands new i
+    pub gives : store.clean new → (i : Institution) → store.stands old i → IfOk result (λ r. value i ≡ Ok r)
+    pub refuses : store.clean new → (i : Institution) → store.stands old i → IfErr result (λ fault. (fault ≡ F20) ⊎ (value i ≡ Err fault))
+    pub stop : store.clean new → (is : List Institution) → store.leaves old is → store.leaves new is
 
   -- What was made of the reply that the institution tells, or its refusal, or the refusal to make something of its reply, or F20.
   pub record Tells {T : Type 0} (shows : Reply → Result T Fault → Type 0) (told : Institution → Result Reply Fault) (old new : S) (result : Result T Fault) : Type 0 where
-    pub shown : clean new → (i : Institution) → stands old i → IfOk result (λ t. (r : Reply) × (told i ≡ Ok r) × shows r (Ok t))
-    pub refused : clean new → (i : Institution) → stands old i → IfErr result (λ fault. (fault ≡ F20) ⊎ ((told i ≡ Err fault) ⊎ ((r : Reply) × (told i ≡ Ok r) × shows r (Err fault))))
+    pub shown : store.clean new → (i : Institution) → store.stands old i → IfOk result (λ t. (r : Reply) × (told i ≡ Ok r) × shows r (Ok t))
+    pub refused : store.clean new → (i : Institution) → store.stands old i → IfErr result (λ fault. (fault ≡ F20) ⊎ ((told i ≡ Err fault) ⊎ ((r : Reply) × (told i ≡ Ok r) × shows r (Err fault))))
 
   -- At Ok the call's change is made whole, if it makes one; at Err nothing is changed. A stop leaves what it left before, or the change.
   pub record Changes {T : Type 0} (call : Call) (old new : S) (result : Result T Fault) : Type 0 where
-    pub premise : clean new → clean old
-    pub made : clean new → (i : Institution) → stands old i → OnOk result (stands new (after_maybe (change_in (outcome call i)) i))
-    pub same : clean new → (i : Institution) → stands old i → OnErr result (stands new i)
-    pub stop : clean new → (i : Institution) (is : List Institution) → stands old i → leaves old is → OnOk result (leaves new (left_by (change_in (outcome call i)) false i is))
-    pub stop_refused : clean new → (i : Institution) (is : List Institution) → stands old i → leaves old is → OnErr result (leaves new (left_by (change_in (outcome call i)) true i is))
+    pub premise : store.clean new → store.clean old
+    pub made : store.clean new → (i : Institution) → store.stands old i → OnOk result (store.stands new (after_maybe (change_in (outcome call i)) i))
+    pub same : store.clean new → (i : Institution) → store.stands old i → OnErr result (store.stands new i)
+    pub stop : store.clean new → (i : Institution) (is : List Institution) → store.stands old i → store.leaves old is → OnOk result (store.leaves new (left_by (change_in (outcome call i)) false i is))
+    pub stop_refused : store.clean new → (i : Institution) (is : List Institution) → store.stands old i → store.leaves old is → OnErr result (store.leaves new (left_by (change_in (outcome call i)) true i is))

@@ -7,15 +7,16 @@ use Rattle.mf_model.specs.Institution.{Institution}
 use Rattle.mf_model.specs.Desk.{outcome, change_in}
 use Rattle.mf_model.specs.Run.{Line, answer, next}
 use Rattle.mf_model.specs.Store.{left_by}
+use Rattle.mf_model.specs.declared.store.InstitutionStore.{Ghosts}
 
-module _ {S : Type 0} (stands : S → Institution → Type 0) (clean : S → Type 0) (leaves : S → List Institution → Type 0) where
+module _ {S : Type 0} (store : Ghosts S) where
   -- A line of a run on the institution was answered: this is told of its reply, and the store stands for what follows.
   pub record AnswersLine (told : Result Reply Fault → Type 0) (l : Line) (i : Institution) (old new : S) : Type 0 where
     pub replied : told (answer l i)
-    pub follows : stands new (next l i)
-    pub stop : (is : List Institution) → leaves old is → leaves new (left_by (change_in (outcome l.call i)) l.given_up i is)
+    pub follows : store.stands new (next l i)
+    pub stop : (is : List Institution) → store.leaves old is → store.leaves new (left_by (change_in (outcome l.call i)) l.given_up i is)
 
   -- A call was answered. Whether it was given up is known afterwards.
   pub record Calls (told : Result Reply Fault → Type 0) (call : Call) (old new : S) : Type 0 where
-    pub premise : clean new → clean old
-    pub answered : clean new → (i : Institution) → stands old i → (given_up : Bool) × AnswersLine told (record { call = call; given_up = given_up }) i old new
+    pub premise : store.clean new → store.clean old
+    pub answered : store.clean new → (i : Institution) → store.stands old i → (given_up : Bool) × AnswersLine told (record { call = call; given_up = given_up }) i old new

@@ -22,7 +22,7 @@ fn decide<S: InstitutionStore>(
     request: Request,
 ) -> Result<Decision, Fault>
     requires in_range { IsInRange request }
-    ensures decides { Decides S.stands S.clean S.leaves (outcome (call_of caller.now request)) store.old store.new result }
+    ensures decides { Decides S.InstitutionStore (outcome (call_of caller.now request)) store.old store.new result }
     ensures refusal { IfErr result (λ f. f ≢ Fault.F19) }
 {
     if let Request::Unreadable(flaw) = &request {
@@ -52,9 +52,9 @@ pub fn answer<S: InstitutionStore, T: Drop, F: FnOnce(&Reply) -> Result<T, Fault
 ) -> Result<T, Fault>
     requires show { F.IsAlwaysCallable show }
     requires in_range { IsInRange request }
-    ensures told { Tells S.stands S.clean S.leaves (FnOnceReturnsAt F.FnOnce show) (reply (call_of caller request)) store.old store.new result }
-    ensures changes { Changes S.stands S.clean S.leaves (call_of caller request) store.old store.new result }
-    ensures own_view { Tells S.stands S.clean S.leaves (FnOnceReturnsAt F.FnOnce show) (λ i. reply (call_of caller request) (view caller.office i)) store.old store.new result }
+    ensures told { Tells S.InstitutionStore (FnOnceReturnsAt F.FnOnce show) (reply (call_of caller request)) store.old store.new result }
+    ensures changes { Changes S.InstitutionStore (call_of caller request) store.old store.new result }
+    ensures own_view { Tells S.InstitutionStore (FnOnceReturnsAt F.FnOnce show) (λ i. reply (call_of caller request) (view caller.office i)) store.old store.new result }
     ensures refusal { IfErr result (λ f. (f ≢ Fault.F19) ⊎ ((reply : Reply) × FnOnceReturnsAt F.FnOnce show reply (Err f))) }
 {
     laws::answered_by_view();

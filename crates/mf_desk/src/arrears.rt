@@ -12,7 +12,7 @@ pub fn arrears_lines<S: InstitutionStore>(
     store: &mut S,
     caller: Caller,
 ) -> Result<ArrearsList, Fault>
-    ensures lines { Asks S.stands S.clean S.leaves (arrears_told caller) store.old store.new result }
+    ensures lines { Asks S.InstitutionStore (arrears_told caller) store.old store.new result }
 {
     if store.role(alloc, caller)?.is_none() {
         return Err(Fault::F2);

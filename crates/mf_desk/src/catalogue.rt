@@ -19,7 +19,7 @@ pub fn on_catalogue<S: InstitutionStore>(
     store: &mut S,
     asked: CatalogueRequest,
 ) -> Result<Decision, Fault>
-    ensures decides { Decides S.stands S.clean S.leaves (in_catalogue (on_catalogue asked)) store.old store.new result }
+    ensures decides { Decides S.InstitutionStore (in_catalogue (on_catalogue asked)) store.old store.new result }
     ensures refusal { IfErr result (λ f. f ≢ Fault.F19) }
 {
     match asked {
@@ -48,7 +48,7 @@ pub fn on_catalogue<S: InstitutionStore>(
 }
 
 fn set_day<S: InstitutionStore>(alloc: Global, store: &mut S, day: Day) -> Result<Decision, Fault>
-    ensures decides { Decides S.stands S.clean S.leaves (in_catalogue (set_day day)) store.old store.new result }
+    ensures decides { Decides S.InstitutionStore (in_catalogue (set_day day)) store.old store.new result }
     ensures refusal { IfErr result (λ f. f ≢ Fault.F19) }
 {
     if store.business_day(alloc)? >= day {
@@ -65,7 +65,7 @@ fn add_charge<S: InstitutionStore>(
     calc: Calc,
     value: u64,
 ) -> Result<Decision, Fault>
-    ensures decides { Decides S.stands S.clean S.leaves (in_catalogue (add_charge (record { name = name; kind = kind; calc = calc; value = value }))) store.old store.new result }
+    ensures decides { Decides S.InstitutionStore (in_catalogue (add_charge (record { name = name; kind = kind; calc = calc; value = value }))) store.old store.new result }
     ensures refusal { IfErr result (λ f. f ≢ Fault.F19) }
 {
     let counts = store.catalogue_counts(alloc)?;

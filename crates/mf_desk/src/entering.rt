@@ -24,7 +24,7 @@ pub fn find_account<S: InstitutionStore>(
     store: &mut S,
     loan: &Account,
 ) -> Result<LoanAccount, Fault>
-    ensures asks { Asks S.stands S.clean S.leaves (account_there loan.now) store.old store.new result }
+    ensures asks { Asks S.InstitutionStore (account_there loan.now) store.old store.new result }
     ensures refusal { IfErr result (λ f. f ≢ Fault.F19) }
 {
     find_loan(alloc, store, loan)?;
@@ -65,7 +65,7 @@ pub fn enter<S: InstitutionStore>(
     asked: Asked,
 ) -> Result<Decision, Fault>
     requires in_range { IsAskedInRange asked }
-    ensures decides { Decides S.stands S.clean S.leaves (in_ledger loan (λ k l. enter (first_of asked) (entry_of asked caller) k (account_in k l))) store.old store.new result }
+    ensures decides { Decides S.InstitutionStore (in_ledger loan (λ k l. enter (first_of asked) (entry_of asked caller) k (account_in k l))) store.old store.new result }
     ensures refusal { IfErr result (λ f. f ≢ Fault.F19) }
 {
     let account = find_account(alloc, store, &loan)?;

@@ -5,7 +5,7 @@ ghost use Rattle.mf_base.specs.declared.fault.Fault.TheVariants.{F20};
 ghost use Rattle.mf_alloc.specs.declared.row.Portion.TheVariants.{Principal};
 ghost use Rattle.mf_account.specs.Change.{IsReplayed};
 ghost use Rattle.mf_model.specs.Sound.{IsPostingInRange};
-ghost use Rattle.mf_model.specs.Postings.{dated, fee, posting, repayment};
+ghost use Rattle.mf_model.specs.Postings.{entry_of_today, fee, posting, repayment};
 ghost use Rattle.mf_desk.specs.Entries.{IsAskedInRange, first_of, entry_of};
 
 use mf_account::{Entry, Kind, LoanAccount};
@@ -43,7 +43,7 @@ fn repayment(asked: Repayment, staff: Caller, account: &LoanAccount) -> Entry
 
 /// An entry that counts from the business day, as the next of an account: one of no amount, on no instalment.
 fn dated(kind: Kind, staff: Caller, today: Day, account: &LoanAccount) -> Entry
-    ensures { result ≡ dated kind 0 0 Principal staff today account.now.loan }
+    ensures { result ≡ entry_of_today kind 0 0 Principal staff today account.now.loan }
 {
     Entry {
         seq: account.next_entry(),

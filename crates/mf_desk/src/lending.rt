@@ -19,7 +19,7 @@ fn check_client<S: InstitutionStore>(
     store: &mut S,
     client: Account,
 ) -> Result<(), Fault>
-    ensures asks { Asks S.stands S.clean S.leaves (client_there client) store.old store.new result }
+    ensures asks { Asks S.InstitutionStore (client_there client) store.old store.new result }
     ensures refusal { IfErr result (λ f. f ≢ Fault.F19) }
 {
     let counts = store.counts(alloc, client.office)?;
@@ -37,7 +37,7 @@ pub fn submit_loan<S: InstitutionStore>(
     office: OfficeNo,
     asked: &Application,
 ) -> Result<Decision, Fault>
-    ensures decides { Decides S.stands S.clean S.leaves (in_rows office (λ k rows. submit office asked.now k rows)) store.old store.new result }
+    ensures decides { Decides S.InstitutionStore (in_rows office (λ k rows. submit office asked.now k rows)) store.old store.new result }
     ensures refusal { IfErr result (λ f. f ≢ Fault.F19) }
 {
     let number = asked.client;

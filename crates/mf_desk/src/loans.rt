@@ -24,7 +24,7 @@ pub fn find_loan<S: InstitutionStore>(
     store: &mut S,
     loan: &Account,
 ) -> Result<Loan, Fault>
-    ensures asks { Asks S.stands S.clean S.leaves (loan_there loan.now) store.old store.new result }
+    ensures asks { Asks S.InstitutionStore (loan_there loan.now) store.old store.new result }
     ensures refusal { IfErr result (λ f. f ≢ Fault.F19) }
 {
     store.loan(alloc, *loan)?.ok_or(Fault::F4)
@@ -37,7 +37,7 @@ fn take_step<S: InstitutionStore>(
     loan: Account,
     step: LoanStep,
 ) -> Result<Decision, Fault>
-    ensures decides { (c : AnyCaller) → Decides S.stands S.clean S.leaves (loan_outcome loan (Take step) c) store.old store.new result }
+    ensures decides { (c : AnyCaller) → Decides S.InstitutionStore (loan_outcome loan (Take step) c) store.old store.new result }
     ensures refusal { IfErr result (λ f. f ≢ Fault.F19) }
 {
     let found = find_loan(alloc, store, &loan)?;
@@ -56,7 +56,7 @@ pub fn on_loan<S: InstitutionStore>(
     asked: LoanRequest,
 ) -> Result<Decision, Fault>
     requires in_range { IsLoanInRange asked }
-    ensures decides { Decides S.stands S.clean S.leaves (loan_outcome loan asked caller) store.old store.new result }
+    ensures decides { Decides S.InstitutionStore (loan_outcome loan asked caller) store.old store.new result }
     ensures refusal { IfErr result (λ f. f ≢ Fault.F19) }
 {
     match asked {

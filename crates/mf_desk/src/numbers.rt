@@ -4,10 +4,8 @@ ghost use Rattle.std.specs.Prelude.{◌≡◌, IfErr};
 ghost use Rattle.mf_model.specs.Outcomes.{next_of};
 
 use mf_base::Fault;
+use mf_model::MOST_IN_CATALOGUE;
 use mf_office::{AccountNo, StaffNo, next_number};
-
-/// The greatest number of a charge or a product.
-const MOST_IN_CATALOGUE: u32 = 999;
 
 /// The number of the next charge or product; F18 where the catalogue has 999.
 pub fn next_in_catalogue(used: u32) -> Result<u32, Fault>

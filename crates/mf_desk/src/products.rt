@@ -19,7 +19,7 @@ fn find_charge<S: InstitutionStore>(
     store: &mut S,
     named: Option<u32>,
 ) -> Result<Option<ChargeDef>, Fault>
-    ensures found { Asks S.stands S.clean S.leaves (charge_named named) store.old store.new result }
+    ensures found { Asks S.InstitutionStore (charge_named named) store.old store.new result }
     ensures numbered { IfOk result (λ charge. number_of charge ≡ named) }
     ensures refusal { IfErr result (λ f. f ≢ Fault.F19) }
 {
@@ -66,7 +66,7 @@ fn make_product<S: InstitutionStore>(
     store: &mut S,
     members: ProductMembers,
 ) -> Result<Decision, Fault>
-    ensures decides { Decides S.stands S.clean S.leaves (in_catalogue (make_product members)) store.old store.new result }
+    ensures decides { Decides S.InstitutionStore (in_catalogue (make_product members)) store.old store.new result }
     ensures refusal { IfErr result (λ f. f ≢ Fault.F19) }
 {
     let counts = store.catalogue_counts(alloc)?;
@@ -80,7 +80,7 @@ pub fn add_product<S: InstitutionStore>(
     store: &mut S,
     members: ProductMembers,
 ) -> Result<Decision, Fault>
-    ensures decides { Decides S.stands S.clean S.leaves (in_catalogue (add_product members)) store.old store.new result }
+    ensures decides { Decides S.InstitutionStore (in_catalogue (add_product members)) store.old store.new result }
     ensures refusal { IfErr result (λ f. f ≢ Fault.F19) }
 {
     let disbursement = find_charge(alloc, store, members.disbursement_charge)?;
@@ -96,7 +96,7 @@ pub fn retire_product<S: InstitutionStore>(
     store: &mut S,
     product: u32,
 ) -> Result<Decision, Fault>
-    ensures decides { Decides S.stands S.clean S.leaves (in_catalogue (retire_product product)) store.old store.new result }
+    ensures decides { Decides S.InstitutionStore (in_catalogue (retire_product product)) store.old store.new result }
     ensures refusal { IfErr result (λ f. f ≢ Fault.F19) }
 {
     let found = store.product(alloc, product)?.ok_or(Fault::F4)?;

@@ -3,7 +3,7 @@
 ghost use Rattle.std.specs.Prelude.{◌≡◌, ◌≢◌, IfErr};
 ghost use Rattle.mf_model.specs.declared.request.LoanRequest.TheVariants.{Repay};
 ghost use Rattle.mf_model.specs.Sound.{IsRepayment};
-ghost use Rattle.mf_model.specs.Receipts.{repeated};
+ghost use Rattle.mf_model.specs.Receipts.{repeated_seq};
 ghost use Rattle.mf_model.specs.Loans.{repeat_of};
 ghost use Rattle.mf_desk.specs.Answers.{Asks, Decides, use_named, loan_outcome, in_ledger};
 
@@ -24,7 +24,7 @@ fn find_use<S: InstitutionStore>(
     office: OfficeNo,
     receipt: &Option<Receipt>,
 ) -> Result<Option<ReceiptUse>, Fault>
-    ensures asks { Asks S.stands S.clean S.leaves (use_named office receipt.now) store.old store.new result }
+    ensures asks { Asks S.InstitutionStore (use_named office receipt.now) store.old store.new result }
     ensures refusal { IfErr result (λ f. f ≢ Fault.F19) }
 {
     match receipt {
@@ -35,7 +35,7 @@ fn find_use<S: InstitutionStore>(
 
 /// The number of the entry that carries a receipt, where a repayment of this loan names the same amount and day; else F15.
 fn repeated(asked: &Repayment, number: AccountNo, used: ReceiptUse) -> Result<u32, Fault>
-    ensures { result ≡ repeated number asked.now.amount asked.now.day used }
+    ensures { result ≡ repeated_seq number asked.now.amount asked.now.day used }
 {
     if used.loan == number && used.amount == asked.amount && used.day == asked.day {
         Ok(used.seq)
@@ -52,7 +52,7 @@ fn repeat<S: InstitutionStore>(
     asked: &Repayment,
     used: ReceiptUse,
 ) -> Result<Decision, Fault>
-    ensures decides { Decides S.stands S.clean S.leaves (in_ledger loan (λ k l. repeat_of (repeated loan.number asked.now.amount asked.now.day used))) store.old store.new result }
+    ensures decides { Decides S.InstitutionStore (in_ledger loan (λ k l. repeat_of (repeated_seq loan.number asked.now.amount asked.now.day used))) store.old store.new result }
     ensures refusal { IfErr result (λ f. f ≢ Fault.F19) }
 {
     find_loan(alloc, store, &loan)?;
@@ -69,7 +69,7 @@ pub fn repay<S: InstitutionStore>(
     asked: Repayment,
 ) -> Result<Decision, Fault>
     requires in_range { IsRepayment asked }
-    ensures decides { Decides S.stands S.clean S.leaves (loan_outcome loan (Repay asked) caller) store.old store.new result }
+    ensures decides { Decides S.InstitutionStore (loan_outcome loan (Repay asked) caller) store.old store.new result }
     ensures refusal { IfErr result (λ f. f ≢ Fault.F19) }
 {
     let used = find_use(alloc, store, loan.office, &asked.receipt)?;

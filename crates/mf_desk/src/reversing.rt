@@ -36,7 +36,7 @@ pub fn reverse<S: InstitutionStore>(
     loan: Account,
     seq: u32,
 ) -> Result<Decision, Fault>
-    ensures decides { (c : AnyCaller) → Decides S.stands S.clean S.leaves (loan_outcome loan (Reverse seq) c) store.old store.new result }
+    ensures decides { (c : AnyCaller) → Decides S.InstitutionStore (loan_outcome loan (Reverse seq) c) store.old store.new result }
     ensures refusal { IfErr result (λ f. f ≢ Fault.F19) }
 {
     let account = find_account(alloc, store, &loan)?;

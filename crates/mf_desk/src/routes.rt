@@ -22,7 +22,7 @@ pub fn act<S: InstitutionStore>(
     request: Request,
 ) -> Result<Decision, Fault>
     requires in_range { IsInRange request }
-    ensures decides { Decides S.stands S.clean S.leaves (request_outcome caller request) store.old store.new result }
+    ensures decides { Decides S.InstitutionStore (request_outcome caller request) store.old store.new result }
     ensures refusal { IfErr result (λ f. f ≢ Fault.F19) }
 {
     match request {

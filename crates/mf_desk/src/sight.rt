@@ -13,7 +13,7 @@ pub fn check_sight<S: InstitutionStore>(
     to: OfficeNo,
     office: OfficeNo,
 ) -> Result<(), Fault>
-    ensures asks { Asks S.stands S.clean S.leaves (sight to office) store.old store.new result }
+    ensures asks { Asks S.InstitutionStore (sight to office) store.old store.new result }
     ensures refusal { IfErr result (λ f. f ≢ Fault.F19) }
 {
     if store.is_visible(alloc, to, office)? {
@@ -31,7 +31,7 @@ pub fn find_office<S: InstitutionStore>(
     to: OfficeNo,
     office: u32,
 ) -> Result<OfficeNo, Fault>
-    ensures asks { Asks S.stands S.clean S.leaves (seen_number to office) store.old store.new result }
+    ensures asks { Asks S.InstitutionStore (seen_number to office) store.old store.new result }
     ensures refusal { IfErr result (λ f. f ≢ Fault.F19) }
 {
     let Some(office) = OfficeNo::new(office) else {

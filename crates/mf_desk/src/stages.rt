@@ -2,7 +2,7 @@
 
 ghost use Rattle.std.specs.Prelude.{◌≡◌, ◌≢◌, ℕ, IfErr};
 ghost use Rattle.mf_model.specs.Desk.{meets};
-ghost use Rattle.mf_model.specs.Stages.{stage_number, disbursed_on, disbursed, next_stage, step_need};
+ghost use Rattle.mf_model.specs.Stages.{stage_number, disbursed_on, stage_of_disbursal, next_stage, step_need};
 
 use crate::roles::{is_manager, is_officer};
 use mf_base::{Day, Fault};
@@ -11,7 +11,7 @@ use mf_office::Role;
 
 /// The stage of a loan that is disbursed on a day; F10 unless from the day of its approval to the business day.
 fn disburse(approved: Day, day: Day, today: Day) -> Result<Stage, Fault>
-    ensures value { result ≡ disbursed approved day today }
+    ensures value { result ≡ stage_of_disbursal approved day today }
     ensures refusal { IfErr result (λ f. f ≡ Fault.F10) }
 {
     if approved <= day && day <= today {

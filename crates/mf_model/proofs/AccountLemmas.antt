@@ -22,9 +22,9 @@ use Rattle.mf_account.specs.Loan.{Loan as Running, IsEntry, AreEntries, IsSound 
 use Rattle.mf_account.specs.Standing.{entry_at}
 use Rattle.mf_model.specs.declared.loan.Stage.{Stage}
 use Rattle.mf_model.specs.declared.loan.Stage.TheVariants.{Submitted, Approved, Disbursed, Withdrawn, Rejected}
-use Rattle.mf_model.specs.Institution.{Catalogue, Charge, Offer, Ledger, numbered, charge_def, product_of, charge_in, product_in}
+use Rattle.mf_model.specs.Institution.{Catalogue, Charge, Offer, Ledger, item_numbered, charge_def, product_of, charge_in, product_in}
 use Rattle.mf_model.specs.Stages.{disbursed_on}
-use Rattle.mf_model.specs.Accounts.{terms_in, running, running_from, account_in}
+use Rattle.mf_model.specs.Accounts.{terms_in, running_loan, running_from, account_in}
 use Rattle.mf_model.specs.Sound.{IsSoundCharge, IsSoundOffer, IsSoundCatalogue, IsStageBy, IsEntryBy, AreEntered, AreEntriesBy, IsSoundLoan, lends}
 use Rattle.mf_office.specs.declared.caller.Caller.{Caller}
 use Rattle.mf_model.proofs.Growing.{all_at, and_left}
@@ -35,7 +35,7 @@ pub record IsRunning (k : Catalogue) (l : Ledger) (a : Running) : Type 0 where
   pub terms : Terms
   pub day_is : disbursed_on l.loan.stage ≡ Some day
   pub terms_is : terms_in k l.loan.product ≡ Some terms
-  pub account_is : running l.loan l.entries day terms ≡ a
+  pub account_is : running_loan l.loan l.entries day terms ≡ a
 
 pub account_is : (k : Catalogue) (l : Ledger) (a : Running) → account_in k l ≡ Some a → IsRunning k l a
 account_is k l a h = step (disbursed_on l.loan.stage) (terms_in k l.loan.product) refl refl h
@@ -55,9 +55,9 @@ day_of_stage today Rejected d h i = absurd (cc)
 
 -- the charges of a sound catalogue
 charge_within : (k : Catalogue) (n : ℕ) → IsSoundCatalogue k → IfSome (charge_in k n) IsChargeWithinLimits
-charge_within k n s = found (numbered k.charges n) refl
+charge_within k n s = found (item_numbered k.charges n) refl
   where
-    found : (o : Option Charge) → numbered k.charges n ≡ o → IfSome (option_map (charge_def n) o) IsChargeWithinLimits
+    found : (o : Option Charge) → item_numbered k.charges n ≡ o → IfSome (option_map (charge_def n) o) IsChargeWithinLimits
     found None e = tt
     found (Some c) e = let is : IsSoundCharge c = all_at IsSoundCharge k.charges n c s.charges e in record { some = is.value.some; most = is.value.most }
 
@@ -77,9 +77,9 @@ terms_within k p s m = record {
 
 -- what a product lends lies within the limits of a schedule
 pub limits_of : (k : Catalogue) (n principal periods : ℕ) (t : Terms) → IsSoundCatalogue k → lends (product_in k n) principal periods ≡ true → terms_in k n ≡ Some t → IsLoanWithinLimits t principal periods
-limits_of k n principal periods t s h e = found (numbered k.products n) refl h e
+limits_of k n principal periods t s h e = found (item_numbered k.products n) refl h e
   where
-    found : (o : Option Offer) → numbered k.products n ≡ o → lends (option_map (product_of n) o) principal periods ≡ true → option_map (λ (p : Product). terms_of (charge_in k) p.members) (option_map (product_of n) o) ≡ Some t → IsLoanWithinLimits t principal periods
+    found : (o : Option Offer) → item_numbered k.products n ≡ o → lends (option_map (product_of n) o) principal periods ≡ true → option_map (λ (p : Product). terms_of (charge_in k) p.members) (option_map (product_of n) o) ≡ Some t → IsLoanWithinLimits t principal periods
     found None is h e = absurd (cc)
     found (Some p) is h e =
         let offer : IsSoundOffer (charge_in k) p = all_at (IsSoundOffer (charge_in k)) k.products n p s.products is in
@@ -123,7 +123,7 @@ account_there k l day e h = found (product_in k l.loan.product) refl h
     found None is h = absurd (cc)
     found (Some p) is h =
         let t = terms_of (charge_in k) p.members in (
-          running l.loan l.entries day t,
+          running_loan l.loan l.entries day t,
           ap (λ d. running_from l.loan l.entries d (terms_in k l.loan.product)) e
               ∙ ap (λ (o : Option Product). running_from l.loan l.entries (Some day) (option_map (λ (q : Product). terms_of (charge_in k) q.members) o)) is,
         )

@@ -16,7 +16,7 @@ use Rattle.mf_model.specs.declared.loan.Stage.{Stage}
 use Rattle.mf_model.specs.declared.loan.Stage.TheVariants.{Submitted, Approved, Disbursed, Withdrawn, Rejected}
 use Rattle.mf_model.specs.Stages.{disbursed_on}
 use Rattle.mf_model.specs.Accounts.{terms_in}
-use Rattle.mf_model.specs.Institution.{Catalogue, Charge, Offer, Office, Rows, Ledger, numbered, with_numbered, charge_def, product_of, charge_in, product_in}
+use Rattle.mf_model.specs.Institution.{Catalogue, Charge, Offer, Office, Rows, Ledger, item_numbered, with_numbered, charge_def, product_of, charge_in, product_in}
 use Rattle.mf_model.specs.Sound.{IsSoundLoan, IsStageBy, IsEntryBy, AreEntriesBy, IsSoundRows, IsSoundOffice, IsSoundOffer, lends}
 
 pub all_push : {X : Type 0} (P : X → Type 0) (xs : List X) (y : X) → AllByRecursion P xs → P y → AllByRecursion P (xs ++ y ∷ [])
@@ -52,17 +52,17 @@ slice_push [] y i x h = absurd (cc)
 slice_push (z ∷ xs) y zero x h = h
 slice_push (z ∷ xs) y (suc i) x h = slice_push xs y i x h
 
-pub numbered_push : {X : Type 0} (xs : List X) (y : X) (n : ℕ) (x : X) → numbered xs n ≡ Some x → numbered (xs ++ y ∷ []) n ≡ Some x
+pub numbered_push : {X : Type 0} (xs : List X) (y : X) (n : ℕ) (x : X) → item_numbered xs n ≡ Some x → item_numbered (xs ++ y ∷ []) n ≡ Some x
 numbered_push xs y n x h = either (n == 0) h
   where
     either : (b : Bool) → cond b None (slice_get xs (n - 1)) ≡ Some x → cond b None (slice_get (xs ++ y ∷ []) (n - 1)) ≡ Some x
     either true h = absurd (cc)
     either false h = slice_push xs y (n - 1) x h
 
-pub there_push : {X : Type 0} (xs : List X) (y : X) (n : ℕ) → is_some (numbered xs n) ≡ true → is_some (numbered (xs ++ y ∷ []) n) ≡ true
-there_push {X = X} xs y n h = found (numbered xs n) refl h
+pub there_push : {X : Type 0} (xs : List X) (y : X) (n : ℕ) → is_some (item_numbered xs n) ≡ true → is_some (item_numbered (xs ++ y ∷ []) n) ≡ true
+there_push {X = X} xs y n h = found (item_numbered xs n) refl h
   where
-    found : (o : Option X) → numbered xs n ≡ o → is_some o ≡ true → is_some (numbered (xs ++ y ∷ []) n) ≡ true
+    found : (o : Option X) → item_numbered xs n ≡ o → is_some o ≡ true → is_some (item_numbered (xs ++ y ∷ []) n) ≡ true
     found None e h = absurd (cc)
     found (Some x) e h = ap is_some (numbered_push xs y n x e)
 
@@ -77,7 +77,7 @@ slice_with g n change (x ∷ xs) same i = either (n == 1) i (slice_with g (n - 1
     either false zero rest = refl
     either false (suc i) rest = rest i
 
-pub numbered_with : {X Y : Type 0} (g : X → Y) (n : ℕ) (change : X → X) (xs : List X) → ((x : X) → g (change x) ≡ g x) → (m : ℕ) → option_map g (numbered (with_numbered n change xs) m) ≡ option_map g (numbered xs m)
+pub numbered_with : {X Y : Type 0} (g : X → Y) (n : ℕ) (change : X → X) (xs : List X) → ((x : X) → g (change x) ≡ g x) → (m : ℕ) → option_map g (item_numbered (with_numbered n change xs) m) ≡ option_map g (item_numbered xs m)
 numbered_with g n change xs same m = either (m == 0)
   where
     either : (b : Bool) → option_map g (cond b None (slice_get (with_numbered n change xs) (m - 1))) ≡ option_map g (cond b None (slice_get xs (m - 1)))
@@ -115,10 +115,10 @@ consistent_grows a b p grows h =
     (kind_grows a b Overdue p.overdue_charge grows (and_right (is_of_kind a Instalment p.instalment_charge) _ later))))
 
 -- a charge keeps its number when another is added
-pub charge_stays : (charges : List Charge) (c : Charge) (n : ℕ) (d : ChargeDef) → option_map (charge_def n) (numbered charges n) ≡ Some d → option_map (charge_def n) (numbered (charges ++ c ∷ []) n) ≡ Some d
-charge_stays charges c n d h = found (numbered charges n) refl h
+pub charge_stays : (charges : List Charge) (c : Charge) (n : ℕ) (d : ChargeDef) → option_map (charge_def n) (item_numbered charges n) ≡ Some d → option_map (charge_def n) (item_numbered (charges ++ c ∷ []) n) ≡ Some d
+charge_stays charges c n d h = found (item_numbered charges n) refl h
   where
-    found : (o : Option Charge) → numbered charges n ≡ o → option_map (charge_def n) o ≡ Some d → option_map (charge_def n) (numbered (charges ++ c ∷ []) n) ≡ Some d
+    found : (o : Option Charge) → item_numbered charges n ≡ o → option_map (charge_def n) o ≡ Some d → option_map (charge_def n) (item_numbered (charges ++ c ∷ []) n) ≡ Some d
     found None e h = absurd (cc)
     found (Some x) e h = ap (option_map (charge_def n)) (numbered_push charges c n x e) ∙ h
 
@@ -186,7 +186,7 @@ lends_by_members n m principal periods (Some p) None e = absurd (cc)
 lends_by_members n m principal periods (Some p) (Some q) e = ap (members_lend principal periods) e
 
 -- the thing of a number, and a change of it alone
-numbered_suc : {X : Type 0} (xs : List X) (n : ℕ) → numbered xs (suc n) ≡ slice_get xs n
+numbered_suc : {X : Type 0} (xs : List X) (n : ℕ) → item_numbered xs (suc n) ≡ slice_get xs n
 numbered_suc xs n =
     let some : (suc n == 0) ≡ false = grind (arith, nat_tests) in
     let less : suc n - 1 ≡ n = omega arith in
@@ -197,31 +197,31 @@ all_slice P [] i x a h = absurd (cc)
 all_slice P (y ∷ ys) zero x a h = let same : y ≡ x = cc in subst P same a.0
 all_slice P (y ∷ ys) (suc i) x a h = all_slice P ys i x a.1 h
 
-pub all_at : {X : Type 0} (P : X → Type 0) (xs : List X) (n : ℕ) (x : X) → AllByRecursion P xs → numbered xs n ≡ Some x → P x
+pub all_at : {X : Type 0} (P : X → Type 0) (xs : List X) (n : ℕ) (x : X) → AllByRecursion P xs → item_numbered xs n ≡ Some x → P x
 all_at P xs zero x a h = absurd (cc)
 all_at P xs (suc n) x a h = all_slice P xs n x a (sym (numbered_suc xs n) ∙ h)
 
-numbered_rest : {X : Type 0} (y : X) (ys : List X) (n : ℕ) (x : X) → numbered (y ∷ ys) n ≡ Some x → (n == 1) ≡ false → numbered ys (n - 1) ≡ Some x
+numbered_rest : {X : Type 0} (y : X) (ys : List X) (n : ℕ) (x : X) → item_numbered (y ∷ ys) n ≡ Some x → (n == 1) ≡ false → item_numbered ys (n - 1) ≡ Some x
 numbered_rest y ys zero x h e = absurd (cc)
 numbered_rest y ys (suc zero) x h e = absurd (cc)
 numbered_rest y ys (suc (suc m)) x h e =
     let less : suc (suc m) - 1 ≡ suc m = omega arith in
-    ap (numbered ys) less ∙ numbered_suc ys m ∙ sym (numbered_suc (y ∷ ys) (suc m)) ∙ h
+    ap (item_numbered ys) less ∙ numbered_suc ys m ∙ sym (numbered_suc (y ∷ ys) (suc m)) ∙ h
 
-pub all_with_at : {X : Type 0} (P : X → Type 0) (n : ℕ) (change : X → X) (xs : List X) (x : X) → numbered xs n ≡ Some x → P (change x) → AllByRecursion P xs → AllByRecursion P (with_numbered n change xs)
+pub all_with_at : {X : Type 0} (P : X → Type 0) (n : ℕ) (change : X → X) (xs : List X) (x : X) → item_numbered xs n ≡ Some x → P (change x) → AllByRecursion P xs → AllByRecursion P (with_numbered n change xs)
 all_with_at P n change [] x h p a = tt
 all_with_at P n change (y ∷ ys) x h p a = either (n == 1) refl (λ e. all_with_at P (n - 1) change ys x (numbered_rest y ys n x h e) p a.1)
   where
     either : (b : Bool) → (n == 1) ≡ b → ((n == 1) ≡ false → AllByRecursion P (with_numbered (n - 1) change ys)) → AllByRecursion P (cond b (change y ∷ ys) (y ∷ with_numbered (n - 1) change ys))
     either true e rest =
         let one : n ≡ 1 = grind (arith, nat_tests) in
-        let here : numbered (y ∷ ys) 1 ≡ Some x = ap (numbered (y ∷ ys)) (sym one) ∙ h in
+        let here : item_numbered (y ∷ ys) 1 ≡ Some x = ap (item_numbered (y ∷ ys)) (sym one) ∙ h in
         let same : x ≡ y = cc in
         (subst (λ z. P (change z)) same p, a.1)
     either false e rest = (a.0, rest e)
 
 -- two changes that make the same of the thing of a number
-pub with_same_at : {X : Type 0} (n : ℕ) (f g : X → X) (xs : List X) (x : X) → numbered xs n ≡ Some x → f x ≡ g x → with_numbered n f xs ≡ with_numbered n g xs
+pub with_same_at : {X : Type 0} (n : ℕ) (f g : X → X) (xs : List X) (x : X) → item_numbered xs n ≡ Some x → f x ≡ g x → with_numbered n f xs ≡ with_numbered n g xs
 with_same_at n f g [] x h same = refl
 with_same_at n f g (y ∷ ys) x h same = either (n == 1) refl (λ e. with_same_at n' f g ys x (numbered_rest y ys n x h e) same)
   where
@@ -231,7 +231,7 @@ with_same_at n f g (y ∷ ys) x h same = either (n == 1) refl (λ e. with_same_a
     either : (b : Bool) → (n == 1) ≡ b → ((n == 1) ≡ false → with_numbered (n - 1) f ys ≡ with_numbered (n - 1) g ys) → cond b (f y ∷ ys) (y ∷ with_numbered (n - 1) f ys) ≡ cond b (g y ∷ ys) (y ∷ with_numbered (n - 1) g ys)
     either true e rest =
         let one : n ≡ 1 = grind (arith, nat_tests) in
-        let here : numbered (y ∷ ys) 1 ≡ Some x = ap (numbered (y ∷ ys)) (sym one) ∙ h in
+        let here : item_numbered (y ∷ ys) 1 ≡ Some x = ap (item_numbered (y ∷ ys)) (sym one) ∙ h in
         let is : x ≡ y = cc in
         ap (λ z. z ∷ ys) (subst (λ z. f z ≡ g z) is same)
     either false e rest = ap (λ zs. y ∷ zs) (rest e)
@@ -262,25 +262,25 @@ members_give charges n (Some p) = refl
 
 -- one more product
 pub terms_push : (k : Catalogue) (p : Offer) (n : ℕ) (t : Terms) → terms_in k n ≡ Some t → terms_in (record k { products = k.products ++ p ∷ [] }) n ≡ Some t
-terms_push k p n t h = found (numbered k.products n) refl h
+terms_push k p n t h = found (item_numbered k.products n) refl h
   where
-    found : (o : Option Offer) → numbered k.products n ≡ o → option_map (λ (q : Product). terms_of (charge_in k) q.members) (option_map (product_of n) o) ≡ Some t → option_map (λ (q : Product). terms_of (charge_in k) q.members) (option_map (product_of n) (numbered (k.products ++ p ∷ []) n)) ≡ Some t
+    found : (o : Option Offer) → item_numbered k.products n ≡ o → option_map (λ (q : Product). terms_of (charge_in k) q.members) (option_map (product_of n) o) ≡ Some t → option_map (λ (q : Product). terms_of (charge_in k) q.members) (option_map (product_of n) (item_numbered (k.products ++ p ∷ []) n)) ≡ Some t
     found None e h = absurd (cc)
     found (Some q) e h = ap (λ (o : Option Offer). option_map (λ (r : Product). terms_of (charge_in k) r.members) (option_map (product_of n) o)) (numbered_push k.products p n q e) ∙ h
 
 -- other products with the same members
-pub terms_with : (k : Catalogue) (products : List Offer) (n : ℕ) (t : Terms) → option_map (λ (p : Offer). p.members) (numbered products n) ≡ option_map (λ (p : Offer). p.members) (numbered k.products n) → terms_in k n ≡ Some t → terms_in (record k { products = products }) n ≡ Some t
+pub terms_with : (k : Catalogue) (products : List Offer) (n : ℕ) (t : Terms) → option_map (λ (p : Offer). p.members) (item_numbered products n) ≡ option_map (λ (p : Offer). p.members) (item_numbered k.products n) → terms_in k n ≡ Some t → terms_in (record k { products = products }) n ≡ Some t
 terms_with k products n t same h =
-    members_give (charge_in k) n (numbered products n) ∙ ap (option_map (terms_of (charge_in k))) same ∙ sym (members_give (charge_in k) n (numbered k.products n)) ∙ h
+    members_give (charge_in k) n (item_numbered products n) ∙ ap (option_map (terms_of (charge_in k))) same ∙ sym (members_give (charge_in k) n (item_numbered k.products n)) ∙ h
 
 -- one more charge, where the products are sound
 pub terms_charge : (k : Catalogue) (c : Charge) (n : ℕ) (t : Terms) → AllByRecursion (IsSoundOffer (charge_in k)) k.products → terms_in k n ≡ Some t → terms_in (record k { charges = k.charges ++ c ∷ [] }) n ≡ Some t
-terms_charge k c n t s h = found (numbered k.products n) refl h
+terms_charge k c n t s h = found (item_numbered k.products n) refl h
   where
     l : Catalogue
     l = record k { charges = k.charges ++ c ∷ [] }
 
-    found : (o : Option Offer) → numbered k.products n ≡ o → option_map (λ (q : Product). terms_of (charge_in k) q.members) (option_map (product_of n) o) ≡ Some t → option_map (λ (q : Product). terms_of (charge_in l) q.members) (option_map (product_of n) (numbered k.products n)) ≡ Some t
+    found : (o : Option Offer) → item_numbered k.products n ≡ o → option_map (λ (q : Product). terms_of (charge_in k) q.members) (option_map (product_of n) o) ≡ Some t → option_map (λ (q : Product). terms_of (charge_in l) q.members) (option_map (product_of n) (item_numbered k.products n)) ≡ Some t
     found None e h = absurd (cc)
     found (Some q) e h =
         ap (λ (o : Option Offer). option_map (λ (r : Product). terms_of (charge_in l) r.members) (option_map (product_of n) o)) e

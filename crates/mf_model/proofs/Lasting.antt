@@ -3,7 +3,7 @@ use Rattle.std.proofs.Common.{◌≡◌, ℕ, Bool, true, false, cond, List, [],
 use Rattle.std.specs.Prelude.{is_some, option_map}
 use Rattle.mf_office.specs.declared.account.Account.{Account}
 use Rattle.mf_model.specs.declared.request.Call.{Call}
-use Rattle.mf_model.specs.Institution.{Institution, Office, Rows, Ledger, office_at, with_rows, with_office, new_office, Change, Catalogue_becomes, Rows_become, Office_added, after, after_maybe, numbered}
+use Rattle.mf_model.specs.Institution.{Institution, Office, Rows, Ledger, office_at, with_rows, with_office, new_office, Change, Catalogue_becomes, Rows_become, Office_added, after, after_maybe, item_numbered}
 use Rattle.mf_model.specs.Tree.{is_there, Fits}
 use Rattle.mf_catalog.specs.declared.terms.Terms.{Terms}
 use Rattle.mf_model.specs.Accounts.{terms_in}
@@ -12,7 +12,7 @@ use Rattle.mf_model.specs.Stages.{disbursed_on, stage_number}
 use Rattle.mf_model.specs.Store.{rows_of, rows_at, ledger_at, account_of, use_at}
 use Rattle.std.proofs.lemmas.Bool.{cases_eq}
 use Rattle.mf_model.specs.Accounts.{account_in, running_from, of_account, status_in}
-use Rattle.mf_model.specs.Receipts.{Use, uses_from, used}
+use Rattle.mf_model.specs.Receipts.{Use, uses_from, first_use}
 use Rattle.mf_model.specs.Desk.{plan, change_in, outcome}
 use Rattle.mf_model.specs.Run.{Line, next, last}
 use Rattle.mf_model.specs.Sound.{IsSoundLoan, is_staff, IsSound, IsInRange, AreInRange}
@@ -53,7 +53,7 @@ account_last ls i s r l a h =
 
 -- a receipt that an office knows it knows afterwards
 abbrev pub known_in : List ℕ → Option Office → Option Use
-known_in receipt f = used receipt (uses_from 1 (rows_of f).loans)
+known_in receipt f = first_use receipt (uses_from 1 (rows_of f).loans)
 
 known_found : (x y : ℕ) (rows : Rows) (fs : List Office) (receipt : List ℕ) (u : Use) → KeepsUsesOf x rows fs → known_in receipt (office_at y fs) ≡ Some u → known_in receipt (office_at y (with_rows x rows fs)) ≡ Some u
 known_found x y rows fs receipt u keeps h =
@@ -101,7 +101,7 @@ known_last (l ∷ ls) i s r x receipt u h = known_last ls (next l i) (next_sound
 pub loan_of : (i : Institution) (loan : Account) (l : Ledger) → IsSound i → ledger_at loan i ≡ Some l → IsSoundLoan i.catalogue (is_staff i.offices) (rows_at loan.office i).clients l
 loan_of i loan l s h = at (office_at loan.office i.offices) refl h
   where
-    at : (o : Option Office) → office_at loan.office i.offices ≡ o → numbered (rows_of o).loans loan.number ≡ Some l → IsSoundLoan i.catalogue (is_staff i.offices) (rows_of o).clients l
+    at : (o : Option Office) → office_at loan.office i.offices ≡ o → item_numbered (rows_of o).loans loan.number ≡ Some l → IsSoundLoan i.catalogue (is_staff i.offices) (rows_of o).clients l
     at None e h = absurd (all_at (λ (x : Ledger). ⊥) [] loan.number l tt h)
     at (Some f) e h =
         let is = (found_sound i.catalogue (is_staff i.offices) loan.office i.offices f s.each e).rows in

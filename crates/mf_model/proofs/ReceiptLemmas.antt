@@ -9,8 +9,8 @@ use Rattle.mf_account.specs.declared.entry.Entry.{Entry}
 use Rattle.mf_account.specs.Standing.{with_mark}
 use Rattle.mf_model.specs.declared.loan.Loan.{Loan}
 use Rattle.mf_model.specs.Institution.{Ledger, with_numbered}
-use Rattle.mf_model.specs.Receipts.{Use, use_by, use_of, uses_in, uses_from, used, used_before, AreApart}
-use Rattle.mf_model.specs.Loans.{entered}
+use Rattle.mf_model.specs.Receipts.{Use, use_by, use_of, uses_in, uses_from, first_use, used_before, AreApart}
+use Rattle.mf_model.specs.Loans.{with_new_entry}
 
 -- a change that leaves the receipts of each loan leaves those of all
 pub uses_with : (n m : ℕ) (change : Ledger → Ledger) (ls : List Ledger) → ((l : Ledger) (k : ℕ) → uses_in k (change l).entries ≡ uses_in k l.entries) → uses_from m (with_numbered n change ls) ≡ uses_from m ls
@@ -54,7 +54,7 @@ pub record IsEntered (e : Entry) (old new : List Use) : Type 0 where
   pub put : IsPut old new more
   pub more_is : (more ≡ []) ⊎ (more ≡ use_of e.receipt number e)
 
-pub uses_entered : (n m : ℕ) (e : Entry) (ls : List Ledger) → IsEntered e (uses_from m ls) (uses_from m (with_numbered n (entered e) ls))
+pub uses_entered : (n m : ℕ) (e : Entry) (ls : List Ledger) → IsEntered e (uses_from m ls) (uses_from m (with_numbered n (with_new_entry e) ls))
 uses_entered n m e [] = record {
   number = m;
   more = [];
@@ -63,7 +63,7 @@ uses_entered n m e [] = record {
 }
 uses_entered n m e (l ∷ ls) = either (n == 1) (uses_entered (n - 1) (m + 1) e ls)
   where
-    either : (b : Bool) → IsEntered e (uses_from (m + 1) ls) (uses_from (m + 1) (with_numbered (n - 1) (entered e) ls)) → IsEntered e (uses_from m (l ∷ ls)) (uses_from m (cond b (entered e l ∷ ls) (l ∷ with_numbered (n - 1) (entered e) ls)))
+    either : (b : Bool) → IsEntered e (uses_from (m + 1) ls) (uses_from (m + 1) (with_numbered (n - 1) (with_new_entry e) ls)) → IsEntered e (uses_from m (l ∷ ls)) (uses_from m (cond b (with_new_entry e l ∷ ls) (l ∷ with_numbered (n - 1) (with_new_entry e) ls)))
     either true rest = record {
       number = m;
       more = use_of e.receipt m e;
@@ -88,14 +88,14 @@ uses_entered n m e (l ∷ ls) = either (n == 1) (uses_entered (n - 1) (m + 1) e 
     }
 
 -- a receipt that was not used stands apart
-not_this : (r : List ℕ) (v : Use) (rest : List Use) → used r (v ∷ rest) ≡ None → (v.receipt ≢ r) × (used r rest ≡ None)
+not_this : (r : List ℕ) (v : Use) (rest : List Use) → first_use r (v ∷ rest) ≡ None → (v.receipt ≢ r) × (first_use r rest ≡ None)
 not_this r v rest h = either (bytes_eq v.receipt r) refl h
   where
-    either : (b : Bool) → bytes_eq v.receipt r ≡ b → cond b (Some v) (used r rest) ≡ None → (v.receipt ≢ r) × (used r rest ≡ None)
+    either : (b : Bool) → bytes_eq v.receipt r ≡ b → cond b (Some v) (first_use r rest) ≡ None → (v.receipt ≢ r) × (first_use r rest ≡ None)
     either true e h = absurd (cc)
     either false e h = (λ same. let yes = (bytes_eq-Decides v.receipt r).1 same in cc, h)
 
-apart_all : (u : Use) (us : List Use) → used u.receipt us ≡ None → AllByRecursion (λ (v : Use). u.receipt ≢ v.receipt) us
+apart_all : (u : Use) (us : List Use) → first_use u.receipt us ≡ None → AllByRecursion (λ (v : Use). u.receipt ≢ v.receipt) us
 apart_all u [] h = tt
 apart_all u (v ∷ us) h = let n = not_this u.receipt v us h in (λ same. n.0 (sym same), apart_all u us n.1)
 
@@ -103,7 +103,7 @@ all_put : (P : Use → Type 0) (xs ys : List Use) (u : Use) → AllByRecursion P
 all_put P [] ys u a p = (p, a)
 all_put P (x ∷ xs) ys u a p = (a.0, all_put P xs ys u a.1 p)
 
-apart_put : (xs ys : List Use) (u : Use) → used u.receipt (xs ++ ys) ≡ None → AreApart (xs ++ ys) → AreApart (xs ++ u ∷ ys)
+apart_put : (xs ys : List Use) (u : Use) → first_use u.receipt (xs ++ ys) ≡ None → AreApart (xs ++ ys) → AreApart (xs ++ u ∷ ys)
 apart_put [] ys u h a = (apart_all u ys h, a)
 apart_put (x ∷ xs) ys u h a =
     let n = not_this u.receipt x (xs ++ ys) h in
@@ -113,7 +113,7 @@ apart_more : (receipt : Option (List ℕ)) (loan : ℕ) (e : Entry) (xs ys : Lis
 apart_more None loan e xs ys h a = a
 apart_more (Some r) loan e xs ys h a = apart_put xs ys (record { receipt = r; by = use_by loan e }) h a
 
-pub apart_entered : (n : ℕ) (e : Entry) (ls : List Ledger) → used_before e.receipt (uses_from 1 ls) ≡ None → AreApart (uses_from 1 ls) → AreApart (uses_from 1 (with_numbered n (entered e) ls))
+pub apart_entered : (n : ℕ) (e : Entry) (ls : List Ledger) → used_before e.receipt (uses_from 1 ls) ≡ None → AreApart (uses_from 1 ls) → AreApart (uses_from 1 (with_numbered n (with_new_entry e) ls))
 apart_entered n e ls h a =
     let s = uses_entered n 1 e ls in
     let xs = s.put.before in
@@ -129,39 +129,39 @@ apart_entered n e ls h a =
 
 -- a receipt that is known stays known
 pub record KnownStay (old new : List Use) : Type 0 where
-  pub stays : (r : List ℕ) (u : Use) → used r old ≡ Some u → used r new ≡ Some u
+  pub stays : (r : List ℕ) (u : Use) → first_use r old ≡ Some u → first_use r new ≡ Some u
 
-put_keeps : (xs ys : List Use) (v : Use) (r : List ℕ) (u : Use) → used v.receipt (xs ++ ys) ≡ None → used r (xs ++ ys) ≡ Some u → used r (xs ++ v ∷ ys) ≡ Some u
+put_keeps : (xs ys : List Use) (v : Use) (r : List ℕ) (u : Use) → first_use v.receipt (xs ++ ys) ≡ None → first_use r (xs ++ ys) ≡ Some u → first_use r (xs ++ v ∷ ys) ≡ Some u
 put_keeps [] ys v r u free h = either (bytes_eq v.receipt r) refl
   where
-    either : (b : Bool) → bytes_eq v.receipt r ≡ b → cond b (Some v) (used r ys) ≡ Some u
-    either true e = absurd (let same : v.receipt ≡ r = (bytes_eq-Decides v.receipt r).0 e in let none : used r ys ≡ None = ap (λ t. used t ys) (sym same) ∙ free in cc)
+    either : (b : Bool) → bytes_eq v.receipt r ≡ b → cond b (Some v) (first_use r ys) ≡ Some u
+    either true e = absurd (let same : v.receipt ≡ r = (bytes_eq-Decides v.receipt r).0 e in let none : first_use r ys ≡ None = ap (λ t. first_use t ys) (sym same) ∙ free in cc)
     either false e = h
 put_keeps (x ∷ xs) ys v r u free h = either (bytes_eq x.receipt r) h (put_keeps xs ys v r u (not_this v.receipt x (xs ++ ys) free).1)
   where
-    either : (b : Bool) → cond b (Some x) (used r (xs ++ ys)) ≡ Some u → (used r (xs ++ ys) ≡ Some u → used r (xs ++ v ∷ ys) ≡ Some u) → cond b (Some x) (used r (xs ++ v ∷ ys)) ≡ Some u
+    either : (b : Bool) → cond b (Some x) (first_use r (xs ++ ys)) ≡ Some u → (first_use r (xs ++ ys) ≡ Some u → first_use r (xs ++ v ∷ ys) ≡ Some u) → cond b (Some x) (first_use r (xs ++ v ∷ ys)) ≡ Some u
     either true h rest = h
     either false h rest = rest h
 
-more_keeps : (receipt : Option (List ℕ)) (loan : ℕ) (e : Entry) (xs ys : List Use) (r : List ℕ) (u : Use) → used_before receipt (xs ++ ys) ≡ None → used r (xs ++ ys) ≡ Some u → used r (xs ++ (use_of receipt loan e ++ ys)) ≡ Some u
+more_keeps : (receipt : Option (List ℕ)) (loan : ℕ) (e : Entry) (xs ys : List Use) (r : List ℕ) (u : Use) → used_before receipt (xs ++ ys) ≡ None → first_use r (xs ++ ys) ≡ Some u → first_use r (xs ++ (use_of receipt loan e ++ ys)) ≡ Some u
 more_keeps None loan e xs ys r u free h = h
 more_keeps (Some t) loan e xs ys r u free h = put_keeps xs ys (record { receipt = t; by = use_by loan e }) r u free h
 
-pub known_entered : (n : ℕ) (e : Entry) (ls : List Ledger) → used_before e.receipt (uses_from 1 ls) ≡ None → KnownStay (uses_from 1 ls) (uses_from 1 (with_numbered n (entered e) ls))
+pub known_entered : (n : ℕ) (e : Entry) (ls : List Ledger) → used_before e.receipt (uses_from 1 ls) ≡ None → KnownStay (uses_from 1 ls) (uses_from 1 (with_numbered n (with_new_entry e) ls))
 known_entered n e ls free = record {
   stays = λ r u h.
       let s = uses_entered n 1 e ls in
       let xs = s.put.before in
       let ys = s.put.after in
       let none : used_before e.receipt (xs ++ ys) ≡ None = ap (used_before e.receipt) (sym s.put.old_is) ∙ free in
-      let was : used r (xs ++ ys) ≡ Some u = ap (used r) (sym s.put.old_is) ∙ h in
-      ap (used r) s.put.new_is ∙ (
+      let was : first_use r (xs ++ ys) ≡ Some u = ap (first_use r) (sym s.put.old_is) ∙ h in
+      ap (first_use r) s.put.new_is ∙ (
       elim s.more_is [
-        | inl is ↦ ap (λ us. used r (xs ++ (us ++ ys))) is ∙ was
-        | inr is ↦ ap (λ us. used r (xs ++ (us ++ ys))) is ∙ more_keeps e.receipt s.number e xs ys r u none was
+        | inl is ↦ ap (λ us. first_use r (xs ++ (us ++ ys))) is ∙ was
+        | inr is ↦ ap (λ us. first_use r (xs ++ (us ++ ys))) is ∙ more_keeps e.receipt s.number e xs ys r u none was
       ]
       );
 }
 
 pub known_same : (old new : List Use) → new ≡ old → KnownStay old new
-known_same old new e = record { stays = λ r u h. ap (used r) e ∙ h }
+known_same old new e = record { stays = λ r u h. ap (first_use r) e ∙ h }

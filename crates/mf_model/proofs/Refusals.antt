@@ -30,13 +30,13 @@ use Rattle.mf_model.specs.declared.request.LoanRequest.{LoanRequest}
 use Rattle.mf_model.specs.declared.request.LoanRequest.TheVariants.{Show, ShowInstalments, ShowEntries, Take, Repay, ChargeFee, Post, Reverse}
 use Rattle.mf_model.specs.declared.request.Request.{Request}
 use Rattle.mf_model.specs.declared.request.Request.TheVariants as request
-use Rattle.mf_model.specs.Institution.{Institution, Catalogue, Office, Rows, Staff, Ledger, numbered, charge_in, product_in}
+use Rattle.mf_model.specs.Institution.{Institution, Catalogue, Office, Rows, Staff, Ledger, item_numbered, charge_in, product_in}
 use Rattle.mf_model.specs.Tree.{parent_of, seen_office, is_there}
 use Rattle.mf_model.specs.Outcomes.{next_of, with_value, with_found, where_found, unless_refused}
 use Rattle.mf_model.specs.Catalogue.{on_catalogue, make_product}
 use Rattle.mf_model.specs.Stages.{next_stage}
 use Rattle.mf_model.specs.Accounts.{account_in}
-use Rattle.mf_model.specs.Receipts.{Use, uses_from, used_before, repeated}
+use Rattle.mf_model.specs.Receipts.{Use, uses_from, used_before, repeated_seq}
 use Rattle.mf_model.specs.Loans.{LedgerChange, repayment, fee, posting, unless_fault, fault_or, none_first, fee_first, enter, reverse, repeat_of, unless_known, on_loan, of_loan, in_loan, lend}
 use Rattle.mf_model.specs.Desk.{Plan, on_office, plan, need, meets, Outcome, of_catalogue, of_office, in_office, carried_out, where_permitted, sent_by, staff_at, outcome, reply_in, reply}
 use Rattle.mf_model.proofs.StepLemmas.{IsRuled, IsResultFrom, step_keeps}
@@ -93,8 +93,8 @@ lend_ruled office asked product rows =
 office_ruled : (asked : OfficeRequest) (x : ℕ) (k : Catalogue) (rows : Rows) → Ruled (on_office asked x k rows)
 office_ruled (AddStaff name role) x k rows = by_value (next_of (length rows.staff) 9999) _ (next_number (length rows.staff) 9999)
 office_ruled (AddClient name) x k rows = by_value (next_of (length rows.clients) 999999) _ (next_number (length rows.clients) 999999)
-office_ruled (ShowClient client) x k rows = by_found (numbered rows.clients client) _
-office_ruled (SubmitLoan asked) x k rows = where_it_is (numbered rows.clients asked.client) _ (λ name. lend_ruled x asked (product_in k asked.product) rows)
+office_ruled (ShowClient client) x k rows = by_found (item_numbered rows.clients client) _
+office_ruled (SubmitLoan asked) x k rows = where_it_is (item_numbered rows.clients asked.client) _ (λ name. lend_ruled x asked (product_in k asked.product) rows)
 office_ruled (ListLoans after) x k rows = tt
 
 step_ruled : (today : ℕ) (from : Stage) (r : Result Stage Fault) → IsResultFrom today from r → Ruled r
@@ -151,7 +151,7 @@ repeat_ruled (Ok seq) h = tt
 known_ruled : (n : ℕ) (asked : Repayment) (o : Option Use) (next : Result (LoanReply × Option LedgerChange) Fault) → Ruled next → Ruled (unless_known n asked o next)
 known_ruled n asked None next h = h
 known_ruled n asked (Some u) next h =
-    repeat_ruled (repeated n asked.amount asked.day u.by) (one_of ((u.by.loan == n) && ((u.by.amount == asked.amount) && (u.by.day == asked.day))) _ _ tt tt)
+    repeat_ruled (repeated_seq n asked.amount asked.day u.by) (one_of ((u.by.loan == n) && ((u.by.amount == asked.amount) && (u.by.day == asked.day))) _ _ tt tt)
 
 loan_ruled : (asked : LoanRequest) (c : Caller) (k : Catalogue) (rows : Rows) (n : ℕ) (l : Ledger) → Ruled (on_loan asked c k rows n l)
 loan_ruled Show c k rows n l = tt
@@ -169,7 +169,7 @@ told_ruled account rows (Ok (told, None)) h = tt
 told_ruled account rows (Ok (told, Some change)) h = tt
 
 in_loan_ruled : (account : Account) (asked : LoanRequest) (c : Caller) (k : Catalogue) (rows : Rows) → Ruled (in_loan account (on_loan asked c k rows account.number) rows)
-in_loan_ruled account asked c k rows = where_it_is (numbered rows.loans account.number) _ (λ l. told_ruled account rows (on_loan asked c k rows account.number l) (loan_ruled asked c k rows account.number l))
+in_loan_ruled account asked c k rows = where_it_is (item_numbered rows.loans account.number) _ (λ l. told_ruled account rows (on_loan asked c k rows account.number l) (loan_ruled asked c k rows account.number l))
 
 catalogue_outcome : (r : Result (Reply × Option Catalogue) Fault) → Ruled r → Ruled (of_catalogue r)
 catalogue_outcome (Err fault) h = h

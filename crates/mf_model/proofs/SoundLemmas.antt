@@ -35,7 +35,7 @@ use Rattle.mf_model.specs.declared.reply.LoanReply.{LoanReply}
 use Rattle.mf_model.specs.declared.reply.LoanReply.TheVariants.{Shown, Instalments, Entries, Status, Entered, Repeated, Reversed}
 use Rattle.mf_model.specs.declared.reply.Reply.{Reply}
 use Rattle.mf_model.specs.declared.reply.Reply.TheVariants.{StaffMade, ClientMade, ClientShown, DayShown, DaySet, ChargeMade, ChargeShown, ProductMade, ProductShown, ProductRetired, LoanMade, Loan as LoanTold, LoansShown}
-use Rattle.mf_model.specs.Institution.{Institution, Catalogue, Charge, Offer, Office, Rows, Staff, Ledger, no_rows, product_of, charge_in, product_in, office_at, with_rows, with_office, new_office, Change, Catalogue_becomes, Rows_become, Office_added, after, after_maybe, newly_made, numbered, with_numbered}
+use Rattle.mf_model.specs.Institution.{Institution, Catalogue, Charge, Offer, Office, Rows, Staff, Ledger, no_rows, product_of, charge_in, product_in, office_at, with_rows, with_office, new_office, Change, Catalogue_becomes, Rows_become, Office_added, after, after_maybe, newly_made, item_numbered, with_numbered}
 use Rattle.mf_model.specs.Tree.{parent_of, is_there, Fits}
 use Rattle.mf_catalog.specs.declared.charge.ChargeDef.{ChargeDef}
 use Rattle.mf_catalog.specs.declared.terms.Terms.{Terms}
@@ -55,7 +55,7 @@ use Rattle.mf_model.specs.Catalogue.{show_day, day_set, set_day, charge_added, a
 use Rattle.mf_model.specs.Offices.{staff_added, add_staff, client_added, add_client, show_client}
 use Rattle.mf_model.specs.Stages.{stage_number, disbursed_on, next_stage}
 use Rattle.mf_model.specs.Accounts.{terms_in, account_in, statement, instalments_in, entries_in}
-use Rattle.mf_model.specs.Loans.{LedgerChange, staged, entered, reversed, repayment, fee, posting, unless_fault, fault_or, none_first, fee_first, enter, reverse, repeat_of, unless_known, on_loan, loan_changed, of_loan, in_loan, loan_added, new_loan, submit, lines_above, list_loans}
+use Rattle.mf_model.specs.Loans.{LedgerChange, with_stage, with_new_entry, with_reversal, repayment, fee, posting, unless_fault, fault_or, none_first, fee_first, enter, reverse, repeat_of, unless_known, on_loan, loan_changed, of_loan, in_loan, loan_added, new_loan, submit, lines_above, list_loans}
 use Rattle.mf_model.specs.Desk.{Plan, plan, on_office, in_office, of_office, of_catalogue, change_in, sender_effect, outcome, staff_at, where_permitted, sent_by}
 use Rattle.mf_model.specs.Run.{Line, next, last}
 use Rattle.mf_model.specs.Sound.{IsName, AreMembers, IsSoundCharge, IsSoundOffer, IsSoundCatalogue, IsSoundLoan, IsEntryBy, AreEntered, AreEntriesBy, is_staff, lends, IsSoundRows, IsSoundOffice, IsSound, IsCatalogueInRange, IsOfficeInRange, IsRepayment, IsLoanInRange, IsInRange, AreInRange}
@@ -64,7 +64,7 @@ use Rattle.mf_model.proofs.AdmittedLemmas.{admitted, dated_in_order}
 use Rattle.mf_model.proofs.Views.{IsTree_after}
 use Rattle.mf_model.proofs.Steps.{known_line}
 use Rattle.mf_model.proofs.Confined.{IsTree_new}
-use Rattle.mf_model.specs.Receipts.{Use, uses_from, used_before, repeated, AreApart}
+use Rattle.mf_model.specs.Receipts.{Use, uses_from, used_before, repeated_seq, AreApart}
 use Rattle.mf_model.proofs.ReceiptLemmas.{KnownStay, known_entered, known_same, uses_with, uses_marked, uses_push, apart_entered}
 use Rattle.mf_model.proofs.StaffLemmas.{KeepsStaff, KeepsStaffOf, staff_with_rows, staff_with_office}
 use Rattle.mf_model.proofs.AccountLemmas.{IsRunning, account_is, account_sound, day_of_stage, entered_at, no_entries, days_by}
@@ -269,7 +269,7 @@ client_sound office name n k staffed f reply new s h =
 
 shown_keeps : (office n : ℕ) → (k : Catalogue) (s : Caller → Bool) → KeepsRows k s (λ k f. show_client office n f.rows)
 shown_keeps office n k staffed f reply new s h =
-    let shown = with_found_ok {B = Reply × Option Rows} (numbered f.rows.clients n) (λ name. (ClientShown (record { office = office; number = n }) name, None)) (reply, Some new) h in
+    let shown = with_found_ok {B = Reply × Option Rows} (item_numbered f.rows.clients n) (λ name. (ClientShown (record { office = office; number = n }) name, None)) (reply, Some new) h in
     absurd (not_changed _ reply new shown.1)
 
 list_keeps : (x n : ℕ) → (k : Catalogue) (s : Caller → Bool) → KeepsRows k s (λ k f. list_loans x n k f.rows)
@@ -280,7 +280,7 @@ list_keeps x n k staffed f reply new s h =
 submit_sound : (office : ℕ) (asked : Application) → (k : Catalogue) (s : Caller → Bool) → KeepsRows k s (λ k f. submit office asked k f.rows)
 submit_sound office asked k staffed f reply new s h =
     let rows = f.rows in
-    let there = where_found_ok (numbered rows.clients asked.client) _ (reply, Some new) h in
+    let there = where_found_ok (item_numbered rows.clients asked.client) _ (reply, Some new) h in
     let of_product = where_found_ok (product_in k asked.product) _ (reply, Some new) there.2 in
     let p = of_product.0 in
     let lent = unless_refused_ok (lending p asked.principal asked.periods) _ (reply, Some new) of_product.2 in
@@ -332,15 +332,15 @@ record IsLoanOf (k : Catalogue) (staffed : Caller → Bool) (rows : Rows) (l : L
   sound : IsSoundLoan k staffed rows.clients l
   apart : AreApart (uses_from 1 rows.loans)
 
-step_sound : (step : LoanStep) (k : Catalogue) (s : Caller → Bool) (rows : Rows) (n : ℕ) (l : Ledger) (told : LoanReply) (change : LedgerChange) → IsLoanOf k s rows l → with_value {B = LoanReply × Option LedgerChange} (next_stage step k.day l.loan.stage) (λ stage. (Status (stage_number stage), Some (staged stage))) ≡ Ok (told, Some change) → KeepsLoan k s rows n l change
+step_sound : (step : LoanStep) (k : Catalogue) (s : Caller → Bool) (rows : Rows) (n : ℕ) (l : Ledger) (told : LoanReply) (change : LedgerChange) → IsLoanOf k s rows l → with_value {B = LoanReply × Option LedgerChange} (next_stage step k.day l.loan.stage) (λ stage. (Status (stage_number stage), Some (with_stage stage))) ≡ Ok (told, Some change) → KeepsLoan k s rows n l change
 step_sound step k s rows n l told change was h = either (next_stage step k.day l.loan.stage) (step_keeps step k.day l.loan.stage) h
   where
-    either : (r : Result Stage Fault) → IsResultFrom k.day l.loan.stage r → with_value {B = LoanReply × Option LedgerChange} r (λ stage. (Status (stage_number stage), Some (staged stage))) ≡ Ok (told, Some change) → KeepsLoan k s rows n l change
+    either : (r : Result Stage Fault) → IsResultFrom k.day l.loan.stage r → with_value {B = LoanReply × Option LedgerChange} r (λ stage. (Status (stage_number stage), Some (with_stage stage))) ≡ Ok (told, Some change) → KeepsLoan k s rows n l change
     either (Err e) b h = absurd (cc)
     either (Ok stage) b h =
-        let same : staged stage ≡ change = changed (Status (stage_number stage)) told (staged stage) change (ok_of (success (Status (stage_number stage)) (Some (staged stage))) (success told (Some change)) h) in
+        let same : with_stage stage ≡ change = changed (Status (stage_number stage)) told (with_stage stage) change (ok_of (success (Status (stage_number stage)) (Some (with_stage stage))) (success told (Some change)) h) in
         let none : l.entries ≡ [] = none_before k.day s l.loan.periods (disbursed_on l.loan.stage) l.entries b.1 was.sound.entries in
-        let uses = uses_with n 1 (staged stage) rows.loans (λ x m. refl) in
+        let uses = uses_with n 1 (with_stage stage) rows.loans (λ x m. refl) in
         subst (KeepsLoan k s rows n l) same (record {
           sound = record {
             client = was.sound.client;
@@ -349,11 +349,11 @@ step_sound step k s rows n l told change was h = either (next_stage step k.day l
             entries = none_by k.day s l.loan.periods (disbursed_on stage) l.entries none;
           };
           apart = subst AreApart (sym uses) was.apart;
-          known = known_same (uses_from 1 rows.loans) (uses_from 1 (with_numbered n (staged stage) rows.loans)) uses;
+          known = known_same (uses_from 1 rows.loans) (uses_from 1 (with_numbered n (with_stage stage) rows.loans)) uses;
         })
 
 -- an account takes an entry: its loan has it, and is sound
-entered_sound : (k : Catalogue) (s : Caller → Bool) (clients : List (List ℕ)) (l : Ledger) (a : Running) (e : Entry) → IsSoundCatalogue k → IsSoundLoan k s clients l → account_in k l ≡ Some a → IsOffered a e k.day → refusal_of a e k.day ≡ None → IsEntryBy k.day s e → IsSoundLoan k s clients (entered e l)
+entered_sound : (k : Catalogue) (s : Caller → Bool) (clients : List (List ℕ)) (l : Ledger) (a : Running) (e : Entry) → IsSoundCatalogue k → IsSoundLoan k s clients l → account_in k l ≡ Some a → IsOffered a e k.day → refusal_of a e k.day ≡ None → IsEntryBy k.day s e → IsSoundLoan k s clients (with_new_entry e l)
 entered_sound k s clients l a e c was h offered none by =
     let is : IsRunning k l a = account_is k l a h in
     let sound : IsSoundAccount a = account_sound k s clients l a c was h in
@@ -437,7 +437,7 @@ enter_sound first make k s rows n l told change catalogue was made h = at (accou
     at None is h = absurd (cc)
     at (Some a) is h =
         let e : Entry = make k.day a in
-        let taken = unless_fault_ok (fault_or (first a) (refusal_of a (make k.day a) k.day)) (Entered (make k.day a).seq) told (entered (make k.day a)) change h in
+        let taken = unless_fault_ok (fault_or (first a) (refusal_of a (make k.day a) k.day)) (Entered (make k.day a).seq) told (with_new_entry (make k.day a)) change h in
         let none : refusal_of a (make k.day a) k.day ≡ None = none_refused (first a) (refusal_of a (make k.day a) k.day) taken.0 in
         let m : IsMade k s rows a (make k.day a) = made a is none in
         subst (KeepsLoan k s rows n l) taken.1 (record {
@@ -449,7 +449,7 @@ enter_sound first make k s rows n l told change catalogue was made h = at (accou
 -- a repayment that is entered carries no receipt that was used
 unless_known_ok : (n : ℕ) (asked : Repayment) (o : Option Use) (next : Result (LoanReply × Option LedgerChange) Fault) (told : LoanReply) (change : LedgerChange) → unless_known n asked o next ≡ Ok (told, Some change) → (o ≡ None) × (next ≡ Ok (told, Some change))
 unless_known_ok n asked None next told change h = (refl, h)
-unless_known_ok n asked (Some u) next told change h = absurd (never (repeated n asked.amount asked.day u.by) h)
+unless_known_ok n asked (Some u) next told change h = absurd (never (repeated_seq n asked.amount asked.day u.by) h)
   where
     never : (r : Result ℕ Fault) → repeat_of r ≡ Ok (told, Some change) → ⊥
     never (Err e) h = cc
@@ -505,7 +505,7 @@ reversible es seq h = either (is_there_among (length es) seq) refl h
     either true is h = there_among (length es) seq is
 
 -- a reversal leaves its loan sound
-reversed_sound : (seq : ℕ) (k : Catalogue) (s : Caller → Bool) (clients : List (List ℕ)) (l : Ledger) (a : Running) → IsSoundCatalogue k → IsSoundLoan k s clients l → account_in k l ≡ Some a → reversal_refused a.entries seq ≡ None → IsSoundLoan k s clients (reversed seq l)
+reversed_sound : (seq : ℕ) (k : Catalogue) (s : Caller → Bool) (clients : List (List ℕ)) (l : Ledger) (a : Running) → IsSoundCatalogue k → IsSoundLoan k s clients l → account_in k l ≡ Some a → reversal_refused a.entries seq ≡ None → IsSoundLoan k s clients (with_reversal seq l)
 reversed_sound seq k s clients l a c was h none =
     let is : IsRunning k l a = account_is k l a h in
     let sound : IsSoundAccount a = account_sound k s clients l a c was h in
@@ -525,17 +525,17 @@ reversed_sound seq k s clients l a c was h none =
 reverse_sound : (seq : ℕ) (k : Catalogue) (s : Caller → Bool) (rows : Rows) (n : ℕ) (l : Ledger) (told : LoanReply) (change : LedgerChange) → IsSoundCatalogue k → IsLoanOf k s rows l → reverse seq (account_in k l) ≡ Ok (told, Some change) → KeepsLoan k s rows n l change
 reverse_sound seq k s rows n l told change catalogue was h = at (account_in k l) refl h
   where
-    uses : uses_from 1 (with_numbered n (reversed seq) rows.loans) ≡ uses_from 1 rows.loans
-    uses = uses_with n 1 (reversed seq) rows.loans (λ x m. uses_marked m (seq - 1) x.entries)
+    uses : uses_from 1 (with_numbered n (with_reversal seq) rows.loans) ≡ uses_from 1 rows.loans
+    uses = uses_with n 1 (with_reversal seq) rows.loans (λ x m. uses_marked m (seq - 1) x.entries)
 
     at : (o : Option Running) → account_in k l ≡ o → reverse seq o ≡ Ok (told, Some change) → KeepsLoan k s rows n l change
     at None is h = absurd (cc)
     at (Some a) is h =
-        let taken = unless_fault_ok (reversal_refused a.entries seq) (Reversed seq) told (reversed seq) change h in
+        let taken = unless_fault_ok (reversal_refused a.entries seq) (Reversed seq) told (with_reversal seq) change h in
         subst (KeepsLoan k s rows n l) taken.1 (record {
           sound = reversed_sound seq k s rows.clients l a catalogue was.sound is taken.0;
           apart = subst AreApart (sym uses) was.apart;
-          known = known_same (uses_from 1 rows.loans) (uses_from 1 (with_numbered n (reversed seq) rows.loans)) uses;
+          known = known_same (uses_from 1 rows.loans) (uses_from 1 (with_numbered n (with_reversal seq) rows.loans)) uses;
         })
 
 not_told : (tell told : LoanReply) (change : LedgerChange) → ok (success tell None) ≡ Ok (success told (Some change)) → ⊥
@@ -556,7 +556,7 @@ change_sound (Post asked) c k s rows n l told change catalogue there r was h =
     enter_sound none_first (posting asked c) k s rows n l told change catalogue was (λ a is none. posting_made asked c k s rows l a there was is) h
 change_sound (Reverse seq) c k s rows n l told change catalogue there r was h = reverse_sound seq k s rows n l told change catalogue was h
 
-changed_rows : (n : ℕ) (change : LedgerChange) (k : Catalogue) (staffed : Caller → Bool) (rows : Rows) (l : Ledger) → numbered rows.loans n ≡ Some l → KeepsLoan k staffed rows n l change → IsSoundRows k staffed rows → AreRowsAfter k staffed rows (loan_changed n change rows)
+changed_rows : (n : ℕ) (change : LedgerChange) (k : Catalogue) (staffed : Caller → Bool) (rows : Rows) (l : Ledger) → item_numbered rows.loans n ≡ Some l → KeepsLoan k staffed rows n l change → IsSoundRows k staffed rows → AreRowsAfter k staffed rows (loan_changed n change rows)
 changed_rows n change k staffed rows l there now s = (
   record {
     staff_limit = s.staff_limit;
@@ -573,11 +573,11 @@ changed_rows n change k staffed rows l there now s = (
 
 loan_keeps : (account : Account) (asked : LoanRequest) (c : Caller) → IsLoanInRange asked → (k : Catalogue) (s : Caller → Bool) → IsSoundCatalogue k → s c ≡ true → KeepsRows k s (λ k f. in_loan account (on_loan asked c k f.rows account.number) f.rows)
 loan_keeps account asked c r k staffed catalogue there_is f reply new s h =
-    let there = where_found_ok (numbered f.rows.loans account.number) _ (reply, Some new) h in
+    let there = where_found_ok (item_numbered f.rows.loans account.number) _ (reply, Some new) h in
     let was : IsLoanOf k staffed f.rows there.0 = record { sound = all_at (IsSoundLoan k staffed f.rows.clients) f.rows.loans account.number there.0 s.loans there.1; apart = s.receipts } in
     become there.0 there.1 (on_loan asked c k f.rows account.number there.0) (λ told change. change_sound asked c k staffed f.rows account.number there.0 told change catalogue there_is r was) there.2
   where
-    become : (l : Ledger) → numbered f.rows.loans account.number ≡ Some l → (o : Result (LoanReply × Option LedgerChange) Fault) → ((told : LoanReply) (change : LedgerChange) → o ≡ Ok (told, Some change) → KeepsLoan k staffed f.rows account.number l change) → of_loan account f.rows o ≡ Ok (reply, Some new) → AreRowsAfter k staffed f.rows new
+    become : (l : Ledger) → item_numbered f.rows.loans account.number ≡ Some l → (o : Result (LoanReply × Option LedgerChange) Fault) → ((told : LoanReply) (change : LedgerChange) → o ≡ Ok (told, Some change) → KeepsLoan k staffed f.rows account.number l change) → of_loan account f.rows o ≡ Ok (reply, Some new) → AreRowsAfter k staffed f.rows new
     become l is (Err e) by h = absurd (cc)
     become l is (Ok (told, None)) by h = absurd (not_changed (LoanTold account told) reply new (ok_of (success (LoanTold account told) None) (success reply (Some new)) h))
     become l is (Ok (told, Some change)) by h =
@@ -587,7 +587,7 @@ loan_keeps account asked c r k staffed catalogue there_is f reply new s h =
 
 -- the catalogue's acts
 same_lends : (k l : Catalogue) → k.products ≡ l.products → k.day ≤ l.day → ((n : ℕ) (t : Terms) → terms_in k n ≡ Some t → terms_in l n ≡ Some t) → Grows k l
-same_lends k l same d terms = record { day = d; terms = terms; products = λ n principal periods h. ap (λ (ps : List Offer). lends (option_map (product_of n) (numbered ps n)) principal periods) (sym same) ∙ h }
+same_lends k l same d terms = record { day = d; terms = terms; products = λ n principal periods h. ap (λ (ps : List Offer). lends (option_map (product_of n) (item_numbered ps n)) principal periods) (sym same) ∙ h }
 
 day_shown_keeps : KeepsCatalogue show_day
 day_shown_keeps k reply l s h = absurd (not_changed (DayShown k.day) reply l (ok_of (success (DayShown k.day) None) (success reply (Some l)) h))
@@ -629,10 +629,10 @@ product_shown_keeps n k reply l s h =
     let shown = with_found_ok {B = Reply × Option Catalogue} (product_in k n) (λ product. (ProductShown product, None)) (reply, Some l) h in
     absurd (not_changed _ reply l shown.1)
 
-product_stays : (products : List Offer) (p : Offer) (n principal periods : ℕ) → lends (option_map (product_of n) (numbered products n)) principal periods ≡ true → lends (option_map (product_of n) (numbered (products ++ p ∷ []) n)) principal periods ≡ true
-product_stays products p n principal periods h = found (numbered products n) refl h
+product_stays : (products : List Offer) (p : Offer) (n principal periods : ℕ) → lends (option_map (product_of n) (item_numbered products n)) principal periods ≡ true → lends (option_map (product_of n) (item_numbered (products ++ p ∷ []) n)) principal periods ≡ true
+product_stays products p n principal periods h = found (item_numbered products n) refl h
   where
-    found : (o : Option Offer) → numbered products n ≡ o → lends (option_map (product_of n) o) principal periods ≡ true → lends (option_map (product_of n) (numbered (products ++ p ∷ []) n)) principal periods ≡ true
+    found : (o : Option Offer) → item_numbered products n ≡ o → lends (option_map (product_of n) o) principal periods ≡ true → lends (option_map (product_of n) (item_numbered (products ++ p ∷ []) n)) principal periods ≡ true
     found None e h = absurd (cc)
     found (Some q) e h = ap (λ (o : Option Offer). lends (option_map (product_of n) o) principal periods) (numbered_push products p n q e) ∙ h
 
@@ -675,7 +675,7 @@ retire_sound n k reply l s h =
       },
       record {
         day = omega arith;
-        products = λ m principal periods lent. lends_by_members m m principal periods (numbered (product_retired n k).products m) (numbered k.products m) (numbered_with (λ (p : Offer). p.members) n (λ (p : Offer). record p { retired = true }) k.products (λ p. refl) m) ∙ lent;
+        products = λ m principal periods lent. lends_by_members m m principal periods (item_numbered (product_retired n k).products m) (item_numbered k.products m) (numbered_with (λ (p : Offer). p.members) n (λ (p : Offer). record p { retired = true }) k.products (λ p. refl) m) ∙ lent;
         terms = λ m t. terms_with k (product_retired n k).products m t (numbered_with (λ (p : Offer). p.members) n (λ (p : Offer). record p { retired = true }) k.products (λ p. refl) m);
       },
     )

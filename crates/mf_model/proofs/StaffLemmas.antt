@@ -2,7 +2,7 @@
 use Rattle.std.proofs.Common.{◌≡◌, ℕ, Bool, true, false, cond, List, [], ◌∷◌, Option, Some, None, inl, inr, refl, sym, ap, ◌∙◌}
 use Rattle.std.specs.Prelude.{◌==◌, is_some, option_map}
 use Rattle.std.proofs.lemmas.Bool.{cases_eq}
-use Rattle.mf_model.specs.Institution.{Office, Rows, numbered, office_at, with_rows, with_office}
+use Rattle.mf_model.specs.Institution.{Office, Rows, item_numbered, office_at, with_rows, with_office}
 use Rattle.mf_model.specs.Tree.{is_there}
 use Rattle.mf_model.specs.Sound.{is_staff}
 use Rattle.mf_model.proofs.Confined.{others_stay, old_stay}
@@ -10,13 +10,13 @@ use Rattle.mf_model.proofs.Growing.{StaffGrows}
 
 -- whoever was a member of staff by one list of rows is one by another
 abbrev pub KeepsStaff : Rows → Rows → Type 0
-KeepsStaff old new = (n : ℕ) → is_some (numbered old.staff n) ≡ true → is_some (numbered new.staff n) ≡ true
+KeepsStaff old new = (n : ℕ) → is_some (item_numbered old.staff n) ≡ true → is_some (item_numbered new.staff n) ≡ true
 
 abbrev pub KeepsStaffOf : ℕ → Rows → List Office → Type 0
 KeepsStaffOf x rows fs = (f : Office) → office_at x fs ≡ Some f → KeepsStaff f.rows rows
 
 abbrev in_office : ℕ → Option Office → Bool
-in_office n o = is_some (elim o [ None ↦ None | Some f ↦ numbered f.rows.staff n ])
+in_office n o = is_some (elim o [ None ↦ None | Some f ↦ item_numbered f.rows.staff n ])
 
 pub rows_found : (x : ℕ) (rows : Rows) (fs : List Office) → office_at x (with_rows x rows fs) ≡ option_map (λ (f : Office). record f { rows = rows }) (office_at x fs)
 rows_found x rows [] = refl

@@ -9,7 +9,7 @@ use Rattle.mf_model.specs.declared.loan.Stage.TheVariants.{Submitted, Approved, 
 use Rattle.mf_model.specs.declared.request.LoanStep.{LoanStep}
 use Rattle.mf_model.specs.declared.request.LoanStep.TheVariants.{Plain, Disburse}
 use Rattle.mf_model.specs.declared.request.PlainStep.TheVariants.{Approve, Reject, Withdraw, UndoApproval}
-use Rattle.mf_model.specs.Stages.{disbursed_on, disbursed, next_stage}
+use Rattle.mf_model.specs.Stages.{disbursed_on, stage_of_disbursal, next_stage}
 use Rattle.mf_model.specs.Sound.{IsStageBy}
 use Rattle.mf_model.proofs.Growing.{and_left, and_right}
 
@@ -23,7 +23,7 @@ abbrev pub IsResultFrom : ℕ → Stage → Result Stage Fault → Type 0
 IsResultFrom today from (Err fault) = IsRuled fault
 IsResultFrom today from (Ok to) = IsStageBy today to × (disbursed_on from ≡ None)
 
-disbursed_keeps : (approved day today : ℕ) → IsResultFrom today (Approved approved) (disbursed approved day today)
+disbursed_keeps : (approved day today : ℕ) → IsResultFrom today (Approved approved) (stage_of_disbursal approved day today)
 disbursed_keeps approved day today = either (nat_le approved day && nat_le day today) refl
   where
     either : (b : Bool) → (nat_le approved day && nat_le day today) ≡ b → IsResultFrom today (Approved approved) (cond b (Ok (Disbursed approved day)) (Err F10))

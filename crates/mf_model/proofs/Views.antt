@@ -9,8 +9,8 @@ use Rattle.mf_office.specs.declared.caller.Caller.{Caller}
 use Rattle.mf_model.specs.declared.request.Call.{Call}
 use Rattle.mf_model.specs.declared.request.Request.{Request}
 use Rattle.mf_model.specs.declared.request.Request.TheVariants.{NewOffice}
-use Rattle.mf_model.specs.Institution.{Institution, Office, Rows, Staff, office_at, with_rows, with_office, new_office, Change, Catalogue_becomes, Rows_become, Office_added, after, numbered}
-use Rattle.mf_model.specs.Tree.{parent_of, kept, is_there, seen_by, seen_office, view, touches, IsTree, Fits}
+use Rattle.mf_model.specs.Institution.{Institution, Office, Rows, Staff, office_at, with_rows, with_office, new_office, Change, Catalogue_becomes, Rows_become, Office_added, after, item_numbered}
+use Rattle.mf_model.specs.Tree.{parent_of, offices_where, is_there, seen_by, seen_office, view, touches, IsTree, Fits}
 use Rattle.mf_office.specs.Tree.{is_within, is_at_or_below}
 use Rattle.mf_model.specs.Desk.{Plan, On_catalogue, On_office, On_all_seen, On_new_office, plan, need, Need, A_teller, An_officer, A_manager, The_head, meets, of_reading, in_office, add_office, carried_out, staff_at, where_permitted, sent_by, outcome}
 use Rattle.mf_model.specs.Run.{is_of}
@@ -37,7 +37,7 @@ seen_by_head o fs t e = kept_all (λ x. is_at_or_below (parent_of fs) x o) fs (�
 pub staff_at_view : (o : ℕ) (i : Institution) (c : Caller) → c.office ≡ o → staff_at (view o i) c ≡ staff_at i c
 staff_at_view o i c e =
     let b : is_at_or_below (parent_of i.offices) c.office o ≡ true = rw e (below_self i.offices o) in
-    ap (elim [ None ↦ None | Some f ↦ numbered f.rows.staff c.staff ]) (office_at_kept (λ z. is_at_or_below (parent_of i.offices) z o) i.offices c.office ∙ ap (λ a. cond a (office_at c.office i.offices) None) b)
+    ap (elim [ None ↦ None | Some f ↦ item_numbered f.rows.staff c.staff ]) (office_at_kept (λ z. is_at_or_below (parent_of i.offices) z o) i.offices c.office ∙ ap (λ a. cond a (office_at c.office i.offices) None) b)
 
 pub carried_out_view : (c : Caller) (p : Plan) (i : Institution) → IsTree i.offices → ((number parent : ℕ) (name : List ℕ) → p ≡ On_new_office number parent name → c.office ≡ 1) → carried_out c p (view c.office i) ≡ carried_out c p i
 carried_out_view c (On_catalogue act) i t head = refl
@@ -81,7 +81,7 @@ pub outcome_view : (o : ℕ) (call : Call) (i : Institution) → IsTree i.office
 outcome_view o call i t own = sent_by_view o call.caller call.request (plan call.request) i t own refl
 
 -- writing
-with_rows_seen : (p : ℕ → Bool) (x : ℕ) (r : Rows) (fs : List Office) (b : Bool) → p x ≡ b → with_rows x r (kept p fs) ≡ cond b (with_rows x r (kept p fs)) (kept p fs)
+with_rows_seen : (p : ℕ → Bool) (x : ℕ) (r : Rows) (fs : List Office) (b : Bool) → p x ≡ b → with_rows x r (offices_where p fs) ≡ cond b (with_rows x r (offices_where p fs)) (offices_where p fs)
 with_rows_seen p x r fs true e = refl
 with_rows_seen p x r fs false e = with_rows_unseen p x r fs e
 
@@ -99,7 +99,7 @@ pub view_after : (o : ℕ) (change : Change) (i : Institution) → IsTree i.offi
 view_after o (Catalogue_becomes catalogue) i t fit = refl
 view_after o (Rows_become x rows) i t fit =
     let fs = i.offices in
-    let now : kept (λ z. is_at_or_below (parent_of (with_rows x rows fs)) z o) (with_rows x rows fs) ≡ kept (λ z. is_at_or_below (parent_of fs) z o) (with_rows x rows fs) = kept_agree (λ z. is_at_or_below (parent_of (with_rows x rows fs)) z o) (λ z. is_at_or_below (parent_of fs) z o) (with_rows x rows fs) (λ z there. below_with_rows x rows fs z o) in
+    let now : offices_where (λ z. is_at_or_below (parent_of (with_rows x rows fs)) z o) (with_rows x rows fs) ≡ offices_where (λ z. is_at_or_below (parent_of fs) z o) (with_rows x rows fs) = kept_agree (λ z. is_at_or_below (parent_of (with_rows x rows fs)) z o) (λ z. is_at_or_below (parent_of fs) z o) (with_rows x rows fs) (λ z there. below_with_rows x rows fs z o) in
     ap (λ gs. record i { offices = gs })
     (now ∙ kept_with_rows (λ z. is_at_or_below (parent_of fs) z o) x rows fs
     ∙ with_rows_seen (λ z. is_at_or_below (parent_of fs) z o) x rows fs (is_at_or_below (parent_of (with_rows x rows fs)) x o) (sym (below_with_rows x rows fs x o)))
@@ -107,7 +107,7 @@ view_after o (Rows_become x rows) i t fit =
 view_after o (Office_added number parent name) i t fit =
     let fs = i.offices in
     let new = new_office number parent name in
-    let old : kept (λ z. is_at_or_below (parent_of (with_office new fs)) z o) fs ≡ seen_by o fs = kept_agree (λ z. is_at_or_below (parent_of (with_office new fs)) z o) (λ z. is_at_or_below (parent_of fs) z o) fs (λ z there. below_with_office new fs z o fit.free (closed fs number t fit.free) (apart fs z number there fit.free)) in
+    let old : offices_where (λ z. is_at_or_below (parent_of (with_office new fs)) z o) fs ≡ seen_by o fs = kept_agree (λ z. is_at_or_below (parent_of (with_office new fs)) z o) (λ z. is_at_or_below (parent_of fs) z o) fs (λ z there. below_with_office new fs z o fit.free (closed fs number t fit.free) (apart fs z number there fit.free)) in
     ap (λ gs. record i { offices = gs })
     (kept_with_office (λ z. is_at_or_below (parent_of (with_office new fs)) z o) new fs t.ascending
     ∙ ap (λ gs. cond (is_at_or_below (parent_of (with_office new fs)) number o) (with_office new gs) gs) old)

@@ -4,7 +4,7 @@ use Rattle.std.specs.Prelude.{◌==◌, ◌||◌}
 use Rattle.std.proofs.lemmas.Bool.Decides.{nat_tests}
 use Rattle.mf_office.specs.Tree.{option_any, is_within, is_at_or_below}
 use Rattle.mf_model.specs.Institution.{Office, Rows, with_rows, with_office}
-use Rattle.mf_model.specs.Tree.{parent_of, kept, is_there, seen_by}
+use Rattle.mf_model.specs.Tree.{parent_of, offices_where, is_there, seen_by}
 use Rattle.mf_model.proofs.Offices.{parent_of_kept, parent_of_with_rows, parent_of_with_office}
 
 eq_self : (x : ℕ) → (x == x) ≡ true
@@ -41,12 +41,12 @@ part false true (Some z) f g k h = k z
 part false false None f g k h = refl
 part false false (Some z) f g k h = only_true (g z) h
 
-pub within_kept : (n : ℕ) (p : ℕ → Bool) (fs : List Office) (x y : ℕ) → ((z : ℕ) → is_within n (parent_of fs) z y ≡ true → p z ≡ true) → is_within n (parent_of (kept p fs)) x y ≡ is_within n (parent_of fs) x y
+pub within_kept : (n : ℕ) (p : ℕ → Bool) (fs : List Office) (x y : ℕ) → ((z : ℕ) → is_within n (parent_of fs) z y ≡ true → p z ≡ true) → is_within n (parent_of (offices_where p fs)) x y ≡ is_within n (parent_of fs) x y
 unfolding is_within
 within_kept zero p fs x y h = refl
 within_kept (suc n) p fs x y h =
-    ap (λ q. (x == y) || option_any q (λ z. is_within n (parent_of (kept p fs)) z y)) (parent_of_kept p fs x)
-    ∙ part (x == y) (p x) (parent_of fs x) (λ z. is_within n (parent_of (kept p fs)) z y) (λ z. is_within n (parent_of fs) z y) (λ z. within_kept n p fs z y (λ w t. h w (within_more n (parent_of fs) w y t))) (h x)
+    ap (λ q. (x == y) || option_any q (λ z. is_within n (parent_of (offices_where p fs)) z y)) (parent_of_kept p fs x)
+    ∙ part (x == y) (p x) (parent_of fs x) (λ z. is_within n (parent_of (offices_where p fs)) z y) (λ z. is_within n (parent_of fs) z y) (λ z. within_kept n p fs z y (λ w t. h w (within_more n (parent_of fs) w y t))) (h x)
 
 -- with the same parents
 above_agree : (b : Bool) (q : Option ℕ) (f g : ℕ → Bool) → ((z : ℕ) → q ≡ Some z → f z ≡ g z) → (b || option_any q f) ≡ (b || option_any q g)

@@ -20,12 +20,12 @@ abbrev pub terms_in : Catalogue → ℕ → Option Terms
 terms_in k product = option_map (λ (p : Product). terms_of (charge_in k) p.members) (product_in k product)
 
 -- a disbursed loan, with what its account is worked out from
-abbrev pub running : Loan → List Entry → ℕ → Terms → Running
-running loan entries day terms = record { terms = terms; principal = loan.principal; periods = loan.periods; day = day; entries = entries }
+abbrev pub running_loan : Loan → List Entry → ℕ → Terms → Running
+running_loan loan entries day terms = record { terms = terms; principal = loan.principal; periods = loan.periods; day = day; entries = entries }
 
 abbrev pub running_from : Loan → List Entry → Option ℕ → Option Terms → Option Running
 running_from loan entries None terms = None
-running_from loan entries (Some day) terms = option_map (running loan entries day) terms
+running_from loan entries (Some day) terms = option_map (running_loan loan entries day) terms
 
 -- the account of a loan: the replay of its entries over the terms of its product; none before it is disbursed
 abbrev pub account_in : Catalogue → Ledger → Option Running

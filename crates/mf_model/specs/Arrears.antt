@@ -19,13 +19,13 @@ abbrev pub principal_left : Running → ℕ
 principal_left a = slice_index (balances_of a).outstanding (place_in_row Principal)
 
 -- an account as the report counts it on a day
-abbrev pub aged : ℕ → Running → Aged
-aged today a = record { principal = principal_left a; days = pos (days_overdue (state_of_loan a).rows today) }
+abbrev pub aged_loan : ℕ → Running → Aged
+aged_loan today a = record { principal = principal_left a; days = pos (days_overdue (state_of_loan a).rows today) }
 
 -- an account where it is active: its status is 300
 abbrev pub if_active : ℕ → Option Running → List Aged
 if_active today None = []
-if_active today (Some a) = cond (status_of_loan a == 300) (aged today a ∷ []) []
+if_active today (Some a) = cond (status_of_loan a == 300) (aged_loan today a ∷ []) []
 
 -- the active ones of these loans, on the business day
 abbrev pub active_in : Catalogue → List Ledger → List Aged

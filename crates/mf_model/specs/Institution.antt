@@ -65,8 +65,8 @@ pub data Change : Type 0 where
   Office_added : ℕ → ℕ → List ℕ → Change
 
 -- the thing of this number, in a list by number from 1
-abbrev pub numbered : {A : Type 0} → List A → ℕ → Option A
-numbered xs n = cond (n == 0) None (slice_get xs (n - 1))
+abbrev pub item_numbered : {A : Type 0} → List A → ℕ → Option A
+item_numbered xs n = cond (n == 0) None (slice_get xs (n - 1))
 
 -- the list, with the thing of this number changed
 abbrev pub with_numbered : {A : Type 0} → ℕ → (A → A) → List A → List A
@@ -83,11 +83,11 @@ product_of n p = record { number = n; members = p.members; retired = p.retired }
 
 -- the charge of this number
 abbrev pub charge_in : Catalogue → ℕ → Option ChargeDef
-charge_in k n = option_map (charge_def n) (numbered k.charges n)
+charge_in k n = option_map (charge_def n) (item_numbered k.charges n)
 
 -- the product of this number
 abbrev pub product_in : Catalogue → ℕ → Option Product
-product_in k n = option_map (product_of n) (numbered k.products n)
+product_in k n = option_map (product_of n) (item_numbered k.products n)
 
 -- the office of this number
 abbrev pub office_at : ℕ → List Office → Option Office
@@ -96,7 +96,7 @@ office_at x (f ∷ fs) = cond (f.number == x) (Some f) (office_at x fs)
 
 -- a member of staff, in whatever office
 abbrev pub staff_in : List Office → Caller → Option Staff
-staff_in fs c = elim (office_at c.office fs) [ None ↦ None | Some f ↦ numbered f.rows.staff c.staff ]
+staff_in fs c = elim (office_at c.office fs) [ None ↦ None | Some f ↦ item_numbered f.rows.staff c.staff ]
 
 -- the offices, where office x has these rows
 abbrev pub with_rows : ℕ → Rows → List Office → List Office

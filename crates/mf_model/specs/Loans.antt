@@ -23,10 +23,10 @@ use Rattle.mf_model.specs.declared.reply.LoanReply.{LoanReply}
 use Rattle.mf_model.specs.declared.reply.LoanReply.TheVariants.{Shown, Instalments, Entries, Status, Entered, Repeated, Reversed}
 use Rattle.mf_model.specs.declared.reply.Reply.{Reply}
 use Rattle.mf_model.specs.declared.reply.Reply.TheVariants as reply
-use Rattle.mf_model.specs.Institution.{Catalogue, Rows, Ledger, numbered, with_numbered, charge_in, product_in}
+use Rattle.mf_model.specs.Institution.{Catalogue, Rows, Ledger, item_numbered, with_numbered, charge_in, product_in}
 use Rattle.mf_model.specs.Outcomes.{next_of, with_value, where_found, unless_refused}
 use Rattle.mf_model.specs.Stages.{stage_number, next_stage}
-use Rattle.mf_model.specs.Receipts.{Use, uses_from, used_before, repeated}
+use Rattle.mf_model.specs.Receipts.{Use, uses_from, used_before, repeated_seq}
 pub use Rattle.mf_model.specs.Postings.{repayment, fee, posting}
 use Rattle.mf_model.specs.Accounts.{account_in, status_in, statement, instalments_in, entries_in}
 
@@ -35,20 +35,20 @@ abbrev pub LedgerChange : Type 0
 LedgerChange = Ledger → Ledger
 
 -- it has come to a stage
-abbrev pub staged : Stage → LedgerChange
-staged stage l = record l { loan = record l.loan { stage = stage } }
+abbrev pub with_stage : Stage → LedgerChange
+with_stage stage l = record l { loan = record l.loan { stage = stage } }
 
 -- it has one entry more
-abbrev pub entered : Entry → LedgerChange
-entered e l = record l { entries = l.entries ++ e ∷ [] }
+abbrev pub with_new_entry : Entry → LedgerChange
+with_new_entry e l = record l { entries = l.entries ++ e ∷ [] }
 
 -- it has these entries
 abbrev pub with_entries : List Entry → LedgerChange
 with_entries entries l = record l { entries = entries }
 
 -- an entry counts no more
-abbrev pub reversed : ℕ → LedgerChange
-reversed seq l = record l { entries = with_mark l.entries (seq - 1) true }
+abbrev pub with_reversal : ℕ → LedgerChange
+with_reversal seq l = record l { entries = with_mark l.entries (seq - 1) true }
 
 -- a refusal, or what is told and what becomes of the loan
 abbrev pub unless_fault : Option Fault → LoanReply → LedgerChange → Result (LoanReply × Option LedgerChange) Fault
@@ -63,7 +63,7 @@ fault_or None next = next
 -- One entry more, made on the business day for the account that there is. F9 where the loan is not disbursed, then what refuses it beforehand, then what its account refuses.
 abbrev pub enter : (Running → Option Fault) → (ℕ → Running → Entry) → Catalogue → Option Running → Result (LoanReply × Option LedgerChange) Fault
 enter first make k None = Err F9
-enter first make k (Some a) = let e = make k.day a in unless_fault (fault_or (first a) (refusal_of a e k.day)) (Entered e.seq) (entered e)
+enter first make k (Some a) = let e = make k.day a in unless_fault (fault_or (first a) (refusal_of a e k.day)) (Entered e.seq) (with_new_entry e)
 
 -- nothing refuses an entry before its account does
 abbrev pub none_first : Running → Option Fault
@@ -76,7 +76,7 @@ fee_first due a = fee_refused a due
 -- an entry counts no more, where its account lets it go; F9 where the loan is not disbursed
 abbrev pub reverse : ℕ → Option Running → Result (LoanReply × Option LedgerChange) Fault
 reverse seq None = Err F9
-reverse seq (Some a) = unless_fault (reversal_refused a.entries seq) (Reversed seq) (reversed seq)
+reverse seq (Some a) = unless_fault (reversal_refused a.entries seq) (Reversed seq) (with_reversal seq)
 
 -- an entry that was there; nothing becomes of the loan
 abbrev pub repeat_of : Result ℕ Fault → Result (LoanReply × Option LedgerChange) Fault
@@ -86,7 +86,7 @@ repeat_of (Ok seq) = Ok (Repeated seq, None)
 -- a receipt that is known is answered as it was, or refused
 abbrev pub unless_known : ℕ → Repayment → Option Use → Result (LoanReply × Option LedgerChange) Fault → Result (LoanReply × Option LedgerChange) Fault
 unless_known n asked None next = next
-unless_known n asked (Some u) next = repeat_of (repeated n asked.amount asked.day u.by)
+unless_known n asked (Some u) next = repeat_of (repeated_seq n asked.amount asked.day u.by)
 
 -- A repayment of loan n of an office with these rows. A receipt that the office knows comes first, whatever the loan's stage.
 abbrev pub repay : Repayment → Caller → Catalogue → Rows → ℕ → Ledger → Result (LoanReply × Option LedgerChange) Fault
@@ -97,7 +97,7 @@ abbrev pub on_loan : LoanRequest → Caller → Catalogue → Rows → ℕ → L
 on_loan Show caller k rows n l = Ok (Shown (statement k l), None)
 on_loan ShowInstalments caller k rows n l = Ok (Instalments (instalments_in k l), None)
 on_loan ShowEntries caller k rows n l = Ok (Entries (entries_in k l), None)
-on_loan (Take step) caller k rows n l = with_value (next_stage step k.day l.loan.stage) (λ stage. (Status (stage_number stage), Some (staged stage)))
+on_loan (Take step) caller k rows n l = with_value (next_stage step k.day l.loan.stage) (λ stage. (Status (stage_number stage), Some (with_stage stage)))
 on_loan (Repay asked) caller k rows n l = repay asked caller k rows n l
 on_loan (ChargeFee charge due) caller k rows n l = where_found (charge_in k charge) (λ c. enter (fee_first due) (fee c due caller) k (account_in k l))
 on_loan (Post asked) caller k rows n l = enter none_first (posting asked caller) k (account_in k l)
@@ -109,7 +109,7 @@ loan_changed n change rows = record rows { loans = with_numbered n change rows.l
 
 -- the rows where a loan has come to a stage
 abbrev pub loan_staged : ℕ → Stage → Rows → Rows
-loan_staged n stage rows = loan_changed n (staged stage) rows
+loan_staged n stage rows = loan_changed n (with_stage stage) rows
 
 -- the rows where a loan has these entries
 abbrev pub loan_entered : ℕ → List Entry → Rows → Rows
@@ -123,7 +123,7 @@ of_loan account rows (Ok (told, Some change)) = Ok (reply.Loan account told, Som
 
 -- what is done with a loan of an office; F4 where the loan isn't there
 abbrev pub in_loan : Account → (Ledger → Result (LoanReply × Option LedgerChange) Fault) → Rows → Result (Reply × Option Rows) Fault
-in_loan account act rows = where_found (numbered rows.loans account.number) (λ l. of_loan account rows (act l))
+in_loan account act rows = where_found (item_numbered rows.loans account.number) (λ l. of_loan account rows (act l))
 
 -- the rows with one more loan, which has no entries yet
 abbrev pub loan_added : Loan → Rows → Rows
@@ -143,7 +143,7 @@ lend office asked product rows = where_found product (λ p. unless_refused (lend
 
 -- A new loan. Its client and its product must be there, the product must lend so, and then there must be room.
 abbrev pub submit : ℕ → Application → Catalogue → Rows → Result (Reply × Option Rows) Fault
-submit office asked k rows = where_found (numbered rows.clients asked.client) (λ name. lend office asked (product_in k asked.product) rows)
+submit office asked k rows = where_found (item_numbered rows.clients asked.client) (λ name. lend office asked (product_in k asked.product) rows)
 
 -- the loans of an office, numbered from n on, each with its status of the moment
 abbrev pub lines_from : Catalogue → ℕ → ℕ → List Ledger → List LoanLine

@@ -5,7 +5,7 @@ use Rattle.mf_office.specs.declared.staff.Role.{Role}
 use Rattle.mf_office.specs.declared.office.Office.{Office as OfficeLine}
 use Rattle.mf_model.specs.declared.reply.Reply.{Reply}
 use Rattle.mf_model.specs.declared.reply.Reply.TheVariants.{Offices, StaffMade, ClientMade, ClientShown}
-use Rattle.mf_model.specs.Institution.{Catalogue, Office, Rows, numbered}
+use Rattle.mf_model.specs.Institution.{Catalogue, Office, Rows, item_numbered}
 use Rattle.mf_model.specs.Outcomes.{next_of, with_value, with_found}
 
 -- an office as a reply shows it
@@ -34,4 +34,4 @@ add_client office name rows = with_value (next_of (length rows.clients) 999999) 
 
 -- a client's name
 abbrev pub show_client : ℕ → ℕ → Rows → Result (Reply × Option Rows) Fault
-show_client office n rows = with_found (numbered rows.clients n) (λ name. (ClientShown (record { office = office; number = n }) name, None))
+show_client office n rows = with_found (item_numbered rows.clients n) (λ name. (ClientShown (record { office = office; number = n }) name, None))

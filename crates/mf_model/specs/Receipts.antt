@@ -1,6 +1,6 @@
 -- The receipts of an office: those of the entries that carry one.
-use Rattle.std.specs.Prelude.{◌≡◌, ◌≢◌, ℕ, ◌+◌, ◌≤◌, ◌&&◌, ◌==◌, Bool, true, cond, nat_le, List, [], ◌∷◌, ◌++◌, length, Option, Some, None, Result, Ok, Err}
-use Rattle.std.specs.List.{find, AllByRecursion, list_all}
+use Rattle.std.specs.Prelude.{◌≢◌, ℕ, ◌+◌, ◌&&◌, ◌==◌, cond, List, [], ◌∷◌, ◌++◌, Option, Some, None, Result, Ok, Err}
+use Rattle.std.specs.List.{find, AllByRecursion}
 use Rattle.std.specs.Str.{bytes_eq}
 use Rattle.mf_base.specs.declared.fault.Fault.{Fault}
 use Rattle.mf_base.specs.declared.fault.Fault.TheVariants.{F15}
@@ -31,17 +31,17 @@ uses_from n [] = []
 uses_from n (l ∷ ls) = uses_in n l.entries ++ uses_from (n + 1) ls
 
 -- where a receipt was used
-abbrev pub used : List ℕ → List Use → Option Use
-used receipt us = find (λ (u : Use). bytes_eq u.receipt receipt) us
+abbrev pub first_use : List ℕ → List Use → Option Use
+first_use receipt us = find (λ (u : Use). bytes_eq u.receipt receipt) us
 
 -- where the receipt of an entry was used, if it has one
 abbrev pub used_before : Option (List ℕ) → List Use → Option Use
 used_before None us = None
-used_before (Some receipt) us = used receipt us
+used_before (Some receipt) us = first_use receipt us
 
 -- the number of the entry that carries a used receipt, where the loan, the amount and the day are the same; else F15
-abbrev pub repeated : ℕ → ℕ → ℕ → ReceiptUse → Result ℕ Fault
-repeated loan amount day by = cond ((by.loan == loan) && ((by.amount == amount) && (by.day == day))) (Ok by.seq) (Err F15)
+abbrev pub repeated_seq : ℕ → ℕ → ℕ → ReceiptUse → Result ℕ Fault
+repeated_seq loan amount day by = cond ((by.loan == loan) && ((by.amount == amount) && (by.day == day))) (Ok by.seq) (Err F15)
 
 -- no receipt stands twice
 abbrev pub AreApart : List Use → Type 0

@@ -53,14 +53,14 @@ abbrev pub from_caller : Caller → Call → Bool
 from_caller c call = is_by c call.caller
 
 -- of the replies to the lines, those to the calls that are meant
-abbrev pub told : {R : Type 0} → (Call → Bool) → List Line → List R → List R
-told meant [] rs = []
-told meant (l ∷ ls) [] = []
-told meant (l ∷ ls) (r ∷ rs) = cond (meant l.call) (r ∷ told meant ls rs) (told meant ls rs)
+abbrev pub replies_to : {R : Type 0} → (Call → Bool) → List Line → List R → List R
+replies_to meant [] rs = []
+replies_to meant (l ∷ ls) [] = []
+replies_to meant (l ∷ ls) (r ∷ rs) = cond (meant l.call) (r ∷ replies_to meant ls rs) (replies_to meant ls rs)
 
-abbrev pub touched : ℕ → Institution → Option Change → Bool
-touched o i None = false
-touched o i (Some change) = touches o i change
+abbrev pub is_touched : ℕ → Institution → Option Change → Bool
+is_touched o i None = false
+is_touched o i (Some change) = touches o i change
 
 -- a request of the touching list
 pub record Touch : Type 0 where
@@ -68,12 +68,12 @@ pub record Touch : Type 0 where
   pub accepted : Bool
 
 -- the touching list of office o: the requests of its callers, and the accepted writes whose target it sees
-abbrev pub touching : ℕ → List Line → Institution → List Touch
-touching o [] i = []
-touching o (l ∷ ls) i =
-    cond (from_office o l.call || touched o i (change_of l i))
-    (record { call = l.call; accepted = is_some (change_of l i) } ∷ touching o ls (next l i))
-    (touching o ls (next l i))
+abbrev pub touching_list : ℕ → List Line → Institution → List Touch
+touching_list o [] i = []
+touching_list o (l ∷ ls) i =
+    cond (from_office o l.call || is_touched o i (change_of l i))
+    (record { call = l.call; accepted = is_some (change_of l i) } ∷ touching_list o ls (next l i))
+    (touching_list o ls (next l i))
 
 -- a view after an entry of the touching list: the change is read off the view
 abbrev pub play_one : Touch → Institution → Institution
@@ -108,19 +108,19 @@ NoneGivenUp (l ∷ ls) = (l.given_up ≡ false) × NoneGivenUp ls
 
 -- an office's view after the run is its touching list, played on its first view
 abbrev pub ViewIsPlay : Institution → List Line → Type 0
-ViewIsPlay i ls = (o : ℕ) → view o (last ls i) ≡ play (touching o ls i) (view o i)
+ViewIsPlay i ls = (o : ℕ) → view o (last ls i) ≡ play (touching_list o ls i) (view o i)
 
 -- what an office's callers are told is what that play answers them, but where a line is given up
 abbrev pub RepliesArePlay : Institution → List Line → Type 0
 RepliesArePlay i ls = (o : ℕ) →
-    told (from_office o) ls (answers ls i) ≡ but_given_up (given_up (from_office o) ls) (play_replies (from_office o) (touching o ls i) (view o i))
+    replies_to (from_office o) ls (answers ls i) ≡ but_given_up (given_up (from_office o) ls) (play_replies (from_office o) (touching_list o ls i) (view o i))
 
 -- the same of one member of staff
 abbrev pub OwnRepliesArePlay : Institution → List Line → Type 0
 OwnRepliesArePlay i ls = (c : Caller) →
-    told (from_caller c) ls (answers ls i) ≡ but_given_up (given_up (from_caller c) ls) (play_replies (from_caller c) (touching c.office ls i) (view c.office i))
+    replies_to (from_caller c) ls (answers ls i) ≡ but_given_up (given_up (from_caller c) ls) (play_replies (from_caller c) (touching_list c.office ls i) (view c.office i))
 
 -- two runs that begin with the same view of office o and touch it alike
 pub record Alike (o : ℕ) (i j : Institution) (ls ks : List Line) : Type 0 where
   pub view_is : view o i ≡ view o j
-  pub touching_is : touching o ls i ≡ touching o ks j
+  pub touching_is : touching_list o ls i ≡ touching_list o ks j

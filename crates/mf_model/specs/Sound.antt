@@ -5,7 +5,6 @@ use Rattle.std.specs.Str.{IsUtf8, chars}
 use Rattle.mf_base.specs.DayText.{last_entered_day}
 use Rattle.mf_office.specs.Numbers.{IsNumberUpTo}
 use Rattle.mf_office.specs.Texts.{IsAccount}
-use Rattle.mf_office.specs.declared.account.Account.{Account}
 use Rattle.mf_model.specs.declared.request.Request.{Request}
 use Rattle.mf_catalog.specs.declared.charge.Calc.{Calc}
 use Rattle.mf_catalog.specs.declared.charge.ChargeDef.{ChargeDef}
@@ -29,7 +28,7 @@ use Rattle.mf_model.specs.declared.request.LoanRequest.{LoanRequest}
 use Rattle.mf_model.specs.declared.request.LoanRequest.TheVariants.{Show, ShowInstalments, ShowEntries, Take, Repay, ChargeFee, Post, Reverse}
 use Rattle.mf_model.specs.declared.request.Posting.{Posting}
 use Rattle.mf_model.specs.declared.request.Posting.TheVariants.{Penalty, Waiver, WriteOff, Refund}
-use Rattle.mf_model.specs.Institution.{Institution, Catalogue, Charge, Offer, Staff, Rows, Office, Ledger, staff_in, numbered, charge_in, product_in}
+use Rattle.mf_model.specs.Institution.{Institution, Catalogue, Charge, Offer, Staff, Rows, Office, Ledger, staff_in, item_numbered, charge_in, product_in}
 use Rattle.mf_model.specs.Stages.{disbursed_on, IsStepInRange}
 use Rattle.mf_account.specs.Receipts.{IsReceipt}
 use Rattle.mf_model.specs.Receipts.{uses_from, AreApart}
@@ -109,7 +108,7 @@ AreEntriesBy today staffed periods (Some day) entries = AreEntered today staffed
 
 -- a loan's client is there, its product is there and allows its principal and periods, retired or not, its days are in order, and so are its entries
 pub record IsSoundLoan (k : Catalogue) (staffed : Caller → Bool) (clients : List (List ℕ)) (l : Ledger) : Type 0 where
-  pub client : is_some (numbered clients l.loan.client) ≡ true
+  pub client : is_some (item_numbered clients l.loan.client) ≡ true
   pub product : lends (product_in k l.loan.product) l.loan.principal l.loan.periods ≡ true
   pub stage : IsStageBy k.day l.loan.stage
   pub entries : AreEntriesBy k.day staffed l.loan.periods (disbursed_on l.loan.stage) l.entries

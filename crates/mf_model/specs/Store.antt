@@ -12,16 +12,16 @@ use Rattle.mf_model.specs.declared.loan.LoanLine.{LoanLine}
 use Rattle.mf_model.specs.declared.store.CatalogueCounts.{CatalogueCounts}
 use Rattle.mf_model.specs.declared.store.Counts.{Counts}
 use Rattle.mf_account.specs.declared.entry.Entry.{Entry}
-use Rattle.mf_account.specs.Change.{Account as Kept, IsChange, IsReplayed, replayed}
+use Rattle.mf_account.specs.Change.{Account as Kept, IsChange, IsReplayed, account_by_replay}
 use Rattle.mf_account.specs.Loan.{Loan as Running}
 use Rattle.mf_account.specs.Refusals.{reversal_refused}
 use Rattle.mf_account.specs.Standing.{with_mark}
-use Rattle.mf_model.specs.Institution.{Institution, Catalogue, Office, Rows, Staff, Ledger, Change, Catalogue_becomes, Rows_become, Office_added, after, office_at, no_rows, numbered}
+use Rattle.mf_model.specs.Institution.{Institution, Catalogue, Office, Rows, Staff, Ledger, Change, Catalogue_becomes, Rows_become, Office_added, after, office_at, no_rows, item_numbered}
 use Rattle.mf_model.specs.Catalogue.{day_set, charge_added, product_added, product_retired}
 use Rattle.mf_model.specs.Offices.{staff_added, client_added}
 use Rattle.mf_model.specs.declared.loan.ReceiptUse.{ReceiptUse}
 use Rattle.mf_model.specs.Accounts.{account_in}
-use Rattle.mf_model.specs.Receipts.{Use, uses_from, used}
+use Rattle.mf_model.specs.Receipts.{Use, uses_from, first_use}
 use Rattle.mf_model.specs.Loans.{loan_added, loan_staged, loan_entered, lines_above}
 use Rattle.mf_model.specs.Desk.{staff_at, outcome, change_in}
 use Rattle.mf_model.specs.Run.{Line, next}
@@ -49,11 +49,11 @@ catalogue_counts i = record { charges = length i.catalogue.charges; products = l
 
 -- the name of a client of an office
 abbrev pub client_at : Account → Institution → Option (List ℕ)
-client_at client i = numbered (rows_at client.office i).clients client.number
+client_at client i = item_numbered (rows_at client.office i).clients client.number
 
 -- a loan of an office, with its entries
 abbrev pub ledger_at : Account → Institution → Option Ledger
-ledger_at loan i = numbered (rows_at loan.office i).loans loan.number
+ledger_at loan i = item_numbered (rows_at loan.office i).loans loan.number
 
 -- a loan of an office
 abbrev pub loan_at : Account → Institution → Option Loan
@@ -66,11 +66,11 @@ account_of k (Some l) = account_in k l
 
 -- the account of a loan; none where it is not there or not disbursed
 abbrev pub account_at : Account → Institution → Option Kept
-account_at loan i = option_map replayed (account_of i.catalogue (ledger_at loan i))
+account_at loan i = option_map account_by_replay (account_of i.catalogue (ledger_at loan i))
 
 -- where a receipt was used in an office
 abbrev pub use_at : ℕ → List ℕ → Institution → Option Use
-use_at x receipt i = used receipt (uses_from 1 (rows_at x i).loans)
+use_at x receipt i = first_use receipt (uses_from 1 (rows_at x i).loans)
 
 -- the entry that carries a receipt of an office
 abbrev pub receipt_at : ℕ → List ℕ → Institution → Option ReceiptUse
@@ -95,8 +95,8 @@ change_of (Enter loan account) i = Rows_become loan.office (loan_entered loan.nu
 change_of (Reverse loan seq account) i = Rows_become loan.office (loan_entered loan.number account.loan.entries (rows_at loan.office i))
 
 -- the institution after a commit
-abbrev pub committed : Commit → Institution → Institution
-committed commit i = after (change_of commit i) i
+abbrev pub after_commit : Commit → Institution → Institution
+after_commit commit i = after (change_of commit i) i
 
 -- entries with one more
 abbrev pub OneMore : List Entry → List Entry → Type 0
@@ -124,7 +124,7 @@ IsHanded _ i = Unit {0}
 
 -- a commit that may be made: the institution is sound after it, and so is what it hands on
 pub record IsAdmitted (commit : Commit) (i : Institution) : Type 0 where
-  pub sound : IsSound (committed commit i)
+  pub sound : IsSound (after_commit commit i)
   pub handed : IsHanded commit i
 
 -- What a stop after a call may leave, where before it left one of these: a change that was made; and where the call gave up, its change or what was there.
@@ -150,8 +150,8 @@ module _ {S : Type 0} (stands : S → Institution → Type 0) (clean : S → Typ
   -- A call that makes a change whole or, giving up, not at all. Once it is made a stop leaves it; where the call gave up a stop may leave it or not.
   pub record Commits (commit : Commit) (old new : S) (result : Result (Unit {0}) Fault) : Type 0 where
     pub premise : clean new → clean old
-    pub made : clean new → (i : Institution) → stands old i → IsAdmitted commit i → OnOk result (stands new (committed commit i))
-    pub kept : clean new → (i : Institution) → stands old i → IsAdmitted commit i → OnOk result (leaves new (committed commit i ∷ []))
+    pub made : clean new → (i : Institution) → stands old i → IsAdmitted commit i → OnOk result (stands new (after_commit commit i))
+    pub kept : clean new → (i : Institution) → stands old i → IsAdmitted commit i → OnOk result (leaves new (after_commit commit i ∷ []))
     pub same : clean new → (i : Institution) → stands old i → OnErr result (stands new i)
     pub gives_up : IfErr result (λ fault. fault ≡ F20)
-    pub stop : clean new → (i : Institution) (is : List Institution) → stands old i → IsAdmitted commit i → leaves old is → leaves new (committed commit i ∷ is)
+    pub stop : clean new → (i : Institution) (is : List Institution) → stands old i → IsAdmitted commit i → leaves old is → leaves new (after_commit commit i ∷ is)

@@ -13,12 +13,12 @@ abbrev pub is_there : List Office → ℕ → Bool
 is_there fs x = is_some (office_at x fs)
 
 -- the offices whose number passes
-abbrev pub kept : (ℕ → Bool) → List Office → List Office
-kept p fs = filter (λ f. p f.number) fs
+abbrev pub offices_where : (ℕ → Bool) → List Office → List Office
+offices_where p fs = filter (λ f. p f.number) fs
 
 -- the offices at or below o
 abbrev pub seen_by : ℕ → List Office → List Office
-seen_by o fs = kept (λ x. is_at_or_below (parent_of fs) x o) fs
+seen_by o fs = offices_where (λ x. is_at_or_below (parent_of fs) x o) fs
 
 -- what o sees: what all share, and the rows of the offices at or below it
 abbrev pub view : ℕ → Institution → Institution

@@ -36,5 +36,5 @@ abbrev pub IsUnseen : Caller → Asked → Account → Institution → Type 0
 IsUnseen c asked account i = (is_at_or_below (parent_of i.offices) account.office c.office ≡ false) ⊎ (is_account_there asked account i ≡ false)
 
 -- this caller sends a request
-abbrev pub sent : Caller → Request → Call
-sent c request = record { caller = Some c; request = request }
+abbrev pub call_from : Caller → Request → Call
+call_from c request = record { caller = Some c; request = request }

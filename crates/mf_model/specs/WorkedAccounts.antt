@@ -69,16 +69,16 @@ abbrev pub repay : ℕ → ℕ → ℕ → ℕ → Option (List ℕ) → Request
 repay x n amount day receipt = Loan (account x n) (Repay (record { amount = amount; day = day; receipt = receipt }))
 
 -- one of the first loan without a receipt, entered under a number
-abbrev pub repaid : ℕ → ℕ → ℕ → Line × Result Reply Fault
-repaid amount day seq = row (staff 1 1) (repay 1 1 amount day None) (Ok (LoanTold (account 1 1) (Entered seq)))
+abbrev pub repayment_row : ℕ → ℕ → ℕ → Line × Result Reply Fault
+repayment_row amount day seq = row (staff 1 1) (repay 1 1 amount day None) (Ok (LoanTold (account 1 1) (Entered seq)))
 
 -- one that is refused
 abbrev pub not_repaid : ℕ → ℕ → Fault → Line × Result Reply Fault
 not_repaid amount day fault = row (staff 1 1) (repay 1 1 amount day None) (Err fault)
 
 -- what is told of the loan
-abbrev pub shown : LoanRequest → LoanReply → Line × Result Reply Fault
-shown asked told = row (staff 1 1) (Loan (account 1 1) asked) (Ok (LoanTold (account 1 1) told))
+abbrev pub show_row : LoanRequest → LoanReply → Line × Result Reply Fault
+show_row asked told = row (staff 1 1) (Loan (account 1 1) asked) (Ok (LoanTold (account 1 1) told))
 
 -- the loans of the office: the one, with its status
 abbrev pub listed_at : ℕ → Line × Result Reply Fault
@@ -141,36 +141,36 @@ second_line = repayment_line 2 march 50000 (share 1 Principal 14333 ∷ share 2 
 -- two repayments, with what each settles and what is left
 abbrev pub repaying : List (Line × Result Reply Fault)
 repaying = common_start ++ (
-    repaid 20000 february 1
-    ∷ repaid 50000 march 2
-    ∷ shown Show (Shown (stands_at 300 (sums 2000 68000) (sums 0 32000) 0))
-    ∷ shown ShowEntries (Entries (first_line ∷ second_line ∷ []))
+    repayment_row 20000 february 1
+    ∷ repayment_row 50000 march 2
+    ∷ show_row Show (Shown (stands_at 300 (sums 2000 68000) (sums 0 32000) 0))
+    ∷ show_row ShowEntries (Entries (first_line ∷ second_line ∷ []))
     ∷ []
     )
 
 -- its instalments then
-abbrev pub scheduled : List (Line × Result Reply Fault)
-scheduled = common_start ++ (
-    repaid 20000 february 1
-    ∷ repaid 50000 march 2
-    ∷ shown ShowInstalments (Instalments (instalment 1 february 1000 33333 0 ∷ instalment 2 march 667 33333 0 ∷ instalment 3 april 333 33334 32000 ∷ []))
+abbrev pub schedule_shown : List (Line × Result Reply Fault)
+schedule_shown = common_start ++ (
+    repayment_row 20000 february 1
+    ∷ repayment_row 50000 march 2
+    ∷ show_row ShowInstalments (Instalments (instalment 1 february 1000 33333 0 ∷ instalment 2 march 667 33333 0 ∷ instalment 3 april 333 33334 32000 ∷ []))
     ∷ []
     )
 
 -- the same two the other way round: the one that is entered last counts from an earlier day
 abbrev pub back_dated : List (Line × Result Reply Fault)
 back_dated = common_start ++ (
-    repaid 50000 march 1
-    ∷ repaid 20000 february 2
-    ∷ shown Show (Shown (stands_at 300 (sums 2000 68000) (sums 0 32000) 0))
+    repayment_row 50000 march 1
+    ∷ repayment_row 20000 february 2
+    ∷ show_row Show (Shown (stands_at 300 (sums 2000 68000) (sums 0 32000) 0))
     ∷ []
     )
 
 -- more than is owed, and then no more is taken
 abbrev pub overpaying : List (Line × Result Reply Fault)
 overpaying = common_start ++ (
-    repaid 110000 march 1
-    ∷ shown Show (Shown (stands_at 700 (sums 2000 100000) no_sums 8000))
+    repayment_row 110000 march 1
+    ∷ show_row Show (Shown (stands_at 700 (sums 2000 100000) no_sums 8000))
     ∷ listed_at 700
     ∷ not_repaid 1 march F9
     ∷ []
@@ -180,10 +180,10 @@ overpaying = common_start ++ (
 abbrev pub principal_first : List (Line × Result Reply Fault)
 principal_first = start_by (record (usual None) { strategy = PrincipalFirst }) ++ (
     row (staff 1 1) (Catalogue (RetireProduct 1)) (Ok (ProductRetired 1))
-    ∷ repaid 20000 february 1
-    ∷ repaid 50000 march 2
-    ∷ shown Show (Shown (stands_at 300 (sums 1667 68333) (sums 333 31667) 0))
-    ∷ shown ShowEntries (Entries (
+    ∷ repayment_row 20000 february 1
+    ∷ repayment_row 50000 march 2
+    ∷ show_row Show (Shown (stands_at 300 (sums 1667 68333) (sums 333 31667) 0))
+    ∷ show_row ShowEntries (Entries (
     repayment_line 1 february 20000 (share 1 Principal 20000 ∷ [])
     ∷ repayment_line 2 march 50000 (share 1 Principal 13333 ∷ share 1 Interest 1000 ∷ share 2 Principal 33333 ∷ share 2 Interest 667 ∷ share 3 Principal 1667 ∷ [])
     ∷ []
@@ -196,8 +196,8 @@ abbrev pub out_of_order : List (Line × Result Reply Fault)
 out_of_order = common_start ++ (
     not_repaid 20000 (january - 1) F10
     ∷ not_repaid 20000 (march + 1) F10
-    ∷ repaid 20000 january 1
-    ∷ repaid 20000 march 2
+    ∷ repayment_row 20000 january 1
+    ∷ repayment_row 20000 march 2
     ∷ []
     )
 
@@ -205,9 +205,9 @@ out_of_order = common_start ++ (
 abbrev pub disbursing : List (Line × Result Reply Fault)
 disbursing = approved_by (usual None) ++ (
     row (staff 1 1) (Catalogue (SetDay february)) (Ok (DaySet february))
-    ∷ shown Show (Shown (loan_at_status 200))
-    ∷ shown ShowInstalments (Instalments [])
-    ∷ shown ShowEntries (Entries [])
+    ∷ show_row Show (Shown (loan_at_status 200))
+    ∷ show_row ShowInstalments (Instalments [])
+    ∷ show_row ShowEntries (Entries [])
     ∷ not_repaid 20000 february F9
     ∷ row (staff 1 1) (disburse (january - 1)) (Err F10)
     ∷ row (staff 1 1) (disburse (february + 1)) (Err F10)
@@ -221,27 +221,27 @@ disbursing = approved_by (usual None) ++ (
 abbrev pub sent_with : List ℕ → ℕ → ℕ → ℕ → ℕ → Result Reply Fault → Line × Result Reply Fault
 sent_with receipt x n amount day reply = row (staff 1 1) (repay x n amount day (Some receipt)) reply
 
-abbrev pub told : ℕ → ℕ → LoanReply → Result Reply Fault
-told x n what = Ok (LoanTold (account x n) what)
+abbrev pub loan_reply : ℕ → ℕ → LoanReply → Result Reply Fault
+loan_reply x n what = Ok (LoanTold (account x n) what)
 
 -- a receipt that is known is answered as it was, where the loan, the day and the amount are the same; it is one of its office
 abbrev pub receipts : List (Line × Result Reply Fault)
 receipts = common_start ++ (
-    sent_with (codes "R-1") 1 1 20000 february (told 1 1 (Entered 1))
-    ∷ sent_with (codes "R-1") 1 1 20000 february (told 1 1 (Repeated 1))
+    sent_with (codes "R-1") 1 1 20000 february (loan_reply 1 1 (Entered 1))
+    ∷ sent_with (codes "R-1") 1 1 20000 february (loan_reply 1 1 (Repeated 1))
     ∷ sent_with (codes "R-1") 1 1 20001 february (Err F15)
     ∷ sent_with (codes "R-1") 1 1 20000 march (Err F15)
-    ∷ sent_with (codes "R-2") 1 1 82000 march (told 1 1 (Entered 2))
+    ∷ sent_with (codes "R-2") 1 1 82000 march (loan_reply 1 1 (Entered 2))
     ∷ sent_with (codes "R-3") 1 1 1 march (Err F9)
-    ∷ sent_with (codes "R-1") 1 1 20000 february (told 1 1 (Repeated 1))
+    ∷ sent_with (codes "R-1") 1 1 20000 february (loan_reply 1 1 (Repeated 1))
     ∷ row (staff 1 1) (submit 1 100000 3) (Ok (LoanMade (account 1 2)))
     ∷ sent_with (codes "R-1") 1 2 20000 february (Err F15)
     ∷ row (staff 1 1) (repay 1 2 20000 february None) (Err F9)
     ∷ row (staff 1 1) (NewOffice 2 1 (codes "North")) (Ok (OfficeMade 2))
     ∷ row (staff 1 1) (add_client 2 (codes "Ben")) (Ok (ClientMade (account 2 1)))
     ∷ row (staff 1 1) (Office 2 (SubmitLoan (record { client = 1; product = 1; principal = 100000; periods = 3 }))) (Ok (LoanMade (account 2 1)))
-    ∷ row (staff 1 1) (Loan (account 2 1) (Take (Plain Approve))) (told 2 1 (Status 200))
-    ∷ row (staff 1 1) (Loan (account 2 1) (Take (Disburse march))) (told 2 1 (Status 300))
-    ∷ sent_with (codes "R-1") 2 1 20000 march (told 2 1 (Entered 1))
+    ∷ row (staff 1 1) (Loan (account 2 1) (Take (Plain Approve))) (loan_reply 2 1 (Status 200))
+    ∷ row (staff 1 1) (Loan (account 2 1) (Take (Disburse march))) (loan_reply 2 1 (Status 300))
+    ∷ sent_with (codes "R-1") 2 1 20000 march (loan_reply 2 1 (Entered 1))
     ∷ []
     )

@@ -11,11 +11,11 @@ use Rattle.mf_model.specs.declared.request.OfficeRequest.TheVariants.{AddStaff}
 use Rattle.mf_model.specs.declared.request.Request.TheVariants.{Catalogue, Office, NewOffice, SeenArrears}
 use Rattle.mf_model.specs.Run.{Line}
 use Rattle.mf_model.specs.WorkedRows.{staff, row, usual}
-use Rattle.mf_model.specs.WorkedAccounts.{february, april, start_by, common_start, repaid}
+use Rattle.mf_model.specs.WorkedAccounts.{february, april, start_by, common_start, repayment_row}
 
 -- the report of a member of staff
-abbrev pub reported : ℕ → ℕ → List Arrears → Line × Result Reply Fault
-reported office number lines = row (staff office number) SeenArrears (Ok (ArrearsShown lines))
+abbrev pub report_row : ℕ → ℕ → List Arrears → Line × Result Reply Fault
+report_row office number lines = row (staff office number) SeenArrears (Ok (ArrearsShown lines))
 
 -- the line of office 1 with one loan: its outstanding principal, and that of 1 to 30 and of 31 to 60 days
 abbrev pub one_loan : ℕ → ℕ → ℕ → Arrears
@@ -28,25 +28,25 @@ day_comes day = row (staff 1 1) (Catalogue (SetDay day)) (Ok (DaySet day))
 -- the first instalment is paid, and the second falls due on 2024-03-31: 30 and 31 days later, and then beside an office without loans
 abbrev pub thirty_days : List (Line × Result Reply Fault)
 thirty_days = common_start ++ (
-    repaid 34333 february 1
-    ∷ reported 1 1 (one_loan 66667 0 0 ∷ [])
+    repayment_row 34333 february 1
+    ∷ report_row 1 1 (one_loan 66667 0 0 ∷ [])
     ∷ day_comes april
-    ∷ reported 1 1 (one_loan 66667 66667 0 ∷ [])
+    ∷ report_row 1 1 (one_loan 66667 66667 0 ∷ [])
     ∷ day_comes (april + 1)
-    ∷ reported 1 1 (one_loan 66667 0 66667 ∷ [])
+    ∷ report_row 1 1 (one_loan 66667 0 66667 ∷ [])
     ∷ row (staff 1 1) (NewOffice 2 1 (codes "North")) (Ok (OfficeMade 2))
     ∷ row (staff 1 1) (Office 2 (AddStaff (codes "Ben") Teller)) (Ok (StaffMade (record { office = 2; staff = 1 })))
-    ∷ reported 1 1 (one_loan 66667 0 66667 ∷ line_of 2 [] ∷ [])
-    ∷ reported 2 1 (line_of 2 [] ∷ [])
+    ∷ report_row 1 1 (one_loan 66667 0 66667 ∷ line_of 2 [] ∷ [])
+    ∷ report_row 2 1 (line_of 2 [] ∷ [])
     ∷ []
     )
 
 -- where interest alone is left the loan still counts, and once it is paid it does not
 abbrev pub interest_left : List (Line × Result Reply Fault)
 interest_left = start_by (record (usual None) { strategy = PrincipalFirst }) ++ (
-    repaid 101667 february 1
-    ∷ reported 1 1 (one_loan 0 0 0 ∷ [])
-    ∷ repaid 333 february 2
-    ∷ reported 1 1 (line_of 1 [] ∷ [])
+    repayment_row 101667 february 1
+    ∷ report_row 1 1 (one_loan 0 0 0 ∷ [])
+    ∷ repayment_row 333 february 2
+    ∷ report_row 1 1 (line_of 1 [] ∷ [])
     ∷ []
     )

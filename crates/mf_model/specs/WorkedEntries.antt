@@ -1,5 +1,5 @@
 -- Days of a disbursed loan with fees, penalties, waivers, a write-off, a refund and reversals, line by line, with what each line is answered.
-use Rattle.std.specs.Prelude.{ℕ, ◌+◌, ◌-◌, Bool, true, false, List, [], ◌∷◌, ◌++◌, codes, Some, None, Result, Ok, Err}
+use Rattle.std.specs.Prelude.{ℕ, ◌+◌, ◌-◌, true, false, List, [], ◌∷◌, ◌++◌, codes, Some, None, Result, Ok, Err}
 use Rattle.mf_base.specs.declared.fault.Fault.{Fault}
 use Rattle.mf_base.specs.declared.fault.Fault.TheVariants.{F4, F8, F9, F10, F11, F12, F13, F14}
 use Rattle.mf_catalog.specs.declared.charge.Calc.TheVariants.{Flat, OfInterest, OfBoth}
@@ -9,9 +9,10 @@ use Rattle.mf_catalog.specs.declared.terms.StrategyName.TheVariants.{MifosStanda
 use Rattle.mf_alloc.specs.declared.row.Portion.{Portion}
 use Rattle.mf_alloc.specs.declared.row.Portion.TheVariants as portion
 use Rattle.mf_alloc.specs.declared.row.Share.{Share}
+use Rattle.mf_account.specs.declared.entry.Entry.{Entry}
 use Rattle.mf_account.specs.declared.entry.Kind.{Kind}
 use Rattle.mf_account.specs.declared.entry.Kind.TheVariants as kind
-use Rattle.mf_statement.specs.declared.lines.EntryLine.{EntryLine}
+use Rattle.mf_statement.specs.WorkedRows.{line_told}
 use Rattle.mf_model.specs.declared.loan.Statement.{Statement}
 use Rattle.mf_model.specs.declared.reply.Reply.{Reply}
 use Rattle.mf_model.specs.declared.reply.Reply.TheVariants.{ChargeMade}
@@ -26,53 +27,49 @@ use Rattle.mf_model.specs.declared.waivable.Waivable.TheVariants.{Interest}
 use Rattle.mf_model.specs.Accounts.{no_sums}
 use Rattle.mf_model.specs.Run.{Line}
 use Rattle.mf_model.specs.WorkedRows.{staff, account, row, usual}
-use Rattle.mf_model.specs.WorkedAccounts.{january, february, march, start_by, common_start, repaid, not_repaid, shown, stands_at, sums, share, repayment_line, sent_with, told}
+use Rattle.mf_model.specs.WorkedAccounts.{january, february, march, start_by, common_start, repayment_row, not_repaid, show_row, stands_at, sums, share, repayment_line, sent_with, loan_reply}
 
 -- something asked of the first loan, and what it is answered
-abbrev pub asked : LoanRequest → Result Reply Fault → Line × Result Reply Fault
-asked what reply = row (staff 1 1) (Loan (account 1 1) what) reply
+abbrev pub first_loan_row : LoanRequest → Result Reply Fault → Line × Result Reply Fault
+first_loan_row what reply = row (staff 1 1) (Loan (account 1 1) what) reply
 
 -- an entry that is made under a number, and one that is refused
-abbrev pub posted : Posting → ℕ → Line × Result Reply Fault
-posted what seq = asked (Post what) (told 1 1 (Entered seq))
+abbrev pub posting_row : Posting → ℕ → Line × Result Reply Fault
+posting_row what seq = first_loan_row (Post what) (loan_reply 1 1 (Entered seq))
 
 abbrev pub not_posted : Posting → Fault → Line × Result Reply Fault
-not_posted what fault = asked (Post what) (Err fault)
+not_posted what fault = first_loan_row (Post what) (Err fault)
 
 -- a fee by the first charge, and one that is refused
-abbrev pub charged : ℕ → ℕ → Line × Result Reply Fault
-charged due seq = asked (ChargeFee 1 due) (told 1 1 (Entered seq))
+abbrev pub fee_row : ℕ → ℕ → Line × Result Reply Fault
+fee_row due seq = first_loan_row (ChargeFee 1 due) (loan_reply 1 1 (Entered seq))
 
 abbrev pub not_charged : ℕ → ℕ → Fault → Line × Result Reply Fault
-not_charged charge due fault = asked (ChargeFee charge due) (Err fault)
+not_charged charge due fault = first_loan_row (ChargeFee charge due) (Err fault)
 
 -- an entry that counts no more, and one that does still
 abbrev pub taken_back : ℕ → Line × Result Reply Fault
-taken_back seq = asked (Reverse seq) (told 1 1 (Reversed seq))
+taken_back seq = first_loan_row (Reverse seq) (loan_reply 1 1 (Reversed seq))
 
-abbrev pub kept : ℕ → Fault → Line × Result Reply Fault
-kept seq fault = asked (Reverse seq) (Err fault)
+abbrev pub not_taken_back : ℕ → Fault → Line × Result Reply Fault
+not_taken_back seq fault = first_loan_row (Reverse seq) (Err fault)
 
 -- a due-date charge of 500 cents
 abbrev pub visit : Line × Result Reply Fault
 visit = row (staff 1 1) (Catalogue (AddCharge (codes "Visit") DueDate Flat 500)) (Ok (ChargeMade 1))
 
--- an entry of the business day, as it is told
-abbrev pub dated_line : Kind → ℕ → ℕ → Portion → ℕ → ℕ → Bool → List Share → EntryLine
-dated_line kind seq instalment portion entered now reversed shares = record {
-  entry = record {
-    seq = seq;
-    kind = kind;
-    day = march;
-    amount = entered;
-    instalment = instalment;
-    portion = portion;
-    receipt = None;
-    staff = record { office = 1; staff = 1 };
-    reversed = reversed;
-  };
-  amount = now;
-  shares = shares;
+-- an entry of the business day
+abbrev pub entry_now : Kind → ℕ → ℕ → Portion → ℕ → Entry
+entry_now kind seq instalment portion amount = record {
+  seq = seq;
+  kind = kind;
+  day = march;
+  amount = amount;
+  instalment = instalment;
+  portion = portion;
+  receipt = None;
+  staff = record { office = 1; staff = 1 };
+  reversed = false;
 }
 
 -- all that the fresh schedule owes, cell by cell
@@ -96,16 +93,16 @@ with_fees owed paid s = record s {
 abbrev pub fee_paid_before : List (Line × Result Reply Fault)
 fee_paid_before = common_start ++ (
     visit
-    ∷ charged march 1
-    ∷ repaid 102500 february 2
-    ∷ shown Show (Shown (with_fees 500 500 (stands_at 600 no_sums no_sums 0)))
-    ∷ shown ShowEntries (Entries (
-    dated_line kind.Fee 1 2 portion.Fee 500 500 false (share 2 portion.Fee 500 ∷ [])
+    ∷ fee_row march 1
+    ∷ repayment_row 102500 february 2
+    ∷ show_row Show (Shown (with_fees 500 500 (stands_at 600 no_sums no_sums 0)))
+    ∷ show_row ShowEntries (Entries (
+    line_told (entry_now kind.Fee 1 2 portion.Fee 500) 500 (share 2 portion.Fee 500 ∷ [])
     ∷ repayment_line 2 february 102500 whole_schedule
     ∷ []
     ))
     ∷ taken_back 1
-    ∷ shown Show (Shown (stands_at 700 (sums 2000 100000) no_sums 500))
+    ∷ show_row Show (Shown (stands_at 700 (sums 2000 100000) no_sums 500))
     ∷ []
     )
 
@@ -115,18 +112,18 @@ fees_by_day = common_start ++ (
     visit
     ∷ not_charged 2 march F4
     ∷ not_charged 1 (january - 1) F10
-    ∷ charged february 1
-    ∷ charged (february + 1) 2
-    ∷ charged (march + 45) 3
+    ∷ fee_row february 1
+    ∷ fee_row (february + 1) 2
+    ∷ fee_row (march + 45) 3
     ∷ row (staff 1 1) (Catalogue (AddCharge (codes "Late") Overdue Flat 500)) (Ok (ChargeMade 2))
     ∷ not_charged 2 march F8
     ∷ not_charged 2 (january - 1) F10
     ∷ row (staff 1 1) (Catalogue (AddCharge (codes "Speck") DueDate OfInterest 1)) (Ok (ChargeMade 3))
     ∷ not_charged 3 march F8
-    ∷ shown ShowEntries (Entries (
-    dated_line kind.Fee 1 1 portion.Fee 500 500 false []
-    ∷ dated_line kind.Fee 2 2 portion.Fee 500 500 false []
-    ∷ dated_line kind.Fee 3 3 portion.Fee 500 500 false []
+    ∷ show_row ShowEntries (Entries (
+    line_told (entry_now kind.Fee 1 1 portion.Fee 500) 500 []
+    ∷ line_told (entry_now kind.Fee 2 2 portion.Fee 500) 500 []
+    ∷ line_told (entry_now kind.Fee 3 3 portion.Fee 500) 500 []
     ∷ []
     ))
     ∷ []
@@ -135,14 +132,14 @@ fees_by_day = common_start ++ (
 -- a waiver clears what is outstanding as the entries stand now
 abbrev pub waiving : List (Line × Result Reply Fault)
 waiving = common_start ++ (
-    posted (Waiver 2 Interest) 1
-    ∷ shown ShowEntries (Entries (dated_line kind.Waive 1 2 portion.Interest 0 667 false (share 2 portion.Interest 667 ∷ []) ∷ []))
+    posting_row (Waiver 2 Interest) 1
+    ∷ show_row ShowEntries (Entries (line_told (entry_now kind.Waive 1 2 portion.Interest 0) 667 (share 2 portion.Interest 667 ∷ []) ∷ []))
     ∷ not_posted (Waiver 2 Interest) F14
     ∷ not_posted (Waiver 4 Interest) F14
-    ∷ repaid 40000 february 2
-    ∷ shown Show (Shown (stands_at 300 (sums 1667 38333) (sums 333 61667) 0))
-    ∷ shown ShowEntries (Entries (
-    dated_line kind.Waive 1 2 portion.Interest 0 0 false []
+    ∷ repayment_row 40000 february 2
+    ∷ show_row Show (Shown (stands_at 300 (sums 1667 38333) (sums 333 61667) 0))
+    ∷ show_row ShowEntries (Entries (
+    line_told (entry_now kind.Waive 1 2 portion.Interest 0) 0 []
     ∷ repayment_line 2 february 40000 (share 1 portion.Interest 1000 ∷ share 1 portion.Principal 33333 ∷ share 2 portion.Interest 667 ∷ share 2 portion.Principal 5000 ∷ [])
     ∷ []
     ))
@@ -156,15 +153,15 @@ overdue_start strategy =
     ∷ start_by (record (usual None) { strategy = strategy; overdue_charge = Some 1 })
 
 -- a penalty on the first instalment, of which one stands at most, and what a repayment then fills
-abbrev pub penalized : StrategyName → List Share → List (Line × Result Reply Fault)
-penalized strategy shares = overdue_start strategy ++ (
-    posted (Penalty 1) 1
+abbrev pub penalty_by : StrategyName → List Share → List (Line × Result Reply Fault)
+penalty_by strategy shares = overdue_start strategy ++ (
+    posting_row (Penalty 1) 1
     ∷ not_posted (Penalty 1) F14
     ∷ not_posted (Penalty 2) F14
     ∷ not_posted (Penalty 4) F14
-    ∷ repaid 5000 march 2
-    ∷ shown ShowEntries (Entries (
-    dated_line kind.Penalty 1 1 portion.Penalty 3433 3433 false []
+    ∷ repayment_row 5000 march 2
+    ∷ show_row ShowEntries (Entries (
+    line_told (entry_now kind.Penalty 1 1 portion.Penalty 3433) 3433 []
     ∷ repayment_line 2 march 5000 shares
     ∷ []
     ))
@@ -172,76 +169,76 @@ penalized strategy shares = overdue_start strategy ++ (
     )
 
 abbrev pub penalties_first : List (Line × Result Reply Fault)
-penalties_first = penalized MifosStandard (share 1 portion.Penalty 3433 ∷ share 1 portion.Interest 1000 ∷ share 1 portion.Principal 567 ∷ [])
+penalties_first = penalty_by MifosStandard (share 1 portion.Penalty 3433 ∷ share 1 portion.Interest 1000 ∷ share 1 portion.Principal 567 ∷ [])
 
 abbrev pub principal_before : List (Line × Result Reply Fault)
-principal_before = penalized PrincipalFirst (share 1 portion.Principal 5000 ∷ [])
+principal_before = penalty_by PrincipalFirst (share 1 portion.Principal 5000 ∷ [])
 
 abbrev pub interest_before : List (Line × Result Reply Fault)
-interest_before = penalized InterestFirst (share 1 portion.Interest 1000 ∷ share 1 portion.Principal 4000 ∷ [])
+interest_before = penalty_by InterestFirst (share 1 portion.Interest 1000 ∷ share 1 portion.Principal 4000 ∷ [])
 
 -- a penalty that is reversed leaves its money to the rest, and may be entered again
 abbrev pub penalty_taken_back : List (Line × Result Reply Fault)
 penalty_taken_back = overdue_start MifosStandard ++ (
-    posted (Penalty 1) 1
-    ∷ repaid 5000 march 2
+    posting_row (Penalty 1) 1
+    ∷ repayment_row 5000 march 2
     ∷ taken_back 1
-    ∷ shown ShowEntries (Entries (
-    dated_line kind.Penalty 1 1 portion.Penalty 3433 3433 true []
+    ∷ show_row ShowEntries (Entries (
+    line_told (record (entry_now kind.Penalty 1 1 portion.Penalty 3433) { reversed = true }) 3433 []
     ∷ repayment_line 2 march 5000 (share 1 portion.Interest 1000 ∷ share 1 portion.Principal 4000 ∷ [])
     ∷ []
     ))
-    ∷ posted (Penalty 1) 3
+    ∷ posting_row (Penalty 1) 3
     ∷ []
     )
 
 -- an entry that is reversed leaves its place to the later ones
 abbrev pub reversing : List (Line × Result Reply Fault)
 reversing = common_start ++ (
-    repaid 20000 february 1
-    ∷ repaid 50000 march 2
+    repayment_row 20000 february 1
+    ∷ repayment_row 50000 march 2
     ∷ taken_back 1
-    ∷ shown Show (Shown (stands_at 300 (sums 1667 48333) (sums 333 51667) 0))
-    ∷ kept 1 F13
-    ∷ kept 9 F12
-    ∷ kept 0 F12
+    ∷ show_row Show (Shown (stands_at 300 (sums 1667 48333) (sums 333 51667) 0))
+    ∷ not_taken_back 1 F13
+    ∷ not_taken_back 9 F12
+    ∷ not_taken_back 0 F12
     ∷ []
     )
 
 -- the loan with what was refunded
-abbrev pub refunded : ℕ → Statement → Statement
-refunded amount s = record s { balances = record s.balances { refunded = amount } }
+abbrev pub with_refund : ℕ → Statement → Statement
+with_refund amount s = record s { balances = record s.balances { refunded = amount } }
 
 -- what is overpaid is given back; the refund seals the loan until it is reversed
 abbrev pub refunding : List (Line × Result Reply Fault)
 refunding = common_start ++ (
     not_posted Refund F9
-    ∷ repaid 110000 march 1
-    ∷ posted Refund 2
-    ∷ shown Show (Shown (refunded 8000 (stands_at 600 (sums 2000 100000) no_sums 0)))
-    ∷ kept 1 F11
+    ∷ repayment_row 110000 march 1
+    ∷ posting_row Refund 2
+    ∷ show_row Show (Shown (with_refund 8000 (stands_at 600 (sums 2000 100000) no_sums 0)))
+    ∷ not_taken_back 1 F11
     ∷ not_posted Refund F11
     ∷ taken_back 2
-    ∷ shown Show (Shown (stands_at 700 (sums 2000 100000) no_sums 8000))
-    ∷ kept 2 F13
+    ∷ show_row Show (Shown (stands_at 700 (sums 2000 100000) no_sums 8000))
+    ∷ not_taken_back 2 F13
     ∷ []
     )
 
 -- the loan with what was written off
-abbrev pub written_off : ℕ → Statement → Statement
-written_off principal s = record s { balances = record s.balances { written_off = sums 0 principal } }
+abbrev pub with_write_off : ℕ → Statement → Statement
+with_write_off principal s = record s { balances = record s.balances { written_off = sums 0 principal } }
 
 -- what is outstanding is written off; the write-off seals the loan until it is reversed
 abbrev pub writing_off : List (Line × Result Reply Fault)
 writing_off = common_start ++ (
-    repaid 20000 february 1
-    ∷ repaid 50000 march 2
-    ∷ posted WriteOff 3
-    ∷ shown Show (Shown (written_off 32000 (stands_at 601 (sums 2000 68000) no_sums 0)))
+    repayment_row 20000 february 1
+    ∷ repayment_row 50000 march 2
+    ∷ posting_row WriteOff 3
+    ∷ show_row Show (Shown (with_write_off 32000 (stands_at 601 (sums 2000 68000) no_sums 0)))
     ∷ not_repaid 1 march F11
-    ∷ kept 1 F11
+    ∷ not_taken_back 1 F11
     ∷ taken_back 3
-    ∷ shown Show (Shown (stands_at 300 (sums 2000 68000) (sums 0 32000) 0))
+    ∷ show_row Show (Shown (stands_at 300 (sums 2000 68000) (sums 0 32000) 0))
     ∷ not_posted (Penalty 1) F14
     ∷ []
     )
@@ -249,9 +246,9 @@ writing_off = common_start ++ (
 -- a receipt stays known where its entry is reversed
 abbrev pub receipt_of_a_reversed_entry : List (Line × Result Reply Fault)
 receipt_of_a_reversed_entry = common_start ++ (
-    sent_with (codes "R-1") 1 1 20000 february (told 1 1 (Entered 1))
+    sent_with (codes "R-1") 1 1 20000 february (loan_reply 1 1 (Entered 1))
     ∷ taken_back 1
-    ∷ sent_with (codes "R-1") 1 1 20000 february (told 1 1 (Repeated 1))
-    ∷ shown Show (Shown (stands_at 300 no_sums (sums 2000 100000) 0))
+    ∷ sent_with (codes "R-1") 1 1 20000 february (loan_reply 1 1 (Repeated 1))
+    ∷ show_row Show (Shown (stands_at 300 no_sums (sums 2000 100000) 0))
     ∷ []
     )

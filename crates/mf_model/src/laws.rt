@@ -6,20 +6,20 @@ ghost use Rattle.mf_office.specs.declared.caller.Caller.{Caller};
 ghost use Rattle.mf_model.specs.Institution.{Institution, Catalogue, Rows, Staff, Ledger, Change, Catalogue_becomes, Rows_become, Office_added, after, office_at, newly_made};
 ghost use Rattle.mf_model.specs.Tree.{IsTree, view, is_there, parent_of};
 ghost use Rattle.mf_model.specs.Desk.{effect, outcome, change_in, meets, need, reply, staff_at};
-ghost use Rattle.mf_model.specs.Unseen.{Asked, IsUnseen, asked_of, sent};
+ghost use Rattle.mf_model.specs.Unseen.{Asked, IsUnseen, asked_of, call_from};
 ghost use Rattle.mf_model.specs.Sound.{IsSound, IsInRange, AreInRange};
 ghost use Rattle.mf_model.specs.WorkedRows.{first_day, branches, chain, lending, first_of_2024, catalogue_day, deciding};
-ghost use Rattle.mf_model.specs.WorkedAccounts.{january, repaying, scheduled, back_dated, overpaying, principal_first, out_of_order, disbursing, receipts};
+ghost use Rattle.mf_model.specs.WorkedAccounts.{january, repaying, schedule_shown, back_dated, overpaying, principal_first, out_of_order, disbursing, receipts};
 ghost use Rattle.mf_model.specs.WorkedEntries.{fee_paid_before, fees_by_day, waiving, penalties_first, principal_before, interest_before, penalty_taken_back, reversing, refunding, writing_off, receipt_of_a_reversed_entry};
 ghost use Rattle.mf_model.specs.WorkedArrears.{thirty_days, interest_left};
 ghost use Rattle.mf_base.specs.DayText.{last_entered_day};
 ghost use Rattle.mf_office.specs.Tree.{IsTreeOf};
 ghost use Rattle.mf_model.specs.declared.request.Call.{Call};
-ghost use Rattle.mf_model.specs.Run.{Line, ViewIsPlay, RepliesArePlay, OwnRepliesArePlay, Alike, NoneGivenUp, from_office, from_caller, given_up, told, answer, answers, last, next, touching, play_replies};
+ghost use Rattle.mf_model.specs.Run.{Line, ViewIsPlay, RepliesArePlay, OwnRepliesArePlay, Alike, NoneGivenUp, from_office, from_caller, given_up, replies_to, answer, answers, last, next, touching_list, play_replies};
 ghost use Rattle.mf_model.specs.Store.{left_by, left_after, ledger_at, account_of, use_at};
 ghost use Rattle.mf_model.specs.declared.request.Repayment.{Repayment};
 ghost use Rattle.mf_model.specs.declared.request.LoanRequest.TheVariants.{Repay};
-ghost use Rattle.mf_model.specs.Receipts.{Use, used, uses_from, repeated};
+ghost use Rattle.mf_model.specs.Receipts.{Use, first_use, uses_from, repeated_seq};
 ghost use Rattle.mf_model.specs.Loans.{on_loan, repeat_of};
 ghost use Rattle.mf_catalog.specs.declared.terms.Terms.{Terms};
 ghost use Rattle.mf_account.specs.Loan.{Loan as Running, IsSound as IsSoundAccount};
@@ -56,9 +56,9 @@ pub fn isolation()
 /// The same where no line was given up: these are all the replies.
 pub fn isolation_with_memory()
     ensures replies { (i : Institution) (lines : List Line) → IsTree i.offices → NoneGivenUp lines →
-        (o : ℕ) → told (from_office o) lines (answers lines i) ≡ play_replies (from_office o) (touching o lines i) (view o i) }
+        (o : ℕ) → replies_to (from_office o) lines (answers lines i) ≡ play_replies (from_office o) (touching_list o lines i) (view o i) }
     ensures own_replies { (i : Institution) (lines : List Line) → IsTree i.offices → NoneGivenUp lines →
-        (c : Caller) → told (from_caller c) lines (answers lines i) ≡ play_replies (from_caller c) (touching c.office lines i) (view c.office i) }
+        (c : Caller) → replies_to (from_caller c) lines (answers lines i) ≡ play_replies (from_caller c) (touching_list c.office lines i) (view c.office i) }
 {}
 
 /// Two institutions that agree on what all share and on the rows of the offices at or below one, and whose runs
@@ -68,29 +68,29 @@ pub fn alike()
         Alike o i j lines others → view o (last lines i) ≡ view o (last others j) }
     ensures replies { (o : ℕ) (i j : Institution) (lines others : List Line) → IsTree i.offices → IsTree j.offices →
         Alike o i j lines others → NoneGivenUp lines → NoneGivenUp others →
-        told (from_office o) lines (answers lines i) ≡ told (from_office o) others (answers others j) }
+        replies_to (from_office o) lines (answers lines i) ≡ replies_to (from_office o) others (answers others j) }
     ensures own_replies { (c : Caller) (i j : Institution) (lines others : List Line) → IsTree i.offices → IsTree j.offices →
         Alike c.office i j lines others → NoneGivenUp lines → NoneGivenUp others →
-        told (from_caller c) lines (answers lines i) ≡ told (from_caller c) others (answers others j) }
+        replies_to (from_caller c) lines (answers lines i) ≡ replies_to (from_caller c) others (answers others j) }
 {}
 
 /// The same where lines are given up, if the same ones of the office's, or of the caller's, are.
 pub fn alike_but_given_up()
     ensures replies { (o : ℕ) (i j : Institution) (lines others : List Line) → IsTree i.offices → IsTree j.offices →
         Alike o i j lines others → given_up (from_office o) lines ≡ given_up (from_office o) others →
-        told (from_office o) lines (answers lines i) ≡ told (from_office o) others (answers others j) }
+        replies_to (from_office o) lines (answers lines i) ≡ replies_to (from_office o) others (answers others j) }
     ensures own_replies { (c : Caller) (i j : Institution) (lines others : List Line) → IsTree i.offices → IsTree j.offices →
         Alike c.office i j lines others → given_up (from_caller c) lines ≡ given_up (from_caller c) others →
-        told (from_caller c) lines (answers lines i) ≡ told (from_caller c) others (answers others j) }
+        replies_to (from_caller c) lines (answers lines i) ≡ replies_to (from_caller c) others (answers others j) }
 {}
 
 /// A client or a loan that the caller may not see, and one that isn't there, are answered alike, whatever their
 /// accounts are: with F4, where the caller is known and its role may ask.
 pub fn hidden_is_missing()
     ensures same { (asked : Asked) (a b : Account) (c : Caller) (i : Institution) → IsUnseen c asked a i → IsUnseen c asked b i →
-        reply (sent c (asked_of asked a)) i ≡ reply (sent c (asked_of asked b)) i }
+        reply (call_from c (asked_of asked a)) i ≡ reply (call_from c (asked_of asked b)) i }
     ensures refusal { (asked : Asked) (a : Account) (c : Caller) (s : Staff) (i : Institution) → IsUnseen c asked a i →
-        staff_at i c ≡ Some s → meets (need (asked_of asked a)) s.role c.office ≡ true → reply (sent c (asked_of asked a)) i ≡ Err Fault.F4 }
+        staff_at i c ≡ Some s → meets (need (asked_of asked a)) s.role c.office ≡ true → reply (call_from c (asked_of asked a)) i ≡ Err Fault.F4 }
 {}
 
 /// No call is answered F20 by the definitions: a line is told it only where it is given up.
@@ -157,8 +157,8 @@ pub fn receipts_stay_known()
     ensures known { (i : Institution) (lines : List Line) → IsSound i → AreInRange lines → (office : ℕ) (receipt : List ℕ) (u : Use) →
         use_at office receipt i ≡ Some u → use_at office receipt (last lines i) ≡ Some u }
     ensures again { (asked : Repayment) (caller : Caller) (k : Catalogue) (rows : Rows) (n : ℕ) (ledger : Ledger) (receipt : List ℕ) (u : Use) →
-        asked.receipt ≡ Some receipt → used receipt (uses_from 1 rows.loans) ≡ Some u →
-        on_loan (Repay asked) caller k rows n ledger ≡ repeat_of (repeated n asked.amount asked.day u.by) }
+        asked.receipt ≡ Some receipt → first_use receipt (uses_from 1 rows.loans) ≡ Some u →
+        on_loan (Repay asked) caller k rows n ledger ≡ repeat_of (repeated_seq n asked.amount asked.day u.by) }
 {}
 
 /// What a new institution answers, worked out line by line.
@@ -174,7 +174,7 @@ pub fn worked_rows()
 /// What is told of a disbursed loan, worked out line by line.
 pub fn worked_accounts()
     ensures repaying { answers (map (λ row. row.0) repaying) (newly_made january) ≡ map (λ row. row.1) repaying }
-    ensures scheduled { answers (map (λ row. row.0) scheduled) (newly_made january) ≡ map (λ row. row.1) scheduled }
+    ensures scheduled { answers (map (λ row. row.0) schedule_shown) (newly_made january) ≡ map (λ row. row.1) schedule_shown }
     ensures back_dated { answers (map (λ row. row.0) back_dated) (newly_made january) ≡ map (λ row. row.1) back_dated }
     ensures overpaying { answers (map (λ row. row.0) overpaying) (newly_made january) ≡ map (λ row. row.1) overpaying }
     ensures principal_first { answers (map (λ row. row.0) principal_first) (newly_made january) ≡ map (λ row. row.1) principal_first }

@@ -21,5 +21,5 @@ pub use request::{
     Application, Call, CatalogueRequest, Flaw, LoanRequest, LoanStep, OfficeRequest, PlainStep,
     Posting, Repayment, Request,
 };
-pub use store::{CatalogueCounts, Counts, InstitutionStore};
+pub use store::{CatalogueCounts, Counts, InstitutionStore, MOST_IN_CATALOGUE};
 pub use waivable::Waivable;

@@ -15,6 +15,9 @@ pub struct Counts {
     pub loans: u32,
 }
 
+/// The most charges that the catalogue may have, and the most products.
+pub const MOST_IN_CATALOGUE: u32 = 999;
+
 /// How many charges and products the catalogue has.
 #[derive(Clone, Copy, PartialEq, Eq)]
 pub struct CatalogueCounts {

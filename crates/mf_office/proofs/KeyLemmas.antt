@@ -3,7 +3,7 @@ use Rattle.std.proofs.Common.{◌≡◌, ℕ, zero, suc, ◌^◌, ◌<◌, Bool,
 use Rattle.std.specs.Prelude.{◌==◌, ◌||◌, decimal}
 use Rattle.std.proofs.lemmas.Bool.Decides.{nat_tests}
 use Rattle.mf_office.specs.Tree.{IsTreeOf, IsTree, Place, is_there, parent_of, is_within, is_at_or_below}
-use Rattle.mf_office.specs.Keys.{grown, head_key, child_key, key_within, key_of, raised, is_in_range, EndsWithDot}
+use Rattle.mf_office.specs.Keys.{key_under, head_key, child_key, key_within, key_of, with_last_raised, is_in_range, EndsWithDot}
 use Rattle.mf_office.proofs.TextLemmas.{ends_with_dot, starts_with, same_text, raised_is, range_is, last_part, parts, same_self, same_is, last_number, after_dot, last_of_digits, decimal_is}
 use Rattle.mf_office.proofs.TreeLemmas.{within_none, within_some, step_up, is_head, zero_head, reaches}
 
@@ -11,11 +11,11 @@ use Rattle.mf_office.proofs.TreeLemmas.{within_none, within_some, step_up, is_he
 pub key_none : (n : ℕ) (parents : ℕ → Option ℕ) (x : ℕ) → parents x ≡ None → key_within n parents x ≡ 46 ∷ []
 unfolding key_within
 key_none zero parents x e = refl
-key_none (suc n) parents x e = ap (λ q. grown q (λ p. key_within n parents p) x) e
+key_none (suc n) parents x e = ap (λ q. key_under q (λ p. key_within n parents p) x) e
 
 pub key_some : (n : ℕ) (parents : ℕ → Option ℕ) (x p : ℕ) → parents x ≡ Some p → key_within (suc n) parents x ≡ key_within n parents p ++ (decimal x ++ 46 ∷ [])
 unfolding key_within
-key_some n parents x p e = ap (λ q. grown q (λ p. key_within n parents p) x) e
+key_some n parents x p e = ap (λ q. key_under q (λ p. key_within n parents p) x) e
 
 -- a key is the same from any height that reaches the head
 pub key_any : (m n : ℕ) (there : ℕ → Bool) (parents : ℕ → Option ℕ) (x : ℕ) (q : Option ℕ) → IsTreeOf there parents → parents x ≡ q → is_within m parents x 1 ≡ true → is_within n parents x 1 ≡ true → key_within m parents x ≡ key_within n parents x
@@ -104,11 +104,11 @@ begins (suc n) there parents x y (Some p) t xt yt r e =
     ∙ sym (within_some n parents x y p e)
 
 -- the range of a key is the subtree
-pub range_below : (there : ℕ → Bool) (parents : ℕ → Option ℕ) → IsTreeOf there parents → (x y : ℕ) → there x ≡ true → there y ≡ true → is_in_range (key_of parents y) (raised (key_of parents y)) (key_of parents x) ≡ is_at_or_below parents x y
+pub range_below : (there : ℕ → Bool) (parents : ℕ → Option ℕ) → IsTreeOf there parents → (x y : ℕ) → there x ≡ true → there y ≡ true → is_in_range (key_of parents y) (with_last_raised (key_of parents y)) (key_of parents x) ≡ is_at_or_below parents x y
 unfolding key_of is_at_or_below
 range_below there parents t x y xt yt =
     let q = key_ends 5 parents y (parents y) refl in
-    ap (λ z. is_in_range z (raised z) (key_within 5 parents x)) q.1
+    ap (λ z. is_in_range z (with_last_raised z) (key_within 5 parents x)) q.1
     ∙ ap (λ z. is_in_range (q.0 ++ 46 ∷ []) z (key_within 5 parents x)) (raised_is q.0)
     ∙ range_is q.0 (key_within 5 parents x)
     ∙ ap (λ z. starts_with z (key_within 5 parents x)) (sym q.1)
@@ -126,9 +126,9 @@ key_of-child there parents t x p here e =
     key_some 4 parents x p e
     ∙ ap (λ a. child_key a x) (key_any 4 5 there parents p (parents p) t refl (step_up 4 there parents x p t e r) (reaches there parents p t (t.parents_there x p here e)))
 
-pub range_of_tree : (low high key : List ℕ) (r : Bool) → r ≡ is_in_range low high key → (places : List Place) → IsTree places → (x y : ℕ) → is_there places x ≡ true → is_there places y ≡ true → low ≡ key_of (parent_of places) y → high ≡ raised (key_of (parent_of places) y) → key ≡ key_of (parent_of places) x → r ≡ is_at_or_below (parent_of places) x y
+pub range_of_tree : (low high key : List ℕ) (r : Bool) → r ≡ is_in_range low high key → (places : List Place) → IsTree places → (x y : ℕ) → is_there places x ≡ true → is_there places y ≡ true → low ≡ key_of (parent_of places) y → high ≡ with_last_raised (key_of (parent_of places) y) → key ≡ key_of (parent_of places) x → r ≡ is_at_or_below (parent_of places) x y
 range_of_tree low high key r v places t x y xt yt l h k =
-    let same : is_in_range low high key ≡ is_in_range (key_of (parent_of places) y) (raised (key_of (parent_of places) y)) (key_of (parent_of places) x) = cc in
+    let same : is_in_range low high key ≡ is_in_range (key_of (parent_of places) y) (with_last_raised (key_of (parent_of places) y)) (key_of (parent_of places) x) = cc in
     v ∙ same ∙ range_below (is_there places) (parent_of places) t.tree x y xt yt
 
 pub key_of-ends : (parents : ℕ → Option ℕ) (x : ℕ) → EndsWithDot (key_of parents x)

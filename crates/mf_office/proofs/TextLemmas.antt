@@ -7,7 +7,7 @@ use Rattle.std.proofs.lemmas.Cmp.{same_from_slice_cmp}
 use Rattle.std.proofs.lemmas.Grind.{common_steps}
 use Rattle.std.specs.Ordering.{nat_cmp, is_lt, is_le}
 use Rattle.std.specs.Cmp.Lexicographic.{slice_cmp}
-use Rattle.mf_office.specs.Keys.{raised, is_before, is_in_range, EndsWithDot}
+use Rattle.mf_office.specs.Keys.{with_last_raised, is_before, is_in_range, EndsWithDot}
 
 abbrev pub starts_with : List ℕ → List ℕ → Bool
 starts_with [] text = true
@@ -20,7 +20,7 @@ same_text [] (d ∷ ds) = false
 same_text (c ∷ cs) [] = false
 same_text (c ∷ cs) (d ∷ ds) = (c == d) && same_text cs ds
 
-pub raised_is : (q : List ℕ) → raised (q ++ 46 ∷ []) ≡ q ++ 47 ∷ []
+pub raised_is : (q : List ℕ) → with_last_raised (q ++ 46 ∷ []) ≡ q ++ 47 ∷ []
 raised_is [] = refl
 raised_is (c ∷ []) = refl
 raised_is (c ∷ d ∷ cs) = ap (λ x. c ∷ x) (raised_is (d ∷ cs))
@@ -143,13 +143,13 @@ not_from low high text from f off =
 pub ends_with_dot : (q : List ℕ) → EndsWithDot (q ++ 46 ∷ [])
 ends_with_dot q = grind (arith, common_steps)
 
-take_raised : (c : ℕ) (cs : List ℕ) (i : ℕ) → i ≡ length cs → take i (c ∷ cs) ++ 47 ∷ [] ≡ raised (c ∷ cs)
+take_raised : (c : ℕ) (cs : List ℕ) (i : ℕ) → i ≡ length cs → take i (c ∷ cs) ++ 47 ∷ [] ≡ with_last_raised (c ∷ cs)
 take_raised c [] zero e = refl
 take_raised c (d ∷ cs) (suc i) e = ap (λ x. c ∷ x) (take_raised d cs i (omega arith))
 take_raised c [] (suc i) e = absurd (omega arith)
 take_raised c (d ∷ cs) zero e = absurd (omega arith)
 
-pub raised-take : (text : List ℕ) → EndsWithDot text → take (length text - 1) text ++ 47 ∷ [] ≡ raised text
+pub raised-take : (text : List ℕ) → EndsWithDot text → take (length text - 1) text ++ 47 ∷ [] ≡ with_last_raised text
 raised-take [] h = absurd (omega arith)
 raised-take (c ∷ cs) h = take_raised c cs (length (c ∷ cs) - 1) (omega arith)
 
@@ -161,7 +161,7 @@ pub child_ends : (text parent number : List ℕ) → text ≡ parent ++ (number 
 child_ends text parent number e = rw (e, ← append_assoc) (ends_with_dot (parent ++ number))
 
 -- the code takes the last character off, and puts a slash there
-pub raised-popped : (text rest : List ℕ) (n : ℕ) → EndsWithDot text → n ≡ length text → (0 < n → get_or text (n - 1) 0 < 128 → rest ≡ take (n - 1) text) → rest ++ 47 ∷ [] ≡ raised text
+pub raised-popped : (text rest : List ℕ) (n : ℕ) → EndsWithDot text → n ≡ length text → (0 < n → get_or text (n - 1) 0 < 128 → rest ≡ take (n - 1) text) → rest ++ 47 ∷ [] ≡ with_last_raised text
 raised-popped text rest n dot len popped =
     let some : 0 < length text = dot_not_empty text dot in
     let byte : get_or text (n - 1) 0 ≡ 46 = ap (λ k. get_or text (k - 1) 0) len ∙ dot in

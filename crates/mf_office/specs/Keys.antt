@@ -11,14 +11,14 @@ abbrev pub child_key : List ℕ → ℕ → List ℕ
 child_key parent_key number = parent_key ++ (decimal number ++ codes ".")
 
 -- where there is no parent the key is the head's, else a child's
-abbrev pub grown : Option ℕ → (ℕ → List ℕ) → ℕ → List ℕ
-grown None above x = head_key
-grown (Some p) above x = child_key (above p) x
+abbrev pub key_under : Option ℕ → (ℕ → List ℕ) → ℕ → List ℕ
+key_under None above x = head_key
+key_under (Some p) above x = child_key (above p) x
 
 -- the key of x, of which the head is at most n steps up
 unfoldable pub key_within : ℕ → (ℕ → Option ℕ) → ℕ → List ℕ
 key_within zero parents x = head_key
-key_within (suc n) parents x = grown (parents x) (λ p. key_within n parents p) x
+key_within (suc n) parents x = key_under (parents x) (λ p. key_within n parents p) x
 
 -- the hierarchy text of x. A tree is at most six deep, so five steps lead up to the head
 unfoldable pub key_of : (ℕ → Option ℕ) → ℕ → List ℕ
@@ -44,10 +44,10 @@ abbrev pub EndsWithDot : List ℕ → Type 0
 EndsWithDot text = slice_index text (length text - 1) ≡ 46
 
 -- the text with a slash, the byte after the dot, for its last byte
-abbrev pub raised : List ℕ → List ℕ
-raised [] = []
-raised (c ∷ []) = 47 ∷ []
-raised (c ∷ d ∷ cs) = c ∷ raised (d ∷ cs)
+abbrev pub with_last_raised : List ℕ → List ℕ
+with_last_raised [] = []
+with_last_raised (c ∷ []) = 47 ∷ []
+with_last_raised (c ∷ d ∷ cs) = c ∷ with_last_raised (d ∷ cs)
 
 -- a stands before b, by bytes
 abbrev pub is_before : List ℕ → List ℕ → Bool

@@ -1,5 +1,5 @@
 ghost use Rattle.std.specs.Prelude.{◌≡◌, ℕ, List, true, string_bytes, IfOk, IsOkUnless, SomeIff};
-ghost use Rattle.mf_office.specs.Keys.{key_depth, head_key, child_key, raised, is_in_range, key_of, EndsWithDot};
+ghost use Rattle.mf_office.specs.Keys.{key_depth, head_key, child_key, with_last_raised, is_in_range, key_of, EndsWithDot};
 ghost use Rattle.mf_office.specs.Tree.{Place, IsTree, is_there, parent_of, is_at_or_below};
 
 use crate::office::OfficeNo;
@@ -86,7 +86,7 @@ impl Key {
     /// in place of its last `.`. The low end is in the range, the high end is not. Its only error is F20.
     pub fn range(&self, alloc: Global) -> Result<(String, String), Fault>
         ensures low { IfOk result (λ ends. string_bytes ends.0 ≡ self.now) }
-        ensures high { IfOk result (λ ends. string_bytes ends.1 ≡ raised self.now) }
+        ensures high { IfOk result (λ ends. string_bytes ends.1 ≡ with_last_raised self.now) }
         ensures err { IsOkUnless result Fault.F20 }
     {
         let low = String::from_str(alloc, self.as_str())?;
@@ -103,7 +103,7 @@ impl Key {
 pub fn in_range(low: &str, high: &str, key: &str) -> bool
     ensures value { result ≡ is_in_range low.now high.now key.now }
     ensures subtree { (places : List Place) → IsTree places → (x y : ℕ) → is_there places x ≡ true → is_there places y ≡ true →
-        low.now ≡ key_of (parent_of places) y → high.now ≡ raised (key_of (parent_of places) y) → key.now ≡ key_of (parent_of places) x →
+        low.now ≡ key_of (parent_of places) y → high.now ≡ with_last_raised (key_of (parent_of places) y) → key.now ≡ key_of (parent_of places) x →
         result ≡ is_at_or_below (parent_of places) x y }
 {
     low <= key && key < high

@@ -4,7 +4,7 @@ ghost use Rattle.std.specs.Prelude.{◌≡◌, ◌↔◌, ℕ, ◌≤◌, ◌==�
 ghost use Rattle.mf_office.specs.Tree.{IsTree, IsTreeOf, AddsOffice, IsAtOrBelow, is_within, is_at_or_below, option_any, parent_of, small_tree};
 ghost use Rattle.mf_office.specs.Written.{caller_text, account_text};
 ghost use Rattle.mf_office.specs.Texts.{caller_of, account_of};
-ghost use Rattle.mf_office.specs.Keys.{GrowsByParents, key_of, key_depth, head_key, child_key, raised, is_in_range, EndsWithDot};
+ghost use Rattle.mf_office.specs.Keys.{GrowsByParents, key_of, key_depth, head_key, child_key, with_last_raised, is_in_range, EndsWithDot};
 
 /// In a tree an office is at or below another exactly where it is that office, or its parent is at or below it,
 /// however many steps that takes.
@@ -29,7 +29,7 @@ pub fn key_by_parents()
 /// In a tree the range of an office's key selects the keys of the offices at or below it, and no other office's.
 pub fn range_is_subtree()
     ensures { (there : ℕ → Bool) (parents : ℕ → Option ℕ) → IsTreeOf there parents → (x y : ℕ) → there x ≡ true → there y ≡ true →
-        is_in_range (key_of parents y) (raised (key_of parents y)) (key_of parents x) ≡ is_at_or_below parents x y }
+        is_in_range (key_of parents y) (with_last_raised (key_of parents y)) (key_of parents x) ≡ is_at_or_below parents x y }
 {}
 
 /// An office put under one that is at most five deep leaves a tree. Of the offices that were there, it changes neither
@@ -63,9 +63,9 @@ pub fn tree_by_its_keys()
 /// An office with number 2 under the head, 20 beside it, and 5 under 2.
 pub fn worked_rows()
     ensures tree { IsTree small_tree }
-    ensures head { (key_of (parent_of small_tree) 1 ≡ codes ".") × (raised (codes ".") ≡ codes "/") }
+    ensures head { (key_of (parent_of small_tree) 1 ≡ codes ".") × (with_last_raised (codes ".") ≡ codes "/") }
     ensures keys { (key_of (parent_of small_tree) 2 ≡ codes ".2.") × (key_of (parent_of small_tree) 20 ≡ codes ".20.") × (key_of (parent_of small_tree) 5 ≡ codes ".2.5.") }
-    ensures range { raised (codes ".2.") ≡ codes ".2/" }
+    ensures range { with_last_raised (codes ".2.") ≡ codes ".2/" }
     ensures below { is_in_range (codes ".2.") (codes ".2/") (codes ".2.5.") ≡ true }
     ensures beside { is_in_range (codes ".2.") (codes ".2/") (codes ".20.") ≡ false }
     ensures above { is_in_range (codes ".2.") (codes ".2/") (codes ".") ≡ false }

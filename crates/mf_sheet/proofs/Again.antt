@@ -13,12 +13,12 @@ use Rattle.mf_office.specs.Tree.{is_at_or_below}
 use Rattle.mf_account.specs.declared.entry.Entry.{Entry}
 use Rattle.mf_account.specs.Loan.{Loan as Running, status_of_loan}
 use Rattle.mf_account.specs.Refusals.{is_standing_seal, is_sealed, refusal_of}
-use Rattle.mf_model.specs.Institution.{Institution, Catalogue, Office, Ledger, Rows, Staff, office_at, with_rows, numbered, with_numbered, after, Rows_become}
+use Rattle.mf_model.specs.Institution.{Institution, Catalogue, Office, Ledger, Rows, Staff, office_at, with_rows, item_numbered, with_numbered, after, Rows_become}
 use Rattle.mf_model.specs.Tree.{parent_of, seen_office}
 use Rattle.mf_model.specs.Accounts.{account_in, running_from, terms_in}
 use Rattle.mf_model.specs.Desk.{staff_at}
-use Rattle.mf_model.specs.Loans.{entered, loan_changed}
-use Rattle.mf_model.specs.Receipts.{Use, use_by, uses_from, used, repeated}
+use Rattle.mf_model.specs.Loans.{with_new_entry, loan_changed}
+use Rattle.mf_model.specs.Receipts.{Use, use_by, uses_from, first_use, repeated_seq}
 use Rattle.mf_model.proofs.AccountLemmas.{IsRunning, account_is}
 use Rattle.mf_model.proofs.Confined.{others_stay}
 use Rattle.mf_model.proofs.StaffLemmas.{rows_found}
@@ -109,7 +109,7 @@ sealed_after es e none unsealed =
 abbrev with_entry : Entry → Running → Running
 with_entry e a = record a { entries = a.entries ++ e ∷ [] }
 
-account_after : (k : Catalogue) (l : Ledger) (a : Running) (e : Entry) → account_in k l ≡ Some a → account_in k (entered e l) ≡ Some (with_entry e a)
+account_after : (k : Catalogue) (l : Ledger) (a : Running) (e : Entry) → account_in k l ≡ Some a → account_in k (with_new_entry e l) ≡ Some (with_entry e a)
 account_after k l a e h =
     let is : IsRunning k l a = account_is k l a h in
     ap (λ day. running_from l.loan (l.entries ++ e ∷ []) day (terms_in k l.loan.product)) is.day_is
@@ -150,10 +150,10 @@ module _ (c d : Caller) (r q : SheetRepayment) (a : Running) (day : ℕ) (allowe
       )
 
 -- a receipt that was used by another loan or on another day
-elsewhere : (n m amount day : ℕ) (e : Entry) → (n == m) ≡ false → repeated m amount day (use_by n e) ≡ Err F15
+elsewhere : (n m amount day : ℕ) (e : Entry) → (n == m) ≡ false → repeated_seq m amount day (use_by n e) ≡ Err F15
 elsewhere n m amount day e other = ap (λ b. cond b (Ok e.seq) (Err F15)) (ap (λ b. b && ((e.amount == amount) && (e.day == day))) other)
 
-on_other_day : (n m amount day : ℕ) (e : Entry) → (e.day == day) ≡ false → repeated m amount day (use_by n e) ≡ Err F15
+on_other_day : (n m amount day : ℕ) (e : Entry) → (e.day == day) ≡ false → repeated_seq m amount day (use_by n e) ≡ Err F15
 on_other_day n m amount day e other = ap (λ b. cond ((n == m) && ((e.amount == amount) && b)) (Ok e.seq) (Err F15)) other ∙ either (n == m) (e.amount == amount)
   where
     either : (a b : Bool) → cond {A = Result ℕ Fault} (a && (b && false)) (Ok e.seq) (Err F15) ≡ Err F15
@@ -162,7 +162,7 @@ on_other_day n m amount day e other = ap (λ b. cond ((n == m) && ((e.amount == 
     either false b = refl
 
 -- the same loan, amount and day
-pub the_same : (n : ℕ) (e : Entry) → repeated n e.amount e.day (use_by n e) ≡ Ok e.seq
+pub the_same : (n : ℕ) (e : Entry) → repeated_seq n e.amount e.day (use_by n e) ≡ Ok e.seq
 the_same n e =
     ap (λ b. cond (b && ((e.amount == e.amount) && (e.day == e.day))) (Ok e.seq) (Err F15)) (eq-eqb n n refl)
     ∙ ap (λ b. cond (b && (e.day == e.day)) (Ok e.seq) (Err F15)) (eq-eqb e.amount e.amount refl)
@@ -170,29 +170,29 @@ the_same n e =
 
 -- One repayment was entered in an office. What another of the office was told before and is told now.
 module _ (d : Caller) (q : SheetRepayment) (k : Catalogue) (f : Office) (l : Ledger) (a : Running)
-    (free : used q.receipt (uses_from 1 f.rows.loans) ≡ None) (there : numbered f.rows.loans q.loan.number ≡ Some l)
+    (free : first_use q.receipt (uses_from 1 f.rows.loans) ≡ None) (there : item_numbered f.rows.loans q.loan.number ≡ Some l)
     (has : account_in k l ≡ Some a) (allowed : refusal_of a (entry_of d q a) k.day ≡ None) where
   abbrev one : Entry
   one = entry_of d q a
 
   abbrev loans_now : List Ledger
-  loans_now = with_numbered q.loan.number (entered one) f.rows.loans
+  loans_now = with_numbered q.loan.number (with_new_entry one) f.rows.loans
 
   abbrev use_now : Use
   use_now = record { receipt = q.receipt; by = use_by q.loan.number one }
 
-  pub its_use : used q.receipt (uses_from 1 loans_now) ≡ Some use_now
+  pub its_use : first_use q.receipt (uses_from 1 loans_now) ≡ Some use_now
   its_use = used_now q.loan.number one q.receipt f.rows.loans l refl free there
 
-  pub its_loan : numbered loans_now q.loan.number ≡ Some (entered one l)
-  its_loan = numbered_changed q.loan.number (entered one) f.rows.loans l there
+  pub its_loan : item_numbered loans_now q.loan.number ≡ Some (with_new_entry one l)
+  its_loan = numbered_changed q.loan.number (with_new_entry one) f.rows.loans l there
 
   module _ (c : Caller) (r : SheetRepayment) where
     -- another receipt, the same loan
-    same_loan : (u : Option Use) → by_use c r k u l ≢ Entered → IsToldAgain (by_use c r k u l) (by_use c r k u (entered one l))
-    same_loan (Some u) n = told_alike (as_repeat (repeated r.loan.number r.amount r.day u.by)) n
+    same_loan : (u : Option Use) → by_use c r k u l ≢ Entered → IsToldAgain (by_use c r k u l) (by_use c r k u (with_new_entry one l))
+    same_loan (Some u) n = told_alike (as_repeat (repeated_seq r.loan.number r.amount r.day u.by)) n
     same_loan None n =
-        subst (λ o. IsToldAgain (as_entry (account_fault c r k.day o)) (as_entry (account_fault c r k.day (account_in k (entered one l))))) (sym has) (
+        subst (λ o. IsToldAgain (as_entry (account_fault c r k.day o)) (as_entry (account_fault c r k.day (account_in k (with_new_entry one l))))) (sym has) (
         subst (λ o. IsToldAgain (as_entry (account_fault c r k.day (Some a))) (as_entry (account_fault c r k.day o))) (sym (account_after k l a one has)) (
         refused_after c d r q a k.day allowed (λ e. n (ap (λ o. as_entry (account_fault c r k.day o)) has ∙ e))
         )
@@ -208,68 +208,68 @@ module _ (d : Caller) (q : SheetRepayment) (k : Catalogue) (f : Office) (l : Led
     other_loan other (Some m) n = taken (account_fault c r k.day (account_in k m)) _ n (ap as_repeat (elsewhere q.loan.number r.loan.number r.amount r.day one other))
 
     -- the same receipt and the same loan
-    same_both : by_use c r k None l ≢ Entered → IsToldAgain (by_use c r k None l) (by_use c r k (Some use_now) (entered one l))
+    same_both : by_use c r k None l ≢ Entered → IsToldAgain (by_use c r k None l) (by_use c r k (Some use_now) (with_new_entry one l))
     same_both n =
         let refused : as_entry (refusal_of a (entry_of c r a) k.day) ≢ Entered = λ e. n (ap (λ o. as_entry (account_fault c r k.day o)) has ∙ e) in
         taken (account_fault c r k.day (account_in k l)) _ n (ap as_repeat (on_other_day q.loan.number r.loan.number r.amount r.day one (days_apart c d r q a k.day allowed refused)))
 
     abbrev uses : Option Use
-    uses = used r.receipt (uses_from 1 f.rows.loans)
+    uses = first_use r.receipt (uses_from 1 f.rows.loans)
 
     abbrev its : Option Ledger
-    its = numbered f.rows.loans r.loan.number
+    its = item_numbered f.rows.loans r.loan.number
 
     abbrev WasTold : SheetResult → Type 0
     WasTold t = IsToldAgain (by_ledger c r k uses its) t
 
     -- the receipt is another
-    receipt_apart : bytes_eq q.receipt r.receipt ≡ false → by_ledger c r k uses its ≢ Entered → WasTold (by_ledger c r k (used r.receipt (uses_from 1 loans_now)) (numbered loans_now r.loan.number))
+    receipt_apart : bytes_eq q.receipt r.receipt ≡ false → by_ledger c r k uses its ≢ Entered → WasTold (by_ledger c r k (first_use r.receipt (uses_from 1 loans_now)) (item_numbered loans_now r.loan.number))
     receipt_apart apart n =
-        subst (λ u. WasTold (by_ledger c r k u (numbered loans_now r.loan.number))) (sym (used_as_before q.loan.number one r.receipt q.receipt f.rows.loans refl apart)) (
+        subst (λ u. WasTold (by_ledger c r k u (item_numbered loans_now r.loan.number))) (sym (used_as_before q.loan.number one r.receipt q.receipt f.rows.loans refl apart)) (
         elim (cases_eq r.loan.number q.loan.number) [
           | inl is ↦
-              let was : its ≡ Some l = ap (numbered f.rows.loans) is ∙ there in
-              subst (λ o. WasTold (by_ledger c r k uses o)) (sym (ap (numbered loans_now) is ∙ its_loan)) (
-              subst (λ o. IsToldAgain (by_ledger c r k uses o) (by_use c r k uses (entered one l))) (sym was) (
+              let was : its ≡ Some l = ap (item_numbered f.rows.loans) is ∙ there in
+              subst (λ o. WasTold (by_ledger c r k uses o)) (sym (ap (item_numbered loans_now) is ∙ its_loan)) (
+              subst (λ o. IsToldAgain (by_ledger c r k uses o) (by_use c r k uses (with_new_entry one l))) (sym was) (
               same_loan uses (λ e. n (ap (by_ledger c r k uses) was ∙ e))
               )
               )
-          | inr other ↦ alike (by_ledger c r k uses its) _ (ap (by_ledger c r k uses) (numbered_kept q.loan.number r.loan.number (entered one) f.rows.loans l there other)) n
+          | inr other ↦ alike (by_ledger c r k uses its) _ (ap (by_ledger c r k uses) (numbered_kept q.loan.number r.loan.number (with_new_entry one) f.rows.loans l there other)) n
         ]
         )
 
     -- the receipt is the same
-    receipt_taken : q.receipt ≡ r.receipt → by_ledger c r k uses its ≢ Entered → WasTold (by_ledger c r k (used r.receipt (uses_from 1 loans_now)) (numbered loans_now r.loan.number))
+    receipt_taken : q.receipt ≡ r.receipt → by_ledger c r k uses its ≢ Entered → WasTold (by_ledger c r k (first_use r.receipt (uses_from 1 loans_now)) (item_numbered loans_now r.loan.number))
     receipt_taken same n =
-        let was : uses ≡ None = ap (λ t. used t (uses_from 1 f.rows.loans)) (sym same) ∙ free in
+        let was : uses ≡ None = ap (λ t. first_use t (uses_from 1 f.rows.loans)) (sym same) ∙ free in
         let not : by_ledger c r k None its ≢ Entered = λ e. n (ap (λ u. by_ledger c r k u its) was ∙ e) in
-        subst (λ u. IsToldAgain (by_ledger c r k u its) (by_ledger c r k (used r.receipt (uses_from 1 loans_now)) (numbered loans_now r.loan.number))) (sym was) (
-        subst (λ u. IsToldAgain (by_ledger c r k None its) (by_ledger c r k u (numbered loans_now r.loan.number))) (sym (ap (λ t. used t (uses_from 1 loans_now)) (sym same) ∙ its_use)) (
+        subst (λ u. IsToldAgain (by_ledger c r k u its) (by_ledger c r k (first_use r.receipt (uses_from 1 loans_now)) (item_numbered loans_now r.loan.number))) (sym was) (
+        subst (λ u. IsToldAgain (by_ledger c r k None its) (by_ledger c r k u (item_numbered loans_now r.loan.number))) (sym (ap (λ t. first_use t (uses_from 1 loans_now)) (sym same) ∙ its_use)) (
         elim (cases_eq r.loan.number q.loan.number) [
           | inl is ↦
-              let had : its ≡ Some l = ap (numbered f.rows.loans) is ∙ there in
-              subst (λ o. IsToldAgain (by_ledger c r k None its) (by_ledger c r k (Some use_now) o)) (sym (ap (numbered loans_now) is ∙ its_loan)) (
-              subst (λ o. IsToldAgain (by_ledger c r k None o) (by_use c r k (Some use_now) (entered one l))) (sym had) (
+              let had : its ≡ Some l = ap (item_numbered f.rows.loans) is ∙ there in
+              subst (λ o. IsToldAgain (by_ledger c r k None its) (by_ledger c r k (Some use_now) o)) (sym (ap (item_numbered loans_now) is ∙ its_loan)) (
+              subst (λ o. IsToldAgain (by_ledger c r k None o) (by_use c r k (Some use_now) (with_new_entry one l))) (sym had) (
               same_both (λ e. not (ap (by_ledger c r k None) had ∙ e))
               )
               )
           | inr other ↦
               let apart : (q.loan.number == r.loan.number) ≡ false = grind (arith, nat_tests) in
-              subst (λ o. IsToldAgain (by_ledger c r k None its) (by_ledger c r k (Some use_now) o)) (sym (numbered_kept q.loan.number r.loan.number (entered one) f.rows.loans l there other)) (other_loan apart its not)
+              subst (λ o. IsToldAgain (by_ledger c r k None its) (by_ledger c r k (Some use_now) o)) (sym (numbered_kept q.loan.number r.loan.number (with_new_entry one) f.rows.loans l there other)) (other_loan apart its not)
         ]
         )
         )
 
-    pub told_in_office : by_office c r k (Some f) ≢ Entered → IsToldAgain (by_office c r k (Some f)) (by_office c r k (Some (record f { rows = loan_changed q.loan.number (entered one) f.rows })))
+    pub told_in_office : by_office c r k (Some f) ≢ Entered → IsToldAgain (by_office c r k (Some f)) (by_office c r k (Some (record f { rows = loan_changed q.loan.number (with_new_entry one) f.rows })))
     told_in_office n = by_receipt (bytes_eq q.receipt r.receipt) refl
       where
-        by_receipt : (b : Bool) → bytes_eq q.receipt r.receipt ≡ b → WasTold (by_ledger c r k (used r.receipt (uses_from 1 loans_now)) (numbered loans_now r.loan.number))
+        by_receipt : (b : Bool) → bytes_eq q.receipt r.receipt ≡ b → WasTold (by_ledger c r k (first_use r.receipt (uses_from 1 loans_now)) (item_numbered loans_now r.loan.number))
         by_receipt false e = receipt_apart e n
         by_receipt true e = receipt_taken ((bytes_eq-Decides q.receipt r.receipt).0 e) n
 
-  pub repeated_in_office : by_office d q k (Some (record f { rows = loan_changed q.loan.number (entered one) f.rows })) ≡ Repeated
+  pub repeated_in_office : by_office d q k (Some (record f { rows = loan_changed q.loan.number (with_new_entry one) f.rows })) ≡ Repeated
   repeated_in_office =
-      ap (λ u. by_ledger d q k u (numbered loans_now q.loan.number)) its_use
+      ap (λ u. by_ledger d q k u (item_numbered loans_now q.loan.number)) its_use
       ∙ ap (by_ledger d q k (Some use_now)) its_loan
       ∙ ap as_repeat (the_same q.loan.number one)
 
@@ -288,7 +288,7 @@ pub rows_at_office : (x : ℕ) (rows : Rows) (i : Institution) (f : Office) → 
 rows_at_office x rows i f h = rows_found x rows i.offices ∙ ap (option_map (λ (g : Office). record g { rows = rows })) h
 
 staff_of : ℕ → Option Office → Option Staff
-staff_of n o = elim o [ None ↦ None | Some f ↦ numbered f.rows.staff n ]
+staff_of n o = elim o [ None ↦ None | Some f ↦ item_numbered f.rows.staff n ]
 
 staff_kept : (x : ℕ) (rows : Rows) (i : Institution) (f : Office) (c : Caller) → office_at x i.offices ≡ Some f → rows.staff ≡ f.rows.staff → staff_at (after (Rows_become x rows) i) c ≡ staff_at i c
 unfolding staff_of
@@ -296,7 +296,7 @@ staff_kept x rows i f c h same =
     elim (cases_eq c.office x) [
       | inl is ↦
           ap (λ y. staff_of c.staff (office_at y (with_rows x rows i.offices))) is ∙ ap (staff_of c.staff) (rows_at_office x rows i f h)
-          ∙ ap (λ ss. numbered ss c.staff) same
+          ∙ ap (λ ss. item_numbered ss c.staff) same
           ∙ sym (ap (λ y. staff_of c.staff (office_at y i.offices)) is ∙ ap (staff_of c.staff) h)
       | inr other ↦ ap (staff_of c.staff) (others_stay x c.office rows i.offices other)
     ]
@@ -304,7 +304,7 @@ staff_kept x rows i f c h same =
 -- One repayment was entered. What another was told before and is told now.
 module _ (d : Caller) (q : SheetRepayment) (i : Institution) (w : Entering d q i) where
   abbrev pub rows_now : Rows
-  rows_now = loan_changed q.loan.number (entered (entry_of d q w.account)) w.office.rows
+  rows_now = loan_changed q.loan.number (with_new_entry (entry_of d q w.account)) w.office.rows
 
   abbrev now : Institution
   now = after (entered_change d q i w) i

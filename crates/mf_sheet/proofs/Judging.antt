@@ -10,13 +10,13 @@ use Rattle.mf_model.specs.declared.request.Repayment.{Repayment}
 use Rattle.mf_model.specs.declared.request.LoanRequest.TheVariants as asks
 use Rattle.mf_model.specs.declared.reply.Reply.TheVariants as reply
 use Rattle.mf_model.specs.declared.reply.LoanReply.TheVariants as told
-use Rattle.mf_model.specs.Institution.{Institution, Catalogue, Office, Ledger, Staff, Change, Rows_become, numbered}
+use Rattle.mf_model.specs.Institution.{Institution, Catalogue, Office, Ledger, Staff, Change, Rows_become, item_numbered}
 use Rattle.mf_model.specs.Tree.{seen_office}
 use Rattle.mf_model.specs.Accounts.{account_in}
 use Rattle.mf_model.specs.Desk.{Plan, On_office, Outcome, outcome, reply_in, change_in, of_office, in_office, where_permitted, staff_at}
-use Rattle.mf_model.specs.Loans.{on_loan, in_loan, of_loan, repay, repeat_of, unless_known, unless_fault, fault_or, enter, entered, none_first, loan_changed, repayment}
+use Rattle.mf_model.specs.Loans.{on_loan, in_loan, of_loan, repay, repeat_of, unless_known, unless_fault, fault_or, enter, with_new_entry, none_first, loan_changed, repayment}
 use Rattle.mf_model.specs.Outcomes.{where_found}
-use Rattle.mf_model.specs.Receipts.{Use, uses_from, used, repeated}
+use Rattle.mf_model.specs.Receipts.{Use, uses_from, first_use, repeated_seq}
 use Rattle.mf_sheet_lines.specs.declared.line.SheetRepayment.{SheetRepayment}
 use Rattle.mf_sheet_lines.specs.declared.line.SheetLine.TheVariants.{Repay}
 use Rattle.mf_sheet_lines.specs.declared.results.SheetResult.{SheetResult}
@@ -45,7 +45,7 @@ as_repeat (Ok seq) = Repeated
 as_repeat (Err fault) = Refused fault
 
 abbrev pub by_use : Caller → SheetRepayment → Catalogue → Option Use → Ledger → SheetResult
-by_use c r k (Some u) l = as_repeat (repeated r.loan.number r.amount r.day u.by)
+by_use c r k (Some u) l = as_repeat (repeated_seq r.loan.number r.amount r.day u.by)
 by_use c r k None l = as_entry (account_fault c r k.day (account_in k l))
 
 abbrev pub by_ledger : Caller → SheetRepayment → Catalogue → Option Use → Option Ledger → SheetResult
@@ -54,7 +54,7 @@ by_ledger c r k u (Some l) = by_use c r k u l
 
 abbrev pub by_office : Caller → SheetRepayment → Catalogue → Option Office → SheetResult
 by_office c r k None = Refused F4
-by_office c r k (Some f) = by_ledger c r k (used r.receipt (uses_from 1 f.rows.loans)) (numbered f.rows.loans r.loan.number)
+by_office c r k (Some f) = by_ledger c r k (first_use r.receipt (uses_from 1 f.rows.loans)) (item_numbered f.rows.loans r.loan.number)
 
 abbrev pub by_staff : Caller → SheetRepayment → Catalogue → Option Staff → Option Office → SheetResult
 by_staff c r k None f = Refused F2
@@ -71,14 +71,14 @@ pub record Entering (c : Caller) (r : SheetRepayment) (i : Institution) : Type 0
   pub account : Running
   pub known : staff_at i c ≡ Some staff
   pub seen : seen_office c.office r.loan.office i ≡ Some office
-  pub free : used r.receipt (uses_from 1 office.rows.loans) ≡ None
-  pub there : numbered office.rows.loans r.loan.number ≡ Some ledger
+  pub free : first_use r.receipt (uses_from 1 office.rows.loans) ≡ None
+  pub there : item_numbered office.rows.loans r.loan.number ≡ Some ledger
   pub account_is : account_in i.catalogue ledger ≡ Some account
   pub allowed : refusal_of account (entry_of c r account) i.catalogue.day ≡ None
 
 -- what it changes
 abbrev pub entered_change : (c : Caller) (r : SheetRepayment) (i : Institution) → Entering c r i → Change
-entered_change c r i w = Rows_become r.loan.office (loan_changed r.loan.number (entered (entry_of c r w.account)) w.office.rows)
+entered_change c r i w = Rows_become r.loan.office (loan_changed r.loan.number (with_new_entry (entry_of c r w.account)) w.office.rows)
 
 -- a repayment whose receipt is known, as that of the entry of this number
 pub record Repeating (c : Caller) (r : SheetRepayment) (i : Institution) (seq : ℕ) : Type 0 where
@@ -87,8 +87,8 @@ pub record Repeating (c : Caller) (r : SheetRepayment) (i : Institution) (seq : 
   pub was : Use
   pub known : staff_at i c ≡ Some staff
   pub seen : seen_office c.office r.loan.office i ≡ Some office
-  pub used_is : used r.receipt (uses_from 1 office.rows.loans) ≡ Some was
-  pub same : repeated r.loan.number r.amount r.day was.by ≡ Ok seq
+  pub used_is : first_use r.receipt (uses_from 1 office.rows.loans) ≡ Some was
+  pub same : repeated_seq r.loan.number r.amount r.day was.by ≡ Ok seq
 
 -- What is so of a refusal, of a repetition and of an entry is so of every repayment.
 module _ (c : Caller) (r : SheetRepayment) (i : Institution) (P : Outcome → SheetResult → Type 0)
@@ -96,13 +96,13 @@ module _ (c : Caller) (r : SheetRepayment) (i : Institution) (P : Outcome → Sh
     (again : (seq : ℕ) → Repeating c r i seq → P (Ok (reply.Loan r.loan (told.Repeated seq), None)) Repeated)
     (enters : (w : Entering c r i) → P (Ok (reply.Loan r.loan (told.Entered (entry_of c r w.account).seq), Some (entered_change c r i w))) Entered) where
   module _ (s : Staff) (known : staff_at i c ≡ Some s) (f : Office) (seen : seen_office c.office r.loan.office i ≡ Some f) where
-    at_account : (l : Ledger) → numbered f.rows.loans r.loan.number ≡ Some l → used r.receipt (uses_from 1 f.rows.loans) ≡ None → (o : Option Running) → account_in i.catalogue l ≡ o
+    at_account : (l : Ledger) → item_numbered f.rows.loans r.loan.number ≡ Some l → first_use r.receipt (uses_from 1 f.rows.loans) ≡ None → (o : Option Running) → account_in i.catalogue l ≡ o
         → P (of_office r.loan.office (of_loan r.loan f.rows (enter none_first (λ today. repayment (asked r) c) i.catalogue o))) (as_entry (account_fault c r i.catalogue.day o))
     at_account l there free None e = refused F9
     at_account l there free (Some a) e = at_fault (refusal_of a (entry_of c r a) i.catalogue.day) refl
       where
         at_fault : (o : Option Fault) → refusal_of a (entry_of c r a) i.catalogue.day ≡ o
-            → P (of_office r.loan.office (of_loan r.loan f.rows (unless_fault (fault_or None o) (told.Entered (entry_of c r a).seq) (entered (entry_of c r a))))) (as_entry o)
+            → P (of_office r.loan.office (of_loan r.loan f.rows (unless_fault (fault_or None o) (told.Entered (entry_of c r a).seq) (with_new_entry (entry_of c r a))))) (as_entry o)
         at_fault None allowed = enters (record {
           staff = s;
           office = f;
@@ -117,25 +117,25 @@ module _ (c : Caller) (r : SheetRepayment) (i : Institution) (P : Outcome → Sh
         })
         at_fault (Some fault) e = refused fault
 
-    at_repeat : (u : Use) → used r.receipt (uses_from 1 f.rows.loans) ≡ Some u → (o : Result ℕ Fault) → repeated r.loan.number r.amount r.day u.by ≡ o
+    at_repeat : (u : Use) → first_use r.receipt (uses_from 1 f.rows.loans) ≡ Some u → (o : Result ℕ Fault) → repeated_seq r.loan.number r.amount r.day u.by ≡ o
         → P (of_office r.loan.office (of_loan r.loan f.rows (repeat_of o))) (as_repeat o)
     at_repeat u e (Ok seq) same = again seq (record { staff = s; office = f; was = u; known = known; seen = seen; used_is = e; same = same })
     at_repeat u e (Err fault) same = refused fault
 
-    at_use : (l : Ledger) → numbered f.rows.loans r.loan.number ≡ Some l → (u : Option Use) → used r.receipt (uses_from 1 f.rows.loans) ≡ u
+    at_use : (l : Ledger) → item_numbered f.rows.loans r.loan.number ≡ Some l → (u : Option Use) → first_use r.receipt (uses_from 1 f.rows.loans) ≡ u
         → P (of_office r.loan.office (of_loan r.loan f.rows (unless_known r.loan.number (asked r) u (enter none_first (λ today. repayment (asked r) c) i.catalogue (account_in i.catalogue l))))) (by_use c r i.catalogue u l)
     at_use l there None free = at_account l there free (account_in i.catalogue l) refl
-    at_use l there (Some u) e = at_repeat u e (repeated r.loan.number r.amount r.day u.by) refl
+    at_use l there (Some u) e = at_repeat u e (repeated_seq r.loan.number r.amount r.day u.by) refl
 
-    at_ledger : (o : Option Ledger) → numbered f.rows.loans r.loan.number ≡ o
-        → P (of_office r.loan.office (where_found o (λ l. of_loan r.loan f.rows (repay (asked r) c i.catalogue f.rows r.loan.number l)))) (by_ledger c r i.catalogue (used r.receipt (uses_from 1 f.rows.loans)) o)
+    at_ledger : (o : Option Ledger) → item_numbered f.rows.loans r.loan.number ≡ o
+        → P (of_office r.loan.office (where_found o (λ l. of_loan r.loan f.rows (repay (asked r) c i.catalogue f.rows r.loan.number l)))) (by_ledger c r i.catalogue (first_use r.receipt (uses_from 1 f.rows.loans)) o)
     at_ledger None e = refused F4
-    at_ledger (Some l) e = at_use l e (used r.receipt (uses_from 1 f.rows.loans)) refl
+    at_ledger (Some l) e = at_use l e (first_use r.receipt (uses_from 1 f.rows.loans)) refl
 
   at_office : (s : Staff) → staff_at i c ≡ Some s → (o : Option Office) → seen_office c.office r.loan.office i ≡ o
       → P (in_office r.loan.office (λ catalogue f. in_loan r.loan (on_loan (asks.Repay (asked r)) c catalogue f.rows r.loan.number) f.rows) i.catalogue o) (by_office c r i.catalogue o)
   at_office s known None e = refused F4
-  at_office s known (Some f) e = at_ledger s known f e (numbered f.rows.loans r.loan.number) refl
+  at_office s known (Some f) e = at_ledger s known f e (item_numbered f.rows.loans r.loan.number) refl
 
   looked_at : Plan
   looked_at = On_office r.loan.office (λ caller catalogue f. in_loan r.loan (on_loan (asks.Repay (asked r)) caller catalogue f.rows r.loan.number) f.rows)

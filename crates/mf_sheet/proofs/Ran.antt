@@ -11,11 +11,12 @@ use Rattle.mf_model.specs.Institution.{Institution}
 use Rattle.mf_model.specs.Desk.{outcome, change_in}
 use Rattle.mf_model.specs.Run.{Line, answer, next, answers, NoneGivenUp}
 use Rattle.mf_model.specs.Store.{left_by}
+use Rattle.mf_model.specs.declared.store.InstitutionStore.{Ghosts}
 use Rattle.mf_sheet_lines.specs.declared.results.SheetResult.{SheetResult}
 use Rattle.mf_sheet_lines.specs.declared.results.SheetResult.TheVariants.{Refused}
 use Rattle.mf_sheet.specs.Lines.{call_by, result_of}
 use Rattle.mf_sheet.specs.Runs.{NoneIsF20, OnlyF20GivesUp, AnswersFields, RunsRows, Steps}
-use Rattle.mf_sheet.specs.Ends.{Streams, EndsWhole, NeverBegins, EndsBefore, CutsHeading, CutsRecord, EndsBy, Ends}
+use Rattle.mf_sheet.specs.Ends.{SheetStreams, EndsWhole, NeverBegins, EndsBefore, CutsHeading, CutsRecord, EndsBy, Ends}
 use Rattle.mf_sheet.proofs.Rows.{Rows}
 
 not_given_up : (given_up : Bool) (reply : Result Reply Fault) → result_of (cond given_up (Err F20) reply) ≢ Refused F20 → given_up ≡ false
@@ -30,8 +31,8 @@ only_F20 : (run : List Line) (i : Institution) → OnlyF20GivesUp run (map resul
 only_F20 [] i = tt
 only_F20 (l ∷ ls) i = (λ n. not_given_up l.given_up _ n, only_F20 ls (next l i))
 
-module _ {S : Type 0} (stands : S → Institution → Type 0) (clean : S → Type 0) (leaves : S → List Institution → Type 0) (caller : Caller) where
-  one_more : (old mid new : S) (f : List (List ℕ)) (r : SheetResult) (rows : Rows) (results : List SheetResult) → AnswersFields stands clean leaves caller old f r mid → RunsRows stands clean leaves caller mid rows results new → RunsRows stands clean leaves caller old (f ∷ rows) (r ∷ results) new
+module _ {S : Type 0} (store : Ghosts S) (caller : Caller) where
+  one_more : (old mid new : S) (f : List (List ℕ)) (r : SheetResult) (rows : Rows) (results : List SheetResult) → AnswersFields store caller old f r mid → RunsRows store caller mid rows results new → RunsRows store caller old (f ∷ rows) (r ∷ results) new
   one_more old mid new f r rows results one rest = record {
     premise = λ c. one.premise (rest.premise c);
     ran = λ c i s.
@@ -50,8 +51,8 @@ module _ {S : Type 0} (stands : S → Institution → Type 0) (clean : S → Typ
         };
   }
 
-  pub runs_rows : (old : S) (rows : Rows) (results : List SheetResult) (new : S) → Steps (AnswersFields stands clean leaves caller) old rows results new → RunsRows stands clean leaves caller old rows results new
-  runs_rows old [] [] new h = subst (λ n. RunsRows stands clean leaves caller old [] [] n) (sym h) (record {
+  pub runs_rows : (old : S) (rows : Rows) (results : List SheetResult) (new : S) → Steps (AnswersFields store caller) old rows results new → RunsRows store caller old rows results new
+  runs_rows old [] [] new h = subst (λ n. RunsRows store caller old [] [] n) (sym h) (record {
     premise = λ c. c;
     ran = λ c i s. record { run = []; calls = refl; replied = refl; follows = s; given_up = tt; with_memory = λ none. tt; stop = λ is l. l };
   })
@@ -60,7 +61,7 @@ module _ {S : Type 0} (stands : S → Institution → Type 0) (clean : S → Typ
   runs_rows old (f ∷ rows) (r ∷ results) new h = one_more old h.0 new f r rows results h.1 (runs_rows h.0 rows results new h.2)
 
 -- what is said of one relation of runs is said of a weaker one
-module _ {S : Type 0} (P Q : S → List (List (List ℕ)) → List SheetResult → S → Type 0) (weaker : (old : S) (rows : Rows) (results : List SheetResult) (new : S) → P old rows results new → Q old rows results new) (old new : S) (s : Streams) where
+module _ {S : Type 0} (P Q : S → List (List (List ℕ)) → List SheetResult → S → Type 0) (weaker : (old : S) (rows : Rows) (results : List SheetResult) (new : S) → P old rows results new → Q old rows results new) (old new : S) (s : SheetStreams) where
   whole : EndsWhole P old new s → EndsWhole Q old new s
   whole e = record { done = e.done; rest = e.rest; among = e.among; results = e.results; each = e.each; ran = weaker old e.done e.results new e.ran; all = e.all; written = e.written; sink = e.sink }
 
@@ -110,13 +111,13 @@ module _ {S : Type 0} (P Q : S → List (List (List ℕ)) → List SheetResult �
   ends (Ok done) e = whole e
   ends (Err f) e = by f.cause f.answered e
 
-module _ {S : Type 0} (stands : S → Institution → Type 0) (clean : S → Type 0) (leaves : S → List Institution → Type 0) (caller : Caller) (old new : S) (rows others : Rows) (held holds : Option (List ℕ)) (faults now count : ℕ) (r : Result (Unit {0}) StreamFault) where
+module _ {S : Type 0} (store : Ghosts S) (caller : Caller) (old new : S) (rows others : Rows) (held holds : Option (List ℕ)) (faults now count : ℕ) (r : Result (Unit {0}) StreamFault) where
   -- How a whole sheet ends, of how its rows end. The heading was written without a fault.
   pub sheet_ends : others ≡ rows → now ≡ faults
-      → Ends (Steps (AnswersFields stands clean leaves caller)) old new (record { rows = others; before = held; after = holds; faults_before = now; faults_after = count }) r
-      → Ends (RunsRows stands clean leaves caller) old new (record { rows = rows; before = held; after = holds; faults_before = faults; faults_after = count }) r
+      → Ends (Steps (AnswersFields store caller)) old new (record { rows = others; sink = record { before = held; after = holds; faults_before = now; faults_after = count } }) r
+      → Ends (RunsRows store caller) old new (record { rows = rows; sink = record { before = held; after = holds; faults_before = faults; faults_after = count } }) r
   sheet_ends same sound e =
-      subst (λ xs. Ends (RunsRows stands clean leaves caller) old new (record { rows = xs; before = held; after = holds; faults_before = faults; faults_after = count }) r) same (
-      subst (λ n. Ends (RunsRows stands clean leaves caller) old new (record { rows = others; before = held; after = holds; faults_before = n; faults_after = count }) r) sound
-      (ends (Steps (AnswersFields stands clean leaves caller)) (RunsRows stands clean leaves caller) (runs_rows stands clean leaves caller) old new _ r e)
+      subst (λ xs. Ends (RunsRows store caller) old new (record { rows = xs; sink = record { before = held; after = holds; faults_before = faults; faults_after = count } }) r) same (
+      subst (λ n. Ends (RunsRows store caller) old new (record { rows = others; sink = record { before = held; after = holds; faults_before = n; faults_after = count } }) r) sound
+      (ends (Steps (AnswersFields store caller)) (RunsRows store caller) (runs_rows store caller) old new _ r e)
       )

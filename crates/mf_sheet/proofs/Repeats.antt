@@ -13,10 +13,10 @@ use Rattle.mf_account.specs.declared.entry.Entry.{Entry}
 use Rattle.mf_model.specs.declared.loan.ReceiptUse.{ReceiptUse}
 use Rattle.mf_model.specs.declared.reply.Reply.TheVariants as reply
 use Rattle.mf_model.specs.declared.reply.LoanReply.TheVariants as told
-use Rattle.mf_model.specs.Institution.{Institution, Ledger, Office, Staff, Change, Catalogue_becomes, Rows_become, Office_added, new_office, office_at, numbered, after, after_maybe}
+use Rattle.mf_model.specs.Institution.{Institution, Ledger, Office, Staff, Change, Catalogue_becomes, Rows_become, Office_added, new_office, office_at, item_numbered, after, after_maybe}
 use Rattle.mf_model.specs.Tree.{parent_of, seen_office, is_there, Fits}
 use Rattle.mf_model.specs.Desk.{outcome, reply_in, change_in, plan, staff_at}
-use Rattle.mf_model.specs.Receipts.{Use, use_by, use_of, uses_in, uses_from, used, repeated}
+use Rattle.mf_model.specs.Receipts.{Use, use_by, use_of, uses_in, uses_from, first_use, repeated_seq}
 use Rattle.mf_model.specs.Run.{Line, next, last}
 use Rattle.mf_model.specs.Answering.{line_answered}
 use Rattle.mf_model.specs.Sound.{IsSound, IsInRange, AreInRange}
@@ -37,36 +37,36 @@ use Rattle.mf_sheet.proofs.Judging.{entry_of, as_repeat, by_staff, by_office, by
 use Rattle.mf_sheet.proofs.Again.{the_same, found_seen, rows_now, rows_at_office, staff_stay}
 
 -- a receipt that is used is used by a loan that is there
-used_in : (r : List ℕ) (n : ℕ) (es : List Entry) (u : Use) → used r (uses_in n es) ≡ Some u → u.by.loan ≡ n
+used_in : (r : List ℕ) (n : ℕ) (es : List Entry) (u : Use) → first_use r (uses_in n es) ≡ Some u → u.by.loan ≡ n
 used_in r n [] u h = absurd (cc)
 used_in r n (e ∷ es) u h = at e.receipt (used_in r n es u) h
   where
-    either : (t : List ℕ) (b : Bool) → (used r (uses_in n es) ≡ Some u → u.by.loan ≡ n) → cond b (Some (record { receipt = t; by = use_by n e })) (used r (uses_in n es)) ≡ Some u → u.by.loan ≡ n
+    either : (t : List ℕ) (b : Bool) → (first_use r (uses_in n es) ≡ Some u → u.by.loan ≡ n) → cond b (Some (record { receipt = t; by = use_by n e })) (first_use r (uses_in n es)) ≡ Some u → u.by.loan ≡ n
     either t true rest h = let same : record { receipt = t; by = use_by n e } ≡ u = cc in ap (λ (v : Use). v.by.loan) (sym same)
     either t false rest h = rest h
 
-    at : (o : Option (List ℕ)) → (used r (uses_in n es) ≡ Some u → u.by.loan ≡ n) → used r (use_of o n e ++ uses_in n es) ≡ Some u → u.by.loan ≡ n
+    at : (o : Option (List ℕ)) → (first_use r (uses_in n es) ≡ Some u → u.by.loan ≡ n) → first_use r (use_of o n e ++ uses_in n es) ≡ Some u → u.by.loan ≡ n
     at None rest h = rest h
     at (Some t) rest h = either t (bytes_eq t r) rest h
 
-used_from : (r : List ℕ) (m : ℕ) (ls : List Ledger) (u : Use) → used r (uses_from m ls) ≡ Some u → (k : ℕ) × (l : Ledger) × (u.by.loan ≡ m + k) × (slice_get ls k ≡ Some l)
+used_from : (r : List ℕ) (m : ℕ) (ls : List Ledger) (u : Use) → first_use r (uses_from m ls) ≡ Some u → (k : ℕ) × (l : Ledger) × (u.by.loan ≡ m + k) × (slice_get ls k ≡ Some l)
 used_from r m [] u h = absurd (cc)
 used_from r m (l ∷ ls) u h =
-    at (used r (uses_in m l.entries)) refl (used_from r (m + 1) ls u) (sym (find-append (λ (v : Use). bytes_eq v.receipt r) (uses_in m l.entries) (uses_from (m + 1) ls)) ∙ h)
+    at (first_use r (uses_in m l.entries)) refl (used_from r (m + 1) ls u) (sym (find-append (λ (v : Use). bytes_eq v.receipt r) (uses_in m l.entries) (uses_from (m + 1) ls)) ∙ h)
   where
-    at : (o : Option Use) → used r (uses_in m l.entries) ≡ o → (used r (uses_from (m + 1) ls) ≡ Some u → (k : ℕ) × (x : Ledger) × (u.by.loan ≡ (m + 1) + k) × (slice_get ls k ≡ Some x))
-        → option_or o (used r (uses_from (m + 1) ls)) ≡ Some u → (k : ℕ) × (x : Ledger) × (u.by.loan ≡ m + k) × (slice_get (l ∷ ls) k ≡ Some x)
+    at : (o : Option Use) → first_use r (uses_in m l.entries) ≡ o → (first_use r (uses_from (m + 1) ls) ≡ Some u → (k : ℕ) × (x : Ledger) × (u.by.loan ≡ (m + 1) + k) × (slice_get ls k ≡ Some x))
+        → option_or o (first_use r (uses_from (m + 1) ls)) ≡ Some u → (k : ℕ) × (x : Ledger) × (u.by.loan ≡ m + k) × (slice_get (l ∷ ls) k ≡ Some x)
     at (Some v) e rest h = let here = used_in r m l.entries u (e ∙ h) in (0, l, omega (arith, here), refl)
     at None e rest h = let w = rest h in (suc w.0, w.1, omega (arith, w.2), w.3)
 
-loan_there : (r : List ℕ) (ls : List Ledger) (u : Use) → used r (uses_from 1 ls) ≡ Some u → (l : Ledger) × (numbered ls u.by.loan ≡ Some l)
+loan_there : (r : List ℕ) (ls : List Ledger) (u : Use) → first_use r (uses_from 1 ls) ≡ Some u → (l : Ledger) × (item_numbered ls u.by.loan ≡ Some l)
 loan_there r ls u h =
     let w = used_from r 1 ls u h in
     let number : u.by.loan ≡ suc w.0 = omega (arith, w.2) in
-    (w.1, ap (numbered ls) number ∙ numbered_at ls w.0 w.1 w.3)
+    (w.1, ap (item_numbered ls) number ∙ numbered_at ls w.0 w.1 w.3)
 
 -- what is repeated is of the loan that it names
-of_this_loan : (n amount day seq : ℕ) (by : ReceiptUse) → repeated n amount day by ≡ Ok seq → by.loan ≡ n
+of_this_loan : (n amount day seq : ℕ) (by : ReceiptUse) → repeated_seq n amount day by ≡ Ok seq → by.loan ≡ n
 of_this_loan n amount day seq by h = either (by.loan == n) refl h
   where
     either : (b : Bool) → (by.loan == n) ≡ b → cond (b && ((by.amount == amount) && (by.day == day))) (Ok by.seq) (Err F15) ≡ Ok seq → by.loan ≡ n
@@ -79,12 +79,12 @@ pub record Taken (c : Caller) (r : SheetRepayment) (seq : ℕ) (i : Institution)
   sees : is_at_or_below (parent_of i.offices) r.loan.office c.office ≡ true
   was : Use
   used_is : use_at r.loan.office r.receipt i ≡ Some was
-  same : repeated r.loan.number r.amount r.day was.by ≡ Ok seq
+  same : repeated_seq r.loan.number r.amount r.day was.by ≡ Ok seq
 
-office_of_use : (x : ℕ) (receipt : List ℕ) (u : Use) (i : Institution) → use_at x receipt i ≡ Some u → (f : Office) × (office_at x i.offices ≡ Some f) × (used receipt (uses_from 1 f.rows.loans) ≡ Some u)
+office_of_use : (x : ℕ) (receipt : List ℕ) (u : Use) (i : Institution) → use_at x receipt i ≡ Some u → (f : Office) × (office_at x i.offices ≡ Some f) × (first_use receipt (uses_from 1 f.rows.loans) ≡ Some u)
 office_of_use x receipt u i h = at (office_at x i.offices) refl h
   where
-    at : (o : Option Office) → office_at x i.offices ≡ o → used receipt (uses_from 1 (rows_of o).loans) ≡ Some u → (f : Office) × (office_at x i.offices ≡ Some f) × (used receipt (uses_from 1 f.rows.loans) ≡ Some u)
+    at : (o : Option Office) → office_at x i.offices ≡ o → first_use receipt (uses_from 1 (rows_of o).loans) ≡ Some u → (f : Office) × (office_at x i.offices ≡ Some f) × (first_use receipt (uses_from 1 f.rows.loans) ≡ Some u)
     at None e h = absurd (cc)
     at (Some f) e h = (f, e, h)
 
@@ -97,7 +97,7 @@ same_number a b o p q = cc
 
 -- at whatever institution it was taken it is a repeat
 module _ (c : Caller) (r : SheetRepayment) (seq : ℕ) (i : Institution) (t : Taken c r seq i) where
-  its_office : (f : Office) × (office_at r.loan.office i.offices ≡ Some f) × (used r.receipt (uses_from 1 f.rows.loans) ≡ Some t.was)
+  its_office : (f : Office) × (office_at r.loan.office i.offices ≡ Some f) × (first_use r.receipt (uses_from 1 f.rows.loans) ≡ Some t.was)
   its_office = office_of_use r.loan.office r.receipt t.was i t.used_is
 
   office_seen : seen_office c.office r.loan.office i ≡ Some its_office.0
@@ -107,10 +107,10 @@ module _ (c : Caller) (r : SheetRepayment) (seq : ℕ) (i : Institution) (t : Ta
   told_so =
       let s = staff_there (staff_at i c) t.known in
       let l = loan_there r.receipt its_office.0.rows.loans t.was its_office.2 in
-      let there : numbered its_office.0.rows.loans r.loan.number ≡ Some l.0 = ap (numbered its_office.0.rows.loans) (sym (of_this_loan r.loan.number r.amount r.day seq t.was.by t.same)) ∙ l.1 in
+      let there : item_numbered its_office.0.rows.loans r.loan.number ≡ Some l.0 = ap (item_numbered its_office.0.rows.loans) (sym (of_this_loan r.loan.number r.amount r.day seq t.was.by t.same)) ∙ l.1 in
       ap (λ o. by_staff c r i.catalogue o (seen_office c.office r.loan.office i)) s.1
       ∙ ap (by_office c r i.catalogue) office_seen
-      ∙ ap (λ u. by_ledger c r i.catalogue u (numbered its_office.0.rows.loans r.loan.number)) its_office.2
+      ∙ ap (λ u. by_ledger c r i.catalogue u (item_numbered its_office.0.rows.loans r.loan.number)) its_office.2
       ∙ ap (by_ledger c r i.catalogue (Some t.was)) there
       ∙ ap as_repeat t.same
 
@@ -118,8 +118,8 @@ module _ (c : Caller) (r : SheetRepayment) (seq : ℕ) (i : Institution) (t : Ta
   taken_told =
       let w = repeated_so c r i told_so in
       let office : w.1.office ≡ its_office.0 = let e : Some w.1.office ≡ Some its_office.0 = sym w.1.seen ∙ office_seen in cc in
-      let same : w.1.was ≡ t.was = let e : Some w.1.was ≡ Some t.was = sym w.1.used_is ∙ ap (λ (f : Office). used r.receipt (uses_from 1 f.rows.loans)) office ∙ its_office.2 in cc in
-      let number : w.0 ≡ seq = same_number w.0 seq (repeated r.loan.number r.amount r.day t.was.by) (sym (ap (λ (u : Use). repeated r.loan.number r.amount r.day u.by) same) ∙ w.1.same) t.same in
+      let same : w.1.was ≡ t.was = let e : Some w.1.was ≡ Some t.was = sym w.1.used_is ∙ ap (λ (f : Office). first_use r.receipt (uses_from 1 f.rows.loans)) office ∙ its_office.2 in cc in
+      let number : w.0 ≡ seq = same_number w.0 seq (repeated_seq r.loan.number r.amount r.day t.was.by) (sym (ap (λ (u : Use). repeated_seq r.loan.number r.amount r.day u.by) same) ∙ w.1.same) t.same in
       w.2 ∙ ap (λ n. Ok (reply.Loan r.loan (told.Repeated n), None)) number
 
 -- it is taken wherever it is accepted
@@ -132,7 +132,7 @@ module _ (c : Caller) (r : SheetRepayment) (seq : ℕ) (i : Institution) where
         known = ap (λ o. is_some o) w.known;
         sees = seen.0;
         was = w.was;
-        used_is = ap (λ o. used r.receipt (uses_from 1 (rows_of o).loans)) seen.1 ∙ w.used_is;
+        used_is = ap (λ o. first_use r.receipt (uses_from 1 (rows_of o).loans)) seen.1 ∙ w.used_is;
         same = w.same ∙ ap Ok number;
       }
 
@@ -146,7 +146,7 @@ module _ (c : Caller) (r : SheetRepayment) (seq : ℕ) (i : Institution) where
         sees = below_with_rows r.loan.office (rows_now c r i w) i.offices r.loan.office c.office ∙ seen.0;
         was = record { receipt = r.receipt; by = use_by r.loan.number e };
         used_is =
-            ap (λ o. used r.receipt (uses_from 1 (rows_of o).loans)) (rows_at_office r.loan.office (rows_now c r i w) i w.office seen.1)
+            ap (λ o. first_use r.receipt (uses_from 1 (rows_of o).loans)) (rows_at_office r.loan.office (rows_now c r i w) i w.office seen.1)
             ∙ used_now r.loan.number e r.receipt w.office.rows.loans w.ledger refl w.free w.there;
         same = the_same r.loan.number e ∙ ap Ok number;
       }

@@ -7,7 +7,7 @@ use Rattle.mf_sheet_lines.specs.Results.{heading, record_text, records_text}
 use Rattle.mf_sheet_lines.specs.declared.results.SheetResult.{SheetResult}
 use Rattle.mf_sheet_lines.specs.declared.results.SheetResult.TheVariants.{Refused}
 use Rattle.mf_sheet.specs.Runs.{NoneIsF20, Steps}
-use Rattle.mf_sheet.specs.Ends.{Streams, sheet_text, EndsWhole, EndsBefore, CutsRecord}
+use Rattle.mf_sheet.specs.Ends.{SheetStreams, sheet_text, EndsWhole, EndsBefore, CutsRecord}
 
 abbrev pub Rows : Type 0
 Rows = List (List (List ℕ))
@@ -92,8 +92,8 @@ sheet_written : (done rest rows : Rows) (results : List SheetResult) (before sta
 sheet_written done rest rows results before start after among each first then =
     subst (λ text. Appends before after (heading ++ text)) (sym (ap (λ all. records_text all results) among ∙ records_front done rest results each)) (Appends-trans before start after heading (records_text done results) first then)
 
-module _ {S : Type 0} (step : S → List (List ℕ) → SheetResult → S → Type 0) (old : S) (streams : Streams) (done : Rows) (start : Option (List ℕ)) (count : ℕ) (first : Appends streams.before start heading) where
-  pub ends_whole : (new : S) → streams.rows ≡ done → streams.faults_after ≡ streams.faults_before → Going step old new done start streams.after count → EndsWhole (Steps step) old new streams
+module _ {S : Type 0} (step : S → List (List ℕ) → SheetResult → S → Type 0) (old : S) (streams : SheetStreams) (done : Rows) (start : Option (List ℕ)) (count : ℕ) (first : Appends streams.sink.before start heading) where
+  pub ends_whole : (new : S) → streams.rows ≡ done → streams.sink.faults_after ≡ streams.sink.faults_before → Going step old new done start streams.sink.after count → EndsWhole (Steps step) old new streams
   ends_whole new among sound going =
       let each = Steps-each step old new done going.results going.ran in
       let all : streams.rows ≡ done ++ [] = among ∙ sym (append-nil done) in
@@ -105,11 +105,11 @@ module _ {S : Type 0} (step : S → List (List ℕ) → SheetResult → S → Ty
         each = each;
         ran = going.ran;
         all = inl (refl, going.none);
-        written = sheet_written done [] streams.rows going.results streams.before start streams.after all each first going.written;
+        written = sheet_written done [] streams.rows going.results streams.sink.before start streams.sink.after all each first going.written;
         sink = sound;
       }
 
-  pub ends_before : (new : S) (f : List (List ℕ)) (rest : Rows) → streams.rows ≡ done ++ f ∷ rest → Going step old new done start streams.after count → EndsBefore (Steps step) old new streams count
+  pub ends_before : (new : S) (f : List (List ℕ)) (rest : Rows) → streams.rows ≡ done ++ f ∷ rest → Going step old new done start streams.sink.after count → EndsBefore (Steps step) old new streams count
   ends_before new f rest among going =
       let each = Steps-each step old new done going.results going.ran in
       record {
@@ -121,12 +121,12 @@ module _ {S : Type 0} (step : S → List (List ℕ) → SheetResult → S → Ty
         each = each;
         ran = going.ran;
         without_F20 = going.none;
-        written = sheet_written done (f ∷ rest) streams.rows going.results streams.before start streams.after among each first going.written;
+        written = sheet_written done (f ∷ rest) streams.rows going.results streams.sink.before start streams.sink.after among each first going.written;
         counted = going.counted;
       }
 
   module _ (mid new : S) (f : List (List ℕ)) (r : SheetResult) (rest : Rows) (between : Option (List ℕ)) (among : streams.rows ≡ done ++ f ∷ rest) (s : step mid f r new) where
-    pub ends_in_F20 : streams.faults_after ≡ streams.faults_before → r ≡ Refused F20 → Appends between streams.after (record_text f r) → Going step old mid done start between count → EndsWhole (Steps step) old new streams
+    pub ends_in_F20 : streams.sink.faults_after ≡ streams.sink.faults_before → r ≡ Refused F20 → Appends between streams.sink.after (record_text f r) → Going step old mid done start between count → EndsWhole (Steps step) old new streams
     ends_in_F20 sound is w going =
         let before = Steps-each step old mid done going.results going.ran in
         let ran = Steps-append step old mid new done going.results (f ∷ []) (r ∷ []) going.ran (new, s, refl) in
@@ -140,12 +140,12 @@ module _ {S : Type 0} (step : S → List (List ℕ) → SheetResult → S → Ty
           each = each;
           ran = ran;
           all = inr (going.results, ap (λ x. going.results ++ x ∷ []) is, going.none);
-          written = sheet_written (done ++ f ∷ []) rest streams.rows (going.results ++ r ∷ []) streams.before start streams.after all each first
-              (subst (Appends start streams.after) (sym (records_more done f going.results r before)) (Appends-trans start between streams.after _ _ going.written w));
+          written = sheet_written (done ++ f ∷ []) rest streams.rows (going.results ++ r ∷ []) streams.sink.before start streams.sink.after all each first
+              (subst (Appends start streams.sink.after) (sym (records_more done f going.results r before)) (Appends-trans start between streams.sink.after _ _ going.written w));
           sink = sound;
         }
 
-    pub cuts_record : (part : ℕ) → part < length (record_text f r) → Appends between streams.after (take part (record_text f r)) → Going step old mid done start between count → CutsRecord (Steps step) old new streams count
+    pub cuts_record : (part : ℕ) → part < length (record_text f r) → Appends between streams.sink.after (take part (record_text f r)) → Going step old mid done start between count → CutsRecord (Steps step) old new streams count
     cuts_record part short w going =
         let each = Steps-each step old mid done going.results going.ran in
         record {
@@ -160,6 +160,6 @@ module _ {S : Type 0} (step : S → List (List ℕ) → SheetResult → S → Ty
           without_F20 = going.none;
           part = part;
           short = short;
-          written = Appends-trans streams.before between streams.after _ _ (sheet_written done (f ∷ rest) streams.rows going.results streams.before start between among each first going.written) w;
+          written = Appends-trans streams.sink.before between streams.sink.after _ _ (sheet_written done (f ∷ rest) streams.rows going.results streams.sink.before start between among each first going.written) w;
           counted = going.counted;
         }

@@ -7,6 +7,7 @@ use Rattle.mf_model.specs.Institution.{Institution, Change, after, after_maybe}
 use Rattle.mf_model.specs.Desk.{outcome, reply, change_in}
 use Rattle.mf_model.specs.Run.{Line, answers, last, next, NoneGivenUp}
 use Rattle.mf_model.specs.Answering.{line_answered, all_answered}
+use Rattle.mf_model.specs.declared.store.InstitutionStore.{Ghosts}
 use Rattle.mf_sheet_lines.specs.Lines.{line_of}
 use Rattle.mf_sheet_lines.specs.declared.line.SheetLine.{SheetLine}
 use Rattle.mf_sheet_lines.specs.declared.line.SheetLine.TheVariants.{Bad, Repay}
@@ -15,7 +16,7 @@ use Rattle.mf_sheet_lines.specs.declared.results.SheetResult.{SheetResult}
 use Rattle.mf_sheet_lines.specs.declared.results.SheetResult.TheVariants.{Entered, Repeated, Refused}
 use Rattle.mf_sheet.specs.Lines.{call_of, result_of}
 use Rattle.mf_sheet.specs.Runs.{NoneIsF20, RunsOn, RunsRows}
-use Rattle.mf_sheet.specs.Ends.{Streams, AreAll, EndsWhole}
+use Rattle.mf_sheet.specs.Ends.{SheetStreams, AreAll, EndsWhole}
 use Rattle.mf_sheet.specs.Again.{sheet_lines, results_on, after_sheet, IsToldAgain, AreToldAgain}
 use Rattle.mf_sheet.proofs.Judging.{judged, Entering, entered_change, judged_is, unless_entered, entered_so}
 use Rattle.mf_sheet.proofs.Rows.{Rows}
@@ -107,14 +108,14 @@ all_were_answered : (run : List Line) → NoneGivenUp run → run ≡ all_answer
 all_were_answered [] h = refl
 all_were_answered (l ∷ ls) h = ap (λ g. record { call = l.call; given_up = g } ∷ ls) h.0 ∙ ap (λ more. line_answered l.call ∷ more) (all_were_answered ls h.1)
 
-module _ {S : Type 0} (stands : S → Institution → Type 0) (clean : S → Type 0) (leaves : S → List Institution → Type 0) (c : Caller) where
-  its_lines : (i : Institution) (rows : Rows) (old new : S) (results : List SheetResult) (o : RunsOn stands clean leaves c i rows old results new) → NoneIsF20 results → o.run ≡ sheet_lines c rows
+module _ {S : Type 0} (store : Ghosts S) (c : Caller) where
+  its_lines : (i : Institution) (rows : Rows) (old new : S) (results : List SheetResult) (o : RunsOn store c i rows old results new) → NoneIsF20 results → o.run ≡ sheet_lines c rows
   its_lines i rows old new results o none = all_were_answered o.run (o.with_memory none) ∙ ap all_answered o.calls
 
-  pub ran_so : (i : Institution) (rows : Rows) (old new : S) (results : List SheetResult) → RunsOn stands clean leaves c i rows old results new → NoneIsF20 results → stands new (after_sheet c rows i) × (results ≡ results_on c rows i)
+  pub ran_so : (i : Institution) (rows : Rows) (old new : S) (results : List SheetResult) → RunsOn store c i rows old results new → NoneIsF20 results → store.stands new (after_sheet c rows i) × (results ≡ results_on c rows i)
   ran_so i rows old new results o none =
       let lines = its_lines i rows old new results o none in
-      (subst (λ ls. stands new (last ls i)) lines o.follows, o.replied ∙ ap (λ ls. map result_of (answers ls i)) lines)
+      (subst (λ ls. store.stands new (last ls i)) lines o.follows, o.replied ∙ ap (λ ls. map result_of (answers ls i)) lines)
 
   -- where no result is F20, all lines were run
   all_done : (rest : Rows) (results : List SheetResult) → AreAll rest results → NoneIsF20 results → rest ≡ []
@@ -125,18 +126,18 @@ module _ {S : Type 0} (stands : S → Institution → Type 0) (clean : S → Typ
       last_is [] n = n.0 refl
       last_is (t ∷ front) n = last_is front n.1
 
-  whole_run : (old new : S) (streams : Streams) (e : EndsWhole (RunsRows stands clean leaves c) old new streams) → NoneIsF20 e.results → RunsRows stands clean leaves c old streams.rows e.results new
+  whole_run : (old new : S) (streams : SheetStreams) (e : EndsWhole (RunsRows store c) old new streams) → NoneIsF20 e.results → RunsRows store c old streams.rows e.results new
   whole_run old new streams e none =
       let rest : e.rest ≡ [] = all_done e.rest e.results e.all none in
-      subst (λ rows. RunsRows stands clean leaves c old rows e.results new) (sym (e.among ∙ ap (λ more. e.done ++ more) rest ∙ append-nil e.done)) e.ran
+      subst (λ rows. RunsRows store c old rows e.results new) (sym (e.among ∙ ap (λ more. e.done ++ more) rest ∙ append-nil e.done)) e.ran
 
-  pub acts_once : (old mid new : S) (first second : Streams) → second.rows ≡ first.rows → (one : EndsWhole (RunsRows stands clean leaves c) old mid first) (two : EndsWhole (RunsRows stands clean leaves c) mid new second)
-      → NoneIsF20 one.results → NoneIsF20 two.results → clean new → (i : Institution) → stands old i → stands new (after_sheet c first.rows i) × AreToldAgain one.results two.results
+  pub acts_once : (old mid new : S) (first second : SheetStreams) → second.rows ≡ first.rows → (one : EndsWhole (RunsRows store c) old mid first) (two : EndsWhole (RunsRows store c) mid new second)
+      → NoneIsF20 one.results → NoneIsF20 two.results → store.clean new → (i : Institution) → store.stands old i → store.stands new (after_sheet c first.rows i) × AreToldAgain one.results two.results
   acts_once old mid new first second same one two none none_again good i h =
       let ran = whole_run old mid first one none in
-      let again : RunsRows stands clean leaves c mid first.rows two.results new = subst (λ rows. RunsRows stands clean leaves c mid rows two.results new) same (whole_run mid new second two none_again) in
+      let again : RunsRows store c mid first.rows two.results new = subst (λ rows. RunsRows store c mid rows two.results new) same (whole_run mid new second two none_again) in
       let then = ran_so i first.rows old mid one.results (ran.ran (again.premise good) i h) none in
       let now = ran_so (after_sheet c first.rows i) first.rows mid new two.results (again.ran good (after_sheet c first.rows i) then.0) none_again in (
-        subst (stands new) (after_twice c first.rows i) now.0,
+        subst (store.stands new) (after_twice c first.rows i) now.0,
         subst (λ ts. AreToldAgain ts two.results) (sym then.1) (subst (AreToldAgain (results_on c first.rows i)) (sym now.1) (told_twice c first.rows i)),
       )

@@ -52,7 +52,7 @@ fn answered<S: InstitutionStore>(
     line: SheetLine,
 ) -> Result<SheetResult, Fault>
     requires { IsLineInRange line }
-    ensures { Calls S.stands S.clean S.leaves (λ r. outcome_of result ≡ result_of r) (call_of caller line) store.old store.new }
+    ensures { Calls S.InstitutionStore (λ r. outcome_of result ≡ result_of r) (call_of caller line) store.old store.new }
 {
     let request = request_of(line);
     answer(
@@ -85,7 +85,7 @@ pub fn answer_line<S: InstitutionStore>(
     line: SheetLine,
 ) -> SheetResult
     requires { IsLineInRange line }
-    ensures { Calls S.stands S.clean S.leaves (λ r. result ≡ result_of r) (call_of caller line) store.old store.new }
+    ensures { Calls S.InstitutionStore (λ r. result ≡ result_of r) (call_of caller line) store.old store.new }
 {
     outcome(answered(alloc, store, caller, line))
 }

@@ -6,6 +6,7 @@ ghost use Rattle.mf_base.specs.declared.fault.Cause.TheVariants as cause;
 ghost use Rattle.mf_sheet_lines.specs.Results.{heading as heading_text, record_text};
 ghost use Rattle.mf_sheet_lines.specs.Sheets.{longest, rows_of};
 ghost use Rattle.mf_sheet.specs.Runs.{AnswersFields, RunsRows, Steps};
+ghost use Rattle.mf_wire_lines.specs.Streams.{stream_of};
 ghost use Rattle.mf_sheet.specs.Ends.{Ends};
 
 use crate::answering::answer_line;
@@ -24,11 +25,11 @@ fn collect_row<S: InstitutionStore, W: Sink>(
     row: SheetRow,
     sink: &mut W,
 ) -> Result<SheetResult, Cause>
-    ensures answered { IfOk result (λ r. AnswersFields S.stands S.clean S.leaves caller.now store.old row r store.new) }
+    ensures answered { IfOk result (λ r. AnswersFields S.InstitutionStore caller.now store.old row r store.new) }
     ensures written { IfOk result (λ r. Appends (W.written sink.old) (W.written sink.new) (record_text row r)) }
     ensures sound { OnOk result (W.faults sink.new ≡ W.faults sink.old) }
     ensures memory { IfErr result (λ c. c ≡ cause.Memory → (store.new ≡ store.old) × (sink.new ≡ sink.old)) }
-    ensures write { IfErr result (λ c. c ≡ cause.Write → (r : SheetResult) × AnswersFields S.stands S.clean S.leaves caller.now store.old row r store.new
+    ensures write { IfErr result (λ c. c ≡ cause.Write → (r : SheetResult) × AnswersFields S.InstitutionStore caller.now store.old row r store.new
         × ((n : ℕ) × (n < length (record_text row r)) × Appends (W.written sink.old) (W.written sink.new) (take n (record_text row r)))) }
     ensures fault { IfErr result (λ c. c ≡ cause.Write → W.faults sink.new ≢ W.faults sink.old) }
     ensures read { IfErr result (λ c. c ≢ cause.Read) }
@@ -65,12 +66,9 @@ fn collect_rows<S: InstitutionStore, W: Sink>(
     sink: &mut W,
 ) -> Result<(), StreamFault>
     ensures ends { (before : Option (List ℕ)) → Appends before (W.written sink.old) heading_text →
-        Ends (Steps (AnswersFields S.stands S.clean S.leaves caller.now)) store.old store.new (record {
+        Ends (Steps (AnswersFields S.InstitutionStore caller.now)) store.old store.new (record {
           rows = rows.items;
-          before = before;
-          after = W.written sink.new;
-          faults_before = W.faults sink.old;
-          faults_after = W.faults sink.new;
+          sink = record (stream_of W.written W.faults sink.old sink.new) { before = before };
         }) result }
 {
     let mut answered = 0u64;
@@ -102,12 +100,9 @@ pub fn collect<S: InstitutionStore, W: Sink>(
     sink: &mut W,
 ) -> Result<(), StreamFault>
     requires { length bytes.now ≤ longest }
-    ensures ends { Ends (RunsRows S.stands S.clean S.leaves caller) store.old store.new (record {
+    ensures ends { Ends (RunsRows S.InstitutionStore caller) store.old store.new (record {
       rows = rows_of bytes.now;
-      before = W.written sink.old;
-      after = W.written sink.new;
-      faults_before = W.faults sink.old;
-      faults_after = W.faults sink.new;
+      sink = stream_of W.written W.faults sink.old sink.new;
     }) result }
 {
     let Ok(sheet) = read_sheet(alloc, bytes) else {

@@ -12,7 +12,7 @@ ghost use Rattle.mf_model.specs.declared.reply.Reply.TheVariants as replied;
 ghost use Rattle.mf_sheet_lines.specs.declared.line.SheetRepayment.{SheetRepayment};
 ghost use Rattle.mf_sheet.specs.Lines.{asked_by, call_of, result_of};
 ghost use Rattle.mf_sheet.specs.Runs.{NoneIsF20, RunsRows};
-ghost use Rattle.mf_sheet.specs.Ends.{Streams, EndsWhole};
+ghost use Rattle.mf_sheet.specs.Ends.{SheetStreams, EndsWhole};
 ghost use Rattle.mf_sheet.specs.Again.{AreToldAgain, IsTaken, after_sheet, results_on};
 
 use mf_base::Fault;
@@ -49,9 +49,9 @@ pub fn twice_acts_once()
 /// The same of what `collect` says, over any store: where one sheet was collected twice in a row to its end, and no
 /// result is F20, the store stands for the institution that one run leaves.
 pub fn collected_twice<S: InstitutionStore>()
-    ensures { (c : Caller) (old mid new : S) (first second : Streams) → second.rows ≡ first.rows →
-        (one : EndsWhole (RunsRows S.stands S.clean S.leaves c) old mid first) →
-        (two : EndsWhole (RunsRows S.stands S.clean S.leaves c) mid new second) →
+    ensures { (c : Caller) (old mid new : S) (first second : SheetStreams) → second.rows ≡ first.rows →
+        (one : EndsWhole (RunsRows S.InstitutionStore c) old mid first) →
+        (two : EndsWhole (RunsRows S.InstitutionStore c) mid new second) →
         NoneIsF20 one.results → NoneIsF20 two.results → S.clean new → (i : Institution) → S.stands old i →
         S.stands new (after_sheet c first.rows i) × AreToldAgain one.results two.results }
 {}

@@ -18,8 +18,8 @@ abbrev pub from_front : List ℕ → List ℕ
 from_front text = drop (prefix_len is_blank text) text
 
 -- a field without the spaces and tabs round it
-abbrev pub trimmed : List ℕ → List ℕ
-trimmed field = take (length (from_front field) - suffix_len is_blank (from_front field)) (from_front field)
+abbrev pub without_blanks : List ℕ → List ℕ
+without_blanks field = take (length (from_front field) - suffix_len is_blank (from_front field)) (from_front field)
 
 -- the receipt that a text is
 abbrev pub receipt_of : List ℕ → Option (List ℕ)

@@ -9,7 +9,7 @@ use Rattle.mf_office.specs.Texts.{account_of, IsAccount}
 use Rattle.mf_sheet_lines.specs.declared.line.SheetLine.{SheetLine}
 use Rattle.mf_sheet_lines.specs.declared.line.SheetLine.TheVariants.{Repay, Bad}
 use Rattle.mf_sheet_lines.specs.declared.line.SheetRepayment.{SheetRepayment}
-use Rattle.mf_sheet_lines.specs.Fields.{trimmed, receipt_of, day_written, amount_of}
+use Rattle.mf_sheet_lines.specs.Fields.{without_blanks, receipt_of, day_written, amount_of}
 
 -- the fields of a line, by their columns
 pub record Columns : Type 0 where
@@ -32,15 +32,15 @@ repayment_of receipt loan date amount =
 
 -- the repayment that four fields write; spaces and tabs round a field don't count
 abbrev pub repayment_in : Columns → Option SheetRepayment
-repayment_in c = repayment_of (trimmed c.receipt) (trimmed c.loan) (trimmed c.date) (trimmed c.amount)
+repayment_in c = repayment_of (without_blanks c.receipt) (without_blanks c.loan) (without_blanks c.date) (without_blanks c.amount)
 
 -- what a line asks for: a repayment, where there are four fields and each is as it should be
-abbrev pub asked : Option SheetRepayment → SheetLine
-asked None = Bad
-asked (Some repayment) = Repay repayment
+abbrev pub repay_or_bad : Option SheetRepayment → SheetLine
+repay_or_bad None = Bad
+repay_or_bad (Some repayment) = Repay repayment
 
 abbrev pub line_of : List (List ℕ) → SheetLine
-line_of fields = asked (option_and_then repayment_in (columns_of fields))
+line_of fields = repay_or_bad (option_and_then repayment_in (columns_of fields))
 
 -- the ranges of what a repayment says
 pub record IsRepaymentInRange (r : SheetRepayment) : Type 0 where
@@ -56,7 +56,7 @@ IsLineInRange (Repay r) = IsRepaymentInRange r
 
 -- the field is this name, in any case of ASCII
 abbrev pub is_name : List ℕ → List ℕ → Bool
-is_name name field = str_eq_ignore_ascii_case (trimmed field) name
+is_name name field = str_eq_ignore_ascii_case (without_blanks field) name
 
 abbrev pub are_names : Columns → Bool
 are_names c = is_name (codes "receipt") c.receipt && is_name (codes "loan") c.loan && is_name (codes "date") c.date && is_name (codes "amount") c.amount

@@ -1,7 +1,7 @@
 //! Laws of sheets. Each function does nothing: its contract is the law.
 
 ghost use Rattle.std.specs.Prelude.{◌≡◌, [], ◌∷◌, ◌++◌, None, Some, codes};
-ghost use Rattle.mf_sheet_lines.specs.Fields.{amount_of, cents_written, day_written, receipt_of, trimmed};
+ghost use Rattle.mf_sheet_lines.specs.Fields.{amount_of, cents_written, day_written, receipt_of, without_blanks};
 ghost use Rattle.mf_sheet_lines.specs.Results.{record_text, result_text};
 ghost use Rattle.mf_sheet_lines.specs.Sheets.{lines_of, rows_of};
 
@@ -16,7 +16,7 @@ pub fn worked_fields()
     ensures nothing { (cents_written (codes "0") ≡ Some 0) × (amount_of (codes "0") ≡ None) }
     ensures days { (day_written (codes "2024-02-29") ≡ Some 8825) × (day_written (codes "2023-02-29") ≡ None) × (day_written (codes "2024-2-29") ≡ None) × (day_written (codes "1999-12-31") ≡ None) × (day_written (codes "2100-01-01") ≡ None) }
     ensures receipts { (receipt_of (codes "R-1") ≡ Some (codes "R-1")) × (receipt_of (codes "R 1") ≡ None) × (receipt_of [] ≡ None) }
-    ensures blanks { trimmed (codes " \tR 1\t ") ≡ codes "R 1" }
+    ensures blanks { without_blanks (codes " \tR 1\t ") ≡ codes "R 1" }
 {}
 
 /// Which lines a sheet has, and what they ask for. Day 8825 is 29 February 2024, day 8856 is 31 March.

@@ -17,14 +17,14 @@ use Rattle.mf_account.specs.Standing.{entry_at}
 use Rattle.mf_account.specs.Told.{settled_amount, IsNumberedTo, AreNumbered}
 use Rattle.mf_statement.specs.declared.entries.EntryParts.{EntryParts}
 use Rattle.mf_statement.specs.declared.lines.EntryLine.{EntryLine}
-use Rattle.mf_statement.specs.Lines.{cleared, cleared_by, cleared_in, line_among}
+use Rattle.mf_statement.specs.Lines.{cleared_by_part, cleared_by, cleared_in, line_among}
 use Rattle.mf_statement.specs.Parts.{no_parts, parts_in, with_part, table, line_with}
 
 abbrev is_of : ℕ → Settled → Bool
 is_of seq s = eqb s.seq seq
 
 abbrev sum_up : List Settled → EntryParts
-sum_up own = record { cleared = sum_by cleared own; shares = map share_of own }
+sum_up own = record { cleared = sum_by cleared_by_part own; shares = map share_of own }
 
 filter-own : (seq : ℕ) (settled : List Settled) (s : Settled) → s.seq ≡ seq → filter (is_of seq) (settled ++ s ∷ []) ≡ filter (is_of seq) settled ++ s ∷ []
 filter-own seq settled s is =
@@ -43,9 +43,9 @@ map-snoc (first ∷ own) s = ap (λ (x : List Share). share_of first ∷ x) (map
 
 sum_up-snoc : (own : List Settled) (s : Settled) → sum_up (own ++ s ∷ []) ≡ with_part (sum_up own) s
 sum_up-snoc own s =
-    let amount : sum_by cleared (own ++ s ∷ []) ≡ sum_by cleared own + cleared s = let all = sum_by-append cleared own (s ∷ []) in omega (arith, all) in
+    let amount : sum_by cleared_by_part (own ++ s ∷ []) ≡ sum_by cleared_by_part own + cleared_by_part s = let all = sum_by-append cleared_by_part own (s ∷ []) in omega (arith, all) in
     let at : ℕ → List Share → EntryParts = λ n xs. record { cleared = n; shares = xs } in
-    ap (λ (n : ℕ). at n (map share_of (own ++ s ∷ []))) amount ∙ ap (at (sum_by cleared own + cleared s)) (map-snoc own s)
+    ap (λ (n : ℕ). at n (map share_of (own ++ s ∷ []))) amount ∙ ap (at (sum_by cleared_by_part own + cleared_by_part s)) (map-snoc own s)
 
 part-own : (seq : ℕ) (settled : List Settled) (s : Settled) → s.seq ≡ seq → parts_in seq (settled ++ s ∷ []) ≡ with_part (parts_in seq settled) s
 part-own seq settled s is = ap sum_up (filter-own seq settled s is) ∙ sum_up-snoc (filter (is_of seq) settled) s
@@ -93,8 +93,8 @@ cleared-le seq (s ∷ settled) =
     let rest = cleared-le seq settled in
     let own = cleared-most s.how s.amount in
     let all = sum_by-append (λ (x : Settled). x.amount) (s ∷ []) settled in
-    let first = sum_by-append cleared (s ∷ []) (filter (is_of seq) settled) in
-    cond_both (is_of seq s) (s ∷ filter (is_of seq) settled) (filter (is_of seq) settled) (λ (x : List Settled). sum_by cleared x ≤ settled_amount (s ∷ settled))
+    let first = sum_by-append cleared_by_part (s ∷ []) (filter (is_of seq) settled) in
+    cond_both (is_of seq s) (s ∷ filter (is_of seq) settled) (filter (is_of seq) settled) (λ (x : List Settled). sum_by cleared_by_part x ≤ settled_amount (s ∷ settled))
     (λ _. omega (arith, rest, own, all, first)) (λ _. omega (arith, rest, all))
 
 -- so there is room for one part more

@@ -32,12 +32,12 @@ cleared_by Waived amount = amount
 cleared_by WrittenOff amount = amount
 
 -- what a part clears: what it waives or writes off
-abbrev pub cleared : Settled → ℕ
-cleared s = cleared_by s.how s.amount
+abbrev pub cleared_by_part : Settled → ℕ
+cleared_by_part s = cleared_by s.how s.amount
 
 -- what an entry clears
 abbrev pub cleared_in : ℕ → List Settled → ℕ
-cleared_in seq settled = sum_by cleared (filter (λ (s : Settled). s.seq == seq) settled)
+cleared_in seq settled = sum_by cleared_by_part (filter (λ (s : Settled). s.seq == seq) settled)
 
 -- the amount that an entry is told with: as it was entered, or what it clears now. A refund clears what it gives back
 abbrev pub amount_told : Kind → Entry → ℕ → ℕ → ℕ

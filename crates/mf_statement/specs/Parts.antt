@@ -6,7 +6,7 @@ use Rattle.mf_account.specs.declared.settled.Settled.{Settled}
 use Rattle.mf_account.specs.Account.{share_of, shares_in}
 use Rattle.mf_statement.specs.declared.entries.EntryParts.{EntryParts}
 use Rattle.mf_statement.specs.declared.lines.EntryLine.{EntryLine}
-use Rattle.mf_statement.specs.Lines.{cleared, cleared_in, amount_told}
+use Rattle.mf_statement.specs.Lines.{cleared_by_part, cleared_in, amount_told}
 
 abbrev pub no_parts : EntryParts
 no_parts = record { cleared = 0; shares = [] }
@@ -21,7 +21,7 @@ table settled n = map (λ seq. parts_in seq settled) (range_with_len 1 n)
 
 -- one part more
 abbrev pub with_part : EntryParts → Settled → EntryParts
-with_part own s = record { cleared = own.cleared + cleared s; shares = own.shares ++ share_of s ∷ [] }
+with_part own s = record { cleared = own.cleared + cleared_by_part s; shares = own.shares ++ share_of s ∷ [] }
 
 -- an entry as it is told, with what its parts come to
 abbrev pub line_with : ℕ → Entry → EntryParts → EntryLine

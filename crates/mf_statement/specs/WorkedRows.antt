@@ -76,8 +76,8 @@ entry seq kind day amount instalment portion reversed = record {
 abbrev pub repayment : ℕ → ℕ → ℕ → Entry
 repayment seq day amount = entry seq Repay day amount 0 Principal false
 
-abbrev pub told : Entry → ℕ → List Share → EntryLine
-told e amount shares = record { entry = e; amount = amount; shares = shares }
+abbrev pub line_told : Entry → ℕ → List Share → EntryLine
+line_told e amount shares = record { entry = e; amount = amount; shares = shares }
 
 abbrev pub share : ℕ → Portion → ℕ → Share
 share instalment portion amount = record { cell = record { instalment = instalment; portion = portion }; amount = amount }
@@ -99,11 +99,11 @@ abbrev pub second : ℕ → Entry
 second seq = repayment seq march 50000
 
 abbrev pub first_told : ℕ → EntryLine
-first_told seq = told (first seq) 20000 (share 1 Interest 1000 ∷ share 1 Principal 19000 ∷ [])
+first_told seq = line_told (first seq) 20000 (share 1 Interest 1000 ∷ share 1 Principal 19000 ∷ [])
 
 abbrev pub second_told : ℕ → EntryLine
 second_told seq =
-    told (second seq) 50000
+    line_told (second seq) 50000
     (share 1 Principal 14333 ∷ share 2 Interest 667 ∷ share 2 Principal 33333 ∷ share 3 Interest 333 ∷ share 3 Principal 1334 ∷ [])
 
 abbrev pub AreRepaymentsTold : Type 0
@@ -121,8 +121,8 @@ AreInstalmentsTold =
 abbrev pub IsPrincipalFirstTold : Type 0
 IsPrincipalFirstTold =
     entries_of (loan_by PrincipalFirst (first 1 ∷ second 2 ∷ []))
-    ≡ told (first 1) 20000 (share 1 Principal 20000 ∷ [])
-    ∷ told (second 2) 50000 (share 1 Principal 13333 ∷ share 1 Interest 1000 ∷ share 2 Principal 33333 ∷ share 2 Interest 667 ∷ share 3 Principal 1667 ∷ [])
+    ≡ line_told (first 1) 20000 (share 1 Principal 20000 ∷ [])
+    ∷ line_told (second 2) 50000 (share 1 Principal 13333 ∷ share 1 Interest 1000 ∷ share 2 Principal 33333 ∷ share 2 Interest 667 ∷ share 3 Principal 1667 ∷ [])
     ∷ []
 
 -- the first of them reversed
@@ -132,8 +132,8 @@ first_reversed = entry 1 Repay february 20000 0 Principal true
 abbrev pub IsReversalTold : Type 0
 IsReversalTold =
     entries_of (loan (first_reversed ∷ second 2 ∷ []))
-    ≡ told first_reversed 20000 []
-    ∷ told (second 2) 50000 (share 1 Interest 1000 ∷ share 1 Principal 33333 ∷ share 2 Interest 667 ∷ share 2 Principal 15000 ∷ [])
+    ≡ line_told first_reversed 20000 []
+    ∷ line_told (second 2) 50000 (share 1 Interest 1000 ∷ share 1 Principal 33333 ∷ share 2 Interest 667 ∷ share 2 Principal 15000 ∷ [])
     ∷ []
 
 -- a fee of 500 on instalment 2, then a repayment of all with an earlier day
@@ -146,8 +146,8 @@ all = repayment 2 february 102500
 abbrev pub IsFeeTold : Type 0
 IsFeeTold =
     (entries_of (loan (fee ∷ all ∷ []))
-    ≡ told fee 500 (share 2 FeePart 500 ∷ [])
-    ∷ told all 102500 (share 1 Interest 1000 ∷ share 1 Principal 33333 ∷ share 2 Interest 667 ∷ share 2 Principal 33333 ∷ share 3 Interest 333 ∷ share 3 Principal 33334 ∷ [])
+    ≡ line_told fee 500 (share 2 FeePart 500 ∷ [])
+    ∷ line_told all 102500 (share 1 Interest 1000 ∷ share 1 Principal 33333 ∷ share 2 Interest 667 ∷ share 2 Principal 33333 ∷ share 3 Interest 333 ∷ share 3 Principal 33334 ∷ [])
     ∷ [])
     × (instalments_of (loan (fee ∷ [])) ≡ instalment 1 february 0 0 1000 33333 34333 ∷ instalment 2 march 0 500 667 33333 34500 ∷ instalment 3 april 0 0 333 33334 33667 ∷ [])
 
@@ -161,8 +161,8 @@ little = repayment 2 march 5000
 abbrev pub IsPenaltyTold : Type 0
 IsPenaltyTold =
     (entries_of (loan (penalty ∷ little ∷ []))
-    ≡ told penalty 3433 []
-    ∷ told little 5000 (share 1 PenaltyPart 3433 ∷ share 1 Interest 1000 ∷ share 1 Principal 567 ∷ [])
+    ≡ line_told penalty 3433 []
+    ∷ line_told little 5000 (share 1 PenaltyPart 3433 ∷ share 1 Interest 1000 ∷ share 1 Principal 567 ∷ [])
     ∷ [])
     × (instalments_of (loan (penalty ∷ little ∷ [])) ≡ instalment 1 february 3433 0 1000 33333 32766 ∷ instalment 2 march 0 0 667 33333 34000 ∷ instalment 3 april 0 0 333 33334 33667 ∷ [])
 
@@ -175,10 +175,10 @@ earlier = repayment 2 february 40000
 
 abbrev pub IsWaiverTold : Type 0
 IsWaiverTold =
-    (entries_of (loan (waiver ∷ [])) ≡ told waiver 667 (share 2 Interest 667 ∷ []) ∷ [])
+    (entries_of (loan (waiver ∷ [])) ≡ line_told waiver 667 (share 2 Interest 667 ∷ []) ∷ [])
     × (entries_of (loan (waiver ∷ earlier ∷ []))
-    ≡ told waiver 0 []
-    ∷ told earlier 40000 (share 1 Interest 1000 ∷ share 1 Principal 33333 ∷ share 2 Interest 667 ∷ share 2 Principal 5000 ∷ [])
+    ≡ line_told waiver 0 []
+    ∷ line_told earlier 40000 (share 1 Interest 1000 ∷ share 1 Principal 33333 ∷ share 2 Interest 667 ∷ share 2 Principal 5000 ∷ [])
     ∷ [])
 
 -- what is left after the two repayments written off
@@ -188,7 +188,7 @@ write_off = entry 3 WriteOff march 0 0 Principal false
 abbrev pub IsWriteOffTold : Type 0
 IsWriteOffTold =
     entries_of (loan (first 1 ∷ second 2 ∷ write_off ∷ []))
-    ≡ first_told 1 ∷ second_told 2 ∷ told write_off 32000 (share 3 Principal 32000 ∷ []) ∷ []
+    ≡ first_told 1 ∷ second_told 2 ∷ line_told write_off 32000 (share 3 Principal 32000 ∷ []) ∷ []
 
 -- too much repaid and given back, and the refund reversed
 abbrev pub overpayment : Entry
@@ -196,7 +196,7 @@ overpayment = repayment 1 march 110000
 
 abbrev pub overpayment_told : EntryLine
 overpayment_told =
-    told overpayment 110000
+    line_told overpayment 110000
     (share 1 Interest 1000 ∷ share 1 Principal 33333 ∷ share 2 Interest 667 ∷ share 2 Principal 33333 ∷ share 3 Interest 333 ∷ share 3 Principal 33334 ∷ [])
 
 abbrev pub refund : Bool → Entry
@@ -204,5 +204,5 @@ refund reversed = entry 2 Refund march 0 0 Principal reversed
 
 abbrev pub IsRefundTold : Type 0
 IsRefundTold =
-    (entries_of (loan (overpayment ∷ refund false ∷ [])) ≡ overpayment_told ∷ told (refund false) 8000 [] ∷ [])
-    × (entries_of (loan (overpayment ∷ refund true ∷ [])) ≡ overpayment_told ∷ told (refund true) 0 [] ∷ [])
+    (entries_of (loan (overpayment ∷ refund false ∷ [])) ≡ overpayment_told ∷ line_told (refund false) 8000 [] ∷ [])
+    × (entries_of (loan (overpayment ∷ refund true ∷ [])) ≡ overpayment_told ∷ line_told (refund true) 0 [] ∷ [])

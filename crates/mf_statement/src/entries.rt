@@ -1,7 +1,7 @@
 ghost use Rattle.std.specs.Prelude.{◌≡◌, ◌+◌, ◌-◌, ◌<◌, ◌^◌, [], length, map, slice_set, slice_index_or, IfOk, OnOk, IsOkUnless};
 ghost use Rattle.std.specs.List.{zip};
 ghost use Rattle.mf_account.specs.Told.{settled_amount, IsNumberedTo, AreNumberedTo};
-ghost use Rattle.mf_statement.specs.Lines.{cleared as cleared_part, amount_told, entries_kept};
+ghost use Rattle.mf_statement.specs.Lines.{cleared_by_part as cleared_part, amount_told, entries_kept};
 ghost use Rattle.mf_statement.specs.Parts.{no_parts, with_part, table, line_with};
 
 use crate::lines::{EntryLine, EntryList};

@@ -8,13 +8,13 @@ use Rattle.mf_arrears.specs.Line.{line_of as line_of_loans}
 use Rattle.mf_alloc.specs.Sums.{Sums, is_open}
 use Rattle.mf_model.specs.Accounts.{account_in, of_account, status_in}
 use Rattle.mf_model.specs.Stages.{stage_number}
-use Rattle.mf_model.specs.Arrears.{aged, active_in, arrears_line, arrears_seen, if_active}
+use Rattle.mf_model.specs.Arrears.{aged_loan, active_in, arrears_line, arrears_seen, if_active}
 use Rattle.mf_model.specs.Desk.{line_of}
 use Rattle.mf_model.specs.Institution.{Institution, Catalogue, Office, Ledger, office_at}
 use Rattle.mf_account.specs.Loan.{Loan as Running, IsSound as IsSoundAccount, state_of_loan, status_of_loan}
 use Rattle.mf_account.proofs.ActiveLemmas.{active-where_open}
 use Rattle.mf_model.specs.Store.{rows_of}
-use Rattle.mf_model.specs.Tree.{kept, seen_by, parent_of, Above, Ascending}
+use Rattle.mf_model.specs.Tree.{offices_where, seen_by, parent_of, Above, Ascending}
 use Rattle.mf_office.specs.Tree.{is_at_or_below}
 use Rattle.mf_store_values.specs.Arrears.{aged_rows, line_at}
 
@@ -27,7 +27,7 @@ rows_of_account a = (state_of_loan a).rows
 -- a loan counts by the instalments that are kept as by its account
 pub aged_told : (today : ℕ) (o : Option Running) → ((a : Running) → o ≡ Some a → IsSoundAccount a) → aged_rows today (of_account [] rows_of_account o) ≡ if_active today o
 aged_told today None sound = refl
-aged_told today (Some a) sound = ap (λ b. cond b (aged today a ∷ []) []) (sym (active-where_open a (sound a refl)))
+aged_told today (Some a) sound = ap (λ b. cond b (aged_loan today a ∷ []) []) (sym (active-where_open a (sound a refl)))
 
 -- where something is outstanding its status is 300
 pub active_status : (k : Catalogue) (l : Ledger) → ((a : Running) → account_in k l ≡ Some a → IsSoundAccount a) → list_any is_open (of_account [] rows_of_account (account_in k l)) ≡ true → 300 ≡ status_in k l
@@ -62,15 +62,15 @@ found_there (f ∷ fs) up = (
   found_past f fs fs up.0 (found_there fs up.1),
 )
 
-lines_kept : (i : Institution) (p : ℕ → Bool) (gs : List Office) → AllByRecursion (IsFoundIn i.offices) gs → map (line_at i) (map line_of (kept p gs)) ≡ map (arrears_line i.catalogue) (kept p gs)
+lines_kept : (i : Institution) (p : ℕ → Bool) (gs : List Office) → AllByRecursion (IsFoundIn i.offices) gs → map (line_at i) (map line_of (offices_where p gs)) ≡ map (arrears_line i.catalogue) (offices_where p gs)
 lines_kept i p [] all = refl
 lines_kept i p (g ∷ gs) all = go (p g.number) (lines_kept i p gs all.1)
   where
     here : line_at i (line_of g) ≡ arrears_line i.catalogue g
     here = ap (λ o. line_of_loans g.number (active_in i.catalogue (rows_of o).loans)) all.0
 
-    go : (b : Bool) → map (line_at i) (map line_of (kept p gs)) ≡ map (arrears_line i.catalogue) (kept p gs)
-        → map (line_at i) (map line_of (cond b (g ∷ kept p gs) (kept p gs))) ≡ map (arrears_line i.catalogue) (cond b (g ∷ kept p gs) (kept p gs))
+    go : (b : Bool) → map (line_at i) (map line_of (offices_where p gs)) ≡ map (arrears_line i.catalogue) (offices_where p gs)
+        → map (line_at i) (map line_of (cond b (g ∷ offices_where p gs) (offices_where p gs))) ≡ map (arrears_line i.catalogue) (cond b (g ∷ offices_where p gs) (offices_where p gs))
     go true more = ap₂ ◌∷◌ here more
     go false more = more
 

@@ -1,9 +1,11 @@
 -- What a store stands for, with what it knows, after a query and after a commit.
-use Rattle.std.proofs.Common.{◌≡◌, ◌≢◌, ◌≤◌, ◌+◌, ◌*◌, ◌⊎◌, inl, inr, ◌-◌, ◌∷◌, ℕ, zero, suc, Bool, true, false, true≢false, cond, List, [], take, Option, None, Some, Result, Ok, Err, OnOk, OnErr, IsSome, IsOk, refl, sym, ap, ◌∙◌, subst, arith, nat_eq, ◌==◌}
+use Rattle.std.proofs.Common.{◌≡◌, ◌≢◌, ◌⊎◌, inl, inr, ◌-◌, ◌∷◌, ℕ, zero, suc, Bool, true, false, true≢false, cond, List, [], take, Option, None, Some, Result, Ok, Err, OnOk, OnErr, IsSome, IsOk, refl, sym, ap, ap₂, ◌∙◌, subst, arith, nat_eq, ◌==◌}
 use Rattle.std.specs.Option.{option_map_or}
 use Rattle.std.specs.Map.{lookup, lookup_entry, remove_entry}
+use Rattle.std.proofs.lemmas.Bool.{false_from_ne_true}
 use Rattle.std.proofs.lemmas.Bool.Decides.{nat_tests}
-use Rattle.std.specs.Cmp.{nat_eq_equiv}
+use Rattle.std.specs.Prelude.{◌&&◌}
+use Rattle.std.specs.Cmp.{IsEquivalence, nat_eq_equiv}
 use Rattle.std.proofs.lemmas.Result.{on_ok_weaker, on_err_weaker}
 use Rattle.lru.specs.LruCache.{LruCache, lru_cache, put_entries}
 use Rattle.lru.proofs.CallerLemmas.{Contains-lookup_entry, lookup-put_entries}
@@ -16,9 +18,9 @@ use Rattle.mf_office.specs.declared.caller.Caller.{Caller}
 use Rattle.mf_catalog.specs.declared.product.Product.{Product}
 use Rattle.mf_base.specs.declared.fault.Fault.{Fault}
 use Rattle.mf_model.specs.declared.commit.Commit.{Commit}
-use Rattle.mf_model.specs.Store.{Commits, committed, counts_at, role_of}
+use Rattle.mf_model.specs.Store.{Commits, after_commit, counts_at, role_of}
 use Rattle.mf_store_records.specs.Calls.{OnlyFaultsShut}
-use Rattle.mf_store.specs.Facts.{Facts, Kept, AreTrueOf, caller_number, nothing_known}
+use Rattle.mf_store.specs.Facts.{Facts, KnownStore, AreTrueOf, caller_key, same_key, nothing_known}
 use Rattle.mf_store_accounts.specs.Flat.{key_at}
 use Rattle.mf_store.specs.Learning.{Tells}
 use Rattle.mf_store.specs.declared.known.News.TheVariants.{Nothing, OfficeCounts, BusinessDay}
@@ -26,13 +28,13 @@ use Rattle.mf_store_commits.specs.Tabled.{IsTabled, HasGoodDisk, LeavesTables, S
 use Rattle.mf_store.specs.Stands.{StandsFor, IsClean, Leaves, IsOpenUntil, Stays}
 
 module _ {S : Type 0} (g : Ghosts S) where
-  pub tabled : (k : Kept S) (i : Institution) → StandsFor g k i → IsTabled g k.connection i
+  pub tabled : (k : KnownStore S) (i : Institution) → StandsFor g k i → IsTabled g k.connection i
   tabled k i s = record { sound = s.sound; serves = s.serves }
 
-  pub stays_same : (h : Kept S) → Stays g h h
+  pub stays_same : (h : KnownStore S) → Stays g h h
   stays_same h = record { premise = λ c. c; shuts = λ n o. o; same = λ c i s. s; stop = λ c is l. l }
 
-  pub stays_then : (a b c : Kept S) → Stays g a b → Stays g b c → Stays g a c
+  pub stays_then : (a b c : KnownStore S) → Stays g a b → Stays g b c → Stays g a c
   stays_then a b c p q = record {
     premise = λ clean. p.premise (q.premise clean);
     shuts = λ n o. q.shuts n (p.shuts n o);
@@ -42,30 +44,40 @@ module _ {S : Type 0} (g : Ghosts S) where
 
 -- ---- a cache after `put`
 
-module _ {V : Type 0} where
-  other_kept : (x y : ℕ) (es : List (ℕ × V)) → x ≢ y → lookup (nat_eq y) (remove_entry (nat_eq x) es) ≡ lookup (nat_eq y) es
+module _ {K V : Type 0} (eq : K → K → Bool) (exact : (a b : K) → eq a b ≡ true → a ≡ b) where
+  other_kept : (x y : K) (es : List (K × V)) → x ≢ y → lookup (eq y) (remove_entry (eq x) es) ≡ lookup (eq y) es
   other_kept x y [] ne = refl
-  other_kept x y (e ∷ es) ne = grind (arith, nat_tests, other_kept x y es ne)
+  other_kept x y (e ∷ es) ne = go (eq x e.0) refl (other_kept x y es ne)
+    where
+      go : (b : Bool) → eq x e.0 ≡ b → lookup (eq y) (remove_entry (eq x) es) ≡ lookup (eq y) es → lookup (eq y) (cond b es (e ∷ remove_entry (eq x) es)) ≡ lookup (eq y) (e ∷ es)
+      go true is rest = sym (ap (λ b. cond b (Some e.1) (lookup (eq y) es)) (false_from_ne_true (eq y e.0) (λ also. ne (exact x e.0 is ∙ sym (exact y e.0 also)))))
+      go false is rest = ap (λ o. cond (eq y e.0) (Some e.1) o) rest
 
-  taken_there : (n y : ℕ) (es : List (ℕ × V)) (v : V) → lookup (nat_eq y) (take n es) ≡ Some v → lookup (nat_eq y) es ≡ Some v
+  taken_there : (n : ℕ) (y : K) (es : List (K × V)) (v : V) → lookup (eq y) (take n es) ≡ Some v → lookup (eq y) es ≡ Some v
   taken_there zero y es v h = absurd (let k : None ≡ Some v = h in cc)
   taken_there (suc n) y [] v h = h
-  taken_there (suc n) y (e ∷ es) v h = go (nat_eq y e.0) h (λ k. taken_there n y es v k)
+  taken_there (suc n) y (e ∷ es) v h = go (eq y e.0) h (λ k. taken_there n y es v k)
     where
-      go : (b : Bool) → cond b (Some e.1) (lookup (nat_eq y) (take n es)) ≡ Some v → (lookup (nat_eq y) (take n es) ≡ Some v → lookup (nat_eq y) es ≡ Some v) → cond b (Some e.1) (lookup (nat_eq y) es) ≡ Some v
+      go : (b : Bool) → cond b (Some e.1) (lookup (eq y) (take n es)) ≡ Some v → (lookup (eq y) (take n es) ≡ Some v → lookup (eq y) es ≡ Some v) → cond b (Some e.1) (lookup (eq y) es) ≡ Some v
       go true h more = h
       go false h more = more h
 
   -- what is found of another key was found before
-  put_other : (c : LruCache ℕ V) (x : ℕ) (v : V) (y : ℕ) (w : V) → x ≢ y → lookup (nat_eq y) (put_entries nat_eq c x v) ≡ Some w → lookup (nat_eq y) c.entries ≡ Some w
-  put_other c x v y w ne = go (lookup_entry (nat_eq x) c.entries) refl
+  put_other : (c : LruCache K V) (x : K) (v : V) (y : K) (w : V) → x ≢ y → lookup (eq y) (put_entries eq c x v) ≡ Some w → lookup (eq y) c.entries ≡ Some w
+  put_other c x v y w ne = go (lookup_entry (eq x) c.entries) refl
     where
-      go : (o : Option (ℕ × V)) → lookup_entry (nat_eq x) c.entries ≡ o → lookup (nat_eq y) (option_map_or (λ e. (e.0, v) ∷ remove_entry (nat_eq x) c.entries) o ((x, v) ∷ take (c.cap - 1) c.entries)) ≡ Some w → lookup (nat_eq y) c.entries ≡ Some w
-      go None e h = let apart : nat_eq y x ≡ false = grind (arith, nat_tests) in taken_there (c.cap - 1) y c.entries w (rw apart at h)
+      apart : eq y x ≡ false
+      apart = false_from_ne_true (eq y x) (λ also. ne (sym (exact y x also)))
+
+      go : (o : Option (K × V)) → lookup_entry (eq x) c.entries ≡ o → lookup (eq y) (option_map_or (λ e. (e.0, v) ∷ remove_entry (eq x) c.entries) o ((x, v) ∷ take (c.cap - 1) c.entries)) ≡ Some w → lookup (eq y) c.entries ≡ Some w
+      go None e h = taken_there (c.cap - 1) y c.entries w (rw apart at h)
       go (Some f) e h =
-          let key : nat_eq x f.0 ≡ true = (Contains-lookup_entry (nat_eq x) c.entries f e).1 in
-          let apart : nat_eq y f.0 ≡ false = grind (arith, nat_tests) in
-          sym (other_kept x y c.entries ne) ∙ (rw apart at h)
+          let key : eq x f.0 ≡ true = (Contains-lookup_entry (eq x) c.entries f e).1 in
+          let other : eq y f.0 ≡ false = false_from_ne_true (eq y f.0) (λ also. ne (exact x f.0 key ∙ sym (exact y f.0 also))) in
+          sym (other_kept x y c.entries ne) ∙ (rw other at h)
+
+nat_exact : (a b : ℕ) → nat_eq a b ≡ true → a ≡ b
+nat_exact a b is = grind (arith, nat_tests)
 
 -- what is known of the offices' rows, once one office's were kept, or could not be
 pub counts_learnt : {E : Type 0} (old new : LruCache ℕ Counts) (x : ℕ) (v : Counts) (r : Result (Option Counts) E) (i j : Institution)
@@ -83,7 +95,7 @@ counts_learnt old new x v (Ok o) i j ok err there known told y c h = go (x == y)
         let is : Some v ≡ Some c = sym (lookup-put_entries nat_eq old x v nat_eq_equiv) ∙ (λ k. lookup (nat_eq (same k)) (put_entries nat_eq old x v)) ∙ found in
         let value : v ≡ c = cc in
         sym value ∙ sym t
-    go false e t = let ne : x ≢ y = grind (arith, nat_tests) in known y c (put_other old x v y c ne found) ∙ sym t
+    go false e t = let ne : x ≢ y = grind (arith, nat_tests) in known y c (put_other nat_eq nat_exact old x v y c ne found) ∙ sym t
 counts_learnt old new x v (Err e) i j ok err there known told y c h = go (x == y) refl (told y)
   where
     found : lookup (nat_eq y) old.entries ≡ Some c
@@ -100,38 +112,50 @@ pub some_is : {A : Type 0} {a b : A} → Some a ≡ Some b → b ≡ a
 some_is h = cc
 
 -- what is found once something was kept, or could not be
-pub put_found : {V E : Type 0} (old new : LruCache ℕ V) (x : ℕ) (v : V) (r : Result (Option V) E) → OnOk r (new ≡ lru_cache (put_entries nat_eq old x v) old.cap) → OnErr r (new ≡ old)
-    → (y : ℕ) (w : V) → lookup (nat_eq y) new.entries ≡ Some w → ((x ≡ y) × (w ≡ v)) ⊎ (lookup (nat_eq y) old.entries ≡ Some w)
-put_found {V} old new x v (Ok o) ok err y w h = go (x == y) refl
+pub put_found : {K V E : Type 0} (eq : K → K → Bool) (exact : (a b : K) → eq a b ≡ true → a ≡ b) (laws : IsEquivalence eq) (old new : LruCache K V) (x : K) (v : V) (r : Result (Option V) E)
+    → OnOk r (new ≡ lru_cache (put_entries eq old x v) old.cap) → OnErr r (new ≡ old)
+    → (y : K) (w : V) → lookup (eq y) new.entries ≡ Some w → ((x ≡ y) × (w ≡ v)) ⊎ (lookup (eq y) old.entries ≡ Some w)
+put_found {K} {V} eq exact laws old new x v (Ok o) ok err y w h = go (eq x y) refl
   where
-    found : lookup (nat_eq y) (put_entries nat_eq old x v) ≡ Some w
-    found = sym (ap (λ (n : LruCache ℕ V). lookup (nat_eq y) n.entries) ok) ∙ h
+    found : lookup (eq y) (put_entries eq old x v) ≡ Some w
+    found = sym (ap (λ (n : LruCache K V). lookup (eq y) n.entries) ok) ∙ h
 
-    go : (b : Bool) → (x == y) ≡ b → ((x ≡ y) × (w ≡ v)) ⊎ (lookup (nat_eq y) old.entries ≡ Some w)
+    go : (b : Bool) → eq x y ≡ b → ((x ≡ y) × (w ≡ v)) ⊎ (lookup (eq y) old.entries ≡ Some w)
     go true e =
-        let same : x ≡ y = grind (arith, nat_tests) in
-        inl (same, some_is (sym (lookup-put_entries nat_eq old x v nat_eq_equiv) ∙ (λ k. lookup (nat_eq (same k)) (put_entries nat_eq old x v)) ∙ found))
-    go false e = let ne : x ≢ y = grind (arith, nat_tests) in inr (put_other old x v y w ne found)
-put_found {V} old new x v (Err e) ok err y w h = inr (sym (ap (λ (n : LruCache ℕ V). lookup (nat_eq y) n.entries) err) ∙ h)
+        let same : x ≡ y = exact x y e in
+        inl (same, some_is (sym (lookup-put_entries eq old x v laws) ∙ (λ k. lookup (eq (same k)) (put_entries eq old x v)) ∙ found))
+    go false e = let ne : x ≢ y = (λ same. true≢false (sym (laws.refl x) ∙ ap (eq x) same ∙ e)) in inr (put_other eq exact old x v y w ne found)
+put_found {K} {V} eq exact laws old new x v (Err e) ok err y w h = inr (sym (ap (λ (n : LruCache K V). lookup (eq y) n.entries) err) ∙ h)
 
-pub roles_learnt : {E : Type 0} (old new : LruCache ℕ Role) (caller : Caller) (role : Role) (r : Result (Option Role) E) (i : Institution) (n : ℕ) → n ≡ caller_number caller → caller.staff ≤ 9999
-    → OnOk r (new ≡ lru_cache (put_entries nat_eq old n role) old.cap) → OnErr r (new ≡ old) → role_of caller i ≡ Some role
-    → ((c : Caller) (w : Role) → c.staff ≤ 9999 → lookup (nat_eq (caller_number c)) old.entries ≡ Some w → role_of c i ≡ Some w)
-    → (c : Caller) (w : Role) → c.staff ≤ 9999 → lookup (nat_eq (caller_number c)) new.entries ≡ Some w → role_of c i ≡ Some w
-roles_learnt old new caller role r i n is low ok err so known c w bound h = elim (put_found old new n role r ok err (caller_number c) w h) [
-  | inl same ↦
-      let number : caller.office * 10000 + caller.staff ≡ c.office * 10000 + c.staff = sym is ∙ same.0 in
-      let office : caller.office ≡ c.office = omega arith in
-      let staff : caller.staff ≡ c.staff = omega arith in
-      sym (λ k. role_of (record { office = office k; staff = staff k }) i) ∙ so ∙ ap Some (sym same.1)
-  | inr before ↦ known c w bound before
+-- ---- the keys of callers
+
+key_exact : (a b : ℕ × ℕ) → same_key a b ≡ true → a ≡ b
+key_exact a b is =
+    let office : a.0 ≡ b.0 = grind (arith, nat_tests) in
+    let staff : a.1 ≡ b.1 = grind (arith, nat_tests) in
+    ap₂ (λ x y. (x, y)) office staff
+
+key_laws : IsEquivalence same_key
+key_laws = record {
+  refl = λ x. grind (arith, nat_tests);
+  symm = λ x y. ap₂ (λ a b. a && b) (nat_eq_equiv.symm x.0 y.0) (nat_eq_equiv.symm x.1 y.1);
+  congr = λ x y z is. ap (λ k. same_key k z) (key_exact x y is);
+}
+
+pub roles_learnt : {E : Type 0} (old new : LruCache (ℕ × ℕ) Role) (caller : Caller) (role : Role) (r : Result (Option Role) E) (i : Institution)
+    → OnOk r (new ≡ lru_cache (put_entries same_key old (caller_key caller) role) old.cap) → OnErr r (new ≡ old) → role_of caller i ≡ Some role
+    → ((c : Caller) (w : Role) → lookup (same_key (caller_key c)) old.entries ≡ Some w → role_of c i ≡ Some w)
+    → (c : Caller) (w : Role) → lookup (same_key (caller_key c)) new.entries ≡ Some w → role_of c i ≡ Some w
+roles_learnt old new caller role r i ok err so known c w h = elim (put_found same_key key_exact key_laws old new (caller_key caller) role r ok err (caller_key c) w h) [
+  | inl same ↦ sym (λ k. role_of (record { office = (same.0 k).0; staff = (same.0 k).1 }) i) ∙ so ∙ ap Some (sym same.1)
+  | inr before ↦ known c w before
 ]
 
 pub keys_learnt : {E : Type 0} (old new : LruCache ℕ (List ℕ)) (x : ℕ) (key : List ℕ) (r : Result (Option (List ℕ)) E) (i : Institution)
     → OnOk r (new ≡ lru_cache (put_entries nat_eq old x key) old.cap) → OnErr r (new ≡ old) → key_at x i ≡ Some key
     → ((y : ℕ) (w : List ℕ) → lookup (nat_eq y) old.entries ≡ Some w → key_at y i ≡ Some w)
     → (y : ℕ) (w : List ℕ) → lookup (nat_eq y) new.entries ≡ Some w → key_at y i ≡ Some w
-keys_learnt old new x key r i ok err so known y w h = elim (put_found old new x key r ok err y w h) [
+keys_learnt old new x key r i ok err so known y w h = elim (put_found nat_eq nat_exact nat_eq_equiv old new x key r ok err y w h) [
   | inl same ↦ sym (ap (λ z. key_at z i) same.0) ∙ so ∙ ap Some (sym same.1)
   | inr before ↦ known y w before
 ]
@@ -140,7 +164,7 @@ pub products_learnt : {E : Type 0} (old new : LruCache ℕ Product) (x : ℕ) (p
     → OnOk r (new ≡ lru_cache (put_entries nat_eq old x product) old.cap) → OnErr r (new ≡ old) → product_in i.catalogue x ≡ Some product
     → ((n : ℕ) (p : Product) → lookup (nat_eq n) old.entries ≡ Some p → product_in i.catalogue n ≡ Some p)
     → (n : ℕ) (p : Product) → lookup (nat_eq n) new.entries ≡ Some p → product_in i.catalogue n ≡ Some p
-products_learnt old new x product r i ok err so known n p h = elim (put_found old new x product r ok err n p h) [
+products_learnt old new x product r i ok err so known n p h = elim (put_found nat_eq nat_exact nat_eq_equiv old new x product r ok err n p h) [
   | inl same ↦ sym (ap (λ z. product_in i.catalogue z) same.0) ∙ so ∙ ap Some (sym same.1)
   | inr before ↦ known n p before
 ]
@@ -157,7 +181,7 @@ known_still f i j t k = record {
   counts = λ x c e. k.counts x c e ∙ sym (t.counts x);
   catalogue = λ c e. k.catalogue c e ∙ sym t.catalogue;
   day = λ d e. k.day d e ∙ sym t.day;
-  roles = λ c r b e. t.roles c r (k.roles c r b e);
+  roles = λ c r e. t.roles c r (k.roles c r e);
   keys = λ x l e. t.keys x l (k.keys x l e);
   products = λ n p e. t.products refl n p (k.products n p e);
 }
@@ -187,11 +211,11 @@ module _ {S : Type 0} (g : Ghosts S) where
   known_unmade old new f same i s = let t = same i (tabled g (record { connection = old; known = f }) i s) in record { sound = t.sound; serves = t.serves; knows = s.knows }
 
   -- a commit over the tables, of which there is nothing new to know
-  pub known_commits : (commit : Commit) (old new : Held S) (f : Facts) (r : Result (Unit {0}) Fault) → ((i : Institution) → Tells Nothing i (committed commit i)) → Commits (IsTabled g) (HasGoodDisk g) (LeavesTables g) commit old new r
+  pub known_commits : (commit : Commit) (old new : Held S) (f : Facts) (r : Result (Unit {0}) Fault) → ((i : Institution) → Tells Nothing i (after_commit commit i)) → Commits (IsTabled g) (HasGoodDisk g) (LeavesTables g) commit old new r
       → Commits (StandsFor g) (IsClean g) (Leaves g) commit (record { connection = old; known = f }) (record { connection = new; known = f }) r
   known_commits commit old new f r tells c = record {
     premise = c.premise;
-    made = λ clean i s admitted. on_ok_weaker r (λ t. known_made old new f f i (committed commit i) s t (known_still f i (committed commit i) (tells i) s.knows)) (c.made clean i (tabled g (record { connection = old; known = f }) i s) admitted);
+    made = λ clean i s admitted. on_ok_weaker r (λ t. known_made old new f f i (after_commit commit i) s t (known_still f i (after_commit commit i) (tells i) s.knows)) (c.made clean i (tabled g (record { connection = old; known = f }) i s) admitted);
     kept = λ clean i s admitted. c.kept clean i (tabled g (record { connection = old; known = f }) i s) admitted;
     same = λ clean i s. on_err_weaker r (λ t. known_made old new f f i i s t s.knows) (c.same clean i (tabled g (record { connection = old; known = f }) i s));
     gives_up = c.gives_up;
@@ -207,14 +231,14 @@ module _ {S : Type 0} (g : Ghosts S) where
       counts = λ x c e. absurd (let k : None ≡ Some c = e in cc);
       catalogue = λ c e. absurd (let k : None ≡ Some c = e in cc);
       day = λ d e. absurd (let k : None ≡ Some d = e in cc);
-      roles = λ c r b e. absurd (let k : None ≡ Some r = e in cc);
+      roles = λ c r e. absurd (let k : None ≡ Some r = e in cc);
       keys = λ x l e. absurd (let k : None ≡ Some l = e in cc);
       products = λ n p e. absurd (let k : None ≡ Some p = e in cc);
     });
   }
 
   -- it stays, and takes in what was read
-  pub learnt_stays : (old mid new : Kept S) (IsSo : Institution → Type 0) → Stays g old mid → ((i : Institution) → StandsFor g mid i → IsSo i → StandsFor g new i) → new.connection ≡ mid.connection
+  pub learnt_stays : (old mid new : KnownStore S) (IsSo : Institution → Type 0) → Stays g old mid → ((i : Institution) → StandsFor g mid i → IsSo i → StandsFor g new i) → new.connection ≡ mid.connection
       → (IsClean g mid → (i : Institution) → StandsFor g old i → IsSo i) → Stays g old new
   learnt_stays old mid new IsSo kept learns tables told = record {
     premise = λ clean. kept.premise (now clean);
@@ -226,7 +250,7 @@ module _ {S : Type 0} (g : Ghosts S) where
       now : IsClean g new → IsClean g mid
       now clean = subst (λ h. HasGoodDisk g h) tables clean
 
-  pub clean_before : (mid new : Kept S) → new.connection ≡ mid.connection → IsClean g new → IsClean g mid
+  pub clean_before : (mid new : KnownStore S) → new.connection ≡ mid.connection → IsClean g new → IsClean g mid
   clean_before mid new tables clean = subst (λ h. HasGoodDisk g h) tables clean
 
 -- ---- what is read is so

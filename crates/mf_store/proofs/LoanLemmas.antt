@@ -6,15 +6,15 @@ use Rattle.std.proofs.lemmas.Bool.{and_parts}
 use Rattle.std.proofs.lemmas.Bool.Decides.{nat_tests}
 use Rattle.sqlite_keyed.proofs.ListLemmas.{filter-filter, map-map}
 use Rattle.mf_account.specs.declared.entry.Entry.{Entry}
-use Rattle.mf_account.specs.Change.{Account as Kept, replayed}
+use Rattle.mf_account.specs.Change.{Account as Kept, account_by_replay}
 use Rattle.mf_account.specs.Loan.{Loan as Running}
 use Rattle.mf_catalog.specs.declared.terms.Terms.{Terms}
 use Rattle.mf_office.specs.declared.account.Account.{Account}
 use Rattle.mf_model.specs.declared.loan.Loan.{Loan}
 use Rattle.mf_model.specs.declared.loan.LoanLine.{LoanLine}
 use Rattle.mf_model.specs.declared.loan.Stage.TheVariants.{Submitted}
-use Rattle.mf_model.specs.Accounts.{of_account, running, running_from, terms_in}
-use Rattle.mf_model.specs.Institution.{Institution, Catalogue, Ledger, numbered}
+use Rattle.mf_model.specs.Accounts.{of_account, running_loan, running_from, terms_in}
+use Rattle.mf_model.specs.Institution.{Institution, Catalogue, Ledger, item_numbered}
 use Rattle.mf_model.specs.Loans.{lines_from, lines_above}
 use Rattle.mf_model.specs.Sound.{IsSound}
 use Rattle.mf_model.specs.Stages.{disbursed_on}
@@ -103,7 +103,7 @@ counted_all P n (l ∷ ls) h = (
 
 pub counted_there : (x : ℕ) (i : Institution) → AllByRecursion (IsLoanOf x i) (counted 1 (rows_at x i).loans)
 counted_there x i =
-    counted_all (IsLoanOf x i) 1 (rows_at x i).loans (λ d l e. subst (λ m. numbered (rows_at x i).loans m ≡ Some l) (let same : suc d ≡ 1 + d = omega arith in same) (numbered-suc (rows_at x i).loans d ∙ e))
+    counted_all (IsLoanOf x i) 1 (rows_at x i).loans (λ d l e. subst (λ m. item_numbered (rows_at x i).loans m ≡ Some l) (let same : suc d ≡ 1 + d = omega arith in same) (numbered-suc (rows_at x i).loans d ∙ e))
 
 all_dropped : {A : Type 0} (P : A → Type 0) (n : ℕ) (xs : List A) → AllByRecursion P xs → AllByRecursion P (drop n xs)
 all_dropped P zero xs a = a
@@ -127,33 +127,33 @@ no_loan = (0, record { loan = record { client = 0; product = 0; principal = 0; p
 
 -- what is replayed of a loan's terms and its entries
 pub replay_is : (named : Option Terms) (loan : Loan) (day : ℕ) (entries : List Entry) (terms : Terms) (found : Option Kept) (a : Kept) → named ≡ Some terms
-    → IfSome found (λ (b : Kept). b ≡ replayed (record { terms = terms; principal = loan.principal; periods = loan.periods; day = day; entries = entries })) → found ≡ Some a
-    → option_map replayed (running_from loan entries (Some day) named) ≡ Some a
+    → IfSome found (λ (b : Kept). b ≡ account_by_replay (record { terms = terms; principal = loan.principal; periods = loan.periods; day = day; entries = entries })) → found ≡ Some a
+    → option_map account_by_replay (running_from loan entries (Some day) named) ≡ Some a
 replay_is named loan day entries terms found a term made is =
-    ap (λ t. option_map replayed (running_from loan entries (Some day) t)) term ∙ ap Some (sym (subst (λ o. IfSome o (λ (b : Kept). b ≡ replayed (running loan entries day terms))) is made))
+    ap (λ t. option_map account_by_replay (running_from loan entries (Some day) t)) term ∙ ap Some (sym (subst (λ o. IfSome o (λ (b : Kept). b ≡ account_by_replay (running_loan loan entries day terms))) is made))
 
 -- the instalments of a loan that was just disbursed
-pub fresh_rows : (k : Catalogue) (loan : Loan) (day : ℕ) (es : List Entry) (a : Kept) → option_map replayed (running_from loan es (Some day) (terms_in k loan.product)) ≡ Some a → es ≡ [] → disbursed_on loan.stage ≡ Some day
+pub fresh_rows : (k : Catalogue) (loan : Loan) (day : ℕ) (es : List Entry) (a : Kept) → option_map account_by_replay (running_from loan es (Some day) (terms_in k loan.product)) ≡ Some a → es ≡ [] → disbursed_on loan.stage ≡ Some day
     → kept_of instalments_kept k (record { loan = loan; entries = [] }) ≡ numbered_from (λ n row. (n, row)) 1 a.state.rows
 fresh_rows k loan day es a is none disbursed =
     (λ t. of_account [] instalments_kept (running_from loan (sym none t) (disbursed t) (terms_in k loan.product))) ∙ go (running_from loan es (Some day) (terms_in k loan.product)) is
   where
-    go : (o : Option Running) → option_map replayed o ≡ Some a → of_account [] instalments_kept o ≡ numbered_from (λ n row. (n, row)) 1 a.state.rows
+    go : (o : Option Running) → option_map account_by_replay o ≡ Some a → of_account [] instalments_kept o ≡ numbered_from (λ n row. (n, row)) 1 a.state.rows
     go None e = absurd (let never : None ≡ Some a = e in cc)
-    go (Some r) e = let found : Some (replayed r) ≡ Some a = e in let same : replayed r ≡ a = cc in ap (λ (b : Kept). numbered_from (λ n row. (n, row)) 1 b.state.rows) same
+    go (Some r) e = let found : Some (account_by_replay r) ≡ Some a = e in let same : account_by_replay r ≡ a = cc in ap (λ (b : Kept). numbered_from (λ n row. (n, row)) 1 b.state.rows) same
 
 -- what is replayed of a loan's row and its entries is its account
-pub account_replayed : (i : Institution) (account : Account) (loan : Loan) (day : ℕ) (entries : List Entry) (a : Kept) → entries ≡ entries_of (ledger_at account i) → option_map replayed (running_from loan entries (Some day) (terms_in i.catalogue loan.product)) ≡ Some a
+pub account_replayed : (i : Institution) (account : Account) (loan : Loan) (day : ℕ) (entries : List Entry) (a : Kept) → entries ≡ entries_of (ledger_at account i) → option_map account_by_replay (running_from loan entries (Some day) (terms_in i.catalogue loan.product)) ≡ Some a
     → loan_at account i ≡ Some loan → disbursed_on loan.stage ≡ Some day → account_at account i ≡ Some a
 account_replayed i account loan day entries a entered is there disbursed = go (ledger_at account i) entered there
   where
     k : Catalogue
     k = i.catalogue
 
-    go : (o : Option Ledger) → entries ≡ entries_of o → option_map loan_of o ≡ Some loan → option_map replayed (account_of k o) ≡ Some a
+    go : (o : Option Ledger) → entries ≡ entries_of o → option_map loan_of o ≡ Some loan → option_map account_by_replay (account_of k o) ≡ Some a
     go None e h = absurd (let never : None ≡ Some loan = h in cc)
     go (Some l) e h =
         let found : Some l.loan ≡ Some loan = h in
         let same : l.loan ≡ loan = cc in
-        (λ t. option_map replayed (running_from (same t) l.entries (disbursed_on (same t).stage) (terms_in k (same t).product)))
-        ∙ (λ t. option_map replayed (running_from loan (sym e t) (disbursed t) (terms_in k loan.product))) ∙ is
+        (λ t. option_map account_by_replay (running_from (same t) l.entries (disbursed_on (same t).stage) (terms_in k (same t).product)))
+        ∙ (λ t. option_map account_by_replay (running_from loan (sym e t) (disbursed t) (terms_in k loan.product))) ∙ is

@@ -2,7 +2,7 @@
 use Rattle.std.proofs.Common.{◌≡◌, ◌≤◌, ◌↔◌, ℕ, Bool, true, false, cond, IsTrue, List, [], ◌∷◌, length, map, find, Option, None, Some, refl, sym, subst, arith, is_eq, nat_cmp, ◌==◌}
 use Rattle.std.specs.Option.{option_map, is_some}
 use Rattle.std.proofs.lemmas.Bool.Decides.{nat_tests}
-use Rattle.mf_model.specs.Institution.{Institution, Office, office_at, numbered}
+use Rattle.mf_model.specs.Institution.{Institution, Office, office_at, item_numbered}
 use Rattle.mf_model.specs.Sound.{IsSound, is_staff as is_staff_in}
 use Rattle.mf_store_records.specs.Rows.{is_office, is_staff, is_client, is_charge, is_product, is_loan}
 use Rattle.mf_store_accounts.specs.Flat.{office_under, staff_in, client_in, charge_as, product_as, loan_in, loans_of, tables_of, staff_row_at, client_row_at, charge_row_at, product_row_at, loan_row_at}
@@ -39,8 +39,8 @@ product_by_key number i = find_listed product_as is_product (λ k m a. refl) num
 -- ---- numbers without gaps
 
 -- a number under which a row is found is one of those that there are
-pub there_by : {X Y : Type 0} (f : X → Y) (xs : List X) (n : ℕ) (row : Option Y) → row ≡ option_map f (numbered xs n) → IsTrue (is_some row) ↔ ((1 ≤ n) × (n ≤ length xs))
-there_by f xs n row is = subst (λ o. IsTrue (is_some o) ↔ ((1 ≤ n) × (n ≤ length xs))) (sym is) (mapped (numbered xs n) (has_number xs n))
+pub there_by : {X Y : Type 0} (f : X → Y) (xs : List X) (n : ℕ) (row : Option Y) → row ≡ option_map f (item_numbered xs n) → IsTrue (is_some row) ↔ ((1 ≤ n) × (n ≤ length xs))
+there_by f xs n row is = subst (λ o. IsTrue (is_some o) ↔ ((1 ≤ n) × (n ≤ length xs))) (sym is) (mapped (item_numbered xs n) (has_number xs n))
   where
     mapped : (o : Option _) → (IsTrue (is_some o) ↔ ((1 ≤ n) × (n ≤ length xs))) → IsTrue (is_some (option_map f o)) ↔ ((1 ≤ n) × (n ≤ length xs))
     mapped None h = h

@@ -13,11 +13,11 @@ use Rattle.mf_model.specs.declared.loan.Stage.{Stage}
 use Rattle.mf_model.specs.declared.store.Counts.{Counts}
 use Rattle.mf_model.specs.declared.store.CatalogueCounts.{CatalogueCounts}
 use Rattle.mf_model.specs.declared.commit.Commit.TheVariants.{AddOffice, AddStaff, AddClient, SetDay, AddCharge, AddProduct, RetireProduct, AddLoan, SetStage, Enter, Reverse}
-use Rattle.mf_model.specs.Institution.{Institution, Charge, Offer, Office, Rows, Staff, numbered, product_of, office_at, with_rows, with_office, new_office, after, Rows_become}
+use Rattle.mf_model.specs.Institution.{Institution, Charge, Offer, Office, Rows, Staff, item_numbered, product_of, office_at, with_rows, with_office, new_office, after, Rows_become}
 use Rattle.mf_model.specs.Desk.{staff_added, client_added, loan_added, loan_staged, loan_entered}
 use Rattle.mf_account.specs.Change.{Account as Kept}
-use Rattle.mf_model.specs.Loans.{staged, with_entries}
-use Rattle.mf_model.specs.Store.{committed, rows_of, rows_at, counts_at, catalogue_counts, role_of}
+use Rattle.mf_model.specs.Loans.{with_stage, with_entries}
+use Rattle.mf_model.specs.Store.{after_commit, rows_of, rows_at, counts_at, catalogue_counts, role_of}
 use Rattle.mf_model.specs.Sound.{IsSound}
 use Rattle.mf_model.specs.Tree.{is_there, parent_of}
 use Rattle.mf_model.proofs.Confined.{others_stay, old_stay}
@@ -59,7 +59,7 @@ rows_after x new i y = go (x == y) refl
         ]
     go false h = let ne : y ≢ x = grind (arith, nat_tests) in inl (ap rows_of (others_stay x y new i.offices ne))
 
-none_numbered : {A : Type 0} (n : ℕ) → numbered {A = A} [] n ≡ None
+none_numbered : {A : Type 0} (n : ℕ) → item_numbered {A = A} [] n ≡ None
 none_numbered {A} n = go (n == 0)
   where
     go : (b : Bool) → cond {A = Option A} b None (slice_get {X = A} [] (n - 1)) ≡ None
@@ -68,24 +68,24 @@ none_numbered {A} n = go (n == 0)
 
 -- a caller's role, by their office's rows
 role_in : Rows → ℕ → Option Role
-role_in rows n = option_map (λ (s : Staff). s.role) (numbered rows.staff n)
+role_in rows n = option_map (λ (s : Staff). s.role) (item_numbered rows.staff n)
 
 role_numbered : (c : Caller) (i : Institution) → role_of c i ≡ role_in (rows_at c.office i) c.staff
 unfolding role_in
 role_numbered c i = go (office_at c.office i.offices)
   where
-    go : (o : Option Office) → option_map (λ (s : Staff). s.role) (elim o [ None ↦ None | Some f ↦ numbered f.rows.staff c.staff ]) ≡ option_map (λ (s : Staff). s.role) (numbered (rows_of o).staff c.staff)
+    go : (o : Option Office) → option_map (λ (s : Staff). s.role) (elim o [ None ↦ None | Some f ↦ item_numbered f.rows.staff c.staff ]) ≡ option_map (λ (s : Staff). s.role) (item_numbered (rows_of o).staff c.staff)
     go None = sym (ap (option_map (λ (s : Staff). s.role)) (none_numbered c.staff))
     go (Some f) = refl
 
-roles_kept : (x : ℕ) (new : Rows) (i : Institution) → ((n : ℕ) (s : Staff) → numbered (rows_at x i).staff n ≡ Some s → numbered new.staff n ≡ Some s) → (c : Caller) (r : Role) → role_of c i ≡ Some r → role_of c (after (Rows_become x new) i) ≡ Some r
+roles_kept : (x : ℕ) (new : Rows) (i : Institution) → ((n : ℕ) (s : Staff) → item_numbered (rows_at x i).staff n ≡ Some s → item_numbered new.staff n ≡ Some s) → (c : Caller) (r : Role) → role_of c i ≡ Some r → role_of c (after (Rows_become x new) i) ≡ Some r
 unfolding role_in
 roles_kept x new i keeps c r h = elim (rows_after x new i c.office) [
   | inl e ↦ role_numbered c (after (Rows_become x new) i) ∙ ap (λ rows. role_in rows c.staff) e ∙ sym (role_numbered c i) ∙ h
-  | inr e ↦ role_numbered c (after (Rows_become x new) i) ∙ ap (λ rows. role_in rows c.staff) e.1 ∙ found (numbered (rows_at x i).staff c.staff) refl (ap (λ z. role_in (rows_at z i) c.staff) e.0 ∙ sym (role_numbered c i) ∙ h)
+  | inr e ↦ role_numbered c (after (Rows_become x new) i) ∙ ap (λ rows. role_in rows c.staff) e.1 ∙ found (item_numbered (rows_at x i).staff c.staff) refl (ap (λ z. role_in (rows_at z i) c.staff) e.0 ∙ sym (role_numbered c i) ∙ h)
 ]
   where
-    found : (o : Option Staff) → numbered (rows_at x i).staff c.staff ≡ o → role_in (rows_at x i) c.staff ≡ Some r → role_in new c.staff ≡ Some r
+    found : (o : Option Staff) → item_numbered (rows_at x i).staff c.staff ≡ o → role_in (rows_at x i) c.staff ≡ Some r → role_in new c.staff ≡ Some r
     found None e k = absurd (let never : None ≡ Some r = sym (ap (option_map (λ (s : Staff). s.role)) e) ∙ k in cc)
     found (Some s) e k = ap (option_map (λ (s : Staff). s.role)) (keeps c.staff s e) ∙ sym (ap (option_map (λ (s : Staff). s.role)) e) ∙ k
 
@@ -105,7 +105,7 @@ keys_kept : (x : ℕ) (new : Rows) (i : Institution) (y : ℕ) (k : List ℕ) �
 keys_kept x new i y k h = key_by_rows y (after (Rows_become x new) i) ∙ sym (ap (key_in y) (offices-with_rows x new i.offices)) ∙ sym (key_by_rows y i) ∙ h
 
 -- the rows of an office that is there become others
-rows_tell : (a x : ℕ) (new : Rows) (k : Counts) (i : Institution) → a ≡ x → is_there i.offices x ≡ true → k ≡ counts_in new → ((n : ℕ) (s : Staff) → numbered (rows_at x i).staff n ≡ Some s → numbered new.staff n ≡ Some s)
+rows_tell : (a x : ℕ) (new : Rows) (k : Counts) (i : Institution) → a ≡ x → is_there i.offices x ≡ true → k ≡ counts_in new → ((n : ℕ) (s : Staff) → item_numbered (rows_at x i).staff n ≡ Some s → item_numbered new.staff n ≡ Some s)
     → Tells (OfficeCounts a k) i (after (Rows_become x new) i)
 rows_tell a x new k i e there is keeps = record { counts = λ y. go y (a == y) refl; catalogue = refl; day = refl; roles = roles_kept x new i keeps; keys = keys_kept x new i; products = λ t n p h. h }
   where
@@ -116,7 +116,7 @@ rows_tell a x new k i e there is keeps = record { counts = λ y. go y (a == y) r
     go y false h = let ne : y ≢ x = grind (arith, nat_tests) in ap (λ o. counts_in (rows_of o)) (others_stay x y new i.offices ne)
 
 -- the rows of an office become others, as many of each kind
-rows_tell_nothing : (x : ℕ) (new : Rows) (i : Institution) → counts_in new ≡ counts_at x i → ((n : ℕ) (s : Staff) → numbered (rows_at x i).staff n ≡ Some s → numbered new.staff n ≡ Some s) → Tells Nothing i (after (Rows_become x new) i)
+rows_tell_nothing : (x : ℕ) (new : Rows) (i : Institution) → counts_in new ≡ counts_at x i → ((n : ℕ) (s : Staff) → item_numbered (rows_at x i).staff n ≡ Some s → item_numbered new.staff n ≡ Some s) → Tells Nothing i (after (Rows_become x new) i)
 rows_tell_nothing x new i is keeps = record { counts = counts; catalogue = refl; day = refl; roles = roles_kept x new i keeps; keys = keys_kept x new i; products = λ t n p h. h }
   where
     counts : (y : ℕ) → counts_at y (after (Rows_become x new) i) ≡ counts_at y i
@@ -126,7 +126,7 @@ rows_tell_nothing x new i is keeps = record { counts = counts; catalogue = refl;
     ]
 
 pub staff_tells : (a x : ℕ) (name : List ℕ) (role : Role) (i : Institution) (k : Counts) → a ≡ x → is_there i.offices x ≡ true → k ≡ counts_at a i
-    → Tells (OfficeCounts a (record { staff = k.staff + 1; clients = k.clients; loans = k.loans })) i (committed (AddStaff x name role) i)
+    → Tells (OfficeCounts a (record { staff = k.staff + 1; clients = k.clients; loans = k.loans })) i (after_commit (AddStaff x name role) i)
 staff_tells a x name role i k e there is =
     let was = is ∙ ap (λ y. counts_at y i) e in
     rows_tell a x (staff_added name role (rows_at x i)) _ i e there
@@ -135,7 +135,7 @@ staff_tells a x name role i k e there is =
     (λ n s h. numbered_push (rows_at x i).staff (record { name = name; role = role }) n s h)
 
 pub client_tells : (a x : ℕ) (name : List ℕ) (i : Institution) (k : Counts) → a ≡ x → is_there i.offices x ≡ true → k ≡ counts_at a i
-    → Tells (OfficeCounts a (record { staff = k.staff; clients = k.clients + 1; loans = k.loans })) i (committed (AddClient x name) i)
+    → Tells (OfficeCounts a (record { staff = k.staff; clients = k.clients + 1; loans = k.loans })) i (after_commit (AddClient x name) i)
 client_tells a x name i k e there is =
     let was = is ∙ ap (λ y. counts_at y i) e in
     rows_tell a x (client_added name (rows_at x i)) _ i e there
@@ -144,7 +144,7 @@ client_tells a x name i k e there is =
     (λ n s h. h)
 
 pub loan_tells : (a x : ℕ) (l : Loan) (i : Institution) (k : Counts) → a ≡ x → is_there i.offices x ≡ true → k ≡ counts_at a i
-    → Tells (OfficeCounts a (record { staff = k.staff; clients = k.clients; loans = k.loans + 1 })) i (committed (AddLoan x l) i)
+    → Tells (OfficeCounts a (record { staff = k.staff; clients = k.clients; loans = k.loans + 1 })) i (after_commit (AddLoan x l) i)
 loan_tells a x l i k e there is =
     let was = is ∙ ap (λ y. counts_at y i) e in
     rows_tell a x (loan_added l (rows_at x i)) _ i e there
@@ -152,14 +152,14 @@ loan_tells a x l i k e there is =
     ∙ (λ t. record { staff = length (rows_at x i).staff; clients = length (rows_at x i).clients; loans = one_more (rows_at x i).loans (record { loan = l; entries = [] }) t }))
     (λ n s h. h)
 
-pub stage_tells : (account : Account) (stage : Stage) (i : Institution) → Tells Nothing i (committed (SetStage account stage) i)
+pub stage_tells : (account : Account) (stage : Stage) (i : Institution) → Tells Nothing i (after_commit (SetStage account stage) i)
 stage_tells account stage i =
     let rows = rows_at account.office i in
     rows_tell_nothing account.office (loan_staged account.number stage rows) i
-    (λ t. record { staff = length rows.staff; clients = length rows.clients; loans = length_with account.number (staged stage) rows.loans t })
+    (λ t. record { staff = length rows.staff; clients = length rows.clients; loans = length_with account.number (with_stage stage) rows.loans t })
     (λ n s h. h)
 
-pub entry_tells : (loan : Account) (account : Kept) (i : Institution) → Tells Nothing i (committed (Enter loan account) i)
+pub entry_tells : (loan : Account) (account : Kept) (i : Institution) → Tells Nothing i (after_commit (Enter loan account) i)
 entry_tells loan account i =
     let rows = rows_at loan.office i in
     rows_tell_nothing loan.office (loan_entered loan.number account.loan.entries rows) i
@@ -167,21 +167,21 @@ entry_tells loan account i =
     (λ n s h. h)
 
 -- a reversal changes the same rows
-pub reversal_tells : (loan : Account) (seq : ℕ) (account : Kept) (i : Institution) → Tells Nothing i (committed (Reverse loan seq account) i)
+pub reversal_tells : (loan : Account) (seq : ℕ) (account : Kept) (i : Institution) → Tells Nothing i (after_commit (Reverse loan seq account) i)
 reversal_tells loan seq account i = entry_tells loan account i
 
 new_rows : (new : Office) (fs : List Office) → office_at new.number fs ≡ None → rows_of (office_at new.number (with_office new fs)) ≡ new.rows
 new_rows new [] none = grind (arith, nat_tests)
 new_rows new (f ∷ fs) none = grind (arith, nat_tests, new_rows new fs)
 
-pub office_tells : (x parent : ℕ) (name : List ℕ) (i : Institution) → IsSound i → office_at x i.offices ≡ None → Tells Nothing i (committed (AddOffice x parent name) i)
+pub office_tells : (x parent : ℕ) (name : List ℕ) (i : Institution) → IsSound i → office_at x i.offices ≡ None → Tells Nothing i (after_commit (AddOffice x parent name) i)
 office_tells x parent name i sound none = record { counts = λ y. ap counts_in (rows y); catalogue = refl; day = refl; roles = λ c r h. role_numbered c at ∙ ap (λ rs. role_in rs c.staff) (rows c.office) ∙ sym (role_numbered c i) ∙ h; keys = keys; products = λ t n p h. h }
   where
     new : Office
     new = new_office x parent name
 
     at : Institution
-    at = committed (AddOffice x parent name) i
+    at = after_commit (AddOffice x parent name) i
 
     rows : (y : ℕ) → rows_at y at ≡ rows_at y i
     rows y = go (x == y) refl
@@ -209,7 +209,7 @@ office_tells x parent name i sound none = record { counts = λ y. ap counts_in (
             let ne : y ≢ x = λ same. true≢false (sym there ∙ ap (λ z. is_some (office_at z i.offices)) same ∙ ap is_some none) in
             ap (option_map (λ (f : Office). key_of qs f.number)) (old_stay new y i.offices ne ∙ e) ∙ ap (λ z. Some (key_of qs z)) number ∙ ap Some (office_key_kept x parent name i sound none y there) ∙ ap (λ z. Some (key_of ps z)) (sym number) ∙ g
 
-pub charge_tells : (c : Charge) (i : Institution) (k : CatalogueCounts) → k ≡ catalogue_counts i → Tells (Catalogue (record { charges = k.charges + 1; products = k.products })) i (committed (AddCharge c.name c.kind c.calc c.value) i)
+pub charge_tells : (c : Charge) (i : Institution) (k : CatalogueCounts) → k ≡ catalogue_counts i → Tells (Catalogue (record { charges = k.charges + 1; products = k.products })) i (after_commit (AddCharge c.name c.kind c.calc c.value) i)
 charge_tells c i k is = record {
   counts = λ y. refl;
   catalogue = sym ((λ t. record { charges = (is t).charges + 1; products = (is t).products }) ∙ (λ t. record { charges = one_more i.catalogue.charges c t; products = length i.catalogue.products }));
@@ -219,14 +219,14 @@ charge_tells c i k is = record {
   products = λ t n p h. h;
 }
 
-product_stays : (products : List Offer) (new : Offer) (n : ℕ) (p : Product) → option_map (product_of n) (numbered products n) ≡ Some p → option_map (product_of n) (numbered (products ++ new ∷ []) n) ≡ Some p
-product_stays products new n p h = go (numbered products n) refl h
+product_stays : (products : List Offer) (new : Offer) (n : ℕ) (p : Product) → option_map (product_of n) (item_numbered products n) ≡ Some p → option_map (product_of n) (item_numbered (products ++ new ∷ []) n) ≡ Some p
+product_stays products new n p h = go (item_numbered products n) refl h
   where
-    go : (o : Option Offer) → numbered products n ≡ o → option_map (product_of n) o ≡ Some p → option_map (product_of n) (numbered (products ++ new ∷ []) n) ≡ Some p
+    go : (o : Option Offer) → item_numbered products n ≡ o → option_map (product_of n) o ≡ Some p → option_map (product_of n) (item_numbered (products ++ new ∷ []) n) ≡ Some p
     go None e k = absurd (let never : None ≡ Some p = k in cc)
     go (Some x) e k = ap (option_map (product_of n)) (numbered_push products new n x e) ∙ k
 
-pub product_tells : (members : ProductMembers) (i : Institution) (k : CatalogueCounts) → k ≡ catalogue_counts i → Tells (Catalogue (record { charges = k.charges; products = k.products + 1 })) i (committed (AddProduct members) i)
+pub product_tells : (members : ProductMembers) (i : Institution) (k : CatalogueCounts) → k ≡ catalogue_counts i → Tells (Catalogue (record { charges = k.charges; products = k.products + 1 })) i (after_commit (AddProduct members) i)
 product_tells members i k is = record {
   counts = λ y. refl;
   catalogue = sym ((λ t. record { charges = (is t).charges; products = (is t).products + 1 }) ∙ (λ t. record { charges = length i.catalogue.charges; products = one_more i.catalogue.products (record { members = members; retired = false }) t }));
@@ -236,7 +236,7 @@ product_tells members i k is = record {
   products = λ t n p h. product_stays i.catalogue.products (record { members = members; retired = false }) n p h;
 }
 
-pub retired_tells : (n : ℕ) (i : Institution) → Tells Retirement i (committed (RetireProduct n) i)
+pub retired_tells : (n : ℕ) (i : Institution) → Tells Retirement i (after_commit (RetireProduct n) i)
 retired_tells n i = record {
   counts = λ y. refl;
   catalogue = λ t. record { charges = length i.catalogue.charges; products = length_with n (λ (p : Offer). record p { retired = true }) i.catalogue.products t };
@@ -246,5 +246,5 @@ retired_tells n i = record {
   products = λ t. absurd (true≢false (sym t));
 }
 
-pub day_tells : (day : ℕ) (i : Institution) → Tells (BusinessDay day) i (committed (SetDay day) i)
+pub day_tells : (day : ℕ) (i : Institution) → Tells (BusinessDay day) i (after_commit (SetDay day) i)
 day_tells day i = record { counts = λ y. refl; catalogue = refl; day = refl; roles = λ c r h. h; keys = λ x k h. h; products = λ t n p h. h }

@@ -17,7 +17,7 @@ use Rattle.mf_model.specs.Tree.{Above, Ascending}
 use Rattle.mf_model.proofs.AccountLemmas.{account_sound}
 use Rattle.mf_store_records.specs.Rows.{is_instalment_in}
 use Rattle.mf_store_accounts.specs.Flat.{tables_of, instalment_in, instalments_kept, kept_of, rows_of_loans, rows_by_loan}
-use Rattle.mf_store_values.specs.Arrears.{Numbered, AreAbove, AreWholeLoans, rows_of_office, aged_rows, aged_loans}
+use Rattle.mf_store_values.specs.Arrears.{NumberedLoan, AreAbove, AreWholeLoans, rows_of_office, aged_rows, aged_loans}
 use Rattle.mf_store.proofs.ArrearsLemmas.{aged_told}
 use Rattle.mf_store.proofs.InstalmentReadLemmas.{numbered_whole, sums_kept}
 use Rattle.mf_store_changes.proofs.LoanRowLemmas.{all_loans, all_offices}
@@ -51,7 +51,7 @@ module _ {A R : Type 0} (make : ℕ → ℕ → A → R) (of : Ledger → List A
 
 -- ---- loans, the first with this number, with their instalments
 
-abbrev pub loans_from : Catalogue → ℕ → List Ledger → List Numbered
+abbrev pub loans_from : Catalogue → ℕ → List Ledger → List NumberedLoan
 loans_from k n [] = []
 loans_from k n (l ∷ ls) = (n, kept_of instalments_kept k l) ∷ loans_from k (n + 1) ls
 

@@ -10,7 +10,7 @@ use Rattle.mf_account.specs.Change.{AreKeptOf, settled_in}
 use Rattle.mf_account.specs.Loan.{IsSound as IsSoundAccount, state_of_loan}
 use Rattle.mf_office.specs.declared.account.Account.{Account}
 use Rattle.mf_model.specs.declared.loan.Loan.{Loan}
-use Rattle.mf_model.specs.Accounts.{account_in, of_account, running, running_from, terms_in}
+use Rattle.mf_model.specs.Accounts.{account_in, of_account, running_loan, running_from, terms_in}
 use Rattle.mf_model.specs.Institution.{Institution, Ledger}
 use Rattle.mf_model.specs.Sound.{IsSound}
 use Rattle.mf_model.specs.Stages.{disbursed_on}
@@ -50,15 +50,15 @@ pub kept_is : (i : Institution) (account : Account) (loan : Loan) (day : ℕ) (e
     → entries ≡ entries_of (ledger_at account i) → terms_in i.catalogue loan.product ≡ Some terms
     → ((l : Ledger) → ledger_at account i ≡ Some l → rows ≡ of_account [] (λ a. (state_of_loan a).rows) (account_in i.catalogue l))
     → ((l : Ledger) → ledger_at account i ≡ Some l → parts ≡ map part_told (kept_of shares_kept i.catalogue l))
-    → IsSoundAccount (running loan entries day terms) × AreKeptOf (running loan entries day terms) rows parts
+    → IsSoundAccount (running_loan loan entries day terms) × AreKeptOf (running_loan loan entries day terms) rows parts
 kept_is i account loan day entries terms rows parts sound there disbursed entered named kept_rows kept_parts =
     let of = ledger_of account loan i there in
     let own : entries ≡ of.l.entries = entered ∙ ap entries_of of.there in
-    let is : account_in i.catalogue of.l ≡ Some (running loan entries day terms) = (λ t. running_from (of.its t) (sym own t) (disbursed_on (of.its t).stage) (terms_in i.catalogue (of.its t).product)) ∙ (λ t. running_from loan entries (disbursed t) (named t)) in
-    let whole = loan_account_sound account of.l i sound of.there (running loan entries day terms) is in (
+    let is : account_in i.catalogue of.l ≡ Some (running_loan loan entries day terms) = (λ t. running_from (of.its t) (sym own t) (disbursed_on (of.its t).stage) (terms_in i.catalogue (of.its t).product)) ∙ (λ t. running_from loan entries (disbursed t) (named t)) in
+    let whole = loan_account_sound account of.l i sound of.there (running_loan loan entries day terms) is in (
       whole,
       record {
         rows_are = kept_rows of.l of.there ∙ ap (of_account [] (λ a. (state_of_loan a).rows)) is;
-        parts_are = λ seq. ap (settled_in seq) (kept_parts of.l of.there ∙ ap (λ o. map part_told (of_account [] shares_kept o)) is) ∙ shares_told (running loan entries day terms) seq whole;
+        parts_are = λ seq. ap (settled_in seq) (kept_parts of.l of.there ∙ ap (λ o. map part_told (of_account [] shares_kept o)) is) ∙ shares_told (running_loan loan entries day terms) seq whole;
       },
     )

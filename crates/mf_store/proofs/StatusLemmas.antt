@@ -13,8 +13,8 @@ use Rattle.mf_account.specs.declared.entry.Kind.TheVariants.{Repay, Fee, Penalty
 use Rattle.mf_account.specs.Kinds.{is_seal, is_write_off, money_in}
 use Rattle.mf_account.specs.Effect.{State, own_effect, after}
 use Rattle.mf_account.specs.Account.{Orders, after_all, first_state}
-use Rattle.mf_account.specs.Standing.{is_before, placed, with_entry, standing, entry_at}
-use Rattle.mf_account.specs.Balance.{repaid}
+use Rattle.mf_account.specs.Standing.{is_before, order_with, with_entry, standing_entries, entry_at}
+use Rattle.mf_account.specs.Balance.{sum_repaid}
 use Rattle.mf_account.specs.Loan.{Loan as Running, IsSound as IsSoundAccount, schedule_of, orders_of, state_of_loan, status_of_loan}
 use Rattle.mf_account.proofs.ConserveLemmas.{held-sound}
 use Rattle.mf_account.proofs.SealLemmas.{sealed-none, sealed-last, written_off-last}
@@ -35,18 +35,18 @@ use Rattle.mf_store.proofs.InstalmentReadLemmas.{loan_account_sound}
 abbrev counted : (Entry → ℕ) → Entry → ℕ
 counted f e = cond e.reversed 0 (f e)
 
-sum_placed : (f : Entry → ℕ) (e : Entry) (order : List Entry) → sum_by f (placed e order) ≡ f e + sum_by f order
+sum_placed : (f : Entry → ℕ) (e : Entry) (order : List Entry) → sum_by f (order_with e order) ≡ f e + sum_by f order
 sum_placed f e [] = sum_by-cons f e []
 sum_placed f e (x ∷ xs) =
     let first = sum_by-cons f x xs in
-    let later = sum_by-cons f x (placed e xs) in
+    let later = sum_by-cons f x (order_with e xs) in
     let rest = sum_placed f e xs in
-    cond_both (is_before e x) (e ∷ x ∷ xs) (x ∷ placed e xs) (λ y. sum_by f y ≡ f e + sum_by f (x ∷ xs)) (λ _. sum_by-cons f e (x ∷ xs)) (λ _. omega (arith, first, later, rest))
+    cond_both (is_before e x) (e ∷ x ∷ xs) (x ∷ order_with e xs) (λ y. sum_by f y ≡ f e + sum_by f (x ∷ xs)) (λ _. sum_by-cons f e (x ∷ xs)) (λ _. omega (arith, first, later, rest))
 
 sum_with : (f : Entry → ℕ) (order : List Entry) (e : Entry) → sum_by f (with_entry order e) ≡ sum_by f order + counted f e
 sum_with f order e =
     let more = sum_placed f e order in
-    elim e.reversed as (λ b. sum_by f (cond b order (placed e order)) ≡ sum_by f order + cond b 0 (f e)) [
+    elim e.reversed as (λ b. sum_by f (cond b order (order_with e order)) ≡ sum_by f order + cond b 0 (f e)) [
       | true ↦ omega arith
       | false ↦ omega (arith, more)
     ]
@@ -59,7 +59,7 @@ sum_all f order (x ∷ xs) =
     let all = sum_by-cons (counted f) x xs in
     omega (arith, one, rest, all)
 
-pub repaid_told : (entries : List Entry) → repaid_in_all entries ≡ repaid entries
+pub repaid_told : (entries : List Entry) → repaid_in_all entries ≡ sum_repaid entries
 repaid_told entries = let all = sum_all (λ (e : Entry). money_in e.kind e.amount) [] entries in omega (arith, all)
 
 -- ---- where no refund stands nothing is refunded
@@ -67,20 +67,20 @@ repaid_told entries = let all = sum_all (λ (e : Entry). money_in e.kind e.amoun
 abbrev of_kind : (Kind → Bool) → Entry → Bool
 of_kind P e = P e.kind
 
-none_placed : (P : Kind → Bool) (e : Entry) (order : List Entry) → P e.kind ≡ false → list_any (of_kind P) order ≡ false → list_any (of_kind P) (placed e order) ≡ false
+none_placed : (P : Kind → Bool) (e : Entry) (order : List Entry) → P e.kind ≡ false → list_any (of_kind P) order ≡ false → list_any (of_kind P) (order_with e order) ≡ false
 none_placed P e [] own none = or_from (P e.kind) false own refl
 none_placed P e (x ∷ xs) own none =
     let parts = or_parts (P x.kind) (list_any (of_kind P) xs) none in
-    cond_both (is_before e x) (e ∷ x ∷ xs) (x ∷ placed e xs) (λ y. list_any (of_kind P) y ≡ false)
+    cond_both (is_before e x) (e ∷ x ∷ xs) (x ∷ order_with e xs) (λ y. list_any (of_kind P) y ≡ false)
     (λ _. or_from (P e.kind) (list_any (of_kind P) (x ∷ xs)) own none)
-    (λ _. or_from (P x.kind) (list_any (of_kind P) (placed e xs)) parts.0 (none_placed P e xs own parts.1))
+    (λ _. or_from (P x.kind) (list_any (of_kind P) (order_with e xs)) parts.0 (none_placed P e xs own parts.1))
 
 none_all : (P : Kind → Bool) (order xs : List Entry) → list_any (of_kind P) order ≡ false → any_stands P xs ≡ false → list_any (of_kind P) (fold with_entry order xs) ≡ false
 none_all P order [] before none = before
 none_all P order (x ∷ xs) before none =
     let parts = or_parts (stands_by P x) (any_stands P xs) none in
     none_all P (with_entry order x) xs
-    (cond_both x.reversed order (placed x order) (λ y. list_any (of_kind P) y ≡ false) (λ _. before)
+    (cond_both x.reversed order (order_with x order) (λ y. list_any (of_kind P) y ≡ false) (λ _. before)
     (λ on. none_placed P x order (sym (ap (λ b. not b && P x.kind) on) ∙ parts.0) before))
     parts.1
 
@@ -147,7 +147,7 @@ seal_stands (e ∷ es) given =
 
 refund_last : (loan : Running) → IsSoundAccount loan → any_stands is_write_off loan.entries ≡ false → any_stands is_refund loan.entries ≡ true → (state_of_loan loan).overpaid ≡ 0
 refund_last loan sound none given =
-    let all : List Entry = standing loan.entries in
+    let all : List Entry = standing_entries loan.entries in
     let sealed : any_stands is_seal loan.entries ≡ true = seal_stands loan.entries given in
     elim (cases_lt 0 (length all)) [
       | inl some ↦
@@ -172,8 +172,8 @@ overpaid_told loan sound none =
     elim (cases_Bool (any_stands is_refund loan.entries)) [
       | inl given ↦ ap (nat_lt 0) (refund_last loan sound none given) ∙ sym (and_left (not (any_stands is_refund loan.entries)) more (not_from_true (any_stands is_refund loan.entries) given))
       | inr kept ↦
-          let unrefunded : state.refunded ≡ 0 = none_refunded (orders_of loan) (standing loan.entries) (first_state (schedule_of loan)) (none_all is_refund [] loan.entries refl kept) in
-          beyond (paid_in_all state.rows) state.overpaid state.refunded (repaid_in_all loan.entries) (repaid loan.entries) (held-sound loan sound) unrefunded (repaid_told loan.entries)
+          let unrefunded : state.refunded ≡ 0 = none_refunded (orders_of loan) (standing_entries loan.entries) (first_state (schedule_of loan)) (none_all is_refund [] loan.entries refl kept) in
+          beyond (paid_in_all state.rows) state.overpaid state.refunded (repaid_in_all loan.entries) (sum_repaid loan.entries) (held-sound loan sound) unrefunded (repaid_told loan.entries)
           ∙ ap (λ b. not b && more) (sym kept)
     ]
 

@@ -6,8 +6,8 @@ use Rattle.std.specs.Str.{bytes_eq}
 use Rattle.std.proofs.lemmas.Bool.Decides.{nat_tests}
 use Rattle.std.proofs.lemmas.List.Folds.{find-append}
 use Rattle.mf_account.specs.declared.entry.Entry.{Entry}
-use Rattle.mf_model.specs.Institution.{Institution, Ledger, numbered}
-use Rattle.mf_model.specs.Receipts.{Use, use_by, use_of, uses_in, uses_from, used}
+use Rattle.mf_model.specs.Institution.{Institution, Ledger, item_numbered}
+use Rattle.mf_model.specs.Receipts.{Use, use_by, use_of, uses_in, uses_from, first_use}
 use Rattle.mf_model.specs.Sound.{IsSound}
 use Rattle.mf_model.specs.Store.{rows_at, use_at}
 use Rattle.mf_store_records.specs.Rows.{is_entry, is_entry_of}
@@ -74,18 +74,18 @@ record IsIn (n : ℕ) (es : List Entry) (u : Use) : Type 0 where
   at : slice_get es place ≡ Some entry
   by_is : u.by ≡ use_by n entry
 
-in_loan : (r : List ℕ) (n : ℕ) (es : List Entry) (u : Use) → used r (uses_in n es) ≡ Some u → IsIn n es u
+in_loan : (r : List ℕ) (n : ℕ) (es : List Entry) (u : Use) → first_use r (uses_in n es) ≡ Some u → IsIn n es u
 in_loan r n [] u h = absurd (let k : None ≡ Some u = h in cc)
 in_loan r n (e ∷ es) u h = go e.receipt h (in_loan r n es u)
   where
     later : IsIn n es u → IsIn n (e ∷ es) u
     later more = record { place = suc more.place; entry = more.entry; at = more.at; by_is = more.by_is }
 
-    go : (o : Option (List ℕ)) → used r (use_of o n e ++ uses_in n es) ≡ Some u → (used r (uses_in n es) ≡ Some u → IsIn n es u) → IsIn n (e ∷ es) u
+    go : (o : Option (List ℕ)) → first_use r (use_of o n e ++ uses_in n es) ≡ Some u → (first_use r (uses_in n es) ≡ Some u → IsIn n es u) → IsIn n (e ∷ es) u
     go None h more = later (more h)
     go (Some t) h more = either (bytes_eq t r) h
       where
-        either : (b : Bool) → cond b (Some (record { receipt = t; by = use_by n e })) (used r (uses_in n es)) ≡ Some u → IsIn n (e ∷ es) u
+        either : (b : Bool) → cond b (Some (record { receipt = t; by = use_by n e })) (first_use r (uses_in n es)) ≡ Some u → IsIn n (e ∷ es) u
         either true h = record { place = 0; entry = e; at = refl; by_is = (let v : Use = record { receipt = t; by = use_by n e } in let k : Some v ≡ Some u = h in let same : v ≡ u = cc in ap (λ (w : Use). w.by) (sym same)) }
         either false h = later (more h)
 
@@ -95,11 +95,11 @@ record IsAmong (m : ℕ) (ls : List Ledger) (u : Use) : Type 0 where
   at : slice_get ls place ≡ Some ledger
   inside : IsIn (m + place) ledger.entries u
 
-in_loans : (r : List ℕ) (m : ℕ) (ls : List Ledger) (u : Use) → used r (uses_from m ls) ≡ Some u → IsAmong m ls u
+in_loans : (r : List ℕ) (m : ℕ) (ls : List Ledger) (u : Use) → first_use r (uses_from m ls) ≡ Some u → IsAmong m ls u
 in_loans r m [] u h = absurd (let k : None ≡ Some u = h in cc)
-in_loans r m (l ∷ ls) u h = go (used r (uses_in m l.entries)) refl (sym (find-append (λ (v : Use). bytes_eq v.receipt r) (uses_in m l.entries) (uses_from (m + 1) ls)) ∙ h) (in_loans r (m + 1) ls u)
+in_loans r m (l ∷ ls) u h = go (first_use r (uses_in m l.entries)) refl (sym (find-append (λ (v : Use). bytes_eq v.receipt r) (uses_in m l.entries) (uses_from (m + 1) ls)) ∙ h) (in_loans r (m + 1) ls u)
   where
-    go : (o : Option Use) → used r (uses_in m l.entries) ≡ o → option_or o (used r (uses_from (m + 1) ls)) ≡ Some u → (used r (uses_from (m + 1) ls) ≡ Some u → IsAmong (m + 1) ls u) → IsAmong m (l ∷ ls) u
+    go : (o : Option Use) → first_use r (uses_in m l.entries) ≡ o → option_or o (first_use r (uses_from (m + 1) ls)) ≡ Some u → (first_use r (uses_from (m + 1) ls) ≡ Some u → IsAmong (m + 1) ls u) → IsAmong m (l ∷ ls) u
     go (Some v) e h more = record { place = 0; ledger = l; at = refl; inside = subst (λ n. IsIn n l.entries u) (let same : m ≡ m + 0 = omega arith in same) (in_loan r m l.entries u (e ∙ h)) }
     go None e h more =
         let rest = more h in
@@ -118,7 +118,7 @@ carrier x r u i sound at =
     let n = 1 + a.place in
     let e = a.inside.entry in
     let next : n ≡ suc a.place = omega arith in
-    let there : numbered ls n ≡ Some a.ledger = ap (numbered ls) next ∙ numbered-suc ls a.place ∙ a.at in
+    let there : item_numbered ls n ≡ Some a.ledger = ap (item_numbered ls) next ∙ numbered-suc ls a.place ∙ a.at in
     let numbers = loan_numbered (record { office = x; number = n }) a.ledger i sound there in
     let loan_is : u.by.loan ≡ n = λ k. (a.inside.by_is k).loan in
     let seq_is : u.by.seq ≡ e.seq = λ k. (a.inside.by_is k).seq in

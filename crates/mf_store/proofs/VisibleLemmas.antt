@@ -6,7 +6,7 @@ use Rattle.std.specs.Cmp.Lexicographic.{slice_cmp}
 use Rattle.std.specs.List.{AllByRecursion}
 use Rattle.std.proofs.lemmas.Bool.Decides.{nat_tests}
 use Rattle.sqlite_keyed.proofs.ListLemmas.{filter-map}
-use Rattle.mf_office.specs.Keys.{key_of, key_depth, raised, is_before}
+use Rattle.mf_office.specs.Keys.{key_of, key_depth, with_last_raised, is_before}
 use Rattle.mf_office.specs.Keys as office
 use Rattle.mf_office.specs.Tree.{is_within, is_at_or_below, option_any, IsTreeOf}
 use Rattle.mf_office.proofs.KeyLemmas.{range_below}
@@ -93,7 +93,7 @@ module _ (i : Institution) (sound : IsSound i) (tree : IsTreeOf (is_there i.offi
       one true e = let is : x ≡ 1 = grind (arith, nat_tests) in absurd (true≢false (sym sound.tree.head_there ∙ ap (is_there fs) (sym is) ∙ gone))
 
   -- one text lies in the range of another where its office is at or below the other's
-  pub range_tree : (o x : ℕ) → is_there fs o ≡ true → is_there fs x ≡ true → office.is_in_range (key_of ps o) (raised (key_of ps o)) (key_of ps x) ≡ is_at_or_below ps x o
+  pub range_tree : (o x : ℕ) → is_there fs o ≡ true → is_there fs x ≡ true → office.is_in_range (key_of ps o) (with_last_raised (key_of ps o)) (key_of ps x) ≡ is_at_or_below ps x o
   range_tree o x there here = range_below (is_there fs) ps tree x o here there
 
   pub visible_is : (o x : ℕ) → sees (key_at o i) (key_at x i) ≡ is_some (seen_office o x i)
@@ -104,7 +104,7 @@ module _ (i : Institution) (sound : IsSound i) (tree : IsTreeOf (is_there i.offi
       go None ea b eb = sym (ap (λ c. is_some (cond (is_at_or_below ps x o) c None)) eb ∙ unseen o x ea b eb)
       go (Some f) ea None eb = sym (cond_none (is_at_or_below ps x o) (office_at x fs) eb)
       go (Some f) ea (Some h) eb =
-          ap₂ (λ m n. office.is_in_range (key_of ps m) (raised (key_of ps m)) (key_of ps n)) (number_at o fs f ea) (number_at x fs h eb) ∙ range_tree o x (ap is_some ea) (ap is_some eb)
+          ap₂ (λ m n. office.is_in_range (key_of ps m) (with_last_raised (key_of ps m)) (key_of ps n)) (number_at o fs f ea) (number_at x fs h eb) ∙ range_tree o x (ap is_some ea) (ap is_some eb)
           ∙ sym (ap (λ c. is_some (cond (is_at_or_below ps x o) c None)) eb ∙ cond_some (is_at_or_below ps x o) h)
 
   -- room below an office, by the dots of its key
@@ -128,13 +128,13 @@ module _ (i : Institution) (sound : IsSound i) (tree : IsTreeOf (is_there i.offi
   filter_alike p q (f ∷ gs) all = rw (all.0, filter_alike p q gs all.1)
 
   -- the rows in the range of an office's text are those of the offices that it sees
-  pub rows_seen : (o : ℕ) → is_there fs o ≡ true → map office_row (filter (is_in_range (key_of ps o) (raised (key_of ps o))) (tables_of i).offices) ≡ map (λ f. office_row (office_under ps f)) (seen_by o fs)
+  pub rows_seen : (o : ℕ) → is_there fs o ≡ true → map office_row (filter (is_in_range (key_of ps o) (with_last_raised (key_of ps o))) (tables_of i).offices) ≡ map (λ f. office_row (office_under ps f)) (seen_by o fs)
   rows_seen o there =
       let low = key_of ps o in
-      let p = is_in_range low (raised low) in
+      let p = is_in_range low (with_last_raised low) in
       ap (map office_row) (filter-map p (office_under ps) fs)
       ∙ ap (λ l. map office_row (map (office_under ps) l)) (filter_alike (λ f. p (office_under ps f)) (λ f. is_at_or_below ps f.number o) fs
-      (all_there fs fs (λ f. p (office_under ps f) ≡ is_at_or_below ps f.number o) sound.tree.ascending (λ f here. range_is low (raised low) (office_under ps f) ∙ range_tree o f.number there here)))
+      (all_there fs fs (λ f. p (office_under ps f) ≡ is_at_or_below ps f.number o) sound.tree.ascending (λ f here. range_is low (with_last_raised low) (office_under ps f) ∙ range_tree o f.number there here)))
       ∙ Rattle.sqlite_keyed.proofs.ListLemmas.map-map office_row (office_under ps) (seen_by o fs)
 
   -- what an office that isn't there sees
@@ -160,9 +160,9 @@ module _ (i : Institution) (sound : IsSound i) (tree : IsTreeOf (is_there i.offi
       go None e h = absurd (let k : Some above ≡ None = h in cc)
       go (Some f) e h = let k : Some above ≡ Some (key_of ps f.number) = h in let same : above ≡ key_of ps f.number = cc in (ap is_some e, same ∙ ap (key_of ps) (number_at o fs f e))
 
-  pub offices_are : (o : ℕ) (found : Option (List ℕ)) (above low high : List ℕ) → found ≡ Some above → found ≡ key_at o i → low ≡ above → high ≡ raised above → map office_row (filter (is_in_range low high) (tables_of i).offices) ≡ map (λ f. office_row (office_under ps f)) (seen_by o fs)
+  pub offices_are : (o : ℕ) (found : Option (List ℕ)) (above low high : List ℕ) → found ≡ Some above → found ≡ key_at o i → low ≡ above → high ≡ with_last_raised above → map office_row (filter (is_in_range low high) (tables_of i).offices) ≡ map (λ f. office_row (office_under ps f)) (seen_by o fs)
   offices_are o found above low high is are l h =
       let known = key_known o above (sym is ∙ are) in
-      ap₂ (λ a b. map office_row (filter (is_in_range a b) (tables_of i).offices)) (l ∙ known.1) (h ∙ ap raised known.1) ∙ rows_seen o known.0
+      ap₂ (λ a b. map office_row (filter (is_in_range a b) (tables_of i).offices)) (l ∙ known.1) (h ∙ ap with_last_raised known.1) ∙ rows_seen o known.0
 
 -- ---- rows that are read into lines

@@ -1,5 +1,5 @@
 -- What a store knows beside its tables.
-use Rattle.std.specs.Prelude.{◌≡◌, ◌≤◌, ◌+◌, ◌*◌, ℕ, List, [], Option, None, Some, nat_eq, refl}
+use Rattle.std.specs.Prelude.{◌≡◌, ◌&&◌, ℕ, Bool, List, [], Option, None, Some, nat_eq, refl}
 use Rattle.std.specs.Map.{lookup}
 use Rattle.std.specs.Coded.{Coded, code_by, coded×, coded_ℕ, coded_list, coded_option}
 use Rattle.sqlite.specs.Held.{Held, held_code}
@@ -16,16 +16,20 @@ use Rattle.mf_model.specs.Institution.{Institution, product_in}
 use Rattle.mf_model.specs.Store.{counts_at, catalogue_counts, role_of}
 use Rattle.mf_store_accounts.specs.Flat.{key_at}
 
--- a caller as one number
-abbrev pub caller_number : Caller → ℕ
-caller_number c = c.office * 10000 + c.staff
+-- the key of what is known of a caller: the office's number, and the staff number in it
+abbrev pub caller_key : Caller → ℕ × ℕ
+caller_key c = (c.office, c.staff)
 
--- how many rows some of the offices have, by number; how many charges and products there are; the business day; the roles of some callers, by their numbers; the hierarchy texts of some offices; some products, by number
+-- two such keys are the same
+abbrev pub same_key : ℕ × ℕ → ℕ × ℕ → Bool
+same_key a b = nat_eq a.0 b.0 && nat_eq a.1 b.1
+
+-- how many rows some of the offices have, by number; how many charges and products there are; the business day; the roles of some callers; the hierarchy texts of some offices; some products, by number
 pub record Facts : Type 0 where
   pub counts : List (ℕ × Counts)
   pub catalogue : Option CatalogueCounts
   pub day : Option ℕ
-  pub roles : List (ℕ × Role)
+  pub roles : List ((ℕ × ℕ) × Role)
   pub keys : List (ℕ × List ℕ)
   pub products : List (ℕ × Product)
 
@@ -35,16 +39,16 @@ nothing_known = record { counts = []; catalogue = None; day = None; roles = []; 
 
 abbrev pub facts_code : Coded Facts
 facts_code =
-    code_by (List (ℕ × Counts) × (Option CatalogueCounts × (Option ℕ × (List (ℕ × Role) × (List (ℕ × List ℕ) × List (ℕ × Product))))))
-    (coded× (coded_list (coded× coded_ℕ counts_row.the_row.coded)) (coded× (coded_option catalogue_row.the_row.coded) (coded× (coded_option coded_ℕ) (coded× (coded_list (coded× coded_ℕ role_row.the_row.coded)) (coded× (coded_list (coded× coded_ℕ (coded_list coded_ℕ))) (coded_list (coded× coded_ℕ product_row.the_row.coded)))))))
+    code_by (List (ℕ × Counts) × (Option CatalogueCounts × (Option ℕ × (List ((ℕ × ℕ) × Role) × (List (ℕ × List ℕ) × List (ℕ × Product))))))
+    (coded× (coded_list (coded× coded_ℕ counts_row.the_row.coded)) (coded× (coded_option catalogue_row.the_row.coded) (coded× (coded_option coded_ℕ) (coded× (coded_list (coded× (coded× coded_ℕ coded_ℕ) role_row.the_row.coded)) (coded× (coded_list (coded× coded_ℕ (coded_list coded_ℕ))) (coded_list (coded× coded_ℕ product_row.the_row.coded)))))))
     (λ f. (f.counts, (f.catalogue, (f.day, (f.roles, (f.keys, f.products)))))) (λ p. record { counts = p.0; catalogue = p.1.0; day = p.1.1.0; roles = p.1.1.1.0; keys = p.1.1.1.1.0; products = p.1.1.1.1.1 }) (λ _. refl)
 
 -- a connection, and what is known beside it
-pub record Kept (S : Type 0) : Type 0 where
+pub record KnownStore (S : Type 0) : Type 0 where
   pub connection : Held S
   pub known : Facts
 
-abbrev pub kept_code : {S : Type 0} → Coded S → Coded (Kept S)
+abbrev pub kept_code : {S : Type 0} → Coded S → Coded (KnownStore S)
 kept_code {S} store = code_by (Held S × Facts) (coded× (held_code store) facts_code) (λ k. (k.connection, k.known)) (λ p. record { connection = p.0; known = p.1 }) (λ _. refl)
 
 -- what is known is so in this institution
@@ -52,6 +56,6 @@ pub record AreTrueOf (f : Facts) (i : Institution) : Type 0 where
   pub counts : (x : ℕ) (c : Counts) → lookup (nat_eq x) f.counts ≡ Some c → c ≡ counts_at x i
   pub catalogue : (c : CatalogueCounts) → f.catalogue ≡ Some c → c ≡ catalogue_counts i
   pub day : (d : ℕ) → f.day ≡ Some d → d ≡ i.catalogue.day
-  pub roles : (c : Caller) (r : Role) → c.staff ≤ 9999 → lookup (nat_eq (caller_number c)) f.roles ≡ Some r → role_of c i ≡ Some r
+  pub roles : (c : Caller) (r : Role) → lookup (same_key (caller_key c)) f.roles ≡ Some r → role_of c i ≡ Some r
   pub keys : (x : ℕ) (k : List ℕ) → lookup (nat_eq x) f.keys ≡ Some k → key_at x i ≡ Some k
   pub products : (n : ℕ) (p : Product) → lookup (nat_eq n) f.products ≡ Some p → product_in i.catalogue n ≡ Some p

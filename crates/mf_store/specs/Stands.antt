@@ -6,28 +6,28 @@ use Rattle.mf_store_tables.specs.Writes.{Serves}
 use Rattle.mf_model.specs.Institution.{Institution}
 use Rattle.mf_model.specs.Sound.{IsSound}
 use Rattle.mf_store_records.specs.Calls.{IsOpenUpTo}
-use Rattle.mf_store.specs.Facts.{Kept, AreTrueOf}
+use Rattle.mf_store.specs.Facts.{KnownStore, AreTrueOf}
 use Rattle.mf_store_accounts.specs.Flat.{tables_of}
 use Rattle.mf_store_records.specs.Writes.{schema_of, Holds}
 use Rattle.mf_store_commits.specs.Tabled.{HasGoodDisk, LeavesTables}
 
 module _ {S : Type 0} (g : Ghosts S) where
   -- The tables hold the institution's rows and nothing else, and it is sound; and what is known beside them is so in it.
-  pub record StandsFor (k : Kept S) (i : Institution) : Type 0 where
+  pub record StandsFor (k : KnownStore S) (i : Institution) : Type 0 where
     pub sound : IsSound i
     pub serves : IsTrue (state g k.connection).is_open → Serves schema_of Holds (state g k.connection).now (Some (tables_of i))
     pub knows : AreTrueOf k.known i
 
   -- so far the disk has returned what was written
-  abbrev pub IsClean : Kept S → Type 0
+  abbrev pub IsClean : KnownStore S → Type 0
   IsClean k = HasGoodDisk g k.connection
 
   -- the tables are this program's, and a stop at this moment leaves one of these institutions, whole
-  abbrev pub Leaves : Kept S → List Institution → Type 0
+  abbrev pub Leaves : KnownStore S → List Institution → Type 0
   Leaves k is = LeavesTables g k.connection is
 
   -- no fault has shut its connection, so that it can ask its tables
-  abbrev pub IsOpen : Kept S → Type 0
+  abbrev pub IsOpen : KnownStore S → Type 0
   IsOpen k = IsTrue (state g k.connection).is_open
 
   -- The disk has failed so often by now, or more often; and if no more often, it is open. The count of faults, of 64 bits, is not at its greatest.
@@ -35,11 +35,11 @@ module _ {S : Type 0} (g : Ghosts S) where
   IsOpenUntil faults h = (faults < 2 ^ 64 - 1) × IsOpenUpTo faults (state g h)
 
   -- only a fault of the disk shuts it in between
-  abbrev pub FaultsAloneShut : Kept S → Kept S → Type 0
+  abbrev pub FaultsAloneShut : KnownStore S → KnownStore S → Type 0
   FaultsAloneShut old new = (faults : ℕ) → IsOpenUntil faults old.connection → IsOpenUntil faults new.connection
 
   -- it stands for what it stood for, a stop leaves nothing more than before, and only a fault of the disk shuts it
-  pub record Stays (old new : Kept S) : Type 0 where
+  pub record Stays (old new : KnownStore S) : Type 0 where
     pub premise : IsClean new → IsClean old
     pub shuts : FaultsAloneShut old new
     pub same : IsClean new → (i : Institution) → StandsFor old i → StandsFor new i

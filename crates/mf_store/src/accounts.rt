@@ -4,7 +4,7 @@
 ghost use Rattle.std.specs.Prelude.{◌≡◌, ◌≤◌, ◌-◌, ◌++◌, ℕ, List, [], length, map, option_map, Some, OnOk, IfOk, IfErr};
 ghost use Rattle.std.specs.List.{AllByRecursion};
 ghost use Rattle.mf_base.specs.declared.fault.Fault.TheVariants.{F20};
-ghost use Rattle.mf_account.specs.Change.{replayed};
+ghost use Rattle.mf_account.specs.Change.{account_by_replay};
 ghost use Rattle.mf_catalog.specs.Product.{charge_of};
 ghost use Rattle.mf_model.specs.Accounts.{running_from, terms_in, status_in};
 ghost use Rattle.mf_model.specs.Institution.{Institution, Ledger as ModelLedger, charge_in};
@@ -87,7 +87,7 @@ impl<S: Alter> Store<S> {
         ensures gives_up { IfErr result (λ fault. fault ≡ F20) }
         ensures open { IsClean S.Store self.new → IsOpen S.Store self.old → OnOk result (IsOpen S.Store self.new) }
         ensures value { IsClean S.Store self.new → (i : Institution) → StandsFor S.Store self.old i
-            → IfOk result (λ account. option_map replayed (running_from loan.now entries.items (Some day) (terms_in i.catalogue loan.now.product)) ≡ Some account) }
+            → IfOk result (λ account. option_map account_by_replay (running_from loan.now entries.items (Some day) (terms_in i.catalogue loan.now.product)) ≡ Some account) }
     {
         let named = self.terms_of(loan.product)?;
         let terms = stored(named)?;

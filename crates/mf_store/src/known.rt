@@ -1,20 +1,21 @@
 //! What a store knows beside its tables, so that it need not ask them again. A fact for which there is no memory isn't kept.
 
-ghost use Rattle.std.specs.Prelude.{◌≡◌, ◌≤◌, nat_eq, is_some, Some, None, [], IfOk, IfErr, IfSome};
+ghost use Rattle.std.specs.Prelude.{◌≡◌, nat_eq, is_some, Some, None, [], IfOk, IfErr, IfSome};
 ghost use Rattle.std.specs.Map.{lookup};
 ghost use Rattle.mf_base.specs.declared.fault.Fault.TheVariants.{F20};
 ghost use Rattle.mf_model.specs.Institution.{Institution, product_in};
 ghost use Rattle.mf_model.specs.Store.{role_of};
-ghost use Rattle.mf_store.specs.Facts.{AreTrueOf, caller_number, nothing_known};
+ghost use Rattle.mf_store.specs.Facts.{AreTrueOf, caller_key, same_key, nothing_known};
 ghost use Rattle.mf_store_accounts.specs.Flat.{key_at};
 ghost use Rattle.mf_store.specs.Learning.{Tells};
 
 use lru::LruCache;
 use mf_base::{Day, Fault};
 use mf_catalog::Product;
-use mf_model::{CatalogueCounts, Counts};
+use mf_model::{CatalogueCounts, Counts, MOST_IN_CATALOGUE};
 use mf_office::{Caller, Key, Role};
 use std::alloc::Global;
+use std::hash::Hash;
 use std::marker::Model;
 use std::num::NonZeroUsize;
 
@@ -35,7 +36,7 @@ pub struct Known {
     counts: LruCache<u32, Counts>,
     catalogue: Option<CatalogueCounts>,
     day: Option<Day>,
-    roles: LruCache<u32, Role>,
+    roles: LruCache<(u32, u32), Role>,
     keys: LruCache<u32, Key>,
     products: LruCache<u32, Product>,
 }
@@ -56,11 +57,8 @@ const MOST_OFFICES: usize = 1024;
 /// So many callers' roles are kept at most.
 const MOST_CALLERS: usize = 4096;
 
-/// As many products as a catalogue has at most.
-const MOST_PRODUCTS: usize = 999;
-
 /// An empty cache that keeps at most `most` values, and room for them. The error is F20.
-fn nothing_of<V>(alloc: Global, most: usize) -> Result<LruCache<u32, V>, Fault>
+fn nothing_of<K: Hash + Eq, V>(alloc: Global, most: usize) -> Result<LruCache<K, V>, Fault>
     ensures nothing { IfOk result (λ kept. kept.entries ≡ []) }
     ensures gives_up { IfErr result (λ fault. fault ≡ F20) }
 {
@@ -73,12 +71,11 @@ fn nothing_of<V>(alloc: Global, most: usize) -> Result<LruCache<u32, V>, Fault>
     }
 }
 
-/// A caller as one number.
-fn number_of(caller: Caller) -> u32
-    ensures number { result ≡ caller_number caller }
-    ensures staff { caller.staff ≤ 9999 }
+/// A caller's office, and the staff number in it.
+fn key_of(caller: Caller) -> (u32, u32)
+    ensures { result ≡ caller_key caller }
 {
-    caller.office.get() * 10_000 + caller.staff.get()
+    (caller.office.get(), caller.staff.get())
 }
 
 /// The same key, where there is memory for it.
@@ -107,7 +104,7 @@ impl Known {
         let counts = nothing_of(alloc, MOST_OFFICES)?;
         let roles = nothing_of(alloc, MOST_CALLERS)?;
         let keys = nothing_of(alloc, MOST_OFFICES)?;
-        let products = nothing_of(alloc, MOST_PRODUCTS)?;
+        let products = nothing_of(alloc, MOST_IN_CATALOGUE as usize)?;
         Ok(Known {
             counts,
             catalogue: None,
@@ -141,9 +138,9 @@ impl Known {
 
     /// The role of a caller.
     pub(crate) fn role(&self, caller: Caller) -> Option<Role>
-        ensures { result ≡ lookup (nat_eq (caller_number caller)) self.now.roles }
+        ensures { result ≡ lookup (same_key (caller_key caller)) self.now.roles }
     {
-        self.roles.peek(&number_of(caller)).copied()
+        self.roles.peek(&key_of(caller)).copied()
     }
 
     /// Whether an office's key is known, and so the office is there.
@@ -177,8 +174,7 @@ impl Known {
     pub(crate) fn learn_role(&mut self, caller: Caller, role: Role)
         ensures { (i : Institution) → AreTrueOf self.old i → role_of caller i ≡ Some role → AreTrueOf self.new i }
     {
-        let number = number_of(caller);
-        let _kept = self.roles.put(number, role);
+        let _kept = self.roles.put(key_of(caller), role);
     }
 
     /// Takes in an office's key.

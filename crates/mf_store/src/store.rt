@@ -11,7 +11,7 @@ ghost use Rattle.mf_store_accounts.specs.Flat.{key_at, tables_of};
 ghost use Rattle.mf_store_accounts.specs.ReceiptRows.{receipt_in};
 ghost use Rattle.mf_store_records.specs.Rows.{loan_row, office_row, is_loan_above, is_in_range, is_instalment_in};
 ghost use Rattle.mf_arrears.specs.Line.{line_of as line_of_loans};
-ghost use Rattle.mf_store_values.specs.Arrears.{Numbered, AreAbove, AreWholeLoans, rows_of_office, aged_loans};
+ghost use Rattle.mf_store_values.specs.Arrears.{NumberedLoan, AreAbove, AreWholeLoans, rows_of_office, aged_loans};
 ghost use Rattle.mf_store_records.specs.Calls.{OnlyFaultsShut};
 ghost use Rattle.mf_store_records.specs.Writes.{schema_of, Holds};
 ghost use Rattle.mf_store.specs.Facts.{nothing_known};
@@ -48,9 +48,9 @@ pub struct Store<S: Alter> {
 
 impl<S: Alter> Model for Store<S> {
     ghost use Rattle.std.specs.Prelude.{◌≡◌, false};
-    ghost use Rattle.mf_store.specs.Facts.{Kept, kept_code};
+    ghost use Rattle.mf_store.specs.Facts.{KnownStore, kept_code};
 
-    ghost Value = { Kept S };
+    ghost Value = { KnownStore S };
 
     ghost coded = { kept_code S.code };
 
@@ -123,7 +123,7 @@ impl<S: Alter> Store<S> {
         ensures kept { Stays S.Store self.old self.new }
         ensures gives_up { IfErr result (λ fault. fault ≡ F20) }
         ensures open { IsClean S.Store self.new → OnOk result (IsOpen S.Store self.new) }
-        ensures line { IsClean S.Store self.new → (i : Institution) → StandsFor S.Store self.old i → (loans : List Numbered) → AreAbove 0 loans → AreWholeLoans loans
+        ensures line { IsClean S.Store self.new → (i : Institution) → StandsFor S.Store self.old i → (loans : List NumberedLoan) → AreAbove 0 loans → AreWholeLoans loans
             → filter (is_instalment_in office) (tables_of i).instalments ≡ rows_of_office office loans → IfOk result (λ line. line ≡ line_of_loans office (aged_loans today loans)) }
     {
         read_line(&mut self.connection, office, today)

@@ -8,11 +8,11 @@ use Rattle.mf_catalog.specs.Product.{terms_of}
 use Rattle.mf_catalog.specs.declared.charge.ChargeDef.{ChargeDef}
 use Rattle.mf_catalog.specs.declared.product.Product.{Product}
 use Rattle.mf_catalog.specs.declared.terms.Terms.{Terms}
-use Rattle.mf_account.specs.Change.{Account as Kept, replayed}
+use Rattle.mf_account.specs.Change.{Account as Kept, account_by_replay}
 use Rattle.mf_account.specs.Loan.{Loan as Running, IsSound as IsSoundAccount}
 use Rattle.mf_account.specs.declared.entry.Entry.{Entry}
-use Rattle.mf_model.specs.Accounts.{terms_in, running, running_from, account_in, of_account}
-use Rattle.mf_model.specs.Institution.{Catalogue, Charge, Ledger, Offer, charge_def, charge_in, numbered, product_of}
+use Rattle.mf_model.specs.Accounts.{terms_in, running_loan, running_from, account_in, of_account}
+use Rattle.mf_model.specs.Institution.{Catalogue, Charge, Ledger, Offer, charge_def, charge_in, item_numbered, product_of}
 use Rattle.mf_model.specs.Sound.{IsSoundCatalogue}
 use Rattle.mf_model.specs.Stages.{disbursed_on}
 use Rattle.mf_model.proofs.AccountLemmas.{day_of_stage, limits_of}
@@ -47,29 +47,29 @@ kept_more es i e x had has here same added so_far =
 
 -- ---- terms
 
-pub charge_is_named : (k : Catalogue) (rows : List ChargeRow) (row : ChargeRow) (number : ℕ) (found : Option ChargeDef) → numbered_from charge_as 1 k.charges ≡ rows → Some row ≡ numbered rows number → ((c : Charge) → charge_as number c ≡ row → found ≡ Some (charge_def number c)) → found ≡ charge_in k number
-charge_is_named k rows row number found e is h = go (numbered k.charges number) (is ∙ ap (λ rs. numbered rs number) (sym e) ∙ numbered_row charge_as k.charges number)
+pub charge_is_named : (k : Catalogue) (rows : List ChargeRow) (row : ChargeRow) (number : ℕ) (found : Option ChargeDef) → numbered_from charge_as 1 k.charges ≡ rows → Some row ≡ item_numbered rows number → ((c : Charge) → charge_as number c ≡ row → found ≡ Some (charge_def number c)) → found ≡ charge_in k number
+charge_is_named k rows row number found e is h = go (item_numbered k.charges number) (is ∙ ap (λ rs. item_numbered rs number) (sym e) ∙ numbered_row charge_as k.charges number)
   where
     go : (o : Option Charge) → Some row ≡ option_map (charge_as number) o → found ≡ option_map (charge_def number) o
     go None f = absurd (cc)
     go (Some c) f = let same : charge_as number c ≡ row = cc in h c same
 
-pub no_charge_named : (k : Catalogue) (rows : List ChargeRow) (number : ℕ) → numbered_from charge_as 1 k.charges ≡ rows → None ≡ numbered rows number → ◌≡◌ {A = Option ChargeDef} None (charge_in k number)
-no_charge_named k rows number e is = go (numbered k.charges number) (is ∙ ap (λ rs. numbered rs number) (sym e) ∙ numbered_row charge_as k.charges number)
+pub no_charge_named : (k : Catalogue) (rows : List ChargeRow) (number : ℕ) → numbered_from charge_as 1 k.charges ≡ rows → None ≡ item_numbered rows number → ◌≡◌ {A = Option ChargeDef} None (charge_in k number)
+no_charge_named k rows number e is = go (item_numbered k.charges number) (is ∙ ap (λ rs. item_numbered rs number) (sym e) ∙ numbered_row charge_as k.charges number)
   where
     go : (o : Option Charge) → None ≡ option_map (charge_as number) o → ◌≡◌ {A = Option ChargeDef} None (option_map (charge_def number) o)
     go None f = refl
     go (Some c) f = absurd (cc)
 
-pub terms_are : (k : Catalogue) (rows : List ProductRow) (row : ProductRow) (n : ℕ) (found : Option Terms) → numbered_from product_as 1 k.products ≡ rows → Some row ≡ numbered rows n → ((number : ℕ) (p : Offer) → product_as number p ≡ row → found ≡ Some (terms_of (charge_in k) p.members)) → found ≡ terms_in k n
-terms_are k rows row n found e is h = go (numbered k.products n) (is ∙ ap (λ rs. numbered rs n) (sym e) ∙ numbered_row product_as k.products n)
+pub terms_are : (k : Catalogue) (rows : List ProductRow) (row : ProductRow) (n : ℕ) (found : Option Terms) → numbered_from product_as 1 k.products ≡ rows → Some row ≡ item_numbered rows n → ((number : ℕ) (p : Offer) → product_as number p ≡ row → found ≡ Some (terms_of (charge_in k) p.members)) → found ≡ terms_in k n
+terms_are k rows row n found e is h = go (item_numbered k.products n) (is ∙ ap (λ rs. item_numbered rs n) (sym e) ∙ numbered_row product_as k.products n)
   where
     go : (o : Option Offer) → Some row ≡ option_map (product_as n) o → found ≡ option_map (λ (p : Product). terms_of (charge_in k) p.members) (option_map (product_of n) o)
     go None f = absurd (cc)
     go (Some p) f = let same : product_as n p ≡ row = cc in h n p same
 
-pub no_terms : (k : Catalogue) (rows : List ProductRow) (n : ℕ) → numbered_from product_as 1 k.products ≡ rows → None ≡ numbered rows n → ◌≡◌ {A = Option Terms} None (terms_in k n)
-no_terms k rows n e is = go (numbered k.products n) (is ∙ ap (λ rs. numbered rs n) (sym e) ∙ numbered_row product_as k.products n)
+pub no_terms : (k : Catalogue) (rows : List ProductRow) (n : ℕ) → numbered_from product_as 1 k.products ≡ rows → None ≡ item_numbered rows n → ◌≡◌ {A = Option Terms} None (terms_in k n)
+no_terms k rows n e is = go (item_numbered k.products n) (is ∙ ap (λ rs. item_numbered rs n) (sym e) ∙ numbered_row product_as k.products n)
   where
     go : (o : Option Offer) → None ≡ option_map (product_as n) o → ◌≡◌ {A = Option Terms} None (option_map (λ (p : Product). terms_of (charge_in k) p.members) (option_map (product_of n) o))
     go None f = refl
@@ -89,36 +89,36 @@ readable_of today n (Some day) es are = each es are.1
     each [] all = tt
     each (e ∷ es) all = (all.0.readable, each es all.1)
 
-pub no_account : (k : Catalogue) (l : Ledger) → None ≡ disbursed_on l.loan.stage → ◌≡◌ {A = Option Kept} None (option_map replayed (account_in k l))
-no_account k l none = ap (λ d. option_map replayed (running_from l.loan l.entries d (terms_in k l.loan.product))) none
+pub no_account : (k : Catalogue) (l : Ledger) → None ≡ disbursed_on l.loan.stage → ◌≡◌ {A = Option Kept} None (option_map account_by_replay (account_in k l))
+no_account k l none = ap (λ d. option_map account_by_replay (running_from l.loan l.entries d (terms_in k l.loan.product))) none
 
-pub no_account_without : (k : Catalogue) (l : Ledger) (day : ℕ) → Some day ≡ disbursed_on l.loan.stage → None ≡ terms_in k l.loan.product → ◌≡◌ {A = Option Kept} None (option_map replayed (account_in k l))
-no_account_without k l day on none = λ t. option_map replayed (running_from l.loan l.entries (on t) (none t))
+pub no_account_without : (k : Catalogue) (l : Ledger) (day : ℕ) → Some day ≡ disbursed_on l.loan.stage → None ≡ terms_in k l.loan.product → ◌≡◌ {A = Option Kept} None (option_map account_by_replay (account_in k l))
+no_account_without k l day on none = λ t. option_map account_by_replay (running_from l.loan l.entries (on t) (none t))
 
 pub account_found : (k : Catalogue) (names : List (List ℕ)) (l : Ledger) (day : ℕ) (terms : Terms) (found : Option Kept) → IsSoundCatalogue k → IsPlainLoan k names l → Some day ≡ disbursed_on l.loan.stage → Some terms ≡ terms_in k l.loan.product
-    → IfSome found (λ account. account ≡ replayed (running l.loan l.entries day terms)) → (IsSoundAccount (running l.loan l.entries day terms) → found ≢ None) → found ≡ option_map replayed (account_in k l)
+    → IfSome found (λ account. account ≡ account_by_replay (running_loan l.loan l.entries day terms)) → (IsSoundAccount (running_loan l.loan l.entries day terms) → found ≢ None) → found ≡ option_map account_by_replay (account_in k l)
 account_found k names l day terms found sound plain on given is some = go found is some
   where
     late : day ≤ last_entered_day
     late = let by : day ≤ k.day = day_of_stage k.day l.loan.stage day (sym on) plain.own.stage in let last = sound.day in omega (arith, by, last)
 
-    right : IsSoundAccount (running l.loan l.entries day terms)
+    right : IsSoundAccount (running_loan l.loan l.entries day terms)
     right = record {
       limits = limits_of k l.loan.product l.loan.principal l.loan.periods terms sound plain.own.product (sym given);
       day = late;
       entries = (subst (λ o. AreEntriesIn k.day l.loan.periods o l.entries) (sym on) plain.entries).0;
     }
 
-    go : (o : Option Kept) → IfSome o (λ account. account ≡ replayed (running l.loan l.entries day terms)) → (IsSoundAccount (running l.loan l.entries day terms) → o ≢ None) → o ≡ option_map replayed (account_in k l)
+    go : (o : Option Kept) → IfSome o (λ account. account ≡ account_by_replay (running_loan l.loan l.entries day terms)) → (IsSoundAccount (running_loan l.loan l.entries day terms) → o ≢ None) → o ≡ option_map account_by_replay (account_in k l)
     go None is some = absurd (some right refl)
-    go (Some a) is some = ap (λ (b : Kept). Some b) is ∙ (λ t. option_map replayed (running_from l.loan l.entries (on t) (given t)))
+    go (Some a) is some = ap (λ (b : Kept). Some b) is ∙ (λ t. option_map account_by_replay (running_from l.loan l.entries (on t) (given t)))
 
 -- ---- what is read off it
 
-pub read_none : {A : Type 0} (read : Running → List A) (o : Option Running) → ◌≡◌ {A = Option Kept} None (option_map replayed o) → of_account [] read o ≡ []
+pub read_none : {A : Type 0} (read : Running → List A) (o : Option Running) → ◌≡◌ {A = Option Kept} None (option_map account_by_replay o) → of_account [] read o ≡ []
 read_none read None none = refl
-read_none read (Some a) none = absurd (let never : None ≡ Some (replayed a) = none in cc)
+read_none read (Some a) none = absurd (let never : None ≡ Some (account_by_replay a) = none in cc)
 
-pub read_some : {A : Type 0} (read : Running → List A) (shown : Kept → List A) (o : Option Running) (account : Kept) → ((a : Running) → shown (replayed a) ≡ read a) → Some account ≡ option_map replayed o → shown account ≡ of_account [] read o
+pub read_some : {A : Type 0} (read : Running → List A) (shown : Kept → List A) (o : Option Running) (account : Kept) → ((a : Running) → shown (account_by_replay a) ≡ read a) → Some account ≡ option_map account_by_replay o → shown account ≡ of_account [] read o
 read_some read shown None account is found = absurd (let never : Some account ≡ None = found in cc)
-read_some read shown (Some a) account is found = let whole : Some account ≡ Some (replayed a) = found in let same : account ≡ replayed a = cc in ap shown same ∙ is a
+read_some read shown (Some a) account is found = let whole : Some account ≡ Some (account_by_replay a) = found in let same : account ≡ account_by_replay a = cc in ap shown same ∙ is a

@@ -8,7 +8,7 @@ use Rattle.mf_store_records.specs.declared.entries.EntryRow.{EntryRow}
 use Rattle.mf_store_records.specs.declared.instalments.InstalmentRow.{InstalmentRow}
 use Rattle.mf_store_records.specs.declared.loans.LoanRow.{LoanRow}
 use Rattle.mf_store_records.specs.declared.shares.ShareRow.{ShareRow}
-use Rattle.mf_store_accounts.specs.Accounts.{instalments_of, shares_of, Placed, rows_of, row_of, is_of_loan, first_rows, later_rows, IsOther, AreApartLoans, IsPlainPlaced, AreLoansOf, AreAccounts}
+use Rattle.mf_store_accounts.specs.Accounts.{instalments_of, shares_of, PlacedLoan, rows_of, row_of, is_of_loan, first_rows, later_rows, IsOther, AreApartLoans, IsPlainPlaced, AreLoansOf, AreAccounts}
 use Rattle.mf_store_accounts.specs.Flat.{loan_in, entry_in, instalment_in, share_in, own_entries}
 use Rattle.mf_store_accounts.specs.Ledgers.{IsPlainLoan}
 use Rattle.mf_store_accounts.proofs.MadeLemmas.{some_made}
@@ -39,15 +39,15 @@ module _ {A R : Type 0} (make : ℕ → ℕ → A → R) (of : Ledger → List A
   others x n y m [] h = tt
   others x n y m (a ∷ xs) h = ((λ t. (its_office y m a t == x) && (its_loan y m a t == n)) ∙ not_both x n y m h, others x n y m xs h)
 
-  none_later : (p : Placed) (ps : List Placed) → AllByRecursion (IsOther p) ps → prefix_len (is_of_loan office loan p.office p.number) (rows_of make of ps) ≡ 0
+  none_later : (p : PlacedLoan) (ps : List PlacedLoan) → AllByRecursion (IsOther p) ps → prefix_len (is_of_loan office loan p.office p.number) (rows_of make of ps) ≡ 0
   none_later p [] all = refl
   none_later p (q ∷ ps) all =
       none_first (is_of_loan office loan p.office p.number) (map (make q.office q.number) (of q.ledger)) (rows_of make of ps) (others p.office p.number q.office q.number (of q.ledger) all.0.same_office) (none_later p ps all.1)
 
-  pub first_of : (p : Placed) (ps : List Placed) → AllByRecursion (IsOther p) ps → first_rows (is_of_loan office loan p.office p.number) (rows_of make of (p ∷ ps)) ≡ map (make p.office p.number) (of p.ledger)
+  pub first_of : (p : PlacedLoan) (ps : List PlacedLoan) → AllByRecursion (IsOther p) ps → first_rows (is_of_loan office loan p.office p.number) (rows_of make of (p ∷ ps)) ≡ map (make p.office p.number) (of p.ledger)
   first_of p ps all = block_first (is_of_loan office loan p.office p.number) (map (make p.office p.number) (of p.ledger)) (rows_of make of ps) (mine p.office p.number (of p.ledger)) (none_later p ps all)
 
-  pub later_of : (p : Placed) (ps : List Placed) → AllByRecursion (IsOther p) ps → later_rows (is_of_loan office loan p.office p.number) (rows_of make of (p ∷ ps)) ≡ rows_of make of ps
+  pub later_of : (p : PlacedLoan) (ps : List PlacedLoan) → AllByRecursion (IsOther p) ps → later_rows (is_of_loan office loan p.office p.number) (rows_of make of (p ∷ ps)) ≡ rows_of make of ps
   later_of p ps all = block_later (is_of_loan office loan p.office p.number) (map (make p.office p.number) (of p.ledger)) (rows_of make of ps) (mine p.office p.number (of p.ledger)) (none_later p ps all)
 
 abbrev pub is_entry : LoanRow → EntryRow → Bool
@@ -61,12 +61,12 @@ is_share r = is_of_loan (λ (q : ShareRow). q.office) (λ (q : ShareRow). q.loan
 
 -- what is left of the loans, and what it decides
 pub record IsLeft (k : Catalogue) (W : Type 0) (loans : List LoanRow) (entries : List EntryRow) (instalments : List InstalmentRow) (shares : List ShareRow) : Type 0 where
-  pub ps : List Placed
+  pub ps : List PlacedLoan
   pub loans_of : AreLoansOf k loans entries ps
   pub left : W ↔ AreAccounts k ps instalments shares
 
 -- the first loan's rows are its account's, and so are the others'
-record AreBoth (k : Catalogue) (r : LoanRow) (l : Ledger) (ps : List Placed) (i : List InstalmentRow) (s : List ShareRow) : Type 0 where
+record AreBoth (k : Catalogue) (r : LoanRow) (l : Ledger) (ps : List PlacedLoan) (i : List InstalmentRow) (s : List ShareRow) : Type 0 where
   instalments_are : map (instalment_in r.office r.number) (instalments_of k l) ≡ first_rows (is_instalment r) i
   shares_are : map (share_in r.office r.number) (shares_of k l) ≡ first_rows (is_share r) s
   more : AreAccounts k ps (later_rows (is_instalment r) i) (later_rows (is_share r) s)
@@ -74,7 +74,7 @@ record AreBoth (k : Catalogue) (r : LoanRow) (l : Ledger) (ps : List Placed) (i 
 record IsSplit (k : Catalogue) (W : Type 0) (r : LoanRow) (rs : List LoanRow) (e : List EntryRow) (i : List InstalmentRow) (s : List ShareRow) : Type 0 where
   ledger : Ledger
   clients : List (List ℕ)
-  ps : List Placed
+  ps : List PlacedLoan
   plain : IsPlainLoan k clients ledger
   row_is : loan_in r.office r.number ledger.loan ≡ r
   entries_are : map (entry_in r.office r.number) ledger.entries ≡ first_rows (is_entry r) e
@@ -82,7 +82,7 @@ record IsSplit (k : Catalogue) (W : Type 0) (r : LoanRow) (rs : List LoanRow) (e
   left : W ↔ AreBoth k r ledger ps i s
 
 module _ (k : Catalogue) (W : Type 0) (rs : List LoanRow) (e : List EntryRow) (i : List InstalmentRow) (s : List ShareRow) where
-  split_at : (p : Placed) (ps : List Placed) → AreApartLoans (p ∷ ps) → AllByRecursion (IsPlainPlaced k) (p ∷ ps) → map row_of ps ≡ rs → rows_of entry_in own_entries (p ∷ ps) ≡ e → (W ↔ AreAccounts k (p ∷ ps) i s) → IsSplit k W (row_of p) rs e i s
+  split_at : (p : PlacedLoan) (ps : List PlacedLoan) → AreApartLoans (p ∷ ps) → AllByRecursion (IsPlainPlaced k) (p ∷ ps) → map row_of ps ≡ rs → rows_of entry_in own_entries (p ∷ ps) ≡ e → (W ↔ AreAccounts k (p ∷ ps) i s) → IsSplit k W (row_of p) rs e i s
   split_at p ps apart plain rows entries left = record {
     ledger = p.ledger;
     clients = plain.0.clients;
@@ -117,7 +117,7 @@ module _ (k : Catalogue) (W : Type 0) (rs : List LoanRow) (e : List EntryRow) (i
   split : (r : LoanRow) → IsLeft k W (r ∷ rs) e i s → IsSplit k W r rs e i s
   split r h = go h.ps h.loans_of.apart h.loans_of.plain h.loans_of.rows_are h.loans_of.entries_are h.left
     where
-      go : (ps : List Placed) → AreApartLoans ps → AllByRecursion (IsPlainPlaced k) ps → map row_of ps ≡ r ∷ rs → rows_of entry_in own_entries ps ≡ e → (W ↔ AreAccounts k ps i s) → IsSplit k W r rs e i s
+      go : (ps : List PlacedLoan) → AreApartLoans ps → AllByRecursion (IsPlainPlaced k) ps → map row_of ps ≡ r ∷ rs → rows_of entry_in own_entries ps ≡ e → (W ↔ AreAccounts k ps i s) → IsSplit k W r rs e i s
       go [] apart plain rows entries left = absurd (cc)
       go (p ∷ ps) apart plain rows entries left =
           let first : row_of p ≡ r = cc in
@@ -152,7 +152,7 @@ module _ (k : Catalogue) (W : Type 0) (rs : List LoanRow) (e : List EntryRow) (i
 pub finished : (k : Catalogue) (W B : Type 0) (e : List EntryRow) (i : List InstalmentRow) (s : List ShareRow) → (B ↔ ((i ≡ []) × (s ≡ []))) → IsLeft k W [] e i s → B ↔ W
 finished k W B e i s nothing h = go h.ps h.loans_of.rows_are h.left
   where
-    go : (ps : List Placed) → map row_of ps ≡ [] → (W ↔ AreAccounts k ps i s) → B ↔ W
+    go : (ps : List PlacedLoan) → map row_of ps ≡ [] → (W ↔ AreAccounts k ps i s) → B ↔ W
     go [] rows left = (λ done. (let none = nothing.0 done in left.1 (record { instalments_are = sym none.0; shares_are = sym none.1 })), λ w. (let a = left.0 w in nothing.1 (sym a.instalments_are, sym a.shares_are)))
     go (p ∷ ps) rows left = absurd (cc)
 
@@ -162,13 +162,13 @@ at_end loans i h = drop_all i loans h
 -- ---- rows that are made, loan by loan
 
 -- what is left of the loans, and the rows that are made of those before
-pub record IsMade (k : Catalogue) (whole : List Placed) (loans : List LoanRow) (entries : List EntryRow) (instalments : List InstalmentRow) (shares : List ShareRow) : Type 0 where
-  pub ps : List Placed
+pub record IsMade (k : Catalogue) (whole : List PlacedLoan) (loans : List LoanRow) (entries : List EntryRow) (instalments : List InstalmentRow) (shares : List ShareRow) : Type 0 where
+  pub ps : List PlacedLoan
   pub loans_of : AreLoansOf k loans entries ps
   pub instalments_are : rows_of instalment_in (instalments_of k) whole ≡ instalments ++ rows_of instalment_in (instalments_of k) ps
   pub shares_are : rows_of share_in (shares_of k) whole ≡ shares ++ rows_of share_in (shares_of k) ps
 
-module _ (k : Catalogue) (whole : List Placed) (rs : List LoanRow) (e fe le : List EntryRow) (i mi : List InstalmentRow) (s ms : List ShareRow) where
+module _ (k : Catalogue) (whole : List PlacedLoan) (rs : List LoanRow) (e fe le : List EntryRow) (i mi : List InstalmentRow) (s ms : List ShareRow) where
   -- what the code adds for a loan
   abbrev pub Adds : LoanRow → Type 0
   Adds r = (names : List (List ℕ)) (l : Ledger) → IsPlainLoan k names l → loan_in r.office r.number l.loan ≡ r → map (entry_in r.office r.number) l.entries ≡ fe
@@ -177,7 +177,7 @@ module _ (k : Catalogue) (whole : List Placed) (rs : List LoanRow) (e fe le : Li
   abbrev Next : LoanRow → Type 0
   Next r = fe ≡ first_rows (is_entry r) e → le ≡ later_rows (is_entry r) e → Adds r → IsMade k whole rs le mi ms
 
-  next_at : (p : Placed) (ps : List Placed) → AreApartLoans (p ∷ ps) → AllByRecursion (IsPlainPlaced k) (p ∷ ps) → map row_of ps ≡ rs → rows_of entry_in own_entries (p ∷ ps) ≡ e
+  next_at : (p : PlacedLoan) (ps : List PlacedLoan) → AreApartLoans (p ∷ ps) → AllByRecursion (IsPlainPlaced k) (p ∷ ps) → map row_of ps ≡ rs → rows_of entry_in own_entries (p ∷ ps) ≡ e
       → rows_of instalment_in (instalments_of k) whole ≡ i ++ rows_of instalment_in (instalments_of k) (p ∷ ps) → rows_of share_in (shares_of k) whole ≡ s ++ rows_of share_in (shares_of k) (p ∷ ps) → Next (row_of p)
   next_at p ps apart plain rows entries is ss own later adds =
       let own_are : map (entry_in p.office p.number) p.ledger.entries ≡ fe = sym (first_of entry_in own_entries (λ (q : EntryRow). q.office) (λ (q : EntryRow). q.loan) (λ x n a. refl) (λ x n a. refl) p ps apart.0) ∙ (λ t. first_rows (is_entry (row_of p)) (entries t)) ∙ sym own in
@@ -197,7 +197,7 @@ module _ (k : Catalogue) (whole : List Placed) (rs : List LoanRow) (e fe le : Li
   pub made_more : (r : LoanRow) → IsMade k whole (r ∷ rs) e i s → Next r
   made_more r h = go h.ps h.loans_of.apart h.loans_of.plain h.loans_of.rows_are h.loans_of.entries_are h.instalments_are h.shares_are
     where
-      go : (ps : List Placed) → AreApartLoans ps → AllByRecursion (IsPlainPlaced k) ps → map row_of ps ≡ r ∷ rs → rows_of entry_in own_entries ps ≡ e
+      go : (ps : List PlacedLoan) → AreApartLoans ps → AllByRecursion (IsPlainPlaced k) ps → map row_of ps ≡ r ∷ rs → rows_of entry_in own_entries ps ≡ e
           → rows_of instalment_in (instalments_of k) whole ≡ i ++ rows_of instalment_in (instalments_of k) ps → rows_of share_in (shares_of k) whole ≡ s ++ rows_of share_in (shares_of k) ps → Next r
       go [] apart plain rows entries is ss = absurd (cc)
       go (p ∷ ps) apart plain rows entries is ss =
@@ -205,9 +205,9 @@ module _ (k : Catalogue) (whole : List Placed) (rs : List LoanRow) (e fe le : Li
           let more : map row_of ps ≡ rs = cc in
           subst Next first (next_at p ps apart plain more entries is ss)
 
-pub made_whole : (k : Catalogue) (whole : List Placed) (e : List EntryRow) (i : List InstalmentRow) (s : List ShareRow) → IsMade k whole [] e i s → AreAccounts k whole i s
+pub made_whole : (k : Catalogue) (whole : List PlacedLoan) (e : List EntryRow) (i : List InstalmentRow) (s : List ShareRow) → IsMade k whole [] e i s → AreAccounts k whole i s
 made_whole k whole e i s h = go h.ps h.loans_of.rows_are h.instalments_are h.shares_are
   where
-    go : (ps : List Placed) → map row_of ps ≡ [] → rows_of instalment_in (instalments_of k) whole ≡ i ++ rows_of instalment_in (instalments_of k) ps → rows_of share_in (shares_of k) whole ≡ s ++ rows_of share_in (shares_of k) ps → AreAccounts k whole i s
+    go : (ps : List PlacedLoan) → map row_of ps ≡ [] → rows_of instalment_in (instalments_of k) whole ≡ i ++ rows_of instalment_in (instalments_of k) ps → rows_of share_in (shares_of k) whole ≡ s ++ rows_of share_in (shares_of k) ps → AreAccounts k whole i s
     go [] rows is ss = record { instalments_are = is ∙ append-nil i; shares_are = ss ∙ append-nil s }
     go (p ∷ ps) rows is ss = absurd (cc)

@@ -14,7 +14,7 @@ use Rattle.mf_model.specs.Sound.{IsSound, IsSoundOffice, is_staff}
 use Rattle.mf_model.specs.Tree.{Above}
 use Rattle.mf_store_records.specs.Rows.{is_receipt}
 use Rattle.mf_store_records.specs.declared.receipts.ReceiptRow.{ReceiptRow}
-use Rattle.mf_store_accounts.specs.ReceiptRows.{receipt_in, carried}
+use Rattle.mf_store_accounts.specs.ReceiptRows.{receipt_in, receipts_carried}
 
 same_office : (x : ℕ) (o : Ordering) → ordering_then (nat_cmp x x) o ≡ o
 same_office x o = grind (arith, nat_tests)
@@ -46,12 +46,12 @@ pub others_in : (x y : ℕ) (r : List ℕ) (us : List Use) → (y == x) ≡ fals
 others_in x y r [] h = tt
 others_in x y r (u ∷ us) h = (other_key x y r u h, others_in x y r us h)
 
-pub others_above : (x : ℕ) (r : List ℕ) (fs : List Office) → Above x fs → AreOthers x r (carried fs)
+pub others_above : (x : ℕ) (r : List ℕ) (fs : List Office) → Above x fs → AreOthers x r (receipts_carried fs)
 others_above x r [] up = tt
 others_above x r (f ∷ fs) up =
     let low : x < f.number = up.0 in
     let apart : (f.number == x) ≡ false = grind (arith, nat_tests) in
-    all-append (λ (row : ReceiptRow). is_receipt x r row ≡ false) (map (receipt_in f.number) (uses_from 1 f.rows.loans)) (carried fs) (others_in x f.number r (uses_from 1 f.rows.loans) apart) (others_above x r fs up.1)
+    all-append (λ (row : ReceiptRow). is_receipt x r row ≡ false) (map (receipt_in f.number) (uses_from 1 f.rows.loans)) (receipts_carried fs) (others_in x f.number r (uses_from 1 f.rows.loans) apart) (others_above x r fs up.1)
 
 pub apart_bytes : (xs ys : List ℕ) → xs ≢ ys → bytes_eq xs ys ≡ false
 apart_bytes xs ys h = go (bytes_eq xs ys) refl

@@ -20,26 +20,26 @@ abbrev pub shares_of : Catalogue → Ledger → List (ℕ × (ℕ × Settled))
 shares_of k l = of_account [] shares_kept (account_in k l)
 
 -- a loan of an office, under its number
-pub record Placed : Type 0 where
+pub record PlacedLoan : Type 0 where
   pub office : ℕ
   pub number : ℕ
   pub ledger : Ledger
 
-abbrev pub placed_loans : ℕ → ℕ → List Ledger → List Placed
+abbrev pub placed_loans : ℕ → ℕ → List Ledger → List PlacedLoan
 placed_loans office n [] = []
 placed_loans office n (l ∷ ls) = record { office = office; number = n; ledger = l } ∷ placed_loans office (n + 1) ls
 
 -- the loans of all offices
-abbrev pub all_placed : List Office → List Placed
+abbrev pub all_placed : List Office → List PlacedLoan
 all_placed [] = []
 all_placed (f ∷ fs) = placed_loans f.number 1 f.rows.loans ++ all_placed fs
 
 -- the rows of what these loans have
-abbrev pub rows_of : {A R : Type 0} → (ℕ → ℕ → A → R) → (Ledger → List A) → List Placed → List R
+abbrev pub rows_of : {A R : Type 0} → (ℕ → ℕ → A → R) → (Ledger → List A) → List PlacedLoan → List R
 rows_of make of [] = []
 rows_of make of (p ∷ ps) = map (make p.office p.number) (of p.ledger) ++ rows_of make of ps
 
-abbrev pub row_of : Placed → LoanRow
+abbrev pub row_of : PlacedLoan → LoanRow
 row_of p = loan_in p.office p.number p.ledger.loan
 
 -- a row belongs to a loan of an office
@@ -54,27 +54,27 @@ abbrev pub later_rows : {R : Type 0} → (R → Bool) → List R → List R
 later_rows p rows = drop (prefix_len p rows) rows
 
 -- another loan
-pub record IsOther (p q : Placed) : Type 0 where
+pub record IsOther (p q : PlacedLoan) : Type 0 where
   pub same_office : p.office ≡ q.office → p.number ≢ q.number
 
 -- no loan comes twice
-abbrev pub AreApartLoans : List Placed → Type 0
+abbrev pub AreApartLoans : List PlacedLoan → Type 0
 AreApartLoans [] = Unit {0}
 AreApartLoans (p ∷ ps) = AllByRecursion (IsOther p) ps × AreApartLoans ps
 
 -- a sound loan of an office with some clients, but for who entered its entries
-pub record IsPlainPlaced (k : Catalogue) (p : Placed) : Type 0 where
+pub record IsPlainPlaced (k : Catalogue) (p : PlacedLoan) : Type 0 where
   pub clients : List (List ℕ)
   pub plain : IsPlainLoan k clients p.ledger
 
 -- loans whose rows these are
-pub record AreLoansOf (k : Catalogue) (loans : List LoanRow) (entries : List EntryRow) (ps : List Placed) : Type 0 where
+pub record AreLoansOf (k : Catalogue) (loans : List LoanRow) (entries : List EntryRow) (ps : List PlacedLoan) : Type 0 where
   pub apart : AreApartLoans ps
   pub plain : AllByRecursion (IsPlainPlaced k) ps
   pub rows_are : map row_of ps ≡ loans
   pub entries_are : rows_of entry_in own_entries ps ≡ entries
 
 -- the rows are those of their accounts
-pub record AreAccounts (k : Catalogue) (ps : List Placed) (instalments : List InstalmentRow) (shares : List ShareRow) : Type 0 where
+pub record AreAccounts (k : Catalogue) (ps : List PlacedLoan) (instalments : List InstalmentRow) (shares : List ShareRow) : Type 0 where
   pub instalments_are : rows_of instalment_in (instalments_of k) ps ≡ instalments
   pub shares_are : rows_of share_in (shares_of k) ps ≡ shares

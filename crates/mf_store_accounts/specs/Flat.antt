@@ -14,11 +14,11 @@ use Rattle.mf_alloc.specs.declared.row.Portion.TheVariants as portion
 use Rattle.mf_base.specs.Choices.{frequency_number}
 use Rattle.mf_base.specs.DayText.{day_text}
 use Rattle.mf_catalog.specs.Names.{kind_number, calc_number, method_number, strategy_number}
-use Rattle.mf_office.specs.Keys.{key_of, key_depth, raised, is_in_range}
+use Rattle.mf_office.specs.Keys.{key_of, key_depth, with_last_raised, is_in_range}
 use Rattle.mf_office.specs.Roles.{role_number}
 use Rattle.mf_office.specs.Written.{caller_text}
 use Rattle.mf_model.specs.Accounts.{account_in, of_account, status_in}
-use Rattle.mf_model.specs.Institution.{Institution, Catalogue, Charge, Ledger, Offer, Office, Rows, Staff, office_at, numbered}
+use Rattle.mf_model.specs.Institution.{Institution, Catalogue, Charge, Ledger, Offer, Office, Rows, Staff, office_at, item_numbered}
 use Rattle.mf_model.specs.Stages.{stage_number, disbursed_on}
 use Rattle.mf_model.specs.declared.loan.Loan.{Loan}
 use Rattle.mf_model.specs.declared.loan.LoanLine.{LoanLine}
@@ -268,23 +268,23 @@ office_row_at x i = option_map (office_under (parent_of i.offices)) (office_at x
 
 -- the row of a member of staff who is there
 abbrev pub staff_row_at : ℕ → ℕ → Institution → Option StaffRow
-staff_row_at x number i = option_map (staff_in x number) (numbered (rows_at x i).staff number)
+staff_row_at x number i = option_map (staff_in x number) (item_numbered (rows_at x i).staff number)
 
 -- the row of a client who is there
 abbrev pub client_row_at : ℕ → ℕ → Institution → Option ClientRow
-client_row_at x number i = option_map (client_in x number) (numbered (rows_at x i).clients number)
+client_row_at x number i = option_map (client_in x number) (item_numbered (rows_at x i).clients number)
 
 -- the row of a charge that is there
 abbrev pub charge_row_at : ℕ → Institution → Option ChargeRow
-charge_row_at number i = option_map (charge_as number) (numbered i.catalogue.charges number)
+charge_row_at number i = option_map (charge_as number) (item_numbered i.catalogue.charges number)
 
 -- the row of a product that is there
 abbrev pub product_row_at : ℕ → Institution → Option ProductRow
-product_row_at number i = option_map (product_as number) (numbered i.catalogue.products number)
+product_row_at number i = option_map (product_as number) (item_numbered i.catalogue.products number)
 
 -- the row of a loan that is there
 abbrev pub loan_row_at : ℕ → ℕ → Institution → Option LoanRow
-loan_row_at x number i = option_map (loan_in x number) (numbered (loans_of (rows_at x i)) number)
+loan_row_at x number i = option_map (loan_in x number) (item_numbered (loans_of (rows_at x i)) number)
 
 -- what a loan that is there has
 abbrev pub had_by : {A : Type 0} → (Ledger → List A) → Option Ledger → List A
@@ -312,7 +312,7 @@ above_of (Some r) = r.parent
 abbrev pub sees : Option (List ℕ) → Option (List ℕ) → Bool
 sees None key = false
 sees (Some above) None = false
-sees (Some above) (Some key) = is_in_range above (raised above) key
+sees (Some above) (Some key) = is_in_range above (with_last_raised above) key
 
 -- a key of at most five dots, one for each office on the way
 abbrev pub has_room : Option (List ℕ) → Bool

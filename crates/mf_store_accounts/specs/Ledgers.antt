@@ -5,7 +5,7 @@ use Rattle.mf_base.specs.DayText.{last_entered_day}
 use Rattle.mf_office.specs.Texts.{IsCaller}
 use Rattle.mf_account.specs.declared.entry.Entry.{Entry}
 use Rattle.mf_account.specs.Loan.{AreEntries}
-use Rattle.mf_model.specs.Institution.{Catalogue, Ledger, numbered, product_in}
+use Rattle.mf_model.specs.Institution.{Catalogue, Ledger, item_numbered, product_in}
 use Rattle.mf_account.specs.Receipts.{IsReceipt}
 use Rattle.mf_model.specs.Sound.{IsStageBy, lends}
 use Rattle.mf_model.specs.Stages.{disbursed_on}
@@ -23,7 +23,7 @@ pub record IsEnteredBy (today : ℕ) (e : Entry) : Type 0 where
 
 -- a loan's client is there, its product lends so, and its days are in order
 pub record IsOwnLoan (k : Catalogue) (clients : List (List ℕ)) (l : Loan) : Type 0 where
-  pub client : is_some (numbered clients l.client) ≡ true
+  pub client : is_some (item_numbered clients l.client) ≡ true
   pub product : lends (product_in k l.product) l.principal l.periods ≡ true
   pub stage : IsStageBy k.day l.stage
 

@@ -14,13 +14,13 @@ abbrev pub receipt_in : ℕ → Use → ReceiptRow
 receipt_in office u = record { office = office; receipt = u.receipt; loan = u.by.loan; seq = u.by.seq }
 
 -- the rows of the receipts that entries carry, office by office
-abbrev pub carried : List Office → List ReceiptRow
-carried [] = []
-carried (f ∷ fs) = map (receipt_in f.number) (uses_from 1 f.rows.loans) ++ carried fs
+abbrev pub receipts_carried : List Office → List ReceiptRow
+receipts_carried [] = []
+receipts_carried (f ∷ fs) = map (receipt_in f.number) (uses_from 1 f.rows.loans) ++ receipts_carried fs
 
 -- these in the order of their key
 abbrev pub receipt_rows : List Office → List ReceiptRow
-receipt_rows fs = sort_by by_receipt (carried fs)
+receipt_rows fs = sort_by by_receipt (receipts_carried fs)
 
 -- the write of its receipt's row, if it carries one
 abbrev pub receipt_added : EntryRow → Option (List ℕ) → List StoreWrite

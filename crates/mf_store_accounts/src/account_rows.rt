@@ -5,7 +5,7 @@ ghost use Rattle.std.specs.List.{prefix_len};
 ghost use Rattle.mf_base.specs.declared.fault.Fault.TheVariants.{F20};
 ghost use Rattle.mf_model.specs.Institution.{Catalogue, Ledger};
 ghost use Rattle.mf_model.specs.Sound.{IsSoundCatalogue};
-ghost use Rattle.mf_store_accounts.specs.Accounts.{is_of_loan, first_rows, later_rows, Placed, AreLoansOf, AreAccounts};
+ghost use Rattle.mf_store_accounts.specs.Accounts.{is_of_loan, first_rows, later_rows, PlacedLoan, AreLoansOf, AreAccounts};
 ghost use Rattle.mf_store_accounts.specs.Accounts.{instalments_of, shares_of};
 ghost use Rattle.mf_store_accounts.specs.Flat.{charge_as, product_as, loan_in, entry_in, instalment_in, share_in, numbered_from};
 ghost use Rattle.mf_store_accounts.specs.Ledgers.{IsPlainLoan};
@@ -167,7 +167,7 @@ pub fn are_accounts(
 ) -> Result<bool, Fault>
     ensures accounts { IfOk result (λ yes. (k : Catalogue) → IsSoundCatalogue k →
         numbered_from charge_as 1 k.charges ≡ charges.now → numbered_from product_as 1 k.products ≡ products.now →
-        (ps : List Placed) → AreLoansOf k loans.now entries.now ps →
+        (ps : List PlacedLoan) → AreLoansOf k loans.now entries.now ps →
         IsTrue yes ↔ AreAccounts k ps instalments.now shares.now) }
     ensures gives_up { IfErr result (λ fault. fault ≡ F20) }
 {
@@ -207,7 +207,7 @@ pub fn rows_of_accounts(
 ) -> Result<(Vec<InstalmentRow>, Vec<ShareRow>), Fault>
     ensures accounts { IfOk result (λ rows. (k : Catalogue) → IsSoundCatalogue k →
         numbered_from charge_as 1 k.charges ≡ charges.now → numbered_from product_as 1 k.products ≡ products.now →
-        (ps : List Placed) → AreLoansOf k loans.now entries.now ps → AreAccounts k ps rows.0.items rows.1.items) }
+        (ps : List PlacedLoan) → AreLoansOf k loans.now entries.now ps → AreAccounts k ps rows.0.items rows.1.items) }
     ensures gives_up { IfErr result (λ fault. fault ≡ F20) }
 {
     let mut instalments = Vec::new(alloc);

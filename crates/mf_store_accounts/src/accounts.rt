@@ -3,7 +3,7 @@
 ghost use Rattle.std.specs.Prelude.{◌≡◌, ◌≤◌, ℕ, List, map, option_map, IfOk, IfErr};
 ghost use Rattle.mf_base.specs.DayText.{last_entered_day};
 ghost use Rattle.mf_base.specs.declared.fault.Fault.TheVariants.{F20};
-ghost use Rattle.mf_account.specs.Change.{replayed};
+ghost use Rattle.mf_account.specs.Change.{account_by_replay};
 ghost use Rattle.mf_model.specs.Accounts.{account_in};
 ghost use Rattle.mf_model.specs.Institution.{Catalogue, Ledger};
 ghost use Rattle.mf_model.specs.Sound.{IsSoundCatalogue, IsStageBy};
@@ -43,7 +43,7 @@ pub fn account_of(
         numbered_from charge_as 1 k.charges ≡ charges.now → numbered_from product_as 1 k.products ≡ products.now →
         (office number : ℕ) (names : List (List ℕ)) (l : Ledger) → IsPlainLoan k names l →
         loan_in office number l.loan ≡ row.now → map (entry_in office number) l.entries ≡ entries.now →
-        found ≡ option_map replayed (account_in k l)) }
+        found ≡ option_map account_by_replay (account_in k l)) }
     ensures gives_up { IfErr result (λ fault. fault ≡ F20) }
 {
     let Some(day) = disbursal_day(row) else {

@@ -1,11 +1,11 @@
 //! Rows by number.
 
 ghost use Rattle.std.specs.Prelude.{◌≡◌, option_copied};
-ghost use Rattle.mf_model.specs.Institution.{numbered};
+ghost use Rattle.mf_model.specs.Institution.{item_numbered};
 
 /// The row with this number, in rows by number from 1.
 pub fn row_numbered<T>(rows: &[T], number: u32) -> Option<&T>
-    ensures { option_copied result ≡ numbered rows.now number }
+    ensures { option_copied result ≡ item_numbered rows.now number }
 {
     if number == 0 {
         return None;

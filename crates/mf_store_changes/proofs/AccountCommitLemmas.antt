@@ -9,8 +9,8 @@ use Rattle.mf_account.specs.Change.{Account as Kept, IsChange, IsReplayed, settl
 use Rattle.mf_account.specs.Loan.{Loan as Running, IsSound as IsSoundAccount, state_of_loan, settled_of_loan}
 use Rattle.mf_store_tables.specs.Writes.{after_all}
 use Rattle.mf_model.specs.Accounts.{account_in, of_account, running_from}
-use Rattle.mf_model.specs.Institution.{Catalogue, Ledger, Office, Rows, numbered, office_at, with_numbered, with_rows}
-use Rattle.mf_model.specs.Loans.{staged, with_entries}
+use Rattle.mf_model.specs.Institution.{Catalogue, Ledger, Office, Rows, item_numbered, office_at, with_numbered, with_rows}
+use Rattle.mf_model.specs.Loans.{with_stage, with_entries}
 use Rattle.mf_model.specs.Stages.{disbursed_on}
 use Rattle.mf_model.specs.Store.{rows_of}
 use Rattle.mf_model.specs.Tree.{Ascending}
@@ -51,7 +51,7 @@ pub record IsChanged (k : Catalogue) (l : Ledger) (account : Kept) : Type 0 wher
 kept_where : {A : Type 0} (read : Running → List A) (k : Catalogue) (l : Ledger) (a : Running) → account_in k l ≡ Some a → kept_of read k l ≡ read a
 kept_where read k l a is = ap (of_account [] read) is
 
-module _ (k : Catalogue) (x n : ℕ) (l : Ledger) (account : Kept) (changed : IsChanged k l account) (new : Rows) (fs : List Office) (up : Ascending fs) (at : numbered (rows_of (office_at x fs)).loans n ≡ Some l) (is : new.loans ≡ with_numbered n (with_entries account.loan.entries) (rows_of (office_at x fs)).loans) where
+module _ (k : Catalogue) (x n : ℕ) (l : Ledger) (account : Kept) (changed : IsChanged k l account) (new : Rows) (fs : List Office) (up : Ascending fs) (at : item_numbered (rows_of (office_at x fs)).loans n ≡ Some l) (is : new.loans ≡ with_numbered n (with_entries account.loan.entries) (rows_of (office_at x fs)).loans) where
   abbrev later : Ledger
   later = with_entries account.loan.entries l
 
@@ -92,9 +92,9 @@ module _ (k : Catalogue) (x n : ℕ) (l : Ledger) (account : Kept) (changed : Is
 
 -- ---- stages
 
-module _ (k : Catalogue) (x n : ℕ) (l : Ledger) (stage : Stage) (new : Rows) (fs : List Office) (up : Ascending fs) (at : numbered (rows_of (office_at x fs)).loans n ≡ Some l) (is : new.loans ≡ with_numbered n (staged stage) (rows_of (office_at x fs)).loans) (before : disbursed_on l.loan.stage ≡ None) (none : l.entries ≡ []) where
+module _ (k : Catalogue) (x n : ℕ) (l : Ledger) (stage : Stage) (new : Rows) (fs : List Office) (up : Ascending fs) (at : item_numbered (rows_of (office_at x fs)).loans n ≡ Some l) (is : new.loans ≡ with_numbered n (with_stage stage) (rows_of (office_at x fs)).loans) (before : disbursed_on l.loan.stage ≡ None) (none : l.entries ≡ []) where
   abbrev then : Ledger
-  then = staged stage l
+  then = with_stage stage l
 
   fresh : (o : Option Running) → put_all by_instalment (map (instalment_in x n) (of_account [] instalments_kept o)) [] ≡ map (instalment_in x n) (of_account [] instalments_kept o)
   fresh None = refl
@@ -103,7 +103,7 @@ module _ (k : Catalogue) (x n : ℕ) (l : Ledger) (stage : Stage) (new : Rows) (
   schedule_brought : put_all by_instalment (map (instalment_in x n) (kept_of instalments_kept k then)) (instalment_rows k fs) ≡ instalment_rows k (with_rows x new fs)
   schedule_brought =
       put_all_around instalment_in by_instalment (λ a b. nat_cmp a.0 b.0) (λ x n y m a b. refl) x n (λ item. item) (kept_of instalments_kept k then) (instalment_rows k fs) (instalment_rows k (with_rows x new fs))
-      (kept_of instalments_kept k l) (kept_of instalments_kept k then) (rows_around instalment_in (kept_of instalments_kept k) x n (staged stage) l new fs up at is)
+      (kept_of instalments_kept k l) (kept_of instalments_kept k then) (rows_around instalment_in (kept_of instalments_kept k) x n (with_stage stage) l new fs up at is)
       (ap (λ items. put_all by_instalment (map (instalment_in x n) (kept_of instalments_kept k then)) (map (instalment_in x n) items)) (none_before instalments_kept k l before) ∙ fresh (account_in k then))
 
   -- an account without entries has no shares
@@ -116,7 +116,7 @@ module _ (k : Catalogue) (x n : ℕ) (l : Ledger) (stage : Stage) (new : Rows) (
   pub staged_shares : share_rows k fs ≡ share_rows k (with_rows x new fs)
   staged_shares =
       around_same share_in x n (share_rows k fs) (share_rows k (with_rows x new fs)) (kept_of shares_kept k l) (kept_of shares_kept k then)
-      (rows_around share_in (kept_of shares_kept k) x n (staged stage) l new fs up at is) (none_before shares_kept k l before ∙ sym (unshared (account_in k then) refl))
+      (rows_around share_in (kept_of shares_kept k) x n (with_stage stage) l new fs up at is) (none_before shares_kept k l before ∙ sym (unshared (account_in k then) refl))
 
   -- the rows of the schedule bring all rows to what the replay has
   pub schedule_there : (lists : Lists) → lists.instalments ≡ instalment_rows k fs → after_all after (schedule_put x n (kept_of instalments_kept k then)) (Some lists) ≡ Some (record lists { instalments = instalment_rows k (with_rows x new fs) })

@@ -6,9 +6,9 @@ use Rattle.mf_catalog.specs.declared.terms.Terms.{Terms}
 use Rattle.mf_store_tables.specs.Keep.{put_item}
 use Rattle.mf_model.specs.Accounts.{terms_in}
 use Rattle.mf_model.specs.Catalogue.{day_set, charge_added, product_added, product_retired}
-use Rattle.mf_model.specs.Institution.{Institution, Catalogue, Charge, Offer, numbered, with_numbered}
+use Rattle.mf_model.specs.Institution.{Institution, Catalogue, Charge, Offer, item_numbered, with_numbered}
 use Rattle.mf_model.specs.Sound.{IsSound, is_staff}
-use Rattle.mf_model.specs.Store.{committed}
+use Rattle.mf_model.specs.Store.{after_commit}
 use Rattle.mf_model.specs.declared.commit.Commit.TheVariants.{SetDay, AddCharge, AddProduct, RetireProduct}
 use Rattle.mf_store_records.specs.Rows.{by_meta, by_charge, by_product}
 use Rattle.mf_store_records.specs.declared.charges.ChargeRow.{ChargeRow}
@@ -26,7 +26,7 @@ use Rattle.mf_store_changes.proofs.FlatLemmas.{put_listed, put_listed_last}
 accounts_same : (i : Institution) (h : Catalogue) → IsSound i → ((n : ℕ) (t : Terms) → terms_in i.catalogue n ≡ Some t → terms_in h n ≡ Some t) → SameRows i.catalogue h i.offices i.offices
 accounts_same i h before stand = catalogue_same i.catalogue h (is_staff i.offices) i.offices stand before.each
 
-pub day_becomes : (day : ℕ) (i : Institution) (m : MetaRow) → IsSound i → IsSound (committed (SetDay day) i) → m.one ≡ 1 → m.schema ≡ 2 → m.day ≡ day_text day → Becomes (PutMeta m ∷ []) i (committed (SetDay day) i)
+pub day_becomes : (day : ℕ) (i : Institution) (m : MetaRow) → IsSound i → IsSound (after_commit (SetDay day) i) → m.one ≡ 1 → m.schema ≡ 2 → m.day ≡ day_text day → Becomes (PutMeta m ∷ []) i (after_commit (SetDay day) i)
 day_becomes day i m before sound one schema text = record {
   sound = sound;
   fits = (refl, tt);
@@ -36,8 +36,8 @@ day_becomes day i m before sound one schema text = record {
     accounts : SameRows i.catalogue (day_set day i.catalogue) i.offices i.offices
     accounts = accounts_same i (day_set day i.catalogue) before (λ n t given. given)
 
-pub charge_becomes : (c : Charge) (i : Institution) (x : ChargeRow) → IsSound i → IsSound (committed (AddCharge c.name c.kind c.calc c.value) i) → x ≡ charge_as (length i.catalogue.charges + 1) c
-    → Becomes (PutCharge x ∷ []) i (committed (AddCharge c.name c.kind c.calc c.value) i)
+pub charge_becomes : (c : Charge) (i : Institution) (x : ChargeRow) → IsSound i → IsSound (after_commit (AddCharge c.name c.kind c.calc c.value) i) → x ≡ charge_as (length i.catalogue.charges + 1) c
+    → Becomes (PutCharge x ∷ []) i (after_commit (AddCharge c.name c.kind c.calc c.value) i)
 charge_becomes c i x before sound is = record { sound = sound; fits = (refl, tt); is = λ k. Some (record (tables_of i) { charges = charges k; instalments = accounts.instalments k; shares = accounts.shares k }) }
   where
     accounts : SameRows i.catalogue (charge_added c i.catalogue) i.offices i.offices
@@ -46,8 +46,8 @@ charge_becomes c i x before sound is = record { sound = sound; fits = (refl, tt)
     charges : put_item by_charge x (tables_of i).charges ≡ numbered_from charge_as 1 (i.catalogue.charges ++ c ∷ [])
     charges = ap (λ r. put_item by_charge r (tables_of i).charges) is ∙ put_listed_last charge_as by_charge (λ n m a b. refl) c (length i.catalogue.charges + 1) 1 i.catalogue.charges (omega arith)
 
-pub product_becomes : (members : ProductMembers) (i : Institution) (x : ProductRow) → IsSound i → IsSound (committed (AddProduct members) i) → x ≡ product_as (length i.catalogue.products + 1) (record { members = members; retired = false })
-    → Becomes (write.AddProduct x ∷ []) i (committed (AddProduct members) i)
+pub product_becomes : (members : ProductMembers) (i : Institution) (x : ProductRow) → IsSound i → IsSound (after_commit (AddProduct members) i) → x ≡ product_as (length i.catalogue.products + 1) (record { members = members; retired = false })
+    → Becomes (write.AddProduct x ∷ []) i (after_commit (AddProduct members) i)
 product_becomes members i x before sound is = record { sound = sound; fits = (refl, tt); is = λ k. Some (record (tables_of i) { products = products k; instalments = accounts.instalments k; shares = accounts.shares k }) }
   where
     new : Offer
@@ -59,8 +59,8 @@ product_becomes members i x before sound is = record { sound = sound; fits = (re
     products : put_item by_product x (tables_of i).products ≡ numbered_from product_as 1 (i.catalogue.products ++ new ∷ [])
     products = ap (λ r. put_item by_product r (tables_of i).products) is ∙ put_listed_last product_as by_product (λ n m a b. refl) new (length i.catalogue.products + 1) 1 i.catalogue.products (omega arith)
 
-pub retired_becomes : (n : ℕ) (p : Offer) (i : Institution) (x : ProductRow) → IsSound i → IsSound (committed (RetireProduct n) i) → numbered i.catalogue.products n ≡ Some p → x ≡ product_as n (record p { retired = true })
-    → Becomes (PutProduct x ∷ []) i (committed (RetireProduct n) i)
+pub retired_becomes : (n : ℕ) (p : Offer) (i : Institution) (x : ProductRow) → IsSound i → IsSound (after_commit (RetireProduct n) i) → item_numbered i.catalogue.products n ≡ Some p → x ≡ product_as n (record p { retired = true })
+    → Becomes (PutProduct x ∷ []) i (after_commit (RetireProduct n) i)
 retired_becomes n p i x before sound there is = record { sound = sound; fits = (refl, tt); is = λ k. Some (record (tables_of i) { products = products k; instalments = accounts.instalments k; shares = accounts.shares k }) }
   where
     change : Offer → Offer

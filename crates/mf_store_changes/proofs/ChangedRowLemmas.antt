@@ -7,7 +7,7 @@ use Rattle.mf_alloc.specs.Sums.{Sums}
 use Rattle.mf_account.specs.declared.settled.How.{How}
 use Rattle.mf_account.specs.declared.settled.How.TheVariants.{Paid, Waived, WrittenOff}
 use Rattle.mf_account.specs.declared.settled.Settled.{Settled}
-use Rattle.mf_account.specs.Change.{Account as Kept, Changed, AreThose, HasOtherRow, HasOtherParts, IsChange, settled_in}
+use Rattle.mf_account.specs.Change.{Account as Kept, ChangedNumbers, AreThose, HasOtherRow, HasOtherParts, IsChange, settled_in}
 use Rattle.mf_account.specs.Loan.{Loan as Running, IsSound, state_of_loan, settled_of_loan}
 use Rattle.mf_account.proofs.ChangeLemmas.{none-in}
 use Rattle.mf_account.proofs.SoundLemmas.{good-sound}
@@ -26,7 +26,7 @@ use Rattle.mf_store_changes.proofs.ShareRowLemmas.{replaced_each, change_replace
 
 -- ---- a loan's instalments
 
-pub instalments_changed : (x n : ℕ) (before after : Running) (change : Changed) → IsSound before → IsSound after → before.periods ≡ after.periods → IsChange before after change
+pub instalments_changed : (x n : ℕ) (before after : Running) (change : ChangedNumbers) → IsSound before → IsSound after → before.periods ≡ after.periods → IsChange before after change
     → put_all by_instalment (rows_put x n (state_of_loan after).rows change.rows) (map (instalment_in x n) (instalments_kept before)) ≡ map (instalment_in x n) (instalments_kept after)
 instalments_changed x n before after change sound then same is =
     let old = (state_of_loan before).rows in
@@ -103,7 +103,7 @@ parts_longer f m (suc a) d none =
 none_settled : (a : Running) (k : ℕ) → IsSound a → length a.entries < k → settled_in k (settled_of_loan a) ≡ []
 none_settled a k sound past = none-in k (settled_of_loan a) (λ i d within. let is = parts-numbered a sound i d within in let most = is.1 in λ same. absurd (omega (arith, past, most, same)))
 
-pub shares_changed : (x n : ℕ) (before after : Running) (change : Changed) → IsSound before → length before.entries ≤ length after.entries → IsChange before after change
+pub shares_changed : (x n : ℕ) (before after : Running) (change : ChangedNumbers) → IsSound before → length before.entries ≤ length after.entries → IsChange before after change
     → replaced_each x n (λ s. settled_in s (settled_of_loan after)) change.seqs (map (share_in x n) (shares_kept before)) ≡ map (share_in x n) (shares_kept after)
 shares_changed x n before after change sound more is =
     let c = length after.entries in

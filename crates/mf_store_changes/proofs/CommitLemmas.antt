@@ -4,7 +4,7 @@ use Rattle.std.specs.Option.{is_some, option_map}
 use Rattle.std.specs.List.{AllByRecursion}
 use Rattle.std.proofs.lemmas.Bool.Decides.{nat_tests}
 use Rattle.mf_office.specs.declared.staff.Role.{Role}
-use Rattle.mf_office.specs.Keys.{key_of, key_within, grown, child_key}
+use Rattle.mf_office.specs.Keys.{key_of, key_within, key_under, child_key}
 use Rattle.mf_office.specs.Tree.{IsTreeOf}
 use Rattle.mf_office.proofs.KeyLemmas.{key_of-child}
 use Rattle.mf_store_tables.specs.Keep.{put_item}
@@ -12,7 +12,7 @@ use Rattle.mf_model.specs.declared.commit.Commit.TheVariants.{AddOffice, AddStaf
 use Rattle.mf_model.specs.Institution.{Institution, Office, Rows, office_at, with_rows, with_office, new_office}
 use Rattle.mf_model.specs.Desk.{staff_added, client_added}
 use Rattle.mf_model.specs.Sound.{IsSound}
-use Rattle.mf_model.specs.Store.{committed, rows_at}
+use Rattle.mf_model.specs.Store.{after_commit, rows_at}
 use Rattle.mf_model.specs.Tree.{parent_of, is_there, Above, Ascending}
 use Rattle.mf_store_records.specs.Rows.{Lists, by_office, by_staff, by_client, by_loan}
 use Rattle.mf_store_records.specs.declared.offices.OfficeRow.{OfficeRow}
@@ -51,8 +51,8 @@ under-with_rows ps x new (f ∷ fs) = ap (λ l. office_under ps f ∷ l) (under-
 pub offices-with_rows : (x : ℕ) (new : Rows) (fs : List Office) → map (office_under (parent_of fs)) fs ≡ map (office_under (parent_of (with_rows x new fs))) (with_rows x new fs)
 offices-with_rows x new fs = under-with_rows (parent_of fs) x new fs ∙ (λ k. map (office_under (λ y. sym (parent_of-with_rows x new fs y) k)) (with_rows x new fs))
 
-pub client_becomes : (x : ℕ) (name : List ℕ) (i : Institution) (c : ClientRow) → IsSound i → IsSound (committed (AddClient x name) i) → is_there i.offices x ≡ true → c ≡ client_in x (length (rows_at x i).clients + 1) name
-    → Becomes (PutClient c ∷ []) i (committed (AddClient x name) i)
+pub client_becomes : (x : ℕ) (name : List ℕ) (i : Institution) (c : ClientRow) → IsSound i → IsSound (after_commit (AddClient x name) i) → is_there i.offices x ≡ true → c ≡ client_in x (length (rows_at x i).clients + 1) name
+    → Becomes (PutClient c ∷ []) i (after_commit (AddClient x name) i)
 client_becomes x name i c before sound there is = record {
   sound = sound;
   fits = (refl, tt);
@@ -68,8 +68,8 @@ client_becomes x name i c before sound there is = record {
     accounts : SameRows i.catalogue i.catalogue i.offices (with_rows x new i.offices)
     accounts = rows_same i.catalogue x new i.offices before.tree.ascending (λ y n. refl) (λ y n. refl)
 
-pub staff_becomes : (x : ℕ) (name : List ℕ) (role : Role) (i : Institution) (s : StaffRow) → IsSound i → IsSound (committed (AddStaff x name role) i) → is_there i.offices x ≡ true
-    → s ≡ staff_in x (length (rows_at x i).staff + 1) (record { name = name; role = role }) → Becomes (PutStaff s ∷ []) i (committed (AddStaff x name role) i)
+pub staff_becomes : (x : ℕ) (name : List ℕ) (role : Role) (i : Institution) (s : StaffRow) → IsSound i → IsSound (after_commit (AddStaff x name role) i) → is_there i.offices x ≡ true
+    → s ≡ staff_in x (length (rows_at x i).staff + 1) (record { name = name; role = role }) → Becomes (PutStaff s ∷ []) i (after_commit (AddStaff x name role) i)
 staff_becomes x name role i s before sound there is = record {
   sound = sound;
   fits = (refl, tt);
@@ -95,8 +95,8 @@ key_kept zero ps qs there closed alike x h = refl
 key_kept (suc n) ps qs there closed alike x h = go (ps x) refl (λ p e. key_kept n ps qs there closed alike p (closed x p h e))
   where
     go : (o : Option ℕ) → ps x ≡ o → ((p : ℕ) → ps x ≡ Some p → key_within n qs p ≡ key_within n ps p) → key_within (suc n) qs x ≡ key_within (suc n) ps x
-    go None e more = ap (λ o. grown o (λ p. key_within n qs p) x) (alike x h ∙ e) ∙ sym (ap (λ o. grown o (λ p. key_within n ps p) x) e)
-    go (Some p) e more = ap (λ o. grown o (λ p. key_within n qs p) x) (alike x h ∙ e) ∙ ap (λ k. child_key k x) (more p e) ∙ sym (ap (λ o. grown o (λ p. key_within n ps p) x) e)
+    go None e more = ap (λ o. key_under o (λ p. key_within n qs p) x) (alike x h ∙ e) ∙ sym (ap (λ o. key_under o (λ p. key_within n ps p) x) e)
+    go (Some p) e more = ap (λ o. key_under o (λ p. key_within n qs p) x) (alike x h ∙ e) ∙ ap (λ k. child_key k x) (more p e) ∙ sym (ap (λ o. key_under o (λ p. key_within n ps p) x) e)
 
 parent_of-with_office : (new : Office) (fs : List Office) (y : ℕ) → (new.number == y) ≡ false → parent_of (with_office new fs) y ≡ parent_of fs y
 parent_of-with_office new [] y h = rw h
@@ -184,9 +184,9 @@ office_key_kept x parent name i before free y here =
     let new = new_office x parent name in
     key_kept 5 (parent_of fs) (parent_of (with_office new fs)) (is_there fs) (λ z p h e. before.tree.parents_there z p e) (λ z h. parent_of-with_office new fs z (apart x z fs free h)) y here
 
-pub office_becomes : (x parent : ℕ) (name key : List ℕ) (i : Institution) (o : OfficeRow) → IsSound i → IsSound (committed (AddOffice x parent name) i) → ((j : Institution) → IsSound j → IsTreeOf (is_there j.offices) (parent_of j.offices))
+pub office_becomes : (x parent : ℕ) (name key : List ℕ) (i : Institution) (o : OfficeRow) → IsSound i → IsSound (after_commit (AddOffice x parent name) i) → ((j : Institution) → IsSound j → IsTreeOf (is_there j.offices) (parent_of j.offices))
     → office_at x i.offices ≡ None → is_there i.offices parent ≡ true → key ≡ key_of (parent_of i.offices) parent → o ≡ record { number = x; parent = Some parent; hkey = child_key key x; name = name }
-    → Becomes (PutOffice o ∷ []) i (committed (AddOffice x parent name) i)
+    → Becomes (PutOffice o ∷ []) i (after_commit (AddOffice x parent name) i)
 unfolding key_of
 office_becomes x parent name key i o before sound trees free there key_is is = record {
   sound = sound;
@@ -214,7 +214,7 @@ office_becomes x parent name key i o before sound trees free there key_is is = r
     kept_key y here = key_kept 5 ps qs (is_there fs) (λ z p h e. before.tree.parents_there z p e) (λ z h. parent_of-with_office new fs z (apart x z fs free h)) y here
 
     row_is : record { number = x; parent = Some parent; hkey = child_key key x; name = name } ≡ office_under qs new
-    row_is = ap (λ k. record { number = x; parent = Some parent; hkey = k; name = name }) (ap (λ k. child_key k x) (key_is ∙ sym (kept_key parent there)) ∙ sym (key_of-child (is_there (with_office new fs)) qs (trees (committed (AddOffice x parent name) i) sound) x parent (new_there new fs) (parent_of-new new fs free)))
+    row_is = ap (λ k. record { number = x; parent = Some parent; hkey = k; name = name }) (ap (λ k. child_key k x) (key_is ∙ sym (kept_key parent there)) ∙ sym (key_of-child (is_there (with_office new fs)) qs (trees (after_commit (AddOffice x parent name) i) sound) x parent (new_there new fs) (parent_of-new new fs free)))
 
 -- ---- the rows that the code makes
 

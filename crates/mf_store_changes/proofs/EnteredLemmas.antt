@@ -19,13 +19,13 @@ use Rattle.mf_office.specs.Texts.{IsCaller}
 use Rattle.mf_office.specs.declared.account.Account.{Account}
 use Rattle.mf_office.specs.declared.caller.Caller.{Caller}
 use Rattle.mf_model.specs.declared.commit.Commit.TheVariants.{Enter}
-use Rattle.mf_model.specs.Institution.{Institution, Catalogue, Ledger, Office, Rows, Staff, numbered, office_at, with_numbered, with_rows}
+use Rattle.mf_model.specs.Institution.{Institution, Catalogue, Ledger, Office, Rows, Staff, item_numbered, office_at, with_numbered, with_rows}
 use Rattle.mf_model.specs.Loans.{with_entries, loan_entered}
 use Rattle.mf_model.specs.Receipts.{uses_from, AreApart}
 use Rattle.mf_model.specs.Sound.{IsSound, IsSoundLoan, IsSoundOffice, IsSoundRows, IsEntryBy, AreEntriesBy, is_staff}
 use Rattle.mf_model.specs.Stages.{disbursed_on}
 use Rattle.mf_model.proofs.AccountLemmas.{account_is, account_sound}
-use Rattle.mf_model.specs.Store.{committed, rows_of, rows_at, ledger_at, account_of}
+use Rattle.mf_model.specs.Store.{after_commit, rows_of, rows_at, ledger_at, account_of}
 use Rattle.mf_model.specs.Tree.{is_there}
 use Rattle.mf_model.proofs.Growing.{all_map, all_at}
 use Rattle.mf_model.proofs.SoundLemmas.{found_sound}
@@ -44,7 +44,7 @@ abbrev pub HaveCallers : List Entry → Type 0
 HaveCallers entries = AllByRecursion (λ (e : Entry). IsCaller e.staff) entries
 
 abbrev staff_found : Option Office → ℕ → Option Staff
-staff_found o n = elim o [ None ↦ None | Some f ↦ numbered f.rows.staff n ]
+staff_found o n = elim o [ None ↦ None | Some f ↦ item_numbered f.rows.staff n ]
 
 pub staff_are_callers : (k : Catalogue) (s : Caller → Bool) (fs : List Office) → AllByRecursion (IsSoundOffice k s) fs → (c : Caller) → is_staff fs c ≡ true → IsCaller c
 staff_are_callers k s fs all c there = go (office_at c.office fs) refl there
@@ -77,13 +77,13 @@ all_called i sound =
     all_map (IsSoundOffice i.catalogue s) (λ (f : Office). AreCalled f.rows.loans) i.offices (λ f is. rows_called i.catalogue s f.rows (staff_are_callers i.catalogue s i.offices sound.each) is.rows) sound.each
 
 -- the entries of one loan
-pub loan_called : (x n : ℕ) (i : Institution) → IsSound i → HaveCallers (entries_of (numbered (rows_at x i).loans n))
-loan_called x n i sound = go (numbered (rows_at x i).loans n) refl
+pub loan_called : (x n : ℕ) (i : Institution) → IsSound i → HaveCallers (entries_of (item_numbered (rows_at x i).loans n))
+loan_called x n i sound = go (item_numbered (rows_at x i).loans n) refl
   where
     s : Caller → Bool
     s = is_staff i.offices
 
-    go : (o : Option Ledger) → numbered (rows_at x i).loans n ≡ o → HaveCallers (entries_of o)
+    go : (o : Option Ledger) → item_numbered (rows_at x i).loans n ≡ o → HaveCallers (entries_of o)
     go None e = tt
     go (Some l) e = all_at (λ (l : Ledger). HaveCallers l.entries) (rows_at x i).loans n l (rows_called i.catalogue s (rows_at x i) (staff_are_callers i.catalogue s i.offices sound.each) (office_sound i.catalogue s x i.offices sound.each)) e
 
@@ -94,7 +94,7 @@ changed_at change l d [] at = absurd (let k : None ≡ Some l = at in cc)
 changed_at change l zero (b ∷ ls) at = let k : Some b ≡ Some l = at in let is : b ≡ l = cc in ap (λ a. Some (change a)) is
 changed_at change l (suc d) (b ∷ ls) at = ap (λ xs. slice_get xs (suc d)) (with_numbered_later d change b ls) ∙ changed_at change l d ls at
 
-changed_numbered : (change : Ledger → Ledger) (l : Ledger) (n : ℕ) (ls : List Ledger) → numbered ls n ≡ Some l → numbered (with_numbered n change ls) n ≡ Some (change l)
+changed_numbered : (change : Ledger → Ledger) (l : Ledger) (n : ℕ) (ls : List Ledger) → item_numbered ls n ≡ Some l → item_numbered (with_numbered n change ls) n ≡ Some (change l)
 changed_numbered change l zero ls at = absurd (let k : None ≡ Some l = at in cc)
 changed_numbered change l (suc d) ls at = numbered-suc (with_numbered (suc d) change ls) d ∙ changed_at change l d ls (sym (numbered-suc ls d) ∙ at)
 
@@ -132,14 +132,14 @@ entered_earlier : (today : ℕ) (s : Caller → Bool) (n : ℕ) (o : Option ℕ)
 entered_earlier today s n None es e are = none_before es e are _
 entered_earlier today s n (Some day) es e are = earlier 0 es e (λ i below. let number = are.lawful.numbers i below in omega (arith, number))
 
-there_of : (x n : ℕ) (l : Ledger) (fs : List Office) → numbered (rows_of (office_at x fs)).loans n ≡ Some l → is_there fs x ≡ true
+there_of : (x n : ℕ) (l : Ledger) (fs : List Office) → item_numbered (rows_of (office_at x fs)).loans n ≡ Some l → is_there fs x ≡ true
 there_of x n l fs at = go (office_at x fs) at
   where
-    nothing : (n : ℕ) → numbered [] n ≡ Some l → (P : Type 0) → P
+    nothing : (n : ℕ) → item_numbered [] n ≡ Some l → (P : Type 0) → P
     nothing zero h P = absurd (let k : None ≡ Some l = h in cc)
     nothing (suc d) h P = absurd (let k : None ≡ Some l = sym (numbered-suc [] d) ∙ h in cc)
 
-    go : (o : Option Office) → numbered (rows_of o).loans n ≡ Some l → is_some o ≡ true
+    go : (o : Option Office) → item_numbered (rows_of o).loans n ≡ Some l → is_some o ≡ true
     go None h = nothing n h _
     go (Some f) h = refl
 
@@ -148,7 +148,7 @@ abbrev pub staff_after : Account → Kept → Institution → Caller → Bool
 staff_after loan account i = is_staff (with_rows loan.office (loan_entered loan.number account.loan.entries (rows_at loan.office i)) i.offices)
 
 -- the rows of its office are sound where the institution is
-rows_after : (loan : Account) (account : Kept) (l : Ledger) (i : Institution) → IsSound (committed (Enter loan account) i) → ledger_at loan i ≡ Some l → IsSoundRows i.catalogue (staff_after loan account i) (loan_entered loan.number account.loan.entries (rows_at loan.office i))
+rows_after : (loan : Account) (account : Kept) (l : Ledger) (i : Institution) → IsSound (after_commit (Enter loan account) i) → ledger_at loan i ≡ Some l → IsSoundRows i.catalogue (staff_after loan account i) (loan_entered loan.number account.loan.entries (rows_at loan.office i))
 rows_after loan account l i sound there =
     let x = loan.office in
     let new = loan_entered loan.number account.loan.entries (rows_at x i) in
@@ -156,7 +156,7 @@ rows_after loan account l i sound there =
     subst (IsSoundRows i.catalogue s) (own_rows x new i.offices (there_of x loan.number l i.offices there)) (office_sound i.catalogue s x (with_rows x new i.offices) sound.each)
 
 -- and so is the loan with these entries
-loan_after : (loan : Account) (account : Kept) (l : Ledger) (i : Institution) → IsSound (committed (Enter loan account) i) → ledger_at loan i ≡ Some l → IsSoundLoan i.catalogue (staff_after loan account i) (rows_at loan.office i).clients (with_entries account.loan.entries l)
+loan_after : (loan : Account) (account : Kept) (l : Ledger) (i : Institution) → IsSound (after_commit (Enter loan account) i) → ledger_at loan i ≡ Some l → IsSoundLoan i.catalogue (staff_after loan account i) (rows_at loan.office i).clients (with_entries account.loan.entries l)
 loan_after loan account l i sound there =
     let ls = (rows_at loan.office i).loans in
     let change = with_entries account.loan.entries in
@@ -167,20 +167,20 @@ pub no_entries : (loan : Account) (l : Ledger) (i : Institution) → IsSound i �
 no_entries loan l i sound there none = subst (λ d. AreEntriesBy i.catalogue.day (is_staff i.offices) l.loan.periods d l.entries) none (loan_sound loan l i sound there).entries
 
 -- where a loan with one entry more is sound, that entry has the greatest number
-pub entry_last : (loan : Account) (account : Kept) (e : Entry) (l : Ledger) (i : Institution) → IsSound (committed (Enter loan account) i) → ledger_at loan i ≡ Some l → account.loan.entries ≡ l.entries ++ e ∷ [] → AreEarlier e.seq l.entries
+pub entry_last : (loan : Account) (account : Kept) (e : Entry) (l : Ledger) (i : Institution) → IsSound (after_commit (Enter loan account) i) → ledger_at loan i ≡ Some l → account.loan.entries ≡ l.entries ++ e ∷ [] → AreEarlier e.seq l.entries
 entry_last loan account e l i sound there are =
     let s = staff_after loan account i in
     let day = disbursed_on l.loan.stage in
     entered_earlier i.catalogue.day s l.loan.periods day l.entries e (subst (AreEntriesBy i.catalogue.day s l.loan.periods day) are (loan_after loan account l i sound there).entries)
 
 -- where an office with one entry more is sound, no receipt stands twice in it
-pub entry_apart : (loan : Account) (account : Kept) (l : Ledger) (i : Institution) → IsSound (committed (Enter loan account) i) → ledger_at loan i ≡ Some l → AreApart (uses_from 1 (loan_entered loan.number account.loan.entries (rows_at loan.office i)).loans)
+pub entry_apart : (loan : Account) (account : Kept) (l : Ledger) (i : Institution) → IsSound (after_commit (Enter loan account) i) → ledger_at loan i ≡ Some l → AreApart (uses_from 1 (loan_entered loan.number account.loan.entries (rows_at loan.office i)).loans)
 entry_apart loan account l i sound there = (rows_after loan account l i sound there).receipts
 
 -- ---- what the tables show of one loan
 
-pub loan_entries_shown : (x n : ℕ) (i : Institution) → IsSound i → map entry_row (filter (is_entry_of x n) (tables_of i).entries) ≡ map (λ (e : Entry). entry_row (entry_in x n e)) (entries_of (numbered (rows_at x i).loans n))
-loan_entries_shown x n i sound = ap (map entry_row) (entries_shown x n i.offices sound.tree.ascending) ∙ map-map entry_row (entry_in x n) (entries_of (numbered (rows_at x i).loans n))
+pub loan_entries_shown : (x n : ℕ) (i : Institution) → IsSound i → map entry_row (filter (is_entry_of x n) (tables_of i).entries) ≡ map (λ (e : Entry). entry_row (entry_in x n e)) (entries_of (item_numbered (rows_at x i).loans n))
+loan_entries_shown x n i sound = ap (map entry_row) (entries_shown x n i.offices sound.tree.ascending) ∙ map-map entry_row (entry_in x n) (entries_of (item_numbered (rows_at x i).loans n))
 
 -- ---- accounts that are handed on
 
@@ -214,7 +214,7 @@ pub as_long : (es after : List Entry) (seq : ℕ) → after ≡ with_mark es (se
 as_long es after seq is = let long = length-set es (seq - 1) (record (entry_at es (seq - 1)) { reversed = true }) in let size : length after ≡ length (with_mark es (seq - 1) true) = ap length is in omega (arith, long, size)
 
 -- what the stored rows of its account become
-pub handed_changed : (loan : Account) (account : Kept) (before : Running) (i : Institution) → IsSound i → IsSound (committed (Enter loan account) i) → (of : IsAccountOf loan before i)
+pub handed_changed : (loan : Account) (account : Kept) (before : Running) (i : Institution) → IsSound i → IsSound (after_commit (Enter loan account) i) → (of : IsAccountOf loan before i)
     → account.loan ≡ record before { entries = account.loan.entries } → length before.entries ≤ length account.loan.entries → IsReplayed account → IsChange before account.loan account.change → IsChanged i.catalogue of.ledger account
 handed_changed loan account before i sound then of others more kept change = record {
   before = before;

@@ -7,7 +7,7 @@ use Rattle.std.proofs.lemmas.List.{map-append, length-append, append-nil}
 use Rattle.mf_account.specs.declared.entry.Entry.{Entry}
 use Rattle.mf_account.specs.Standing.{entry_at, with_mark}
 use Rattle.mf_store_tables.specs.Keep.{put_item}
-use Rattle.mf_model.specs.Institution.{Ledger, Office, Rows, office_at, with_rows, numbered, with_numbered}
+use Rattle.mf_model.specs.Institution.{Ledger, Office, Rows, office_at, with_rows, item_numbered, with_numbered}
 use Rattle.mf_model.specs.Loans.{with_entries}
 use Rattle.mf_model.specs.Store.{rows_of}
 use Rattle.mf_model.specs.Tree.{Ascending}
@@ -17,7 +17,7 @@ use Rattle.mf_store_changes.proofs.FlatLemmas.{put_past, put_over}
 use Rattle.mf_store_changes.proofs.LoanRowLemmas.{put_past_all, loan_shown, rows_around, put_around}
 
 -- the rows of a loan are those of its entries
-pub entries_shown : (x n : ℕ) (fs : List Office) → Ascending fs → filter (is_entry_of x n) (entry_rows fs) ≡ map (entry_in x n) (entries_of (numbered (rows_of (office_at x fs)).loans n))
+pub entries_shown : (x n : ℕ) (fs : List Office) → Ascending fs → filter (is_entry_of x n) (entry_rows fs) ≡ map (entry_in x n) (entries_of (item_numbered (rows_of (office_at x fs)).loans n))
 entries_shown x n fs up = loan_shown entry_in own_entries is_entry_of (λ x n y m e. refl) x n fs up
 
 -- ---- one row put among those of its loan
@@ -87,7 +87,7 @@ last_entry es e = let long = length-append es (e ∷ []) in ap (entry_at (es ++ 
     at_end (d ∷ ds) = at_end ds
 
 -- a row put among all, where one loan of an office has other entries
-pub entry_put : (x n : ℕ) (e : Entry) (es : List Entry) (l : Ledger) (new : Rows) (fs : List Office) → Ascending fs → numbered (rows_of (office_at x fs)).loans n ≡ Some l → new.loans ≡ with_numbered n (with_entries es) (rows_of (office_at x fs)).loans → PutsEntry x n e l.entries es
+pub entry_put : (x n : ℕ) (e : Entry) (es : List Entry) (l : Ledger) (new : Rows) (fs : List Office) → Ascending fs → item_numbered (rows_of (office_at x fs)).loans n ≡ Some l → new.loans ≡ with_numbered n (with_entries es) (rows_of (office_at x fs)).loans → PutsEntry x n e l.entries es
     → put_item by_entry (entry_in x n e) (entry_rows fs) ≡ entry_rows (with_rows x new fs)
 entry_put x n e es l new fs up at is puts =
     put_around entry_in by_entry (λ a b. nat_cmp a.seq b.seq) (λ x n y m a b. refl) x n e (entry_rows fs) (entry_rows (with_rows x new fs)) l.entries es (rows_around entry_in own_entries x n (with_entries es) l new fs up at is) puts

@@ -9,7 +9,7 @@ use Rattle.sqlite_keyed.specs.Lists.{insert_sorted}
 use Rattle.mf_alloc.specs.declared.row.Portion.{Portion}
 use Rattle.mf_alloc.specs.declared.row.Portion.TheVariants as portion
 use Rattle.mf_store_tables.specs.Keep.{put_item, drop_item}
-use Rattle.mf_model.specs.Institution.{Office, Rows, office_at, with_rows, with_office, no_rows, numbered, with_numbered}
+use Rattle.mf_model.specs.Institution.{Office, Rows, office_at, with_rows, with_office, no_rows, item_numbered, with_numbered}
 use Rattle.mf_model.specs.Tree.{Above, Ascending, is_there}
 use Rattle.mf_model.specs.Store.{rows_of}
 use Rattle.mf_store_accounts.specs.Flat.{numbered_from, all_rows, portion_number}
@@ -59,7 +59,7 @@ or_none : {R : Type 0} (o : Option R) → option_or o None ≡ o
 or_none None = refl
 or_none (Some r) = refl
 
-pub numbered-suc : {A : Type 0} (xs : List A) (k : ℕ) → numbered xs (suc k) ≡ slice_get xs k
+pub numbered-suc : {A : Type 0} (xs : List A) (k : ℕ) → item_numbered xs (suc k) ≡ slice_get xs k
 numbered-suc xs k =
     let later : (suc k == 0) ≡ false = grind (arith, nat_tests) in
     let place : suc k - 1 ≡ k = omega arith in
@@ -90,7 +90,7 @@ module _ {A R : Type 0} (make : ℕ → A → R) (p : ℕ → R → Bool) (tests
   find_listed_own k n (suc d) (a ∷ xs) e = rw (tests k n a, (let apart : is_eq (nat_cmp k n) ≡ false = grind (arith, nat_tests) in apart)) (find_listed_own k (n + 1) d xs (omega arith))
 
   -- a row by its number
-  pub find_listed : (k : ℕ) (xs : List A) → find (p k) (numbered_from make 1 xs) ≡ option_map (make k) (numbered xs k)
+  pub find_listed : (k : ℕ) (xs : List A) → find (p k) (numbered_from make 1 xs) ≡ option_map (make k) (item_numbered xs k)
   find_listed zero xs = find_listed_later zero 1 xs (omega arith)
   find_listed (suc k) xs = find_listed_own (suc k) 1 k xs (omega arith) ∙ ap (option_map (make (suc k))) (sym (numbered-suc xs k))
 
@@ -118,7 +118,7 @@ module _ {A R : Type 0} (make : ℕ → A → R) (cmp : R → R → Ordering) (r
       ∙ ap (λ l. make m b ∷ l) (put_listed_over change a n (m + 1) d xs (omega arith) at) ∙ ap (numbered_from make m) (sym (with_numbered_later d change b xs))
 
   -- the row of this number, changed
-  pub put_listed : (change : A → A) (a : A) (n : ℕ) (xs : List A) → numbered xs n ≡ Some a → put_item cmp (make n (change a)) (numbered_from make 1 xs) ≡ numbered_from make 1 (with_numbered n change xs)
+  pub put_listed : (change : A → A) (a : A) (n : ℕ) (xs : List A) → item_numbered xs n ≡ Some a → put_item cmp (make n (change a)) (numbered_from make 1 xs) ≡ numbered_from make 1 (with_numbered n change xs)
   put_listed change a zero xs at = absurd (let k : None ≡ Some a = at in cc)
   put_listed change a (suc d) xs at = put_listed_over change a (suc d) 1 d xs (omega arith) (sym (numbered-suc xs d) ∙ at)
 
@@ -137,7 +137,7 @@ module _ {A R : Type 0} (make : ℕ → ℕ → A → R) (of : Rows → List A) 
     find_own x k n zero (a ∷ xs) e = rw (tests x k x n a, (let here : is_eq (ordering_then (nat_cmp x x) (nat_cmp k n)) ≡ true = grind (arith, nat_tests) in here)) (ap (λ m. Some (make x m a)) (let same : n ≡ k = omega arith in same))
     find_own x k n (suc d) (a ∷ xs) e = rw (tests x k x n a, (let apart : is_eq (ordering_then (nat_cmp x x) (nat_cmp k n)) ≡ false = grind (arith, nat_tests) in apart)) (find_own x k (n + 1) d xs (omega arith))
 
-    find_in_office : (x k : ℕ) (xs : List A) → find (p x k) (numbered_from (make x) 1 xs) ≡ option_map (make x k) (numbered xs k)
+    find_in_office : (x k : ℕ) (xs : List A) → find (p x k) (numbered_from (make x) 1 xs) ≡ option_map (make x k) (item_numbered xs k)
     find_in_office x zero xs = find_later x zero 1 xs (omega arith)
     find_in_office x (suc k) xs = find_own x (suc k) 1 k xs (omega arith) ∙ ap (option_map (make x (suc k))) (sym (numbered-suc xs k))
 
@@ -147,19 +147,19 @@ module _ {A R : Type 0} (make : ℕ → ℕ → A → R) (of : Rows → List A) 
         ∙ ap (λ o. option_or o (find (p x k) (all_rows make of fs))) (find_other x k f.number 1 (of f.rows) (let low : x < f.number = h.0 in let apart : (f.number == x) ≡ false = grind (arith, nat_tests) in apart)) ∙ find_above x k fs h.1
 
     -- a row by its office and number
-    pub find_row : (x k : ℕ) (fs : List Office) → Ascending fs → find (p x k) (all_rows make of fs) ≡ option_map (make x k) (numbered (of (rows_of (office_at x fs))) k)
-    find_row x k [] up = sym (ap (λ xs. option_map (make x k) (numbered xs k)) none ∙ nothing k)
+    pub find_row : (x k : ℕ) (fs : List Office) → Ascending fs → find (p x k) (all_rows make of fs) ≡ option_map (make x k) (item_numbered (of (rows_of (office_at x fs))) k)
+    find_row x k [] up = sym (ap (λ xs. option_map (make x k) (item_numbered xs k)) none ∙ nothing k)
       where
-        nothing : (k : ℕ) → option_map (make x k) (numbered [] k) ≡ None
+        nothing : (k : ℕ) → option_map (make x k) (item_numbered [] k) ≡ None
         nothing zero = refl
         nothing (suc k) = ap (option_map (make x (suc k))) (numbered-suc [] k)
     find_row x k (f ∷ fs) up = go (f.number == x) refl (find_row x k fs up.1)
       where
-        go : (b : Bool) → (f.number == x) ≡ b → find (p x k) (all_rows make of fs) ≡ option_map (make x k) (numbered (of (rows_of (office_at x fs))) k) → find (p x k) (all_rows make of (f ∷ fs)) ≡ option_map (make x k) (numbered (of (rows_of (cond b (Some f) (office_at x fs)))) k)
+        go : (b : Bool) → (f.number == x) ≡ b → find (p x k) (all_rows make of fs) ≡ option_map (make x k) (item_numbered (of (rows_of (office_at x fs))) k) → find (p x k) (all_rows make of (f ∷ fs)) ≡ option_map (make x k) (item_numbered (of (rows_of (cond b (Some f) (office_at x fs)))) k)
         go true e more =
             let same : f.number ≡ x = grind (arith, nat_tests) in
             let rest = find_above x k fs (subst (λ n. Above n fs) same up.0) in
-            let own = subst (λ n. find (p x k) (numbered_from (make n) 1 (of f.rows)) ≡ option_map (make x k) (numbered (of f.rows) k)) (sym same) (find_in_office x k (of f.rows)) in
+            let own = subst (λ n. find (p x k) (numbered_from (make n) 1 (of f.rows)) ≡ option_map (make x k) (item_numbered (of f.rows) k)) (sym same) (find_in_office x k (of f.rows)) in
             find-append (p x k) (numbered_from (make f.number) 1 (of f.rows)) (all_rows make of fs) ∙ ap (λ o. option_or (find (p x k) (numbered_from (make f.number) 1 (of f.rows))) o) rest
             ∙ or_none (find (p x k) (numbered_from (make f.number) 1 (of f.rows))) ∙ own
         go false e more =
@@ -226,14 +226,14 @@ module _ {A R : Type 0} (make : ℕ → ℕ → A → R) (of : Rows → List A) 
         ∙ ap (λ l. make x m b ∷ l) (over_in_office change a x n (m + 1) d xs ys (omega arith) at after) ∙ ap (λ l. numbered_from (make x) m l ++ ys) (sym (with_numbered_later d change b xs))
 
     -- the row of this number of an office, changed
-    pub put_over_of : (change : A → A) (a : A) (x n : ℕ) (new : Rows) (fs : List Office) → Ascending fs → numbered (of (rows_of (office_at x fs))) n ≡ Some a → of new ≡ with_numbered n change (of (rows_of (office_at x fs)))
+    pub put_over_of : (change : A → A) (a : A) (x n : ℕ) (new : Rows) (fs : List Office) → Ascending fs → item_numbered (of (rows_of (office_at x fs))) n ≡ Some a → of new ≡ with_numbered n change (of (rows_of (office_at x fs)))
         → put_item cmp (make x n (change a)) (all_rows make of fs) ≡ all_rows make of (with_rows x new fs)
     put_over_of change a x zero new fs up at is = absurd (let k : None ≡ Some a = at in cc)
-    put_over_of change a x (suc n) new [] up at is = absurd (let k : None ≡ Some a = sym (ap (λ l. numbered l (suc n)) none ∙ numbered-suc [] n) ∙ at in cc)
+    put_over_of change a x (suc n) new [] up at is = absurd (let k : None ≡ Some a = sym (ap (λ l. item_numbered l (suc n)) none ∙ numbered-suc [] n) ∙ at in cc)
     put_over_of change a x (suc n) new (f ∷ fs) up at is = go (f.number == x) refl at is (put_over_of change a x (suc n) new fs up.1)
       where
-        go : (b : Bool) → (f.number == x) ≡ b → numbered (of (rows_of (cond b (Some f) (office_at x fs)))) (suc n) ≡ Some a → of new ≡ with_numbered (suc n) change (of (rows_of (cond b (Some f) (office_at x fs))))
-            → (numbered (of (rows_of (office_at x fs))) (suc n) ≡ Some a → of new ≡ with_numbered (suc n) change (of (rows_of (office_at x fs))) → put_item cmp (make x (suc n) (change a)) (all_rows make of fs) ≡ all_rows make of (with_rows x new fs))
+        go : (b : Bool) → (f.number == x) ≡ b → item_numbered (of (rows_of (cond b (Some f) (office_at x fs)))) (suc n) ≡ Some a → of new ≡ with_numbered (suc n) change (of (rows_of (cond b (Some f) (office_at x fs))))
+            → (item_numbered (of (rows_of (office_at x fs))) (suc n) ≡ Some a → of new ≡ with_numbered (suc n) change (of (rows_of (office_at x fs))) → put_item cmp (make x (suc n) (change a)) (all_rows make of fs) ≡ all_rows make of (with_rows x new fs))
             → put_item cmp (make x (suc n) (change a)) (all_rows make of (f ∷ fs)) ≡ numbered_from (make f.number) 1 (of (cond b new f.rows)) ++ all_rows make of (with_rows x new fs)
         go true e at is more =
             let same : f.number ≡ x = grind (arith, nat_tests) in
@@ -245,8 +245,8 @@ module _ {A R : Type 0} (make : ℕ → ℕ → A → R) (of : Rows → List A) 
             let low : f.number < x = below x fs up.0 (seen (office_at x fs) at) in
             past_office x _ (change a) f.number 1 (of f.rows) (all_rows make of fs) low ∙ ap (λ l. numbered_from (make f.number) 1 (of f.rows) ++ l) (more at is)
           where
-            seen : (o : Option Office) → numbered (of (rows_of o)) (suc n) ≡ Some a → is_some o ≡ true
-            seen None h = absurd (let k : None ≡ Some a = sym (ap (λ l. numbered l (suc n)) none ∙ numbered-suc [] n) ∙ h in cc)
+            seen : (o : Option Office) → item_numbered (of (rows_of o)) (suc n) ≡ Some a → is_some o ≡ true
+            seen None h = absurd (let k : None ≡ Some a = sym (ap (λ l. item_numbered l (suc n)) none ∙ numbered-suc [] n) ∙ h in cc)
             seen (Some g) h = refl
 
     -- where the rows of this kind are as they were

@@ -10,7 +10,7 @@ use Rattle.std.proofs.lemmas.List.{append-nil, append_assoc}
 use Rattle.sqlite_keyed.proofs.ListLemmas.{all-append, all-map, all_weaker, filter_all, filter_none}
 use Rattle.sqlite_keyed.specs.Lists.{insert_sorted}
 use Rattle.mf_store_tables.specs.Keep.{put_item, drop_item}
-use Rattle.mf_model.specs.Institution.{Ledger, Office, Rows, office_at, with_rows, with_office, no_rows, numbered, with_numbered}
+use Rattle.mf_model.specs.Institution.{Ledger, Office, Rows, office_at, with_rows, with_office, no_rows, item_numbered, with_numbered}
 use Rattle.mf_model.specs.Store.{rows_of}
 use Rattle.mf_model.specs.Tree.{Above, Ascending}
 use Rattle.mf_store_accounts.specs.Flat.{rows_of_loans, rows_by_loan, had_by}
@@ -105,7 +105,7 @@ module _ {A R : Type 0} (make : ℕ → ℕ → A → R) where
       shift rows items is = ap (λ l. l ++ more) is ∙ append_assoc a.first (map (make x n) items ++ a.last) more ∙ ap (λ l. a.first ++ l) (append_assoc (map (make x n) items) a.last more)
 
   module _ (of : Ledger → List A) where
-    none_there : (n : ℕ) (l : Ledger) → numbered [] (suc n) ≡ Some l → (P : Type 0) → P
+    none_there : (n : ℕ) (l : Ledger) → item_numbered [] (suc n) ≡ Some l → (P : Type 0) → P
     none_there n l h P = absurd (let k : None ≡ Some l = sym (numbered-suc [] n) ∙ h in cc)
 
     loans_around : (x n m d : ℕ) (change : Ledger → Ledger) (l : Ledger) (ls : List Ledger) → n ≡ m + d → slice_get ls d ≡ Some l → Around x n (rows_of_loans make of x m ls) (rows_of_loans make of x m (with_numbered (suc d) change ls)) (of l) (of (change l))
@@ -128,7 +128,7 @@ module _ {A R : Type 0} (make : ℕ → ℕ → A → R) where
         (further x n (map (make x m) (of k)) early (loans_around x n (m + 1) d change l ls (omega (arith, is)) at))
 
     -- one loan of an office becomes another
-    pub rows_around : (x n : ℕ) (change : Ledger → Ledger) (l : Ledger) (new : Rows) (fs : List Office) → Ascending fs → numbered (rows_of (office_at x fs)).loans n ≡ Some l → new.loans ≡ with_numbered n change (rows_of (office_at x fs)).loans
+    pub rows_around : (x n : ℕ) (change : Ledger → Ledger) (l : Ledger) (new : Rows) (fs : List Office) → Ascending fs → item_numbered (rows_of (office_at x fs)).loans n ≡ Some l → new.loans ≡ with_numbered n change (rows_of (office_at x fs)).loans
         → Around x n (rows_by_loan make of fs) (rows_by_loan make of (with_rows x new fs)) (of l) (of (change l))
     rows_around x zero change l new fs up at is = absurd (let k : None ≡ Some l = at in cc)
     rows_around x (suc n) change l new [] up at is = none_there n l at _
@@ -137,8 +137,8 @@ module _ {A R : Type 0} (make : ℕ → ℕ → A → R) where
         Result : List R → List R → Type 0
         Result old changed = Around x (suc n) old changed (of l) (of (change l))
 
-        go : (b : Bool) → (f.number == x) ≡ b → numbered (rows_of (cond b (Some f) (office_at x fs))).loans (suc n) ≡ Some l → new.loans ≡ with_numbered (suc n) change (rows_of (cond b (Some f) (office_at x fs))).loans
-            → (numbered (rows_of (office_at x fs)).loans (suc n) ≡ Some l → new.loans ≡ with_numbered (suc n) change (rows_of (office_at x fs)).loans → Result (rows_by_loan make of fs) (rows_by_loan make of (with_rows x new fs)))
+        go : (b : Bool) → (f.number == x) ≡ b → item_numbered (rows_of (cond b (Some f) (office_at x fs))).loans (suc n) ≡ Some l → new.loans ≡ with_numbered (suc n) change (rows_of (cond b (Some f) (office_at x fs))).loans
+            → (item_numbered (rows_of (office_at x fs)).loans (suc n) ≡ Some l → new.loans ≡ with_numbered (suc n) change (rows_of (office_at x fs)).loans → Result (rows_by_loan make of fs) (rows_by_loan make of (with_rows x new fs)))
             → Result (rows_by_loan make of (f ∷ fs)) (rows_of_loans make of f.number 1 (cond b new f.rows).loans ++ rows_by_loan make of (with_rows x new fs))
         go true b at is more =
             let same : f.number ≡ x = grind (arith, nat_tests) in
@@ -153,7 +153,7 @@ module _ {A R : Type 0} (make : ℕ → ℕ → A → R) where
             let low : f.number < x = below x fs up.0 (seen (office_at x fs) at) in
             further x (suc n) (rows_of_loans make of f.number 1 f.rows.loans) (all_loans of (IsRowOf (IsBefore x (suc n))) f.number 1 f.rows.loans (λ m a k. record { office = f.number; loan = m; item = a; row_is = refl; holds = inl low })) (more at is)
           where
-            seen : (o : Option Office) → numbered (rows_of o).loans (suc n) ≡ Some l → is_some o ≡ true
+            seen : (o : Option Office) → item_numbered (rows_of o).loans (suc n) ≡ Some l → is_some o ≡ true
             seen None h = none_there n l h _
             seen (Some g) h = refl
 
@@ -227,28 +227,28 @@ module _ {A R : Type 0} (make : ℕ → ℕ → A → R) where
         ∙ ap₂ ◌++◌ (filter_none (has x n) (map (make x m) (of l)) (all-map (λ r. has x n r ≡ false) (make x m) (λ a. earlier_loan x n m a (omega (arith, e))) (of l)))
         (at_place x n (m + 1) d ls (omega (arith, e)))
 
-    in_office : (x n : ℕ) (ls : List Ledger) → filter (has x n) (rows_of_loans make of x 1 ls) ≡ map (make x n) (had_by of (numbered ls n))
+    in_office : (x n : ℕ) (ls : List Ledger) → filter (has x n) (rows_of_loans make of x 1 ls) ≡ map (make x n) (had_by of (item_numbered ls n))
     in_office x zero ls = filter_none (has x 0) (rows_of_loans make of x 1 ls) (all_loans of (λ r. has x 0 r ≡ false) x 1 ls (λ m a low. later_loan x 0 m a (omega (arith, low))))
     in_office x (suc d) ls = at_place x (suc d) 1 d ls (omega arith) ∙ ap (λ o. map (make x (suc d)) (had_by of o)) (sym (numbered-suc ls d))
 
-    none_numbered : (n : ℕ) → had_by of (numbered [] n) ≡ []
+    none_numbered : (n : ℕ) → had_by of (item_numbered [] n) ≡ []
     none_numbered zero = refl
     none_numbered (suc n) = ap (had_by of) (numbered-suc [] n)
 
     -- the rows of a loan are those of what it has
-    pub loan_shown : (x n : ℕ) (fs : List Office) → Ascending fs → filter (has x n) (rows_by_loan make of fs) ≡ map (make x n) (had_by of (numbered (rows_of (office_at x fs)).loans n))
+    pub loan_shown : (x n : ℕ) (fs : List Office) → Ascending fs → filter (has x n) (rows_by_loan make of fs) ≡ map (make x n) (had_by of (item_numbered (rows_of (office_at x fs)).loans n))
     loan_shown x n [] up = sym (ap (map (make x n)) (none_numbered n))
     loan_shown x n (f ∷ fs) up = go (f.number == x) refl (loan_shown x n fs up.1)
       where
-        go : (b : Bool) → (f.number == x) ≡ b → filter (has x n) (rows_by_loan make of fs) ≡ map (make x n) (had_by of (numbered (rows_of (office_at x fs)).loans n))
-            → filter (has x n) (rows_by_loan make of (f ∷ fs)) ≡ map (make x n) (had_by of (numbered (rows_of (cond b (Some f) (office_at x fs))).loans n))
+        go : (b : Bool) → (f.number == x) ≡ b → filter (has x n) (rows_by_loan make of fs) ≡ map (make x n) (had_by of (item_numbered (rows_of (office_at x fs)).loans n))
+            → filter (has x n) (rows_by_loan make of (f ∷ fs)) ≡ map (make x n) (had_by of (item_numbered (rows_of (cond b (Some f) (office_at x fs))).loans n))
         go true e more =
             let same : f.number ≡ x = grind (arith, nat_tests) in
             let above : Above x fs = subst (λ k. Above k fs) same up.0 in
             filter-append (has x n) (rows_of_loans make of f.number 1 f.rows.loans) (rows_by_loan make of fs)
-            ∙ ap₂ ◌++◌ (subst (λ k. filter (has x n) (rows_of_loans make of k 1 f.rows.loans) ≡ map (make x n) (had_by of (numbered f.rows.loans n))) (sym same) (in_office x n f.rows.loans))
+            ∙ ap₂ ◌++◌ (subst (λ k. filter (has x n) (rows_of_loans make of k 1 f.rows.loans) ≡ map (make x n) (had_by of (item_numbered f.rows.loans n))) (sym same) (in_office x n f.rows.loans))
             (filter_none (has x n) (rows_by_loan make of fs) (all_offices of (λ r. has x n r ≡ false) x fs above (λ y m a low. other_office x n y m a (let apart : (y == x) ≡ false = grind (arith, nat_tests) in apart))))
-            ∙ append-nil (map (make x n) (had_by of (numbered f.rows.loans n)))
+            ∙ append-nil (map (make x n) (had_by of (item_numbered f.rows.loans n)))
         go false e more =
             filter-append (has x n) (rows_of_loans make of f.number 1 f.rows.loans) (rows_by_loan make of fs)
             ∙ ap₂ ◌++◌ (filter_none (has x n) (rows_of_loans make of f.number 1 f.rows.loans) (all_loans of (λ r. has x n r ≡ false) f.number 1 f.rows.loans (λ m a low. other_office x n f.number m a e))) more

@@ -3,7 +3,7 @@ use Rattle.std.proofs.Common.{◌≡◌, ◌<◌, ◌≤◌, ◌-◌, ℕ, zero,
 use Rattle.std.specs.Option.{is_some}
 use Rattle.std.specs.List.{AllByRecursion}
 use Rattle.mf_office.specs.declared.caller.Caller.{Caller}
-use Rattle.mf_model.specs.Institution.{Catalogue, Office, office_at, numbered, Rows, with_rows}
+use Rattle.mf_model.specs.Institution.{Catalogue, Office, office_at, item_numbered, Rows, with_rows}
 use Rattle.mf_model.specs.Sound.{IsSoundOffice, IsSoundRows}
 use Rattle.mf_model.specs.Store.{rows_of}
 use Rattle.mf_model.specs.Tree.{is_there}
@@ -13,7 +13,7 @@ placed [] d = ((λ h. absurd (Rattle.std.proofs.Common.true≢false (sym h))), (
 placed (x ∷ xs) zero = ((λ h. omega arith), (λ h. refl))
 placed (x ∷ xs) (suc d) = let more = placed xs d in ((λ h. let low = more.0 h in omega arith), (λ h. more.1 (omega arith)))
 
-pub has_number : {A : Type 0} (xs : List A) (n : ℕ) → IsTrue (is_some (numbered xs n)) ↔ ((1 ≤ n) × (n ≤ length xs))
+pub has_number : {A : Type 0} (xs : List A) (n : ℕ) → IsTrue (is_some (item_numbered xs n)) ↔ ((1 ≤ n) × (n ≤ length xs))
 has_number xs zero = ((λ h. absurd (Rattle.std.proofs.Common.true≢false (sym h))), (λ h. absurd (let low = h.0 in omega arith)))
 has_number xs (suc n) =
     let same = Rattle.mf_store_changes.proofs.FlatLemmas.numbered-suc xs n in

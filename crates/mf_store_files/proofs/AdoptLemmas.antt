@@ -15,7 +15,7 @@ use Rattle.mf_store_sound.specs.Schemas.{first_tables_of}
 use Rattle.mf_store_tables.specs.Writes.{Serves}
 use Rattle.mf_store_upgrade.specs.Upgrade.{First as Kept_first, schema_kept, Holds as HoldsKept}
 use Rattle.mf_store_upgrade.specs.Upgraded.{IsKeepingFirst, IsUpgradedTo}
-use Rattle.mf_store.specs.Facts.{Kept}
+use Rattle.mf_store.specs.Facts.{KnownStore}
 use Rattle.mf_store_commits.specs.Tabled.{HasGoodDisk, IsTabled}
 use Rattle.mf_store.specs.Stands.{StandsFor, IsClean, IsOpen, Leaves}
 use Rattle.mf_store_commits.proofs.StandLemmas.{unchanged_stays}
@@ -24,7 +24,7 @@ use Rattle.mf_store_files.specs.declared.adopted.Found.TheVariants.{Nothing, Pre
 use Rattle.mf_store_files.specs.First.{IsTabledFirst, IsLeftFirst}
 use Rattle.mf_store_files.specs.Held.{HoldsSoundFirst}
 
-module _ {S : Type 0} (g : Ghosts S) (old new : Held S) (u : IsUnchanged (state g old) (state g new)) (store : Kept S) (same : store.connection ≡ new) where
+module _ {S : Type 0} (g : Ghosts S) (old new : Held S) (u : IsUnchanged (state g old) (state g new)) (store : KnownStore S) (same : store.connection ≡ new) where
   pub stands_over : ((i : Institution) → IsTabled g new i → StandsFor g store i) → IsClean g store → (i : Institution) → IsTabled g old i → StandsFor g store i
   stands_over stands clean i was = stands i ((unchanged_stays g old new u).same (subst (HasGoodDisk g) same clean) i was)
 
@@ -66,7 +66,7 @@ module _ {S : Type 0} (g : Ghosts S) (old mid : Held S) (u : IsUnchangedUnder Is
             let up = made clean i was.sound (are_its (premise clean) i was) (still_keeps (premise clean) i was) in
             record { sound = was.sound; serves = λ now. up.serves }
 
-        module _ (store : Kept S) (same : store.connection ≡ new) where
+        module _ (store : KnownStore S) (same : store.connection ≡ new) where
           pub stands_upgraded : ((i : Institution) → IsTabled g new i → StandsFor g store i) → IsClean g store → (i : Institution) → IsTabledFirst g old i → StandsFor g store i
           stands_upgraded stands clean i was = stands i (upgraded_tabled (subst (HasGoodDisk g) same clean) i was)
 

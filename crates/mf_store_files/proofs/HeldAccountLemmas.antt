@@ -20,12 +20,12 @@ use Rattle.mf_schedule.specs.Fresh.{instalment_of}
 use Rattle.mf_alloc.specs.declared.row.Cell.{Cell}
 use Rattle.mf_alloc.specs.Order.{dues_of}
 use Rattle.mf_alloc.specs.Sums.{Sums}
-use Rattle.mf_account.specs.Account.{Orders, first_state, row_of, numbered as numbered_parts, settled_by}
+use Rattle.mf_account.specs.Account.{Orders, first_state, row_of, parts_numbered as numbered_parts, settled_by}
 use Rattle.mf_account.specs.Applicable.{HasInstalment}
 use Rattle.mf_account.specs.Change.{settled_in}
 use Rattle.mf_account.specs.Effect.{Part, State, after, is_some_part, whole_part, parts_by, parts_cleared, parts_of, parts_paid, paid_at, own_share, later_share}
 use Rattle.mf_account.specs.Loan.{Loan as Running, IsSound as IsSoundAccount, schedule_of, orders_of, state_of_loan, settled_of_loan}
-use Rattle.mf_account.specs.Standing.{standing}
+use Rattle.mf_account.specs.Standing.{standing_entries}
 use Rattle.mf_account.specs.declared.entry.Entry.{Entry}
 use Rattle.mf_account.specs.declared.entry.Kind.{Kind}
 use Rattle.mf_account.specs.declared.entry.Kind.TheVariants as kind
@@ -94,7 +94,7 @@ steps_low terms most = go terms.freq most
 account_dues : (a : Running) → IsSoundAccount a → AllByRecursion (λ (due : ℕ). due ≤ last_day) (dues_of (state_of_loan a).rows)
 account_dues a sound =
     let first = first_state (schedule_of a) in
-    let same : dues_of (state_of_loan a).rows ≡ dues_of first.rows = dues-after_all (orders_of a) (standing a.entries) first in
+    let same : dues_of (state_of_loan a).rows ≡ dues_of first.rows = dues-after_all (orders_of a) (standing_entries a.entries) first in
     let periods = sound.limits.most_periods in
     subst (AllByRecursion (λ (due : ℕ). due ≤ last_day)) (sym same)
     (dues_first a.terms a.principal a.periods a.day sound.day (steps_low a.terms sound.limits.terms_limits.longest) 1 a.periods (omega (arith, periods)))
@@ -289,8 +289,8 @@ account_settled : (a : Running) → IsSoundAccount a → AllByRecursion (IsSettl
 account_settled a sound =
     let periods = sound.limits.most_periods in
     let size = length-map (schedule_of a) row_of ∙ length-schedule a in
-    let it = settled_low a.periods periods (orders_of a) (λ e k low. (let c = (lawful-of a e).is_cell k low in c.last)) (standing a.entries) (first_state (schedule_of a)) size
-    (recursion_from_All (IsReplayable a.periods) (standing a.entries) (each-standing a sound)) in
+    let it = settled_low a.periods periods (orders_of a) (λ e k low. (let c = (lawful-of a e).is_cell k low in c.last)) (standing_entries a.entries) (first_state (schedule_of a)) size
+    (recursion_from_All (IsReplayable a.periods) (standing_entries a.entries) (each-standing a sound)) in
     let few = it.1 in
     let standing_few = length-standing-le a.entries in
     let all_few = sound.entries.few in

@@ -31,7 +31,7 @@ use Rattle.mf_catalog.specs.declared.terms.StrategyName.{StrategyName}
 use Rattle.mf_catalog.specs.declared.terms.StrategyName.TheVariants.{MifosStandard, PrincipalFirst, InterestFirst, DueFirst}
 use Rattle.mf_catalog.specs.Limits.{longest_step}
 use Rattle.mf_catalog.specs.Product.{has_kind, is_of_kind}
-use Rattle.mf_office.specs.Keys.{key_within, key_of, grown}
+use Rattle.mf_office.specs.Keys.{key_within, key_of, key_under}
 use Rattle.mf_office.specs.Roles.{role_number}
 use Rattle.mf_office.specs.Texts.{IsCaller}
 use Rattle.mf_office.specs.Written.{caller_text}
@@ -45,7 +45,7 @@ use Rattle.mf_account.specs.declared.entry.Kind.{Kind}
 use Rattle.mf_account.specs.declared.entry.Kind.TheVariants as kind
 use Rattle.mf_alloc.specs.declared.row.Portion.{Portion}
 use Rattle.mf_alloc.specs.declared.row.Portion.TheVariants as portion
-use Rattle.mf_model.specs.Institution.{Institution, Catalogue, Charge, Ledger, Offer, Office, Rows, Staff, office_at, numbered, charge_def, charge_in, product_of, product_in}
+use Rattle.mf_model.specs.Institution.{Institution, Catalogue, Charge, Ledger, Offer, Office, Rows, Staff, office_at, item_numbered, charge_def, charge_in, product_of, product_in}
 use Rattle.mf_account.specs.Receipts.{IsReceipt}
 use Rattle.mf_account.proofs.ReceiptLemmas.{receipt_is_text}
 use Rattle.mf_model.specs.Receipts.{Use, uses_from, uses_in, use_by, use_of}
@@ -67,7 +67,7 @@ use Rattle.mf_store_records.specs.declared.loans.LoanRow.{LoanRow}
 use Rattle.mf_store_records.specs.declared.entries.EntryRow.{EntryRow}
 use Rattle.mf_store_records.specs.declared.receipts.ReceiptRow.{ReceiptRow}
 use Rattle.mf_store_accounts.specs.Flat.{numbered_from, all_rows, schema_number, tables_of, office_under, client_in, staff_in, charge_as, product_as, loan_in, entry_in, entry_kind_number, portion_number, flag_number, approval_text, disbursal_text, loans_of, rows_of_loans, own_entries, entry_rows}
-use Rattle.mf_store_accounts.specs.ReceiptRows.{receipt_in, carried}
+use Rattle.mf_store_accounts.specs.ReceiptRows.{receipt_in, receipts_carried}
 use Rattle.mf_store_changes.proofs.EnteredLemmas.{staff_are_callers}
 use Rattle.mf_store_changes.proofs.FlatLemmas.{numbered-suc}
 use Rattle.mf_store_changes.proofs.SoundLemmas.{has_number}
@@ -152,7 +152,7 @@ unfolding key_within
 key_utf8 zero parents low x h = IsUtf8-from_ascii (codes ".") (low_bytes (codes ".") (omega arith, tt))
 key_utf8 (suc n) parents low x h = go (parents x) refl (key_utf8 n parents low)
   where
-    go : (o : Option ℕ) → parents x ≡ o → ((p : ℕ) → p ≤ 9999 → IsUtf8 (key_within n parents p)) → IsUtf8 (grown o (λ p. key_within n parents p) x)
+    go : (o : Option ℕ) → parents x ≡ o → ((p : ℕ) → p ≤ 9999 → IsUtf8 (key_within n parents p)) → IsUtf8 (key_under o (λ p. key_within n parents p) x)
     go None e above = IsUtf8-from_ascii (codes ".") (low_bytes (codes ".") (omega arith, tt))
     go (Some p) e above =
         IsUtf8-append (key_within n parents p) _ (above p (low x p e)) (IsUtf8-append (decimal x) _ (IsUtf8-from_ascii (decimal x) (IsAscii-decimal x (omega (arith, h)))) (IsUtf8-from_ascii (codes ".") (low_bytes (codes ".") (omega arith, tt))))
@@ -237,9 +237,9 @@ held_charges i sound =
 -- a charge that is named is there
 charge_low : (k : Catalogue) → length k.charges ≤ 999 → (kind : ChargeKind) (o : Option ℕ) → is_of_kind (charge_in k) kind o ≡ true → IfSome o (λ n. n < 2 ^ 32)
 charge_low k most kind None h = tt
-charge_low k most kind (Some n) h = go (numbered k.charges n) refl h
+charge_low k most kind (Some n) h = go (item_numbered k.charges n) refl h
   where
-    go : (o : Option Charge) → numbered k.charges n ≡ o → has_kind kind (option_map (charge_def n) o) ≡ true → n < 2 ^ 32
+    go : (o : Option Charge) → item_numbered k.charges n ≡ o → has_kind kind (option_map (charge_def n) o) ≡ true → n < 2 ^ 32
     go None e h = absurd (true≢false (sym h))
     go (Some c) e h = let low = ((has_number k.charges n).0 (ap is_some e)).1 in omega (arith, low, most)
 
@@ -591,13 +591,13 @@ uses_of_loans k staffed clients x n (l ∷ ls) low_x few all =
     (uses_of_loan k.day staffed x n l.loan.periods (disbursed_on l.loan.stage) l.entries low_x (omega (arith, few)) all.0.entries)
     (uses_of_loans k staffed clients x (n + 1) ls low_x (omega (arith, few)) all.1)
 
-carried_held : (k : Catalogue) (staffed : Caller → Bool) (fs : List Office) → AllByRecursion (IsSoundOffice k staffed) fs → AllByRecursion HeldReceipt (carried fs)
+carried_held : (k : Catalogue) (staffed : Caller → Bool) (fs : List Office) → AllByRecursion (IsSoundOffice k staffed) fs → AllByRecursion HeldReceipt (receipts_carried fs)
 carried_held k staffed [] all = tt
 carried_held k staffed (f ∷ fs) all =
-    all-append HeldReceipt (map (receipt_in f.number) (uses_from 1 f.rows.loans)) (carried fs)
+    all-append HeldReceipt (map (receipt_in f.number) (uses_from 1 f.rows.loans)) (receipts_carried fs)
     (stored_held HeldReceipt (receipt_in f.number) (uses_from 1 f.rows.loans) (uses_of_loans k staffed f.rows.clients f.number 1 f.rows.loans all.0.number.1 (let most = all.0.rows.loan_limit in omega (arith, most)) all.0.rows.loans))
     (carried_held k staffed fs all.1)
 
 pub held_receipts : (i : Institution) → IsSound i → AllByRecursion (HasFields receipt_fields) (map receipt_row (tables_of i).receipts)
 held_receipts i sound =
-    stored_held (HasFields receipt_fields) receipt_row (tables_of i).receipts (all_sorted by_receipt HeldReceipt (carried i.offices) (carried_held i.catalogue (is_staff i.offices) i.offices sound.each))
+    stored_held (HasFields receipt_fields) receipt_row (tables_of i).receipts (all_sorted by_receipt HeldReceipt (receipts_carried i.offices) (carried_held i.catalogue (is_staff i.offices) i.offices sound.each))

@@ -20,7 +20,7 @@ use Rattle.mf_store_records.specs.Rows.{by_meta, by_office, by_staff, by_client,
 use Rattle.mf_store_records.specs.declared.offices.OfficeRow.{OfficeRow}
 use Rattle.mf_store_records.proofs.TableLemmas.{by_receipt_total}
 use Rattle.mf_store_accounts.specs.Flat.{numbered_from, tables_of, office_under, staff_in, client_in, charge_as, product_as, loan_in, entry_in, instalment_in, share_in, instalments_kept, placed_parts, parts_from, shares_kept, kept_of, loans_of, rows_of_loans, rows_by_loan, own_entries}
-use Rattle.mf_store_accounts.specs.ReceiptRows.{carried}
+use Rattle.mf_store_accounts.specs.ReceiptRows.{receipts_carried}
 use Rattle.mf_store_accounts.proofs.ReceiptLemmas.{receipts_apart}
 use Rattle.mf_store_accounts.proofs.SortedLemmas.{first_less, rises_sorted}
 use Rattle.mf_store_files.proofs.HeldLemmas.{AreNumberedFrom, numbers_by_place}
@@ -185,7 +185,7 @@ entries_rise i sound =
     (all_weaker (IsSoundOffice k staffed) (λ (f : Office). AllByRecursion (λ (l : Ledger). IsAscending (λ (a b : Entry). nat_cmp a.seq b.seq ≡ Less) l.entries) f.rows.loans) (λ f is. all_weaker (IsSoundLoan k staffed f.rows.clients) (λ (l : Ledger). IsAscending (λ (a b : Entry). nat_cmp a.seq b.seq ≡ Less) l.entries) (λ l one. entries_by k.day staffed l.loan.periods (disbursed_on l.loan.stage) l.entries one.entries) f.rows.loans is.rows.loans) i.offices sound.each)
 
 pub receipts_rise : (i : Institution) → IsSound i → IsAscending (λ a b. by_receipt a b ≡ Less) (tables_of i).receipts
-receipts_rise i sound = rises_sorted by_receipt by_receipt_total (carried i.offices) (no_ties_of i.offices sound.tree.ascending (receipts_apart i sound))
+receipts_rise i sound = rises_sorted by_receipt by_receipt_total (receipts_carried i.offices) (no_ties_of i.offices sound.tree.ascending (receipts_apart i sound))
 
 pub instalments_rise : (i : Institution) → IsSound i → IsAscending (λ a b. by_instalment a b ≡ Less) (tables_of i).instalments
 instalments_rise i sound =

@@ -8,7 +8,7 @@ use Rattle.mf_store_records.specs.Rows.{Lists, by_instalment, by_share}
 use Rattle.mf_store_records.specs.declared.instalments.InstalmentRow.{InstalmentRow}
 use Rattle.mf_store_records.specs.declared.meta.MetaRow.{MetaRow}
 use Rattle.mf_store_records.specs.declared.shares.ShareRow.{ShareRow}
-use Rattle.mf_store_upgrade.specs.Upgrade.{upgraded, CanUpgrade}
+use Rattle.mf_store_upgrade.specs.Upgrade.{upgraded_lists, CanUpgrade}
 use Rattle.mf_store_accounts.specs.Flat.{tables_of, meta_on}
 use Rattle.mf_store_sound.specs.Schemas.{first_tables_of, meta_under}
 use Rattle.mf_store_files.proofs.RiseLemmas.{instalments_rise, shares_rise}
@@ -30,5 +30,5 @@ module _ (i : Institution) (meta : MetaRow) (instalments : List InstalmentRow) (
     shares_rise = subst (IsAscending (λ a b. by_share a b ≡ Less)) (sym shares_same) (shares_rise i sound);
   }
 
-  pub upgraded_is : upgraded meta instalments shares (first_tables_of i) ≡ tables_of i
-  upgraded_is = λ t. upgraded (meta_same t) (instalments_same t) (shares_same t) (first_tables_of i)
+  pub upgraded_is : upgraded_lists meta instalments shares (first_tables_of i) ≡ tables_of i
+  upgraded_is = λ t. upgraded_lists (meta_same t) (instalments_same t) (shares_same t) (first_tables_of i)

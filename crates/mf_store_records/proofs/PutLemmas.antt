@@ -27,7 +27,7 @@ use Rattle.mf_store_records.specs.declared.receipts.ReceiptRow.{ReceiptRow}
 use Rattle.mf_store_records.specs.declared.instalments.InstalmentRow.{InstalmentRow}
 use Rattle.mf_store_records.specs.declared.shares.EntryKey.{EntryKey}
 use Rattle.mf_store_records.specs.declared.shares.ShareRow.{ShareRow}
-use Rattle.mf_store_records.specs.Writes.{changed, schema_of, Holds, HoldsLists, Making, Putting}
+use Rattle.mf_store_records.specs.Writes.{lists_changed, schema_of, Holds, HoldsLists, Making, Putting}
 use Rattle.mf_store_records.proofs.Texts.{create_meta, create_offices, create_staff, create_clients, create_charges, create_products, create_loans, create_entries, create_receipts, create_instalments, create_shares, defines_meta, defines_offices, defines_staff, defines_clients, defines_charges, defines_products, defines_loans, defines_entries, defines_receipts, defines_instalments, defines_shares, made_is, upsert_meta, upsert_product, upsert_loan, upsert_entry, upsert_instalment, upsert_share, delete_shares}
 use Rattle.mf_store_records.proofs.AddLemmas.{insert_office, insert_staff, insert_client, insert_charge, insert_product, insert_loan, insert_entry, insert_receipt, adds_office, adds_staff, adds_client, adds_charge, adds_product, adds_loan, adds_entry, adds_receipt}
 use Rattle.mf_store_records.proofs.TableLemmas.{by_meta_total, by_office_total, by_staff_total, by_client_total, by_charge_total, by_product_total, by_loan_total, by_entry_total, by_receipt_total, by_instalment_total, by_share_total, puts_meta, puts_product, puts_loan, puts_entry, puts_instalment, puts_share, removes_shares}
@@ -84,7 +84,7 @@ still at old new m same h = record {
 steps : (change : Lists → Lists) (sql : List ℕ) (params : Row) (old new : State) → Ran sql params old new → ((m : Lists) → StandsAs old.now (Some m) → StandsAs new.now (Some (change m))) → Putting change old new
 steps change sql params old new ran turn = record { mode = ran.mode; was_open = ran.was_open; turns = turns }
   where
-    turns : (lists : Option Lists) → StandsAs old.now lists → IsSome lists → StandsAs new.now (changed change lists)
+    turns : (lists : Option Lists) → StandsAs old.now lists → IsSome lists → StandsAs new.now (lists_changed change lists)
     turns None s there = nothing_there there
     turns (Some m) s there = turn m s
 

@@ -35,27 +35,27 @@ abbrev pub Holds : Trees → Option Lists → Type 0
 Holds trees None = IsSound no_schema trees
 Holds trees (Some lists) = HoldsLists trees lists
 
-abbrev pub changed : (Lists → Lists) → Option Lists → Option Lists
-changed change None = None
-changed change (Some lists) = Some (change lists)
+abbrev pub lists_changed : (Lists → Lists) → Option Lists → Option Lists
+lists_changed change None = None
+lists_changed change (Some lists) = Some (change lists)
 
 abbrev pub after : StoreWrite → Option Lists → Option Lists
 after MakeTables lists = Some no_rows
-after (PutMeta x) lists = changed (put_meta x) lists
-after (PutOffice x) lists = changed (put_office x) lists
-after (PutStaff x) lists = changed (put_staff x) lists
-after (PutClient x) lists = changed (put_client x) lists
-after (PutCharge x) lists = changed (put_charge x) lists
-after (AddProduct x) lists = changed (put_product x) lists
-after (PutProduct x) lists = changed (put_product x) lists
-after (AddLoan x) lists = changed (put_loan x) lists
-after (PutLoan x) lists = changed (put_loan x) lists
-after (AddEntry x) lists = changed (put_entry x) lists
-after (ChangeEntry x) lists = changed (put_entry x) lists
-after (AddReceipt x) lists = changed (put_receipt x) lists
-after (PutInstalment x) lists = changed (put_instalment x) lists
-after (PutShare x) lists = changed (put_share x) lists
-after (RemoveShares e) lists = changed (drop_shares e) lists
+after (PutMeta x) lists = lists_changed (put_meta x) lists
+after (PutOffice x) lists = lists_changed (put_office x) lists
+after (PutStaff x) lists = lists_changed (put_staff x) lists
+after (PutClient x) lists = lists_changed (put_client x) lists
+after (PutCharge x) lists = lists_changed (put_charge x) lists
+after (AddProduct x) lists = lists_changed (put_product x) lists
+after (PutProduct x) lists = lists_changed (put_product x) lists
+after (AddLoan x) lists = lists_changed (put_loan x) lists
+after (PutLoan x) lists = lists_changed (put_loan x) lists
+after (AddEntry x) lists = lists_changed (put_entry x) lists
+after (ChangeEntry x) lists = lists_changed (put_entry x) lists
+after (AddReceipt x) lists = lists_changed (put_receipt x) lists
+after (PutInstalment x) lists = lists_changed (put_instalment x) lists
+after (PutShare x) lists = lists_changed (put_share x) lists
+after (RemoveShares e) lists = lists_changed (drop_shares e) lists
 
 -- tables are made where there is none, and rows are put and removed where there are
 abbrev pub Fits : StoreWrite → Option Lists → Type 0
@@ -68,4 +68,4 @@ Making old new = Steps (Serves schema_of Holds) (λ lists. lists ≡ None) (λ _
 
 -- the transaction goes on, and the lists are changed so
 abbrev pub Putting : (Lists → Lists) → State → State → Type 0
-Putting change old new = Steps (Serves schema_of Holds) (λ lists. IsSome lists) (changed change) old new
+Putting change old new = Steps (Serves schema_of Holds) (λ lists. IsSome lists) (lists_changed change) old new

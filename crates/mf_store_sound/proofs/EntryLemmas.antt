@@ -11,7 +11,7 @@ use Rattle.mf_store_records.specs.declared.entries.EntryRow.{EntryRow}
 use Rattle.mf_store_sound.specs.Entries.{IsEntryRow}
 use Rattle.mf_store_accounts.specs.Flat.{entry_in, own_entries, rows_of_loans, entry_rows}
 use Rattle.mf_store_accounts.specs.Ledgers.{IsReadable}
-use Rattle.mf_store_accounts.specs.ReceiptRows.{receipt_in, carried, receipt_of, carried_by}
+use Rattle.mf_store_accounts.specs.ReceiptRows.{receipt_in, receipts_carried, receipt_of, carried_by}
 use Rattle.mf_store_sound.specs.Stored.{AllFrom}
 
 -- an entry of a loan of n instalments that was disbursed on a day, whoever entered it
@@ -74,6 +74,6 @@ carried_from x n (l ∷ ls) =
     carried_append (map (entry_in x n) l.entries) (rows_of_loans entry_in own_entries x (n + 1) ls) ∙ (λ t. carried_in x n l.entries t ++ carried_from x (n + 1) ls t) ∙ sym (map-append (receipt_in x) (uses_in n l.entries) (uses_from (n + 1) ls))
 
 -- the receipts of the offices' entries are those that the rows of these entries carry
-pub carried_is : (fs : List Office) → carried fs ≡ carried_by (entry_rows fs)
+pub carried_is : (fs : List Office) → receipts_carried fs ≡ carried_by (entry_rows fs)
 carried_is [] = refl
 carried_is (f ∷ fs) = sym (carried_append (rows_of_loans entry_in own_entries f.number 1 f.rows.loans) (entry_rows fs) ∙ (λ t. carried_from f.number 1 f.rows.loans t ++ sym (carried_is fs) t))

@@ -3,7 +3,7 @@ use Rattle.std.proofs.Common.{◌≡◌, ◌↔◌, ◌∙◌, ℕ, ◌≤◌, p
 use Rattle.std.specs.Option.{option_map}
 use Rattle.mf_base.specs.DayText.{day_text, last_entered_day}
 use Rattle.mf_catalog.specs.Product.{allows}
-use Rattle.mf_model.specs.Institution.{Catalogue, Offer, product_in, product_of, numbered}
+use Rattle.mf_model.specs.Institution.{Catalogue, Offer, product_in, product_of, item_numbered}
 use Rattle.mf_model.specs.Stages.{stage_number, disbursed_on}
 use Rattle.mf_store_records.specs.declared.entries.EntryRow.{EntryRow}
 use Rattle.mf_store_sound.specs.Entries.{AreLoanEntries}
@@ -19,17 +19,17 @@ use Rattle.mf_store_sound.specs.Stored.{IsRowOf}
 use Rattle.mf_store_accounts.proofs.NumberedLemmas.{numbered_row}
 
 -- a product that is there
-pub lent : (k : Catalogue) (rows : List ProductRow) (product : ProductRow) (row : LoanRow) (l : Loan) (b : Bool) → numbered_from product_as 1 k.products ≡ rows → Some product ≡ numbered rows row.product → loan_in row.office row.number l ≡ row
+pub lent : (k : Catalogue) (rows : List ProductRow) (product : ProductRow) (row : LoanRow) (l : Loan) (b : Bool) → numbered_from product_as 1 k.products ≡ rows → Some product ≡ item_numbered rows row.product → loan_in row.office row.number l ≡ row
     → ((number : ℕ) (p : Offer) → product_as number p ≡ product → b ≡ allows p.members l.principal l.periods) → b ≡ lends (product_in k l.product) l.principal l.periods
-lent k rows product row l b e is own h = go (numbered k.products l.product) (is ∙ (λ t. numbered (sym e t) (sym own t).product) ∙ numbered_row product_as k.products l.product)
+lent k rows product row l b e is own h = go (item_numbered k.products l.product) (is ∙ (λ t. item_numbered (sym e t) (sym own t).product) ∙ numbered_row product_as k.products l.product)
   where
     go : (o : Option Offer) → Some product ≡ option_map (product_as l.product) o → b ≡ lends (option_map (product_of l.product) o) l.principal l.periods
     go None f = absurd (cc)
     go (Some p) f = let same : product_as l.product p ≡ product = cc in h l.product p same
 
 -- a product that is not there
-pub not_lent : (k : Catalogue) (rows : List ProductRow) (row : LoanRow) (l : Loan) → numbered_from product_as 1 k.products ≡ rows → None ≡ numbered rows row.product → loan_in row.office row.number l ≡ row → false ≡ lends (product_in k l.product) l.principal l.periods
-not_lent k rows row l e is own = go (numbered k.products l.product) (is ∙ (λ t. numbered (sym e t) (sym own t).product) ∙ numbered_row product_as k.products l.product)
+pub not_lent : (k : Catalogue) (rows : List ProductRow) (row : LoanRow) (l : Loan) → numbered_from product_as 1 k.products ≡ rows → None ≡ item_numbered rows row.product → loan_in row.office row.number l ≡ row → false ≡ lends (product_in k l.product) l.principal l.periods
+not_lent k rows row l e is own = go (item_numbered k.products l.product) (is ∙ (λ t. item_numbered (sym e t) (sym own t).product) ∙ numbered_row product_as k.products l.product)
   where
     go : (o : Option Offer) → None ≡ option_map (product_as l.product) o → false ≡ lends (option_map (product_of l.product) o) l.principal l.periods
     go None f = refl

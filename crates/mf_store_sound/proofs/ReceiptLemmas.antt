@@ -20,7 +20,7 @@ use Rattle.mf_store_records.specs.declared.entries.EntryRow.{EntryRow}
 use Rattle.mf_store_records.specs.declared.receipts.ReceiptRow.{ReceiptRow}
 use Rattle.mf_store_records.proofs.ReceiptLemmas.{less, before_later, is_receipt-bytes}
 use Rattle.mf_store_records.proofs.TableLemmas.{by_receipt_total}
-use Rattle.mf_store_accounts.specs.ReceiptRows.{receipt_in, carried, carried_by, AreReceiptsOf}
+use Rattle.mf_store_accounts.specs.ReceiptRows.{receipt_in, receipts_carried, carried_by, AreReceiptsOf}
 use Rattle.mf_store_accounts.proofs.ReceiptLemmas.{others_of, others_above, AreAllApart}
 use Rattle.mf_store_accounts.proofs.SortedLemmas.{rises_sorted}
 use Rattle.mf_store_sound.proofs.StaffLemmas.{rising_is_sorted}
@@ -154,9 +154,9 @@ no_ties_in x [] rest apart others none = none
 no_ties_in x (u ∷ us) rest apart others none = (all-append (λ (row : ReceiptRow). is_receipt x u.receipt row ≡ false) (map (receipt_in x) us) rest (others_of x u.receipt u us refl apart.0) (others u.receipt), no_ties_in x us rest apart.1 others none)
 
 -- no key comes twice
-pub no_ties_of : (fs : List Office) → Ascending fs → AreAllApart fs → NoTies by_receipt by_receipt_total (carried fs)
+pub no_ties_of : (fs : List Office) → Ascending fs → AreAllApart fs → NoTies by_receipt by_receipt_total (receipts_carried fs)
 no_ties_of [] up apart = tt
-no_ties_of (f ∷ fs) up apart = no_ties_in f.number (uses_from 1 f.rows.loans) (carried fs) apart.0 (λ r. others_above f.number r fs up.0) (no_ties_of fs up.1 apart.1)
+no_ties_of (f ∷ fs) up apart = no_ties_in f.number (uses_from 1 f.rows.loans) (receipts_carried fs) apart.0 (λ r. others_above f.number r fs up.0) (no_ties_of fs up.1 apart.1)
 
 apart_to : (x : ℕ) (u : Use) (us : List Use) (rest : List ReceiptRow) → AllByRecursion (λ (row : ReceiptRow). is_receipt x u.receipt row ≡ false) (map (receipt_in x) us ++ rest) → AllByRecursion (λ (v : Use). u.receipt ≢ v.receipt) us
 apart_to x u [] rest all = tt
@@ -166,13 +166,13 @@ apart_in : (x : ℕ) (us : List Use) (rest : List ReceiptRow) → NoTies by_rece
 apart_in x [] rest none = (tt, none)
 apart_in x (u ∷ us) rest none = let more = apart_in x us rest none.1 in ((apart_to x u us rest none.0, more.0), more.1)
 
-apart_of : (fs : List Office) → NoTies by_receipt by_receipt_total (carried fs) → AreAllApart fs
+apart_of : (fs : List Office) → NoTies by_receipt by_receipt_total (receipts_carried fs) → AreAllApart fs
 apart_of [] none = tt
-apart_of (f ∷ fs) none = let both = apart_in f.number (uses_from 1 f.rows.loans) (carried fs) none in (both.0, apart_of fs both.1)
+apart_of (f ∷ fs) none = let both = apart_in f.number (uses_from 1 f.rows.loans) (receipts_carried fs) none in (both.0, apart_of fs both.1)
 
 -- no office has a receipt twice just where their rows rise
-pub in_order_apart : (fs : List Office) → Ascending fs → AreAllApart fs → AreReceiptsInOrder (sort_by by_receipt (carried fs))
-in_order_apart fs up apart = in_order_rises (sort_by by_receipt (carried fs)) (rises_sorted by_receipt by_receipt_total (carried fs) (no_ties_of fs up apart))
+pub in_order_apart : (fs : List Office) → Ascending fs → AreAllApart fs → AreReceiptsInOrder (sort_by by_receipt (receipts_carried fs))
+in_order_apart fs up apart = in_order_rises (sort_by by_receipt (receipts_carried fs)) (rises_sorted by_receipt by_receipt_total (receipts_carried fs) (no_ties_of fs up apart))
 
-pub apart_in_order : (fs : List Office) → AreReceiptsInOrder (sort_by by_receipt (carried fs)) → AreAllApart fs
-apart_in_order fs up = apart_of fs (none_tied by_receipt by_receipt_total (carried fs) (rises_in_order (sort_by by_receipt (carried fs)) up))
+pub apart_in_order : (fs : List Office) → AreReceiptsInOrder (sort_by by_receipt (receipts_carried fs)) → AreAllApart fs
+apart_in_order fs up = apart_of fs (none_tied by_receipt by_receipt_total (receipts_carried fs) (rises_in_order (sort_by by_receipt (receipts_carried fs)) up))

@@ -13,7 +13,7 @@ use Rattle.mf_office.specs.Written.{caller_text}
 use Rattle.mf_office.specs.declared.caller.Caller.{Caller}
 use Rattle.mf_office.proofs.ReadLemmas.{caller_of-text}
 use Rattle.mf_account.specs.declared.entry.Entry.{Entry}
-use Rattle.mf_model.specs.Institution.{Catalogue, Charge, Ledger, Offer, Office, Rows, charge_in, numbered, office_at}
+use Rattle.mf_model.specs.Institution.{Catalogue, Charge, Ledger, Offer, Office, Rows, charge_in, item_numbered, office_at}
 use Rattle.mf_model.specs.Receipts.{uses_from, AreApart}
 use Rattle.mf_model.specs.Sound.{IsName, IsSoundCatalogue, IsSoundCharge, IsSoundOffer, IsSoundOffice, IsSoundRows, IsSoundLoan, IsEntryBy, AreEntriesBy, is_staff}
 use Rattle.mf_model.specs.Stages.{disbursed_on}
@@ -54,7 +54,7 @@ placed [] d h = absurd (true≢false (sym h))
 placed (x ∷ xs) zero h = omega arith
 placed (x ∷ xs) (suc d) h = let more : d < length xs = placed xs d h in omega (arith, more)
 
-has_number : {A : Type 0} (xs : List A) (n limit : ℕ) → length xs ≤ limit → is_some (numbered xs n) ≡ true → IsNumberUpTo limit n
+has_number : {A : Type 0} (xs : List A) (n limit : ℕ) → length xs ≤ limit → is_some (item_numbered xs n) ≡ true → IsNumberUpTo limit n
 has_number xs n limit few h = go (n == 0) refl h
   where
     go : (b : Bool) → (n == 0) ≡ b → is_some (cond b None (slice_get xs (n - 1))) ≡ true → IsNumberUpTo limit n
@@ -68,7 +68,7 @@ staff_are_callers : (k : Catalogue) (s : Caller → Bool) (fs : List Office) →
 staff_are_callers k s [] all c there = absurd (true≢false (sym there))
 staff_are_callers k s (f ∷ fs) all c there = go (f.number == c.office) refl there (staff_are_callers k s fs all.1 c)
   where
-    go : (b : Bool) → (f.number == c.office) ≡ b → is_some (elim (cond b (Some f) (office_at c.office fs)) [ None ↦ None | Some g ↦ numbered g.rows.staff c.staff ]) ≡ true → (is_staff fs c ≡ true → IsCaller c) → IsCaller c
+    go : (b : Bool) → (f.number == c.office) ≡ b → is_some (elim (cond b (Some f) (office_at c.office fs)) [ None ↦ None | Some g ↦ item_numbered g.rows.staff c.staff ]) ≡ true → (is_staff fs c ≡ true → IsCaller c) → IsCaller c
     go true e there more =
         let same : f.number ≡ c.office = grind (arith, nat_tests) in
         (subst (IsNumberUpTo 9999) same all.0.number, has_number f.rows.staff c.staff 9999 all.0.rows.staff_limit there)

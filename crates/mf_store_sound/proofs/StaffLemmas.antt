@@ -9,7 +9,7 @@ use Rattle.std.proofs.lemmas.Bool.Decides.{nat_tests}
 use Rattle.std.proofs.lemmas.Cmp.{on_total, then_total, nat_cmp_total}
 use Rattle.std.proofs.lemmas.List.Sorted.{searchable_from_sorted}
 use Rattle.sqlite_trees.specs.Tree.{IsAscending}
-use Rattle.mf_model.specs.Institution.{Office, Rows, office_at, numbered}
+use Rattle.mf_model.specs.Institution.{Office, Rows, office_at, item_numbered}
 use Rattle.mf_model.specs.Sound.{is_staff}
 use Rattle.mf_model.specs.Tree.{Above, Ascending}
 use Rattle.mf_store_records.specs.Rows.{by_staff}
@@ -106,7 +106,7 @@ module _ (x n : ℕ) where
   at_place m zero (s ∷ xs) rest e none = rw (let here : is_eq (ordering_then (nat_cmp x x) (nat_cmp m n)) ≡ true = grind (arith, nat_tests) in here)
   at_place m (suc d) (s ∷ xs) rest e none = rw (let other : is_eq (ordering_then (nat_cmp x x) (nat_cmp m n)) ≡ false = grind (arith, nat_tests) in other) (at_place (m + 1) d xs rest (omega arith) none)
 
-  in_office : (xs : List _) (rest : List StaffRow) → is_some (find is_key rest) ≡ false → is_some (find is_key (numbered_from (staff_in x) 1 xs ++ rest)) ≡ is_some (numbered xs n)
+  in_office : (xs : List _) (rest : List StaffRow) → is_some (find is_key rest) ≡ false → is_some (find is_key (numbered_from (staff_in x) 1 xs ++ rest)) ≡ is_some (item_numbered xs n)
   in_office xs rest none = go (n == 0) refl
     where
       go : (b : Bool) → (n == 0) ≡ b → is_some (find is_key (numbered_from (staff_in x) 1 xs ++ rest)) ≡ is_some (cond b None (slice_get xs (n - 1)))
@@ -119,10 +119,10 @@ module _ (x n : ℕ) where
   has_key (f ∷ fs) up = go (f.number == x) refl (has_key fs up.1)
     where
       go : (b : Bool) → (f.number == x) ≡ b → is_some (find is_key (all_rows staff_in (λ own. own.staff) fs)) ≡ is_staff fs (record { office = x; staff = n })
-          → is_some (find is_key (numbered_from (staff_in f.number) 1 f.rows.staff ++ all_rows staff_in (λ own. own.staff) fs)) ≡ is_some (elim (cond b (Some f) (office_at x fs)) [ None ↦ None | Some g ↦ numbered g.rows.staff n ])
+          → is_some (find is_key (numbered_from (staff_in f.number) 1 f.rows.staff ++ all_rows staff_in (λ own. own.staff) fs)) ≡ is_some (elim (cond b (Some f) (office_at x fs)) [ None ↦ None | Some g ↦ item_numbered g.rows.staff n ])
       go true e more =
           let same : f.number ≡ x = grind (arith, nat_tests) in
-          subst (λ k. is_some (find is_key (numbered_from (staff_in k) 1 f.rows.staff ++ all_rows staff_in (λ own. own.staff) fs)) ≡ is_some (numbered f.rows.staff n)) (sym same)
+          subst (λ k. is_some (find is_key (numbered_from (staff_in k) 1 f.rows.staff ++ all_rows staff_in (λ own. own.staff) fs)) ≡ is_some (item_numbered f.rows.staff n)) (sym same)
           (in_office f.rows.staff (all_rows staff_in (λ own. own.staff) fs) (none_above fs (subst (λ k. Above k fs) same up.0)))
       go false e more = go_on e more
         where

@@ -9,7 +9,7 @@ use Rattle.mf_store_records.specs.declared.instalments.InstalmentRow.{Instalment
 use Rattle.mf_store_records.specs.declared.loans.LoanRow.{LoanRow}
 use Rattle.mf_store_records.specs.declared.products.ProductRow.{ProductRow}
 use Rattle.mf_store_records.specs.declared.shares.ShareRow.{ShareRow}
-use Rattle.mf_store_accounts.specs.Accounts.{instalments_of, shares_of, Placed, all_placed, AreLoansOf, AreAccounts}
+use Rattle.mf_store_accounts.specs.Accounts.{instalments_of, shares_of, PlacedLoan, all_placed, AreLoansOf, AreAccounts}
 use Rattle.mf_store_accounts.specs.Flat.{charge_as, product_as, numbered_from, instalment_in, share_in, tables_of}
 use Rattle.mf_store_sound.specs.Schemas.{first_tables_of, without_accounts}
 use Rattle.mf_store_sound.specs.Sound.{AreOfSound, AreOfSoundFirst, AreUnder}
@@ -17,17 +17,17 @@ use Rattle.mf_store_sound.proofs.AllLoanLemmas.{all_rows_of}
 use Rattle.mf_store_sound.proofs.SoundLemmas.{charges_are, products_are, loans_under}
 
 -- what is told of rows of accounts, by the rows of the others
-abbrev pub Told : (List InstalmentRow → List ShareRow → Catalogue → List Placed → Type 0) → Lists → Type 0
-Told P t = (k : Catalogue) → IsSoundCatalogue k → numbered_from charge_as 1 k.charges ≡ t.charges → numbered_from product_as 1 k.products ≡ t.products → (ps : List Placed) → AreLoansOf k t.loans t.entries ps → P t.instalments t.shares k ps
+abbrev pub Told : (List InstalmentRow → List ShareRow → Catalogue → List PlacedLoan → Type 0) → Lists → Type 0
+Told P t = (k : Catalogue) → IsSoundCatalogue k → numbered_from charge_as 1 k.charges ≡ t.charges → numbered_from product_as 1 k.products ≡ t.products → (ps : List PlacedLoan) → AreLoansOf k t.loans t.entries ps → P t.instalments t.shares k ps
 
-pub told_of_parts : (P : List InstalmentRow → List ShareRow → Catalogue → List Placed → Type 0) (t inside : Lists) (view : inside ≡ t) (charges : List ChargeRow) (products : List ProductRow) (loans : List LoanRow) (entries : List EntryRow) (instalments : List InstalmentRow) (shares : List ShareRow)
+pub told_of_parts : (P : List InstalmentRow → List ShareRow → Catalogue → List PlacedLoan → Type 0) (t inside : Lists) (view : inside ≡ t) (charges : List ChargeRow) (products : List ProductRow) (loans : List LoanRow) (entries : List EntryRow) (instalments : List InstalmentRow) (shares : List ShareRow)
     → charges ≡ inside.charges → products ≡ inside.products → loans ≡ inside.loans → entries ≡ inside.entries → instalments ≡ inside.instalments → shares ≡ inside.shares
     → Told P (record t { charges = charges; products = products; loans = loans; entries = entries; instalments = instalments; shares = shares }) → Told P t
 told_of_parts P t inside view charges products loans entries instalments shares c p l e i s told =
     subst (λ (lists : Lists). Told P lists) (λ z. record t { charges = (c ∙ (λ y. (view y).charges)) z; products = (p ∙ (λ y. (view y).products)) z; loans = (l ∙ (λ y. (view y).loans)) z; entries = (e ∙ (λ y. (view y).entries)) z; instalments = (i ∙ (λ y. (view y).instalments)) z; shares = (s ∙ (λ y. (view y).shares)) z }) told
 
 -- what is told, at the institution whose rows these are
-told_at : (P : List InstalmentRow → List ShareRow → Catalogue → List Placed → Type 0) (schema : ℕ) (t : Lists) (u : AreUnder schema t) → Told P t → P t.instalments t.shares u.institution.catalogue (all_placed u.institution.offices)
+told_at : (P : List InstalmentRow → List ShareRow → Catalogue → List PlacedLoan → Type 0) (schema : ℕ) (t : Lists) (u : AreUnder schema t) → Told P t → P t.instalments t.shares u.institution.catalogue (all_placed u.institution.offices)
 told_at P schema t u told =
     told u.institution.catalogue u.sound.catalogue (charges_are schema t u) (products_are schema t u) (all_placed u.institution.offices) (loans_under schema t u)
 

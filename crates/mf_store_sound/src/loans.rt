@@ -3,7 +3,7 @@
 ghost use Rattle.std.specs.Prelude.{◌≡◌, ℕ, List, ◌≤◌, ◌↔◌, IsTrue, length, is_some};
 ghost use Rattle.mf_base.specs.DayText.{last_entered_day};
 ghost use Rattle.mf_catalog.specs.Product.{allows};
-ghost use Rattle.mf_model.specs.Institution.{Catalogue, Offer, product_in, numbered};
+ghost use Rattle.mf_model.specs.Institution.{Catalogue, Offer, product_in, item_numbered};
 ghost use Rattle.mf_model.specs.Sound.{IsStageBy, lends};
 ghost use Rattle.mf_model.specs.declared.loan.Loan.{Loan};
 ghost use Rattle.mf_store_accounts.specs.Flat.{loan_in, product_as, numbered_from};
@@ -84,7 +84,7 @@ fn is_row_of_loan(today: Day, office: u32, number: u32, row: &LoanRow) -> bool
 /// Whether the client of the row's loan exists: clients are numbered up to this count.
 fn is_client_there(clients: usize, row: &LoanRow) -> bool
     ensures { (l : Loan) → loan_in row.now.office row.now.number l ≡ row.now → (names : List (List ℕ)) → length names ≡ clients →
-        result ≡ is_some (numbered names l.client) }
+        result ≡ is_some (item_numbered names l.client) }
 {
     row.client >= 1 && row.client as usize <= clients
 }

@@ -3,7 +3,7 @@ ghost use Rattle.mf_base.specs.declared.day.Freq.{Freq as AnyFreq};
 ghost use Rattle.mf_catalog.specs.declared.limits.TheConstants.{MOST_PERIODS};
 ghost use Rattle.mf_catalog.specs.Limits.{longest_step};
 ghost use Rattle.mf_catalog.specs.Product.{AreMembersWithinLimits, limits_agree, kinds_right, is_of_kind};
-ghost use Rattle.mf_model.specs.Institution.{Catalogue, Offer, charge_in, numbered};
+ghost use Rattle.mf_model.specs.Institution.{Catalogue, Offer, charge_in, item_numbered};
 ghost use Rattle.mf_model.specs.Sound.{IsSoundOffer};
 ghost use Rattle.mf_store_accounts.specs.Flat.{charge_as, product_as, numbered_from};
 ghost use Rattle.mf_base.specs.Choices.{frequency_number};

@@ -16,12 +16,10 @@ use crate::offices::are_offices;
 use crate::receipts::are_receipts;
 use crate::tables::Tables;
 use mf_base::Fault;
+use mf_model::MOST_IN_CATALOGUE;
 use mf_store_accounts::{are_accounts, rows_of_accounts};
 use mf_store_records::{FIRST_SCHEMA, InstalmentRow, SCHEMA, ShareRow};
 use std::alloc::Global;
-
-/// The most charges of a catalogue, and the most products.
-const MOST_OF_CATALOGUE: u32 = 999;
 
 /// Whether there is a sound institution whose rows these are, with this schema's number. It does not check the rows of
 /// accounts.
@@ -41,10 +39,10 @@ fn are_under(alloc: Global, schema: u32, tables: &Tables) -> Result<bool, Fault>
     let Some(today) = business_day(schema, meta) else {
         return Ok(false);
     };
-    if !are_numbered((), charges, MOST_OF_CATALOGUE) {
+    if !are_numbered((), charges, MOST_IN_CATALOGUE) {
         return Ok(false);
     }
-    if !are_numbered(charges, products, MOST_OF_CATALOGUE) {
+    if !are_numbered(charges, products, MOST_IN_CATALOGUE) {
         return Ok(false);
     }
     if !are_offices(alloc, offices)? {

@@ -9,21 +9,21 @@ use Rattle.sqlite.specs.Kind.TheVariants.{Integer, Text}
 use Rattle.sqlite_schema.specs.declared.schema.Column.{Column}
 use Rattle.sqlite_schema.specs.declared.schema.Index.{Index}
 
-abbrev pub typed : Kind → Bool → List ℕ → Column
-typed kind not_null name = record { name = name; kind = kind; is_strict = true; not_null = not_null; default = Null; collation = Binary }
+abbrev pub typed_column : Kind → Bool → List ℕ → Column
+typed_column kind not_null name = record { name = name; kind = kind; is_strict = true; not_null = not_null; default = Null; collation = Binary }
 
 -- INTEGER NOT NULL, TEXT NOT NULL, INTEGER and TEXT
 abbrev pub int : List ℕ → Column
-int = typed Integer true
+int = typed_column Integer true
 
 abbrev pub text : List ℕ → Column
-text = typed Text true
+text = typed_column Text true
 
 abbrev pub maybe_int : List ℕ → Column
-maybe_int = typed Integer false
+maybe_int = typed_column Integer false
 
 abbrev pub maybe_text : List ℕ → Column
-maybe_text = typed Text false
+maybe_text = typed_column Text false
 
 -- a table with no rule but its keys, in the tree after which the trees of their indexes come
 abbrev pub table_with : ℕ → List ℕ → List Column → List ℕ → List (List ℕ) → Table

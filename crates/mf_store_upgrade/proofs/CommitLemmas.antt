@@ -9,7 +9,7 @@ use Rattle.mf_store_records.specs.Writes.{Holds as HoldsOwn}
 use Rattle.mf_store_records.specs.declared.instalments.InstalmentRow.{InstalmentRow}
 use Rattle.mf_store_records.specs.declared.meta.MetaRow.{MetaRow}
 use Rattle.mf_store_records.specs.declared.shares.ShareRow.{ShareRow}
-use Rattle.mf_store_upgrade.specs.Upgrade.{First, Own, schema_kept, Holds, Fits, after, upgrade_writes, upgraded, CanUpgrade}
+use Rattle.mf_store_upgrade.specs.Upgrade.{First, Own, schema_kept, Holds, Fits, after, upgrade_writes, upgraded_lists, CanUpgrade}
 use Rattle.mf_store_upgrade.specs.Upgraded.{IsKeepingFirst, IsUpgradedTo}
 use Rattle.mf_store_upgrade.specs.declared.UpgradeWrite.{UpgradeWrite}
 use Rattle.mf_store_upgrade.proofs.LawLemmas.{upgrades_first}
@@ -17,7 +17,7 @@ use Rattle.mf_store_upgrade.proofs.LawLemmas.{upgrades_first}
 module _ (was is : State) (meta : MetaRow) (instalments : List InstalmentRow) (shares : List ShareRow) (writes : List UpgradeWrite) (made : writes ≡ upgrade_writes meta instalments shares)
     (lists : Lists) (can : CanUpgrade meta instalments shares lists) (keeping : IsKeepingFirst was lists) where
   abbrev target : Lists
-  target = upgraded meta instalments shares lists
+  target = upgraded_lists meta instalments shares lists
 
   fit : AllFit after Fits writes (First lists)
   fit = subst (λ ws. AllFit after Fits ws (First lists)) (sym made) (upgrades_first meta instalments shares lists can).fit

@@ -25,7 +25,7 @@ use Rattle.mf_store_records.specs.declared.writes.StoreWrite.{StoreWrite}
 use Rattle.mf_store_records.proofs.Texts.{create_instalments, create_shares, defines_instalments, defines_shares}
 use Rattle.mf_store_records.proofs.TableLemmas.{by_instalment_total, by_share_total}
 use Rattle.mf_store_rows.specs.Schemas.{first_schema}
-use Rattle.mf_store_upgrade.specs.Upgrade.{Kept, First, Own, schema_kept, Holds, Fits, after}
+use Rattle.mf_store_upgrade.specs.Upgrade.{KeptLists, First, Own, schema_kept, Holds, Fits, after}
 use Rattle.mf_store_upgrade.specs.declared.UpgradeWrite.TheVariants.{MakeAccountTables, Put}
 
 -- a table is made beside others, whose trees stay
@@ -93,13 +93,13 @@ defines_shares_then = subst (λ s. Defines s create_shares (record shares { tree
 
 -- ---- the two tables made
 
-abbrev Stands : Database → Kept → Type 0
+abbrev Stands : Database → KeptLists → Type 0
 Stands = Serves schema_kept Holds
 
 pub making_accounts : (a b c : State) → Ran create_instalments [] a b → Ran create_shares [] b c → Steps Stands (Fits MakeAccountTables) (after MakeAccountTables) a c
 making_accounts a b c first second = record { mode = second.mode; was_open = first.was_open; turns = turns }
   where
-    turns : (lists : Kept) → Stands a.now lists → Fits MakeAccountTables lists → Stands c.now (after MakeAccountTables lists)
+    turns : (lists : KeptLists) → Stands a.now lists → Fits MakeAccountTables lists → Stands c.now (after MakeAccountTables lists)
     turns (Own lists) s fits = absurd fits
     turns (First m) s fits =
         let one = makes_beside first_schema (record instalments { tree = 0 }) create_instalments a b first.count defines_instalments_then s.schema_is first.ran in
@@ -127,7 +127,7 @@ making_accounts a b c first second = record { mode = second.mode; was_open = fir
 pub putting_own : (write : StoreWrite) (old new : State) → Steps (Serves schema_of HoldsOwn) (FitsOwn write) (after_own write) old new → Steps Stands (Fits (Put write)) (after (Put write)) old new
 putting_own write old new steps = record { mode = steps.mode; was_open = steps.was_open; turns = turns }
   where
-    turns : (lists : Kept) → Stands old.now lists → Fits (Put write) lists → Stands new.now (after (Put write) lists)
+    turns : (lists : KeptLists) → Stands old.now lists → Fits (Put write) lists → Stands new.now (after (Put write) lists)
     turns (First lists) s fits = absurd fits
     turns (Own lists) s fits =
         let done = steps.turns lists (record { schema_is = s.schema_is; holds = s.holds }) fits in

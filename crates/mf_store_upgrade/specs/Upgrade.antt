@@ -31,26 +31,26 @@ pub record HoldsFirst (trees : Trees) (lists : Lists) : Type 0 where
   pub receipts : Keeps receipt_row by_receipt (trees 17) lists.receipts
 
 -- what a database keeps: the lists of the first schema, or those of the program's own, if it has tables
-pub data Kept : Type 0 where
-  First : Lists → Kept
-  Own : Option Lists → Kept
+pub data KeptLists : Type 0 where
+  First : Lists → KeptLists
+  Own : Option Lists → KeptLists
 
-abbrev pub schema_kept : Kept → Schema
+abbrev pub schema_kept : KeptLists → Schema
 schema_kept (First lists) = first_schema
 schema_kept (Own lists) = schema_of lists
 
-abbrev pub Holds : Trees → Kept → Type 0
+abbrev pub Holds : Trees → KeptLists → Type 0
 Holds trees (First lists) = HoldsFirst trees lists
 Holds trees (Own lists) = HoldsOwn trees lists
 
 -- tables of instalments and of shares are made beside those of the first schema; a row is put where both are there
-abbrev pub Fits : UpgradeWrite → Kept → Type 0
+abbrev pub Fits : UpgradeWrite → KeptLists → Type 0
 Fits MakeAccountTables (First lists) = Unit {0}
 Fits MakeAccountTables (Own lists) = ⊥
 Fits (Put write) (First lists) = ⊥
 Fits (Put write) (Own lists) = FitsOwn write lists
 
-abbrev pub after : UpgradeWrite → Kept → Kept
+abbrev pub after : UpgradeWrite → KeptLists → KeptLists
 after MakeAccountTables (First lists) = Own (Some (record lists { instalments = []; shares = [] }))
 after MakeAccountTables (Own lists) = Own lists
 after (Put write) (First lists) = First lists
@@ -61,8 +61,8 @@ abbrev pub upgrade_writes : MetaRow → List InstalmentRow → List ShareRow →
 upgrade_writes meta instalments shares = MakeAccountTables ∷ (map (λ x. Put (PutInstalment x)) instalments ++ (map (λ x. Put (PutShare x)) shares ++ Put (PutMeta meta) ∷ []))
 
 -- the lists once these are made
-abbrev pub upgraded : MetaRow → List InstalmentRow → List ShareRow → Lists → Lists
-upgraded meta instalments shares lists = record lists { meta = meta ∷ []; instalments = instalments; shares = shares }
+abbrev pub upgraded_lists : MetaRow → List InstalmentRow → List ShareRow → Lists → Lists
+upgraded_lists meta instalments shares lists = record lists { meta = meta ∷ []; instalments = instalments; shares = shares }
 
 -- the rows rise by key, and the row of meta stands in place of the only one
 pub record CanUpgrade (meta : MetaRow) (instalments : List InstalmentRow) (shares : List ShareRow) (lists : Lists) : Type 0 where
@@ -75,7 +75,7 @@ pub record CanUpgrade (meta : MetaRow) (instalments : List InstalmentRow) (share
 -- these writes can be made over the lists of the first schema, and bring them there
 pub record DoUpgrade (meta : MetaRow) (instalments : List InstalmentRow) (shares : List ShareRow) (lists : Lists) : Type 0 where
   pub fit : AllFit after Fits (upgrade_writes meta instalments shares) (First lists)
-  pub become : after_all after (upgrade_writes meta instalments shares) (First lists) ≡ Own (Some (upgraded meta instalments shares lists))
+  pub become : after_all after (upgrade_writes meta instalments shares) (First lists) ≡ Own (Some (upgraded_lists meta instalments shares lists))
 
 abbrev pub UpgradesFirst : Type 0
 UpgradesFirst = (meta : MetaRow) (instalments : List InstalmentRow) (shares : List ShareRow) (lists : Lists) → CanUpgrade meta instalments shares lists → DoUpgrade meta instalments shares lists

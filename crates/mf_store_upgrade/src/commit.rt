@@ -8,7 +8,7 @@ ghost use Rattle.sqlite.specs.Tree.{Trees};
 ghost use Rattle.mf_store_records.specs.Calls.{OnlyFaultsShut};
 ghost use Rattle.mf_store_records.specs.Rows.{Lists};
 ghost use Rattle.mf_store_records.specs.Writes.{Holds as HoldsOwn};
-ghost use Rattle.mf_store_upgrade.specs.Upgrade.{upgrade_writes, upgraded, CanUpgrade};
+ghost use Rattle.mf_store_upgrade.specs.Upgrade.{upgrade_writes, upgraded_lists, CanUpgrade};
 ghost use Rattle.mf_store_upgrade.specs.Upgraded.{IsKeepingFirst, IsUpgradedTo};
 
 use crate::UpgradeWrite;
@@ -59,12 +59,12 @@ pub fn upgrade<S: Alter>(
     ensures was_open { HasCleanDisk (state S.Store connection.new) → IsTrue (state S.Store connection.new).is_open → IsTrue (state S.Store connection.old).is_open }
 
     ensures made { HasCleanDisk (state S.Store connection.new) → OnOk result ((lists : Lists) → CanUpgrade meta instalments.items shares.items lists → IsKeepingFirst (state S.Store connection.old) lists
-        → IsUpgradedTo (state S.Store connection.new) (upgraded meta instalments.items shares.items lists)) }
+        → IsUpgradedTo (state S.Store connection.new) (upgraded_lists meta instalments.items shares.items lists)) }
     ensures same { HasCleanDisk (state S.Store connection.new) → IsTrue (state S.Store connection.new).is_open → OnErr result ((state S.Store connection.new).now ≡ (state S.Store connection.old).now) }
 
     // A stop leaves what it could leave before, or the second schema whole.
     ensures stop { HasCleanDisk (state S.Store connection.new) → (lists : Lists) → CanUpgrade meta instalments.items shares.items lists → IsKeepingFirst (state S.Store connection.old) lists
-        → (trees : Trees) → (state S.Store connection.new).may_leave trees → (state S.Store connection.old).may_leave trees ⊎ HoldsOwn trees (Some (upgraded meta instalments.items shares.items lists)) }
+        → (trees : Trees) → (state S.Store connection.new).may_leave trees → (state S.Store connection.old).may_leave trees ⊎ HoldsOwn trees (Some (upgraded_lists meta instalments.items shares.items lists)) }
     ensures mode { connection.new.in_transaction ≡ false }
 {
     // With nothing to commit a stop leaves just the tables as they are; the call brings that into the proof.

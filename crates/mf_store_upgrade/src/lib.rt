@@ -7,7 +7,7 @@ ghost use Rattle.std.specs.Prelude.{◌≡◌, IsTrue, OnOk};
 ghost use Rattle.sqlite.specs.State.{HasCleanDisk, KeepsCommit, Survives};
 ghost use Rattle.sqlite.specs.Held.{state};
 ghost use Rattle.mf_store_tables.specs.Writes.{Serves, Steps};
-ghost use Rattle.mf_store_upgrade.specs.Upgrade.{Kept, schema_kept, Holds, Fits, after, UpgradesFirst};
+ghost use Rattle.mf_store_upgrade.specs.Upgrade.{KeptLists, schema_kept, Holds, Fits, after, UpgradesFirst};
 
 mod commit;
 
@@ -37,7 +37,7 @@ fn make_account_tables<S: Alter>(tx: &mut Transaction<'_, S>) -> Result<(), Erro
 }
 
 impl Write for UpgradeWrite {
-    ghost Lists = { Kept };
+    ghost Lists = { KeptLists };
 
     ghost schema = { schema_kept };
 

@@ -14,7 +14,7 @@ use Rattle.mf_arrears.specs.Ageing.{earlier, earliest_due, days_since}
 use Rattle.mf_arrears.specs.Line.{Loan as Aged, Line, line_of}
 use Rattle.mf_store_records.specs.Rows.{instalment_row as instalment_stored}
 use Rattle.mf_store_accounts.specs.Flat.{instalment_in}
-use Rattle.mf_store_values.specs.Arrears.{Numbered, AreAbove, AreWholeLoans, rows_of_loan, rows_of_office, aged_rows, aged_loans, IsLineOf}
+use Rattle.mf_store_values.specs.Arrears.{NumberedLoan, AreAbove, AreWholeLoans, rows_of_loan, rows_of_office, aged_rows, aged_loans, IsLineOf}
 use Rattle.mf_store_values.specs.Folding.{aged_by, with_row, Progress, step, IsAt, IsReadAs}
 use Rattle.mf_store_values.specs.declared.fold.LoanSoFar.{LoanSoFar}
 
@@ -115,7 +115,7 @@ abbrev own : ℕ → List (ℕ × Sums) → List Item
 own n [] = []
 own n (x ∷ xs) = (n, x) ∷ own n xs
 
-abbrev placed : List Numbered → List Item
+abbrev placed : List NumberedLoan → List Item
 placed [] = []
 placed (l ∷ ls) = own l.0 l.1 ++ placed ls
 
@@ -129,12 +129,12 @@ run_own today p n (x ∷ xs) e =
     ap (λ b. run today (cond b (record p { rows = p.rows ++ x.1 ∷ [] }) (record { counted = p.counted ++ aged_rows today p.rows; loan = n; rows = x.1 ∷ [] })) (own n xs)) yes
     ∙ run_own today (record p { rows = p.rows ++ x.1 ∷ [] }) n xs e ∙ ap (λ r. record p { rows = r }) (append_assoc p.rows (x.1 ∷ []) (sums_in xs))
 
-lower : (m n : ℕ) (ls : List Numbered) → m < n → AreAbove n ls → AreAbove m ls
+lower : (m n : ℕ) (ls : List NumberedLoan) → m < n → AreAbove n ls → AreAbove m ls
 lower m n [] low up = tt
 lower m n (l ∷ ls) low up = (omega (arith, low, up.0), up.1)
 
 -- loan by loan
-run_loans : (today : ℕ) (p : Progress) (ls : List Numbered) → AreAbove p.loan ls → done today (run today p (placed ls)) ≡ p.counted ++ (aged_rows today p.rows ++ aged_loans today ls)
+run_loans : (today : ℕ) (p : Progress) (ls : List NumberedLoan) → AreAbove p.loan ls → done today (run today p (placed ls)) ≡ p.counted ++ (aged_rows today p.rows ++ aged_loans today ls)
 run_loans today p [] up = ap (λ l. p.counted ++ l) (sym (append-nil (aged_rows today p.rows)))
 run_loans today p (l ∷ ls) up =
     go l.1 (run_loans today p ls (lower p.loan l.0 ls up.0 up.1)) (λ rows. run_loans today (record { counted = p.counted ++ aged_rows today p.rows; loan = l.0; rows = rows }) ls up.1)
@@ -155,7 +155,7 @@ own_rows : (office n : ℕ) (xs : List (ℕ × Sums)) → map (item_row office) 
 own_rows office n [] = refl
 own_rows office n (x ∷ xs) = ap (λ l. item_row office (n, x) ∷ l) (own_rows office n xs)
 
-placed_rows : (office : ℕ) (ls : List Numbered) → map (item_row office) (placed ls) ≡ map instalment_stored (rows_of_office office ls)
+placed_rows : (office : ℕ) (ls : List NumberedLoan) → map (item_row office) (placed ls) ≡ map instalment_stored (rows_of_office office ls)
 placed_rows office [] = refl
 placed_rows office (l ∷ ls) =
     map-append (item_row office) (own l.0 l.1) (placed ls) ∙ ap₂ ◌++◌ (own_rows office l.0 l.1) (placed_rows office ls) ∙ sym (map-append instalment_stored (rows_of_loan office l) (rows_of_office office ls))
@@ -167,7 +167,7 @@ own_whole : (n : ℕ) (xs : List (ℕ × Sums)) → AllByRecursion (λ item. IsW
 own_whole n [] all = tt
 own_whole n (x ∷ xs) all = (all.0, own_whole n xs all.1)
 
-placed_whole : (ls : List Numbered) → AreWholeLoans ls → AreWholeItems (placed ls)
+placed_whole : (ls : List NumberedLoan) → AreWholeLoans ls → AreWholeItems (placed ls)
 placed_whole [] all = tt
 placed_whole (l ∷ ls) all = all-append (λ (x : Item). IsWhole x.1.1) (own l.0 l.1) (placed ls) (own_whole l.0 l.1 all.0) (placed_whole ls all.1)
 

@@ -21,7 +21,7 @@ use Rattle.mf_store_records.proofs.ReadLemmas.{instalments_of_office_shows}
 use Rattle.mf_store_records.proofs.Texts.{instalments_of_office, instalments_of_office_plain}
 use Rattle.sqlite_trees.specs.declared.store.Store.{Ghosts}
 use Rattle.sqlite.specs.Tree.{Trees}
-use Rattle.mf_store_values.specs.Arrears.{Numbered, AreAbove, AreWholeLoans, rows_of_office, aged_loans, IsLineOf}
+use Rattle.mf_store_values.specs.Arrears.{NumberedLoan, AreAbove, AreWholeLoans, rows_of_office, aged_loans, IsLineOf}
 use Rattle.mf_store_values.specs.Folding.{IsKept, Folds, Refuses}
 
 both_on_ok : {A E : Type 0} (r : Result A E) (P Q O : Type 0) → OnOk r P → OnOk r O → (P → O → Q) → OnOk r Q
@@ -181,7 +181,7 @@ pub at_is_ok : {A E : Type 0} (r : Result A E) (x : A) (P : Type 0) → r ≡ Ok
 at_is_ok r x P e h = subst (λ o. OnOk o P) e h
 
 -- the line of an office's loans
-pub line_read : (today office : ℕ) (lists : Lists) (old mid new : State) (loans : List Numbered) (empty line : Line) → IsUnchanged old mid → IsKeeping old lists → AreAbove 0 loans → AreWholeLoans loans → filter (is_instalment_in office) lists.instalments ≡ rows_of_office office loans
+pub line_read : (today office : ℕ) (lists : Lists) (old mid new : State) (loans : List NumberedLoan) (empty line : Line) → IsUnchanged old mid → IsKeeping old lists → AreAbove 0 loans → AreWholeLoans loans → filter (is_instalment_in office) lists.instalments ≡ rows_of_office office loans
     → empty ≡ line_of office [] → ((taken : List Row) × Shown instalments_of_office (Int (pos office) ∷ []) mid new taken × IsLineOf today taken empty line) → line ≡ line_of office (aged_loans today loans)
 line_read today office lists old mid new loans empty line same keeping above whole are is_new told =
     told.2 office loans above whole (taken_rows office lists old mid new told.0 same keeping told.1 ∙ ap (map instalment_stored) are) is_new

@@ -23,30 +23,30 @@ abbrev pub aged_rows : ℕ → List Sums → List Aged
 aged_rows today rows = cond (list_any is_open rows) (record { principal = open_in 3 rows; days = pos (days_overdue rows today) } ∷ []) []
 
 -- a loan by its number, with its instalments and their numbers
-abbrev pub Numbered : Type 0
-Numbered = ℕ × List (ℕ × Sums)
+abbrev pub NumberedLoan : Type 0
+NumberedLoan = ℕ × List (ℕ × Sums)
 
 -- the rows of a loan's instalments, in this office
-abbrev pub rows_of_loan : ℕ → Numbered → List InstalmentRow
+abbrev pub rows_of_loan : ℕ → NumberedLoan → List InstalmentRow
 rows_of_loan office loan = map (instalment_in office loan.0) loan.1
 
 -- the rows of an office's instalments, by loan and number: loan by loan, those of the loan
-abbrev pub rows_of_office : ℕ → List Numbered → List InstalmentRow
+abbrev pub rows_of_office : ℕ → List NumberedLoan → List InstalmentRow
 rows_of_office office loans = flat_map (rows_of_loan office) loans
 
 -- the numbers of the loans are above this one, and ascend
-abbrev pub AreAbove : ℕ → List Numbered → Type 0
+abbrev pub AreAbove : ℕ → List NumberedLoan → Type 0
 AreAbove n [] = Unit {0}
 AreAbove n (l ∷ ls) = (n < l.0) × AreAbove l.0 ls
 
 -- each instalment has its four sums of each kind
-abbrev pub AreWholeLoans : List Numbered → Type 0
+abbrev pub AreWholeLoans : List NumberedLoan → Type 0
 AreWholeLoans loans = AllByRecursion (λ loan. AllByRecursion (λ item. IsWhole item.1) loan.1) loans
 
 -- the loans that count on a day: those where something is outstanding in one of their instalments
-abbrev pub aged_loans : ℕ → List Numbered → List Aged
+abbrev pub aged_loans : ℕ → List NumberedLoan → List Aged
 aged_loans today loans = flat_map (λ loan. aged_rows today (map (λ item. item.1) loan.1)) loans
 
 -- rows that are those of an office's instalments make of an empty line the line of its loans on that day
 abbrev pub IsLineOf : ℕ → List Row → Line → Line → Type 0
-IsLineOf today rows empty line = (office : ℕ) (loans : List Numbered) → AreAbove 0 loans → AreWholeLoans loans → rows ≡ map instalment_stored (rows_of_office office loans) → empty ≡ line_of office [] → line ≡ line_of office (aged_loans today loans)
+IsLineOf today rows empty line = (office : ℕ) (loans : List NumberedLoan) → AreAbove 0 loans → AreWholeLoans loans → rows ≡ map instalment_stored (rows_of_office office loans) → empty ≡ line_of office [] → line ≡ line_of office (aged_loans today loans)

@@ -11,14 +11,11 @@ ghost use Rattle.mf_store_values.specs.Folding.{aged_by, with_row, Progress, ste
 use crate::instalments::instalment_from;
 use crate::values::stored;
 use mf_alloc::{Portion, Row as Instalment};
-use mf_arrears::{OfficeLine, days_past, earlier};
+use mf_arrears::{MOST_LOANS, OfficeLine, days_past, earlier};
 use mf_base::{Day, Fault};
 use mf_catalog::GREATEST_AMOUNT;
 use mf_store_records::{InstalmentRow, read_row};
 use sqlite::{Alter, Row, Rows};
-
-/// A line that counts so many loans takes no more: 10^10.
-const MOST_LOANS: u64 = 10_000_000_000;
 
 /// What is read of a loan: its number, what is outstanding of its principal in cents, and the earliest due day of an
 /// instalment with something outstanding.

@@ -11,7 +11,7 @@ ghost use Rattle.sqlite.specs.State.{HasCleanDisk, Survives, Shown, CommitsShowi
 ghost use Rattle.sqlite.specs.Values.{bound};
 ghost use Rattle.mf_store_records.specs.Calls.{IsUnchanged, IsKeeping};
 ghost use Rattle.mf_store_records.specs.Rows.{Lists, is_instalment_in};
-ghost use Rattle.mf_store_values.specs.Arrears.{Numbered, AreAbove, AreWholeLoans, rows_of_office, aged_loans, IsLineOf};
+ghost use Rattle.mf_store_values.specs.Arrears.{NumberedLoan, AreAbove, AreWholeLoans, rows_of_office, aged_loans, IsLineOf};
 
 use crate::fold::fold_loans;
 use mf_arrears::OfficeLine;
@@ -53,7 +53,7 @@ pub fn read_line<S: Alter>(
     ensures kept { IsUnchanged (state S.Store connection.old) (state S.Store connection.new) }
     ensures gives_up { IfErr result (λ fault. fault ≡ F20) }
     ensures open { HasCleanDisk (state S.Store connection.new) → OnOk result (IsTrue (state S.Store connection.new).is_open) }
-    ensures line { HasCleanDisk (state S.Store connection.new) → (lists : Lists) → IsKeeping (state S.Store connection.old) lists → (loans : List Numbered) → AreAbove 0 loans → AreWholeLoans loans
+    ensures line { HasCleanDisk (state S.Store connection.new) → (lists : Lists) → IsKeeping (state S.Store connection.old) lists → (loans : List NumberedLoan) → AreAbove 0 loans → AreWholeLoans loans
         → filter (is_instalment_in office) lists.instalments ≡ rows_of_office office loans → IfOk result (λ line. line ≡ line_of_loans office (aged_loans today loans)) }
     ensures mode { connection.new.in_transaction ≡ false }
 {

@@ -10,12 +10,13 @@ use Rattle.mf_model.specs.declared.reply.Reply.{Reply}
 use Rattle.mf_model.specs.Institution.{Institution}
 use Rattle.mf_model.specs.Tree.{IsTree, view}
 use Rattle.mf_model.specs.Desk.{reply}
-use Rattle.mf_model.specs.Run.{Line, Touch, answer, change_of, from_office, is_of, touched, but_given_up, play_replies, RepliesArePlay}
+use Rattle.mf_model.specs.Run.{Line, Touch, answer, change_of, from_office, is_of, is_touched, but_given_up, play_replies, RepliesArePlay}
+use Rattle.mf_model.specs.declared.store.InstitutionStore.{Ghosts}
 use Rattle.mf_wire_messages.specs.Messages.{IsMessage, Request as Message}
 use Rattle.mf_wire_messages.specs.Responses.{response, refusal}
 use Rattle.mf_wire_messages.proofs.MessageLemmas.{one_message}
 use Rattle.mf_wire_replies.specs.Shown.{IsText}
-use Rattle.mf_wire.specs.OneCall.{IsolatedCall, alone, or_given_up}
+use Rattle.mf_wire.specs.OneCall.{IsIsolatedCall, alone, or_given_up}
 use Rattle.mf_wire.specs.Runs.{Calls}
 use Rattle.mf_wire.specs.Serving.{AnswersMessage, call_of_message, shown_response, text_response}
 use Rattle.mf_wire.proofs.Ran.{IsolationLaw}
@@ -33,14 +34,14 @@ only a b e = cc
 own_line : (l : Line) (o : ℕ) (i : Institution) → from_office o l.call ≡ true → RepliesArePlay i (l ∷ []) → answer l i ≡ or_given_up l.given_up (reply l.call (view o i))
 own_line l o i own law =
     let touch : Touch = record { call = l.call; accepted = is_some (change_of l i) } in
-    let outer : Bool → Type 0 = λ b. cond b (answer l i ∷ []) [] ≡ but_given_up (cond b (l.given_up ∷ []) []) (play_replies (from_office o) (cond (b || touched o i (change_of l i)) (touch ∷ []) []) (view o i)) in
+    let outer : Bool → Type 0 = λ b. cond b (answer l i ∷ []) [] ≡ but_given_up (cond b (l.given_up ∷ []) []) (play_replies (from_office o) (cond (b || is_touched o i (change_of l i)) (touch ∷ []) []) (view o i)) in
     let inner : Bool → Type 0 = λ b. answer l i ∷ [] ≡ but_given_up (l.given_up ∷ []) (cond b (reply l.call (view o i) ∷ []) []) in
     only (answer l i) (or_given_up l.given_up (reply l.call (view o i))) (subst inner own (subst outer own (law o)))
 
-module _ {S : Type 0} (stands : S → Institution → Type 0) (clean : S → Type 0) (leaves : S → List Institution → Type 0) where
+module _ {S : Type 0} (store : Ghosts S) where
   -- a call that was answered is isolated, where the offices are a tree
   pub isolated_call : IsolationLaw → (told : Result Reply Fault → Type 0) (call : Call) (old new : S) (i : Institution) → IsTree i.offices
-      → Calls stands clean leaves told call old new → clean new → stands old i → IsolatedCall stands told call i new
+      → Calls store told call old new → store.clean new → store.stands old i → IsIsolatedCall store.stands told call i new
   isolated_call law told call old new i tree calls c s =
       let w = calls.answered c i s in
       let l = alone call w.0 in record {
@@ -51,12 +52,12 @@ module _ {S : Type 0} (stands : S → Institution → Type 0) (clean : S → Typ
       }
 
   -- a message that was answered was answered as the message that it is
-  pub as_message : (bytes text : List ℕ) (old new : S) (message : Option Message) (to_head : Bool) → IsMessage bytes message to_head → AnswersMessage stands clean leaves bytes old text new
-      → Calls stands clean leaves (λ r. text ≡ shown_response to_head r) (call_of_message message) old new
+  pub as_message : (bytes text : List ℕ) (old new : S) (message : Option Message) (to_head : Bool) → IsMessage bytes message to_head → AnswersMessage store bytes old text new
+      → Calls store (λ r. text ≡ shown_response to_head r) (call_of_message message) old new
   as_message bytes text old new message to_head is a =
       let same = one_message bytes a.message message a.to_head to_head a.is is in
-      subst (λ (t : Bool). Calls stands clean leaves (λ r. text ≡ shown_response t r) (call_of_message message) old new) same.1
-      (subst (λ (m : Option Message). Calls stands clean leaves (λ r. text ≡ shown_response a.to_head r) (call_of_message m) old new) same.0 a.answered)
+      subst (λ (t : Bool). Calls store (λ r. text ≡ shown_response t r) (call_of_message message) old new) same.1
+      (subst (λ (m : Option Message). Calls store (λ r. text ≡ shown_response a.to_head r) (call_of_message m) old new) same.0 a.answered)
 
 -- what two institutions are told of one call is the same where the caller's office sees the same, unless it is given up
 pub same_response : (to_head g h : Bool) (call : Call) (v w : Institution) (text other : List ℕ) → v ≡ w

@@ -13,6 +13,7 @@ use Rattle.mf_model.specs.declared.reply.Reply.{Reply}
 use Rattle.mf_model.specs.Institution.{Institution, Change, after, after_maybe}
 use Rattle.mf_model.specs.Desk.{Outcome, flaw_fault, outcome, reply, reply_in, change_in}
 use Rattle.mf_model.specs.Store.{left_by}
+use Rattle.mf_model.specs.declared.store.InstitutionStore.{Ghosts}
 use Rattle.mf_desk.specs.Answers.{Tells, call_of as call_by}
 pub use Rattle.mf_desk.proofs.Calling.{told_of_answer}
 use Rattle.mf_office.specs.Texts.{caller_of}
@@ -21,9 +22,9 @@ use Rattle.mf_wire_requests.specs.RequestLine.{Parts, after_caller, parts_after,
 use Rattle.mf_wire_requests.specs.Requests.{request_of, asked_in, call_of_parts, call_of}
 use Rattle.mf_wire.specs.Runs.{Calls}
 
-module _ {S : Type 0} (stands : S → Institution → Type 0) (clean : S → Type 0) (leaves : S → List Institution → Type 0) where
+module _ {S : Type 0} (store : Ghosts S) where
   -- what reads as no request is refused, and nothing is changed
-  pub told_malformed : (told : Result Reply Fault → Type 0) (call : Call) (s : S) (flaw : Flaw) → call.request ≡ Unreadable flaw → told (Err (flaw_fault flaw)) → Calls stands clean leaves told call s s
+  pub told_malformed : (told : Result Reply Fault → Type 0) (call : Call) (s : S) (flaw : Flaw) → call.request ≡ Unreadable flaw → told (Err (flaw_fault flaw)) → Calls store told call s s
   told_malformed told call s flaw e t =
       let o : (i : Institution) → outcome call i ≡ Err (flaw_fault flaw) = λ i. ap (λ (r : Request). outcome (record { caller = call.caller; request = r }) i) e in
       record {
@@ -32,20 +33,20 @@ module _ {S : Type 0} (stands : S → Institution → Type 0) (clean : S → Typ
           false,
           record {
             replied = subst told (sym (ap reply_in (o i))) t;
-            follows = subst (λ (x : Outcome). stands s (after_maybe (change_in x) i)) (sym (o i)) h;
-            stop = λ is l. subst (λ (x : Outcome). leaves s (left_by (change_in x) false i is)) (sym (o i)) l;
+            follows = subst (λ (x : Outcome). store.stands s (after_maybe (change_in x) i)) (sym (o i)) h;
+            stop = λ is l. subst (λ (x : Outcome). store.leaves s (left_by (change_in x) false i is)) (sym (o i)) l;
           },
         );
       }
 
   -- a call that was given up before anything was looked at
-  pub told_given_up : (told : Result Reply Fault → Type 0) (call : Call) (s : S) → ((i : Institution) (is : List Institution) → leaves s is → leaves s (i ∷ is)) → told (Err F20) → Calls stands clean leaves told call s s
+  pub told_given_up : (told : Result Reply Fault → Type 0) (call : Call) (s : S) → ((i : Institution) (is : List Institution) → store.leaves s is → store.leaves s (i ∷ is)) → told (Err F20) → Calls store told call s s
   told_given_up told call s more t = record {
     premise = λ c. c;
     answered = λ c i h. (true, record { replied = t; follows = h; stop = λ is l. left (change_in (outcome call i)) i is l });
   }
     where
-      left : (change : Option Change) (i : Institution) (is : List Institution) → leaves s is → leaves s (left_by change true i is)
+      left : (change : Option Change) (i : Institution) (is : List Institution) → store.leaves s is → store.leaves s (left_by change true i is)
       left None i is l = l
       left (Some change) i is l = more (after change i) is l
 
@@ -80,5 +81,5 @@ sent_parts p caller request c t r =
     ∙ ap (λ (b : Bool). cond b (request_of p.method p.path p.body) (Unreadable Malformed)) t ∙ r
     ))
 
-pub told_as : {S : Type 0} (stands : S → Institution → Type 0) (clean : S → Type 0) (leaves : S → List Institution → Type 0) {T : Type 0} (shows : Reply → Result T Fault → Type 0) (a b : Call) (old new : S) (result : Result T Fault) → a ≡ b → Tells stands clean leaves shows (reply a) old new result → Tells stands clean leaves shows (reply b) old new result
-told_as stands clean leaves shows a b old new result e t = subst (λ (call : Call). Tells stands clean leaves shows (reply call) old new result) e t
+pub told_as : {S : Type 0} (store : Ghosts S) {T : Type 0} (shows : Reply → Result T Fault → Type 0) (a b : Call) (old new : S) (result : Result T Fault) → a ≡ b → Tells store shows (reply a) old new result → Tells store shows (reply b) old new result
+told_as store shows a b old new result e t = subst (λ (call : Call). Tells store shows (reply call) old new result) e t

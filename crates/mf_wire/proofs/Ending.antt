@@ -1,30 +1,49 @@
--- How a run ends, put together from what is said of each end.
-use Rattle.std.proofs.Common.{◌≡◌, ◌≢◌, ℕ, List, Result, Ok, Err, refl}
-use Rattle.std.specs.Prelude.{IfOk, IfErr, OnOk}
+-- What is told of how a run ends, by one relation of runs, is told of it by a weaker one.
+use Rattle.std.proofs.Common.{inl, inr, ℕ, List, Option, Result, Ok, Err}
 use Rattle.mf_base.specs.declared.fault.Cause.{Cause}
 use Rattle.mf_base.specs.declared.fault.Cause.TheVariants.{Read, Write, Memory}
 use Rattle.mf_base.specs.declared.fault.StreamFault.{StreamFault}
-use Rattle.mf_wire_lines.specs.Told.{Whole, Stopped, Severed}
-use Rattle.mf_wire.specs.Streams.{Streams, Ends, EndsBy}
-use Rattle.mf_wire.proofs.Ran.{whole, stopped, severed}
+use Rattle.mf_wire_lines.specs.Run.{Answered, Broken}
+use Rattle.mf_wire_lines.specs.Streams.{Streams}
+use Rattle.mf_wire_lines.specs.Ends.{Ends, EndsBy}
 
-module _ {S : Type 0} (P Q : S → List (List ℕ) → List (List ℕ) → S → Type 0) (weaker : (old : S) (lines texts : List (List ℕ)) (new : S) → P old lines texts new → Q old lines texts new) (old new : S) (s : Streams) where
-  pub ends : (r : Result ℕ StreamFault)
-      → IfOk r (Whole P old new s.unread s.left s.before s.after)
-      → OnOk r (s.source_faults_after ≡ s.source_faults_before)
-      → OnOk r (s.sink_faults_after ≡ s.sink_faults_before)
-      → IfErr r (λ f. f.cause ≡ Read → Stopped P old new s.unread s.left s.before s.after f.answered s.source_faults_before s.source_faults_after)
-      → IfErr r (λ f. f.cause ≡ Read → s.sink_faults_after ≡ s.sink_faults_before)
-      → IfErr r (λ f. f.cause ≡ Write → Severed P old new s.unread s.left s.before s.after f.answered)
-      → IfErr r (λ f. f.cause ≡ Write → s.sink_faults_after ≢ s.sink_faults_before)
-      → IfErr r (λ f. f.cause ≡ Write → s.source_faults_after ≡ s.source_faults_before)
-      → IfErr r (λ f. f.cause ≡ Memory → (f.answered ≡ 0) × (new ≡ old))
-      → Ends Q old new s r
-  ends (Ok count) ok source sink read read_sink write write_sink write_source memory =
-      record { answered = whole P Q weaker old new _ _ _ _ count ok; source = source; sink = sink }
-  ends (Err f) ok source sink read read_sink write write_sink write_source memory = at f.cause refl
+module _ {S : Type 0} (P Q : S → List (List ℕ) → List (List ℕ) → S → Type 0) (weaker : (old : S) (lines texts : List (List ℕ)) (new : S) → P old lines texts new → Q old lines texts new) where
+  answered : (old new : S) (lines : List (List ℕ)) (before after : Option (List ℕ)) (n : ℕ) → Answered P old new lines before after n → Answered Q old new lines before after n
+  answered old new lines before after n a = record { texts = a.texts; ran = weaker old lines a.texts new a.ran; written = a.written; counted = a.counted }
+
+  broken : (old new : S) (lines : List (List ℕ)) (before after : Option (List ℕ)) (n : ℕ) → Broken P old new lines before after n → Broken Q old new lines before after n
+  broken old new lines before after n b = record {
+    done = b.done;
+    line = b.line;
+    rest = b.rest;
+    among = b.among;
+    texts = b.texts;
+    text = b.text;
+    ran = weaker old _ _ new b.ran;
+    part = b.part;
+    short = b.short;
+    written = b.written;
+    counted = b.counted;
+  }
+
+  pub ends : (old new : S) (streams : Streams) (r : Result ℕ StreamFault) → Ends P old new streams r → Ends Q old new streams r
+  ends old new streams (Ok count) e = record {
+    bytes = e.bytes;
+    consumed = e.consumed;
+    ended = e.ended;
+    answered = answered old new _ _ _ count e.answered;
+    source = e.source;
+    sink = e.sink;
+  }
+  ends old new streams (Err fault) e = by fault.cause e
     where
-      at : (cause : Cause) → f.cause ≡ cause → EndsBy Q old new s cause f.answered
-      at Read e = record { answered = stopped P Q weaker old new _ _ _ _ f.answered _ _ (read e); sink = read_sink e }
-      at Write e = record { answered = severed P Q weaker old new _ _ _ _ f.answered (write e); source = write_source e; sink = write_sink e }
-      at Memory e = let m = memory e in record { none = m.0; same = m.1 }
+      by : (cause : Cause) → EndsBy P old new streams cause fault.answered → EndsBy Q old new streams cause fault.answered
+      by Read e = record { bytes = e.bytes; consumed = e.consumed; answered = answered old new _ _ _ fault.answered e.answered; failed = e.failed; sink = e.sink }
+      by Write e = record {
+        bytes = e.bytes;
+        consumed = e.consumed;
+        broken = elim e.broken [ inl b ↦ inl (broken old new _ _ _ fault.answered b) | inr b ↦ inr (b.0, broken old new _ _ _ fault.answered b.1) ];
+        source = e.source;
+        sink = e.sink;
+      }
+      by Memory e = record { none = e.none; same = e.same }

@@ -1,5 +1,5 @@
 -- A run line by line is a run on the institution, and what each office is told of it is isolated.
-use Rattle.std.proofs.Common.{◌≡◌, inl, inr, ℕ, nat_le, Bool, true, false, cond, List, [], ◌∷◌, length, map, Option, refl, sym, ap, ◌∙◌, subst}
+use Rattle.std.proofs.Common.{◌≡◌, ℕ, nat_le, Bool, true, false, cond, List, [], ◌∷◌, length, map, refl, sym, ap, ◌∙◌, subst}
 use Rattle.std.specs.Prelude.{MatchBool, Result}
 use Rattle.mf_base.specs.declared.fault.Fault.TheVariants.{F1}
 use Rattle.mf_model.specs.declared.request.Flaw.TheVariants.{Malformed}
@@ -11,44 +11,44 @@ use Rattle.mf_model.specs.Institution.{Institution}
 use Rattle.mf_model.specs.Tree.{IsTree}
 use Rattle.mf_model.specs.Sound.{IsSound}
 use Rattle.mf_model.specs.Desk.{outcome, change_in}
-use Rattle.mf_model.specs.Run.{Line, answer, next, answers, last, told, ViewIsPlay, RepliesArePlay, OwnRepliesArePlay, from_office, from_caller, given_up, but_given_up}
+use Rattle.mf_model.specs.Run.{Line, answer, next, answers, last, replies_to, ViewIsPlay, RepliesArePlay, OwnRepliesArePlay, from_office, from_caller, given_up, but_given_up}
 use Rattle.mf_model.specs.Store.{left_by, left_after}
+use Rattle.mf_model.specs.declared.store.InstitutionStore.{Ghosts}
 use Rattle.mf_wire_lines.specs.Replies.{fault_line}
 use Rattle.mf_wire_requests.specs.Requests.{call_of}
 use Rattle.mf_wire_replies.specs.Shown.{shown_line}
-use Rattle.mf_wire_lines.specs.Run.{LineStep, Run, Answered, Broken}
-use Rattle.mf_wire_lines.specs.Told.{Whole, Stopped, Severed}
+use Rattle.mf_wire_lines.specs.Run.{LineStep, Run}
 use Rattle.mf_wire.specs.Senders.{is_sent_by, is_sent_from, texts_for, NoneIsF20}
-use Rattle.mf_wire.specs.Runs.{texts_of, office_play, own_play, Isolated, Calls, RunsLines}
+use Rattle.mf_wire.specs.Runs.{texts_of, office_play, own_play, IsIsolated, Calls, RunsLines}
 use Rattle.mf_wire.proofs.Senders.{sent_by_is, sent_from_is, texts_for-told, all_told, all_answered_run}
 use Rattle.mf_wire.proofs.Calling.{told_malformed, too_long}
 
 -- what is told of texts is what is told of replies, as texts
-told-map : {A B : Type 0} (f : A → B) (meant : Call → Bool) (ls : List Line) (rs : List A) → told meant ls (map f rs) ≡ map f (told meant ls rs)
+told-map : {A B : Type 0} (f : A → B) (meant : Call → Bool) (ls : List Line) (rs : List A) → replies_to meant ls (map f rs) ≡ map f (replies_to meant ls rs)
 told-map f meant [] rs = refl
 told-map f meant (l ∷ ls) [] = refl
 told-map f meant (l ∷ ls) (r ∷ rs) =
-    elim (meant l.call) as (λ b. cond b (f r ∷ told meant ls (map f rs)) (told meant ls (map f rs)) ≡ map f (cond b (r ∷ told meant ls rs) (told meant ls rs))) [
+    elim (meant l.call) as (λ b. cond b (f r ∷ replies_to meant ls (map f rs)) (replies_to meant ls (map f rs)) ≡ map f (cond b (r ∷ replies_to meant ls rs) (replies_to meant ls rs))) [
       | true ↦ ap (λ ts. f r ∷ ts) (told-map f meant ls rs)
       | false ↦ told-map f meant ls rs
     ]
 
 -- runs that tell the same replies tell the same texts
-pub same_texts : (meant : Call → Bool) (ls ks : List Line) (i j : Institution) → told meant ls (answers ls i) ≡ told meant ks (answers ks j) → told meant ls (texts_of ls i) ≡ told meant ks (texts_of ks j)
+pub same_texts : (meant : Call → Bool) (ls ks : List Line) (i j : Institution) → replies_to meant ls (answers ls i) ≡ replies_to meant ks (answers ks j) → replies_to meant ls (texts_of ls i) ≡ replies_to meant ks (texts_of ks j)
 same_texts meant ls ks i j e = told-map shown_line meant ls (answers ls i) ∙ ap (map shown_line) e ∙ sym (told-map shown_line meant ks (answers ks j))
 
 -- the texts for the lines that pass are what is told of the calls that are meant
 module _ (i : Institution) (run : List Line) (lines texts : List (List ℕ)) (calls : map (λ l. l.call) run ≡ map call_of lines) (replied : texts ≡ texts_of run i) where
-  texts_told : (passes : List ℕ → Bool) (meant : Call → Bool) → ((line : List ℕ) → passes line ≡ meant (call_of line)) → texts_for passes lines texts ≡ told meant run (texts_of run i)
-  texts_told passes meant same = texts_for-told passes meant same run lines texts calls ∙ ap (told meant run) replied
+  texts_told : (passes : List ℕ → Bool) (meant : Call → Bool) → ((line : List ℕ) → passes line ≡ meant (call_of line)) → texts_for passes lines texts ≡ replies_to meant run (texts_of run i)
+  texts_told passes meant same = texts_for-told passes meant same run lines texts calls ∙ ap (replies_to meant run) replied
 
-  texts_play : (passes : List ℕ → Bool) (meant : Call → Bool) → ((line : List ℕ) → passes line ≡ meant (call_of line)) → (rs : List (Result Reply Fault)) → told meant run (answers run i) ≡ but_given_up (given_up meant run) rs → texts_for passes lines texts ≡ map shown_line (but_given_up (given_up meant run) rs)
+  texts_play : (passes : List ℕ → Bool) (meant : Call → Bool) → ((line : List ℕ) → passes line ≡ meant (call_of line)) → (rs : List (Result Reply Fault)) → replies_to meant run (answers run i) ≡ but_given_up (given_up meant run) rs → texts_for passes lines texts ≡ map shown_line (but_given_up (given_up meant run) rs)
   texts_play passes meant same rs e = texts_told passes meant same ∙ told-map shown_line meant run (answers run i) ∙ ap (map shown_line) e
 
-  all_texts_play : (passes : List ℕ → Bool) (meant : Call → Bool) → ((line : List ℕ) → passes line ≡ meant (call_of line)) → (rs : List (Result Reply Fault)) → told meant run (answers run i) ≡ but_given_up (given_up meant run) rs → NoneIsF20 (texts_for passes lines texts) → texts_for passes lines texts ≡ map shown_line rs
+  all_texts_play : (passes : List ℕ → Bool) (meant : Call → Bool) → ((line : List ℕ) → passes line ≡ meant (call_of line)) → (rs : List (Result Reply Fault)) → replies_to meant run (answers run i) ≡ but_given_up (given_up meant run) rs → NoneIsF20 (texts_for passes lines texts) → texts_for passes lines texts ≡ map shown_line rs
   all_texts_play passes meant same rs e none = texts_play passes meant same rs e ∙ ap (map shown_line) (all_told meant run i rs (subst NoneIsF20 (texts_told passes meant same) none))
 
-  isolated : ViewIsPlay i run → RepliesArePlay i run → OwnRepliesArePlay i run → Isolated i run lines texts
+  isolated : ViewIsPlay i run → RepliesArePlay i run → OwnRepliesArePlay i run → IsIsolated (record { institution = i; run = run; lines = lines; texts = texts })
   isolated views replies own = record {
     views = views;
     office_texts = λ o. texts_play (is_sent_from o) (from_office o) (sent_from_is o) (office_play o run i) (replies o);
@@ -63,28 +63,28 @@ pub record IsolationLaw : Type 0 where
   pub replies : (i : Institution) (ls : List Line) → IsTree i.offices → RepliesArePlay i ls
   pub own_replies : (i : Institution) (ls : List Line) → IsTree i.offices → OwnRepliesArePlay i ls
 
-module _ {S : Type 0} (stands : S → Institution → Type 0) (clean : S → Type 0) (leaves : S → List Institution → Type 0) where
+module _ {S : Type 0} (store : Ghosts S) where
   -- a line was answered, also one that is too long
-  step_calls : (old new : S) (line text : List ℕ) → LineStep (λ o l t n. Calls stands clean leaves (λ r. t ≡ shown_line r) (call_of l) o n) old line text new → Calls stands clean leaves (λ r. text ≡ shown_line r) (call_of line) old new
+  step_calls : (old new : S) (line text : List ℕ) → LineStep (λ o l t n. Calls store (λ r. t ≡ shown_line r) (call_of l) o n) old line text new → Calls store (λ r. text ≡ shown_line r) (call_of line) old new
   step_calls old new line text h = at (nat_le (length line) 65536) refl h
     where
-      at : (b : Bool) → nat_le (length line) 65536 ≡ b → MatchBool b (Calls stands clean leaves (λ r. text ≡ shown_line r) (call_of line) old new) ((text ≡ fault_line F1) × (new ≡ old)) → Calls stands clean leaves (λ r. text ≡ shown_line r) (call_of line) old new
+      at : (b : Bool) → nat_le (length line) 65536 ≡ b → MatchBool b (Calls store (λ r. text ≡ shown_line r) (call_of line) old new) ((text ≡ fault_line F1) × (new ≡ old)) → Calls store (λ r. text ≡ shown_line r) (call_of line) old new
       at true e h = h
-      at false e h = subst (λ n. Calls stands clean leaves (λ r. text ≡ shown_line r) (call_of line) old n) (sym h.1) (told_malformed stands clean leaves (λ r. text ≡ shown_line r) (call_of line) old Malformed (too_long line e) h.0)
+      at false e h = subst (λ n. Calls store (λ r. text ≡ shown_line r) (call_of line) old n) (sym h.1) (told_malformed store (λ r. text ≡ shown_line r) (call_of line) old Malformed (too_long line e) h.0)
 
   -- the lines so far, without what is isolated
   pub record RanOn (i : Institution) (lines : List (List ℕ)) (old : S) (texts : List (List ℕ)) (new : S) : Type 0 where
     pub run : List Line
     pub calls : map (λ l. l.call) run ≡ map call_of lines
     pub replied : texts ≡ texts_of run i
-    pub follows : stands new (last run i)
-    pub stop : (is : List Institution) → leaves old is → leaves new (left_after run i is)
+    pub follows : store.stands new (last run i)
+    pub stop : (is : List Institution) → store.leaves old is → store.leaves new (left_after run i is)
 
   pub record Ran (old : S) (lines : List (List ℕ)) (texts : List (List ℕ)) (new : S) : Type 0 where
-    pub premise : clean new → clean old
-    pub ran : clean new → (i : Institution) → stands old i → RanOn i lines old texts new
+    pub premise : store.clean new → store.clean old
+    pub ran : store.clean new → (i : Institution) → store.stands old i → RanOn i lines old texts new
 
-  ran_more : (old mid new : S) (line text : List ℕ) (lines texts : List (List ℕ)) → Calls stands clean leaves (λ r. text ≡ shown_line r) (call_of line) old mid → Ran mid lines texts new → Ran old (line ∷ lines) (text ∷ texts) new
+  ran_more : (old mid new : S) (line text : List ℕ) (lines texts : List (List ℕ)) → Calls store (λ r. text ≡ shown_line r) (call_of line) old mid → Ran mid lines texts new → Ran old (line ∷ lines) (text ∷ texts) new
   ran_more old mid new line text lines texts one rest = record {
     premise = λ c. one.premise (rest.premise c);
     ran = λ c i s.
@@ -99,13 +99,13 @@ module _ {S : Type 0} (stands : S → Institution → Type 0) (clean : S → Typ
         };
   }
 
-  all_ran : (old new : S) (lines texts : List (List ℕ)) → Run (λ o l t n. Calls stands clean leaves (λ r. t ≡ shown_line r) (call_of l) o n) old lines texts new → Ran old lines texts new
+  all_ran : (old new : S) (lines texts : List (List ℕ)) → Run (λ o l t n. Calls store (λ r. t ≡ shown_line r) (call_of l) o n) old lines texts new → Ran old lines texts new
   all_ran old new [] [] h = subst (λ n. Ran old [] [] n) (sym h) (record { premise = λ c. c; ran = λ c i s. record { run = []; calls = refl; replied = refl; follows = s; stop = λ is l. l } })
   all_ran old new [] (text ∷ texts) h = absurd h
   all_ran old new (line ∷ lines) [] h = absurd h
   all_ran old new (line ∷ lines) (text ∷ texts) h = ran_more old h.0 new line text lines texts (step_calls old h.0 line text h.1) (all_ran h.0 new lines texts h.2)
 
-  pub runs_lines : ((s : S) (i : Institution) → stands s i → IsSound i) → IsolationLaw → (old : S) (lines texts : List (List ℕ)) (new : S) → Run (λ o l t n. Calls stands clean leaves (λ r. t ≡ shown_line r) (call_of l) o n) old lines texts new → RunsLines stands clean leaves old lines texts new
+  pub runs_lines : ((s : S) (i : Institution) → store.stands s i → IsSound i) → IsolationLaw → (old : S) (lines texts : List (List ℕ)) (new : S) → Run (λ o l t n. Calls store (λ r. t ≡ shown_line r) (call_of l) o n) old lines texts new → RunsLines store old lines texts new
   runs_lines sound law old lines texts new h =
       let r = all_ran old new lines texts h in record {
         premise = r.premise;
@@ -119,32 +119,3 @@ module _ {S : Type 0} (stands : S → Institution → Type 0) (clean : S → Typ
           stop = w.stop;
         };
       }
-
--- what is told of one relation of runs is told of a weaker one
-module _ {S : Type 0} (P Q : S → List (List ℕ) → List (List ℕ) → S → Type 0) (weaker : (old : S) (lines texts : List (List ℕ)) (new : S) → P old lines texts new → Q old lines texts new) where
-  answered : (old new : S) (lines : List (List ℕ)) (before after : Option (List ℕ)) (n : ℕ) → Answered P old new lines before after n → Answered Q old new lines before after n
-  answered old new lines before after n a = record { texts = a.texts; ran = weaker old lines a.texts new a.ran; written = a.written; counted = a.counted }
-
-  broken : (old new : S) (lines : List (List ℕ)) (before after : Option (List ℕ)) (n : ℕ) → Broken P old new lines before after n → Broken Q old new lines before after n
-  broken old new lines before after n b = record {
-    done = b.done;
-    line = b.line;
-    rest = b.rest;
-    among = b.among;
-    texts = b.texts;
-    text = b.text;
-    ran = weaker old _ _ new b.ran;
-    part = b.part;
-    short = b.short;
-    written = b.written;
-    counted = b.counted;
-  }
-
-  pub whole : (old new : S) (unread left before after : Option (List ℕ)) (n : ℕ) → Whole P old new unread left before after n → Whole Q old new unread left before after n
-  whole old new unread left before after n w = (w.0, w.1, w.2, answered old new _ before after n w.3)
-
-  pub stopped : (old new : S) (unread left before after : Option (List ℕ)) (n faults_before faults_after : ℕ) → Stopped P old new unread left before after n faults_before faults_after → Stopped Q old new unread left before after n faults_before faults_after
-  stopped old new unread left before after n faults_before faults_after w = (w.0, w.1, answered old new _ before after n w.2, w.3)
-
-  pub severed : (old new : S) (unread left before after : Option (List ℕ)) (n : ℕ) → Severed P old new unread left before after n → Severed Q old new unread left before after n
-  severed old new unread left before after n w = (w.0, w.1, elim w.2 [ inl b ↦ inl (broken old new _ before after n b) | inr b ↦ inr (b.0, broken old new _ before after n b.1) ])

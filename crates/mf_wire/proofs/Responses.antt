@@ -3,8 +3,9 @@ use Rattle.std.proofs.Common.{◌≡◌, inr, ℕ, Bool, List, [], ◌∷◌, �
 use Rattle.std.specs.Io.KnownBytes.{Consumes, IsAtEnd}
 use Rattle.mf_base.specs.declared.fault.Fault.TheVariants.{F20}
 use Rattle.mf_model.specs.Institution.{Institution}
+use Rattle.mf_model.specs.declared.store.InstitutionStore.{Ghosts}
 use Rattle.mf_wire_messages.specs.declared.reading.Arrival.TheVariants as arrival
-use Rattle.mf_wire_messages.specs.Arrivals.{following, Tells}
+use Rattle.mf_wire_messages.specs.Arrivals.{bytes_left, Tells}
 use Rattle.mf_wire_messages.specs.Messages.{is_head, request_of, IsMessage, Request as Message}
 use Rattle.mf_wire_messages.specs.Responses.{refusal}
 use Rattle.mf_wire_messages.proofs.MessageLemmas.{received}
@@ -12,10 +13,10 @@ use Rattle.mf_wire.specs.Runs.{Calls}
 use Rattle.mf_wire.specs.Serving.{call_of_message, shown_response, AnswersMessage}
 use Rattle.mf_wire.proofs.Calling.{told_given_up}
 
-module _ {S : Type 0} (stands : S → Institution → Type 0) (clean : S → Type 0) (leaves : S → List Institution → Type 0) where
+module _ {S : Type 0} (store : Ghosts S) where
   -- a request was received
   pub answered_request : (bytes : List ℕ) (message : Message) (to_head : Bool) (text : List ℕ) (old new : S) → to_head ≡ is_head message.method
-      → Calls stands clean leaves (λ r. text ≡ shown_response to_head r) (call_of_message (Some message)) old new → Tells bytes (arrival.Received message) → AnswersMessage stands clean leaves bytes old text new
+      → Calls store (λ r. text ≡ shown_response to_head r) (call_of_message (Some message)) old new → Tells bytes (arrival.Received message) → AnswersMessage store bytes old text new
   answered_request bytes message to_head text old new e calls t = record {
     message = Some message;
     to_head = to_head;
@@ -24,19 +25,19 @@ module _ {S : Type 0} (stands : S → Institution → Type 0) (clean : S → Typ
   }
 
   -- what had no room is given up
-  pub answered_without_room : (bytes : List ℕ) (to_head : Bool) (s : S) → ((i : Institution) (is : List Institution) → leaves s is → leaves s (i ∷ is)) → Tells bytes (arrival.NoRoom to_head) → AnswersMessage stands clean leaves bytes s (refusal F20 to_head) s
+  pub answered_without_room : (bytes : List ℕ) (to_head : Bool) (s : S) → ((i : Institution) (is : List Institution) → store.leaves s is → store.leaves s (i ∷ is)) → Tells bytes (arrival.NoRoom to_head) → AnswersMessage store bytes s (refusal F20 to_head) s
   answered_without_room bytes to_head s more t = record {
     message = request_of t.0 t.1;
     to_head = to_head;
     is = inr (t.0, t.1, t.2, refl, t.4);
-    answered = told_given_up stands clean leaves (λ r. refusal F20 to_head ≡ shown_response to_head r) (call_of_message (request_of t.0 t.1)) s more refl;
+    answered = told_given_up store (λ r. refusal F20 to_head ≡ shown_response to_head r) (call_of_message (request_of t.0 t.1)) s more refl;
   }
 
-ended : (left : Option (List ℕ)) → following left ≡ [] → IsAtEnd left
+ended : (left : Option (List ℕ)) → bytes_left left ≡ [] → IsAtEnd left
 ended None e = tt
 ended (Some bytes) e = e
 
 -- where nothing was read and nothing follows, the stream was at its end
-pub nothing_read : (unread left : Option (List ℕ)) (read : List ℕ) → Consumes unread left read → read ++ following left ≡ [] → Consumes unread left [] × IsAtEnd left
+pub nothing_read : (unread left : Option (List ℕ)) (read : List ℕ) → Consumes unread left read → read ++ bytes_left left ≡ [] → Consumes unread left [] × IsAtEnd left
 nothing_read unread left [] c e = (c, ended left e)
 nothing_read unread left (x ∷ read) c e = absurd (cc)

@@ -14,7 +14,7 @@ use Rattle.mf_model.specs.declared.request.Call.{Call}
 use Rattle.mf_model.specs.declared.reply.Reply.{Reply}
 use Rattle.mf_model.specs.Institution.{Institution}
 use Rattle.mf_model.specs.Run as model
-use Rattle.mf_model.specs.Run.{Line, answer, next, answers, from_office, from_caller, told, given_up, but_given_up}
+use Rattle.mf_model.specs.Run.{Line, answer, next, from_office, from_caller, replies_to, given_up, but_given_up}
 use Rattle.mf_model.specs.Answering.{all_answered}
 use Rattle.mf_wire_lines.specs.Replies.{fault_line}
 use Rattle.mf_wire_replies.specs.Shown.{shown_line}
@@ -68,7 +68,7 @@ pub sent_from_is : (o : ℕ) (line : List ℕ) → is_sent_from o line ≡ from_
 sent_from_is o line = ap (model.is_of o) (caller_of_sender (split_space line))
 
 -- the texts for the lines that pass are those told to the calls that are meant
-pub texts_for-told : (passes : List ℕ → Bool) (meant : Call → Bool) → ((line : List ℕ) → passes line ≡ meant (call_of line)) → (run : List Line) (lines texts : List (List ℕ)) → map (λ l. l.call) run ≡ map call_of lines → texts_for passes lines texts ≡ told meant run texts
+pub texts_for-told : (passes : List ℕ → Bool) (meant : Call → Bool) → ((line : List ℕ) → passes line ≡ meant (call_of line)) → (run : List Line) (lines texts : List (List ℕ)) → map (λ l. l.call) run ≡ map call_of lines → texts_for passes lines texts ≡ replies_to meant run texts
 texts_for-told passes meant same [] [] texts e = refl
 texts_for-told passes meant same [] (line ∷ lines) texts e = absurd (cc)
 texts_for-told passes meant same (l ∷ run) [] texts e = absurd (cc)
@@ -77,7 +77,7 @@ texts_for-told passes meant same (l ∷ run) (line ∷ lines) (text ∷ texts) e
     let first : l.call ≡ call_of line = cc in
     let rest : map (λ (k : Line). k.call) run ≡ map call_of lines = cc in
     let test : passes line ≡ meant l.call = same line ∙ ap meant (sym first) in
-    let more : texts_for passes lines texts ≡ told meant run texts = texts_for-told passes meant same run lines texts rest in
+    let more : texts_for passes lines texts ≡ replies_to meant run texts = texts_for-told passes meant same run lines texts rest in
     ap (λ b. cond b (text ∷ texts_for passes lines texts) (texts_for passes lines texts)) test
     ∙ ap (λ ts. cond (meant l.call) (text ∷ ts) ts) more
 
@@ -90,12 +90,12 @@ not_given_up l i other = at l.given_up (λ e. other (ap (λ b. shown_line (cond 
     at false h = refl
 
 -- where none of the texts that are told is F20's, none of their lines was given up
-pub all_told : (meant : Call → Bool) (run : List Line) (i : Institution) (rs : List (Result Reply Fault)) → NoneIsF20 (told meant run (texts_of run i)) → but_given_up (given_up meant run) rs ≡ rs
+pub all_told : (meant : Call → Bool) (run : List Line) (i : Institution) (rs : List (Result Reply Fault)) → NoneIsF20 (replies_to meant run (texts_of run i)) → but_given_up (given_up meant run) rs ≡ rs
 all_told meant [] i rs h = refl
 all_told meant (l ∷ run) i rs h = step (meant l.call) rs h (λ qs k. all_told meant run (next l i) qs k)
   where
-    step : (own : Bool) (rs : List (Result Reply Fault)) → NoneIsF20 (cond own (shown_line (answer l i) ∷ told meant run (texts_of run (next l i))) (told meant run (texts_of run (next l i))))
-        → ((qs : List (Result Reply Fault)) → NoneIsF20 (told meant run (texts_of run (next l i))) → but_given_up (given_up meant run) qs ≡ qs)
+    step : (own : Bool) (rs : List (Result Reply Fault)) → NoneIsF20 (cond own (shown_line (answer l i) ∷ replies_to meant run (texts_of run (next l i))) (replies_to meant run (texts_of run (next l i))))
+        → ((qs : List (Result Reply Fault)) → NoneIsF20 (replies_to meant run (texts_of run (next l i))) → but_given_up (given_up meant run) qs ≡ qs)
         → but_given_up (cond own (l.given_up ∷ given_up meant run) (given_up meant run)) rs ≡ rs
     step false rs h more = more rs h
     step true [] h more = refl

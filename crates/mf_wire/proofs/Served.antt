@@ -5,14 +5,15 @@ use Rattle.mf_model.specs.Tree.{IsTree}
 use Rattle.mf_model.specs.Desk.{outcome, change_in}
 use Rattle.mf_model.specs.Run.{Line, next, answers, last}
 use Rattle.mf_model.specs.Store.{left_by, left_after}
+use Rattle.mf_model.specs.declared.store.InstitutionStore.{Ghosts}
 use Rattle.mf_wire.specs.OneCall.{alone}
 use Rattle.mf_wire.specs.Serving.{call_of_message}
 use Rattle.mf_wire.specs.Exchanges.{Exchange, AreLinesOf, responses, AnswersAll, ServesOn}
 use Rattle.mf_wire.proofs.Ran.{IsolationLaw}
 
-module _ {S : Type 0} (stands : S → Institution → Type 0) (clean : S → Type 0) (leaves : S → List Institution → Type 0) where
-  premise : (old : S) (es : List Exchange) (new : S) → AnswersAll stands clean leaves old es new → clean new → clean old
-  premise old [] new h c = subst clean h c
+module _ {S : Type 0} (store : Ghosts S) where
+  premise : (old : S) (es : List Exchange) (new : S) → AnswersAll store old es new → store.clean new → store.clean old
+  premise old [] new h c = subst store.clean h c
   premise old (e ∷ es) new h c = h.1.answered.premise (premise h.0 es new h.2 c)
 
   -- the run, without what is isolated
@@ -21,10 +22,10 @@ module _ {S : Type 0} (stands : S → Institution → Type 0) (clean : S → Typ
     pub to_heads : List Bool
     pub calls : AreLinesOf es run to_heads
     pub replied : map (λ (e : Exchange). e.text) es ≡ responses to_heads (answers run i)
-    pub follows : stands new (last run i)
-    pub stop : (is : List Institution) → leaves old is → leaves new (left_after run i is)
+    pub follows : store.stands new (last run i)
+    pub stop : (is : List Institution) → store.leaves old is → store.leaves new (left_after run i is)
 
-  ran : (old : S) (es : List Exchange) (new : S) (i : Institution) → AnswersAll stands clean leaves old es new → clean new → stands old i → RanOn i es old new
+  ran : (old : S) (es : List Exchange) (new : S) (i : Institution) → AnswersAll store old es new → store.clean new → store.stands old i → RanOn i es old new
   ran old [] new i h c s = subst (λ (n : S). RanOn i [] old n) (sym h) (record { run = []; to_heads = []; calls = tt; replied = refl; follows = s; stop = λ is l. l })
   ran old (e ∷ es) new i h c s =
       let one = h.1 in
@@ -39,7 +40,7 @@ module _ {S : Type 0} (stands : S → Institution → Type 0) (clean : S → Typ
         stop = λ is k. r.stop (left_by (change_in (outcome l.call i)) w.0 i is) (w.1.stop is k);
       }
 
-  pub serves_on : IsolationLaw → (old : S) (es : List Exchange) (new : S) (i : Institution) → IsTree i.offices → AnswersAll stands clean leaves old es new → clean new → stands old i → ServesOn stands clean leaves i es old new
+  pub serves_on : IsolationLaw → (old : S) (es : List Exchange) (new : S) (i : Institution) → IsTree i.offices → AnswersAll store old es new → store.clean new → store.stands old i → ServesOn store i es old new
   serves_on law old es new i tree h c s =
       let r = ran old es new i h c s in record {
         run = r.run;

@@ -5,6 +5,7 @@ use Rattle.mf_model.specs.declared.reply.Reply.{Reply}
 use Rattle.mf_model.specs.Institution.{Institution}
 use Rattle.mf_model.specs.Run.{Line, answers, last, ViewIsPlay, RepliesArePlay, OwnRepliesArePlay}
 use Rattle.mf_model.specs.Store.{left_after}
+use Rattle.mf_model.specs.declared.store.InstitutionStore.{Ghosts}
 use Rattle.mf_wire_messages.specs.Messages.{IsMessage, Request as Message}
 use Rattle.mf_wire.specs.Serving.{AnswersMessage, call_of_message, shown_response}
 
@@ -28,11 +29,11 @@ abbrev pub responses : List Bool → List (Result Reply Fault) → List (List �
 responses (to_head ∷ others) (r ∷ rs) = shown_response to_head r ∷ responses others rs
 responses _ _ = []
 
-module _ {S : Type 0} (stands : S → Institution → Type 0) (clean : S → Type 0) (leaves : S → List Institution → Type 0) where
+module _ {S : Type 0} (store : Ghosts S) where
   -- the store answered these messages one after another
   abbrev pub AnswersAll : S → List Exchange → S → Type 0
   AnswersAll old [] new = new ≡ old
-  AnswersAll old (e ∷ es) new = (mid : S) × AnswersMessage stands clean leaves e.bytes old e.text mid × AnswersAll mid es new
+  AnswersAll old (e ∷ es) new = (mid : S) × AnswersMessage store e.bytes old e.text mid × AnswersAll mid es new
 
   -- The messages are the lines of a run on the institution, the responses are those of its replies, and the store stands for what follows. What each office sees and is told is isolated.
   pub record ServesOn (i : Institution) (es : List Exchange) (old new : S) : Type 0 where
@@ -40,8 +41,8 @@ module _ {S : Type 0} (stands : S → Institution → Type 0) (clean : S → Typ
     pub to_heads : List Bool
     pub calls : AreLinesOf es run to_heads
     pub replied : map (λ e. e.text) es ≡ responses to_heads (answers run i)
-    pub follows : stands new (last run i)
+    pub follows : store.stands new (last run i)
     pub views : ViewIsPlay i run
     pub replies : RepliesArePlay i run
     pub own_replies : OwnRepliesArePlay i run
-    pub stop : (is : List Institution) → leaves old is → leaves new (left_after run i is)
+    pub stop : (is : List Institution) → store.leaves old is → store.leaves new (left_after run i is)

@@ -9,16 +9,16 @@ use Rattle.mf_model.specs.declared.request.Call.{Call}
 use Rattle.mf_model.specs.declared.request.Flaw.TheVariants.{Malformed}
 use Rattle.mf_model.specs.declared.request.Request.TheVariants.{Unreadable}
 use Rattle.mf_model.specs.declared.reply.Reply.{Reply}
-use Rattle.mf_model.specs.Institution.{Institution}
+use Rattle.mf_model.specs.declared.store.InstitutionStore.{Ghosts}
 use Rattle.mf_wire_lines.specs.Replies.{fault_status, fault_body}
-use Rattle.mf_wire_messages.specs.Arrivals.{following}
+use Rattle.mf_wire_messages.specs.Arrivals.{bytes_left}
 use Rattle.mf_wire_messages.specs.Messages.{IsMessage, Request as Message}
 use Rattle.mf_wire_messages.specs.Responses.{response, refusal, IsCut}
 use Rattle.mf_wire_replies.specs.Shown.{reply_status, reply_body}
 use Rattle.mf_wire_requests.specs.RequestLine.{Parts}
 use Rattle.mf_wire_requests.specs.Requests.{call_of_parts}
 use Rattle.mf_wire.specs.Runs.{Calls}
-use Rattle.mf_wire.specs.Streams.{Streams}
+use Rattle.mf_wire_lines.specs.Streams.{Streams}
 
 -- the parts of a message: its staff is the caller, and its target the path
 abbrev pub parts_of_message : Message → Parts
@@ -49,52 +49,52 @@ text_response to_head (Ok text) = response text.0 (string_bytes text.1) to_head
 text_response to_head (Err fault) = refusal fault to_head
 
 -- A store answered the message that a stream of these bytes is by that response: the reply to its call, which is the only one that was made.
-pub record AnswersMessage {S : Type 0} (stands : S → Institution → Type 0) (clean : S → Type 0) (leaves : S → List Institution → Type 0) (bytes : List ℕ) (old : S) (text : List ℕ) (new : S) : Type 0 where
+pub record AnswersMessage {S : Type 0} (store : Ghosts S) (bytes : List ℕ) (old : S) (text : List ℕ) (new : S) : Type 0 where
   pub message : Option Message
   pub to_head : Bool
   pub is : IsMessage bytes message to_head
-  pub answered : Calls stands clean leaves (λ r. text ≡ shown_response to_head r) (call_of_message message) old new
+  pub answered : Calls store (λ r. text ≡ shown_response to_head r) (call_of_message message) old new
 
 module _ {S : Type 0} (answers : List ℕ → S → List ℕ → S → Type 0) (old new : S) (streams : Streams) where
   -- nothing was answered or written, and the sink did not fail
   pub record Untouched : Type 0 where
     pub same : new ≡ old
-    pub unwritten : streams.after ≡ streams.before
-    pub sink : streams.sink_faults_after ≡ streams.sink_faults_before
+    pub unwritten : streams.sink.after ≡ streams.sink.before
+    pub sink : streams.sink.faults_after ≡ streams.sink.faults_before
 
   -- the stream ended before any byte; the source did not fail
   pub record WasSilent : Type 0 where
-    pub none : Consumes streams.unread streams.left []
-    pub ended : IsAtEnd streams.left
-    pub source : streams.source_faults_after ≡ streams.source_faults_before
+    pub none : Consumes streams.source.before streams.source.after []
+    pub ended : IsAtEnd streams.source.after
+    pub source : streams.source.faults_after ≡ streams.source.faults_before
     pub untouched : Untouched
 
   -- the stream's message was answered, and its response was written whole; neither stream failed
   pub record WasServed : Type 0 where
     pub read : List ℕ
-    pub consumed : Consumes streams.unread streams.left read
+    pub consumed : Consumes streams.source.before streams.source.after read
     pub text : List ℕ
-    pub answered : answers (read ++ following streams.left) old text new
-    pub written : Appends streams.before streams.after text
-    pub source : streams.source_faults_after ≡ streams.source_faults_before
-    pub sink : streams.sink_faults_after ≡ streams.sink_faults_before
+    pub answered : answers (read ++ bytes_left streams.source.after) old text new
+    pub written : Appends streams.sink.before streams.sink.after text
+    pub source : streams.source.faults_after ≡ streams.source.faults_before
+    pub sink : streams.sink.faults_after ≡ streams.sink.faults_before
 
   -- the source failed in this call: nothing was answered or written
   pub record FailedReading (count : ℕ) : Type 0 where
     pub counted : count ≡ 0
-    pub source : streams.source_faults_after ≢ streams.source_faults_before
+    pub source : streams.source.faults_after ≢ streams.source.faults_before
     pub untouched : Untouched
 
   -- the sink failed in this call: the stream's message was answered, and only a beginning of its response was written; the source did not fail
   pub record FailedWriting (count : ℕ) : Type 0 where
     pub counted : count ≡ 0
     pub read : List ℕ
-    pub consumed : Consumes streams.unread streams.left read
+    pub consumed : Consumes streams.source.before streams.source.after read
     pub text : List ℕ
-    pub answered : answers (read ++ following streams.left) old text new
-    pub cut : IsCut streams.before streams.after text
-    pub source : streams.source_faults_after ≡ streams.source_faults_before
-    pub sink : streams.sink_faults_after ≢ streams.sink_faults_before
+    pub answered : answers (read ++ bytes_left streams.source.after) old text new
+    pub cut : IsCut streams.sink.before streams.sink.after text
+    pub source : streams.source.faults_after ≡ streams.source.faults_before
+    pub sink : streams.sink.faults_after ≢ streams.sink.faults_before
 
   -- there was no memory to begin: nothing was answered or written
   pub record NeverBegan (count : ℕ) : Type 0 where

@@ -29,8 +29,8 @@ fn answer_parts<S: InstitutionStore, T: Drop, F: FnOnce(&Reply) -> Result<T, Fau
     show: F,
 ) -> Result<T, Fault>
     requires { F.IsAlwaysCallable show }
-    ensures told { Tells S.stands S.clean S.leaves (FnOnceReturnsAt F.FnOnce show) (reply (call_of_parts (parts_now parts.entry))) store.old store.new result }
-    ensures changes { Changes S.stands S.clean S.leaves (call_of_parts (parts_now parts.entry)) store.old store.new result }
+    ensures told { Tells S.InstitutionStore (FnOnceReturnsAt F.FnOnce show) (reply (call_of_parts (parts_now parts.entry))) store.old store.new result }
+    ensures changes { Changes S.InstitutionStore (call_of_parts (parts_now parts.entry)) store.old store.new result }
     ensures refusal { IfErr result (λ f. (f ≢ Fault.F19) ⊎ ((reply : Reply) × FnOnceReturnsAt F.FnOnce show reply (Err f))) }
 {
     let Some(caller) = Caller::parse(parts.caller) else {
@@ -50,7 +50,7 @@ fn answer_line_parts<S: InstitutionStore>(
     store: &mut S,
     parts: LineParts<'_>,
 ) -> Result<String, Fault>
-    ensures calls { Calls S.stands S.clean S.leaves (λ r. line_of result ≡ shown_line r) (call_of_parts (parts_now parts.entry)) store.old store.new }
+    ensures calls { Calls S.InstitutionStore (λ r. line_of result ≡ shown_line r) (call_of_parts (parts_now parts.entry)) store.old store.new }
     ensures refusal { IfErr result (λ f. f ≢ Fault.F19) }
 {
     answer_parts(
@@ -80,7 +80,7 @@ pub(crate) fn answer_text_parts<S: InstitutionStore>(
     store: &mut S,
     parts: LineParts<'_>,
 ) -> Result<(u16, String), Fault>
-    ensures calls { Calls S.stands S.clean S.leaves (IsText result) (call_of_parts (parts_now parts.entry)) store.old store.new }
+    ensures calls { Calls S.InstitutionStore (IsText result) (call_of_parts (parts_now parts.entry)) store.old store.new }
     ensures refusal { IfErr result (λ f. f ≢ Fault.F19) }
 {
     answer_parts(
@@ -105,7 +105,7 @@ pub fn answer_text<S: InstitutionStore>(
     path: &[u8],
     body: &[u8],
 ) -> Result<(u16, String), Fault>
-    ensures calls { Calls S.stands S.clean S.leaves (IsText result)
+    ensures calls { Calls S.InstitutionStore (IsText result)
         (call_of_parts (record { caller = caller.now; method = method.now; path = path.now; body = body.now })) store.old store.new }
     ensures refusal { IfErr result (λ f. f ≢ Fault.F19) }
 {
@@ -138,7 +138,7 @@ impl Desk {
 }
 
 impl<S: InstitutionStore> LineDesk<S> for Desk {
-    ghost may_answer = { λ _ old line text new. Calls S.stands S.clean S.leaves (λ r. text ≡ shown_line r) (call_of line) old new };
+    ghost may_answer = { λ _ old line text new. Calls S.InstitutionStore (λ r. text ≡ shown_line r) (call_of line) old new };
 
     fn answer(&self, alloc: Global, state: &mut S, line: &[u8]) -> Result<String, Fault> {
         let Some(parts) = line_parts(line) else {

@@ -12,14 +12,14 @@ ghost use Rattle.mf_model.specs.Institution.{Institution};
 ghost use Rattle.mf_model.specs.Desk.{reply};
 ghost use Rattle.mf_model.specs.Tree.{view};
 ghost use Rattle.mf_model.specs.Run.{Line, Alike};
-ghost use Rattle.mf_model.specs.Unseen.{Asked, IsUnseen, asked_of, sent};
+ghost use Rattle.mf_model.specs.Unseen.{Asked, IsUnseen, asked_of, call_from};
 ghost use Rattle.mf_wire_messages.specs.Messages.{is_head, Request as Message};
 ghost use Rattle.mf_wire_messages.specs.Responses.{refusal};
 ghost use Rattle.mf_wire_replies.specs.Shown.{shown_line, IsText};
 ghost use Rattle.mf_wire_requests.specs.Requests.{call_of};
 ghost use Rattle.mf_wire.specs.Agreeing.{Agree};
 ghost use Rattle.mf_wire.specs.Exchanges.{Exchange, AnswersAll, ServesOn};
-ghost use Rattle.mf_wire.specs.OneCall.{IsolatedCall};
+ghost use Rattle.mf_wire.specs.OneCall.{IsIsolatedCall};
 ghost use Rattle.mf_wire.specs.Runs.{RunsOn, Calls, texts_of};
 ghost use Rattle.mf_wire.specs.Senders.{IsOneLine};
 ghost use Rattle.mf_wire.specs.Serving.{AnswersMessage, call_of_message, shown_response, text_response};
@@ -42,18 +42,20 @@ pub fn texts_are_lines()
 /// themselves too, and the two agree on those rows afterwards, whatever else they hold and whatever else happens.
 pub fn two_runs_agree<S: InstitutionStore, T: InstitutionStore>()
     ensures { (o : ℕ) (i j : Institution) (lines texts others replies : List (List ℕ)) (old new : S) (before after : T) →
-        (run : RunsOn S.stands S.clean S.leaves i lines old texts new) (other : RunsOn T.stands T.clean T.leaves j others before replies after) →
-        Alike o i j run.run other.run → Agree o i j run.run other.run lines texts others replies }
+        (run : RunsOn S.InstitutionStore i lines old texts new) (other : RunsOn T.InstitutionStore j others before replies after) →
+        Alike o i j run.run other.run → Agree o
+        (record { institution = i; run = run.run; lines = lines; texts = texts })
+        (record { institution = j; run = other.run; lines = others; texts = replies }) }
 {}
 
 /// A line that asks for a client or a loan which its sender may not see gets the same text as one that asks for one
 /// that isn't there, and a message the same response.
 pub fn hidden_and_missing_read_alike()
     ensures lines { (asked : Asked) (a b : Account) (c : Caller) (i : Institution) (line other : List ℕ) →
-        IsUnseen c asked a i → IsUnseen c asked b i → call_of line ≡ sent c (asked_of asked a) → call_of other ≡ sent c (asked_of asked b) →
+        IsUnseen c asked a i → IsUnseen c asked b i → call_of line ≡ call_from c (asked_of asked a) → call_of other ≡ call_from c (asked_of asked b) →
         shown_line (reply (call_of line) i) ≡ shown_line (reply (call_of other) i) }
     ensures messages { (asked : Asked) (a b : Account) (c : Caller) (i : Institution) (message other : Message) (to_head : Bool) →
-        IsUnseen c asked a i → IsUnseen c asked b i → call_of_message (Some message) ≡ sent c (asked_of asked a) → call_of_message (Some other) ≡ sent c (asked_of asked b) →
+        IsUnseen c asked a i → IsUnseen c asked b i → call_of_message (Some message) ≡ call_from c (asked_of asked a) → call_of_message (Some other) ≡ call_from c (asked_of asked b) →
         shown_response to_head (reply (call_of_message (Some message)) i) ≡ shown_response to_head (reply (call_of_message (Some other)) i) }
 {
     laws::hidden_is_missing();
@@ -64,8 +66,8 @@ pub fn hidden_and_missing_read_alike()
 /// office, makes of what it saw.
 pub fn one_message_is_isolated<S: InstitutionStore>()
     ensures { (i : Institution) (bytes text : List ℕ) (old new : S) →
-        (served : AnswersMessage S.stands S.clean S.leaves bytes old text new) → S.clean new → S.stands old i →
-        IsolatedCall S.stands (λ r. text ≡ shown_response served.to_head r) (call_of_message served.message) i new }
+        (served : AnswersMessage S.InstitutionStore bytes old text new) → S.clean new → S.stands old i →
+        IsIsolatedCall S.stands (λ r. text ≡ shown_response served.to_head r) (call_of_message served.message) i new }
 {
     laws::isolation();
 }
@@ -73,8 +75,8 @@ pub fn one_message_is_isolated<S: InstitutionStore>()
 /// The same of what `answer_text` has answered.
 pub fn one_text_is_isolated<S: InstitutionStore>(answered: &Result<(u16, String), Fault>)
     ensures { (i : Institution) (call : Call) (old new : S) →
-        Calls S.stands S.clean S.leaves (IsText answered.now) call old new → S.clean new → S.stands old i →
-        IsolatedCall S.stands (IsText answered.now) call i new }
+        Calls S.InstitutionStore (IsText answered.now) call old new → S.clean new → S.stands old i →
+        IsIsolatedCall S.stands (IsText answered.now) call i new }
 {
     laws::isolation();
 }
@@ -83,7 +85,7 @@ pub fn one_text_is_isolated<S: InstitutionStore>(answered: &Result<(u16, String)
 /// is its touching list played on what it saw first, and its callers are told by their responses what that play answers.
 pub fn served_messages_are_isolated<S: InstitutionStore>()
     ensures { (i : Institution) (exchanges : List Exchange) (old new : S) →
-        AnswersAll S.stands S.clean S.leaves old exchanges new → S.clean new → S.stands old i → ServesOn S.stands S.clean S.leaves i exchanges old new }
+        AnswersAll S.InstitutionStore old exchanges new → S.clean new → S.stands old i → ServesOn S.InstitutionStore i exchanges old new }
 {
     laws::isolation();
 }
@@ -92,7 +94,7 @@ pub fn served_messages_are_isolated<S: InstitutionStore>()
 /// bytes, whatever else they hold, unless one gives up.
 pub fn two_messages_agree<S: InstitutionStore, T: InstitutionStore>()
     ensures { (c : Caller) (i j : Institution) (bytes text other : List ℕ) (old new : S) (before after : T) →
-        (one : AnswersMessage S.stands S.clean S.leaves bytes old text new) → AnswersMessage T.stands T.clean T.leaves bytes before other after →
+        (one : AnswersMessage S.InstitutionStore bytes old text new) → AnswersMessage T.InstitutionStore bytes before other after →
         S.clean new → S.stands old i → T.clean after → T.stands before j →
         (call_of_message one.message).caller ≡ Some c → view c.office i ≡ view c.office j →
         text ≢ refusal Fault.F20 one.to_head → other ≢ refusal Fault.F20 one.to_head → text ≡ other }
@@ -105,8 +107,8 @@ pub fn messages_and_texts_agree<S: InstitutionStore, T: InstitutionStore>(
     answered: &Result<(u16, String), Fault>,
 )
     ensures { (c : Caller) (i j : Institution) (bytes text : List ℕ) (old new : S) (before after : T) →
-        (one : AnswersMessage S.stands S.clean S.leaves bytes old text new) →
-        Calls T.stands T.clean T.leaves (IsText answered.now) (call_of_message one.message) before after →
+        (one : AnswersMessage S.InstitutionStore bytes old text new) →
+        Calls T.InstitutionStore (IsText answered.now) (call_of_message one.message) before after →
         S.clean new → S.stands old i → T.clean after → T.stands before j →
         (call_of_message one.message).caller ≡ Some c → view c.office i ≡ view c.office j →
         text ≢ refusal Fault.F20 one.to_head → answered.now ≢ Err Fault.F20 → text ≡ text_response one.to_head answered.now }

@@ -3,7 +3,8 @@
 ghost use Rattle.std.specs.Prelude.{◌≡◌, IfErr};
 ghost use Rattle.mf_base.specs.declared.fault.Cause.TheVariants as cause;
 ghost use Rattle.mf_wire.specs.Runs.{RunsLines};
-ghost use Rattle.mf_wire.specs.Streams.{Ends, streams_of};
+ghost use Rattle.mf_wire_lines.specs.Ends.{Ends};
+ghost use Rattle.mf_wire_lines.specs.Streams.{stream_of, streams_of};
 
 use crate::answering::Desk;
 use mf_base::{Cause, StreamFault};
@@ -29,7 +30,8 @@ pub fn run<S: InstitutionStore, R: Source, W: Sink>(
     source: &mut R,
     sink: &mut W,
 ) -> Result<u64, StreamFault>
-    ensures ends { Ends (RunsLines S.stands S.clean S.leaves) store.old store.new (streams_of R.unread R.faults W.written W.faults source.old source.new sink.old sink.new) result }
+    ensures ends { Ends (RunsLines S.InstitutionStore) store.old store.new
+        (streams_of (stream_of R.unread R.faults source.old source.new) (stream_of W.written W.faults sink.old sink.new)) result }
     ensures memory { IfErr result (λ f. f.cause ≡ cause.Memory → (source.new ≡ source.old) × (sink.new ≡ sink.old)) }
 {
     laws::isolation();

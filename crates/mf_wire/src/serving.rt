@@ -8,7 +8,7 @@ ghost use Rattle.mf_wire_messages.specs.Messages.{is_head};
 ghost use Rattle.mf_wire_messages.specs.Responses.{IsCut};
 ghost use Rattle.mf_wire.specs.Runs.{Calls};
 ghost use Rattle.mf_wire.specs.Serving.{call_of_message, shown_response, text_response, AnswersMessage, EndsMessage};
-ghost use Rattle.mf_wire.specs.Streams.{streams_of};
+ghost use Rattle.mf_wire_lines.specs.Streams.{stream_of, streams_of};
 
 use crate::answering::{Desk, answer_text_parts};
 use mf_base::{Cause, Fault, StreamFault};
@@ -32,7 +32,7 @@ fn answer_message<S: InstitutionStore>(
     store: &mut S,
     message: &Message,
 ) -> Response
-    ensures calls { Calls S.stands S.clean S.leaves (λ r. text_response result.to_head result.text ≡ shown_response result.to_head r) (call_of_message (Some message.now)) store.old store.new }
+    ensures calls { Calls S.InstitutionStore (λ r. text_response result.to_head result.text ≡ shown_response result.to_head r) (call_of_message (Some message.now)) store.old store.new }
     ensures to_head { result.to_head ≡ is_head message.now.method }
     ensures refusal { IfErr result.text (λ f. f ≢ Fault.F19) }
 {
@@ -58,7 +58,7 @@ fn answer_arrival<S: InstitutionStore>(
 ) -> Option<Response>
     ensures silent { result ≡ None → (store.new ≡ store.old) × ((bytes : List ℕ) → Tells bytes arrival → bytes ≡ []) }
     ensures answered { IfSome result (λ response. (bytes : List ℕ) → Tells bytes arrival →
-        AnswersMessage S.stands S.clean S.leaves bytes store.old (text_response response.to_head response.text) store.new) }
+        AnswersMessage S.InstitutionStore bytes store.old (text_response response.to_head response.text) store.new) }
     ensures refusal { IfSome result (λ response. IfErr response.text (λ f. f ≢ Fault.F19)) }
 {
     match arrival {
@@ -108,7 +108,8 @@ pub fn serve_one<S: InstitutionStore, R: Source, W: Sink>(
     source: &mut R,
     sink: &mut W,
 ) -> Result<bool, StreamFault>
-    ensures ends { EndsMessage (AnswersMessage S.stands S.clean S.leaves) store.old store.new (streams_of R.unread R.faults W.written W.faults source.old source.new sink.old sink.new) result }
+    ensures ends { EndsMessage (AnswersMessage S.InstitutionStore) store.old store.new
+        (streams_of (stream_of R.unread R.faults source.old source.new) (stream_of W.written W.faults sink.old sink.new)) result }
     ensures silent { IfOk result (λ served. served ≡ false → sink.new ≡ sink.old) }
     ensures unwritten { IfErr result (λ f. f.cause ≢ cause.Write → sink.new ≡ sink.old) }
     ensures memory { IfErr result (λ f. f.cause ≡ cause.Memory → source.new ≡ source.old) }

@@ -5,7 +5,8 @@ use Rattle.std.proofs.KnownBytes.{Consumes-nil, Consumes-trans, Consumes-kept}
 use Rattle.mf_wire_lines.specs.Cut.{request, ended_lines, begun_line, request_lines}
 use Rattle.mf_wire_lines.specs.Reading.{ended_from, begun_from}
 use Rattle.mf_wire_lines.specs.Run.{Run, Answered, Half, Broken}
-use Rattle.mf_wire_lines.specs.Told.{Whole, Stopped, Severed}
+use Rattle.mf_wire_lines.specs.Streams.{Streams}
+use Rattle.mf_wire_lines.specs.Ends.{EndsWhole, EndsReading, EndsWriting}
 use Rattle.mf_wire_lines.proofs.Pieces.{held_alike, ended_lines-append, begun_line-append}
 use Rattle.mf_wire_lines.proofs.RunLemmas.{Answered-nil, Answered-append, Answered-alike, Half-alike, Broken-append, Broken-half}
 
@@ -34,44 +35,72 @@ Going-more step old now new unread mid left held held' piece before between afte
       sized = omega (arith, t.sized, long, length-append t.bytes piece);
     }
 
-pub Going-kept : {S : Type 0} (step : S → List ℕ → List ℕ → S → Type 0) (old now : S) (unread mid left : Option (List ℕ)) (held : List ℕ) (before after : Option (List ℕ)) (n size faults_before faults_after : ℕ)
-    → Keeps mid left → faults_after ≢ faults_before → Going step old now unread mid held before after n size → Stopped (Run step) old now unread left before after n faults_before faults_after
-Going-kept step old now unread mid left held before after n size faults_before faults_after kept f t = (t.bytes, Consumes-kept unread mid left t.bytes t.read kept, t.answered, inl f)
+-- How a run ends, from where it stood: the streams' faults aside, what was read and answered.
+module _ {S : Type 0} (step : S → List ℕ → List ℕ → S → Type 0) (old now : S) (streams : Streams) where
+  pub ends_reading : (mid : Option (List ℕ)) (held : List ℕ) (n size : ℕ)
+      → Keeps mid streams.source.after → streams.source.faults_after ≢ streams.source.faults_before → streams.sink.faults_after ≡ streams.sink.faults_before
+      → Going step old now streams.source.before mid held streams.sink.before streams.sink.after n size → EndsReading (Run step) old now streams n
+  ends_reading mid held n size kept failed sink t = record {
+    bytes = t.bytes;
+    consumed = Consumes-kept streams.source.before mid streams.source.after t.bytes t.read kept;
+    answered = t.answered;
+    failed = inl failed;
+    sink = sink;
+  }
 
-pub Going-endless : {S : Type 0} (step : S → List ℕ → List ℕ → S → Type 0) (old now : S) (unread left : Option (List ℕ)) (held : List ℕ) (before after : Option (List ℕ)) (n size faults_before faults_after : ℕ)
-    → 2 ^ 60 ≤ size → Going step old now unread left held before after n size → Stopped (Run step) old now unread left before after n faults_before faults_after
-Going-endless step old now unread left held before after n size faults_before faults_after many t = (t.bytes, t.read, t.answered, inr (omega (arith, t.sized)))
+  pub ends_endless : (held : List ℕ) (n size : ℕ) → 2 ^ 60 ≤ size → streams.sink.faults_after ≡ streams.sink.faults_before
+      → Going step old now streams.source.before streams.source.after held streams.sink.before streams.sink.after n size → EndsReading (Run step) old now streams n
+  ends_endless held n size many sink t = record { bytes = t.bytes; consumed = t.read; answered = t.answered; failed = inr (omega (arith, t.sized)); sink = sink }
 
-pub Going-end : {S : Type 0} (step : S → List ℕ → List ℕ → S → Type 0) (old now new : S) (unread mid left : Option (List ℕ)) (held : List ℕ) (before between after : Option (List ℕ)) (n m size : ℕ)
-    → Consumes mid left [] → IsAtEnd left → Answered (Run step) now new (request held) between after m → Going step old now unread mid held before between n size → Whole (Run step) old new unread left before after (n + m)
-Going-end step old now new unread mid left held before between after n m size ate end one t = (
-  t.bytes,
-  subst (Consumes unread left) (append-nil t.bytes) (Consumes-trans unread mid left t.bytes [] t.read ate),
-  end,
-  Answered-append step old now new (ended_lines t.bytes) (request (begun_line t.bytes)) before between after n m t.answered
-      (Answered-alike step now new (take 65538 (begun_line t.bytes)) (begun_line t.bytes) between after m (held_alike (begun_line t.bytes)) (subst (λ h. Answered (Run step) now new (request h) between after m) t.holds one)),
-)
+  to_the_end : (bytes : List ℕ) (mid : Option (List ℕ)) → Consumes streams.source.before mid bytes → Consumes mid streams.source.after [] → Consumes streams.source.before streams.source.after bytes
+  to_the_end bytes mid read none = subst (Consumes streams.source.before streams.source.after) (append-nil bytes) (Consumes-trans streams.source.before mid streams.source.after bytes [] read none)
 
-pub Going-severed_last : {S : Type 0} (step : S → List ℕ → List ℕ → S → Type 0) (old now new : S) (unread mid left : Option (List ℕ)) (held : List ℕ) (before between after : Option (List ℕ)) (n size : ℕ)
-    → Consumes mid left [] → IsAtEnd left → Half step now new held between after → Going step old now unread mid held before between n size → Severed (Run step) old new unread left before after n
-Going-severed_last step old now new unread mid left held before between after n size ate end half t = (
-  t.bytes,
-  subst (Consumes unread left) (append-nil t.bytes) (Consumes-trans unread mid left t.bytes [] t.read ate),
-  inr (
-    end,
-    Broken-half step old now new (ended_lines t.bytes) [] (request_lines t.bytes) (begun_line t.bytes) before between after n t.answered
-        (Half-alike step now new (take 65538 (begun_line t.bytes)) (begun_line t.bytes) between after (held_alike (begun_line t.bytes)) (subst (λ h. Half step now new h between after) t.holds half))
-        (sym (append-nil (request_lines t.bytes))),
-  ),
-)
+  pub ends_whole : (new : S) (mid between : Option (List ℕ)) (held : List ℕ) (n m size : ℕ)
+      → Consumes mid streams.source.after [] → IsAtEnd streams.source.after
+      → streams.source.faults_after ≡ streams.source.faults_before → streams.sink.faults_after ≡ streams.sink.faults_before
+      → Answered (Run step) now new (request held) between streams.sink.after m
+      → Going step old now streams.source.before mid held streams.sink.before between n size → EndsWhole (Run step) old new streams (n + m)
+  ends_whole new mid between held n m size none end source sink one t = record {
+    bytes = t.bytes;
+    consumed = to_the_end t.bytes mid t.read none;
+    ended = end;
+    answered = Answered-append step old now new (ended_lines t.bytes) (request (begun_line t.bytes)) streams.sink.before between streams.sink.after n m t.answered
+        (Answered-alike step now new (take 65538 (begun_line t.bytes)) (begun_line t.bytes) between streams.sink.after m (held_alike (begun_line t.bytes))
+        (subst (λ h. Answered (Run step) now new (request h) between streams.sink.after m) t.holds one));
+    source = source;
+    sink = sink;
+  }
 
-pub Going-severed : {S : Type 0} (step : S → List ℕ → List ℕ → S → Type 0) (old now new : S) (unread mid left : Option (List ℕ)) (held piece : List ℕ) (before between after : Option (List ℕ)) (n m size : ℕ)
-    → Consumes mid left piece
-    → ((begun : List ℕ) → held ≡ take 65538 begun → (m ≤ length piece) × Broken (Run step) now new (ended_from begun piece) between after m)
-    → Going step old now unread mid held before between n size → Severed (Run step) old new unread left before after (n + m)
-Going-severed step old now new unread mid left held piece before between after n m size ate fed t =
-    let one = (fed (begun_line t.bytes) t.holds).1 in (
-      t.bytes ++ piece,
-      Consumes-trans unread mid left t.bytes piece t.read ate,
-      inl (subst (λ ls. Broken (Run step) old new ls before after (n + m)) (sym (ended_lines-append t.bytes piece)) (Broken-append step old now new (ended_lines t.bytes) (ended_from (begun_line t.bytes) piece) before between after n m t.answered one)),
-    )
+  pub ends_writing_last : (new : S) (mid between : Option (List ℕ)) (held : List ℕ) (n size : ℕ)
+      → Consumes mid streams.source.after [] → IsAtEnd streams.source.after
+      → streams.source.faults_after ≡ streams.source.faults_before → streams.sink.faults_after ≢ streams.sink.faults_before
+      → Half step now new held between streams.sink.after
+      → Going step old now streams.source.before mid held streams.sink.before between n size → EndsWriting (Run step) old new streams n
+  ends_writing_last new mid between held n size none end source sink half t = record {
+    bytes = t.bytes;
+    consumed = to_the_end t.bytes mid t.read none;
+    broken = inr (
+      end,
+      Broken-half step old now new (ended_lines t.bytes) [] (request_lines t.bytes) (begun_line t.bytes) streams.sink.before between streams.sink.after n t.answered
+          (Half-alike step now new (take 65538 (begun_line t.bytes)) (begun_line t.bytes) between streams.sink.after (held_alike (begun_line t.bytes))
+          (subst (λ h. Half step now new h between streams.sink.after) t.holds half))
+          (sym (append-nil (request_lines t.bytes))),
+    );
+    source = source;
+    sink = sink;
+  }
+
+  pub ends_writing : (new : S) (mid between : Option (List ℕ)) (held piece : List ℕ) (n m size : ℕ)
+      → Consumes mid streams.source.after piece
+      → streams.source.faults_after ≡ streams.source.faults_before → streams.sink.faults_after ≢ streams.sink.faults_before
+      → ((begun : List ℕ) → held ≡ take 65538 begun → (m ≤ length piece) × Broken (Run step) now new (ended_from begun piece) between streams.sink.after m)
+      → Going step old now streams.source.before mid held streams.sink.before between n size → EndsWriting (Run step) old new streams (n + m)
+  ends_writing new mid between held piece n m size ate source sink fed t =
+      let one = (fed (begun_line t.bytes) t.holds).1 in record {
+        bytes = t.bytes ++ piece;
+        consumed = Consumes-trans streams.source.before mid streams.source.after t.bytes piece t.read ate;
+        broken = inl (subst (λ ls. Broken (Run step) old new ls streams.sink.before streams.sink.after (n + m)) (sym (ended_lines-append t.bytes piece))
+            (Broken-append step old now new (ended_lines t.bytes) (ended_from (begun_line t.bytes) piece) streams.sink.before between streams.sink.after n m t.answered one));
+        source = source;
+        sink = sink;
+      }

@@ -2,5 +2,6 @@ pub mod Cut
 pub mod Reading
 pub mod Replies
 pub mod Run
-pub mod Told
+pub mod Streams
+pub mod Ends
 pub mod Watched

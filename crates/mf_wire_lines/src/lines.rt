@@ -6,7 +6,8 @@ ghost use Rattle.mf_wire_lines.specs.Cut.{without_return as line_without_return,
 ghost use Rattle.mf_wire_lines.specs.Reading.{ended_from, begun_from};
 ghost use Rattle.mf_wire_lines.specs.Replies.{line_of};
 ghost use Rattle.mf_wire_lines.specs.Run.{LineStep, Run, Answered, Half, Broken};
-ghost use Rattle.mf_wire_lines.specs.Told.{Whole, Stopped, Severed};
+ghost use Rattle.mf_wire_lines.specs.Streams.{stream_of, streams_of};
+ghost use Rattle.mf_wire_lines.specs.Ends.{Ends};
 
 use crate::line_buffer::LineBuffer;
 use crate::sinks::{Sink, WriteFault};
@@ -137,22 +138,9 @@ pub fn run_lines<S, D: LineDesk<S>, R: Source, W: Sink>(
     source: &mut R,
     sink: &mut W,
 ) -> Result<u64, StreamFault>
-    ensures ok { IfOk result (Whole (Run (D.may_answer desk.now)) state.old state.new (R.unread source.old) (R.unread source.new)
-        (W.written sink.old) (W.written sink.new)) }
-    ensures ok_source { OnOk result (R.faults source.new ≡ R.faults source.old) }
-    ensures ok_sink { OnOk result (W.faults sink.new ≡ W.faults sink.old) }
-
-    ensures read { IfErr result (λ f. f.cause ≡ cause.Read → Stopped (Run (D.may_answer desk.now)) state.old state.new (R.unread source.old) (R.unread source.new)
-        (W.written sink.old) (W.written sink.new) f.answered (R.faults source.old) (R.faults source.new)) }
-    ensures read_sink { IfErr result (λ f. f.cause ≡ cause.Read → W.faults sink.new ≡ W.faults sink.old) }
-
-    ensures write { IfErr result (λ f. f.cause ≡ cause.Write → Severed (Run (D.may_answer desk.now)) state.old state.new (R.unread source.old) (R.unread source.new)
-        (W.written sink.old) (W.written sink.new) f.answered) }
-    ensures write_sink { IfErr result (λ f. f.cause ≡ cause.Write → W.faults sink.new ≢ W.faults sink.old) }
-    ensures write_source { IfErr result (λ f. f.cause ≡ cause.Write → R.faults source.new ≡ R.faults source.old) }
-
-    ensures memory { IfErr result (λ f. f.cause ≡ cause.Memory
-        → (f.answered ≡ 0) × (state.new ≡ state.old) × (source.new ≡ source.old) × (sink.new ≡ sink.old)) }
+    ensures ends { Ends (Run (D.may_answer desk.now)) state.old state.new
+        (streams_of (stream_of R.unread R.faults source.old source.new) (stream_of W.written W.faults sink.old sink.new)) result }
+    ensures memory { IfErr result (λ f. f.cause ≡ cause.Memory → (source.new ≡ source.old) × (sink.new ≡ sink.old)) }
 {
     let memory = StreamFault {
         answered: 0,
@@ -187,20 +175,8 @@ fn serve_lines<S, D: LineDesk<S>, R: Source, W: Sink>(
 ) -> Result<u64, StreamFault>
     requires empty { held.old ≡ [] }
     requires room { length room.old ≡ 65536 }
-    ensures ok { IfOk result (Whole (Run (D.may_answer desk.now)) state.old state.new (R.unread source.old) (R.unread source.new)
-        (W.written sink.old) (W.written sink.new)) }
-    ensures ok_source { OnOk result (R.faults source.new ≡ R.faults source.old) }
-    ensures ok_sink { OnOk result (W.faults sink.new ≡ W.faults sink.old) }
-
-    ensures read { IfErr result (λ f. f.cause ≡ cause.Read → Stopped (Run (D.may_answer desk.now)) state.old state.new (R.unread source.old) (R.unread source.new)
-        (W.written sink.old) (W.written sink.new) f.answered (R.faults source.old) (R.faults source.new)) }
-    ensures read_sink { IfErr result (λ f. f.cause ≡ cause.Read → W.faults sink.new ≡ W.faults sink.old) }
-
-    ensures write { IfErr result (λ f. f.cause ≡ cause.Write → Severed (Run (D.may_answer desk.now)) state.old state.new (R.unread source.old) (R.unread source.new)
-        (W.written sink.old) (W.written sink.new) f.answered) }
-    ensures write_sink { IfErr result (λ f. f.cause ≡ cause.Write → W.faults sink.new ≢ W.faults sink.old) }
-    ensures write_source { IfErr result (λ f. f.cause ≡ cause.Write → R.faults source.new ≡ R.faults source.old) }
-
+    ensures ends { Ends (Run (D.may_answer desk.now)) state.old state.new
+        (streams_of (stream_of R.unread R.faults source.old source.new) (stream_of W.written W.faults sink.old sink.new)) result }
     ensures memory { IfErr result (λ f. f.cause ≢ cause.Memory) }
 {
     let mut answered = 0u64;

@@ -10,7 +10,7 @@ use Rattle.httparse.specs.Grammar.{print_request, ReadsRequest, HasNoRequest}
 use Rattle.httparse.specs.Spans.{RequestOverflows}
 use Rattle.httparse.specs.declared.spans.HeaderSpan.{HeaderSpan}
 use Rattle.mf_wire_messages.specs.Heads.{HasNoHead}
-use Rattle.mf_wire_messages.specs.Arrivals.{following, TellsHead}
+use Rattle.mf_wire_messages.specs.Arrivals.{bytes_left, TellsHead}
 use Rattle.mf_wire_messages.specs.declared.head.HeadRead.TheVariants.{Nothing, Refused}
 
 -- a piece is read behind what is there
@@ -41,12 +41,12 @@ full bytes more long none head rest r =
 pub overflows : (bytes more : List ℕ) (room : ℕ) → room ≡ 64 → RequestOverflows room bytes → HasNoHead (bytes ++ more)
 overflows bytes more room e over head rest r = omega (arith, over more head rest r.reads, r.few)
 
-pub none_follows : (left : Option (List ℕ)) → IsAtEnd left → following left ≡ []
+pub none_follows : (left : Option (List ℕ)) → IsAtEnd left → bytes_left left ≡ []
 none_follows None end = refl
 none_follows (Some bytes) end = end
 
 -- the stream ended, and no head was there
-pub ended : (bytes : List ℕ) (left : Option (List ℕ)) → IsAtEnd left → HasNoRequest bytes → HasNoHead (bytes ++ following left)
+pub ended : (bytes : List ℕ) (left : Option (List ℕ)) → IsAtEnd left → HasNoRequest bytes → HasNoHead (bytes ++ bytes_left left)
 ended bytes left end none head rest r =
     none head rest (subst (λ l. ReadsRequest l head rest) (ap (λ l. bytes ++ l) (none_follows left end) ∙ append-nil bytes) r.reads)
 

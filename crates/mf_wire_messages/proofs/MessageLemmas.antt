@@ -10,7 +10,7 @@ use Rattle.httparse.specs.declared.spans.RequestSpans.{RequestSpans}
 use Rattle.httparse.proofs.GrammarLemmas.{ReadsRequest-append, request_unique}
 use Rattle.mf_wire_messages.specs.Heads.{ReadsHead}
 use Rattle.mf_wire_messages.specs.Messages.{Request, frame_of, request_within, request_of, is_head, IsMessage}
-use Rattle.mf_wire_messages.specs.Arrivals.{following, Tells, Arrives}
+use Rattle.mf_wire_messages.specs.Arrivals.{bytes_left, Tells, Arrives}
 use Rattle.mf_wire_messages.specs.declared.reading.Arrival.{Arrival}
 use Rattle.std.proofs.KnownBytes.{Consumes-trans}
 use Rattle.std.proofs.Math.Seq.{take-append_seam}
@@ -34,31 +34,31 @@ unframed head rest e = ap (option_and_then (request_within head rest)) e
 
 -- the body is cut
 pub cut_short : (head : RequestHead) (begun more : List ℕ) (left : Option (List ℕ)) (frame : List ℕ × ℕ) (size : ℕ) → frame_of (map name_and_value head.fields) ≡ Some frame → size ≡ frame.1
-    → length (begun ++ more) < size → IsAtEnd left → request_of head (begun ++ (more ++ following left)) ≡ None
+    → length (begun ++ more) < size → IsAtEnd left → request_of head (begun ++ (more ++ bytes_left left)) ≡ None
 cut_short head begun more left frame size e same short end =
-    let all : begun ++ (more ++ following left) ≡ begun ++ more = ap (λ l. begun ++ l) (ap (λ l. more ++ l) (none_follows left end) ∙ append-nil more) in
+    let all : begun ++ (more ++ bytes_left left) ≡ begun ++ more = ap (λ l. begun ++ l) (ap (λ l. more ++ l) (none_follows left end) ∙ append-nil more) in
     ap (request_of head) all ∙ ap (option_and_then (request_within head (begun ++ more))) e
     ∙ ap (λ t. cond t (Some (record { staff = frame.0; method = head.method; target = head.target; body = take frame.1 (begun ++ more) })) None) (lt-leb frame.1 (length (begun ++ more)) (omega (arith, same, short)))
 
 -- the body is whole
 pub whole_request : (head : RequestHead) (begun more body : List ℕ) (left : Option (List ℕ)) (frame : List ℕ × ℕ) → frame_of (map name_and_value head.fields) ≡ Some frame → length body ≡ frame.1
     → length body ≤ length (begun ++ more) → body ≡ take (length body) (begun ++ more)
-    → request_of head (begun ++ (more ++ following left)) ≡ Some (record { staff = frame.0; method = head.method; target = head.target; body = body })
+    → request_of head (begun ++ (more ++ bytes_left left)) ≡ Some (record { staff = frame.0; method = head.method; target = head.target; body = body })
 whole_request head begun more body left frame e same fits content =
-    let rest = begun ++ (more ++ following left) in
-    let parts : rest ≡ (begun ++ more) ++ following left = sym (append_assoc begun more (following left)) in
-    let long : length rest ≡ length ((begun ++ more) ++ following left) = ap length parts in
+    let rest = begun ++ (more ++ bytes_left left) in
+    let parts : rest ≡ (begun ++ more) ++ bytes_left left = sym (append_assoc begun more (bytes_left left)) in
+    let long : length rest ≡ length ((begun ++ more) ++ bytes_left left) = ap length parts in
     let taken : take frame.1 rest ≡ body =
-    ap (take frame.1) parts ∙ take-append-le frame.1 (begun ++ more) (following left) (omega (arith, same, fits)) ∙ ap (λ n. take n (begun ++ more)) (sym same) ∙ sym content in
+    ap (take frame.1) parts ∙ take-append-le frame.1 (begun ++ more) (bytes_left left) (omega (arith, same, fits)) ∙ ap (λ n. take n (begun ++ more)) (sym same) ∙ sym content in
     ap (option_and_then (request_within head rest)) e
-    ∙ ap (λ t. cond t (Some (record { staff = frame.0; method = head.method; target = head.target; body = take frame.1 rest })) None) (le-leb frame.1 (length rest) (omega (arith, same, fits, long, length-append (begun ++ more) (following left))))
+    ∙ ap (λ t. cond t (Some (record { staff = frame.0; method = head.method; target = head.target; body = take frame.1 rest })) None) (le-leb frame.1 (length rest) (omega (arith, same, fits, long, length-append (begun ++ more) (bytes_left left))))
     ∙ ap (λ b. Some (record { staff = frame.0; method = head.method; target = head.target; body = b })) taken
 
 -- the head and its message are read one after the other
 pub together : (a b d : Option (List ℕ)) (bytes : List ℕ) (arrival : Arrival) → Consumes a b bytes
-    → ((more : List ℕ) × Consumes b d more × Tells (bytes ++ (more ++ following d)) arrival) → Arrives a d arrival
+    → ((more : List ℕ) × Consumes b d more × Tells (bytes ++ (more ++ bytes_left d)) arrival) → Arrives a d arrival
 together a b d bytes arrival p t =
-    (bytes ++ t.0, Consumes-trans a b d bytes t.0 p t.1, subst (λ l. Tells l arrival) (sym (append_assoc bytes t.0 (following d))) t.2)
+    (bytes ++ t.0, Consumes-trans a b d bytes t.0 p t.1, subst (λ l. Tells l arrival) (sym (append_assoc bytes t.0 (bytes_left d))) t.2)
 
 abbrev pub made : List ℕ → List ℕ → List ℕ → List ℕ → Request
 made staff method target body = record { staff = staff; method = method; target = target; body = body }

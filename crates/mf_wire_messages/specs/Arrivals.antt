@@ -12,13 +12,13 @@ use Rattle.mf_wire_messages.specs.declared.reading.Arrival.{Arrival}
 use Rattle.mf_wire_messages.specs.declared.reading.Arrival.TheVariants.{Silent, Received, Malformed, NoRoom}
 
 -- the bytes that follow: those that are left, where they are known
-abbrev pub following : Option (List ℕ) → List ℕ
-following left = unwrap_or left []
+abbrev pub bytes_left : Option (List ℕ) → List ℕ
+bytes_left left = unwrap_or left []
 
 -- What was read for a head: nothing of an empty stream, what begins no head whatever follows, or a whole head, where its parts are told by spans
 abbrev pub TellsHead : Option (List ℕ) → Option (List ℕ) → List ℕ → List HeaderSpan → HeadRead → Type 0
 TellsHead unread left room fields Nothing = Consumes unread left [] × IsAtEnd left
-TellsHead unread left room fields Refused = (read : List ℕ) × Consumes unread left read × (read ≢ []) × HasNoHead (read ++ following left)
+TellsHead unread left room fields Refused = (read : List ℕ) × Consumes unread left read × (read ≢ []) × HasNoHead (read ++ bytes_left left)
 TellsHead unread left room fields (Complete spans size) =
     (size ≤ length room) × Consumes unread left (take size room) × IsRequestWithin (take size room) fields spans × IsRequestOf (take size room) fields spans
 
@@ -40,4 +40,4 @@ Tells bytes (NoRoom to_head) =
 
 -- some bytes were read, and with those that follow them the stream is told as that
 abbrev pub Arrives : Option (List ℕ) → Option (List ℕ) → Arrival → Type 0
-Arrives unread left arrival = (read : List ℕ) × Consumes unread left read × Tells (read ++ following left) arrival
+Arrives unread left arrival = (read : List ℕ) × Consumes unread left read × Tells (read ++ bytes_left left) arrival

@@ -10,8 +10,8 @@ abbrev pub line : List ℕ → List ℕ → Field
 line name value = record { name = name; raw = 32 ∷ value; end = crlf }
 
 -- the head that asks for a new client
-abbrev pub asking : RequestHead
-asking = record {
+abbrev pub request_head : RequestHead
+request_head = record {
   blank = [];
   method = codes "POST";
   target = codes "/clients";
@@ -22,20 +22,20 @@ asking = record {
 }
 
 -- its body
-abbrev pub asked : List ℕ
-asked = codes "{\"office\":1,\"name\":\"Amina\"}"
+abbrev pub request_body : List ℕ
+request_body = codes "{\"office\":1,\"name\":\"Amina\"}"
 
 -- the head's bytes
 abbrev pub HeadIsWritten : Type 0
-HeadIsWritten = print_request asking ≡ codes "POST /clients HTTP/1.1\r\nHost: localhost\r\nX-Staff: 1/1\r\nContent-Length: 27\r\n\r\n"
+HeadIsWritten = print_request request_head ≡ codes "POST /clients HTTP/1.1\r\nHost: localhost\r\nX-Staff: 1/1\r\nContent-Length: 27\r\n\r\n"
 
 -- the request, whatever follows its body
 abbrev pub IsAsked : Type 0
-IsAsked = (more : List ℕ) → request_of asking (asked ++ more) ≡ Some (record { staff = codes "1/1"; method = codes "POST"; target = codes "/clients"; body = asked })
+IsAsked = (more : List ℕ) → request_of request_head (request_body ++ more) ≡ Some (record { staff = codes "1/1"; method = codes "POST"; target = codes "/clients"; body = request_body })
 
 -- five bytes of the body are none
 abbrev pub CutIsRefused : Type 0
-CutIsRefused = request_of asking (codes "{\"off") ≡ None
+CutIsRefused = request_of request_head (codes "{\"off") ≡ None
 
 -- the fields of a head that are refused: no staff, two, a length twice, with a sign or too long, and a transfer coding
 abbrev pub FieldsAreRefused : Type 0

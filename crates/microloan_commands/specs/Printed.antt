@@ -26,5 +26,5 @@ abbrev pub HasLongGrace : ScheduleWords → Type 0
 HasLongGrace asked = (asked.periods ≤ asked.principal_grace) ⊎ (asked.periods ≤ asked.interest_grace)
 
 -- the text of the fresh schedule that the words ask for
-abbrev pub printed : ScheduleWords → List ℕ
-printed asked = schedule_text (fresh_schedule (terms_asked asked) asked.principal asked.periods asked.day)
+abbrev pub printed_schedule : ScheduleWords → List ℕ
+printed_schedule asked = schedule_text (fresh_schedule (terms_asked asked) asked.principal asked.periods asked.day)

@@ -8,13 +8,13 @@ use Rattle.mf_model.specs.Institution.{Institution}
 use Rattle.mf_desk.specs.Answers.{arrears_told}
 
 -- the text of a report's lines, or the refusal
-abbrev pub shown : Result (List Line) Fault → Result (List ℕ) Fault
-shown (Ok lines) = Ok (report_bytes lines)
-shown (Err fault) = Err fault
+abbrev pub report_or_refusal : Result (List Line) Fault → Result (List ℕ) Fault
+report_or_refusal (Ok lines) = Ok (report_bytes lines)
+report_or_refusal (Err fault) = Err fault
 
 -- the text of the arrears that a caller sees; F2 where there is no such member of staff
 abbrev pub report_told : Caller → Institution → Result (List ℕ) Fault
-report_told c i = shown (arrears_told c i)
+report_told c i = report_or_refusal (arrears_told c i)
 
 -- the bytes of a text, or its refusal
 abbrev pub bytes_of : {Z : Type 0} → Result (String Z) Fault → Result (List ℕ) Fault

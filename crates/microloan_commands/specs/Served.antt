@@ -1,13 +1,13 @@
 -- Connections that are served one after another.
 use Rattle.std.specs.Prelude.{ℕ, ◌≤◌, Bool, true, false, List, length, Result, Ok, Err}
 use Rattle.mf_base.specs.declared.fault.StreamFault.{StreamFault}
-use Rattle.mf_model.specs.Institution.{Institution}
+use Rattle.mf_model.specs.declared.store.InstitutionStore.{Ghosts}
 use Rattle.mf_wire.specs.Exchanges.{Exchange, AnswersAll}
 
 -- The store answered messages one after another, at most one a connection, and nothing else was done to it. The responses of so many were written whole.
-pub record Serves {S : Type 0} (stands : S → Institution → Type 0) (clean : S → Type 0) (leaves : S → List Institution → Type 0) (connections : ℕ) (old new : S) (count : ℕ) : Type 0 where
+pub record Serves {S : Type 0} (store : Ghosts S) (connections : ℕ) (old new : S) (count : ℕ) : Type 0 where
   pub exchanges : List Exchange
-  pub answered : AnswersAll stands clean leaves old exchanges new
+  pub answered : AnswersAll store old exchanges new
   pub each : length exchanges ≤ connections
   pub counted : count ≤ length exchanges
 

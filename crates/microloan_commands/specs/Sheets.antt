@@ -7,7 +7,7 @@ use Rattle.mf_base.specs.declared.fault.StreamFault.{StreamFault}
 use Rattle.mf_sheet_lines.specs.Sheets.{longest, rows_of}
 use Rattle.mf_sheet_lines.specs.declared.results.SheetResult.{SheetResult}
 use Rattle.mf_sheet.specs.Ends as sheet
-use Rattle.mf_wire.specs.Streams.{Streams}
+use Rattle.mf_wire_lines.specs.Streams.{Streams}
 use Rattle.microloan_commands.specs.declared.sheets.SheetFault.{SheetFault}
 use Rattle.microloan_commands.specs.declared.sheets.SheetFault.TheVariants.{TooLong, Stream}
 
@@ -38,39 +38,33 @@ module _ {S : Type 0} (runs : S → List (List (List ℕ)) → List SheetResult 
   -- nothing was answered or written, and the sink did not fail
   pub record Untouched : Type 0 where
     pub same : new ≡ old
-    pub unwritten : streams.after ≡ streams.before
-    pub sink : streams.sink_faults_after ≡ streams.sink_faults_before
+    pub unwritten : streams.sink.after ≡ streams.sink.before
+    pub sink : streams.sink.faults_after ≡ streams.sink.faults_before
 
   -- the sheet was read whole, and what collecting it left is as this result says; the source did not fail
   pub record Collected (result : Result (Unit {0}) StreamFault) : Type 0 where
     pub bytes : List ℕ
-    pub read : IsWhole streams.unread streams.left bytes
-    pub source : streams.source_faults_after ≡ streams.source_faults_before
-    pub ended : sheet.Ends runs old new (record {
-      rows = rows_of bytes;
-      before = streams.before;
-      after = streams.after;
-      faults_before = streams.sink_faults_before;
-      faults_after = streams.sink_faults_after;
-    }) result
+    pub read : IsWhole streams.source.before streams.source.after bytes
+    pub source : streams.source.faults_after ≡ streams.source.faults_before
+    pub ended : sheet.Ends runs old new (record { rows = rows_of bytes; sink = streams.sink }) result
 
   -- the sheet is too long; the source did not fail
   pub record Refused : Type 0 where
-    pub long : IsTooLong streams.unread streams.left
-    pub source : streams.source_faults_after ≡ streams.source_faults_before
+    pub long : IsTooLong streams.source.before streams.source.after
+    pub source : streams.source.faults_after ≡ streams.source.faults_before
     pub untouched : Untouched
 
   -- the source failed in this call
   pub record FailedReading (count : ℕ) : Type 0 where
     pub none : count ≡ 0
-    pub source : streams.source_faults_after ≢ streams.source_faults_before
+    pub source : streams.source.faults_after ≢ streams.source.faults_before
     pub untouched : Untouched
 
   -- there was no memory to read the sheet, of which nothing was read
   pub record NeverRead (count : ℕ) : Type 0 where
     pub none : count ≡ 0
-    pub unread : streams.left ≡ streams.unread
-    pub source : streams.source_faults_after ≡ streams.source_faults_before
+    pub unread : streams.source.after ≡ streams.source.before
+    pub source : streams.source.faults_after ≡ streams.source.faults_before
     pub untouched : Untouched
 
   -- by the cause of a fault, and how many results were written whole

@@ -1,7 +1,7 @@
 ghost use Rattle.std.specs.Prelude.{◌≡◌, ◌≤◌, IfErr};
 ghost use Rattle.mf_base.specs.DayText.{last_entered_day};
 ghost use Rattle.mf_base.specs.declared.fault.Cause.TheVariants as cause;
-ghost use Rattle.mf_wire.specs.Streams.{streams_of};
+ghost use Rattle.mf_wire_lines.specs.Streams.{stream_of, streams_of};
 ghost use Rattle.microloan_commands.specs.Batch.{AnswersFromNew};
 
 use crate::first::in_memory;
@@ -23,7 +23,8 @@ pub fn answer_lines<R: Source, W: Sink>(
     sink: &mut W,
 ) -> Result<u64, StreamFault>
     requires { day ≤ last_entered_day }
-    ensures ends { AnswersFromNew ⟦<PageStore as TreeStore>⟧ day (streams_of R.unread R.faults W.written W.faults source.old source.new sink.old sink.new) result }
+    ensures ends { AnswersFromNew ⟦<PageStore as TreeStore>⟧ day
+        (streams_of (stream_of R.unread R.faults source.old source.new) (stream_of W.written W.faults sink.old sink.new)) result }
     ensures memory { IfErr result (λ f. f.cause ≡ cause.Memory → (source.new ≡ source.old) × (sink.new ≡ sink.old)) }
 {
     let Ok(mut store) = in_memory(alloc, day) else {

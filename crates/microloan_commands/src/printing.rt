@@ -2,7 +2,7 @@ ghost use Rattle.std.specs.Prelude.{◌≡◌, ◌≤◌, ◌⊎◌, IfOk, IfErr
 ghost use Rattle.mf_base.specs.DayText.{last_entered_day};
 ghost use Rattle.mf_base.specs.declared.fault.Fault.TheVariants.{F8, F20};
 ghost use Rattle.microloan_words.specs.Asked.{IsWithinLimits};
-ghost use Rattle.microloan_commands.specs.Printed.{terms_asked, printed, HasLongGrace};
+ghost use Rattle.microloan_commands.specs.Printed.{terms_asked, printed_schedule, HasLongGrace};
 
 use mf_base::Fault;
 use mf_catalog::{StrategyName, Terms};
@@ -33,7 +33,7 @@ fn terms_of(asked: &ScheduleWords) -> Terms
 /// F8 where a grace is not below the number of instalments, and F20 when out of memory.
 pub fn schedule(alloc: Global, asked: &ScheduleWords) -> Result<String, Fault>
     requires { IsWithinLimits asked.now }
-    ensures text { IfOk result (λ text. string_bytes text ≡ printed asked.now) }
+    ensures text { IfOk result (λ text. string_bytes text ≡ printed_schedule asked.now) }
     ensures long_grace { HasLongGrace asked.now → result ≡ Err F8 }
     ensures refused { IfErr result (λ fault. ((fault ≡ F8) × HasLongGrace asked.now) ⊎ (fault ≡ F20)) }
 {

@@ -18,7 +18,7 @@ pub fn report<S: InstitutionStore>(
     store: &mut S,
     caller: Caller,
 ) -> Result<String, Fault>
-    ensures { Asks S.stands S.clean S.leaves (report_told caller) store.old store.new (bytes_of result) }
+    ensures { Asks S.InstitutionStore (report_told caller) store.old store.new (bytes_of result) }
 {
     let lines = arrears_lines(alloc, store, caller)?;
     // The 9,999 offices of an institution have far fewer loans than the report sums.

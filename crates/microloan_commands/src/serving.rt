@@ -30,7 +30,7 @@ fn serve_streams<S: InstitutionStore, R: Read + Drop, W: Write + Drop>(
     reader: R,
     writer: W,
 ) -> u64
-    ensures { Serves S.stands S.clean S.leaves 1 store.old store.new result }
+    ensures { Serves S.InstitutionStore 1 store.old store.new result }
 {
     let mut source = WatchedReader::new(reader);
     let mut sink = WatchedWriter::new(writer);
@@ -44,7 +44,7 @@ fn serve_next<S: InstitutionStore, L: OpenListener<Stream = TcpStream>>(
     store: &mut S,
     listener: &L,
 ) -> u64
-    ensures { Serves S.stands S.clean S.leaves 1 store.old store.new result }
+    ensures { Serves S.InstitutionStore 1 store.old store.new result }
 {
     let Ok((stream, _)) = listener.accept() else {
         return 0;
@@ -63,7 +63,7 @@ pub fn serve_connections<S: InstitutionStore, L: OpenListener<Stream = TcpStream
     listener: &L,
     connections: u64,
 ) -> Result<u64, StreamFault>
-    ensures served { IfOk result (Serves S.stands S.clean S.leaves connections store.old store.new) }
+    ensures served { IfOk result (Serves S.InstitutionStore connections store.old store.new) }
     ensures memory { IfErr result (λ fault. (fault ≡ record { answered = 0; cause = cause.Memory }) × (store.new ≡ store.old)) }
 {
     let Ok(desk) = Desk::new(alloc) else {

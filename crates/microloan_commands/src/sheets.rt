@@ -1,7 +1,7 @@
 ghost use Rattle.std.specs.Prelude.{◌≡◌, ◌≢◌, length, IfOk, IfErr};
 ghost use Rattle.mf_base.specs.declared.fault.Cause.TheVariants as cause;
 ghost use Rattle.mf_sheet.specs.Runs.{RunsRows};
-ghost use Rattle.mf_wire.specs.Streams.{streams_of};
+ghost use Rattle.mf_wire_lines.specs.Streams.{stream_of, streams_of};
 ghost use Rattle.microloan_commands.specs.Sheets.{IsWhole, IsReadFault, Ends};
 
 use mf_base::{Cause, StreamFault};
@@ -66,7 +66,8 @@ pub fn collect_sheet<S: InstitutionStore, R: Source, W: Sink>(
     source: &mut R,
     sink: &mut W,
 ) -> Result<(), SheetFault>
-    ensures ends { Ends (RunsRows S.stands S.clean S.leaves caller) store.old store.new (streams_of R.unread R.faults W.written W.faults source.old source.new sink.old sink.new) result }
+    ensures ends { Ends (RunsRows S.InstitutionStore caller) store.old store.new
+        (streams_of (stream_of R.unread R.faults source.old source.new) (stream_of W.written W.faults sink.old sink.new)) result }
 {
     let sheet = read_whole(alloc, source)?;
     match collect(alloc, store, caller, sheet.as_slice(), sink) {

@@ -2,7 +2,7 @@ use Rattle.std.proofs.Common.{ℕ, ◌≡◌, ◌+◌, ◌-◌, ◌∙◌, ap, s
 use Rattle.mf_alloc.specs.declared.row.Cell.{Cell}
 use Rattle.mf_alloc.specs.declared.row.Share.{Share}
 use Rattle.mf_alloc.specs.Order.{dues_of, due_by, order_at}
-use Rattle.mf_account.specs.Account.{numbered}
+use Rattle.mf_account.specs.Account.{parts_numbered}
 use Rattle.mf_alloc.specs.Sums.{Sums, AreWhole}
 use Rattle.mf_alloc.specs.Payment.{shares_of, rest_of}
 use Rattle.mf_alloc.proofs.LeftOpen.{IsLine}
@@ -65,11 +65,11 @@ returns-clause-parts g c =
       is = record { is_cell = λ k within. g.met.T.Strategy.is_cell c.args.strategy.now n due k few within; back = λ k within. g.met.T.Strategy.back c.args.strategy.now n due k few within };
       whole = subst (λ (s : State). AreWhole s.rows) (sym is) c.requires.fits.whole;
     } in
-    subst (λ (s : State). c.add_paid.new.parts.items ≡ numbered entry.seq 1 (parts_of (order_at cells s.rows entry.day) entry s)) is
+    subst (λ (s : State). c.add_paid.new.parts.items ≡ parts_numbered entry.seq 1 (parts_of (order_at cells s.rows entry.day) entry s)) is
     (parts-applied (order_at cells before.rows entry.day) entry before entry.seq cleared c.in_ok-shares.shares.items money c.in_ok-parts.parts.items c.add_paid.new.parts.items
     c.in_ok-parts.ensures.rows pays
     (c.in_ok-shares.ensures.shares ∙ ap (λ (o : ℕ → Cell). shares_of o cleared money) same)
     c.in_ok-parts.ensures.parts
     (c.in_ok-add_paid.ensures.parts
-    ∙ ap (λ (x : List Share). c.in_ok-parts.parts.items ++ numbered entry.seq (1 + length c.in_ok-parts.parts.items) (map paid_part x)) c.deref.ensures.value)
-    ∙ ap (numbered entry.seq 1) (sym (parts-once n (order_at cells before.rows entry.day) place entry before line)))
+    ∙ ap (λ (x : List Share). c.in_ok-parts.parts.items ++ parts_numbered entry.seq (1 + length c.in_ok-parts.parts.items) (map paid_part x)) c.deref.ensures.value)
+    ∙ ap (parts_numbered entry.seq 1) (sym (parts-once n (order_at cells before.rows entry.day) place entry before line)))

@@ -2,7 +2,7 @@ use Rattle.std.proofs.Common.{ℕ, ap, ◌∙◌, List}
 use Rattle.mf_alloc.specs.declared.row.Cell.{Cell}
 use Rattle.mf_alloc.specs.Sums.{Sums}
 use Rattle.mf_alloc.specs.Order.{order_at}
-use Rattle.mf_account.specs.Account.{numbered}
+use Rattle.mf_account.specs.Account.{parts_numbered}
 use Rattle.mf_account.specs.Effect.{with_charge, parts_cleared}
 use Rattle.mf_account.specs.AtOnce.{with_cleared}
 use Rattle.mf_account.proofs.EffectLemmas.{with_cleared-from}
@@ -28,5 +28,5 @@ returns-clause-parts g c =
     let owed : List Sums = with_charge entry.kind entry c.args.rows.now in
     let same = order-same cells owed c.args.rows.now entry.day (dues-with_charge entry.kind entry c.args.rows.now) in
     c.in_ok-parts.ensures.parts
-    ∙ ap (λ (x : List Sums). numbered entry.seq 1 (parts_cleared (order_at cells x entry.day) entry x)) c.charge.ensures
-    ∙ ap (λ (o : ℕ → Cell). numbered entry.seq 1 (parts_cleared o entry owed)) same
+    ∙ ap (λ (x : List Sums). parts_numbered entry.seq 1 (parts_cleared (order_at cells x entry.day) entry x)) c.charge.ensures
+    ∙ ap (λ (o : ℕ → Cell). parts_numbered entry.seq 1 (parts_cleared o entry owed)) same

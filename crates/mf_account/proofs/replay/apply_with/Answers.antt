@@ -2,7 +2,7 @@ use Rattle.std.proofs.Common.{◌≡◌, ◌++◌, List, length, arith, ◌∙�
 use Rattle.mf_account.specs.declared.entry.Entry.{Entry}
 use Rattle.mf_account.specs.declared.settled.Settled.{Settled}
 use Rattle.mf_account.specs.Effect.{State, parts_of}
-use Rattle.mf_account.specs.Account.{Orders, orders_by, after_all, settled_by, numbered}
+use Rattle.mf_account.specs.Account.{Orders, orders_by, after_all, settled_by, parts_numbered}
 use Rattle.mf_account.specs.Standing.{entries_at}
 use Rattle.mf_account.specs.Applicable.{AreApplicable}
 use Rattle.mf_account.proofs.ReplayLemmas.{length-after}
@@ -37,7 +37,7 @@ returns-clause-parts g c =
     let cells = g.T.Strategy.cell_at c.args.strategy.now in
     let orders : Orders = orders_by cells c.args.book.now.rows in
     let later : List Entry = entries_at c.args.entries.now c.args.later.now in
-    let own : List Settled = numbered c.args.entry.now.seq 1 (parts_of (orders c.args.entry.now) c.args.entry.now c.args.book.now) in
+    let own : List Settled = parts_numbered c.args.entry.now.seq 1 (parts_of (orders c.args.entry.now) c.args.entry.now c.args.book.now) in
     let same = orders-after cells c.args.entry.now c.args.book.now c.apply_entry.new.book c.in_ok-parts.ensures.state in
     c.in_ok-extend_from_slice.ensures.items
     ∙ ap (λ (x : List Settled). x ++ c.deref.result.now) c.in_ok-parts.ensures.parts

@@ -2,7 +2,7 @@ use Rattle.std.proofs.Common.{◌≡◌, ◌+◌, ◌≤◌, ◌∙◌, ap, sym,
 use Rattle.mf_alloc.specs.Sums.{Sums}
 use Rattle.mf_account.specs.Effect.{State}
 use Rattle.mf_account.specs.Balance.{HasRoom}
-use Rattle.mf_account.specs.Standing.{standing, entries_at}
+use Rattle.mf_account.specs.Standing.{standing_entries, entries_at}
 use Rattle.mf_account.specs.Loan.{Loan, state_of_loan}
 use Rattle.mf_account.specs.Safe.{most_kept, IsBounded}
 use Rattle.mf_account.proofs.ConserveLemmas.{brought, room-bounded, paid-bounded}
@@ -15,8 +15,8 @@ pub money_brought-brought-requires-clause-room : goal.money_brought-brought-requ
 money_brought-brought-requires-clause-room c =
     let loan : Loan = c.requires.sound.0 in
     let room = brought-room loan c.requires.sound.1 in
-    let all : brought (entries_at c.args.entries.now c.args.order.now) ≡ brought (standing loan.entries) =
-    ap brought (c.requires.order ∙ ap standing c.requires.sound.2) in
+    let all : brought (entries_at c.args.entries.now c.args.order.now) ≡ brought (standing_entries loan.entries) =
+    ap brought (c.requires.order ∙ ap standing_entries c.requires.sound.2) in
     omega (arith, room, all)
 
 -- the rows with nothing overpaid or refunded
@@ -49,7 +49,7 @@ returns-clause-bounded c =
     let rows : List Sums = c.args.rows.items in
     let loan : Loan = c.requires.sound.0 in
     let is : IsBounded (length rows) most_kept (plain rows) = c.is_bounded.ensures.bounded (length rows) (record { size = refl; whole = c.requires.whole; within = c.requires.apart }) c.if-not-is_bounded.false in
-    let all : brought (entries_at c.args.entries.now c.args.order.now) ≡ brought (standing loan.entries) = ap brought (c.requires.order ∙ ap standing c.requires.sound.2) in
+    let all : brought (entries_at c.args.entries.now c.args.order.now) ≡ brought (standing_entries loan.entries) = ap brought (c.requires.order ∙ ap standing_entries c.requires.sound.2) in
     let most = brought-kept loan c.requires.sound.1 in
     let rest : c.saturating_sub-rest.result ≤ most_kept = omega (arith, all, most, c.money_brought-brought.ensures, c.saturating_sub-rest.ensures) in
     let both : (o r : ℕ) → o + r ≤ most_kept → IsBounded (length rows) most_kept (record { rows = rows; overpaid = o; refunded = r }) = λ o r money. record { size = is.size; whole = is.whole; within = is.within; owed = is.owed; money = money } in
@@ -60,10 +60,10 @@ returns-clause-bounded c =
 
 pub returns-clause-book : goal.returns-clause-book
 returns-clause-book c loan sound entries rows =
-    let total : c.money_brought-brought.result ≡ brought (standing loan.entries) =
-    c.money_brought-brought.ensures ∙ ap brought (c.requires.order ∙ ap standing entries) in
+    let total : c.money_brought-brought.result ≡ brought (standing_entries loan.entries) =
+    c.money_brought-brought.ensures ∙ ap brought (c.requires.order ∙ ap standing_entries entries) in
     let paid : c.money_paid.result ≡ paid_in_all (state_of_loan loan).rows = c.money_paid.ensures ∙ ap paid_in_all (c.deref.ensures.value ∙ rows) in
-    let order : entries_at c.args.entries.now c.args.order.now ≡ standing c.args.entries.now = c.requires.order in
+    let order : entries_at c.args.entries.now c.args.order.now ≡ standing_entries c.args.entries.now = c.requires.order in
     let at : ℕ × ℕ → State = λ p. record { rows = c.args.rows.items; overpaid = p.0; refunded = p.1 } in
     elim c.if-ends_in_refund.branch [
       | then-ends_in_refund w ↦

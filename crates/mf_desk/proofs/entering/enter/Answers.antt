@@ -41,7 +41,7 @@ returns-in_err-entry-clause-decides g c =
     let make = entry_of c.args.asked c.args.caller in
     let fault = c.in_err-entry.field-0.0 in
     let e : c.from_residual-in_err-entry.result ≡ Err fault = search rules in
-    rw e (then_refused s.stands s.clean s.leaves c.args.loan (first_of c.args.asked) make account today fault c.args.store.now c.find_account.new.store c.business_day.new.self c.in_ok-account.ensures.asks c.in_ok-today.ensures
+    rw e (then_refused s c.args.loan (first_of c.args.asked) make account today fault c.args.store.now c.find_account.new.store c.business_day.new.self c.in_ok-account.ensures.asks c.in_ok-today.ensures
     (λ replayed. elim (c.in_err-entry.ensures.refused replayed) [
       | inl given_up ↦ inl given_up
       | inr refused ↦ inr (ap (λ o. fault_or o (refusal_of account.loan (make today account.loan) today)) refused)
@@ -56,7 +56,7 @@ returns-in_err-account-2-clause-decides g c =
     let make = entry_of c.args.asked c.args.caller in
     let fault = c.in_err-account-2.field-0.0 in
     let e : c.from_residual-in_err-account-2.result ≡ Err fault = search rules in
-    rw e (then_refused s.stands s.clean s.leaves c.args.loan first make account today fault c.args.store.now c.find_account.new.store c.business_day.new.self c.in_ok-account.ensures.asks c.in_ok-today.ensures
+    rw e (then_refused s c.args.loan first make account today fault c.args.store.now c.find_account.new.store c.business_day.new.self c.in_ok-account.ensures.asks c.in_ok-today.ensures
     (λ replayed. elim (c.in_err-account-2.ensures.refused replayed) [
       | inl given_up ↦ inl given_up
       | inr refused ↦ inr (by_account (first account.loan) (refusal_of account.loan (make today account.loan) today) (c.in_ok-entry.ensures.first replayed) ∙ ap (λ (x : Entry). refusal_of account.loan x today) (sym c.in_ok-entry.ensures.made) ∙ refused)
@@ -74,6 +74,6 @@ returns-clause-decides g c =
     let is : c.change.result ≡ record { reply = reply.Loan c.args.loan (Entered (make today account.loan).seq); commit = Some (Enter c.args.loan after) } =
     c.change.ensures ∙ ap (λ (x : Entry). record { reply = reply.Loan c.args.loan (Entered x.seq); commit = Some (Enter c.args.loan after) }) made
     in
-    rw is (then_entered s.stands s.clean s.leaves c.args.loan first make account after today c.args.store.now c.find_account.new.store c.business_day.new.self c.in_ok-account.ensures.asks c.in_ok-today.ensures
+    rw is (then_entered s c.args.loan first make account after today c.args.store.now c.find_account.new.store c.business_day.new.self c.in_ok-account.ensures.asks c.in_ok-today.ensures
     (λ replayed. by_account (first account.loan) (refusal_of account.loan (make today account.loan) today) (c.in_ok-entry.ensures.first replayed) ∙ ap (λ (x : Entry). refusal_of account.loan x today) (sym made) ∙ c.in_ok-account-2.ensures.accepted replayed)
     (c.in_ok-account-2.ensures.loan ∙ ap (λ (x : Entry). record account.loan { entries = account.loan.entries ++ x ∷ [] }) made) c.in_ok-account-2.ensures.kept c.in_ok-account-2.ensures.change)

@@ -15,7 +15,7 @@ pub returns-in_err-overdue-clause-decides : goal.returns-in_err-overdue-clause-d
 returns-in_err-overdue-clause-decides g c =
     let s = g.S.InstitutionStore in
     let e : c.from_residual-in_err-overdue.result ≡ Err c.in_err-overdue.field-0.0 = search rules in
-    rw e (then_missing s.stands s.clean s.leaves c.args.members c.in_ok-disbursement.disbursement c.in_ok-instalment.instalment
+    rw e (then_missing s c.args.members c.in_ok-disbursement.disbursement c.in_ok-instalment.instalment
     c.args.store.now c.find_charge.new.store c.find_charge-2.new.store c.find_charge-3.new.store
     c.in_ok-disbursement.ensures.found c.in_ok-instalment.ensures.found c.in_err-overdue.field-0.0 c.in_err-overdue.ensures.found)
 
@@ -25,7 +25,7 @@ returns-in_err-check_product-clause-decides g c =
     let fault = c.in_err-check_product.field-0.0 in
     let e : c.from_residual-in_err-check_product.result ≡ Err fault = search rules in
     let why = checked (Err fault) _ (c.in_err-check_product.ensures ∙ ap (λ (xs : List ChargeDef). cond (is_consistent (charge_at xs) c.args.members) (Ok tt) (Err F8)) (c.as_slice.ensures.value ∙ c.in_ok-charges.ensures.ok)) in
-    rw (e ∙ ap (λ (x : Fault). Err x) why.0) (then_inconsistent s.stands s.clean s.leaves c.args.members c.in_ok-disbursement.disbursement c.in_ok-instalment.instalment c.in_ok-overdue.overdue
+    rw (e ∙ ap (λ (x : Fault). Err x) why.0) (then_inconsistent s c.args.members c.in_ok-disbursement.disbursement c.in_ok-instalment.instalment c.in_ok-overdue.overdue
     c.args.store.now c.find_charge.new.store c.find_charge-2.new.store c.find_charge-3.new.store
     c.in_ok-disbursement.ensures.numbered c.in_ok-instalment.ensures.numbered c.in_ok-overdue.ensures.numbered
     c.in_ok-disbursement.ensures.found c.in_ok-instalment.ensures.found c.in_ok-overdue.ensures.found why.1)
@@ -34,7 +34,7 @@ pub returns-clause-decides : goal.returns-clause-decides
 returns-clause-decides g c =
     let s = g.S.InstitutionStore in
     let consistent = checked (Ok c.in_ok-check_product.field-0) _ (c.in_ok-check_product.ensures ∙ ap (λ (xs : List ChargeDef). cond (is_consistent (charge_at xs) c.args.members) (Ok tt) (Err F8)) (c.as_slice.ensures.value ∙ c.in_ok-charges.ensures.ok)) in
-    then_made s.stands s.clean s.leaves c.args.members c.in_ok-disbursement.disbursement c.in_ok-instalment.instalment c.in_ok-overdue.overdue
+    then_made s c.args.members c.in_ok-disbursement.disbursement c.in_ok-instalment.instalment c.in_ok-overdue.overdue
     c.args.store.now c.find_charge.new.store c.find_charge-2.new.store c.find_charge-3.new.store
     c.in_ok-disbursement.ensures.numbered c.in_ok-instalment.ensures.numbered c.in_ok-overdue.ensures.numbered
     c.in_ok-disbursement.ensures.found c.in_ok-instalment.ensures.found c.in_ok-overdue.ensures.found

@@ -6,7 +6,8 @@ use Rattle.mf_base.specs.declared.fault.Cause.TheVariants.{Read, Write, Memory}
 use Rattle.mf_sheet_lines.specs.Results.{heading}
 use Rattle.mf_sheet_lines.specs.declared.results.SheetResult.{SheetResult}
 use Rattle.mf_sheet.specs.Runs.{AnswersFields, Steps}
-use Rattle.mf_sheet.specs.Ends.{Streams, EndsBy}
+use Rattle.mf_wire_lines.specs.Streams.{stream_of}
+use Rattle.mf_sheet.specs.Ends.{SheetStreams, EndsBy}
 use Rattle.mf_sheet.proofs.Rows.{Going-start, Going-more, one_taken, one_done, all_done, count_below, ends_whole, ends_before, ends_in_F20, cuts_record}
 use Rattle.mf_sheet.proofs.collecting.collect_rows.Goals as goal
 
@@ -55,18 +56,15 @@ pub returns-in-Err : goal.returns-in-Err
 returns-in-Err g c = record { ends = λ before first. at before first c.in-Err.cause refl }
   where
     step : g.row.S.Denot → List (List ℕ) → SheetResult → g.row.S.Denot → Type 0
-    step = AnswersFields g.S.InstitutionStore.stands g.S.InstitutionStore.clean g.S.InstitutionStore.leaves c.args.caller.now
+    step = AnswersFields g.S.InstitutionStore c.args.caller.now
 
     among : c.args.rows.items ≡ c.loop-row.yielded ++ c.in-Some.row ∷ into_iter_items c.next.new.self
     among = one_taken _ _ _ _ _ c.loop-row.invariant.all c.in-Some.ensures.steps.0
 
-    streams : Option (List ℕ) → Streams
+    streams : Option (List ℕ) → SheetStreams
     streams before = record {
       rows = c.args.rows.items;
-      before = before;
-      after = g.W.Sink.written c.collect_row.new.sink;
-      faults_before = g.W.Sink.faults c.args.sink.now;
-      faults_after = g.W.Sink.faults c.collect_row.new.sink;
+      sink = record (stream_of g.W.Sink.written g.W.Sink.faults c.args.sink.now c.collect_row.new.sink) { before = before };
     }
 
     at : (before : Option (List ℕ)) → Appends before (g.W.Sink.written c.args.sink.now) heading → (cause : Cause) → c.in-Err.cause ≡ cause → EndsBy (Steps step) c.args.store.now c.collect_row.new.store (streams before) cause c.loop-row.answered
@@ -85,10 +83,7 @@ returns-in-Err g c = record { ends = λ before first. at before first c.in-Err.c
           inr (
               rw (m.0, m.1) (ends_before step c.args.store.now (record {
                 rows = c.args.rows.items;
-                before = before;
-                after = g.W.Sink.written c.loop-row.sink;
-                faults_before = g.W.Sink.faults c.args.sink.now;
-                faults_after = g.W.Sink.faults c.loop-row.sink;
+                sink = record (stream_of g.W.Sink.written g.W.Sink.faults c.args.sink.now c.loop-row.sink) { before = before };
               }) c.loop-row.yielded (g.W.Sink.written c.args.sink.now) c.loop-row.answered first c.loop-row.store c.in-Some.row _ among c.loop-row.invariant.going)
               ),
         )

@@ -1,7 +1,7 @@
 use Rattle.std.proofs.Common.{◌≡◌, ◌-◌, ◌∷◌, [], ◌++◌, List, length, sym, subst, ap, ◌∙◌}
 use Rattle.mf_account.specs.declared.entry.Entry.{Entry}
 use Rattle.mf_account.specs.Standing.{entry_at}
-use Rattle.mf_model.specs.Store.{committed}
+use Rattle.mf_model.specs.Store.{after_commit}
 use Rattle.mf_model.specs.declared.commit.Commit.TheVariants.{Enter}
 use Rattle.mf_store_changes.specs.ChangeWrites.{change_writes}
 use Rattle.mf_store_accounts.specs.Flat.{entry_in}
@@ -32,5 +32,5 @@ returns-clause-commits g c =
     let row_is = c.in_ok-row.ensures.row ∙ (λ t. entry_in (c.get-office.ensures.value t) (c.get-loan.ensures.value t) (entry_at entries (c.entry_count.ensures.count t - 1)))
     ∙ ap (λ (es : List Entry). entry_in loan.office loan.number (entry_at es (length es - 1))) one_more ∙ ap (entry_in loan.office loan.number) (last_entry of.ledger.entries entry)
     in
-    subst (λ ws. Becomes ws i (committed (Enter loan account) i)) (sym writes) (entry_becomes loan account of.ledger i s.sound of.there changed entry admitted.sound one_more last apart row row_is))
+    subst (λ ws. Becomes ws i (after_commit (Enter loan account) i)) (sym writes) (entry_becomes loan account of.ledger i s.sound of.there changed entry admitted.sound one_more last apart row row_is))
     c.write.ensures.premise c.write.ensures.gives_up c.write.ensures.made c.write.ensures.left c.write.ensures.same c.write.ensures.stop

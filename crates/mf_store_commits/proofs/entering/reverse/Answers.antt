@@ -1,7 +1,7 @@
 use Rattle.std.proofs.Common.{◌≡◌, ◌≤◌, ◌-◌, ◌++◌, ◌∷◌, [], true, List, length, sym, ap, ◌∙◌, subst, arith}
 use Rattle.mf_account.specs.declared.entry.Entry.{Entry}
 use Rattle.mf_account.specs.Standing.{entry_at, with_mark}
-use Rattle.mf_model.specs.Store.{committed}
+use Rattle.mf_model.specs.Store.{after_commit}
 use Rattle.mf_model.specs.declared.commit.Commit.TheVariants.{Reverse}
 use Rattle.mf_store_records.specs.declared.writes.StoreWrite.TheVariants.{ChangeEntry}
 use Rattle.mf_store_changes.specs.ChangeWrites.{change_writes}
@@ -32,5 +32,5 @@ returns-clause-commits g c =
     let last : seq ≤ length before = subst (λ (es : List Entry). seq ≤ length es) of.entries there.1 in
     let changed = handed_changed loan account handed.before i s.sound admitted.sound of handed.others (as_long handed.before.entries account.loan.entries seq handed.entries.marked) handed.kept handed.change in
     let row_is = c.in_ok-row.ensures.row ∙ (λ t. entry_in (c.get-office.ensures.value t) (c.get-loan.ensures.value t) (entry_at (marked t) (seq - 1))) ∙ ap (entry_in loan.office loan.number) (marked_entry before (seq - 1) (omega (arith, first, last))) in
-    subst (λ ws. Becomes ws i (committed (Reverse loan seq account) i)) (sym writes) (reversal_becomes loan account of.ledger i s.sound of.there changed seq admitted.sound (loan_numbered loan of.ledger i s.sound of.there) first last marked row row_is))
+    subst (λ ws. Becomes ws i (after_commit (Reverse loan seq account) i)) (sym writes) (reversal_becomes loan account of.ledger i s.sound of.there changed seq admitted.sound (loan_numbered loan of.ledger i s.sound of.there) first last marked row row_is))
     c.write.ensures.premise c.write.ensures.gives_up c.write.ensures.made c.write.ensures.left c.write.ensures.same c.write.ensures.stop

@@ -7,7 +7,7 @@ use Rattle.mf_wire.proofs.answering.answer_text_parts.Goals as goal
 
 pub returns-clause-calls : goal.returns-clause-calls
 returns-clause-calls g c =
-    told_of_answer _ _ _ _ (λ r. IsText c.answer_parts.result r) _ _ _ c.answer_parts.result
+    told_of_answer _ _ (λ r. IsText c.answer_parts.result r) _ _ _ c.answer_parts.result
     (λ t r e h.
     let w : (t.0 ≡ reply_status h.0.now) × (string_bytes t.1 ≡ reply_body h.0.now) = search rules in
     subst (λ x. IsText x (Ok r)) (sym e) (w.0 ∙ ap reply_status h.2, w.1 ∙ ap reply_body h.2))

@@ -8,4 +8,4 @@ returns g c =
     let s = g.S.InstitutionStore in
     let law : IsolationLaw = record { views = c.isolation.ensures.views; replies = c.isolation.ensures.replies; own_replies = c.isolation.ensures.own_replies } in
     λ i call old new answered clean stands.
-    isolated_call s.stands s.clean s.leaves law (IsText c.args.answered.now) call old new i (g.met.S.InstitutionStore.sound old i stands).tree answered clean stands
+    isolated_call s law (IsText c.args.answered.now) call old new i (g.met.S.InstitutionStore.sound old i stands).tree answered clean stands

@@ -7,4 +7,4 @@ returns g c =
     let s = g.S.InstitutionStore in
     let law : IsolationLaw = record { views = c.isolation.ensures.views; replies = c.isolation.ensures.replies; own_replies = c.isolation.ensures.own_replies } in
     λ i exchanges old new answered clean stands.
-    serves_on s.stands s.clean s.leaves law old exchanges new i (g.met.S.InstitutionStore.sound old i stands).tree answered clean stands
+    serves_on s law old exchanges new i (g.met.S.InstitutionStore.sound old i stands).tree answered clean stands

@@ -3,7 +3,7 @@ use Rattle.std.specs.Fmt.{digits}
 use Rattle.httparse.proofs.OnLiterals.{httparse_on_literals}
 use Rattle.std.proofs.lemmas.Bool.{le-leb}
 use Rattle.mf_wire_messages.specs.Responses.{status_line, fields_and_body}
-use Rattle.mf_wire_messages.specs.Worked.{asked}
+use Rattle.mf_wire_messages.specs.Worked.{request_body}
 use Rattle.mf_wire_messages.proofs.MessageLemmas.{made}
 use Rattle.mf_wire_messages.proofs.laws.worked_messages.Goals as goal
 
@@ -14,7 +14,7 @@ returns-clause-head c = refl
 pub returns-clause-asked : goal.returns-clause-asked
 unfolding httparse_on_literals
 returns-clause-asked c = λ more.
-    ap (λ t. cond t (Some (made (codes "1/1") (codes "POST") (codes "/clients") asked)) None) (le-leb 27 (length (asked ++ more)) (omega (arith, length-append asked more)))
+    ap (λ t. cond t (Some (made (codes "1/1") (codes "POST") (codes "/clients") request_body)) None) (le-leb 27 (length (request_body ++ more)) (omega (arith, length-append request_body more)))
 
 pub returns-clause-cut : goal.returns-clause-cut
 unfolding httparse_on_literals

@@ -4,14 +4,14 @@ use Rattle.std.specs.Option.{IsSome}
 use Rattle.std.proofs.KnownBytes.{Consumes-nil}
 use Rattle.mf_wire_messages.specs.Messages.{frame_of}
 use Rattle.mf_wire_messages.specs.Framing.{frame_at}
-use Rattle.mf_wire_messages.specs.Arrivals.{following}
+use Rattle.mf_wire_messages.specs.Arrivals.{bytes_left}
 use Rattle.mf_wire_messages.proofs.MessageLemmas.{head_there, unframed, cut_short, whole_request, same_request, written}
 use Rattle.mf_wire_messages.proofs.reading.read_request.Goals as goal
 
 pub returns-in_default-clause-ok : goal.returns-in_default-clause-ok
 returns-in_default-clause-ok g c =
     let at = c.requires.complete.1 in
-    let rest = drop c.args.spans.len c.args.head.items ++ ([] ++ following (g.R.Source.unread c.args.source.now)) in
+    let rest = drop c.args.spans.len c.args.head.items ++ ([] ++ bytes_left (g.R.Source.unread c.args.source.now)) in
     let frame = ap frame_of (sym at.fields) ∙ sym (rw c.deref-2.ensures.value at c.in_default.ensures.value) in (
       [],
       Consumes-nil _,
@@ -31,7 +31,7 @@ returns-in_default-room-clause-ok g c =
       Consumes-nil _,
       (
         c.requires.complete.0,
-        drop c.args.spans.len c.args.head.items ++ ([] ++ following (g.R.Source.unread c.args.source.now)),
+        drop c.args.spans.len c.args.head.items ++ ([] ++ bytes_left (g.R.Source.unread c.args.source.now)),
         head_there c.args.head.items _ c.args.fields.now c.args.spans _ c.requires.short c.requires.few c.requires.within at,
         subst IsSome (rw c.deref-2.ensures.value at c.in-Some.ensures.value ∙ ap frame_of at.fields) refl,
         cc (c.is_head-to_head.ensures, c.of.ensures, c.deref.ensures.value, at.method),
@@ -50,7 +50,7 @@ returns-then-not-whole-clause-ok g c =
       t.1,
       inr (
         c.requires.complete.0,
-        begun ++ (t.0 ++ following left),
+        begun ++ (t.0 ++ bytes_left left),
         head_there c.args.head.items _ c.args.fields.now c.args.spans _ c.requires.short c.requires.few c.requires.within at,
         cut_short c.requires.complete.0 begun t.0 left (frame_at c.args.head.items c.in-Some.frame) (length c.read_body.new.body) frame size t.2.0 t.2.1,
         cc (c.is_head-to_head.ensures, c.of.ensures, c.deref.ensures.value, at.method),
@@ -69,7 +69,7 @@ returns-clause-ok g c =
       t.1,
       (
         c.requires.complete.0,
-        begun ++ (t.0 ++ following left),
+        begun ++ (t.0 ++ bytes_left left),
         head_there c.args.head.items _ c.args.fields.now c.args.spans _ c.requires.short c.requires.few c.requires.within at,
         whole_request c.requires.complete.0 begun t.0 c.read_body.new.body left (frame_at c.args.head.items c.in-Some.frame) frame size t.2.0 t.2.1
             ∙ same_request (frame_at c.args.head.items c.in-Some.frame).0 _ _ c.read_body.new.body _ _ _ (sym at.method) (sym at.path) (sym (written c.in-Ok.body.len c.read_body.new.body c.in-Ok.body.items (c.in-Ok-read_body.ensures.kept ∙ c.as_mut_slice.ensures.len))) ∙ ap Some (sym c.new.ensures),

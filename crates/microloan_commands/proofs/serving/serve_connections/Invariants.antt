@@ -2,4 +2,4 @@ use Rattle.microloan_commands.specs.Served.{Serves}
 use Rattle.microloan_commands.proofs.serving.serve_connections.Given as goal
 
 abbrev pub invariant-loop : goal.invariant-loop
-invariant-loop g l = record { served : Serves g.S.InstitutionStore.stands g.S.InstitutionStore.clean g.S.InstitutionStore.leaves l.counter l.initial.store l.store l.answered }
+invariant-loop g l = record { served : Serves g.S.InstitutionStore l.counter l.initial.store l.store l.answered }

@@ -4,7 +4,7 @@ use Rattle.mf_account.specs.declared.entry.Entry.{Entry}
 use Rattle.mf_account.specs.declared.settled.Settled.{Settled}
 use Rattle.mf_account.specs.Change.{Account, IsChange, IsReplayed}
 use Rattle.mf_account.specs.Safe.{IsSafe}
-use Rattle.mf_account.specs.Standing.{placed, standing}
+use Rattle.mf_account.specs.Standing.{order_with, standing_entries}
 use Rattle.mf_account.specs.Loan.{Loan, IsSound, IsKept, settled_of_loan}
 use Rattle.mf_account.specs.Rewind.{IsRedone}
 use Rattle.mf_account.proofs.OrderLemmas.{length-order, order-entered, within-entered}
@@ -12,7 +12,7 @@ use Rattle.mf_account.proofs.account.LoanAccount.add.Goals as goal
 
 pub put_in-requires-clause-within : goal.put_in-requires-clause-within
 put_in-requires-clause-within c =
-    let within : c.place_of-place.result ≤ length (standing c.self.inside.entries.items) = subst (λ (a : Account). c.place_of-place.result ≤ length (standing a.loan.entries)) (sym c.self.view_is) c.place_of-place.ensures.within in
+    let within : c.place_of-place.result ≤ length (standing_entries c.self.inside.entries.items) = subst (λ (a : Account). c.place_of-place.result ≤ length (standing_entries a.loan.entries)) (sym c.self.view_is) c.place_of-place.ensures.within in
     let size = length-order c.self.inside.entries.items c.self.inside.order.items c.self.invariant.order_is in
     omega (arith, within, size, c.self.inside.order.ok, c.in_ok-reserve-2.ensures.len)
 
@@ -25,7 +25,7 @@ invariant_of-self-2 c =
     let new : Loan = record old { entries = old.entries ++ c.args.entry ∷ [] } in
     let place : ℕ = c.place_of-place.result in
     let sound : IsSound new = subst (λ (a : Account). IsSound (record a.loan { entries = a.loan.entries ++ c.args.entry ∷ [] })) (sym c.self.view_is) c.requires.sound in
-    let place_is : placed c.args.entry (standing old.entries) ≡ insert (standing old.entries) place c.args.entry = subst (λ (a : Account). placed c.args.entry (standing a.loan.entries) ≡ insert (standing a.loan.entries) place c.args.entry) (sym c.self.view_is) c.place_of-place.ensures.place in
+    let place_is : order_with c.args.entry (standing_entries old.entries) ≡ insert (standing_entries old.entries) place c.args.entry = subst (λ (a : Account). order_with c.args.entry (standing_entries a.loan.entries) ≡ insert (standing_entries a.loan.entries) place c.args.entry) (sym c.self.view_is) c.place_of-place.ensures.place in
     let at : c.len-at.result ≡ length old.entries = omega (arith, c.len-at.ensures, c.self.inside.entries.ok) in
     let order : c.put_in.new.order.items ≡ insert c.self.inside.order.items place (length old.entries) =
     c.put_in.ensures ∙ ap (λ (o : List ℕ). insert o place c.len-at.result) c.in_ok-reserve-2.ensures.items ∙ ap (insert c.self.inside.order.items place) at in

@@ -1,6 +1,6 @@
 use Rattle.std.proofs.Common.{ℕ, ◌≡◌, ◌+◌, ◌<◌, ◌∙◌, ap, sym, subst, sum, get_or}
 use Rattle.mf_account.specs.declared.balances.Balances.{Balances}
-use Rattle.mf_account.specs.Balance.{balances_by, balances_of, repaid}
+use Rattle.mf_account.specs.Balance.{balances_by, balances_of, sum_repaid}
 use Rattle.mf_account.specs.Loan.{Loan, fee_of_loan}
 use Rattle.mf_account.proofs.ConserveLemmas.{balances-repaid, balances-principal, balances-apart, balances_by-whole}
 use Rattle.mf_account.proofs.account.LoanAccount.balances.Goals as goal
@@ -9,7 +9,7 @@ pub returns-clause-repaid : goal.returns-clause-repaid
 returns-clause-repaid c replayed =
     let loan : Loan = c.args.self.now.loan in
     let is : c.sums.result ≡ balances_of loan = c.sums.ensures.value ∙ ap (balances_by (fee_of_loan loan)) replayed.state in
-    subst (λ (b : Balances). sum b.paid + b.overpaid + b.refunded ≡ repaid loan.entries) (sym is) (balances-repaid loan c.sums.ensures.sound)
+    subst (λ (b : Balances). sum b.paid + b.overpaid + b.refunded ≡ sum_repaid loan.entries) (sym is) (balances-repaid loan c.sums.ensures.sound)
 
 pub returns-clause-principal : goal.returns-clause-principal
 returns-clause-principal c replayed =

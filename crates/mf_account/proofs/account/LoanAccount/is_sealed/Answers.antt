@@ -2,7 +2,7 @@ use Rattle.std.proofs.Common.{◌≡◌, ℕ, ◌<◌, List, length, ◌∙◌, 
 use Rattle.std.specs.Prelude.{All}
 use Rattle.mf_account.specs.declared.entry.Entry.{Entry}
 use Rattle.mf_account.specs.Change.{Account}
-use Rattle.mf_account.specs.Standing.{standing, entries_at}
+use Rattle.mf_account.specs.Standing.{standing_entries, entries_at}
 use Rattle.mf_account.specs.Loan.{AreEntries}
 use Rattle.mf_account.specs.Refusals.{is_sealed}
 use Rattle.mf_account.proofs.account.LoanAccount.is_sealed.Goals as goal
@@ -15,7 +15,7 @@ is_sealed-requires-clause-within c =
 pub is_sealed-requires-clause-order : goal.is_sealed-requires-clause-order
 is_sealed-requires-clause-order c =
     ap (entries_at c.deref.result.now) c.deref-2.ensures.value
-    ∙ subst (λ (e : List Entry). entries_at e c.self.inside.order.items ≡ standing e) (sym c.deref.ensures.value) c.self.invariant.order_is
+    ∙ subst (λ (e : List Entry). entries_at e c.self.inside.order.items ≡ standing_entries e) (sym c.deref.ensures.value) c.self.invariant.order_is
 
 pub is_sealed-requires-clause-entries : goal.is_sealed-requires-clause-entries
 is_sealed-requires-clause-entries c =

@@ -1,7 +1,7 @@
 use Rattle.std.proofs.Common.{◌≡◌, ℕ, ◌<◌, false, List, length, get_or, arith, ◌∙◌, ap, sym, subst}
 use Rattle.std.specs.List.{Contains}
 use Rattle.mf_account.specs.Change.{Account}
-use Rattle.mf_account.specs.Standing.{standing, entry_at}
+use Rattle.mf_account.specs.Standing.{standing_entries, entry_at}
 use Rattle.mf_account.specs.Loan.{Loan}
 use Rattle.mf_account.proofs.OrderLemmas.{length-order}
 use Rattle.mf_account.proofs.RedoneLemmas.{order-has, at-order}
@@ -19,7 +19,7 @@ pub returns-clause-within : goal.returns-clause-within
 returns-clause-within c =
     let size = length-order c.self.inside.entries.items c.self.inside.order.items c.self.invariant.order_is in
     let same = ap length c.deref.ensures.value in
-    let seen : length (standing c.self.inside.entries.items) ≡ length (standing c.args.self.now.loan.entries) = ap (λ (a : Account). length (standing a.loan.entries)) c.self.view_is in
+    let seen : length (standing_entries c.self.inside.entries.items) ≡ length (standing_entries c.args.self.now.loan.entries) = ap (λ (a : Account). length (standing_entries a.loan.entries)) c.self.view_is in
     omega (arith, c.place_in.ensures.within, size, same, seen)
 
 pub returns-clause-there : goal.returns-clause-there
@@ -28,5 +28,5 @@ returns-clause-there c =
     let same = ap length c.deref.ensures.value in
     let below : c.place_in.result < length c.self.inside.order.items = omega (arith, c.place_in.ensures.within, same) in
     let here : get_or c.self.inside.order.items c.place_in.result 0 ≡ c.args.at = ap (λ (o : List ℕ). get_or o c.place_in.result 0) (sym c.deref.ensures.value) ∙ c.place_in.ensures.there in
-    subst (λ (a : Account). entry_at (standing a.loan.entries) c.place_in.result ≡ entry_at a.loan.entries c.args.at) c.self.view_is
-    (at-order old.entries (standing old.entries) c.self.inside.order.items c.place_in.result c.args.at c.self.invariant.order_is below here)
+    subst (λ (a : Account). entry_at (standing_entries a.loan.entries) c.place_in.result ≡ entry_at a.loan.entries c.args.at) c.self.view_is
+    (at-order old.entries (standing_entries old.entries) c.self.inside.order.items c.place_in.result c.args.at c.self.invariant.order_is below here)

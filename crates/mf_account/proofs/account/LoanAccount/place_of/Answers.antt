@@ -2,7 +2,7 @@ use Rattle.std.proofs.Common.{◌≡◌, ℕ, ◌<◌, [], List, length, arith, 
 use Rattle.std.specs.Prelude.{All, insert}
 use Rattle.mf_account.specs.declared.entry.Entry.{Entry}
 use Rattle.mf_account.specs.Change.{Account}
-use Rattle.mf_account.specs.Standing.{placed, standing, entries_at, IsInOrder}
+use Rattle.mf_account.specs.Standing.{order_with, standing_entries, entries_at, IsInOrder}
 use Rattle.mf_account.proofs.InOrder.{in_order-fold}
 use Rattle.mf_account.proofs.OrderLemmas.{length-order}
 use Rattle.mf_account.proofs.account.LoanAccount.place_of.Goals as goal
@@ -14,7 +14,7 @@ position-requires-clause-within c =
 
 pub position-requires-clause-ordered : goal.position-requires-clause-ordered
 position-requires-clause-ordered c =
-    let all : entries_at c.deref.result.now c.deref-2.result.now ≡ standing c.self.inside.entries.items =
+    let all : entries_at c.deref.result.now c.deref-2.result.now ≡ standing_entries c.self.inside.entries.items =
     ap (λ e. entries_at e c.deref-2.result.now) c.deref.ensures.value ∙ ap (entries_at c.self.inside.entries.items) c.deref-2.ensures.value ∙ c.self.invariant.order_is in
     subst IsInOrder (sym all) (in_order-fold [] c.self.inside.entries.items tt)
 
@@ -22,12 +22,12 @@ pub returns-clause-within : goal.returns-clause-within
 returns-clause-within c =
     let size = length-order c.self.inside.entries.items c.self.inside.order.items c.self.invariant.order_is in
     let same = ap length c.deref-2.ensures.value in
-    let seen : length (standing c.self.inside.entries.items) ≡ length (standing c.args.self.now.loan.entries) = ap (λ (a : Account). length (standing a.loan.entries)) c.self.view_is in
+    let seen : length (standing_entries c.self.inside.entries.items) ≡ length (standing_entries c.args.self.now.loan.entries) = ap (λ (a : Account). length (standing_entries a.loan.entries)) c.self.view_is in
     omega (arith, c.position.ensures.within, size, same, seen)
 
 pub returns-clause-place : goal.returns-clause-place
 returns-clause-place c =
-    let all : entries_at c.deref.result.now c.deref-2.result.now ≡ standing c.args.self.now.loan.entries =
+    let all : entries_at c.deref.result.now c.deref-2.result.now ≡ standing_entries c.args.self.now.loan.entries =
     ap (λ e. entries_at e c.deref-2.result.now) c.deref.ensures.value ∙ ap (entries_at c.self.inside.entries.items) c.deref-2.ensures.value ∙ c.self.invariant.order_is
-    ∙ ap (λ (a : Account). standing a.loan.entries) c.self.view_is in
-    subst (λ (x : List Entry). placed c.args.entry.now x ≡ insert x c.position.result c.args.entry.now) all c.position.ensures.place
+    ∙ ap (λ (a : Account). standing_entries a.loan.entries) c.self.view_is in
+    subst (λ (x : List Entry). order_with c.args.entry.now x ≡ insert x c.position.result c.args.entry.now) all c.position.ensures.place

@@ -7,7 +7,7 @@ use Rattle.mf_account.specs.declared.settled.Settled.{Settled}
 use Rattle.mf_account.specs.Change.{Account}
 use Rattle.mf_account.specs.Safe.{most_kept, IsBounded, IsSafe}
 use Rattle.mf_account.specs.Told.{settled_amount, IsNumberedTo, AreNumberedTo}
-use Rattle.mf_account.specs.Standing.{placed, standing}
+use Rattle.mf_account.specs.Standing.{order_with, standing_entries}
 use Rattle.mf_account.specs.Loan.{Loan, IsSound, settled_of_loan}
 use Rattle.mf_account.specs.Rewind.{IsRedone, state_before, settled_upto}
 use Rattle.mf_account.proofs.OrderLemmas.{length-order}
@@ -17,7 +17,7 @@ use Rattle.mf_account.proofs.account.LoanAccount.redone_with.Goals as goal
 
 pub offset_bounds-deref-place : goal.offset_bounds-deref-place
 offset_bounds-deref-place c =
-    let within : c.args.place ≤ length (standing c.self.inside.entries.items) = subst (λ (a : Account). c.args.place ≤ length (standing a.loan.entries)) (sym c.self.view_is) c.requires.within in
+    let within : c.args.place ≤ length (standing_entries c.self.inside.entries.items) = subst (λ (a : Account). c.args.place ≤ length (standing_entries a.loan.entries)) (sym c.self.view_is) c.requires.within in
     let size = length-order c.self.inside.entries.items c.self.inside.order.items c.self.invariant.order_is in
     let same = ap length c.deref.ensures.value in
     omega (arith, within, size, same, c.deref.ensures.len, c.self.inside.order.ok)
@@ -37,19 +37,19 @@ apply_with-requires-clause-fits c =
     let old : Loan = record { terms = c.self.inside.terms; principal = c.self.inside.principal; periods = c.self.inside.periods; day = c.self.inside.day; entries = c.self.inside.entries.items } in
     let e : Entry = c.args.entry.now in
     let place : ℕ = c.args.place in
-    let place_is : placed e (standing old.entries) ≡ insert (standing old.entries) place e = subst (λ (a : Account). placed e (standing a.loan.entries) ≡ insert (standing a.loan.entries) place e) (sym c.self.view_is) c.requires.place in
+    let place_is : order_with e (standing_entries old.entries) ≡ insert (standing_entries old.entries) place e = subst (λ (a : Account). order_with e (standing_entries a.loan.entries) ≡ insert (standing_entries a.loan.entries) place e) (sym c.self.view_is) c.requires.place in
     let sound : IsSound (record old { entries = old.entries ++ e ∷ [] }) = subst (λ (a : Account). IsSound (record a.loan { entries = a.loan.entries ++ e ∷ [] })) (sym c.self.view_is) c.requires.sound in
     let bounded : IsBounded old.periods (2 * most_kept) c.in_ok-book.book = subst (λ (a : Account). IsBounded a.loan.periods (2 * most_kept) c.in_ok-book.book) (sym c.self.view_is) c.in_ok-book.ensures.bounded in
-    fits-safe old (old.entries ++ e ∷ []) (e ∷ drop place (standing old.entries)) _ place c.in_ok-book.book sound
-    (standing-entered old.entries (standing old.entries) place e c.requires.stands refl place_is)
-    (ap (λ (x : List Entry). e ∷ x) (later-is old.entries (standing old.entries) c.deref-2.result.now c.self.inside.order.items c.deref.result.now place c.deref-2.ensures.value c.deref.ensures.value c.self.invariant.order_is)) bounded
+    fits-safe old (old.entries ++ e ∷ []) (e ∷ drop place (standing_entries old.entries)) _ place c.in_ok-book.book sound
+    (standing-entered old.entries (standing_entries old.entries) place e c.requires.stands refl place_is)
+    (ap (λ (x : List Entry). e ∷ x) (later-is old.entries (standing_entries old.entries) c.deref-2.result.now c.self.inside.order.items c.deref.result.now place c.deref-2.ensures.value c.deref.ensures.value c.self.invariant.order_is)) bounded
 
 pub returns-clause-redone : goal.returns-clause-redone
 returns-clause-redone c replayed =
     let old : Loan = record { terms = c.self.inside.terms; principal = c.self.inside.principal; periods = c.self.inside.periods; day = c.self.inside.day; entries = c.self.inside.entries.items } in
     let e : Entry = c.args.entry.now in
     let place : ℕ = c.args.place in
-    let place_is : placed e (standing old.entries) ≡ insert (standing old.entries) place e = subst (λ (a : Account). placed e (standing a.loan.entries) ≡ insert (standing a.loan.entries) place e) (sym c.self.view_is) c.requires.place in
+    let place_is : order_with e (standing_entries old.entries) ≡ insert (standing_entries old.entries) place e = subst (λ (a : Account). order_with e (standing_entries a.loan.entries) ≡ insert (standing_entries a.loan.entries) place e) (sym c.self.view_is) c.requires.place in
     let back = c.in_ok-book.ensures.back replayed in
     let book_is : c.in_ok-book.book ≡ state_before old c.args.place = subst (λ (a : Account). c.in_ok-book.book ≡ state_before a.loan c.args.place) (sym c.self.view_is) back.0 in
     let front : take c.in_ok-book.kept (settled_of_loan old) ≡ settled_upto old place = subst (λ (a : Account). take c.in_ok-book.kept (settled_of_loan a.loan) ≡ settled_upto a.loan place) (sym c.self.view_is) back.1 in
@@ -57,9 +57,9 @@ returns-clause-redone c replayed =
     let same = ap (λ (a : Account). length (settled_of_loan a.loan)) c.self.view_is in
     let within : c.in_ok-book.kept ≤ length (settled_of_loan old) = omega (arith, c.in_ok-book.ensures.within, size, same) in
     subst (λ (a : Account). IsRedone a.loan (record a.loan { entries = a.loan.entries ++ e ∷ [] }) c.apply_with.new.book c.in_ok-book.kept c.in_ok-parts.parts.items) c.self.view_is
-    (redone-from old (old.entries ++ e ∷ []) (e ∷ drop place (standing old.entries)) _ place c.in_ok-book.kept c.in_ok-book.book c.apply_with.new.book c.in_ok-parts.parts.items
-    (standing-entered old.entries (standing old.entries) place e c.requires.stands refl place_is) within front book_is
-    (ap (λ (x : List Entry). e ∷ x) (later-is old.entries (standing old.entries) c.deref-2.result.now c.self.inside.order.items c.deref.result.now place c.deref-2.ensures.value c.deref.ensures.value c.self.invariant.order_is))
+    (redone-from old (old.entries ++ e ∷ []) (e ∷ drop place (standing_entries old.entries)) _ place c.in_ok-book.kept c.in_ok-book.book c.apply_with.new.book c.in_ok-parts.parts.items
+    (standing-entered old.entries (standing_entries old.entries) place e c.requires.stands refl place_is) within front book_is
+    (ap (λ (x : List Entry). e ∷ x) (later-is old.entries (standing_entries old.entries) c.deref-2.result.now c.self.inside.order.items c.deref.result.now place c.deref-2.ensures.value c.deref.ensures.value c.self.invariant.order_is))
     c.in_ok-parts.ensures.state c.in_ok-parts.ensures.parts)
 
 pub returns-clause-safe : goal.returns-clause-safe
@@ -67,7 +67,7 @@ returns-clause-safe c =
     let old : Loan = record { terms = c.self.inside.terms; principal = c.self.inside.principal; periods = c.self.inside.periods; day = c.self.inside.day; entries = c.self.inside.entries.items } in
     let e : Entry = c.args.entry.now in
     let place : ℕ = c.args.place in
-    let place_is : placed e (standing old.entries) ≡ insert (standing old.entries) place e = subst (λ (a : Account). placed e (standing a.loan.entries) ≡ insert (standing a.loan.entries) place e) (sym c.self.view_is) c.requires.place in
+    let place_is : order_with e (standing_entries old.entries) ≡ insert (standing_entries old.entries) place e = subst (λ (a : Account). order_with e (standing_entries a.loan.entries) ≡ insert (standing_entries a.loan.entries) place e) (sym c.self.view_is) c.requires.place in
     let sound : IsSound (record old { entries = old.entries ++ e ∷ [] }) = subst (λ (a : Account). IsSound (record a.loan { entries = a.loan.entries ++ e ∷ [] })) (sym c.self.view_is) c.requires.sound in
     let bounded : IsBounded old.periods (2 * most_kept) c.in_ok-book.book = subst (λ (a : Account). IsBounded a.loan.periods (2 * most_kept) c.in_ok-book.book) (sym c.self.view_is) c.in_ok-book.ensures.bounded in
     let kept : ℕ = c.in_ok-book.kept in
@@ -79,9 +79,9 @@ returns-clause-safe c =
     All-weaker (IsNumberedTo (length old.entries)) (IsNumberedTo (length (old.entries ++ e ∷ []))) (λ s is. (is.0, omega (arith, is.1, count))) c.self.inside.settled.items c.self.invariant.safe.placed.numbers in
     subst (λ (a : Account). IsSafe a.loan.periods (length a.loan.entries + 1) c.apply_with.new.book (take kept a.settled ++ c.in_ok-parts.parts.items)) c.self.view_is
     (subst (λ (n : ℕ). IsSafe old.periods n c.apply_with.new.book (take kept c.self.inside.settled.items ++ c.in_ok-parts.parts.items)) count
-    (safe-redone old (old.entries ++ e ∷ []) (e ∷ drop place (standing old.entries)) _ place c.in_ok-book.book sound
-    (standing-entered old.entries (standing old.entries) place e c.requires.stands refl place_is)
-    (ap (λ (x : List Entry). e ∷ x) (later-is old.entries (standing old.entries) c.deref-2.result.now c.self.inside.order.items c.deref.result.now place c.deref-2.ensures.value c.deref.ensures.value c.self.invariant.order_is)) bounded
+    (safe-redone old (old.entries ++ e ∷ []) (e ∷ drop place (standing_entries old.entries)) _ place c.in_ok-book.book sound
+    (standing-entered old.entries (standing_entries old.entries) place e c.requires.stands refl place_is)
+    (ap (λ (x : List Entry). e ∷ x) (later-is old.entries (standing_entries old.entries) c.deref-2.result.now c.self.inside.order.items c.deref.result.now place c.deref-2.ensures.value c.deref.ensures.value c.self.invariant.order_is)) bounded
     c.apply_with.new.book (take kept c.self.inside.settled.items) c.in_ok-parts.parts.items c.in_ok-parts.ensures.state c.in_ok-parts.ensures.parts
     (All-take (λ (s : Settled). IsCell old.periods s.cell) kept c.self.inside.settled.items c.self.invariant.safe.placed.cells)
     (All-take (IsNumberedTo (length (old.entries ++ e ∷ []))) kept c.self.inside.settled.items more)

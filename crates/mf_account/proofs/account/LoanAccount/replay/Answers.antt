@@ -4,7 +4,7 @@ use Rattle.mf_schedule.specs.declared.instalment.Instalment.{Instalment}
 use Rattle.mf_schedule.specs.Fresh.{fee_at_disbursement}
 use Rattle.mf_account.specs.declared.entry.Entry.{Entry}
 use Rattle.mf_account.specs.Account.{orders_by, first_state, state_of, settled_of}
-use Rattle.mf_account.specs.Standing.{standing, entries_at}
+use Rattle.mf_account.specs.Standing.{standing_entries, entries_at}
 use Rattle.mf_account.specs.Applicable.{AreApplicable}
 use Rattle.mf_account.specs.Loan.{Loan, IsSound, cells_of, schedule_of, orders_of, state_of_loan, settled_of_loan}
 use Rattle.mf_account.proofs.SoundLemmas.{length-schedule, applicable-sound}
@@ -28,14 +28,14 @@ replayed-requires-clause-within c =
 pub replayed-requires-clause-order : goal.replayed-requires-clause-order
 replayed-requires-clause-order c =
     ap (entries_at c.deref-4.result.now) c.deref-5.ensures.value
-    ∙ subst (λ (e : List Entry). entries_at e c.in_ok-order.order.items ≡ standing e) (c.deref-2.ensures.value ∙ sym c.deref-4.ensures.value) c.in_ok-order.ensures.order
+    ∙ subst (λ (e : List Entry). entries_at e c.in_ok-order.order.items ≡ standing_entries e) (c.deref-2.ensures.value ∙ sym c.deref-4.ensures.value) c.in_ok-order.ensures.order
 
 pub replayed-requires-clause-fits : goal.replayed-requires-clause-fits
 replayed-requires-clause-fits c =
     let loan : Loan = record { terms = c.args.terms; principal = c.args.principal; periods = c.args.periods; day = c.args.day; entries = c.args.entries.items } in
     let sound : IsSound loan = record { limits = c.requires.limits; day = c.requires.day; entries = c.requires.entries } in
-    subst (λ (s : List Instalment). AreApplicable (orders_by (cells_of loan) (first_state s).rows) (standing c.deref-4.result.now) (first_state s)) (sym (c.deref-3.ensures.value ∙ c.in_ok-schedule.ensures.rows))
-    (subst (λ (e : List Entry). AreApplicable (orders_of loan) (standing e) (first_state (schedule_of loan))) (sym c.deref-4.ensures.value) (applicable-sound loan sound))
+    subst (λ (s : List Instalment). AreApplicable (orders_by (cells_of loan) (first_state s).rows) (standing_entries c.deref-4.result.now) (first_state s)) (sym (c.deref-3.ensures.value ∙ c.in_ok-schedule.ensures.rows))
+    (subst (λ (e : List Entry). AreApplicable (orders_of loan) (standing_entries e) (first_state (schedule_of loan))) (sym c.deref-4.ensures.value) (applicable-sound loan sound))
 
 pub invariant_of-result : goal.invariant_of-result
 invariant_of-result c =
@@ -46,7 +46,7 @@ invariant_of-result c =
     let settled : c.in_ok-book.settled.items ≡ settled_of_loan loan = c.in_ok-book.ensures.settled ∙ ap (λ s. settled_of (orders_by (cells_of loan) (first_state s).rows) s c.deref-4.result.now) schedule ∙ ap (λ e. settled_of (orders_of loan) (schedule_of loan) e) c.deref-4.ensures.value in
     record {
       within = subst (λ (e : List Entry). All (λ i. i < length e) c.in_ok-order.order.items) c.deref-2.ensures.value c.in_ok-order.ensures.within;
-      order_is = subst (λ (e : List Entry). entries_at e c.in_ok-order.order.items ≡ standing e) c.deref-2.ensures.value c.in_ok-order.ensures.order;
+      order_is = subst (λ (e : List Entry). entries_at e c.in_ok-order.order.items ≡ standing_entries e) c.deref-2.ensures.value c.in_ok-order.ensures.order;
       sound = sound;
       schedule_is = c.in_ok-schedule.ensures.rows;
       fee_is = c.disbursement_fee-fee.ensures ∙ ap (fee_at_disbursement c.args.terms c.args.principal) (c.deref.ensures.value ∙ c.in_ok-schedule.ensures.rows);

@@ -3,7 +3,7 @@ use Rattle.std.specs.Prelude.{IfSome}
 use Rattle.mf_account.specs.declared.entry.Entry.{Entry}
 use Rattle.mf_account.specs.declared.settled.Settled.{Settled}
 use Rattle.mf_account.specs.Change.{settled_in}
-use Rattle.mf_account.specs.Standing.{standing, entries_at}
+use Rattle.mf_account.specs.Standing.{standing_entries, entries_at}
 use Rattle.mf_account.specs.Loan.{Loan, IsSound, state_of_loan, settled_of_loan}
 use Rattle.mf_account.proofs.ToldLemmas.{safe-sound}
 use Rattle.mf_account.proofs.account.LoanAccount.resume_sound.Goals as goal
@@ -32,8 +32,8 @@ returns-in_default-clause-account c kept =
     let count : length loan.entries ≡ c.len-2.result = omega (arith, c.len-2.ensures, c.args.entries.ok) in
     let size : length c.args.rows.items ≡ loan.periods = ap length kept.rows_are ∙ (safe-sound loan sound).bounded.size in
     let periods : loan.periods ≡ c.len-3.result = omega (arith, size, c.len-3.ensures, c.args.rows.ok) in
-    let order : entries_at loan.entries c.deref-3.result.now ≡ standing loan.entries =
-    ap (entries_at loan.entries) c.deref-3.ensures.value ∙ subst (λ (e : List Entry). entries_at e c.in_ok-order.order.items ≡ standing e) c.deref-2.ensures.value c.in_ok-order.ensures.order in
+    let order : entries_at loan.entries c.deref-3.result.now ≡ standing_entries loan.entries =
+    ap (entries_at loan.entries) c.deref-3.ensures.value ∙ subst (λ (e : List Entry). entries_at e c.in_ok-order.order.items ≡ standing_entries e) c.deref-2.ensures.value c.in_ok-order.ensures.order in
     let parts : (seq : ℕ) → settled_in seq c.deref-4.result.now ≡ settled_in seq (settled_of_loan loan) = λ seq. ap (settled_in seq) c.deref-4.ensures.value ∙ kept.parts_are seq in
     absurd (c.in_ok-placed.ensures.some loan sound count periods order parts (none_of c.in_ok-placed.placed c.in_default.not-Some))
 
@@ -48,8 +48,8 @@ returns-clause-account c kept =
     let loan : Loan = record { terms = c.args.terms; principal = c.args.principal; periods = c.args.periods; day = c.args.day; entries = c.args.entries.items } in
     let sound : IsSound loan = record { limits = c.requires.limits; day = c.requires.day; entries = c.requires.entries } in
     let count : length loan.entries ≡ c.len-2.result = omega (arith, c.len-2.ensures, c.args.entries.ok) in
-    let order : entries_at loan.entries c.deref-3.result.now ≡ standing loan.entries =
-    ap (entries_at loan.entries) c.deref-3.ensures.value ∙ subst (λ (e : List Entry). entries_at e c.in_ok-order.order.items ≡ standing e) c.deref-2.ensures.value c.in_ok-order.ensures.order in
+    let order : entries_at loan.entries c.deref-3.result.now ≡ standing_entries loan.entries =
+    ap (entries_at loan.entries) c.deref-3.ensures.value ∙ subst (λ (e : List Entry). entries_at e c.in_ok-order.order.items ≡ standing_entries e) c.deref-2.ensures.value c.in_ok-order.ensures.order in
     let parts : (seq : ℕ) → settled_in seq c.deref-4.result.now ≡ settled_in seq (settled_of_loan loan) = λ seq. ap (settled_in seq) c.deref-4.ensures.value ∙ kept.parts_are seq in
     let settled : c.in-Some.settled.items ≡ settled_of_loan loan =
     subst (λ (o : Option (Vec Settled Global)). IfSome o (λ v. v.items ≡ settled_of_loan loan)) c.in-Some.is (c.in_ok-placed.ensures.loan loan sound count order parts) in

@@ -9,7 +9,7 @@ use Rattle.mf_account.specs.Safe.{most_kept, IsBounded}
 use Rattle.mf_account.specs.Told.{settled_amount}
 use Rattle.mf_account.specs.Account.{first_state}
 use Rattle.mf_account.specs.Applicable.{HasCharge}
-use Rattle.mf_account.specs.Standing.{standing, entries_at}
+use Rattle.mf_account.specs.Standing.{standing_entries, entries_at}
 use Rattle.mf_account.specs.Loan.{Loan, schedule_of, orders_of, cell_places_of, settled_of_loan}
 use Rattle.mf_account.specs.Rewind.{state_before, settled_upto}
 use Rattle.mf_account.proofs.BoundLemmas.{bounded-weaker}
@@ -22,11 +22,11 @@ use Rattle.mf_account.proofs.account.LoanAccount.rewound.Goals as goal
 pub rewind_to-requires-clause-charges : goal.rewind_to-requires-clause-charges
 rewind_to-requires-clause-charges c =
     let old : Loan = record { terms = c.self.inside.terms; principal = c.self.inside.principal; periods = c.self.inside.periods; day = c.self.inside.day; entries = c.self.inside.entries.items } in
-    let tail : entries_at c.deref.result.now c.deref-2.result.now ≡ standing old.entries =
+    let tail : entries_at c.deref.result.now c.deref-2.result.now ≡ standing_entries old.entries =
     ap (λ e. entries_at e c.deref-2.result.now) c.deref.ensures.value ∙ ap (entries_at old.entries) c.deref-2.ensures.value ∙ c.self.invariant.order_is in
     let size : length c.in_ok-book.book.rows ≡ old.periods = ap (λ (s : State). length s.rows) c.in_ok-book.ensures.same ∙ c.self.invariant.safe.bounded.size in
-    let each : All (λ (e : Entry). HasCharge e.kind e old.periods) (standing old.entries) =
-    All-weaker (IsReplayable old.periods) (λ (e : Entry). HasCharge e.kind e old.periods) (λ e is. has_charge e.kind e old.periods is.there) (standing old.entries) (each-standing old c.self.invariant.sound) in
+    let each : All (λ (e : Entry). HasCharge e.kind e old.periods) (standing_entries old.entries) =
+    All-weaker (IsReplayable old.periods) (λ (e : Entry). HasCharge e.kind e old.periods) (λ e is. has_charge e.kind e old.periods is.there) (standing_entries old.entries) (each-standing old c.self.invariant.sound) in
     subst (λ (n : ℕ). All (λ (e : Entry). HasCharge e.kind e n) (entries_at c.deref.result.now c.deref-2.result.now)) (sym size)
     (subst (λ (x : List Entry). All (λ (e : Entry). HasCharge e.kind e old.periods) x) (sym tail) each)
 
@@ -41,7 +41,7 @@ returns-in-Some-clause-bounded c =
 pub returns-in-Some-clause-back : goal.returns-in-Some-clause-back
 returns-in-Some-clause-back c replayed =
     let old : Loan = record { terms = c.self.inside.terms; principal = c.self.inside.principal; periods = c.self.inside.periods; day = c.self.inside.day; entries = c.self.inside.entries.items } in
-    let tail : entries_at c.deref.result.now c.deref-2.result.now ≡ standing old.entries =
+    let tail : entries_at c.deref.result.now c.deref-2.result.now ≡ standing_entries old.entries =
     ap (λ e. entries_at e c.deref-2.result.now) c.deref.ensures.value ∙ ap (entries_at old.entries) c.deref-2.ensures.value ∙ c.self.invariant.order_is in
     let true_to : IsReplayed (record { loan = old; state = c.self.inside.book; settled = c.self.inside.settled.items; change = c.self.inside.change }) = subst IsReplayed (sym c.self.view_is) replayed in
     let settled : c.deref-3.result.now ≡ settled_of_loan old = c.deref-3.ensures.value ∙ true_to.settled in

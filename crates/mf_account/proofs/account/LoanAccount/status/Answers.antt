@@ -5,7 +5,7 @@ use Rattle.mf_account.specs.declared.entry.Entry.{Entry}
 use Rattle.mf_account.specs.Change.{Account}
 use Rattle.mf_account.specs.Effect.{State}
 use Rattle.mf_account.specs.Account.{status_of}
-use Rattle.mf_account.specs.Standing.{standing, entries_at}
+use Rattle.mf_account.specs.Standing.{standing_entries, entries_at}
 use Rattle.mf_account.specs.Loan.{AreEntries}
 use Rattle.mf_account.proofs.account.LoanAccount.status.Goals as goal
 
@@ -17,7 +17,7 @@ status-requires-clause-within c =
 pub status-requires-clause-order : goal.status-requires-clause-order
 status-requires-clause-order c =
     ap (entries_at c.deref.result.now) c.deref-2.ensures.value
-    ∙ subst (λ (e : List Entry). entries_at e c.self.inside.order.items ≡ standing e) (sym c.deref.ensures.value) c.self.invariant.order_is
+    ∙ subst (λ (e : List Entry). entries_at e c.self.inside.order.items ≡ standing_entries e) (sym c.deref.ensures.value) c.self.invariant.order_is
 
 pub status-requires-clause-entries : goal.status-requires-clause-entries
 status-requires-clause-entries c =

@@ -3,7 +3,7 @@ use Rattle.std.specs.Prelude.{remove}
 use Rattle.std.proofs.lemmas.List.{length-set}
 use Rattle.mf_account.specs.declared.entry.Entry.{Entry}
 use Rattle.mf_account.specs.declared.settled.Settled.{Settled}
-use Rattle.mf_account.specs.Standing.{standing, with_mark, entry_at}
+use Rattle.mf_account.specs.Standing.{standing_entries, with_mark, entry_at}
 use Rattle.mf_account.specs.Change.{Account, IsChange, IsReplayed}
 use Rattle.mf_account.specs.Safe.{IsSafe}
 use Rattle.mf_account.specs.Loan.{Loan, IsSound, IsKept, settled_of_loan}
@@ -14,7 +14,7 @@ use Rattle.mf_account.proofs.account.LoanAccount.take_out.Goals as goal
 
 pub remove-requires : goal.remove-requires
 remove-requires c =
-    let within : c.place_at-place.result < length (standing c.self.inside.entries.items) = subst (λ (a : Account). c.place_at-place.result < length (standing a.loan.entries)) (sym c.self.view_is) c.place_at-place.ensures.within in
+    let within : c.place_at-place.result < length (standing_entries c.self.inside.entries.items) = subst (λ (a : Account). c.place_at-place.result < length (standing_entries a.loan.entries)) (sym c.self.view_is) c.place_at-place.ensures.within in
     let size = length-order c.self.inside.entries.items c.self.inside.order.items c.self.invariant.order_is in
     omega (arith, within, size, c.self.inside.order.ok)
 
@@ -28,8 +28,8 @@ invariant_of-self-2 c =
     let there : c.args.at < length old.entries = subst (λ (a : Account). c.args.at < length a.loan.entries) (sym c.self.view_is) c.requires.there in
     let sound : IsSound new = sound-reversed old c.args.at c.self.invariant.sound there in
     let place : ℕ = c.place_at-place.result in
-    let within : place < length (standing old.entries) = subst (λ (a : Account). place < length (standing a.loan.entries)) (sym c.self.view_is) c.place_at-place.ensures.within in
-    let here : entry_at (standing old.entries) place ≡ entry_at old.entries c.args.at = subst (λ (a : Account). entry_at (standing a.loan.entries) place ≡ entry_at a.loan.entries c.args.at) (sym c.self.view_is) c.place_at-place.ensures.there in
+    let within : place < length (standing_entries old.entries) = subst (λ (a : Account). place < length (standing_entries a.loan.entries)) (sym c.self.view_is) c.place_at-place.ensures.within in
+    let here : entry_at (standing_entries old.entries) place ≡ entry_at old.entries c.args.at = subst (λ (a : Account). entry_at (standing_entries a.loan.entries) place ≡ entry_at a.loan.entries c.args.at) (sym c.self.view_is) c.place_at-place.ensures.there in
     let settled : c.put_behind.new.settled.items ≡ take c.in_ok-book.kept c.self.inside.settled.items ++ c.in_ok-book.parts.items =
     c.put_behind.ensures
     ∙ ap (λ (x : List Settled). take c.in_ok-book.kept x ++ c.deref-2.result.now) c.in_ok-reserve.ensures.items

@@ -1,5 +1,5 @@
 use Rattle.std.proofs.Common.{◌≡◌, ◌++◌, length, string_bytes, string_len, rules, ◌∙◌, ap, lit<}
-use Rattle.mf_office.specs.Keys.{EndsWithDot, raised}
+use Rattle.mf_office.specs.Keys.{EndsWithDot, with_last_raised}
 use Rattle.mf_office.proofs.TextLemmas.{raised-popped}
 use Rattle.mf_office.proofs.key.Key.range.Goals as goal
 
@@ -13,4 +13,4 @@ returns-clause-high c =
     c.in_ok-push.ensures.bytes
     ∙ ap (λ t. rest ++ t) (c.in_ok-push.ensures.ascii (lit< tt))
     ∙ raised-popped high rest (string_len c.in_ok-high.high) dot len c.pop-dot.ensures.ascii_bytes
-    ∙ ap raised same
+    ∙ ap with_last_raised same

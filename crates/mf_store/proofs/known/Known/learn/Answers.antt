@@ -8,7 +8,7 @@ returns-in-OfficeCounts c = rw (← c.self.view_is) (λ i j known told. let t = 
   counts = counts_learnt c.self.inside.counts c.put-kept.new.self c.in-OfficeCounts.office c.in-OfficeCounts.counts c.put-kept.result i j c.put-kept.ensures.entries c.put-kept.ensures.err c.put-kept.ensures.succeeds known.counts t.counts;
   catalogue = λ k h. known.catalogue k h ∙ sym t.catalogue;
   day = λ d h. known.day d h ∙ sym t.day;
-  roles = λ m r b h. t.roles m r (known.roles m r b h);
+  roles = λ m r h. t.roles m r (known.roles m r h);
   keys = λ x k h. t.keys x k (known.keys x k h);
   products = λ n p h. t.products refl n p (known.products n p h);
 })
@@ -18,7 +18,7 @@ returns-in-Catalogue c = rw (← c.self.view_is) (λ i j known told. let t = sub
   counts = λ x k h. known.counts x k h ∙ sym (t.counts x);
   catalogue = λ k h. some_is h ∙ sym t.catalogue;
   day = λ d h. known.day d h ∙ sym t.day;
-  roles = λ m r b h. t.roles m r (known.roles m r b h);
+  roles = λ m r h. t.roles m r (known.roles m r h);
   keys = λ x k h. t.keys x k (known.keys x k h);
   products = λ n p h. t.products refl n p (known.products n p h);
 })
@@ -28,7 +28,7 @@ returns-in-BusinessDay c = rw (← c.self.view_is) (λ i j known told. let t = s
   counts = λ x k h. known.counts x k h ∙ sym (t.counts x);
   catalogue = λ k h. known.catalogue k h ∙ sym t.catalogue;
   day = λ d h. some_is h ∙ sym t.day;
-  roles = λ m r b h. t.roles m r (known.roles m r b h);
+  roles = λ m r h. t.roles m r (known.roles m r h);
   keys = λ x k h. t.keys x k (known.keys x k h);
   products = λ n p h. t.products refl n p (known.products n p h);
 })
@@ -38,7 +38,7 @@ returns-in-Retirement c = rw (← c.self.view_is) (λ i j known told. let t = su
   counts = λ x k h. known.counts x k h ∙ sym (t.counts x);
   catalogue = λ k h. known.catalogue k h ∙ sym t.catalogue;
   day = λ d h. known.day d h ∙ sym t.day;
-  roles = λ m r b h. t.roles m r (known.roles m r b h);
+  roles = λ m r h. t.roles m r (known.roles m r h);
   keys = λ x k h. t.keys x k (known.keys x k h);
   products = λ n p h. forgotten c.clear.new.self c.self.inside.products.cap n p _ c.clear.ensures h;
 })

@@ -3,7 +3,7 @@ use Rattle.std.specs.Option.{is_some}
 use Rattle.mf_model.specs.declared.commit.Commit.TheVariants.{SetStage}
 use Rattle.mf_model.specs.Institution.{Ledger}
 use Rattle.mf_model.specs.Stages.{disbursed_on}
-use Rattle.mf_model.specs.Store.{committed, ledger_at}
+use Rattle.mf_model.specs.Store.{after_commit, ledger_at}
 use Rattle.mf_model.specs.declared.loan.Loan.{Loan}
 use Rattle.mf_store_records.specs.declared.writes.StoreWrite.TheVariants.{PutLoan}
 use Rattle.mf_store_changes.specs.ChangeWrites.{schedule_put}
@@ -41,5 +41,5 @@ returns-clause-commits g c =
     let first_write = c.in_ok-push.ensures.items ∙ ap (λ ws. ws ++ PutLoan c.in_ok-row.row ∷ []) c.new-writes.ensures.items in
     let schedule = c.in_ok-put_schedule_of.ensures.writes clean i (c.in_ok-before.ensures.kept.same first i s) ∙ ap (λ ws. ws ++ schedule_put c.get-office.result c.get-number.result (kept_of instalments_kept i.catalogue (record { loan = c.staged-now.result; entries = [] }))) first_write in
     let writes = c.deref.ensures.value ∙ schedule ∙ (λ t. PutLoan (row t) ∷ schedule_put (c.get-office.ensures.value t) (c.get-number.ensures.value t) (kept_of instalments_kept i.catalogue (record { loan = now t; entries = sym without t }))) in
-    (subst (λ ws. Becomes ws i (committed (SetStage loan stage) i)) (sym writes) (staged_becomes loan stage l i s.sound there before without admitted.sound), stage_tells loan stage i))
+    (subst (λ ws. Becomes ws i (after_commit (SetStage loan stage) i)) (sym writes) (staged_becomes loan stage l i s.sound there before without admitted.sound), stage_tells loan stage i))
     c.make.ensures.premise c.make.ensures.gives_up c.make.ensures.made c.make.ensures.left c.make.ensures.same c.make.ensures.stop
