@@ -7,8 +7,8 @@ use crate::Fault;
 use crate::digits::{count_digits, read_two_digits, value_of_digits};
 use std::alloc::Global;
 
-/// The greatest amount that is read, in cents.
-const MONEY_LIMIT: u64 = 1_000_000_000_000;
+/// The greatest amount of money, in cents.
+pub const MONEY_LIMIT: u64 = 1_000_000_000_000;
 
 /// The cents that stand after the units: nothing, or a point and one digit or two.
 fn read_fraction(text: &[u8]) -> Option<u8>

@@ -12,7 +12,6 @@ mod terms;
 
 pub use amount::charge_amount;
 pub use charge::{Calc, ChargeDef, ChargeKind};
-pub use laws::{limits_are_as_stated, terms_within_limits};
 pub use lending::{check_loan, check_product, terms_for, terms_of};
 pub use limits::{
     GREATEST_AMOUNT, GREATEST_PERCENTAGE, GREATEST_RATE, MOST_DAYS, MOST_GRACE, MOST_MONTHS,

@@ -2,10 +2,10 @@ ghost use Rattle.std.specs.Prelude.{◌≡◌};
 ghost use Rattle.mf_catalog.specs.Limits as spec;
 
 use crate::charge::Calc;
-use mf_base::Freq;
+use mf_base::{Freq, MONEY_LIMIT};
 
 /// The greatest principal, amount and flat charge: 10^12 cents.
-pub const GREATEST_AMOUNT: u64 = 1_000_000_000_000;
+pub const GREATEST_AMOUNT: u64 = MONEY_LIMIT;
 
 /// The greatest percentage of a charge, in hundredths of a percent: the whole of its base.
 pub const GREATEST_PERCENTAGE: u64 = 10_000;

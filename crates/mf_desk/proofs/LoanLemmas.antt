@@ -19,7 +19,7 @@ use Rattle.mf_model.specs.declared.loan.Statement.{Statement}
 use Rattle.mf_statement.specs.declared.lines.InstalmentLine.{InstalmentLine}
 use Rattle.mf_statement.specs.declared.lines.EntryLine.{EntryLine}
 use Rattle.mf_statement.specs.Lines.{instalments_from, entries_kept}
-use Rattle.mf_model.specs.declared.commit.Commit.TheVariants.{Enter, Reverse}
+use Rattle.mf_model.specs.declared.commit.Commit.TheVariants.{AddEntry, ReverseEntry}
 use Rattle.mf_model.specs.declared.reply.LoanReply.{LoanReply}
 use Rattle.mf_model.specs.declared.reply.LoanReply.TheVariants.{Shown, Entered, Reversed}
 use Rattle.mf_model.specs.declared.reply.LoanReply.TheVariants as told
@@ -177,7 +177,7 @@ commit_is loan a change after i f same =
 
 -- its account takes the entry
 pub entering_accepted : (loan : Account) (first : Running → Option Fault) (make : ℕ → Running → Entry) (a new : Kept) (today : ℕ) (i : Institution) → account_there loan i ≡ Ok a → today ≡ i.catalogue.day → refuses first make a.loan today ≡ None → new.loan.entries ≡ a.loan.entries ++ make today a.loan ∷ []
-    → entering loan first make i ≡ decision_outcome (record { reply = reply.Loan loan (Entered (make today a.loan).seq); commit = Some (Enter loan new) }) i
+    → entering loan first make i ≡ decision_outcome (record { reply = reply.Loan loan (Entered (make today a.loan).seq); commit = Some (AddEntry loan new) }) i
 entering_accepted loan first make a new today i h day accepted entries =
     let f = is_account_of loan a i h in
     let e = make today a.loan in
@@ -189,7 +189,7 @@ entering_accepted loan first make a new today i h day accepted entries =
 
 -- its account lets the entry go
 pub reversing_accepted : (loan : Account) (seq : ℕ) (a new : Kept) (i : Institution) → account_there loan i ≡ Ok a → reversal_refused a.loan.entries seq ≡ None → new.loan.entries ≡ with_mark a.loan.entries (seq - 1) true
-    → on_account loan (λ k. reverse seq) i ≡ decision_outcome (record { reply = reply.Loan loan (Reversed seq); commit = Some (Reverse loan seq new) }) i
+    → on_account loan (λ k. reverse seq) i ≡ decision_outcome (record { reply = reply.Loan loan (Reversed seq); commit = Some (ReverseEntry loan seq new) }) i
 reversing_accepted loan seq a new i h accepted entries =
     let f = is_account_of loan a i h in
     let marked : (l : Ledger) → l.entries ≡ a.loan.entries → with_reversal seq l ≡ with_entries new.loan.entries l = λ l is. ap (λ es. with_entries (with_mark es (seq - 1) true) l) is ∙ ap (λ es. with_entries es l) (sym entries) in
@@ -285,7 +285,7 @@ module _ {S : Type 0} (store : Ghosts S) where
 
   pub then_entered : (loan : Account) (first : Running → Option Fault) (make : ℕ → Running → Entry) (a after : Kept) (today : ℕ) (old mid new : S) → Asks store (account_there loan) old mid (Ok a) → Reads store.stands store.clean store.leaves (λ i. i.catalogue.day) mid new (Ok today)
       → (IsReplayed a → refuses first make a.loan today ≡ None) → after.loan ≡ record a.loan { entries = a.loan.entries ++ make today a.loan ∷ [] } → (IsReplayed a → IsReplayed after) → (IsReplayed a → IsChange a.loan after.loan after.change)
-      → Decides store (in_ledger loan (λ k l. enter first make k (account_in k l))) old new (Ok (record { reply = reply.Loan loan (Entered (make today a.loan).seq); commit = Some (Enter loan after) }))
+      → Decides store (in_ledger loan (λ k l. enter first make k (account_in k l))) old new (Ok (record { reply = reply.Loan loan (Entered (make today a.loan).seq); commit = Some (AddEntry loan after) }))
   then_entered loan first make a after today old mid new ask read accepted is kept change =
       let entries = ap (λ (x : Running). x.entries) is in
       learned_tells (Known loan a today) (entering loan first make) old new _ (known loan a today old mid new ask read) (λ i h. entering_accepted loan first make a after today i h.0 h.1 (accepted (is_replayed loan a i h.0)) entries)
@@ -301,7 +301,7 @@ module _ {S : Type 0} (store : Ghosts S) where
   -- what is reversed in the account of a loan
   pub then_reversed : (loan : Account) (seq : ℕ) (a after : Kept) (old new : S) → Asks store (account_there loan) old new (Ok a)
       → reversal_refused a.loan.entries seq ≡ None → after.loan ≡ record a.loan { entries = with_mark a.loan.entries (seq - 1) true } → (IsReplayed a → IsReplayed after) → (IsReplayed a → IsChange a.loan after.loan after.change)
-      → Decides store (in_ledger loan (λ k l. reverse seq (account_in k l))) old new (Ok (record { reply = reply.Loan loan (Reversed seq); commit = Some (Reverse loan seq after) }))
+      → Decides store (in_ledger loan (λ k l. reverse seq (account_in k l))) old new (Ok (record { reply = reply.Loan loan (Reversed seq); commit = Some (ReverseEntry loan seq after) }))
   then_reversed loan seq a after old new ask accepted is kept change =
       let entries = ap (λ (x : Running). x.entries) is in
       learned_tells (λ i. account_there loan i ≡ Ok a) (on_account loan (λ k. reverse seq)) old new _ (learns store (account_there loan) old new a ask) (λ i h. reversing_accepted loan seq a after i h accepted entries)

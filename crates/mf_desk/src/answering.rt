@@ -28,7 +28,7 @@ fn decide<S: InstitutionStore>(
     if let Request::Unreadable(flaw) = &request {
         return Err(flaw.fault());
     }
-    let Some(role) = store.role(alloc, *caller)? else {
+    let Some(role) = store.caller(alloc, *caller)? else {
         return Err(Fault::F2);
     };
     if !may_send(&request, role, caller.office) {

@@ -14,7 +14,7 @@ pub fn arrears_lines<S: InstitutionStore>(
 ) -> Result<ArrearsList, Fault>
     ensures lines { Asks S.InstitutionStore (arrears_told caller) store.old store.new result }
 {
-    if store.role(alloc, caller)?.is_none() {
+    if store.caller(alloc, caller)?.is_none() {
         return Err(Fault::F2);
     }
     store.office_lines(alloc, caller.office)

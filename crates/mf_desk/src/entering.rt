@@ -74,5 +74,8 @@ pub fn enter<S: InstitutionStore>(
     let seq = entry.seq;
     let account = entered(alloc, account, entry, today)?;
     let told = LoanReply::Entered(seq);
-    Ok(Decision::change(Commit::Enter { loan, account }, Reply::Loan { loan, told }))
+    Ok(Decision::change(
+        Commit::AddEntry { loan, account },
+        Reply::Loan { loan, told },
+    ))
 }

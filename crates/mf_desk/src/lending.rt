@@ -22,7 +22,7 @@ fn check_client<S: InstitutionStore>(
     ensures asks { Asks S.InstitutionStore (client_there client) store.old store.new result }
     ensures refusal { IfErr result (λ f. f ≢ Fault.F19) }
 {
-    let counts = store.counts(alloc, client.office)?;
+    let counts = store.next_numbers(alloc, client.office)?;
     if client.number.get() <= counts.clients {
         Ok(())
     } else {
@@ -44,7 +44,7 @@ pub fn submit_loan<S: InstitutionStore>(
     check_client(alloc, store, Account { office, number })?;
     let product = store.product(alloc, asked.product)?.ok_or(Fault::F4)?;
     check_loan(&product, asked.principal, asked.periods)?;
-    let counts = store.counts(alloc, office)?;
+    let counts = store.next_numbers(alloc, office)?;
     let number = next_account(counts.loans)?;
     let loan = Loan {
         client: asked.client,

@@ -80,7 +80,7 @@ fn add_staff<S: InstitutionStore>(
     ensures decides { Decides S.InstitutionStore (in_rows office (λ k rows. add_staff office name role rows)) store.old store.new result }
     ensures refusal { IfErr result (λ f. f ≢ Fault.F19) }
 {
-    let counts = store.counts(alloc, office)?;
+    let counts = store.next_numbers(alloc, office)?;
     let staff = next_staff(counts.staff)?;
     Ok(Decision::change(
         Commit::AddStaff { office, name, role },
@@ -97,7 +97,7 @@ fn add_client<S: InstitutionStore>(
     ensures decides { Decides S.InstitutionStore (in_rows office (λ k rows. add_client office name rows)) store.old store.new result }
     ensures refusal { IfErr result (λ f. f ≢ Fault.F19) }
 {
-    let counts = store.counts(alloc, office)?;
+    let counts = store.next_numbers(alloc, office)?;
     let number = next_account(counts.clients)?;
     Ok(Decision::change(
         Commit::AddClient { office, name },

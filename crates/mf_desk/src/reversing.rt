@@ -43,7 +43,7 @@ pub fn reverse<S: InstitutionStore>(
     let account = reversed(alloc, account, seq)?;
     let told = LoanReply::Reversed(seq);
     Ok(Decision::change(
-        Commit::Reverse { loan, seq, account },
+        Commit::ReverseEntry { loan, seq, account },
         Reply::Loan { loan, told },
     ))
 }

@@ -34,7 +34,7 @@ pub fn act<S: InstitutionStore>(
             on_loan(alloc, store, caller, loan, asked)
         }
         Request::SeenOffices => {
-            let offices = store.visible_offices(alloc, caller.office)?;
+            let offices = store.offices(alloc, caller.office)?;
             Ok(Decision::show(Reply::Offices(offices)))
         }
         Request::SeenArrears => {

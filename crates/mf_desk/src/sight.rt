@@ -16,7 +16,7 @@ pub fn check_sight<S: InstitutionStore>(
     ensures asks { Asks S.InstitutionStore (sight to office) store.old store.new result }
     ensures refusal { IfErr result (λ f. f ≢ Fault.F19) }
 {
-    if store.is_visible(alloc, to, office)? {
+    if store.visible(alloc, to, office)? {
         Ok(())
     } else {
         Err(Fault::F4)

@@ -342,7 +342,7 @@ impl InstitutionStore for Books {
 
     ghost more = { λ _ _ _ h. absurd h };
 
-    fn role(&mut self, _alloc: Global, caller: Caller) -> Result<Option<Role>, Fault> {
+    fn caller(&mut self, _alloc: Global, caller: Caller) -> Result<Option<Role>, Fault> {
         self.count_call()?;
         let Some(branch) = self.find(caller.office) else {
             return Ok(None);
@@ -351,12 +351,7 @@ impl InstitutionStore for Books {
         Ok(branch.staff.get(place as usize).copied())
     }
 
-    fn is_visible(
-        &mut self,
-        _alloc: Global,
-        to: OfficeNo,
-        office: OfficeNo,
-    ) -> Result<bool, Fault> {
+    fn visible(&mut self, _alloc: Global, to: OfficeNo, office: OfficeNo) -> Result<bool, Fault> {
         self.count_call()?;
         Ok(self.find(office).is_some() && self.is_within(5, office, to))
     }
@@ -374,7 +369,7 @@ impl InstitutionStore for Books {
         Ok(self.is_within(4, office, head))
     }
 
-    fn counts(&mut self, _alloc: Global, office: OfficeNo) -> Result<Counts, Fault> {
+    fn next_numbers(&mut self, _alloc: Global, office: OfficeNo) -> Result<Counts, Fault> {
         self.count_call()?;
         let Some(branch) = self.find(office) else {
             return Ok(Counts {
@@ -489,7 +484,7 @@ impl InstitutionStore for Books {
         Ok(LoanList::new(lines))
     }
 
-    fn visible_offices(&mut self, alloc: Global, to: OfficeNo) -> Result<OfficeList, Fault> {
+    fn offices(&mut self, alloc: Global, to: OfficeNo) -> Result<OfficeList, Fault> {
         self.count_call()?;
         let mut offices = Vec::new(alloc);
         for branch in &self.branches {
@@ -545,7 +540,7 @@ impl InstitutionStore for Books {
                 self.set_stage(loan, stage);
                 Ok(())
             }
-            Commit::Enter { loan, account } | Commit::Reverse { loan, account, .. } => {
+            Commit::AddEntry { loan, account } | Commit::ReverseEntry { loan, account, .. } => {
                 self.enter(loan, account);
                 Ok(())
             }

@@ -5,7 +5,7 @@ ghost use Rattle.mf_account.specs.Change.{IsReplayed};
 
 use mf_account::status::ACTIVE;
 use mf_account::{Entry, LoanAccount, Receipt};
-use mf_arrears::{OfficeLine, arrears};
+use mf_arrears::{MOST_LOANS, OfficeLine, arrears};
 use mf_base::{Day, Fault};
 use mf_catalog::Terms;
 use mf_model::{Loan, ReceiptUse, Stage};
@@ -24,9 +24,6 @@ pub(crate) struct Row {
     disbursed: Option<Day>,
     entries: Vec<Entry>,
 }
-
-/// An office has at most so many loans.
-const MOST_LOANS: u64 = 999_999;
 
 /// The days of a stage: of approval, and of disbursement.
 fn days_of(stage: &Stage) -> (Option<Day>, Option<Day>) {

@@ -186,7 +186,7 @@ lends_by_members n m principal periods (Some p) None e = absurd (cc)
 lends_by_members n m principal periods (Some p) (Some q) e = ap (members_lend principal periods) e
 
 -- the thing of a number, and a change of it alone
-numbered_suc : {X : Type 0} (xs : List X) (n : ℕ) → item_numbered xs (suc n) ≡ slice_get xs n
+pub numbered_suc : {X : Type 0} (xs : List X) (n : ℕ) → item_numbered xs (suc n) ≡ slice_get xs n
 numbered_suc xs n =
     let some : (suc n == 0) ≡ false = grind (arith, nat_tests) in
     let less : suc n - 1 ≡ n = omega arith in

@@ -36,7 +36,7 @@ pub uses_push : (m : ℕ) (loan : Loan) (ls : List Ledger) → uses_from m (ls +
 uses_push m loan [] = refl
 uses_push m loan (l ∷ ls) = ap (λ us. uses_in m l.entries ++ us) (uses_push (m + 1) loan ls)
 
-uses_in_push : (m : ℕ) (e : Entry) (es : List Entry) → uses_in m (es ++ e ∷ []) ≡ uses_in m es ++ use_of e.receipt m e
+pub uses_in_push : (m : ℕ) (e : Entry) (es : List Entry) → uses_in m (es ++ e ∷ []) ≡ uses_in m es ++ use_of e.receipt m e
 uses_in_push m e [] = append-nil (use_of e.receipt m e)
 uses_in_push m e (x ∷ es) = ap (λ us. use_of x.receipt m x ++ us) (uses_in_push m e es) ∙ sym (append_assoc (use_of x.receipt m x) (uses_in m es) (use_of e.receipt m e))
 

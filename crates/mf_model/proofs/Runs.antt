@@ -132,7 +132,7 @@ IsTree_last [] i t = t
 IsTree_last (l ∷ ls) i t = IsTree_last ls (next l i) (IsTree_next l i t)
 
 -- two institutions that look alike to an office, and whose runs touch it alike, answer it alike and look alike afterwards
-same_play : (meant : Call → Bool) (o : ℕ) (i j : Institution) (ls ks : List Line) → Alike o i j ls ks → play_replies meant (touching_list o ls i) (view o i) ≡ play_replies meant (touching_list o ks j) (view o j)
+pub same_play : (meant : Call → Bool) (o : ℕ) (i j : Institution) (ls ks : List Line) → Alike o i j ls ks → play_replies meant (touching_list o ls i) (view o i) ≡ play_replies meant (touching_list o ks j) (view o j)
 same_play meant o i j ls ks a = ap (λ ts. play_replies meant ts (view o i)) a.touching_is ∙ ap (play_replies meant (touching_list o ks j)) a.view_is
 
 pub alike_replies : (o : ℕ) (meant : Call → Bool) → AreFrom o meant → (i j : Institution) (ls ks : List Line) → IsTree i.offices → IsTree j.offices → Alike o i j ls ks → given_up meant ls ≡ given_up meant ks → replies_to meant ls (answers ls i) ≡ replies_to meant ks (answers ks j)

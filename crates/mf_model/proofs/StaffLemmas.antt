@@ -1,10 +1,15 @@
 -- Who is there stays there.
-use Rattle.std.proofs.Common.{◌≡◌, ℕ, Bool, true, false, cond, List, [], ◌∷◌, Option, Some, None, inl, inr, refl, sym, ap, ◌∙◌}
+use Rattle.std.proofs.Common.{◌≡◌, ◌<◌, ◌≤◌, ◌-◌, ℕ, zero, suc, Bool, true, false, cond, List, [], ◌∷◌, length, slice_get, Option, Some, None, inl, inr, refl, sym, ap, ◌∙◌, subst, arith, true≢false}
 use Rattle.std.specs.Prelude.{◌==◌, is_some, option_map}
+use Rattle.std.specs.List.{AllByRecursion}
 use Rattle.std.proofs.lemmas.Bool.{cases_eq}
-use Rattle.mf_model.specs.Institution.{Office, Rows, item_numbered, office_at, with_rows, with_office}
+use Rattle.std.proofs.lemmas.Bool.Decides.{nat_tests}
+use Rattle.mf_office.specs.Numbers.{IsNumberUpTo}
+use Rattle.mf_office.specs.Texts.{IsCaller}
+use Rattle.mf_office.specs.declared.caller.Caller.{Caller}
+use Rattle.mf_model.specs.Institution.{Catalogue, Office, Rows, item_numbered, office_at, with_rows, with_office}
 use Rattle.mf_model.specs.Tree.{is_there}
-use Rattle.mf_model.specs.Sound.{is_staff}
+use Rattle.mf_model.specs.Sound.{IsSoundOffice, is_staff}
 use Rattle.mf_model.proofs.Confined.{others_stay, old_stay}
 use Rattle.mf_model.proofs.Growing.{StaffGrows}
 
@@ -49,3 +54,29 @@ staff_with_office new fs free c h =
     none : (o : Option Office) → is_some o ≡ false → in_office c.staff o ≡ true → ⊥
     none None e h = cc
     none (Some f) e h = cc
+
+-- whoever is a member of staff has a number of an office and a staff number in range
+placed : {A : Type 0} (xs : List A) (d : ℕ) → is_some (slice_get xs d) ≡ true → d < length xs
+placed [] d h = absurd (true≢false (sym h))
+placed (x ∷ xs) zero h = omega arith
+placed (x ∷ xs) (suc d) h = let more : d < length xs = placed xs d h in omega (arith, more)
+
+has_number : {A : Type 0} (xs : List A) (n limit : ℕ) → length xs ≤ limit → is_some (item_numbered xs n) ≡ true → IsNumberUpTo limit n
+has_number xs n limit few h = go (n == 0) refl h
+  where
+    go : (b : Bool) → (n == 0) ≡ b → is_some (cond b None (slice_get xs (n - 1))) ≡ true → IsNumberUpTo limit n
+    go true e h = absurd (true≢false (sym h))
+    go false e h =
+        let some : 1 ≤ n = grind (arith, nat_tests) in
+        let low : n - 1 < length xs = placed xs (n - 1) h in
+        (some, omega (arith, some, low, few))
+
+pub staff_are_callers : (k : Catalogue) (s : Caller → Bool) (fs : List Office) → AllByRecursion (IsSoundOffice k s) fs → (c : Caller) → is_staff fs c ≡ true → IsCaller c
+staff_are_callers k s [] all c there = absurd (true≢false (sym there))
+staff_are_callers k s (f ∷ fs) all c there = go (f.number == c.office) refl there (staff_are_callers k s fs all.1 c)
+  where
+    go : (b : Bool) → (f.number == c.office) ≡ b → is_some (elim (cond b (Some f) (office_at c.office fs)) [ None ↦ None | Some g ↦ item_numbered g.rows.staff c.staff ]) ≡ true → (is_staff fs c ≡ true → IsCaller c) → IsCaller c
+    go true e there more =
+        let same : f.number ≡ c.office = grind (arith, nat_tests) in
+        (subst (IsNumberUpTo 9999) same all.0.number, has_number f.rows.staff c.staff 9999 all.0.rows.staff_limit there)
+    go false e there more = more there

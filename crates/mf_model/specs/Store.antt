@@ -6,7 +6,7 @@ use Rattle.mf_office.specs.declared.staff.Role.{Role}
 use Rattle.mf_office.specs.declared.caller.Caller.{Caller}
 use Rattle.mf_office.specs.declared.account.Account.{Account}
 use Rattle.mf_model.specs.declared.commit.Commit.{Commit}
-use Rattle.mf_model.specs.declared.commit.Commit.TheVariants.{AddOffice, AddStaff, AddClient, SetDay, AddCharge, AddProduct, RetireProduct, AddLoan, SetStage, Enter, Reverse}
+use Rattle.mf_model.specs.declared.commit.Commit.TheVariants.{AddOffice, AddStaff, AddClient, SetDay, AddCharge, AddProduct, RetireProduct, AddLoan, SetStage, AddEntry, ReverseEntry}
 use Rattle.mf_model.specs.declared.loan.Loan.{Loan}
 use Rattle.mf_model.specs.declared.loan.LoanLine.{LoanLine}
 use Rattle.mf_model.specs.declared.store.CatalogueCounts.{CatalogueCounts}
@@ -91,8 +91,8 @@ change_of (AddProduct members) i = Catalogue_becomes (product_added members i.ca
 change_of (RetireProduct product) i = Catalogue_becomes (product_retired product i.catalogue)
 change_of (AddLoan office loan) i = Rows_become office (loan_added loan (rows_at office i))
 change_of (SetStage loan stage) i = Rows_become loan.office (loan_staged loan.number stage (rows_at loan.office i))
-change_of (Enter loan account) i = Rows_become loan.office (loan_entered loan.number account.loan.entries (rows_at loan.office i))
-change_of (Reverse loan seq account) i = Rows_become loan.office (loan_entered loan.number account.loan.entries (rows_at loan.office i))
+change_of (AddEntry loan account) i = Rows_become loan.office (loan_entered loan.number account.loan.entries (rows_at loan.office i))
+change_of (ReverseEntry loan seq account) i = Rows_become loan.office (loan_entered loan.number account.loan.entries (rows_at loan.office i))
 
 -- the institution after a commit
 abbrev pub after_commit : Commit → Institution → Institution
@@ -118,8 +118,8 @@ pub record IsHandedOn (loan : Account) (becomes : List Entry → List Entry → 
 
 -- what is known of the account that a commit hands on
 abbrev pub IsHanded : Commit → Institution → Type 0
-IsHanded (Enter loan account) i = IsHandedOn loan OneMore account i
-IsHanded (Reverse loan seq account) i = IsHandedOn loan (OneReversed seq) account i
+IsHanded (AddEntry loan account) i = IsHandedOn loan OneMore account i
+IsHanded (ReverseEntry loan seq account) i = IsHandedOn loan (OneReversed seq) account i
 IsHanded _ i = Unit {0}
 
 -- a commit that may be made: the institution is sound after it, and so is what it hands on

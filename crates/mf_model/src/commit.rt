@@ -54,12 +54,12 @@ pub enum Commit {
         stage: Stage,
     },
     /// A loan that is disbursed has one entry more; this is its account then.
-    Enter {
+    AddEntry {
         loan: Account,
         account: LoanAccount,
     },
     /// An entry of a loan that is disbursed is reversed; this is its account then.
-    Reverse {
+    ReverseEntry {
         loan: Account,
         seq: u32,
         account: LoanAccount,

@@ -49,11 +49,11 @@ pub trait InstitutionStore {
     ghost leaves: { Self → List Institution → Type 0 };
 
     /// The role of a caller, or None where there is no such member of staff.
-    fn role(&mut self, alloc: Global, caller: Caller) -> Result<Option<Role>, Fault>
+    fn caller(&mut self, alloc: Global, caller: Caller) -> Result<Option<Role>, Fault>
         ensures { Reads stands clean leaves (role_of caller) self.old self.new result };
 
     /// Whether an office is there and at or below another.
-    fn is_visible(&mut self, alloc: Global, to: OfficeNo, office: OfficeNo) -> Result<bool, Fault>
+    fn visible(&mut self, alloc: Global, to: OfficeNo, office: OfficeNo) -> Result<bool, Fault>
         ensures { Reads stands clean leaves (λ i. is_some (seen_office to office i)) self.old self.new result };
 
     /// Whether an office is there.
@@ -65,7 +65,7 @@ pub trait InstitutionStore {
         ensures { Reads stands clean leaves (λ i. is_within 4 (parent_of i.offices) office 1) self.old self.new result };
 
     /// How many rows an office has; 0 where it isn't there.
-    fn counts(&mut self, alloc: Global, office: OfficeNo) -> Result<Counts, Fault>
+    fn next_numbers(&mut self, alloc: Global, office: OfficeNo) -> Result<Counts, Fault>
         ensures { Reads stands clean leaves (counts_at office) self.old self.new result };
 
     /// The name of a client, or None where there is no such client.
@@ -110,7 +110,7 @@ pub trait InstitutionStore {
         ensures { Reads stands clean leaves (loans_at office after) self.old self.new result };
 
     /// The offices at or below one, by number.
-    fn visible_offices(&mut self, alloc: Global, to: OfficeNo) -> Result<OfficeList, Fault>
+    fn offices(&mut self, alloc: Global, to: OfficeNo) -> Result<OfficeList, Fault>
         ensures { Reads stands clean leaves (λ i. map line_of (seen_by to i.offices)) self.old self.new result };
 
     /// The active loans of each office at or below one, on the business day: a line an office, by number.

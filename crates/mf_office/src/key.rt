@@ -7,6 +7,22 @@ use mf_base::Fault;
 use std::alloc::Global;
 use std::marker::Model;
 
+/// The hierarchy text of a child with this number: its parent's text, its own number and `.`. Its only error is F20.
+pub fn child_text(alloc: Global, parent: &str, number: u32) -> Result<String, Fault>
+    ensures text { IfOk result (λ text. string_bytes text ≡ child_key parent.now number) }
+    ensures err { IsOkUnless result Fault.F20 }
+{
+    let text = format!(in alloc; "{parent}{number}.")?;
+    Ok(text)
+}
+
+/// How many dots a hierarchy text has.
+pub fn count_dots(text: &str) -> usize
+    ensures { result ≡ key_depth text.now }
+{
+    text.bytes().filter(|b| *b == b'.').count()
+}
+
 /// The hierarchy text of an office: `.` for the head, and for a child its parent's text, its own number and `.`.
 pub struct Key {
     text: String,
@@ -42,9 +58,7 @@ impl Key {
         ensures key { IfOk result (λ key. key ≡ child_key self.now number) }
         ensures err { IsOkUnless result Fault.F20 }
     {
-        let parent = self.as_str();
-        let number = number.get();
-        let text = format!(in alloc; "{parent}{number}.")?;
+        let text = child_text(alloc, self.as_str(), number.get())?;
         Ok(Key { text })
     }
 
@@ -79,7 +93,7 @@ impl Key {
     pub fn depth(&self) -> usize
         ensures { result ≡ key_depth self.now }
     {
-        self.as_str().bytes().filter(|b| *b == b'.').count()
+        count_dots(self.as_str())
     }
 
     /// The ends of the range of texts that this key selects: the key itself, and the key with `/`, the next byte,

@@ -14,11 +14,7 @@ mod staff;
 
 pub use account::{Account, AccountNo};
 pub use caller::Caller;
-pub use key::{Key, in_range};
-pub use laws::{
-    at_or_below_by_parents, depth_by_key, key_by_parents, range_is_subtree, tree_by_its_keys,
-    tree_with_an_office_more, worked_rows,
-};
+pub use key::{Key, child_text, count_dots, in_range};
 pub use mf_base::Name;
 pub use number::next_number;
 pub use office::{Office, OfficeNo};

@@ -4,14 +4,14 @@ use Rattle.std.specs.Prelude.{◌==◌, slice_get}
 use Rattle.std.specs.Option.{option_or}
 use Rattle.std.specs.Str.{bytes_eq}
 use Rattle.std.proofs.lemmas.Bool.Decides.{nat_tests}
-use Rattle.std.proofs.lemmas.List.{append-nil}
 use Rattle.std.proofs.lemmas.List.Folds.{find-append}
 use Rattle.std.proofs.lemmas.Slice.Eq.{bytes_eq-Decides}
 use Rattle.mf_account.specs.declared.entry.Entry.{Entry}
 use Rattle.mf_model.specs.Institution.{Ledger, item_numbered, with_numbered}
 use Rattle.mf_model.specs.Receipts.{Use, use_by, use_of, uses_in, uses_from, first_use}
 use Rattle.mf_model.specs.Loans.{with_new_entry}
-use Rattle.mf_model.proofs.ReceiptLemmas.{uses_entered}
+use Rattle.mf_model.proofs.Growing.{numbered_suc}
+use Rattle.mf_model.proofs.ReceiptLemmas.{uses_in_push, uses_entered}
 
 -- the thing of a number, changed
 below_first : {X : Type 0} (i : ℕ) (change : X → X) (x : X) (xs : List X) → with_numbered (suc (suc i)) change (x ∷ xs) ≡ x ∷ with_numbered (suc i) change xs
@@ -31,12 +31,6 @@ others_kept zero zero change (y ∷ ys) other = absurd (other refl)
 others_kept zero (suc j) change (y ∷ ys) other = refl
 others_kept (suc i) zero change (y ∷ ys) other = ap (λ l. slice_get l zero) (below_first i change y ys)
 others_kept (suc i) (suc j) change (y ∷ ys) other = ap (λ l. slice_get l (suc j)) (below_first i change y ys) ∙ others_kept i j change ys (λ e. other (ap suc e))
-
-numbered_suc : {X : Type 0} (xs : List X) (n : ℕ) → item_numbered xs (suc n) ≡ slice_get xs n
-numbered_suc xs n =
-    let some : (suc n == 0) ≡ false = grind (arith, nat_tests) in
-    let less : suc n - 1 ≡ n = omega arith in
-    ap (λ b. cond b None (slice_get xs (suc n - 1))) some ∙ ap (slice_get xs) less
 
 pub numbered_at : {X : Type 0} (xs : List X) (n : ℕ) (x : X) → slice_get xs n ≡ Some x → item_numbered xs (suc n) ≡ Some x
 numbered_at xs n x h = numbered_suc xs n ∙ h
@@ -70,10 +64,6 @@ same_text r = (bytes_eq-Decides r r).1 refl
 
 used_first : (r : List ℕ) (u : Use) (us : List Use) → u.receipt ≡ r → first_use r (u ∷ us) ≡ Some u
 used_first r u us is = ap (λ b. cond b (Some u) (first_use r us)) (ap (λ t. bytes_eq t r) is ∙ same_text r)
-
-uses_in_push : (m : ℕ) (e : Entry) (es : List Entry) → uses_in m (es ++ e ∷ []) ≡ uses_in m es ++ use_of e.receipt m e
-uses_in_push m e [] = append-nil (use_of e.receipt m e)
-uses_in_push m e (x ∷ es) = ap (λ us. use_of x.receipt m x ++ us) (uses_in_push m e es) ∙ sym (append_assoc (use_of x.receipt m x) (uses_in m es) (use_of e.receipt m e))
 
 abbrev use_now : List ℕ → ℕ → Entry → Use
 use_now r n e = record { receipt = r; by = use_by n e }

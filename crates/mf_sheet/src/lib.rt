@@ -3,11 +3,10 @@
 
 mod answering;
 mod collecting;
-mod laws;
+pub mod laws;
 
 pub use answering::answer_line;
 pub use collecting::collect;
-pub use laws::{accepted_once, collected_twice, refused_by_sender, twice_acts_once};
 pub use mf_sheet_lines::{
     LONGEST, Sheet, SheetLine, SheetRepayment, SheetResult, SheetRow, read_sheet, result_sheet,
 };

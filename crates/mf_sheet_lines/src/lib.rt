@@ -8,7 +8,6 @@ mod records;
 mod results;
 mod sheet;
 
-pub use laws::{worked_fields, worked_results, worked_sheets};
 pub use line::{SheetLine, SheetRepayment};
 pub use results::{BegunRecord, SheetResult, heading, result_sheet};
 pub use sheet::{LONGEST, Sheet, SheetRow, read_sheet};

@@ -1,5 +1,5 @@
 -- What a store stands for, with what it knows, after a query and after a commit.
-use Rattle.std.proofs.Common.{◌≡◌, ◌≢◌, ◌⊎◌, inl, inr, ◌-◌, ◌∷◌, ℕ, zero, suc, Bool, true, false, true≢false, cond, List, [], take, Option, None, Some, Result, Ok, Err, OnOk, OnErr, IsSome, IsOk, refl, sym, ap, ap₂, ◌∙◌, subst, arith, nat_eq, ◌==◌}
+use Rattle.std.proofs.Common.{◌≡◌, ◌≢◌, ◌⊎◌, inl, inr, ◌-◌, ◌∷◌, ℕ, zero, suc, Bool, true, false, true≢false, cond, List, [], take, Option, None, Some, Result, Ok, Err, OnOk, OnErr, IsSome, IsTrue, IfErr, IsOk, refl, sym, ap, ap₂, ◌∙◌, subst, arith, nat_eq, ◌==◌}
 use Rattle.std.specs.Option.{option_map_or}
 use Rattle.std.specs.Map.{lookup, lookup_entry, remove_entry}
 use Rattle.std.proofs.lemmas.Bool.{false_from_ne_true}
@@ -17,6 +17,7 @@ use Rattle.mf_office.specs.declared.staff.Role.{Role}
 use Rattle.mf_office.specs.declared.caller.Caller.{Caller}
 use Rattle.mf_catalog.specs.declared.product.Product.{Product}
 use Rattle.mf_base.specs.declared.fault.Fault.{Fault}
+use Rattle.mf_base.specs.declared.fault.Fault.TheVariants.{F20}
 use Rattle.mf_model.specs.declared.commit.Commit.{Commit}
 use Rattle.mf_model.specs.Store.{Commits, after_commit, counts_at, role_of}
 use Rattle.mf_store_records.specs.Calls.{OnlyFaultsShut}
@@ -25,7 +26,7 @@ use Rattle.mf_store_accounts.specs.Flat.{key_at}
 use Rattle.mf_store.specs.Learning.{Tells}
 use Rattle.mf_store.specs.declared.known.News.TheVariants.{Nothing, OfficeCounts, BusinessDay}
 use Rattle.mf_store_commits.specs.Tabled.{IsTabled, HasGoodDisk, LeavesTables, StayTabled}
-use Rattle.mf_store.specs.Stands.{StandsFor, IsClean, Leaves, IsOpenUntil, Stays}
+use Rattle.mf_store.specs.Stands.{StandsFor, IsClean, Leaves, IsOpen, IsOpenUntil, Stays, AsksTables, MayAskTables}
 
 module _ {S : Type 0} (g : Ghosts S) where
   pub tabled : (k : KnownStore S) (i : Institution) → StandsFor g k i → IsTabled g k.connection i
@@ -204,6 +205,10 @@ module _ {S : Type 0} (g : Ghosts S) where
     stop = t.stop;
   }
 
+  pub known_asks : {R : Type 0} (old new : Held S) (f : Facts) (r : Result R Fault) → StayTabled g old new → IfErr r (λ fault. fault ≡ F20) → (HasGoodDisk g new → OnOk r (IsTrue (state g new).is_open))
+      → AsksTables g (record { connection = old; known = f }) (record { connection = new; known = f }) r
+  known_asks old new f r t gives_up is_open = record { kept = known_stays old new f t; gives_up = gives_up; stays_open = is_open }
+
   pub known_made : (old new : Held S) (f e : Facts) (i j : Institution) → StandsFor g (record { connection = old; known = f }) i → IsTabled g new j → AreTrueOf e j → StandsFor g (record { connection = new; known = e }) j
   known_made old new f e i j s t k = record { sound = t.sound; serves = t.serves; knows = k }
 
@@ -249,6 +254,15 @@ module _ {S : Type 0} (g : Ghosts S) where
     where
       now : IsClean g new → IsClean g mid
       now clean = subst (λ h. HasGoodDisk g h) tables clean
+
+  -- so does a call that answers with it
+  pub learnt_asks : {R : Type 0} {x : R} (old mid new : KnownStore S) (IsSo : Institution → Type 0) → Stays g old mid → (IsClean g mid → IsOpen g old → IsOpen g mid) → ((i : Institution) → StandsFor g mid i → IsSo i → StandsFor g new i)
+      → new.connection ≡ mid.connection → (IsClean g mid → (i : Institution) → StandsFor g old i → IsSo i) → MayAskTables g old new (Ok x)
+  learnt_asks old mid new IsSo kept is_open learns tables told = record {
+    kept = learnt_stays old mid new IsSo kept learns tables told;
+    gives_up = tt;
+    stays_open = λ clean up. subst (λ h. IsTrue (state g h).is_open) (sym tables) (is_open (subst (λ h. HasGoodDisk g h) tables clean) up);
+  }
 
   pub clean_before : (mid new : KnownStore S) → new.connection ≡ mid.connection → IsClean g new → IsClean g mid
   clean_before mid new tables clean = subst (λ h. HasGoodDisk g h) tables clean

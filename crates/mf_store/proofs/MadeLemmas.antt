@@ -11,13 +11,10 @@ use Rattle.mf_store_records.specs.declared.writes.StoreWrite.{StoreWrite}
 use Rattle.mf_store.specs.Facts.{KnownStore}
 use Rattle.mf_store.specs.Learning.{Tells}
 use Rattle.mf_store.specs.declared.known.News.{News}
-use Rattle.mf_store.specs.Stands.{StandsFor, IsClean, Leaves, Stays}
+use Rattle.mf_store.specs.Stands.{StandsFor, IsClean, Leaves, IsOpen, Stays, FaultsAloneShut, MakesCommit}
 use Rattle.mf_store_changes.specs.Becoming.{Becomes}
 
 module _ {S : Type 0} (g : Ghosts S) (commit : Commit) where
-  abbrev Made : KnownStore S → KnownStore S → Result (Unit {0}) Fault → Type 0
-  Made = Commits (StandsFor g) (IsClean g) (Leaves g) commit
-
   -- the call made its writes after look-ups
   pub made_by : (old mid new : KnownStore S) (writes : List StoreWrite) (news : News) (r : Result (Unit {0}) Fault) → Stays g old mid
       → (IsClean g mid → (i : Institution) → StandsFor g old i → IsAdmitted commit i → Becomes writes i (after_commit commit i) × Tells news i (after_commit commit i))
@@ -26,12 +23,20 @@ module _ {S : Type 0} (g : Ghosts S) (commit : Commit) where
       → (IsClean g new → OnOk r ((i j : Institution) → StandsFor g mid i → Becomes writes i j → Leaves g new (j ∷ [])))
       → (IsClean g new → OnErr r ((i : Institution) → StandsFor g mid i → StandsFor g new i))
       → (IsClean g new → (i j : Institution) (is : List Institution) → StandsFor g mid i → Becomes writes i j → Leaves g mid is → Leaves g new (j ∷ is))
-      → Made old new r
-  made_by old mid new writes news r kept becomes premise gives_up made left same stop = record {
-    premise = λ clean. kept.premise (premise clean);
-    made = λ clean i s admitted. let now = premise clean in on_ok_weaker r (λ m. let b = becomes now i s admitted in m i (after_commit commit i) (kept.same now i s) b.0 b.1) (made clean);
-    kept = λ clean i s admitted. let now = premise clean in on_ok_weaker r (λ m. m i (after_commit commit i) (kept.same now i s) (becomes now i s admitted).0) (left clean);
-    same = λ clean i s. on_err_weaker r (λ m. m i (kept.same (premise clean) i s)) (same clean);
-    gives_up = gives_up;
-    stop = λ clean i is s admitted l. let now = premise clean in stop clean i (after_commit commit i) is (kept.same now i s) (becomes now i s admitted).0 (kept.stop now is l);
+      → FaultsAloneShut g mid new → (IsClean g new → OnOk r (IsOpen g new))
+      → MakesCommit g commit old new r
+  made_by old mid new writes news r kept becomes premise gives_up made left same stop shuts is_open = record {
+    commits = made_commits;
+    shuts = λ n o. shuts n (kept.shuts n o);
+    stays_open = is_open;
   }
+    where
+      made_commits : Commits (StandsFor g) (IsClean g) (Leaves g) commit old new r
+      made_commits = record {
+        premise = λ clean. kept.premise (premise clean);
+        made = λ clean i s admitted. let now = premise clean in on_ok_weaker r (λ m. let b = becomes now i s admitted in m i (after_commit commit i) (kept.same now i s) b.0 b.1) (made clean);
+        kept = λ clean i s admitted. let now = premise clean in on_ok_weaker r (λ m. m i (after_commit commit i) (kept.same now i s) (becomes now i s admitted).0) (left clean);
+        same = λ clean i s. on_err_weaker r (λ m. m i (kept.same (premise clean) i s)) (same clean);
+        gives_up = gives_up;
+        stop = λ clean i is s admitted l. let now = premise clean in stop clean i (after_commit commit i) is (kept.same now i s) (becomes now i s admitted).0 (kept.stop now is l);
+      }

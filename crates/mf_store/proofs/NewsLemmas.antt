@@ -12,7 +12,7 @@ use Rattle.mf_model.specs.declared.loan.Loan.{Loan}
 use Rattle.mf_model.specs.declared.loan.Stage.{Stage}
 use Rattle.mf_model.specs.declared.store.Counts.{Counts}
 use Rattle.mf_model.specs.declared.store.CatalogueCounts.{CatalogueCounts}
-use Rattle.mf_model.specs.declared.commit.Commit.TheVariants.{AddOffice, AddStaff, AddClient, SetDay, AddCharge, AddProduct, RetireProduct, AddLoan, SetStage, Enter, Reverse}
+use Rattle.mf_model.specs.declared.commit.Commit.TheVariants.{AddOffice, AddStaff, AddClient, SetDay, AddCharge, AddProduct, RetireProduct, AddLoan, SetStage, AddEntry, ReverseEntry}
 use Rattle.mf_model.specs.Institution.{Institution, Charge, Offer, Office, Rows, Staff, item_numbered, product_of, office_at, with_rows, with_office, new_office, after, Rows_become}
 use Rattle.mf_model.specs.Desk.{staff_added, client_added, loan_added, loan_staged, loan_entered}
 use Rattle.mf_account.specs.Change.{Account as Kept}
@@ -159,7 +159,7 @@ stage_tells account stage i =
     (λ t. record { staff = length rows.staff; clients = length rows.clients; loans = length_with account.number (with_stage stage) rows.loans t })
     (λ n s h. h)
 
-pub entry_tells : (loan : Account) (account : Kept) (i : Institution) → Tells Nothing i (after_commit (Enter loan account) i)
+pub entry_tells : (loan : Account) (account : Kept) (i : Institution) → Tells Nothing i (after_commit (AddEntry loan account) i)
 entry_tells loan account i =
     let rows = rows_at loan.office i in
     rows_tell_nothing loan.office (loan_entered loan.number account.loan.entries rows) i
@@ -167,7 +167,7 @@ entry_tells loan account i =
     (λ n s h. h)
 
 -- a reversal changes the same rows
-pub reversal_tells : (loan : Account) (seq : ℕ) (account : Kept) (i : Institution) → Tells Nothing i (after_commit (Reverse loan seq account) i)
+pub reversal_tells : (loan : Account) (seq : ℕ) (account : Kept) (i : Institution) → Tells Nothing i (after_commit (ReverseEntry loan seq account) i)
 reversal_tells loan seq account i = entry_tells loan account i
 
 new_rows : (new : Office) (fs : List Office) → office_at new.number fs ≡ None → rows_of (office_at new.number (with_office new fs)) ≡ new.rows

@@ -1,10 +1,14 @@
 -- The institution that a store stands for.
-use Rattle.std.specs.Prelude.{◌<◌, ◌-◌, ◌^◌, ℕ, List, Some, IsTrue}
+use Rattle.std.specs.Prelude.{◌≡◌, ◌<◌, ◌-◌, ◌^◌, ℕ, List, Some, IsTrue, Result, OnOk, IfErr}
+use Rattle.mf_base.specs.declared.fault.Fault.{Fault}
+use Rattle.mf_base.specs.declared.fault.Fault.TheVariants.{F20}
 use Rattle.sqlite.specs.Held.{Held, state}
 use Rattle.sqlite_trees.specs.declared.store.Store.{Ghosts}
 use Rattle.mf_store_tables.specs.Writes.{Serves}
 use Rattle.mf_model.specs.Institution.{Institution}
 use Rattle.mf_model.specs.Sound.{IsSound}
+use Rattle.mf_model.specs.Store.{Commits}
+use Rattle.mf_model.specs.declared.commit.Commit.{Commit}
 use Rattle.mf_store_records.specs.Calls.{IsOpenUpTo}
 use Rattle.mf_store.specs.Facts.{KnownStore, AreTrueOf}
 use Rattle.mf_store_accounts.specs.Flat.{tables_of}
@@ -44,3 +48,21 @@ module _ {S : Type 0} (g : Ghosts S) where
     pub shuts : FaultsAloneShut old new
     pub same : IsClean new → (i : Institution) → StandsFor old i → StandsFor new i
     pub stop : IsClean new → (is : List Institution) → Leaves old is → Leaves new is
+
+  -- A call that asks the tables and changes nothing: it gives up with F20 alone, and where it answers it is open.
+  pub record AsksTables {R : Type 0} (old new : KnownStore S) (result : Result R Fault) : Type 0 where
+    pub kept : Stays old new
+    pub gives_up : IfErr result (λ fault. fault ≡ F20)
+    pub stays_open : IsClean new → OnOk result (IsOpen new)
+
+  -- the same of a call that may know the answer beside its tables: where it answers it is open if it was
+  pub record MayAskTables {R : Type 0} (old new : KnownStore S) (result : Result R Fault) : Type 0 where
+    pub kept : Stays old new
+    pub gives_up : IfErr result (λ fault. fault ≡ F20)
+    pub stays_open : IsClean new → IsOpen old → OnOk result (IsOpen new)
+
+  -- A commit that is made whole or, giving up, not at all: where it is made the store is open, and only a fault of the disk shuts it.
+  pub record MakesCommit (commit : Commit) (old new : KnownStore S) (result : Result (Unit {0}) Fault) : Type 0 where
+    pub commits : Commits StandsFor IsClean Leaves commit old new result
+    pub shuts : FaultsAloneShut old new
+    pub stays_open : IsClean new → OnOk result (IsOpen new)

@@ -9,13 +9,11 @@ ghost use Rattle.mf_catalog.specs.Product.{charge_of};
 ghost use Rattle.mf_model.specs.Accounts.{running_from, terms_in, status_in};
 ghost use Rattle.mf_model.specs.Institution.{Institution, Ledger as ModelLedger, charge_in};
 ghost use Rattle.mf_model.specs.Stages.{disbursed_on};
-ghost use Rattle.mf_model.specs.Store.{Commits, loan_at, ledger_at, account_at, loans_at};
-ghost use Rattle.mf_model.specs.declared.commit.Commit.TheVariants.{Enter, Reverse};
+ghost use Rattle.mf_model.specs.Store.{loan_at, ledger_at, account_at, loans_at};
 ghost use Rattle.mf_store_changes.specs.ChangeWrites.{schedule_put};
 ghost use Rattle.mf_store_accounts.specs.Flat.{loan_in, line_in, entries_of, instalments_kept, kept_of};
 ghost use Rattle.mf_store_records.specs.Rows.{loan_row as loan_stored};
 
-use crate::known::News;
 use crate::store::Store;
 use mf_account::status::ACTIVE;
 use mf_account::{Entry, LoanAccount};
@@ -23,7 +21,7 @@ use mf_base::{Day, Fault};
 use mf_catalog::{ChargeDef, Terms};
 use mf_model::{Loan, LoanLine, LoanList};
 use mf_office::{Account, OfficeNo};
-use mf_store_changes::{put_change, put_schedule, row_of_entry, writes_of};
+use mf_store_changes::put_schedule;
 use mf_store_records::{EntryRow, StoreWrite};
 use mf_store_values::{
     disbursal_day, entries_from, is_active, loan_in_row, settled_status, stored,
@@ -32,13 +30,11 @@ use sqlite::{Alter, Row};
 use std::alloc::Global;
 
 impl<S: Alter> Store<S> {
-    ghost use Rattle.mf_store.specs.Stands.{StandsFor, IsClean, Leaves, Stays, IsOpen, FaultsAloneShut};
+    ghost use Rattle.mf_store.specs.Stands.{StandsFor, IsClean, Stays, AsksTables, MayAskTables};
 
     /// The entries of a loan, by number; none where it isn't there.
     pub(crate) fn entries_at(&mut self, alloc: Global, loan: Account) -> Result<Vec<Entry>, Fault>
-        ensures kept { Stays S.Store self.old self.new }
-        ensures gives_up { IfErr result (λ fault. fault ≡ F20) }
-        ensures open { IsClean S.Store self.new → OnOk result (IsOpen S.Store self.new) }
+        ensures asks { AsksTables S.Store self.old self.new result }
         ensures value { IsClean S.Store self.new → (i : Institution) → StandsFor S.Store self.old i → IfOk result (λ list. list.items ≡ entries_of (ledger_at loan i)) }
     {
         let rows = self.list::<EntryRow>((loan.office.get(), loan.number.get()))?;
@@ -47,25 +43,21 @@ impl<S: Alter> Store<S> {
 
     /// The charge that a product names, if it names one.
     fn named_charge(&mut self, number: Option<u32>) -> Result<Option<ChargeDef>, Fault>
-        ensures kept { Stays S.Store self.old self.new }
-        ensures gives_up { IfErr result (λ fault. fault ≡ F20) }
-        ensures open { IsClean S.Store self.new → IsOpen S.Store self.old → OnOk result (IsOpen S.Store self.new) }
+        ensures asks { MayAskTables S.Store self.old self.new result }
         ensures value { IsClean S.Store self.new → (i : Institution) → StandsFor S.Store self.old i → IfOk result (λ charge. charge ≡ charge_of (charge_in i.catalogue) number) }
     {
         match number {
             None => Ok(None),
-            Some(number) => self.charge_at(number),
+            Some(number) => self.charge(number),
         }
     }
 
     /// The terms that a product gives its loans, or None where there is no such product.
     fn terms_of(&mut self, product: u32) -> Result<Option<Terms>, Fault>
-        ensures kept { Stays S.Store self.old self.new }
-        ensures gives_up { IfErr result (λ fault. fault ≡ F20) }
-        ensures open { IsClean S.Store self.new → IsOpen S.Store self.old → OnOk result (IsOpen S.Store self.new) }
+        ensures asks { MayAskTables S.Store self.old self.new result }
         ensures value { IsClean S.Store self.new → (i : Institution) → StandsFor S.Store self.old i → IfOk result (λ terms. terms ≡ terms_in i.catalogue product) }
     {
-        let Some(product) = self.product_at(product)? else {
+        let Some(product) = self.product(product)? else {
             return Ok(None);
         };
         let members = product.members;
@@ -83,9 +75,7 @@ impl<S: Alter> Store<S> {
         day: Day,
         entries: Vec<Entry>,
     ) -> Result<LoanAccount, Fault>
-        ensures kept { Stays S.Store self.old self.new }
-        ensures gives_up { IfErr result (λ fault. fault ≡ F20) }
-        ensures open { IsClean S.Store self.new → IsOpen S.Store self.old → OnOk result (IsOpen S.Store self.new) }
+        ensures asks { MayAskTables S.Store self.old self.new result }
         ensures value { IsClean S.Store self.new → (i : Institution) → StandsFor S.Store self.old i
             → IfOk result (λ account. option_map account_by_replay (running_from loan.now entries.items (Some day) (terms_in i.catalogue loan.now.product)) ≡ Some account) }
     {
@@ -111,9 +101,7 @@ impl<S: Alter> Store<S> {
         loan: &Loan,
         day: Day,
     ) -> Result<LoanAccount, Fault>
-        ensures kept { Stays S.Store self.old self.new }
-        ensures gives_up { IfErr result (λ fault. fault ≡ F20) }
-        ensures open { IsClean S.Store self.new → OnOk result (IsOpen S.Store self.new) }
+        ensures asks { AsksTables S.Store self.old self.new result }
         ensures value { IsClean S.Store self.new → (i : Institution) → StandsFor S.Store self.old i → loan_at account i ≡ Some loan.now
             → disbursed_on loan.now.stage ≡ Some day → IfOk result (λ resumed. account_at account i ≡ Some resumed) }
     {
@@ -159,18 +147,12 @@ impl<S: Alter> Store<S> {
     }
 
     /// The account of a loan, or None where there is no such loan or it is not disbursed.
-    pub fn account_of(
-        &mut self,
-        alloc: Global,
-        account: Account,
-    ) -> Result<Option<LoanAccount>, Fault>
-        ensures kept { Stays S.Store self.old self.new }
-        ensures gives_up { IfErr result (λ fault. fault ≡ F20) }
-        ensures open { IsClean S.Store self.new → OnOk result (IsOpen S.Store self.new) }
+    pub fn account(&mut self, alloc: Global, account: Account) -> Result<Option<LoanAccount>, Fault>
+        ensures asks { AsksTables S.Store self.old self.new result }
         ensures value { IsClean S.Store self.new → (i : Institution) → StandsFor S.Store self.old i → IfOk result (λ found. found ≡ account_at account i) }
     {
         let Account { office, number } = account;
-        let Some(loan) = self.loan_at(Account { office, number })? else {
+        let Some(loan) = self.loan(Account { office, number })? else {
             return Ok(None);
         };
         let Some(day) = disbursal_day(&loan) else {
@@ -183,9 +165,7 @@ impl<S: Alter> Store<S> {
     /// The status of a loan that is there and was disbursed. Its entries are asked for only where nothing is outstanding in the
     /// instalments that are kept, and they are not replayed.
     fn disbursed_status(&mut self, alloc: Global, account: Account) -> Result<u16, Fault>
-        ensures kept { Stays S.Store self.old self.new }
-        ensures gives_up { IfErr result (λ fault. fault ≡ F20) }
-        ensures open { IsClean S.Store self.new → OnOk result (IsOpen S.Store self.new) }
+        ensures asks { AsksTables S.Store self.old self.new result }
         ensures value { IsClean S.Store self.new → (i : Institution) → StandsFor S.Store self.old i → (l : ModelLedger) → ledger_at account i ≡ Some l
             → (day : ℕ) → disbursed_on l.loan.stage ≡ Some day → IfOk result (λ status. status ≡ status_in i.catalogue l) }
     {
@@ -200,9 +180,7 @@ impl<S: Alter> Store<S> {
 
     /// The status of a loan that is there: its stage's number, or what its account says.
     fn status_of(&mut self, alloc: Global, account: Account, loan: &Loan) -> Result<u16, Fault>
-        ensures kept { Stays S.Store self.old self.new }
-        ensures gives_up { IfErr result (λ fault. fault ≡ F20) }
-        ensures open { IsClean S.Store self.new → IsOpen S.Store self.old → OnOk result (IsOpen S.Store self.new) }
+        ensures asks { MayAskTables S.Store self.old self.new result }
         ensures value { IsClean S.Store self.new → (i : Institution) → StandsFor S.Store self.old i → (l : ModelLedger) → ledger_at account i ≡ Some l
             → l.loan ≡ loan.now → IfOk result (λ status. status ≡ status_in i.catalogue l) }
     {
@@ -214,9 +192,7 @@ impl<S: Alter> Store<S> {
 
     /// The line of a loan's row, in a list of loans.
     fn line_of(&mut self, alloc: Global, row: &Row) -> Result<LoanLine, Fault>
-        ensures kept { Stays S.Store self.old self.new }
-        ensures gives_up { IfErr result (λ fault. fault ≡ F20) }
-        ensures open { IsClean S.Store self.new → IsOpen S.Store self.old → OnOk result (IsOpen S.Store self.new) }
+        ensures asks { MayAskTables S.Store self.old self.new result }
         ensures value { IsClean S.Store self.new → (i : Institution) → StandsFor S.Store self.old i → (office number : ℕ) (l : ModelLedger)
             → row.now ≡ loan_stored (loan_in office number l.loan) → ledger_at (record { office = office; number = number }) i ≡ Some l
             → IfOk result (λ line. line ≡ line_in i.catalogue office number l) }
@@ -232,9 +208,7 @@ impl<S: Alter> Store<S> {
 
     /// The lines of rows of loans, in order.
     fn lines_of(&mut self, alloc: Global, rows: &[Row]) -> Result<LoanList, Fault>
-        ensures kept { Stays S.Store self.old self.new }
-        ensures gives_up { IfErr result (λ fault. fault ≡ F20) }
-        ensures open { IsClean S.Store self.new → IsOpen S.Store self.old → OnOk result (IsOpen S.Store self.new) }
+        ensures asks { MayAskTables S.Store self.old self.new result }
         ensures value { IsClean S.Store self.new → (i : Institution) → StandsFor S.Store self.old i → (office : ℕ) (ls : List (ℕ × ModelLedger)) → AllByRecursion (λ l. ledger_at (record { office = office; number = l.0 }) i ≡ Some l.1) ls
             → rows.now ≡ map (λ l. loan_stored (loan_in office l.0 l.1.loan)) ls → IfOk result (λ list. list ≡ map (λ l. line_in i.catalogue office l.0 l.1) ls) }
     {
@@ -248,15 +222,8 @@ impl<S: Alter> Store<S> {
 
     /// The first 100 loans of an office whose number is above one, by number: one query over the range of their keys,
     /// and for each disbursed one that of its instalments, and of its entries where none of these is open.
-    pub fn loans_above(
-        &mut self,
-        alloc: Global,
-        office: OfficeNo,
-        after: u32,
-    ) -> Result<LoanList, Fault>
-        ensures kept { Stays S.Store self.old self.new }
-        ensures gives_up { IfErr result (λ fault. fault ≡ F20) }
-        ensures open { IsClean S.Store self.new → OnOk result (IsOpen S.Store self.new) }
+    pub fn loans(&mut self, alloc: Global, office: OfficeNo, after: u32) -> Result<LoanList, Fault>
+        ensures asks { AsksTables S.Store self.old self.new result }
         ensures value { IsClean S.Store self.new → (i : Institution) → StandsFor S.Store self.old i → IfOk result (λ list. list ≡ loans_at office after i) }
     {
         let rows = self.rows_above(office.get(), after)?;

@@ -1,8 +1,7 @@
 //! The active loans of offices, by days overdue, from the instalments that are kept: one query an office, one row held at
 //! a time.
 
-ghost use Rattle.std.specs.Prelude.{◌≡◌, map, OnOk, IfOk, IfErr};
-ghost use Rattle.mf_base.specs.declared.fault.Fault.TheVariants.{F20};
+ghost use Rattle.std.specs.Prelude.{◌≡◌, map, IfOk};
 ghost use Rattle.mf_arrears.specs.Line.{line_of as line_of_loans};
 ghost use Rattle.mf_model.specs.Arrears.{active_in, arrears_seen};
 ghost use Rattle.mf_model.specs.Institution.{Institution};
@@ -18,13 +17,11 @@ use sqlite::Alter;
 use std::alloc::Global;
 
 impl<S: Alter> Store<S> {
-    ghost use Rattle.mf_store.specs.Stands.{StandsFor, IsClean, Stays, IsOpen};
+    ghost use Rattle.mf_store.specs.Stands.{StandsFor, IsClean, MayAskTables};
 
     /// An office's line on a day.
     fn office_line(&mut self, office: OfficeNo, today: Day) -> Result<OfficeLine, Fault>
-        ensures kept { Stays S.Store self.old self.new }
-        ensures gives_up { IfErr result (λ fault. fault ≡ F20) }
-        ensures open { IsClean S.Store self.new → IsOpen S.Store self.old → OnOk result (IsOpen S.Store self.new) }
+        ensures asks { MayAskTables S.Store self.old self.new result }
         ensures value { IsClean S.Store self.new → (i : Institution) → StandsFor S.Store self.old i → today ≡ i.catalogue.day
             → IfOk result (λ line. line ≡ line_of_loans office (active_in i.catalogue (rows_at office i).loans)) }
     {
@@ -38,9 +35,7 @@ impl<S: Alter> Store<S> {
         offices: &[Office],
         today: Day,
     ) -> Result<ArrearsList, Fault>
-        ensures kept { Stays S.Store self.old self.new }
-        ensures gives_up { IfErr result (λ fault. fault ≡ F20) }
-        ensures open { IsClean S.Store self.new → IsOpen S.Store self.old → OnOk result (IsOpen S.Store self.new) }
+        ensures asks { MayAskTables S.Store self.old self.new result }
         ensures value { IsClean S.Store self.new → (i : Institution) → StandsFor S.Store self.old i → today ≡ i.catalogue.day
             → IfOk result (λ list. list ≡ map (line_at i) offices.now) }
     {
@@ -53,14 +48,12 @@ impl<S: Alter> Store<S> {
     }
 
     /// The lines of the offices at or below one, by number, on the business day.
-    pub fn lines_below(&mut self, alloc: Global, to: OfficeNo) -> Result<ArrearsList, Fault>
-        ensures kept { Stays S.Store self.old self.new }
-        ensures gives_up { IfErr result (λ fault. fault ≡ F20) }
-        ensures open { IsClean S.Store self.new → IsOpen S.Store self.old → OnOk result (IsOpen S.Store self.new) }
+    pub fn office_lines(&mut self, alloc: Global, to: OfficeNo) -> Result<ArrearsList, Fault>
+        ensures asks { MayAskTables S.Store self.old self.new result }
         ensures value { IsClean S.Store self.new → (i : Institution) → StandsFor S.Store self.old i → IfOk result (λ list. list ≡ arrears_seen to i) }
     {
         let offices = self.offices(alloc, to)?;
-        let today = self.today()?;
+        let today = self.business_day()?;
         self.lines_of_offices(alloc, offices.as_slice(), today)
     }
 }

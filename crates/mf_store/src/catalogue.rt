@@ -1,9 +1,8 @@
 //! The catalogue: its charges and products by number, and the commits that change it.
 
-ghost use Rattle.std.specs.Prelude.{◌≡◌, OnOk, IfOk, IfErr};
-ghost use Rattle.mf_base.specs.declared.fault.Fault.TheVariants.{F20};
+ghost use Rattle.std.specs.Prelude.{◌≡◌, IfOk};
 ghost use Rattle.mf_model.specs.Institution.{Institution, charge_in, product_in};
-ghost use Rattle.mf_model.specs.Store.{Commits, catalogue_counts};
+ghost use Rattle.mf_model.specs.Store.{catalogue_counts};
 ghost use Rattle.mf_model.specs.declared.commit.Commit.TheVariants.{SetDay, AddCharge, AddProduct, RetireProduct};
 
 use crate::counts::{Kind, MOST};
@@ -19,13 +18,11 @@ use sqlite::Alter;
 use std::alloc::Global;
 
 impl<S: Alter> Store<S> {
-    ghost use Rattle.mf_store.specs.Stands.{StandsFor, IsClean, Leaves, Stays, IsOpen, FaultsAloneShut};
+    ghost use Rattle.mf_store.specs.Stands.{StandsFor, IsClean, AsksTables, MayAskTables, MakesCommit};
 
     /// How many charges and products the catalogue has: one less than their next numbers.
-    pub fn count_catalogue(&mut self) -> Result<CatalogueCounts, Fault>
-        ensures kept { Stays S.Store self.old self.new }
-        ensures gives_up { IfErr result (λ fault. fault ≡ F20) }
-        ensures open { IsClean S.Store self.new → IsOpen S.Store self.old → OnOk result (IsOpen S.Store self.new) }
+    pub fn catalogue_counts(&mut self) -> Result<CatalogueCounts, Fault>
+        ensures asks { MayAskTables S.Store self.old self.new result }
         ensures value { IsClean S.Store self.new → (i : Institution) → StandsFor S.Store self.old i → IfOk result (λ counts. counts ≡ catalogue_counts i) }
     {
         if let Some(counts) = self.known_catalogue() {
@@ -39,10 +36,8 @@ impl<S: Alter> Store<S> {
     }
 
     /// A charge, or None where there is none with this number.
-    pub fn charge_at(&mut self, number: u32) -> Result<Option<ChargeDef>, Fault>
-        ensures kept { Stays S.Store self.old self.new }
-        ensures gives_up { IfErr result (λ fault. fault ≡ F20) }
-        ensures open { IsClean S.Store self.new → OnOk result (IsOpen S.Store self.new) }
+    pub fn charge(&mut self, number: u32) -> Result<Option<ChargeDef>, Fault>
+        ensures asks { AsksTables S.Store self.old self.new result }
         ensures value { IsClean S.Store self.new → (i : Institution) → StandsFor S.Store self.old i → IfOk result (λ charge. charge ≡ charge_in i.catalogue number) }
     {
         let Some(row) = self.find_charge(number)? else {
@@ -54,9 +49,7 @@ impl<S: Alter> Store<S> {
 
     /// A product as the tables keep it, or None where none has this number.
     fn read_product(&mut self, number: u32) -> Result<Option<Product>, Fault>
-        ensures kept { Stays S.Store self.old self.new }
-        ensures gives_up { IfErr result (λ fault. fault ≡ F20) }
-        ensures open { IsClean S.Store self.new → OnOk result (IsOpen S.Store self.new) }
+        ensures asks { AsksTables S.Store self.old self.new result }
         ensures value { IsClean S.Store self.new → (i : Institution) → StandsFor S.Store self.old i → IfOk result (λ product. product ≡ product_in i.catalogue number) }
     {
         let Some(row) = self.find_product(number)? else {
@@ -67,10 +60,8 @@ impl<S: Alter> Store<S> {
     }
 
     /// A product, or None where there is none with this number.
-    pub fn product_at(&mut self, number: u32) -> Result<Option<Product>, Fault>
-        ensures kept { Stays S.Store self.old self.new }
-        ensures gives_up { IfErr result (λ fault. fault ≡ F20) }
-        ensures open { IsClean S.Store self.new → IsOpen S.Store self.old → OnOk result (IsOpen S.Store self.new) }
+    pub fn product(&mut self, number: u32) -> Result<Option<Product>, Fault>
+        ensures asks { MayAskTables S.Store self.old self.new result }
         ensures value { IsClean S.Store self.new → (i : Institution) → StandsFor S.Store self.old i → IfOk result (λ product. product ≡ product_in i.catalogue number) }
     {
         if let Some(product) = self.known_product(number) {
@@ -87,9 +78,7 @@ impl<S: Alter> Store<S> {
 
     /// Makes this the business day.
     pub fn set_day(&mut self, alloc: Global, day: Day) -> Result<(), Fault>
-        ensures commits { Commits (StandsFor S.Store) (IsClean S.Store) (Leaves S.Store) (SetDay day) self.old self.new result }
-        ensures shuts { FaultsAloneShut S.Store self.old self.new }
-        ensures open { IsClean S.Store self.new → OnOk result (IsOpen S.Store self.new) }
+        ensures { MakesCommit S.Store (SetDay day) self.old self.new result }
     {
         let text = day.text(alloc)?;
         let meta = MetaRow {
@@ -108,11 +97,9 @@ impl<S: Alter> Store<S> {
         calc: Calc,
         value: u64,
     ) -> Result<(), Fault>
-        ensures commits { Commits (StandsFor S.Store) (IsClean S.Store) (Leaves S.Store) (AddCharge name kind calc value) self.old self.new result }
-        ensures shuts { FaultsAloneShut S.Store self.old self.new }
-        ensures open { IsClean S.Store self.new → OnOk result (IsOpen S.Store self.new) }
+        ensures { MakesCommit S.Store (AddCharge name kind calc value) self.old self.new result }
     {
-        let counts = self.count_catalogue()?;
+        let counts = self.catalogue_counts()?;
         if counts.charges > MOST {
             return Err(Fault::F20);
         }
@@ -127,11 +114,9 @@ impl<S: Alter> Store<S> {
 
     /// Adds a product, under the next number.
     pub fn add_product(&mut self, members: ProductMembers) -> Result<(), Fault>
-        ensures commits { Commits (StandsFor S.Store) (IsClean S.Store) (Leaves S.Store) (AddProduct members) self.old self.new result }
-        ensures shuts { FaultsAloneShut S.Store self.old self.new }
-        ensures open { IsClean S.Store self.new → OnOk result (IsOpen S.Store self.new) }
+        ensures { MakesCommit S.Store (AddProduct members) self.old self.new result }
     {
-        let counts = self.count_catalogue()?;
+        let counts = self.catalogue_counts()?;
         if counts.products > MOST {
             return Err(Fault::F20);
         }
@@ -146,9 +131,7 @@ impl<S: Alter> Store<S> {
 
     /// Retires a product that is there.
     pub fn retire_product(&mut self, product: u32) -> Result<(), Fault>
-        ensures commits { Commits (StandsFor S.Store) (IsClean S.Store) (Leaves S.Store) (RetireProduct product) self.old self.new result }
-        ensures shuts { FaultsAloneShut S.Store self.old self.new }
-        ensures open { IsClean S.Store self.new → OnOk result (IsOpen S.Store self.new) }
+        ensures { MakesCommit S.Store (RetireProduct product) self.old self.new result }
     {
         let Some(found) = self.find_product(product)? else {
             return Err(Fault::F20);

@@ -1,10 +1,8 @@
 //! Commits: each is one change of the institution, made whole or, with F20, not at all. A stop during the call leaves
 //! what it could before, or the change.
 
-ghost use Rattle.std.specs.Prelude.{◌≡◌, IfErr, OnOk, IfOk};
-ghost use Rattle.mf_base.specs.declared.fault.Fault.TheVariants.{F20};
+ghost use Rattle.std.specs.Prelude.{◌≡◌, IfOk};
 ghost use Rattle.mf_model.specs.Institution.{Institution};
-ghost use Rattle.mf_model.specs.Store.{Commits};
 ghost use Rattle.mf_model.specs.Tree.{is_there};
 ghost use Rattle.mf_model.specs.declared.commit.Commit.TheVariants.{AddOffice, AddStaff, AddClient};
 
@@ -19,13 +17,11 @@ use sqlite::Alter;
 use std::alloc::Global;
 
 impl<S: Alter> Store<S> {
-    ghost use Rattle.mf_store.specs.Stands.{StandsFor, IsClean, Leaves, Stays, IsOpen, FaultsAloneShut};
+    ghost use Rattle.mf_store.specs.Stands.{StandsFor, IsClean, MayAskTables, MakesCommit};
 
     /// Whether an office is there.
     pub(crate) fn has_office(&mut self, number: u32) -> Result<bool, Fault>
-        ensures kept { Stays S.Store self.old self.new }
-        ensures gives_up { IfErr result (λ fault. fault ≡ F20) }
-        ensures open { IsClean S.Store self.new → IsOpen S.Store self.old → OnOk result (IsOpen S.Store self.new) }
+        ensures asks { MayAskTables S.Store self.old self.new result }
         ensures value { IsClean S.Store self.new → (i : Institution) → StandsFor S.Store self.old i → IfOk result (λ there. there ≡ is_there i.offices number) }
     {
         if self.knows_office(number) {
@@ -43,9 +39,7 @@ impl<S: Alter> Store<S> {
         parent: OfficeNo,
         name: Name,
     ) -> Result<(), Fault>
-        ensures commits { Commits (StandsFor S.Store) (IsClean S.Store) (Leaves S.Store) (AddOffice number parent name) self.old self.new result }
-        ensures shuts { FaultsAloneShut S.Store self.old self.new }
-        ensures open { IsClean S.Store self.new → OnOk result (IsOpen S.Store self.new) }
+        ensures { MakesCommit S.Store (AddOffice number parent name) self.old self.new result }
     {
         laws::tree_of_offices();
         let parent = parent.get();
@@ -68,9 +62,7 @@ impl<S: Alter> Store<S> {
 
     /// Adds a member of staff of an office that is there, under the next number.
     pub fn add_staff(&mut self, office: OfficeNo, name: Name, role: Role) -> Result<(), Fault>
-        ensures commits { Commits (StandsFor S.Store) (IsClean S.Store) (Leaves S.Store) (AddStaff office name role) self.old self.new result }
-        ensures shuts { FaultsAloneShut S.Store self.old self.new }
-        ensures open { IsClean S.Store self.new → OnOk result (IsOpen S.Store self.new) }
+        ensures { MakesCommit S.Store (AddStaff office name role) self.old self.new result }
     {
         let office = office.get();
         let counts = self.counts_there(office)?;
@@ -96,9 +88,7 @@ impl<S: Alter> Store<S> {
 
     /// Adds a client of an office that is there, under the next number.
     pub fn add_client(&mut self, office: OfficeNo, name: Name) -> Result<(), Fault>
-        ensures commits { Commits (StandsFor S.Store) (IsClean S.Store) (Leaves S.Store) (AddClient office name) self.old self.new result }
-        ensures shuts { FaultsAloneShut S.Store self.old self.new }
-        ensures open { IsClean S.Store self.new → OnOk result (IsOpen S.Store self.new) }
+        ensures { MakesCommit S.Store (AddClient office name) self.old self.new result }
     {
         let office = office.get();
         let counts = self.counts_there(office)?;

@@ -1,8 +1,7 @@
 //! The last number of an office's staff, clients or loans, or of the catalogue's charges or products. Numbers run from
 //! 1 without gaps, so look-ups by key find it: the cost is a logarithm of how many there are, and nothing else is read.
 
-ghost use Rattle.std.specs.Prelude.{◌≡◌, ◌<◌, ◌≤◌, ◌↔◌, true, IsTrue, OnOk, IfOk, IfErr};
-ghost use Rattle.mf_base.specs.declared.fault.Fault.TheVariants.{F20};
+ghost use Rattle.std.specs.Prelude.{◌≡◌, ◌<◌, ◌≤◌, ◌↔◌, true, IsTrue, IfOk};
 ghost use Rattle.mf_model.specs.Institution.{Institution};
 ghost use Rattle.mf_model.specs.Store.{counts_at};
 ghost use Rattle.mf_model.specs.Tree.{is_there};
@@ -12,6 +11,7 @@ use crate::known::News;
 use crate::store::Store;
 use mf_base::Fault;
 use mf_model::Counts;
+use mf_office::AccountNo;
 use sqlite::Alter;
 
 /// What is numbered from 1: rows of one office, or of the catalogue.
@@ -25,16 +25,14 @@ pub enum Kind {
 }
 
 /// The greatest number of a kind that is looked for: an office has at most so many clients, and as many loans.
-pub(crate) const MOST: u32 = 999_999;
+pub(crate) const MOST: u32 = AccountNo::MAX;
 
 impl<S: Alter> Store<S> {
-    ghost use Rattle.mf_store.specs.Stands.{StandsFor, IsClean, Stays, IsOpen};
+    ghost use Rattle.mf_store.specs.Stands.{StandsFor, IsClean, AsksTables, MayAskTables};
 
     /// Whether there is one of the kind with this number.
     fn has(&mut self, kind: Kind, number: u32) -> Result<bool, Fault>
-        ensures kept { Stays S.Store self.old self.new }
-        ensures gives_up { IfErr result (λ fault. fault ≡ F20) }
-        ensures open { IsClean S.Store self.new → OnOk result (IsOpen S.Store self.new) }
+        ensures asks { AsksTables S.Store self.old self.new result }
         ensures value { IsClean S.Store self.new → (i : Institution) → StandsFor S.Store self.old i
             → IfOk result (λ there. IsTrue there ↔ ((1 ≤ number) × (number ≤ count_of kind i))) }
     {
@@ -49,9 +47,7 @@ impl<S: Alter> Store<S> {
 
     /// A number above the last, at most twice it.
     fn above_last(&mut self, kind: Kind) -> Result<u32, Fault>
-        ensures kept { Stays S.Store self.old self.new }
-        ensures gives_up { IfErr result (λ fault. fault ≡ F20) }
-        ensures open { IsClean S.Store self.new → IsOpen S.Store self.old → OnOk result (IsOpen S.Store self.new) }
+        ensures asks { MayAskTables S.Store self.old self.new result }
         ensures bound { IfOk result (λ high. (0 < high) × (high ≤ 2_000_000)) }
         ensures value { IsClean S.Store self.new → (i : Institution) → StandsFor S.Store self.old i → IfOk result (λ high. count_of kind i < high) }
     {
@@ -68,9 +64,7 @@ impl<S: Alter> Store<S> {
     /// The last number, which lies below `bound`.
     fn last_below(&mut self, kind: Kind, bound: u32) -> Result<u32, Fault>
         requires { 0 < bound }
-        ensures kept { Stays S.Store self.old self.new }
-        ensures gives_up { IfErr result (λ fault. fault ≡ F20) }
-        ensures open { IsClean S.Store self.new → IsOpen S.Store self.old → OnOk result (IsOpen S.Store self.new) }
+        ensures asks { MayAskTables S.Store self.old self.new result }
         ensures below { IfOk result (λ last. last < bound) }
         ensures value { IsClean S.Store self.new → (i : Institution) → StandsFor S.Store self.old i → count_of kind i < bound → IfOk result (λ last. last ≡ count_of kind i) }
     {
@@ -90,9 +84,7 @@ impl<S: Alter> Store<S> {
 
     /// How many of the kind there are.
     pub(crate) fn last_number(&mut self, kind: Kind) -> Result<u32, Fault>
-        ensures kept { Stays S.Store self.old self.new }
-        ensures gives_up { IfErr result (λ fault. fault ≡ F20) }
-        ensures open { IsClean S.Store self.new → IsOpen S.Store self.old → OnOk result (IsOpen S.Store self.new) }
+        ensures asks { MayAskTables S.Store self.old self.new result }
         ensures bound { IfOk result (λ last. last < 2_000_000) }
         ensures value { IsClean S.Store self.new → (i : Institution) → StandsFor S.Store self.old i → IfOk result (λ last. last ≡ count_of kind i) }
     {
@@ -102,9 +94,7 @@ impl<S: Alter> Store<S> {
 
     /// How many rows an office has, as the tables tell.
     fn search_counts(&mut self, office: u32) -> Result<Counts, Fault>
-        ensures kept { Stays S.Store self.old self.new }
-        ensures gives_up { IfErr result (λ fault. fault ≡ F20) }
-        ensures open { IsClean S.Store self.new → IsOpen S.Store self.old → OnOk result (IsOpen S.Store self.new) }
+        ensures asks { MayAskTables S.Store self.old self.new result }
         ensures value { IsClean S.Store self.new → (i : Institution) → StandsFor S.Store self.old i → IfOk result (λ counts. counts ≡ counts_at office i) }
     {
         let staff = self.last_number(Kind::Staff(office))?;
@@ -119,9 +109,7 @@ impl<S: Alter> Store<S> {
 
     /// How many rows an office has: the tables are asked at most once.
     pub(crate) fn counts_of(&mut self, office: u32) -> Result<Counts, Fault>
-        ensures kept { Stays S.Store self.old self.new }
-        ensures gives_up { IfErr result (λ fault. fault ≡ F20) }
-        ensures open { IsClean S.Store self.new → IsOpen S.Store self.old → OnOk result (IsOpen S.Store self.new) }
+        ensures asks { MayAskTables S.Store self.old self.new result }
         ensures value { IsClean S.Store self.new → (i : Institution) → StandsFor S.Store self.old i → IfOk result (λ counts. counts ≡ counts_at office i) }
     {
         if let Some(counts) = self.known_counts(office) {
@@ -135,9 +123,7 @@ impl<S: Alter> Store<S> {
 
     /// How many rows an office has that is there; where it isn't, the call gives up.
     pub(crate) fn counts_there(&mut self, office: u32) -> Result<Counts, Fault>
-        ensures kept { Stays S.Store self.old self.new }
-        ensures gives_up { IfErr result (λ fault. fault ≡ F20) }
-        ensures open { IsClean S.Store self.new → IsOpen S.Store self.old → OnOk result (IsOpen S.Store self.new) }
+        ensures asks { MayAskTables S.Store self.old self.new result }
         ensures value { IsClean S.Store self.new → (i : Institution) → StandsFor S.Store self.old i
             → IfOk result (λ counts. (is_there i.offices office ≡ true) × (counts ≡ counts_at office i)) }
     {

@@ -1,7 +1,6 @@
-//! The store as the desk sees it.
+//! The store as the desk sees it: each call of the trait is the store's own of that name, whose contract says more.
 
-ghost use Rattle.std.specs.Prelude.{◌≡◌, OnOk, IfOk, IfErr};
-ghost use Rattle.mf_base.specs.declared.fault.Fault.TheVariants.{F20};
+ghost use Rattle.std.specs.Prelude.{◌≡◌, IfOk};
 ghost use Rattle.mf_model.specs.Institution.{Institution};
 
 use crate::store::Store;
@@ -19,13 +18,11 @@ use std::alloc::Global;
 
 impl<S: Alter> Store<S> {
     ghost use Rattle.mf_model.specs.Store.{role_of, counts_at, client_at};
-    ghost use Rattle.mf_store.specs.Stands.{StandsFor, IsClean, Stays, IsOpen};
+    ghost use Rattle.mf_store.specs.Stands.{StandsFor, IsClean, AsksTables, MayAskTables};
 
     /// The role of a caller as the tables keep it, or None where there is no such member of staff.
     fn find_role(&mut self, caller: Caller) -> Result<Option<Role>, Fault>
-        ensures kept { Stays S.Store self.old self.new }
-        ensures gives_up { IfErr result (λ fault. fault ≡ F20) }
-        ensures open { IsClean S.Store self.new → OnOk result (IsOpen S.Store self.new) }
+        ensures asks { AsksTables S.Store self.old self.new result }
         ensures value { IsClean S.Store self.new → (i : Institution) → StandsFor S.Store self.old i → IfOk result (λ role. role ≡ role_of caller i) }
     {
         match self.find_staff(caller.office.get(), caller.staff.get())? {
@@ -36,9 +33,7 @@ impl<S: Alter> Store<S> {
 
     /// The role of a caller, or None where there is no such member of staff.
     pub fn caller(&mut self, caller: Caller) -> Result<Option<Role>, Fault>
-        ensures kept { Stays S.Store self.old self.new }
-        ensures gives_up { IfErr result (λ fault. fault ≡ F20) }
-        ensures open { IsClean S.Store self.new → IsOpen S.Store self.old → OnOk result (IsOpen S.Store self.new) }
+        ensures asks { MayAskTables S.Store self.old self.new result }
         ensures value { IsClean S.Store self.new → (i : Institution) → StandsFor S.Store self.old i → IfOk result (λ role. role ≡ role_of caller i) }
     {
         let Caller { office, staff } = caller;
@@ -57,19 +52,15 @@ impl<S: Alter> Store<S> {
 
     /// How many staff, clients and loans an office has: one less than their next numbers.
     pub fn next_numbers(&mut self, office: OfficeNo) -> Result<Counts, Fault>
-        ensures kept { Stays S.Store self.old self.new }
-        ensures gives_up { IfErr result (λ fault. fault ≡ F20) }
-        ensures open { IsClean S.Store self.new → IsOpen S.Store self.old → OnOk result (IsOpen S.Store self.new) }
+        ensures asks { MayAskTables S.Store self.old self.new result }
         ensures value { IsClean S.Store self.new → (i : Institution) → StandsFor S.Store self.old i → IfOk result (λ counts. counts ≡ counts_at office i) }
     {
         self.counts_of(office.get())
     }
 
     /// The name of a client, or None where there is no such client.
-    pub fn find_name(&mut self, client: Account) -> Result<Option<Name>, Fault>
-        ensures kept { Stays S.Store self.old self.new }
-        ensures gives_up { IfErr result (λ fault. fault ≡ F20) }
-        ensures open { IsClean S.Store self.new → OnOk result (IsOpen S.Store self.new) }
+    pub fn client(&mut self, client: Account) -> Result<Option<Name>, Fault>
+        ensures asks { AsksTables S.Store self.old self.new result }
         ensures value { IsClean S.Store self.new → (i : Institution) → StandsFor S.Store self.old i → IfOk result (λ name. name ≡ client_at client i) }
     {
         match self.find_client(client.office.get(), client.number.get())? {
@@ -81,7 +72,7 @@ impl<S: Alter> Store<S> {
 
 impl<S: Alter> InstitutionStore for Store<S> {
     ghost use Rattle.std.proofs.Common.{inr};
-    ghost use Rattle.mf_store.specs.Stands.{StandsFor, IsClean, Leaves, IsOpen};
+    ghost use Rattle.mf_store.specs.Stands.{StandsFor, IsClean, Leaves};
 
     ghost stands = { λ store i. StandsFor S.Store store i };
 
@@ -89,11 +80,11 @@ impl<S: Alter> InstitutionStore for Store<S> {
 
     ghost leaves = { λ store is. Leaves S.Store store is };
 
-    fn role(&mut self, _alloc: Global, caller: Caller) -> Result<Option<Role>, Fault> {
+    fn caller(&mut self, _alloc: Global, caller: Caller) -> Result<Option<Role>, Fault> {
         self.caller(caller)
     }
 
-    fn is_visible(&mut self, alloc: Global, to: OfficeNo, office: OfficeNo) -> Result<bool, Fault> {
+    fn visible(&mut self, alloc: Global, to: OfficeNo, office: OfficeNo) -> Result<bool, Fault> {
         self.visible(alloc, to, office)
     }
 
@@ -102,39 +93,39 @@ impl<S: Alter> InstitutionStore for Store<S> {
     }
 
     fn has_room_below(&mut self, _alloc: Global, office: OfficeNo) -> Result<bool, Fault> {
-        self.room_below(office)
+        self.has_room_below(office)
     }
 
-    fn counts(&mut self, _alloc: Global, office: OfficeNo) -> Result<Counts, Fault> {
+    fn next_numbers(&mut self, _alloc: Global, office: OfficeNo) -> Result<Counts, Fault> {
         self.next_numbers(office)
     }
 
     fn client(&mut self, _alloc: Global, client: Account) -> Result<Option<Name>, Fault> {
-        self.find_name(client)
+        self.client(client)
     }
 
     fn business_day(&mut self, _alloc: Global) -> Result<Day, Fault> {
-        self.today()
+        self.business_day()
     }
 
     fn catalogue_counts(&mut self, _alloc: Global) -> Result<CatalogueCounts, Fault> {
-        self.count_catalogue()
+        self.catalogue_counts()
     }
 
     fn charge(&mut self, _alloc: Global, number: u32) -> Result<Option<ChargeDef>, Fault> {
-        self.charge_at(number)
+        self.charge(number)
     }
 
     fn product(&mut self, _alloc: Global, number: u32) -> Result<Option<Product>, Fault> {
-        self.product_at(number)
+        self.product(number)
     }
 
     fn loan(&mut self, _alloc: Global, loan: Account) -> Result<Option<Loan>, Fault> {
-        self.loan_at(loan)
+        self.loan(loan)
     }
 
     fn account(&mut self, alloc: Global, loan: Account) -> Result<Option<LoanAccount>, Fault> {
-        self.account_of(alloc, loan)
+        self.account(alloc, loan)
     }
 
     fn receipt(
@@ -143,19 +134,19 @@ impl<S: Alter> InstitutionStore for Store<S> {
         office: OfficeNo,
         receipt: &Receipt,
     ) -> Result<Option<ReceiptUse>, Fault> {
-        self.receipt_use(office, receipt)
+        self.receipt(office, receipt)
     }
 
     fn loans(&mut self, alloc: Global, office: OfficeNo, after: u32) -> Result<LoanList, Fault> {
-        self.loans_above(alloc, office, after)
+        self.loans(alloc, office, after)
     }
 
-    fn visible_offices(&mut self, alloc: Global, to: OfficeNo) -> Result<OfficeList, Fault> {
+    fn offices(&mut self, alloc: Global, to: OfficeNo) -> Result<OfficeList, Fault> {
         self.offices(alloc, to)
     }
 
     fn office_lines(&mut self, alloc: Global, to: OfficeNo) -> Result<ArrearsList, Fault> {
-        self.lines_below(alloc, to)
+        self.office_lines(alloc, to)
     }
 
     fn commit(&mut self, alloc: Global, commit: Commit) -> Result<(), Fault> {
@@ -178,8 +169,10 @@ impl<S: Alter> InstitutionStore for Store<S> {
             Commit::RetireProduct { product } => self.retire_product(product),
             Commit::AddLoan { office, loan } => self.add_loan(alloc, office, loan),
             Commit::SetStage { loan, stage } => self.set_stage(alloc, loan, stage),
-            Commit::Enter { loan, account } => self.enter(alloc, loan, account),
-            Commit::Reverse { loan, seq, account } => self.reverse(alloc, loan, seq, account),
+            Commit::AddEntry { loan, account } => self.add_entry(alloc, loan, account),
+            Commit::ReverseEntry { loan, seq, account } => self.reverse_entry(
+                alloc, loan, seq, account,
+            ),
         }
     }
 

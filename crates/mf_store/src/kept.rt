@@ -1,7 +1,6 @@
 //! A loan's instalments as the tables keep them.
 
-ghost use Rattle.std.specs.Prelude.{◌≡◌, [], Some, OnOk, IfOk, IfErr};
-ghost use Rattle.mf_base.specs.declared.fault.Fault.TheVariants.{F20};
+ghost use Rattle.std.specs.Prelude.{◌≡◌, [], Some, IfOk};
 ghost use Rattle.mf_alloc.specs.Sums.{AreWhole, AreWithin};
 ghost use Rattle.mf_account.specs.Loan.{state_of_loan};
 ghost use Rattle.mf_model.specs.Accounts.{account_in, of_account};
@@ -18,7 +17,7 @@ use sqlite::Alter;
 use std::alloc::Global;
 
 impl<S: Alter> Store<S> {
-    ghost use Rattle.mf_store.specs.Stands.{StandsFor, IsClean, Stays, IsOpen};
+    ghost use Rattle.mf_store.specs.Stands.{StandsFor, IsClean, AsksTables};
 
     /// The instalments of a loan that is there, as the replay of its entries leaves them; none where it is not disbursed.
     pub(crate) fn instalments_at(
@@ -26,9 +25,7 @@ impl<S: Alter> Store<S> {
         alloc: Global,
         loan: Account,
     ) -> Result<Vec<Instalment>, Fault>
-        ensures kept { Stays S.Store self.old self.new }
-        ensures gives_up { IfErr result (λ fault. fault ≡ F20) }
-        ensures open { IsClean S.Store self.new → OnOk result (IsOpen S.Store self.new) }
+        ensures asks { AsksTables S.Store self.old self.new result }
         ensures whole { IfOk result (λ rows. AreWhole rows.items) }
         ensures within { IfOk result (λ rows. AreWithin rows.items) }
         ensures value { IsClean S.Store self.new → (i : Institution) → StandsFor S.Store self.old i → (l : ModelLedger) → ledger_at loan i ≡ Some l

@@ -5,11 +5,9 @@ ghost use Rattle.mf_model.specs.Institution.{Institution};
 ghost use Rattle.mf_model.specs.Sound.{IsSound};
 ghost use Rattle.mf_store_accounts.specs.Flat.{tables_of};
 
-use mf_base::texts_of_days;
-
 /// The tables determine the institution: two sound ones that have the same rows are one and the same.
 pub fn one_institution()
     ensures { (i j : Institution) → IsSound i → IsSound j → tables_of i ≡ tables_of j → i ≡ j }
 {
-    texts_of_days();
+    mf_base::laws::texts_of_days();
 }

@@ -12,7 +12,7 @@ mod counts;
 mod institution;
 mod kept;
 mod known;
-mod laws;
+pub mod laws;
 mod loans;
 mod office_rows;
 mod parts;
@@ -22,6 +22,5 @@ mod store;
 mod visible;
 
 pub use known::Known;
-pub use laws::one_institution;
 pub use mf_store_values::{Ledger, OfficeRows, StaffMember};
 pub use store::Store;

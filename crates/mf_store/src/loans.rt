@@ -1,9 +1,8 @@
 //! Loans as they were submitted, with their stages: by number, and the commits that change them.
 
-ghost use Rattle.std.specs.Prelude.{◌≡◌, Option, Some, OnOk, IfOk, IfErr};
-ghost use Rattle.mf_base.specs.declared.fault.Fault.TheVariants.{F20};
+ghost use Rattle.std.specs.Prelude.{◌≡◌, Option, Some, IfOk};
 ghost use Rattle.mf_model.specs.Institution.{Institution};
-ghost use Rattle.mf_model.specs.Store.{Commits, loan_at};
+ghost use Rattle.mf_model.specs.Store.{loan_at};
 ghost use Rattle.mf_model.specs.declared.commit.Commit.TheVariants.{AddLoan, SetStage};
 
 use crate::counts::MOST;
@@ -19,13 +18,11 @@ use sqlite::Alter;
 use std::alloc::Global;
 
 impl<S: Alter> Store<S> {
-    ghost use Rattle.mf_store.specs.Stands.{StandsFor, IsClean, Leaves, Stays, IsOpen, FaultsAloneShut};
+    ghost use Rattle.mf_store.specs.Stands.{StandsFor, IsClean, AsksTables, MakesCommit};
 
     /// A loan, or None where there is no such loan.
-    pub fn loan_at(&mut self, loan: Account) -> Result<Option<Loan>, Fault>
-        ensures kept { Stays S.Store self.old self.new }
-        ensures gives_up { IfErr result (λ fault. fault ≡ F20) }
-        ensures open { IsClean S.Store self.new → OnOk result (IsOpen S.Store self.new) }
+    pub fn loan(&mut self, loan: Account) -> Result<Option<Loan>, Fault>
+        ensures asks { AsksTables S.Store self.old self.new result }
         ensures value { IsClean S.Store self.new → (i : Institution) → StandsFor S.Store self.old i → IfOk result (λ found. found ≡ loan_at loan i) }
     {
         let Some(row) = self.find_loan(loan.office.get(), loan.number.get())? else {
@@ -37,9 +34,7 @@ impl<S: Alter> Store<S> {
 
     /// Adds a loan of an office that is there, under the next number. It is not disbursed; where it is, the call gives up.
     pub fn add_loan(&mut self, alloc: Global, office: OfficeNo, loan: Loan) -> Result<(), Fault>
-        ensures commits { Commits (StandsFor S.Store) (IsClean S.Store) (Leaves S.Store) (AddLoan office loan) self.old self.new result }
-        ensures shuts { FaultsAloneShut S.Store self.old self.new }
-        ensures open { IsClean S.Store self.new → OnOk result (IsOpen S.Store self.new) }
+        ensures { MakesCommit S.Store (AddLoan office loan) self.old self.new result }
     {
         let office = office.get();
         let counts = self.counts_there(office)?;
@@ -58,12 +53,10 @@ impl<S: Alter> Store<S> {
     /// Brings a loan that is there to a stage, and writes its instalments where that disburses it. Where it was disbursed
     /// before, the call gives up.
     pub fn set_stage(&mut self, alloc: Global, loan: Account, stage: Stage) -> Result<(), Fault>
-        ensures commits { Commits (StandsFor S.Store) (IsClean S.Store) (Leaves S.Store) (SetStage loan stage) self.old self.new result }
-        ensures shuts { FaultsAloneShut S.Store self.old self.new }
-        ensures open { IsClean S.Store self.new → OnOk result (IsOpen S.Store self.new) }
+        ensures { MakesCommit S.Store (SetStage loan stage) self.old self.new result }
     {
         let Account { office, number } = loan;
-        let Some(before) = self.loan_at(Account { office, number })? else {
+        let Some(before) = self.loan(Account { office, number })? else {
             return Err(Fault::F20);
         };
         if disbursal_day(&before).is_some() {

@@ -1,8 +1,7 @@
 //! The rows of one office, whole: one query a kind, over the range of the office's keys.
 
-ghost use Rattle.std.specs.Prelude.{◌≡◌, ℕ, List, map, Some, OnOk, IfOk, IfErr};
+ghost use Rattle.std.specs.Prelude.{◌≡◌, ℕ, List, map, Some, IfOk};
 ghost use Rattle.std.specs.List.{AllByRecursion};
-ghost use Rattle.mf_base.specs.declared.fault.Fault.TheVariants.{F20};
 ghost use Rattle.mf_model.specs.Institution.{Institution, Ledger as ModelLedger};
 ghost use Rattle.mf_model.specs.Store.{rows_at, ledger_at};
 ghost use Rattle.mf_store_records.specs.Rows.{loan_row};
@@ -18,13 +17,11 @@ use std::alloc::Global;
 use std::marker::Model;
 
 impl<S: Alter> Store<S> {
-    ghost use Rattle.mf_store.specs.Stands.{StandsFor, IsClean, Stays, IsOpen};
+    ghost use Rattle.mf_store.specs.Stands.{StandsFor, IsClean, AsksTables, MayAskTables};
 
     /// The staff of an office, by number.
     fn staff_at(&mut self, alloc: Global, office: u32) -> Result<Vec<StaffMember>, Fault>
-        ensures kept { Stays S.Store self.old self.new }
-        ensures gives_up { IfErr result (λ fault. fault ≡ F20) }
-        ensures open { IsClean S.Store self.new → OnOk result (IsOpen S.Store self.new) }
+        ensures asks { AsksTables S.Store self.old self.new result }
         ensures value { IsClean S.Store self.new → (i : Institution) → StandsFor S.Store self.old i → IfOk result (λ list. list.items ≡ (rows_at office i).staff) }
     {
         let rows = self.list::<StaffRow>(office)?;
@@ -33,9 +30,7 @@ impl<S: Alter> Store<S> {
 
     /// The names of an office's clients, by number.
     fn clients_at(&mut self, alloc: Global, office: u32) -> Result<Vec<Name>, Fault>
-        ensures kept { Stays S.Store self.old self.new }
-        ensures gives_up { IfErr result (λ fault. fault ≡ F20) }
-        ensures open { IsClean S.Store self.new → OnOk result (IsOpen S.Store self.new) }
+        ensures asks { AsksTables S.Store self.old self.new result }
         ensures value { IsClean S.Store self.new → (i : Institution) → StandsFor S.Store self.old i → IfOk result (λ list. list.items ≡ (rows_at office i).clients) }
     {
         let rows = self.list::<ClientRow>(office)?;
@@ -44,9 +39,7 @@ impl<S: Alter> Store<S> {
 
     /// The loan of a row, with its entries.
     fn ledger_of(&mut self, alloc: Global, row: &Row) -> Result<Ledger, Fault>
-        ensures kept { Stays S.Store self.old self.new }
-        ensures gives_up { IfErr result (λ fault. fault ≡ F20) }
-        ensures open { IsClean S.Store self.new → IsOpen S.Store self.old → OnOk result (IsOpen S.Store self.new) }
+        ensures asks { MayAskTables S.Store self.old self.new result }
         ensures value { IsClean S.Store self.new → (i : Institution) → StandsFor S.Store self.old i → (office number : ℕ) (l : ModelLedger)
             → row.now ≡ loan_row (loan_in office number l.loan) → ledger_at (record { office = office; number = number }) i ≡ Some l
             → IfOk result (λ ledger. ledger ≡ l) }
@@ -58,9 +51,7 @@ impl<S: Alter> Store<S> {
 
     /// The loans of rows, with their entries, in order.
     fn ledgers_of(&mut self, alloc: Global, rows: &[Row]) -> Result<Vec<Ledger>, Fault>
-        ensures kept { Stays S.Store self.old self.new }
-        ensures gives_up { IfErr result (λ fault. fault ≡ F20) }
-        ensures open { IsClean S.Store self.new → IsOpen S.Store self.old → OnOk result (IsOpen S.Store self.new) }
+        ensures asks { MayAskTables S.Store self.old self.new result }
         ensures value { IsClean S.Store self.new → (i : Institution) → StandsFor S.Store self.old i → (office : ℕ) (ls : List (ℕ × ModelLedger)) → AllByRecursion (λ l. ledger_at (record { office = office; number = l.0 }) i ≡ Some l.1) ls
             → rows.now ≡ map (λ l. loan_row (loan_in office l.0 l.1.loan)) ls → IfOk result (λ list. list.items ≡ map (λ l. l.1) ls) }
     {
@@ -74,9 +65,7 @@ impl<S: Alter> Store<S> {
 
     /// The loans of an office, with their entries, by number.
     fn ledgers_at(&mut self, alloc: Global, office: u32) -> Result<Vec<Ledger>, Fault>
-        ensures kept { Stays S.Store self.old self.new }
-        ensures gives_up { IfErr result (λ fault. fault ≡ F20) }
-        ensures open { IsClean S.Store self.new → OnOk result (IsOpen S.Store self.new) }
+        ensures asks { AsksTables S.Store self.old self.new result }
         ensures value { IsClean S.Store self.new → (i : Institution) → StandsFor S.Store self.old i → IfOk result (λ list. list.items ≡ (rows_at office i).loans) }
     {
         let rows = self.list::<LoanRow>(office)?;
@@ -85,9 +74,7 @@ impl<S: Alter> Store<S> {
 
     /// The rows of an office, none where it isn't there.
     pub fn office_rows(&mut self, alloc: Global, office: OfficeNo) -> Result<OfficeRows, Fault>
-        ensures kept { Stays S.Store self.old self.new }
-        ensures gives_up { IfErr result (λ fault. fault ≡ F20) }
-        ensures open { IsClean S.Store self.new → OnOk result (IsOpen S.Store self.new) }
+        ensures asks { AsksTables S.Store self.old self.new result }
         ensures value { IsClean S.Store self.new → (i : Institution) → StandsFor S.Store self.old i → IfOk result (λ rows. rows ≡ rows_at office i) }
     {
         let office = office.get();

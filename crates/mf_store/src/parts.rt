@@ -1,7 +1,6 @@
 //! What the entries of a loan settled, as the tables keep it.
 
-ghost use Rattle.std.specs.Prelude.{◌≡◌, map, Some, OnOk, IfOk, IfErr};
-ghost use Rattle.mf_base.specs.declared.fault.Fault.TheVariants.{F20};
+ghost use Rattle.std.specs.Prelude.{◌≡◌, map, Some, IfOk};
 ghost use Rattle.mf_model.specs.Institution.{Institution, Ledger as ModelLedger};
 ghost use Rattle.mf_model.specs.Store.{ledger_at};
 ghost use Rattle.mf_store_accounts.specs.Flat.{shares_kept, kept_of};
@@ -17,13 +16,11 @@ use sqlite::Alter;
 use std::alloc::Global;
 
 impl<S: Alter> Store<S> {
-    ghost use Rattle.mf_store.specs.Stands.{StandsFor, IsClean, Stays, IsOpen};
+    ghost use Rattle.mf_store.specs.Stands.{StandsFor, IsClean, AsksTables};
 
     /// What the entries of a loan that is there settled, by entry and place; nothing where it is not disbursed.
     pub(crate) fn parts_at(&mut self, alloc: Global, loan: Account) -> Result<Vec<Settled>, Fault>
-        ensures kept { Stays S.Store self.old self.new }
-        ensures gives_up { IfErr result (λ fault. fault ≡ F20) }
-        ensures open { IsClean S.Store self.new → OnOk result (IsOpen S.Store self.new) }
+        ensures asks { AsksTables S.Store self.old self.new result }
         ensures value { IsClean S.Store self.new → (i : Institution) → StandsFor S.Store self.old i → (l : ModelLedger) → ledger_at loan i ≡ Some l
             → IfOk result (λ parts. parts.items ≡ map part_told (kept_of shares_kept i.catalogue l)) }
     {

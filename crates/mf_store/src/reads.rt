@@ -1,6 +1,6 @@
 //! Look-ups by key, each one query.
 
-ghost use Rattle.std.specs.Prelude.{◌≡◌, ◌≤◌, ℕ, OnOk, IfOk, IfErr, Some};
+ghost use Rattle.std.specs.Prelude.{◌≡◌, ◌≤◌, ℕ, IfOk, IfErr, Some};
 ghost use Rattle.mf_base.specs.declared.fault.Fault.TheVariants.{F20};
 ghost use Rattle.mf_base.specs.DayText.{last_day};
 ghost use Rattle.mf_model.specs.Institution.{Institution};
@@ -27,22 +27,18 @@ fn day_in(meta: Option<MetaRow>) -> Result<Day, Fault>
 }
 
 impl<S: Alter> Store<S> {
-    ghost use Rattle.mf_store.specs.Stands.{StandsFor, IsClean, Stays, IsOpen};
+    ghost use Rattle.mf_store.specs.Stands.{StandsFor, IsClean, AsksTables, MayAskTables};
 
     pub(crate) fn find_meta(&mut self) -> Result<Option<MetaRow>, Fault>
-        ensures kept { Stays S.Store self.old self.new }
-        ensures gives_up { IfErr result (λ fault. fault ≡ F20) }
-        ensures open { IsClean S.Store self.new → OnOk result (IsOpen S.Store self.new) }
+        ensures asks { AsksTables S.Store self.old self.new result }
         ensures value { IsClean S.Store self.new → (i : Institution) → StandsFor S.Store self.old i → IfOk result (λ x. x ≡ Some (meta_on i.catalogue.day)) }
     {
         self.find(1)
     }
 
     /// The business day.
-    pub fn today(&mut self) -> Result<Day, Fault>
-        ensures kept { Stays S.Store self.old self.new }
-        ensures gives_up { IfErr result (λ fault. fault ≡ F20) }
-        ensures open { IsClean S.Store self.new → IsOpen S.Store self.old → OnOk result (IsOpen S.Store self.new) }
+    pub fn business_day(&mut self) -> Result<Day, Fault>
+        ensures asks { MayAskTables S.Store self.old self.new result }
         ensures value { IsClean S.Store self.new → (i : Institution) → StandsFor S.Store self.old i → IfOk result (λ day. day ≡ i.catalogue.day) }
     {
         if let Some(day) = self.known_day() {
@@ -55,18 +51,14 @@ impl<S: Alter> Store<S> {
     }
 
     pub(crate) fn find_office(&mut self, number: u32) -> Result<Option<OfficeRow>, Fault>
-        ensures kept { Stays S.Store self.old self.new }
-        ensures gives_up { IfErr result (λ fault. fault ≡ F20) }
-        ensures open { IsClean S.Store self.new → OnOk result (IsOpen S.Store self.new) }
+        ensures asks { AsksTables S.Store self.old self.new result }
         ensures value { IsClean S.Store self.new → (i : Institution) → StandsFor S.Store self.old i → IfOk result (λ x. x ≡ office_row_at number i) }
     {
         self.find(number)
     }
 
     pub(crate) fn find_staff(&mut self, office: u32, number: u32) -> Result<Option<StaffRow>, Fault>
-        ensures kept { Stays S.Store self.old self.new }
-        ensures gives_up { IfErr result (λ fault. fault ≡ F20) }
-        ensures open { IsClean S.Store self.new → OnOk result (IsOpen S.Store self.new) }
+        ensures asks { AsksTables S.Store self.old self.new result }
         ensures value { IsClean S.Store self.new → (i : Institution) → StandsFor S.Store self.old i → IfOk result (λ x. x ≡ staff_row_at office number i) }
     {
         self.find((office, number))
@@ -77,36 +69,28 @@ impl<S: Alter> Store<S> {
         office: u32,
         number: u32,
     ) -> Result<Option<ClientRow>, Fault>
-        ensures kept { Stays S.Store self.old self.new }
-        ensures gives_up { IfErr result (λ fault. fault ≡ F20) }
-        ensures open { IsClean S.Store self.new → OnOk result (IsOpen S.Store self.new) }
+        ensures asks { AsksTables S.Store self.old self.new result }
         ensures value { IsClean S.Store self.new → (i : Institution) → StandsFor S.Store self.old i → IfOk result (λ x. x ≡ client_row_at office number i) }
     {
         self.find((office, number))
     }
 
     pub(crate) fn find_charge(&mut self, number: u32) -> Result<Option<ChargeRow>, Fault>
-        ensures kept { Stays S.Store self.old self.new }
-        ensures gives_up { IfErr result (λ fault. fault ≡ F20) }
-        ensures open { IsClean S.Store self.new → OnOk result (IsOpen S.Store self.new) }
+        ensures asks { AsksTables S.Store self.old self.new result }
         ensures value { IsClean S.Store self.new → (i : Institution) → StandsFor S.Store self.old i → IfOk result (λ x. x ≡ charge_row_at number i) }
     {
         self.find(number)
     }
 
     pub(crate) fn find_product(&mut self, number: u32) -> Result<Option<ProductRow>, Fault>
-        ensures kept { Stays S.Store self.old self.new }
-        ensures gives_up { IfErr result (λ fault. fault ≡ F20) }
-        ensures open { IsClean S.Store self.new → OnOk result (IsOpen S.Store self.new) }
+        ensures asks { AsksTables S.Store self.old self.new result }
         ensures value { IsClean S.Store self.new → (i : Institution) → StandsFor S.Store self.old i → IfOk result (λ x. x ≡ product_row_at number i) }
     {
         self.find(number)
     }
 
     pub(crate) fn find_loan(&mut self, office: u32, number: u32) -> Result<Option<LoanRow>, Fault>
-        ensures kept { Stays S.Store self.old self.new }
-        ensures gives_up { IfErr result (λ fault. fault ≡ F20) }
-        ensures open { IsClean S.Store self.new → OnOk result (IsOpen S.Store self.new) }
+        ensures asks { AsksTables S.Store self.old self.new result }
         ensures value { IsClean S.Store self.new → (i : Institution) → StandsFor S.Store self.old i → IfOk result (λ x. x ≡ loan_row_at office number i) }
     {
         self.find((office, number))

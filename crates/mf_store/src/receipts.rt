@@ -1,7 +1,6 @@
 //! Where a receipt was used.
 
-ghost use Rattle.std.specs.Prelude.{◌≡◌, find, OnOk, IfOk, IfErr};
-ghost use Rattle.mf_base.specs.declared.fault.Fault.TheVariants.{F20};
+ghost use Rattle.std.specs.Prelude.{◌≡◌, find, IfOk};
 ghost use Rattle.mf_model.specs.Institution.{Institution};
 ghost use Rattle.mf_model.specs.Store.{receipt_at};
 ghost use Rattle.mf_store_records.specs.Rows.{is_entry};
@@ -17,12 +16,10 @@ use mf_store_values::{stored, use_from};
 use sqlite::Alter;
 
 impl<S: Alter> Store<S> {
-    ghost use Rattle.mf_store.specs.Stands.{StandsFor, IsClean, Stays, IsOpen};
+    ghost use Rattle.mf_store.specs.Stands.{StandsFor, IsClean, AsksTables, MayAskTables};
 
     fn find_entry(&mut self, office: u32, loan: u32, seq: u32) -> Result<Option<EntryRow>, Fault>
-        ensures kept { Stays S.Store self.old self.new }
-        ensures gives_up { IfErr result (λ fault. fault ≡ F20) }
-        ensures open { IsClean S.Store self.new → OnOk result (IsOpen S.Store self.new) }
+        ensures asks { AsksTables S.Store self.old self.new result }
         ensures value { IsClean S.Store self.new → (i : Institution) → StandsFor S.Store self.old i → IfOk result (λ x. x ≡ find (is_entry office loan seq) (tables_of i).entries) }
     {
         self.find((office, loan, seq))
@@ -30,14 +27,12 @@ impl<S: Alter> Store<S> {
 
     /// The entry that carries a receipt of an office, or None where none does: one query by the receipt, and one by the
     /// entry's number.
-    pub fn receipt_use(
+    pub fn receipt(
         &mut self,
         office: OfficeNo,
         receipt: &Receipt,
     ) -> Result<Option<ReceiptUse>, Fault>
-        ensures kept { Stays S.Store self.old self.new }
-        ensures gives_up { IfErr result (λ fault. fault ≡ F20) }
-        ensures open { IsClean S.Store self.new → IsOpen S.Store self.old → OnOk result (IsOpen S.Store self.new) }
+        ensures asks { MayAskTables S.Store self.old self.new result }
         ensures value { IsClean S.Store self.new → (i : Institution) → StandsFor S.Store self.old i → IfOk result (λ found. found ≡ receipt_at office receipt.now i) }
     {
         let office = office.get();

@@ -4,8 +4,8 @@ ghost use Rattle.mf_base.specs.DayText.{last_entered_day};
 ghost use Rattle.sqlite.specs.Held.{state};
 ghost use Rattle.mf_store_tables.specs.Writes.{Serves};
 ghost use Rattle.mf_model.specs.Institution.{Institution, newly_made, product_in};
-ghost use Rattle.mf_model.specs.Store.{Commits, counts_at, catalogue_counts, role_of, use_at};
-ghost use Rattle.mf_model.specs.declared.commit.Commit.TheVariants.{Enter, Reverse};
+ghost use Rattle.mf_model.specs.Store.{counts_at, catalogue_counts, role_of, use_at};
+ghost use Rattle.mf_model.specs.declared.commit.Commit.TheVariants.{AddEntry, ReverseEntry};
 ghost use Rattle.mf_model.specs.Tree.{is_there};
 ghost use Rattle.mf_store_accounts.specs.Flat.{key_at, tables_of};
 ghost use Rattle.mf_store_accounts.specs.ReceiptRows.{receipt_in};
@@ -17,7 +17,7 @@ ghost use Rattle.mf_store_records.specs.Writes.{schema_of, Holds};
 ghost use Rattle.mf_store.specs.Facts.{nothing_known};
 ghost use Rattle.mf_store.specs.Learning.{Tells};
 ghost use Rattle.mf_store_commits.specs.Tabled.{IsTabled, HasGoodDisk, LeavesTables, IsUnfounded};
-ghost use Rattle.mf_store.specs.Stands.{StandsFor, IsClean, Leaves, Stays, IsOpen, FaultsAloneShut};
+ghost use Rattle.mf_store.specs.Stands.{StandsFor, IsClean, Leaves, IsOpen, FaultsAloneShut, AsksTables, MakesCommit};
 ghost use Rattle.mf_store_changes.specs.Becoming.{Becomes};
 
 use crate::known::{Known, News};
@@ -28,7 +28,7 @@ use mf_catalog::Product;
 use mf_model::{CatalogueCounts, Counts, laws};
 use mf_office::{Account, Caller, Key, OfficeNo, Role};
 use mf_store_changes::first_writes;
-use mf_store_commits::{enter, reverse, write};
+use mf_store_commits::{add_entry, reverse_entry, write};
 use mf_store_records::{
     Listed, ReceiptRow, StoreWrite, Table, find_receipt, find_row, list_rows, loans_above,
     offices_within,
@@ -62,9 +62,7 @@ impl<S: Alter> Model for Store<S> {
 impl<S: Alter> Store<S> {
     /// The row under a key, if there is one.
     pub(crate) fn find<T: Table>(&mut self, key: T::Key) -> Result<Option<T>, Fault>
-        ensures kept { Stays S.Store self.old self.new }
-        ensures gives_up { IfErr result (λ fault. fault ≡ F20) }
-        ensures open { IsClean S.Store self.new → OnOk result (IsOpen S.Store self.new) }
+        ensures asks { AsksTables S.Store self.old self.new result }
         ensures row { IsClean S.Store self.new → (i : Institution) → StandsFor S.Store self.old i → IfOk result (λ x. x ≡ find (T.is_at key) (T.list (tables_of i))) }
     {
         find_row(&mut self.connection, key)
@@ -76,9 +74,7 @@ impl<S: Alter> Store<S> {
         office: u32,
         receipt: &str,
     ) -> Result<Option<ReceiptRow>, Fault>
-        ensures kept { Stays S.Store self.old self.new }
-        ensures gives_up { IfErr result (λ fault. fault ≡ F20) }
-        ensures open { IsClean S.Store self.new → OnOk result (IsOpen S.Store self.new) }
+        ensures asks { AsksTables S.Store self.old self.new result }
         ensures value { IsClean S.Store self.new → (i : Institution) → StandsFor S.Store self.old i
             → IfOk result (λ x. x ≡ option_map (receipt_in office) (use_at office receipt.now i)) }
     {
@@ -87,9 +83,7 @@ impl<S: Alter> Store<S> {
 
     /// The rows with these values of the first columns.
     pub(crate) fn list<T: Listed>(&mut self, part: T::Part) -> Result<Vec<Row>, Fault>
-        ensures kept { Stays S.Store self.old self.new }
-        ensures gives_up { IfErr result (λ fault. fault ≡ F20) }
-        ensures open { IsClean S.Store self.new → OnOk result (IsOpen S.Store self.new) }
+        ensures asks { AsksTables S.Store self.old self.new result }
         ensures rows { IsClean S.Store self.new → (i : Institution) → StandsFor S.Store self.old i
             → IfOk result (λ rows. rows.items ≡ map T.Table.stored (filter (T.is_in part) (T.Table.list (tables_of i)))) }
     {
@@ -98,9 +92,7 @@ impl<S: Alter> Store<S> {
 
     /// The first 100 rows of an office's loans under numbers above one.
     pub(crate) fn rows_above(&mut self, office: u32, after: u32) -> Result<Vec<Row>, Fault>
-        ensures kept { Stays S.Store self.old self.new }
-        ensures gives_up { IfErr result (λ fault. fault ≡ F20) }
-        ensures open { IsClean S.Store self.new → OnOk result (IsOpen S.Store self.new) }
+        ensures asks { AsksTables S.Store self.old self.new result }
         ensures rows { IsClean S.Store self.new → (i : Institution) → StandsFor S.Store self.old i
             → IfOk result (λ rows. rows.items ≡ take 100 (map loan_row (filter (is_loan_above office after) (tables_of i).loans))) }
     {
@@ -109,9 +101,7 @@ impl<S: Alter> Store<S> {
 
     /// The rows of the offices whose hierarchy text is in a range.
     pub(crate) fn rows_within(&mut self, low: &str, high: &str) -> Result<Vec<Row>, Fault>
-        ensures kept { Stays S.Store self.old self.new }
-        ensures gives_up { IfErr result (λ fault. fault ≡ F20) }
-        ensures open { IsClean S.Store self.new → OnOk result (IsOpen S.Store self.new) }
+        ensures asks { AsksTables S.Store self.old self.new result }
         ensures rows { IsClean S.Store self.new → (i : Institution) → StandsFor S.Store self.old i
             → IfOk result (λ rows. rows.items ≡ map office_row (filter (is_in_range low.now high.now) (tables_of i).offices)) }
     {
@@ -120,9 +110,7 @@ impl<S: Alter> Store<S> {
 
     /// An office's line on a day, by one query over the instalments of its loans.
     pub(crate) fn read_line(&mut self, office: OfficeNo, today: Day) -> Result<OfficeLine, Fault>
-        ensures kept { Stays S.Store self.old self.new }
-        ensures gives_up { IfErr result (λ fault. fault ≡ F20) }
-        ensures open { IsClean S.Store self.new → OnOk result (IsOpen S.Store self.new) }
+        ensures asks { AsksTables S.Store self.old self.new result }
         ensures line { IsClean S.Store self.new → (i : Institution) → StandsFor S.Store self.old i → (loans : List NumberedLoan) → AreAbove 0 loans → AreWholeLoans loans
             → filter (is_instalment_in office) (tables_of i).instalments ≡ rows_of_office office loans → IfOk result (λ line. line ≡ line_of_loans office (aged_loans today loans)) }
     {
@@ -290,27 +278,28 @@ impl<S: Alter> Store<S> {
 
     /// Adds the last entry of a loan's account to the loan, which has all the others and no more, and writes what that
     /// changed of the loan's instalments and shares.
-    pub fn enter(&mut self, alloc: Global, loan: Account, account: LoanAccount) -> Result<(), Fault>
-        ensures commits { Commits (StandsFor S.Store) (IsClean S.Store) (Leaves S.Store) (Enter loan account) self.old self.new result }
-        ensures shuts { FaultsAloneShut S.Store self.old self.new }
-        ensures open { IsClean S.Store self.new → OnOk result (IsOpen S.Store self.new) }
+    pub fn add_entry(
+        &mut self,
+        alloc: Global,
+        loan: Account,
+        account: LoanAccount,
+    ) -> Result<(), Fault>
+        ensures { MakesCommit S.Store (AddEntry loan account) self.old self.new result }
     {
-        enter(alloc, &mut self.connection, loan, account)
+        add_entry(alloc, &mut self.connection, loan, account)
     }
 
     /// Writes an entry of a loan that is reversed in the loan's account, and what that changed of the loan's instalments
     /// and shares. All other entries are the same in both. The row of the entry's receipt stays as it is.
-    pub fn reverse(
+    pub fn reverse_entry(
         &mut self,
         alloc: Global,
         loan: Account,
         seq: u32,
         account: LoanAccount,
     ) -> Result<(), Fault>
-        ensures commits { Commits (StandsFor S.Store) (IsClean S.Store) (Leaves S.Store) (Reverse loan seq account) self.old self.new result }
-        ensures shuts { FaultsAloneShut S.Store self.old self.new }
-        ensures open { IsClean S.Store self.new → OnOk result (IsOpen S.Store self.new) }
+        ensures { MakesCommit S.Store (ReverseEntry loan seq account) self.old self.new result }
     {
-        reverse(alloc, &mut self.connection, loan, seq, account)
+        reverse_entry(alloc, &mut self.connection, loan, seq, account)
     }
 }

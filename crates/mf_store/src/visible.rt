@@ -1,6 +1,6 @@
 //! What an office sees, by the range of its hierarchy text.
 
-ghost use Rattle.std.specs.Prelude.{◌≡◌, Option, map, is_some, OnOk, IfOk, IfErr};
+ghost use Rattle.std.specs.Prelude.{◌≡◌, Option, map, is_some, IfOk, IfErr};
 ghost use Rattle.mf_base.specs.declared.fault.Fault.TheVariants.{F20};
 ghost use Rattle.mf_office.specs.Tree.{is_within};
 ghost use Rattle.mf_model.specs.Institution.{Institution};
@@ -11,7 +11,7 @@ ghost use Rattle.mf_store_accounts.specs.Flat.{key_at, sees, has_room};
 use crate::store::Store;
 use mf_base::Fault;
 use mf_model::{OfficeList, laws};
-use mf_office::{Key, OfficeNo, depth_by_key, in_range};
+use mf_office::{Key, OfficeNo, in_range};
 use mf_store_values::offices_from;
 use sqlite::Alter;
 use std::alloc::Global;
@@ -42,13 +42,11 @@ fn has_room_below(key: &Option<Key>) -> bool
 }
 
 impl<S: Alter> Store<S> {
-    ghost use Rattle.mf_store.specs.Stands.{StandsFor, IsClean, Stays, IsOpen};
+    ghost use Rattle.mf_store.specs.Stands.{StandsFor, IsClean, AsksTables, MayAskTables};
 
     /// The key of an office that is there.
     pub(crate) fn key(&mut self, number: u32) -> Result<Option<Key>, Fault>
-        ensures kept { Stays S.Store self.old self.new }
-        ensures gives_up { IfErr result (λ fault. fault ≡ F20) }
-        ensures open { IsClean S.Store self.new → OnOk result (IsOpen S.Store self.new) }
+        ensures asks { AsksTables S.Store self.old self.new result }
         ensures value { IsClean S.Store self.new → (i : Institution) → StandsFor S.Store self.old i → IfOk result (λ key. key ≡ key_at number i) }
     {
         let Some(office) = self.find_office(number)? else {
@@ -62,9 +60,7 @@ impl<S: Alter> Store<S> {
 
     /// The same, where the tables are asked at most once.
     fn kept_key(&mut self, alloc: Global, number: u32) -> Result<Option<Key>, Fault>
-        ensures kept { Stays S.Store self.old self.new }
-        ensures gives_up { IfErr result (λ fault. fault ≡ F20) }
-        ensures open { IsClean S.Store self.new → IsOpen S.Store self.old → OnOk result (IsOpen S.Store self.new) }
+        ensures asks { MayAskTables S.Store self.old self.new result }
         ensures value { IsClean S.Store self.new → (i : Institution) → StandsFor S.Store self.old i → IfOk result (λ key. key ≡ key_at number i) }
     {
         if let Some(key) = self.known_key(alloc, number) {
@@ -82,9 +78,7 @@ impl<S: Alter> Store<S> {
 
     /// Whether an office is there and at or below another, by the range of the other's key.
     pub fn visible(&mut self, alloc: Global, to: OfficeNo, office: OfficeNo) -> Result<bool, Fault>
-        ensures kept { Stays S.Store self.old self.new }
-        ensures gives_up { IfErr result (λ fault. fault ≡ F20) }
-        ensures open { IsClean S.Store self.new → IsOpen S.Store self.old → OnOk result (IsOpen S.Store self.new) }
+        ensures asks { MayAskTables S.Store self.old self.new result }
         ensures value { IsClean S.Store self.new → (i : Institution) → StandsFor S.Store self.old i → IfOk result (λ seen. seen ≡ is_some (seen_office to office i)) }
     {
         laws::tree_of_offices();
@@ -94,23 +88,19 @@ impl<S: Alter> Store<S> {
     }
 
     /// Whether an office has room below it: it is there and less than six deep, the head being one.
-    pub fn room_below(&mut self, office: OfficeNo) -> Result<bool, Fault>
-        ensures kept { Stays S.Store self.old self.new }
-        ensures gives_up { IfErr result (λ fault. fault ≡ F20) }
-        ensures open { IsClean S.Store self.new → OnOk result (IsOpen S.Store self.new) }
+    pub fn has_room_below(&mut self, office: OfficeNo) -> Result<bool, Fault>
+        ensures asks { AsksTables S.Store self.old self.new result }
         ensures value { IsClean S.Store self.new → (i : Institution) → StandsFor S.Store self.old i → IfOk result (λ room. room ≡ is_within 4 (parent_of i.offices) office 1) }
     {
         laws::tree_of_offices();
-        depth_by_key();
+        mf_office::laws::depth_by_key();
         let key = self.key(office.get())?;
         Ok(has_room_below(&key))
     }
 
     /// The offices at or below one, by number: one query over the range of its key.
     pub fn offices(&mut self, alloc: Global, to: OfficeNo) -> Result<OfficeList, Fault>
-        ensures kept { Stays S.Store self.old self.new }
-        ensures gives_up { IfErr result (λ fault. fault ≡ F20) }
-        ensures open { IsClean S.Store self.new → IsOpen S.Store self.old → OnOk result (IsOpen S.Store self.new) }
+        ensures asks { MayAskTables S.Store self.old self.new result }
         ensures value { IsClean S.Store self.new → (i : Institution) → StandsFor S.Store self.old i → IfOk result (λ list. list ≡ map line_of (seen_by to i.offices)) }
     {
         laws::tree_of_offices();

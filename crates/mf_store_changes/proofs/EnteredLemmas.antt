@@ -1,5 +1,5 @@
 -- What soundness says of entries: who entered them, and their numbers.
-use Rattle.std.proofs.Common.{◌≡◌, ◌≤◌, ◌+◌, ◌-◌, ◌&&◌, ℕ, zero, suc, Bool, true, false, cond, List, [], ◌∷◌, ◌++◌, map, filter, length, slice_get, Option, None, Some, refl, sym, ap, ◌∙◌, subst, arith, true≢false}
+use Rattle.std.proofs.Common.{◌≡◌, ◌≤◌, ◌+◌, ◌-◌, ◌&&◌, ℕ, zero, suc, Bool, true, false, cond, List, [], ◌∷◌, ◌++◌, map, filter, length, slice_get, Option, None, Some, refl, sym, ap, ◌∙◌, subst, arith}
 use Rattle.std.specs.Prelude.{not}
 use Rattle.std.proofs.lemmas.Bool.Decides.{nat_tests}
 use Rattle.std.proofs.lemmas.List.{length-append, length-set}
@@ -14,12 +14,11 @@ use Rattle.std.specs.Option.{is_some}
 use Rattle.sqlite_keyed.proofs.ListLemmas.{map-map}
 use Rattle.mf_account.specs.declared.entry.Entry.{Entry}
 use Rattle.mf_account.specs.Change.{Account as Kept, IsChange, IsReplayed}
-use Rattle.mf_office.specs.Numbers.{IsNumberUpTo}
 use Rattle.mf_office.specs.Texts.{IsCaller}
 use Rattle.mf_office.specs.declared.account.Account.{Account}
 use Rattle.mf_office.specs.declared.caller.Caller.{Caller}
-use Rattle.mf_model.specs.declared.commit.Commit.TheVariants.{Enter}
-use Rattle.mf_model.specs.Institution.{Institution, Catalogue, Ledger, Office, Rows, Staff, item_numbered, office_at, with_numbered, with_rows}
+use Rattle.mf_model.specs.declared.commit.Commit.TheVariants.{AddEntry}
+use Rattle.mf_model.specs.Institution.{Institution, Catalogue, Ledger, Office, Rows, item_numbered, office_at, with_numbered, with_rows}
 use Rattle.mf_model.specs.Loans.{with_entries, loan_entered}
 use Rattle.mf_model.specs.Receipts.{uses_from, AreApart}
 use Rattle.mf_model.specs.Sound.{IsSound, IsSoundLoan, IsSoundOffice, IsSoundRows, IsEntryBy, AreEntriesBy, is_staff}
@@ -28,36 +27,19 @@ use Rattle.mf_model.proofs.AccountLemmas.{account_is, account_sound}
 use Rattle.mf_model.specs.Store.{after_commit, rows_of, rows_at, ledger_at, account_of}
 use Rattle.mf_model.specs.Tree.{is_there}
 use Rattle.mf_model.proofs.Growing.{all_map, all_at}
-use Rattle.mf_model.proofs.SoundLemmas.{found_sound}
+use Rattle.mf_model.proofs.StaffLemmas.{staff_are_callers}
 use Rattle.mf_store_records.specs.Rows.{entry_row, is_entry_of}
 use Rattle.mf_store_accounts.specs.Flat.{tables_of, entries_of, entry_in}
 use Rattle.mf_store_changes.proofs.AccountCommitLemmas.{IsChanged, account_with}
-use Rattle.mf_store_changes.proofs.CommitLemmas.{number_at}
 use Rattle.mf_store_changes.proofs.EntryLemmas.{AreEarlier, AreNumbered, later_numbered, entries_shown}
 use Rattle.mf_store_changes.proofs.FlatLemmas.{numbered-suc, with_numbered_later}
-use Rattle.mf_store_changes.proofs.SoundLemmas.{has_number, office_sound, own_rows}
+use Rattle.mf_store_changes.proofs.SoundLemmas.{office_sound, own_rows}
 
 -- ---- who entered them
 
 -- each was entered by a member of staff of an office, by number
 abbrev pub HaveCallers : List Entry → Type 0
 HaveCallers entries = AllByRecursion (λ (e : Entry). IsCaller e.staff) entries
-
-abbrev staff_found : Option Office → ℕ → Option Staff
-staff_found o n = elim o [ None ↦ None | Some f ↦ item_numbered f.rows.staff n ]
-
-pub staff_are_callers : (k : Catalogue) (s : Caller → Bool) (fs : List Office) → AllByRecursion (IsSoundOffice k s) fs → (c : Caller) → is_staff fs c ≡ true → IsCaller c
-staff_are_callers k s fs all c there = go (office_at c.office fs) refl there
-  where
-    go : (o : Option Office) → office_at c.office fs ≡ o → is_some (staff_found o c.staff) ≡ true → IsCaller c
-    go None e h = absurd (true≢false (sym h))
-    go (Some f) e h =
-        let sound : IsSoundOffice k s f = found_sound k s c.office fs f all e in
-        let place = (has_number f.rows.staff c.staff).0 h in
-        let some = place.0 in
-        let last = place.1 in
-        let most = sound.rows.staff_limit in
-        (subst (IsNumberUpTo 9999) (number_at c.office fs f e) sound.number, (some, omega (arith, last, most)))
 
 entered_callers : (today : ℕ) (s : Caller → Bool) (n : ℕ) (o : Option ℕ) (es : List Entry) → ((c : Caller) → s c ≡ true → IsCaller c) → AreEntriesBy today s n o es → HaveCallers es
 entered_callers today s n None es staffed are = subst HaveCallers (sym are) tt
@@ -148,7 +130,7 @@ abbrev pub staff_after : Account → Kept → Institution → Caller → Bool
 staff_after loan account i = is_staff (with_rows loan.office (loan_entered loan.number account.loan.entries (rows_at loan.office i)) i.offices)
 
 -- the rows of its office are sound where the institution is
-rows_after : (loan : Account) (account : Kept) (l : Ledger) (i : Institution) → IsSound (after_commit (Enter loan account) i) → ledger_at loan i ≡ Some l → IsSoundRows i.catalogue (staff_after loan account i) (loan_entered loan.number account.loan.entries (rows_at loan.office i))
+rows_after : (loan : Account) (account : Kept) (l : Ledger) (i : Institution) → IsSound (after_commit (AddEntry loan account) i) → ledger_at loan i ≡ Some l → IsSoundRows i.catalogue (staff_after loan account i) (loan_entered loan.number account.loan.entries (rows_at loan.office i))
 rows_after loan account l i sound there =
     let x = loan.office in
     let new = loan_entered loan.number account.loan.entries (rows_at x i) in
@@ -156,7 +138,7 @@ rows_after loan account l i sound there =
     subst (IsSoundRows i.catalogue s) (own_rows x new i.offices (there_of x loan.number l i.offices there)) (office_sound i.catalogue s x (with_rows x new i.offices) sound.each)
 
 -- and so is the loan with these entries
-loan_after : (loan : Account) (account : Kept) (l : Ledger) (i : Institution) → IsSound (after_commit (Enter loan account) i) → ledger_at loan i ≡ Some l → IsSoundLoan i.catalogue (staff_after loan account i) (rows_at loan.office i).clients (with_entries account.loan.entries l)
+loan_after : (loan : Account) (account : Kept) (l : Ledger) (i : Institution) → IsSound (after_commit (AddEntry loan account) i) → ledger_at loan i ≡ Some l → IsSoundLoan i.catalogue (staff_after loan account i) (rows_at loan.office i).clients (with_entries account.loan.entries l)
 loan_after loan account l i sound there =
     let ls = (rows_at loan.office i).loans in
     let change = with_entries account.loan.entries in
@@ -167,14 +149,14 @@ pub no_entries : (loan : Account) (l : Ledger) (i : Institution) → IsSound i �
 no_entries loan l i sound there none = subst (λ d. AreEntriesBy i.catalogue.day (is_staff i.offices) l.loan.periods d l.entries) none (loan_sound loan l i sound there).entries
 
 -- where a loan with one entry more is sound, that entry has the greatest number
-pub entry_last : (loan : Account) (account : Kept) (e : Entry) (l : Ledger) (i : Institution) → IsSound (after_commit (Enter loan account) i) → ledger_at loan i ≡ Some l → account.loan.entries ≡ l.entries ++ e ∷ [] → AreEarlier e.seq l.entries
+pub entry_last : (loan : Account) (account : Kept) (e : Entry) (l : Ledger) (i : Institution) → IsSound (after_commit (AddEntry loan account) i) → ledger_at loan i ≡ Some l → account.loan.entries ≡ l.entries ++ e ∷ [] → AreEarlier e.seq l.entries
 entry_last loan account e l i sound there are =
     let s = staff_after loan account i in
     let day = disbursed_on l.loan.stage in
     entered_earlier i.catalogue.day s l.loan.periods day l.entries e (subst (AreEntriesBy i.catalogue.day s l.loan.periods day) are (loan_after loan account l i sound there).entries)
 
 -- where an office with one entry more is sound, no receipt stands twice in it
-pub entry_apart : (loan : Account) (account : Kept) (l : Ledger) (i : Institution) → IsSound (after_commit (Enter loan account) i) → ledger_at loan i ≡ Some l → AreApart (uses_from 1 (loan_entered loan.number account.loan.entries (rows_at loan.office i)).loans)
+pub entry_apart : (loan : Account) (account : Kept) (l : Ledger) (i : Institution) → IsSound (after_commit (AddEntry loan account) i) → ledger_at loan i ≡ Some l → AreApart (uses_from 1 (loan_entered loan.number account.loan.entries (rows_at loan.office i)).loans)
 entry_apart loan account l i sound there = (rows_after loan account l i sound there).receipts
 
 -- ---- what the tables show of one loan
@@ -214,7 +196,7 @@ pub as_long : (es after : List Entry) (seq : ℕ) → after ≡ with_mark es (se
 as_long es after seq is = let long = length-set es (seq - 1) (record (entry_at es (seq - 1)) { reversed = true }) in let size : length after ≡ length (with_mark es (seq - 1) true) = ap length is in omega (arith, long, size)
 
 -- what the stored rows of its account become
-pub handed_changed : (loan : Account) (account : Kept) (before : Running) (i : Institution) → IsSound i → IsSound (after_commit (Enter loan account) i) → (of : IsAccountOf loan before i)
+pub handed_changed : (loan : Account) (account : Kept) (before : Running) (i : Institution) → IsSound i → IsSound (after_commit (AddEntry loan account) i) → (of : IsAccountOf loan before i)
     → account.loan ≡ record before { entries = account.loan.entries } → length before.entries ≤ length account.loan.entries → IsReplayed account → IsChange before account.loan account.change → IsChanged i.catalogue of.ledger account
 handed_changed loan account before i sound then of others more kept change = record {
   before = before;

@@ -9,7 +9,7 @@ use Rattle.mf_account.specs.Standing.{entry_at, with_mark}
 use Rattle.mf_office.specs.declared.account.Account.{Account}
 use Rattle.mf_store_tables.specs.Keep.{put_item}
 use Rattle.mf_store_tables.specs.Writes.{AllFit, after_all}
-use Rattle.mf_model.specs.declared.commit.Commit.TheVariants.{AddLoan, SetStage, Enter, Reverse}
+use Rattle.mf_model.specs.declared.commit.Commit.TheVariants.{AddLoan, SetStage, AddEntry, ReverseEntry}
 use Rattle.mf_model.specs.declared.loan.Loan.{Loan}
 use Rattle.mf_model.specs.declared.loan.Stage.{Stage}
 use Rattle.mf_model.specs.Desk.{loan_added, loan_staged, loan_entered}
@@ -147,7 +147,7 @@ module _ (loan : Account) (account : Kept) (l : Ledger) (i : Institution) (befor
   now = with_rows x new i.offices
 
   entries_changed : {e : List EntryRow} {q : List ReceiptRow} → e ≡ entry_rows now → q ≡ receipt_rows now
-      → ◌≡◌ {A = Lists} (record (tables_of i) { entries = e; receipts = q; instalments = instalment_rows i.catalogue now; shares = share_rows i.catalogue now }) (tables_of (after_commit (Enter loan account) i))
+      → ◌≡◌ {A = Lists} (record (tables_of i) { entries = e; receipts = q; instalments = instalment_rows i.catalogue now; shares = share_rows i.catalogue now }) (tables_of (after_commit (AddEntry loan account) i))
   entries_changed entries receipts = same_lists i (offices-with_rows x new i.offices) (same_rows_of staff_in (λ rows. rows.staff) refl by_staff (λ x n y m a b. refl) x new i.offices before.tree.ascending refl)
       (same_rows_of client_in (λ rows. rows.clients) refl by_client (λ x n y m a b. refl) x new i.offices before.tree.ascending refl)
       (same_rows_of loan_in loans_of refl by_loan (λ x n y m a b. refl) x new i.offices before.tree.ascending (loans_entered loan.number account.loan.entries (rows_at x i).loans))
@@ -157,10 +157,10 @@ module _ (loan : Account) (account : Kept) (l : Ledger) (i : Institution) (befor
   change = change_writes x loan.number account
 
   -- these writes and then those of the change
-  with_change : (writes : List StoreWrite) (lists : Lists) → IsSound (after_commit (Enter loan account) i) → AllFit after Fits writes (Some (tables_of i)) → after_all after writes (Some (tables_of i)) ≡ Some lists
+  with_change : (writes : List StoreWrite) (lists : Lists) → IsSound (after_commit (AddEntry loan account) i) → AllFit after Fits writes (Some (tables_of i)) → after_all after writes (Some (tables_of i)) ≡ Some lists
       → lists.instalments ≡ instalment_rows i.catalogue i.offices → lists.shares ≡ share_rows i.catalogue i.offices
-      → ◌≡◌ {A = Lists} (record lists { instalments = instalment_rows i.catalogue now; shares = share_rows i.catalogue now }) (tables_of (after_commit (Enter loan account) i))
-      → Becomes (writes ++ change) i (after_commit (Enter loan account) i)
+      → ◌≡◌ {A = Lists} (record lists { instalments = instalment_rows i.catalogue now; shares = share_rows i.catalogue now }) (tables_of (after_commit (AddEntry loan account) i))
+      → Becomes (writes ++ change) i (after_commit (AddEntry loan account) i)
   with_change writes lists sound fits first instalments shares is = record {
     sound = sound;
     fits = fit_both writes change (Some (tables_of i)) fits (subst (AllFit after Fits change) (sym first) (change_fits x loan.number account lists));
@@ -169,25 +169,25 @@ module _ (loan : Account) (account : Kept) (l : Ledger) (i : Institution) (befor
 
   -- ---- one entry more: its own row, and that of its receipt
 
-  module _ (e : Entry) (sound : IsSound (after_commit (Enter loan account) i)) (are : account.loan.entries ≡ l.entries ++ e ∷ []) (early : AreEarlier e.seq l.entries) (apart : AreApart (uses_from 1 new.loans)) where
+  module _ (e : Entry) (sound : IsSound (after_commit (AddEntry loan account) i)) (are : account.loan.entries ≡ l.entries ++ e ∷ []) (early : AreEarlier e.seq l.entries) (apart : AreApart (uses_from 1 new.loans)) where
     abbrev row : EntryRow
     row = entry_in x loan.number e
 
     row_put : put_item by_entry row (tables_of i).entries ≡ entry_rows now
     row_put = entry_put x loan.number e account.loan.entries l new i.offices before.tree.ascending there refl (subst (PutsEntry x loan.number e l.entries) (sym are) (puts_last x loan.number e l.entries early))
 
-    row_becomes : (o : Option (List ℕ)) → e.receipt ≡ o → Becomes ((write.AddEntry row ∷ receipt_added row o) ++ change) i (after_commit (Enter loan account) i)
+    row_becomes : (o : Option (List ℕ)) → e.receipt ≡ o → Becomes ((write.AddEntry row ∷ receipt_added row o) ++ change) i (after_commit (AddEntry loan account) i)
     row_becomes None none =
         with_change (write.AddEntry row ∷ []) _ sound (refl, tt) refl refl refl (entries_changed row_put (no_receipt_put x loan.number e account.loan.entries l new i.offices before.tree.ascending there refl are none))
     row_becomes (Some r) some =
         with_change (write.AddEntry row ∷ receipt_added row (Some r)) _ sound (refl, (refl, tt)) refl refl refl (entries_changed row_put (receipt_put x loan.number e account.loan.entries l new i.offices r before.tree.ascending there refl are some apart))
 
-    pub entry_becomes : (r : EntryRow) → r ≡ row → Becomes (entry_added r ++ change) i (after_commit (Enter loan account) i)
-    entry_becomes r is = subst (λ s. Becomes (entry_added s ++ change) i (after_commit (Enter loan account) i)) (sym is) (row_becomes e.receipt refl)
+    pub entry_becomes : (r : EntryRow) → r ≡ row → Becomes (entry_added r ++ change) i (after_commit (AddEntry loan account) i)
+    entry_becomes r is = subst (λ s. Becomes (entry_added s ++ change) i (after_commit (AddEntry loan account) i)) (sym is) (row_becomes e.receipt refl)
 
   -- ---- a reversal: one entry's own row
 
-  module _ (seq : ℕ) (sound : IsSound (after_commit (Reverse loan seq account) i)) (numbers : AreNumbered 0 l.entries) (first : 1 ≤ seq) (last : seq ≤ length l.entries) (marked : account.loan.entries ≡ with_mark l.entries (seq - 1) true) where
+  module _ (seq : ℕ) (sound : IsSound (after_commit (ReverseEntry loan seq account) i)) (numbers : AreNumbered 0 l.entries) (first : 1 ≤ seq) (last : seq ≤ length l.entries) (marked : account.loan.entries ≡ with_mark l.entries (seq - 1) true) where
     abbrev entry : Entry
     entry = reversed_entry (entry_at l.entries (seq - 1))
 
@@ -200,8 +200,8 @@ module _ (loan : Account) (account : Kept) (l : Ledger) (i : Institution) (befor
         let ls = (rows_at x i).loans in
         ap (uses_from 1) (with_same_at loan.number (with_entries account.loan.entries) (with_reversal seq) ls l there (ap (λ es. with_entries es l) marked)) ∙ uses_with loan.number 1 (with_reversal seq) ls (λ l k. uses_marked k (seq - 1) l.entries)
 
-    pub reversal_becomes : (r : EntryRow) → r ≡ entry_in x loan.number entry → Becomes (write.ChangeEntry r ∷ change) i (after_commit (Reverse loan seq account) i)
+    pub reversal_becomes : (r : EntryRow) → r ≡ entry_in x loan.number entry → Becomes (write.ChangeEntry r ∷ change) i (after_commit (ReverseEntry loan seq account) i)
     reversal_becomes r is =
-        subst (λ s. Becomes (write.ChangeEntry s ∷ change) i (after_commit (Reverse loan seq account) i)) (sym is)
+        subst (λ s. Becomes (write.ChangeEntry s ∷ change) i (after_commit (ReverseEntry loan seq account) i)) (sym is)
         (with_change (write.ChangeEntry (entry_in x loan.number entry) ∷ []) _ sound (refl, tt) refl refl refl
         (entries_changed (entry_put x loan.number entry account.loan.entries l new i.offices before.tree.ascending there refl puts) (same_receipts_of x new i.offices before.tree.ascending same_uses)))

@@ -3,7 +3,7 @@
 ghost use Rattle.std.specs.Prelude.{◌≡◌, false, IsTrue, OnOk};
 ghost use Rattle.sqlite.specs.Held.{state};
 ghost use Rattle.mf_model.specs.Store.{Commits};
-ghost use Rattle.mf_model.specs.declared.commit.Commit.TheVariants.{Enter, Reverse};
+ghost use Rattle.mf_model.specs.declared.commit.Commit.TheVariants.{AddEntry, ReverseEntry};
 ghost use Rattle.mf_store_records.specs.Calls.{OnlyFaultsShut};
 ghost use Rattle.mf_store_commits.specs.Tabled.{IsTabled, HasGoodDisk, LeavesTables};
 
@@ -18,14 +18,14 @@ use std::alloc::Global;
 
 /// Adds the last entry of a loan's account to the loan, which has all the others and no more, and writes what that
 /// changed of the loan's instalments and shares. Where the entry carries a receipt, its row is added too.
-pub fn enter<S: Alter>(
+pub fn add_entry<S: Alter>(
     alloc: Global,
     connection: &mut Connection<S>,
     loan: Account,
     account: LoanAccount,
 ) -> Result<(), Fault>
     requires alone { connection.old.in_transaction ≡ false }
-    ensures commits { Commits (IsTabled S.Store) (HasGoodDisk S.Store) (LeavesTables S.Store) (Enter loan account) connection.old connection.new result }
+    ensures commits { Commits (IsTabled S.Store) (HasGoodDisk S.Store) (LeavesTables S.Store) (AddEntry loan account) connection.old connection.new result }
     ensures shuts { OnlyFaultsShut (state S.Store connection.old) (state S.Store connection.new) }
     ensures open { HasGoodDisk S.Store connection.new → OnOk result (IsTrue (state S.Store connection.new).is_open) }
     ensures mode { connection.new.in_transaction ≡ false }
@@ -40,7 +40,7 @@ pub fn enter<S: Alter>(
 
 /// Writes an entry of a loan that is reversed in the loan's account, and what that changed of the loan's instalments and
 /// shares. All other entries are the same in both. The row of the entry's receipt stays as it is.
-pub fn reverse<S: Alter>(
+pub fn reverse_entry<S: Alter>(
     alloc: Global,
     connection: &mut Connection<S>,
     loan: Account,
@@ -48,7 +48,7 @@ pub fn reverse<S: Alter>(
     account: LoanAccount,
 ) -> Result<(), Fault>
     requires alone { connection.old.in_transaction ≡ false }
-    ensures commits { Commits (IsTabled S.Store) (HasGoodDisk S.Store) (LeavesTables S.Store) (Reverse loan seq account) connection.old connection.new result }
+    ensures commits { Commits (IsTabled S.Store) (HasGoodDisk S.Store) (LeavesTables S.Store) (ReverseEntry loan seq account) connection.old connection.new result }
     ensures shuts { OnlyFaultsShut (state S.Store connection.old) (state S.Store connection.new) }
     ensures open { HasGoodDisk S.Store connection.new → OnOk result (IsTrue (state S.Store connection.new).is_open) }
     ensures mode { connection.new.in_transaction ≡ false }

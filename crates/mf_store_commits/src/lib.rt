@@ -6,4 +6,4 @@ mod commits;
 mod entering;
 
 pub use commits::write;
-pub use entering::{enter, reverse};
+pub use entering::{add_entry, reverse_entry};

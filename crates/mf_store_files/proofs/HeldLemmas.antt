@@ -68,7 +68,7 @@ use Rattle.mf_store_records.specs.declared.entries.EntryRow.{EntryRow}
 use Rattle.mf_store_records.specs.declared.receipts.ReceiptRow.{ReceiptRow}
 use Rattle.mf_store_accounts.specs.Flat.{numbered_from, all_rows, schema_number, tables_of, office_under, client_in, staff_in, charge_as, product_as, loan_in, entry_in, entry_kind_number, portion_number, flag_number, approval_text, disbursal_text, loans_of, rows_of_loans, own_entries, entry_rows}
 use Rattle.mf_store_accounts.specs.ReceiptRows.{receipt_in, receipts_carried}
-use Rattle.mf_store_changes.proofs.EnteredLemmas.{staff_are_callers}
+use Rattle.mf_model.proofs.StaffLemmas.{staff_are_callers}
 use Rattle.mf_store_changes.proofs.FlatLemmas.{numbered-suc}
 use Rattle.mf_store_changes.proofs.SoundLemmas.{has_number}
 use Rattle.mf_store_accounts.proofs.SortedLemmas.{all_sorted}

@@ -1,6 +1,6 @@
 ghost use Rattle.mf_store_records.specs.Rows.{charge_fields, charge_row, put_charge, is_charge};
 
-use crate::table::{Added, Table, has_columns};
+use crate::table::{New, Put, Table, has_columns};
 use crate::text::Text;
 use mf_store_tables::run;
 use sqlite::{Alter, Error, Row, Transaction, params};
@@ -55,8 +55,8 @@ impl Table for ChargeRow {
     }
 }
 
-impl Added for ChargeRow {
-    fn insert<S: Alter>(&self, tx: &mut Transaction<'_, S>) -> Result<(), Error> {
+impl Put<New> for ChargeRow {
+    fn put_row<S: Alter>(&self, tx: &mut Transaction<'_, S>) -> Result<(), Error> {
         self.execute(tx, "INSERT INTO charges VALUES (?1, ?2, ?3, ?4, ?5)")
     }
 }

@@ -1,6 +1,6 @@
 ghost use Rattle.mf_store_records.specs.Rows.{client_fields, client_row, put_client, is_client, is_client_of};
 
-use crate::table::{Added, Listed, Table, has_columns};
+use crate::table::{Listed, New, Put, Table, has_columns};
 use crate::text::Text;
 use mf_store_tables::run;
 use sqlite::{Alter, Error, Row, Transaction, params};
@@ -44,8 +44,8 @@ impl Table for ClientRow {
     }
 }
 
-impl Added for ClientRow {
-    fn insert<S: Alter>(&self, tx: &mut Transaction<'_, S>) -> Result<(), Error> {
+impl Put<New> for ClientRow {
+    fn put_row<S: Alter>(&self, tx: &mut Transaction<'_, S>) -> Result<(), Error> {
         self.execute(tx, "INSERT INTO clients VALUES (?1, ?2, ?3)")
     }
 }

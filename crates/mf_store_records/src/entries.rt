@@ -1,6 +1,6 @@
 ghost use Rattle.mf_store_records.specs.Rows.{entry_fields, entry_row, put_entry, is_entry, is_entry_of};
 
-use crate::table::{Added, Changed, Listed, Table, has_columns};
+use crate::table::{Changed, Listed, New, Put, Table, has_columns};
 use crate::text::Text;
 use mf_store_tables::run;
 use sqlite::{Alter, Error, Row, Transaction, params};
@@ -86,8 +86,8 @@ impl Table for EntryRow {
     }
 }
 
-impl Added for EntryRow {
-    fn insert<S: Alter>(&self, tx: &mut Transaction<'_, S>) -> Result<(), Error> {
+impl Put<New> for EntryRow {
+    fn put_row<S: Alter>(&self, tx: &mut Transaction<'_, S>) -> Result<(), Error> {
         self.execute(
             tx,
             "INSERT INTO entries VALUES (?1, ?2, ?3, ?4, ?5, ?6, ?7, ?8, ?9, ?10, ?11)",
@@ -95,8 +95,8 @@ impl Added for EntryRow {
     }
 }
 
-impl Changed for EntryRow {
-    fn upsert<S: Alter>(&self, tx: &mut Transaction<'_, S>) -> Result<(), Error> {
+impl Put<Changed> for EntryRow {
+    fn put_row<S: Alter>(&self, tx: &mut Transaction<'_, S>) -> Result<(), Error> {
         self.execute(
             tx,
             "INSERT INTO entries VALUES (?1, ?2, ?3, ?4, ?5, ?6, ?7, ?8, ?9, ?10, ?11) ON CONFLICT (office, loan, seq) DO UPDATE SET kind = excluded.kind, day = excluded.day, amount = excluded.amount, instalment = excluded.instalment, portion = excluded.portion, receipt = excluded.receipt, staff = excluded.staff, reversed = excluded.reversed",

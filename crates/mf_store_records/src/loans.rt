@@ -5,7 +5,7 @@ ghost use Rattle.sqlite.specs.State.{HasCleanDisk};
 ghost use Rattle.mf_store_records.specs.Rows.{loan_fields, Lists, loan_row, put_loan, is_loan, is_loan_of, is_loan_above};
 ghost use Rattle.mf_store_records.specs.Calls.{IsUnchanged, IsKeeping};
 
-use crate::table::{Added, Changed, Listed, Table, ask, has_columns};
+use crate::table::{Changed, Listed, New, Put, Table, ask, has_columns};
 use crate::text::Text;
 use mf_base::Fault;
 use mf_store_tables::run;
@@ -81,8 +81,8 @@ impl Table for LoanRow {
     }
 }
 
-impl Added for LoanRow {
-    fn insert<S: Alter>(&self, tx: &mut Transaction<'_, S>) -> Result<(), Error> {
+impl Put<New> for LoanRow {
+    fn put_row<S: Alter>(&self, tx: &mut Transaction<'_, S>) -> Result<(), Error> {
         self.execute(
             tx,
             "INSERT INTO loans VALUES (?1, ?2, ?3, ?4, ?5, ?6, ?7, ?8, ?9)",
@@ -90,8 +90,8 @@ impl Added for LoanRow {
     }
 }
 
-impl Changed for LoanRow {
-    fn upsert<S: Alter>(&self, tx: &mut Transaction<'_, S>) -> Result<(), Error> {
+impl Put<Changed> for LoanRow {
+    fn put_row<S: Alter>(&self, tx: &mut Transaction<'_, S>) -> Result<(), Error> {
         self.execute(
             tx,
             "INSERT INTO loans VALUES (?1, ?2, ?3, ?4, ?5, ?6, ?7, ?8, ?9) ON CONFLICT (office, number) DO UPDATE SET client = excluded.client, product = excluded.product, principal = excluded.principal, periods = excluded.periods, stage = excluded.stage, approved = excluded.approved, disbursed = excluded.disbursed",

@@ -1,6 +1,6 @@
 ghost use Rattle.mf_store_records.specs.Rows.{meta_fields, meta_row, put_meta, is_meta};
 
-use crate::table::{Changed, Table, has_columns};
+use crate::table::{Changed, Put, Table, has_columns};
 use crate::text::Text;
 use mf_store_tables::run;
 use sqlite::{Alter, Error, Row, Transaction, params};
@@ -52,8 +52,8 @@ impl Table for MetaRow {
     }
 }
 
-impl Changed for MetaRow {
-    fn upsert<S: Alter>(&self, tx: &mut Transaction<'_, S>) -> Result<(), Error> {
+impl Put<Changed> for MetaRow {
+    fn put_row<S: Alter>(&self, tx: &mut Transaction<'_, S>) -> Result<(), Error> {
         self.execute(
             tx,
             "INSERT INTO meta VALUES (?1, ?2, ?3) ON CONFLICT (one) DO UPDATE SET schema = excluded.schema, day = excluded.day",

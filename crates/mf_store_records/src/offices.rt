@@ -5,7 +5,7 @@ ghost use Rattle.sqlite.specs.State.{HasCleanDisk};
 ghost use Rattle.mf_store_records.specs.Rows.{office_fields, Lists, office_row, put_office, is_office, is_in_range};
 ghost use Rattle.mf_store_records.specs.Calls.{IsUnchanged, IsKeeping};
 
-use crate::table::{Added, Table, ask, has_columns};
+use crate::table::{New, Put, Table, ask, has_columns};
 use crate::text::Text;
 use mf_base::Fault;
 use mf_store_tables::run;
@@ -58,8 +58,8 @@ impl Table for OfficeRow {
     }
 }
 
-impl Added for OfficeRow {
-    fn insert<S: Alter>(&self, tx: &mut Transaction<'_, S>) -> Result<(), Error> {
+impl Put<New> for OfficeRow {
+    fn put_row<S: Alter>(&self, tx: &mut Transaction<'_, S>) -> Result<(), Error> {
         self.execute(tx, "INSERT INTO offices VALUES (?1, ?2, ?3, ?4)")
     }
 }

@@ -1,6 +1,6 @@
 ghost use Rattle.mf_store_records.specs.Rows.{product_fields, product_row, put_product, is_product};
 
-use crate::table::{Added, Changed, Table, has_columns};
+use crate::table::{Changed, New, Put, Table, has_columns};
 use crate::text::Text;
 use mf_store_tables::run;
 use sqlite::{Alter, Error, Row, Transaction, params};
@@ -101,8 +101,8 @@ impl Table for ProductRow {
     }
 }
 
-impl Added for ProductRow {
-    fn insert<S: Alter>(&self, tx: &mut Transaction<'_, S>) -> Result<(), Error> {
+impl Put<New> for ProductRow {
+    fn put_row<S: Alter>(&self, tx: &mut Transaction<'_, S>) -> Result<(), Error> {
         self.execute(
             tx,
             "INSERT INTO products VALUES (?1, ?2, ?3, ?4, ?5, ?6, ?7, ?8, ?9, ?10, ?11, ?12, ?13, ?14, ?15, ?16, ?17)",
@@ -110,8 +110,8 @@ impl Added for ProductRow {
     }
 }
 
-impl Changed for ProductRow {
-    fn upsert<S: Alter>(&self, tx: &mut Transaction<'_, S>) -> Result<(), Error> {
+impl Put<Changed> for ProductRow {
+    fn put_row<S: Alter>(&self, tx: &mut Transaction<'_, S>) -> Result<(), Error> {
         self.execute(
             tx,
             "INSERT INTO products VALUES (?1, ?2, ?3, ?4, ?5, ?6, ?7, ?8, ?9, ?10, ?11, ?12, ?13, ?14, ?15, ?16, ?17) ON CONFLICT (number) DO UPDATE SET name = excluded.name, method = excluded.method, rate = excluded.rate, frequency = excluded.frequency, every = excluded.every, principal_grace = excluded.principal_grace, interest_grace = excluded.interest_grace, min_principal = excluded.min_principal, max_principal = excluded.max_principal, min_periods = excluded.min_periods, max_periods = excluded.max_periods, strategy = excluded.strategy, disbursement_charge = excluded.disbursement_charge, instalment_charge = excluded.instalment_charge, overdue_charge = excluded.overdue_charge, retired = excluded.retired",

@@ -5,7 +5,7 @@ ghost use Rattle.sqlite.specs.State.{HasCleanDisk};
 ghost use Rattle.mf_store_records.specs.Rows.{receipt_fields, Lists, receipt_row, put_receipt, is_receipt};
 ghost use Rattle.mf_store_records.specs.Calls.{IsUnchanged, IsKeeping};
 
-use crate::table::{Added, Table, ask, first, has_columns};
+use crate::table::{New, Put, Table, ask, first, has_columns};
 use crate::text::Text;
 use mf_base::Fault;
 use mf_store_tables::run;
@@ -58,8 +58,8 @@ impl Table for ReceiptRow {
     }
 }
 
-impl Added for ReceiptRow {
-    fn insert<S: Alter>(&self, tx: &mut Transaction<'_, S>) -> Result<(), Error> {
+impl Put<New> for ReceiptRow {
+    fn put_row<S: Alter>(&self, tx: &mut Transaction<'_, S>) -> Result<(), Error> {
         self.execute(tx, "INSERT INTO receipts VALUES (?1, ?2, ?3, ?4)")
     }
 }

@@ -4,7 +4,7 @@ ghost use Rattle.sqlite.specs.State.{HasCleanDisk, KeepsCommit, Survives};
 ghost use Rattle.mf_store_records.specs.Rows.{share_fields, share_row, put_share, is_share, is_share_of, drop_shares};
 ghost use Rattle.mf_store_records.specs.Writes.{Putting};
 
-use crate::table::{Changed, Listed, Table, has_columns};
+use crate::table::{Changed, Listed, Put, Table, has_columns};
 use mf_store_tables::run;
 use sqlite::{Alter, Error, Row, Transaction, params};
 
@@ -76,8 +76,8 @@ impl Table for ShareRow {
     }
 }
 
-impl Changed for ShareRow {
-    fn upsert<S: Alter>(&self, tx: &mut Transaction<'_, S>) -> Result<(), Error> {
+impl Put<Changed> for ShareRow {
+    fn put_row<S: Alter>(&self, tx: &mut Transaction<'_, S>) -> Result<(), Error> {
         self.execute(
             tx,
             "INSERT INTO shares VALUES (?1, ?2, ?3, ?4, ?5, ?6, ?7, ?8) ON CONFLICT (office, loan, seq, place) DO UPDATE SET instalment = excluded.instalment, portion = excluded.portion, how = excluded.how, amount = excluded.amount",

@@ -1,6 +1,6 @@
 ghost use Rattle.mf_store_records.specs.Rows.{staff_fields, staff_row, put_staff, is_staff, is_staff_of};
 
-use crate::table::{Added, Listed, Table, has_columns};
+use crate::table::{Listed, New, Put, Table, has_columns};
 use crate::text::Text;
 use mf_store_tables::run;
 use sqlite::{Alter, Error, Row, Transaction, params};
@@ -51,8 +51,8 @@ impl Table for StaffRow {
     }
 }
 
-impl Added for StaffRow {
-    fn insert<S: Alter>(&self, tx: &mut Transaction<'_, S>) -> Result<(), Error> {
+impl Put<New> for StaffRow {
+    fn put_row<S: Alter>(&self, tx: &mut Transaction<'_, S>) -> Result<(), Error> {
         self.execute(tx, "INSERT INTO staff VALUES (?1, ?2, ?3, ?4)")
     }
 }

@@ -136,21 +136,16 @@ pub trait Table: Sized {
             → rows ≡ map stored (filter (is_at key) (list lists)) };
 }
 
-/// A table that gets new rows.
-pub trait Added: Table {
-    /// Puts the row, whose key is new.
-    fn insert<S: Alter>(&self, tx: &mut Transaction<'_, S>) -> Result<(), Error>
-        ensures same_reference { tx.new.conn.ghost_name ≡ tx.old.conn.ghost_name }
-        ensures ok { HasCleanDisk (state S.Store tx.new.conn.now) → IsTrue (state S.Store tx.old.conn.now).in_transaction
-            → OnOk result (Putting (Self.put self.now) (state S.Store tx.old.conn.now) (state S.Store tx.new.conn.now)) }
-        ensures kept { HasCleanDisk (state S.Store tx.new.conn.now) → KeepsCommit (state S.Store tx.old.conn.now) (state S.Store tx.new.conn.now) }
-        ensures survives { Survives (state S.Store tx.old.conn.now) (state S.Store tx.new.conn.now) (λ _. ⊥) };
-}
+/// A row is put as a new one, whose key no other has.
+pub struct New;
 
-/// A table whose rows change.
-pub trait Changed: Table {
-    /// Puts the row, in place of the one with its key.
-    fn upsert<S: Alter>(&self, tx: &mut Transaction<'_, S>) -> Result<(), Error>
+/// A row is put in place of the one with its key.
+pub struct Changed;
+
+/// A table whose rows are put so: `How` is `New` or `Changed`.
+pub trait Put<How>: Table {
+    /// Puts the row under its key.
+    fn put_row<S: Alter>(&self, tx: &mut Transaction<'_, S>) -> Result<(), Error>
         ensures same_reference { tx.new.conn.ghost_name ≡ tx.old.conn.ghost_name }
         ensures ok { HasCleanDisk (state S.Store tx.new.conn.now) → IsTrue (state S.Store tx.old.conn.now).in_transaction
             → OnOk result (Putting (Self.put self.now) (state S.Store tx.old.conn.now) (state S.Store tx.new.conn.now)) }

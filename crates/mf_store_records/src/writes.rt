@@ -18,7 +18,7 @@ use crate::products::ProductRow;
 use crate::receipts::ReceiptRow;
 use crate::shares::{EntryKey, ShareRow};
 use crate::staff::StaffRow;
-use crate::table::{Added, Changed};
+use crate::table::{Changed, New, Put};
 use mf_store_tables::{Write, run};
 use sqlite::{Alter, Error, Transaction};
 
@@ -120,20 +120,20 @@ impl Write for StoreWrite {
     fn write<S: Alter>(&self, tx: &mut Transaction<'_, S>) -> Result<(), Error> {
         match self {
             StoreWrite::MakeTables => make_tables(tx),
-            StoreWrite::PutMeta(meta) => meta.upsert(tx),
-            StoreWrite::PutOffice(office) => office.insert(tx),
-            StoreWrite::PutStaff(staff) => staff.insert(tx),
-            StoreWrite::PutClient(client) => client.insert(tx),
-            StoreWrite::PutCharge(charge) => charge.insert(tx),
-            StoreWrite::AddProduct(product) => product.insert(tx),
-            StoreWrite::PutProduct(product) => product.upsert(tx),
-            StoreWrite::AddLoan(loan) => loan.insert(tx),
-            StoreWrite::PutLoan(loan) => loan.upsert(tx),
-            StoreWrite::AddEntry(entry) => entry.insert(tx),
-            StoreWrite::ChangeEntry(entry) => entry.upsert(tx),
-            StoreWrite::AddReceipt(receipt) => receipt.insert(tx),
-            StoreWrite::PutInstalment(instalment) => instalment.upsert(tx),
-            StoreWrite::PutShare(share) => share.upsert(tx),
+            StoreWrite::PutMeta(meta) => Put::<Changed>::put_row(meta, tx),
+            StoreWrite::PutOffice(office) => Put::<New>::put_row(office, tx),
+            StoreWrite::PutStaff(staff) => Put::<New>::put_row(staff, tx),
+            StoreWrite::PutClient(client) => Put::<New>::put_row(client, tx),
+            StoreWrite::PutCharge(charge) => Put::<New>::put_row(charge, tx),
+            StoreWrite::AddProduct(product) => Put::<New>::put_row(product, tx),
+            StoreWrite::PutProduct(product) => Put::<Changed>::put_row(product, tx),
+            StoreWrite::AddLoan(loan) => Put::<New>::put_row(loan, tx),
+            StoreWrite::PutLoan(loan) => Put::<Changed>::put_row(loan, tx),
+            StoreWrite::AddEntry(entry) => Put::<New>::put_row(entry, tx),
+            StoreWrite::ChangeEntry(entry) => Put::<Changed>::put_row(entry, tx),
+            StoreWrite::AddReceipt(receipt) => Put::<New>::put_row(receipt, tx),
+            StoreWrite::PutInstalment(instalment) => Put::<Changed>::put_row(instalment, tx),
+            StoreWrite::PutShare(share) => Put::<Changed>::put_row(share, tx),
             StoreWrite::RemoveShares(entry) => entry.remove_shares(tx),
         }
     }

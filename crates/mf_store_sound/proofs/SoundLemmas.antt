@@ -1,8 +1,7 @@
 -- The parts of a sound institution's rows, apart and together.
-use Rattle.std.proofs.Common.{◌≡◌, ◌↔◌, ◌<◌, ◌≤◌, ◌+◌, ◌-◌, ◌∙◌, ℕ, zero, suc, Bool, true, false, cond, List, [], ◌∷◌, ◌++◌, map, length, slice_get, Option, Some, None, refl, sym, ap, subst, arith, true≢false, ◌==◌}
+use Rattle.std.proofs.Common.{◌≡◌, ◌↔◌, ◌≤◌, ◌+◌, ◌-◌, ◌∙◌, ℕ, Bool, true, false, cond, List, [], ◌∷◌, ◌++◌, map, length, Option, Some, None, refl, sym, ap, subst, arith, ◌==◌}
 use Rattle.std.specs.List.{AllByRecursion, list_all}
 use Rattle.std.specs.Option.{is_some}
-use Rattle.std.proofs.lemmas.Bool.Decides.{nat_tests}
 use Rattle.sqlite_keyed.proofs.ListLemmas.{all_weaker, all_from_test, test_from_all, all-append}
 use Rattle.sqlite_keyed.specs.Lists.{sort_by}
 use Rattle.mf_base.specs.DayText.{last_entered_day}
@@ -13,11 +12,12 @@ use Rattle.mf_office.specs.Written.{caller_text}
 use Rattle.mf_office.specs.declared.caller.Caller.{Caller}
 use Rattle.mf_office.proofs.ReadLemmas.{caller_of-text}
 use Rattle.mf_account.specs.declared.entry.Entry.{Entry}
-use Rattle.mf_model.specs.Institution.{Catalogue, Charge, Ledger, Offer, Office, Rows, charge_in, item_numbered, office_at}
+use Rattle.mf_model.specs.Institution.{Catalogue, Charge, Ledger, Offer, Office, Rows, charge_in, office_at}
 use Rattle.mf_model.specs.Receipts.{uses_from, AreApart}
 use Rattle.mf_model.specs.Sound.{IsName, IsSoundCatalogue, IsSoundCharge, IsSoundOffer, IsSoundOffice, IsSoundRows, IsSoundLoan, IsEntryBy, AreEntriesBy, is_staff}
 use Rattle.mf_model.specs.Stages.{disbursed_on}
 use Rattle.mf_model.specs.Tree.{Above, Ascending, IsTree, parent_of, is_there}
+use Rattle.mf_model.proofs.StaffLemmas.{staff_are_callers}
 use Rattle.mf_store_records.specs.Rows.{Lists, by_receipt, AreReceiptsInOrder}
 use Rattle.mf_store_records.specs.declared.charges.ChargeRow.{ChargeRow}
 use Rattle.mf_store_records.specs.declared.clients.ClientRow.{ClientRow}
@@ -48,31 +48,6 @@ use Rattle.mf_store_sound.proofs.ReceiptLemmas.{in_order_apart, apart_in_order}
 use Rattle.mf_store_sound.proofs.StoredLemmas.{AreRowsOf, gathered, parted}
 
 -- ---- who is there
-
-placed : {A : Type 0} (xs : List A) (d : ℕ) → is_some (slice_get xs d) ≡ true → d < length xs
-placed [] d h = absurd (true≢false (sym h))
-placed (x ∷ xs) zero h = omega arith
-placed (x ∷ xs) (suc d) h = let more : d < length xs = placed xs d h in omega (arith, more)
-
-has_number : {A : Type 0} (xs : List A) (n limit : ℕ) → length xs ≤ limit → is_some (item_numbered xs n) ≡ true → IsNumberUpTo limit n
-has_number xs n limit few h = go (n == 0) refl h
-  where
-    go : (b : Bool) → (n == 0) ≡ b → is_some (cond b None (slice_get xs (n - 1))) ≡ true → IsNumberUpTo limit n
-    go true e h = absurd (true≢false (sym h))
-    go false e h =
-        let some : 1 ≤ n = grind (arith, nat_tests) in
-        let low : n - 1 < length xs = placed xs (n - 1) h in
-        (some, omega (arith, some, low, few))
-
-staff_are_callers : (k : Catalogue) (s : Caller → Bool) (fs : List Office) → AllByRecursion (IsSoundOffice k s) fs → (c : Caller) → is_staff fs c ≡ true → IsCaller c
-staff_are_callers k s [] all c there = absurd (true≢false (sym there))
-staff_are_callers k s (f ∷ fs) all c there = go (f.number == c.office) refl there (staff_are_callers k s fs all.1 c)
-  where
-    go : (b : Bool) → (f.number == c.office) ≡ b → is_some (elim (cond b (Some f) (office_at c.office fs)) [ None ↦ None | Some g ↦ item_numbered g.rows.staff c.staff ]) ≡ true → (is_staff fs c ≡ true → IsCaller c) → IsCaller c
-    go true e there more =
-        let same : f.number ≡ c.office = grind (arith, nat_tests) in
-        (subst (IsNumberUpTo 9999) same all.0.number, has_number f.rows.staff c.staff 9999 all.0.rows.staff_limit there)
-    go false e there more = more there
 
 module _ (fs : List Office) where
   abbrev AreThere : List Entry → Type 0

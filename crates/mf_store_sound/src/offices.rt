@@ -1,17 +1,17 @@
 //! The rows of offices: whether they are one tree, with the hierarchy texts that their parents give.
 
-ghost use Rattle.std.specs.Prelude.{◌≡◌, ◌≢◌, ◌≤◌, ◌↔◌, IsTrue, IfOk, IfErr, map, string_bytes, option_copied};
+ghost use Rattle.std.specs.Prelude.{◌≡◌, ◌≢◌, ◌≤◌, ◌↔◌, IsTrue, IfOk, IfErr, map, option_copied};
 ghost use Rattle.std.specs.List.{AllByRecursion};
 ghost use Rattle.mf_base.specs.declared.fault.Fault.TheVariants.{F20};
 ghost use Rattle.mf_model.specs.Tree.{Ascending};
-ghost use Rattle.mf_office.specs.Keys.{child_key, head_key, key_depth};
+ghost use Rattle.mf_office.specs.Keys.{child_key, head_key};
 ghost use Rattle.mf_store_sound.specs.Offices.{IsNumberedAndNamed, AscendFrom, row_at, HasParentsText};
 ghost use Rattle.mf_store_sound.specs.Offices.{IsOfficeRow, AreOfficeRows, AreOffices};
 ghost use Rattle.mf_store_accounts.specs.Parts.{office_of};
 
 use mf_base::Fault;
 use mf_model::is_name;
-use mf_office::{OfficeNo, tree_by_its_keys};
+use mf_office::{OfficeNo, child_text, count_dots, laws};
 use mf_store_records::OfficeRow;
 use std::alloc::Global;
 
@@ -40,22 +40,6 @@ fn find_office(offices: &[OfficeRow], number: u32) -> Option<&OfficeRow>
         Ok(place) => Some(&offices[place]),
         Err(_) => None,
     }
-}
-
-/// The hierarchy text of a child of an office.
-fn child_text(alloc: Global, above: &str, number: u32) -> Result<String, Fault>
-    ensures text { IfOk result (λ text. string_bytes text ≡ child_key above.now number) }
-    ensures gives_up { IfErr result (λ fault. fault ≡ F20) }
-{
-    let text = format!(in alloc; "{above}{number}.")?;
-    Ok(text)
-}
-
-/// How many dots a hierarchy text has.
-fn count_dots(key: &str) -> usize
-    ensures { result ≡ key_depth key.now }
-{
-    key.bytes().filter(|b| *b == b'.').count()
 }
 
 /// Whether a row's number and name are those of an office.
@@ -140,6 +124,6 @@ pub(crate) fn are_offices(alloc: Global, offices: &[OfficeRow]) -> Result<bool, 
     ensures offices { IfOk result (λ yes. IsTrue yes ↔ AreOffices offices.now) }
     ensures gives_up { IfErr result (λ fault. fault ≡ F20) }
 {
-    tree_by_its_keys();
+    laws::tree_by_its_keys();
     are_office_rows(alloc, offices)
 }

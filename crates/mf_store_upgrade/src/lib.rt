@@ -7,9 +7,10 @@ ghost use Rattle.std.specs.Prelude.{◌≡◌, IsTrue, OnOk};
 ghost use Rattle.sqlite.specs.State.{HasCleanDisk, KeepsCommit, Survives};
 ghost use Rattle.sqlite.specs.Held.{state};
 ghost use Rattle.mf_store_tables.specs.Writes.{Serves, Steps};
-ghost use Rattle.mf_store_upgrade.specs.Upgrade.{KeptLists, schema_kept, Holds, Fits, after, UpgradesFirst};
+ghost use Rattle.mf_store_upgrade.specs.Upgrade.{KeptLists, schema_kept, Holds, Fits, after};
 
 mod commit;
+pub mod laws;
 
 pub use commit::upgrade;
 use mf_store_records::{CREATE_INSTALMENTS, CREATE_SHARES, StoreWrite};
@@ -54,8 +55,3 @@ impl Write for UpgradeWrite {
         }
     }
 }
-
-/// A law: where the rows rise by key, these writes bring the lists of the first schema to those of the second.
-pub fn upgrades_first()
-    ensures { UpgradesFirst }
-{}

@@ -11,7 +11,7 @@ ghost use Rattle.mf_store_accounts.specs.Flat.{loan_in, approval_text, disbursal
 
 use crate::offices::office_number;
 use crate::values::unsigned;
-use mf_base::{Day, Fault, texts_of_days};
+use mf_base::{Day, Fault, laws};
 use mf_model::{Loan, Stage};
 use mf_office::{Account, AccountNo};
 use mf_store_records::{LoanRow, Text, read_row};
@@ -22,7 +22,7 @@ pub(crate) fn day_from(text: &Text) -> Result<Day, Fault>
     ensures day { IfOk result (λ day. (n : ℕ) → text.now ≡ day_text n → day ≡ n) }
     ensures gives_up { IfErr result (λ fault. fault ≡ F20) }
 {
-    texts_of_days();
+    laws::texts_of_days();
     match Day::read(text.as_str().as_bytes()) {
         Some(day) => Ok(day),
         None => Err(Fault::F20),

@@ -1,15 +1,11 @@
 -- Runs that begin with the same view of an office, and touch it alike, agree.
-use Rattle.std.proofs.Common.{◌≡◌, ℕ, Bool, List, map, sym, ap, ◌∙◌, subst}
-use Rattle.mf_model.specs.declared.request.Call.{Call}
-use Rattle.mf_model.specs.Institution.{Institution}
+use Rattle.std.proofs.Common.{ℕ, map, sym, ap, ◌∙◌, subst}
 use Rattle.mf_model.specs.Tree.{view}
-use Rattle.mf_model.specs.Run.{Line, from_office, from_caller, touching_list, play, play_replies, given_up, but_given_up, Alike}
+use Rattle.mf_model.specs.Run.{from_office, from_caller, touching_list, play, given_up, but_given_up, Alike}
+use Rattle.mf_model.proofs.Runs.{same_play}
 use Rattle.mf_wire_replies.specs.Shown.{shown_line}
 use Rattle.mf_wire.specs.Runs.{WireRun, IsIsolated, office_play}
 use Rattle.mf_wire.specs.Agreeing.{Agree}
-
-same_play : (meant : Call → Bool) (o : ℕ) (i j : Institution) (ls ks : List Line) → Alike o i j ls ks → play_replies meant (touching_list o ls i) (view o i) ≡ play_replies meant (touching_list o ks j) (view o j)
-same_play meant o i j ls ks a = ap (λ ts. play_replies meant ts (view o i)) a.touching_is ∙ ap (play_replies meant (touching_list o ks j)) a.view_is
 
 pub runs_agree : (o : ℕ) (one other : WireRun) → IsIsolated one → IsIsolated other → Alike o one.institution other.institution one.run other.run → Agree o one other
 runs_agree o one other first second a = record {

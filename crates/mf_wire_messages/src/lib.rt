@@ -6,13 +6,12 @@
 mod bodies;
 mod fields;
 mod head;
-mod laws;
+pub mod laws;
 mod messages;
 mod reading;
 mod responses;
 
 pub use bodies::fill;
-pub use laws::{one_message, worked_messages};
 pub use messages::Message;
 pub use reading::{Arrival, read_message};
 pub use responses::{write_refusal, write_reply};

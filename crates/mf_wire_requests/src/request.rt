@@ -36,14 +36,11 @@ pub enum Method {
 fn method_of(text: &[u8]) -> Method
     ensures { result ≡ method_of text.now }
 {
-    if text == b"GET".as_slice() {
-        Method::Get
-    } else if text == b"POST".as_slice() {
-        Method::Post
-    } else if text == b"PUT".as_slice() {
-        Method::Put
-    } else {
-        Method::Other
+    match text {
+        b"GET" => Method::Get,
+        b"POST" => Method::Post,
+        b"PUT" => Method::Put,
+        _ => Method::Other,
     }
 }
 

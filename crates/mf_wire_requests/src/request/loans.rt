@@ -17,6 +17,7 @@ use mf_catalog::{GREATEST_AMOUNT, MOST_PERIODS};
 use mf_model::{
     Application, LoanRequest, LoanStep, OfficeRequest, Posting, Repayment, Request, Waivable,
 };
+use mf_office::AccountNo;
 use serde_json::Value;
 use std::alloc::Global;
 
@@ -164,7 +165,7 @@ pub fn list_loans(params: &Params<'_, '_>) -> Result<Request, Fault>
 {
     let office = number_in_path(params, "office")?;
     let after = number_in_path(params, "after")?;
-    if after > 999_999 {
+    if after > AccountNo::MAX {
         return Err(Fault::F1);
     }
     Ok(Request::Office {

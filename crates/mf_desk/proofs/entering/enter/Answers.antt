@@ -5,7 +5,7 @@ use Rattle.mf_account.specs.declared.entry.Entry.{Entry}
 use Rattle.mf_account.specs.Loan.{Loan as Running}
 use Rattle.mf_account.specs.Refusals.{refusal_of, HasForm}
 use Rattle.mf_model.specs.Loans.{fault_or}
-use Rattle.mf_model.specs.declared.commit.Commit.TheVariants.{Enter}
+use Rattle.mf_model.specs.declared.commit.Commit.TheVariants.{AddEntry}
 use Rattle.mf_model.specs.declared.reply.LoanReply.TheVariants.{Entered}
 use Rattle.mf_model.specs.declared.reply.Reply.TheVariants as reply
 use Rattle.mf_model.proofs.SoundLemmas.{IsNext, posting_is_next}
@@ -71,8 +71,8 @@ returns-clause-decides g c =
     let make = entry_of c.args.asked c.args.caller in
     let after = c.in_ok-account-2.account in
     let made : c.in_ok-entry.entry ≡ make today account.loan = c.in_ok-entry.ensures.made in
-    let is : c.change.result ≡ record { reply = reply.Loan c.args.loan (Entered (make today account.loan).seq); commit = Some (Enter c.args.loan after) } =
-    c.change.ensures ∙ ap (λ (x : Entry). record { reply = reply.Loan c.args.loan (Entered x.seq); commit = Some (Enter c.args.loan after) }) made
+    let is : c.change.result ≡ record { reply = reply.Loan c.args.loan (Entered (make today account.loan).seq); commit = Some (AddEntry c.args.loan after) } =
+    c.change.ensures ∙ ap (λ (x : Entry). record { reply = reply.Loan c.args.loan (Entered x.seq); commit = Some (AddEntry c.args.loan after) }) made
     in
     rw is (then_entered s c.args.loan first make account after today c.args.store.now c.find_account.new.store c.business_day.new.self c.in_ok-account.ensures.asks c.in_ok-today.ensures
     (λ replayed. by_account (first account.loan) (refusal_of account.loan (make today account.loan) today) (c.in_ok-entry.ensures.first replayed) ∙ ap (λ (x : Entry). refusal_of account.loan x today) (sym made) ∙ c.in_ok-account-2.ensures.accepted replayed)

@@ -12,9 +12,9 @@ use Rattle.mf_store.proofs.store.Store.disbursed_status.Goals as goal
 
 pub returns-clause-value : goal.returns-clause-value
 returns-clause-value g c clean i s l at day on =
-    let before = c.in_ok-entries.ensures.kept.premise clean in
+    let before = c.in_ok-entries.ensures.asks.kept.premise clean in
     let rows = c.deref-3.ensures.value ∙ c.in_ok-rows.ensures.value before i s l at in
-    let entries = c.deref-2.ensures.value ∙ c.in_ok-entries.ensures.value clean i (c.in_ok-rows.ensures.kept.same before i s) ∙ ap entries_of at in
+    let entries = c.deref-2.ensures.value ∙ c.in_ok-entries.ensures.value clean i (c.in_ok-rows.ensures.asks.kept.same before i s) ∙ ap entries_of at in
     IfOk-weaker c.settled_status.result _ (λ status. status ≡ status_in i.catalogue l)
     (λ status told. told ∙ (λ t. status_told (entries t) (rows t)) ∙ status_read c.args.account l i day s.sound at on) c.settled_status.ensures.status
 

@@ -3,12 +3,12 @@ use Rattle.std.proofs.lemmas.Result.{IfOk-weaker}
 use Rattle.mf_store_changes.proofs.ReceiptRowLemmas.{receipt_found}
 use Rattle.mf_store_accounts.specs.Flat.{tables_of}
 use Rattle.mf_store_commits.proofs.StandLemmas.{unchanged_stays}
-use Rattle.mf_store.proofs.KeptLemmas.{known_stays}
+use Rattle.mf_store.proofs.KeptLemmas.{known_asks}
 use Rattle.mf_store.proofs.store.Store.find_receipt.Goals as goal
 
-pub returns-clause-kept : goal.returns-clause-kept
-returns-clause-kept g c =
-    rw (← c.self.view_is) (known_stays g.S.Store c.self.inside.connection c.find_receipt.new.connection c.self.inside.known (unchanged_stays g.S.Store c.self.inside.connection c.find_receipt.new.connection c.find_receipt.ensures.kept))
+pub returns-clause-asks : goal.returns-clause-asks
+returns-clause-asks g c =
+    rw (← c.self.view_is) (known_asks g.S.Store c.self.inside.connection c.find_receipt.new.connection c.self.inside.known c.find_receipt.result (unchanged_stays g.S.Store c.self.inside.connection c.find_receipt.new.connection c.find_receipt.ensures.kept) c.find_receipt.ensures.gives_up c.find_receipt.ensures.open)
 
 pub returns-clause-value : goal.returns-clause-value
 returns-clause-value g c =

@@ -12,9 +12,9 @@ loop-row-preserved g c =
     let kept = c.loop-row.invariant.kept in
     let now = c.in_ok-line.ensures in
     record {
-      kept = stays_then g.S.Store c.args.self.now c.loop-row.self c.line_of.new.self kept now.kept;
-      live = λ clean opened. now.open clean (c.loop-row.invariant.live (now.kept.premise clean) opened);
-      read = λ clean i s office ls all are. let before = now.kept.premise clean in
+      kept = stays_then g.S.Store c.args.self.now c.loop-row.self c.line_of.new.self kept now.asks.kept;
+      live = λ clean opened. now.asks.stays_open clean (c.loop-row.invariant.live (now.asks.kept.premise clean) opened);
+      read = λ clean i s office ls all are. let before = now.asks.kept.premise clean in
           mapped_more (IsLoanOf office i) (λ (k : ℕ × Ledger). loan_row (loan_in office k.0 k.1.loan)) (λ (k : ℕ × Ledger). line_in i.catalogue office k.0 k.1) c.args.rows.now c.loop-row.row-index c.row-item.result no_loan c.in_ok-line.line c.loop-row.lines.items _ ls are all c.loop-row-test.true c.row-item.is
           c.in_ok-push.ensures.items (c.loop-row.invariant.read before i s office ls all are) (λ (k : ℕ × Ledger) at is. now.value clean i (kept.same before i s) office k.0 k.1 is at);
     }

@@ -10,9 +10,9 @@ loop-office-preserved g c =
     let kept = c.loop-office.invariant.kept in
     let now = c.in_ok-line.ensures in
     record {
-      kept = stays_then g.S.Store c.args.self.now c.loop-office.self c.office_line.new.self kept now.kept;
-      live = λ clean opened. now.open clean (c.loop-office.invariant.live (now.kept.premise clean) opened);
-      read = λ clean i s day. let before = now.kept.premise clean in
+      kept = stays_then g.S.Store c.args.self.now c.loop-office.self c.office_line.new.self kept now.asks.kept;
+      live = λ clean opened. now.asks.stays_open clean (c.loop-office.invariant.live (now.asks.kept.premise clean) opened);
+      read = λ clean i s day. let before = now.asks.kept.premise clean in
           mapped_office (line_at i) c.args.offices.now c.loop-office.office-index c.office-item.result c.in_ok-line.line c.loop-office.lines.items _ c.loop-office-test.true c.office-item.is
           c.in_ok-push.ensures.items (now.value clean i (kept.same before i s) day) (c.loop-office.invariant.read before i s day);
     }

@@ -1,11 +1,11 @@
 use Rattle.mf_store_accounts.specs.Flat.{tables_of}
-use Rattle.mf_store.proofs.KeptLemmas.{known_stays}
+use Rattle.mf_store.proofs.KeptLemmas.{known_asks}
 use Rattle.mf_store_commits.proofs.StandLemmas.{unchanged_stays}
 use Rattle.mf_store.proofs.store.Store.rows_within.Goals as goal
 
-pub returns-clause-kept : goal.returns-clause-kept
-returns-clause-kept g c =
-    rw (← c.self.view_is) (known_stays g.S.Store c.self.inside.connection c.offices_within.new.connection c.self.inside.known (unchanged_stays g.S.Store c.self.inside.connection c.offices_within.new.connection c.offices_within.ensures.kept))
+pub returns-clause-asks : goal.returns-clause-asks
+returns-clause-asks g c =
+    rw (← c.self.view_is) (known_asks g.S.Store c.self.inside.connection c.offices_within.new.connection c.self.inside.known c.offices_within.result (unchanged_stays g.S.Store c.self.inside.connection c.offices_within.new.connection c.offices_within.ensures.kept) c.offices_within.ensures.gives_up c.offices_within.ensures.open)
 
 pub returns-clause-rows : goal.returns-clause-rows
 returns-clause-rows g c = rw (← c.self.view_is) (λ clean i s. c.offices_within.ensures.rows clean (tables_of i) s.serves)
