@@ -15,7 +15,7 @@ use Rattle.microloan_words.specs.declared.asked.ServeWords.{ServeWords}
 use Rattle.microloan_words.specs.declared.asked.StaffWords.{StaffWords}
 use Rattle.microloan_words.specs.declared.asked.ScheduleWords.{ScheduleWords}
 use Rattle.microloan_words.specs.declared.asked.Words.{Words}
-use Rattle.microloan_words.specs.declared.asked.Words.TheVariants.{Bad, Help, Memory}
+use Rattle.microloan_words.specs.declared.asked.Words.TheVariants.{Bad, Help, Version, Memory}
 use Rattle.microloan_words.specs.declared.asked.Command.{Command}
 use Rattle.microloan_words.specs.declared.asked.Command.TheVariants.{Batch, Serve, Collect, Report, Schedule}
 
@@ -137,18 +137,28 @@ faults_of words = fault_of microloan_app words
 -- the help was asked for
 abbrev pub IsHelp : Words → Type 0
 IsHelp (Help text) = Unit {0}
+IsHelp (Version text) = ⊥
 IsHelp (Bad line) = ⊥
 IsHelp Memory = ⊥
+
+-- the version was asked for
+abbrev pub IsVersion : Words → Type 0
+IsVersion (Help text) = ⊥
+IsVersion (Version text) = Unit {0}
+IsVersion (Bad line) = ⊥
+IsVersion Memory = ⊥
 
 -- the words are wrong
 abbrev pub IsBad : Words → Type 0
 IsBad (Help text) = ⊥
+IsBad (Version text) = ⊥
 IsBad (Bad line) = Unit {0}
 IsBad Memory = ⊥
 
--- What is found is read as what it asks for, and refused, without help, where it asks for nothing.
+-- What is found is read as what it asks for, and refused, without help or the version, where it asks for nothing.
 pub record Reads (found : Option (Text × List Row)) (result : Result Command Words) : Type 0 where
   pub asked : IfOk result (IsAskedIn found)
   pub limits : IfOk result HasLimits
   pub every : (asked : Command) → IsAskedIn found asked → result ≡ Ok asked
   pub help : IfErr result (λ refusal. IsHelp refusal → ⊥)
+  pub version : IfErr result (λ refusal. IsVersion refusal → ⊥)

@@ -112,6 +112,8 @@ pub enum Words {
     Bad(String),
     /// They ask for help: its text.
     Help(String),
+    /// They ask for the version: its text.
+    Version(String),
     /// Out of memory.
     Memory,
 }

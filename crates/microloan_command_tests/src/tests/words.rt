@@ -269,3 +269,18 @@ fn shows_help(rt: HostRuntime) -> Result<(), Fail> {
     }
     Ok(())
 }
+
+#[test]
+fn tells_the_version(rt: HostRuntime) -> Result<(), Fail> {
+    let alloc = rt.alloc();
+    for line in ["microloan --version", "microloan -V"] {
+        let words = words_of(alloc, line)?;
+        let Err(Words::Version(text)) = command(alloc, &words) else {
+            return Err(Fail::from("a version"));
+        };
+        assert_eq!(rt; text.as_str(), "microloan 1.0.0 (schema 2)\n");
+    }
+    let said = line_of(&rt, alloc, "microloan report --version")?;
+    assert!(rt; said.as_str().find("--version").is_some());
+    Ok(())
+}
