@@ -47,6 +47,7 @@ serve_app = app_with (codes "serve") (
     required_rule (codes "file")
     ∷ required_rule (codes "port")
     ∷ default_rule (codes "count") (codes "0")
+    ∷ default_rule (codes "patience") (codes "10")
     ∷ default_rule (codes "day") (codes "2024-01-01")
     ∷ [])
 

@@ -53,7 +53,7 @@ const BATCH_OPTIONS: [CommandOption; 2] = [
 ];
 
 /// The options of `serve`.
-const SERVE_OPTIONS: [CommandOption; 4] = [
+const SERVE_OPTIONS: [CommandOption; 5] = [
     FILE,
     CommandOption {
         id: "port",
@@ -66,6 +66,12 @@ const SERVE_OPTIONS: [CommandOption; 4] = [
         value_name: "COUNT",
         help: "Connections to serve; 0: without end",
         need: Need::Default("0"),
+    },
+    CommandOption {
+        id: "patience",
+        value_name: "SECONDS",
+        help: "Wait for a silent client: 1 to 3600",
+        need: Need::Default("10"),
     },
     FIRST_DAY,
 ];

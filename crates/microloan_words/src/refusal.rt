@@ -14,6 +14,7 @@ fn wants(wrong: Wrong) -> &'static str {
         Wrong::File => "--file wants the path of a file",
         Wrong::Port => "--port wants a number from 1 to 65535",
         Wrong::Count => "--count wants a number of connections, or 0 for no end",
+        Wrong::Patience => "--patience wants a number of seconds from 1 to 3600",
         Wrong::Staff => "--staff wants an office and a member of its staff, as 2/1",
         Wrong::Method => {
             "--method wants flat, declining-equal-principal or declining-equal-instalments"
