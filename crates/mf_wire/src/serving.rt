@@ -14,7 +14,7 @@ use crate::answering::{Desk, answer_text_parts};
 use mf_base::{Cause, Fault, StreamFault};
 use mf_model::InstitutionStore;
 use mf_wire_lines::{Sink, Source, WriteFault};
-use mf_wire_messages::{Arrival, Message, read_message, write_refusal, write_reply};
+use mf_wire_messages::{Arrival, Message, read_message, response_room, write_refusal, write_reply};
 use mf_wire_requests::LineParts;
 use std::alloc::Global;
 
@@ -75,8 +75,12 @@ fn answer_arrival<S: InstitutionStore>(
     }
 }
 
-/// Writes a response, or a beginning of it. It takes no memory.
-fn put_response<W: Sink>(sink: &mut W, response: &Response) -> Result<(), WriteFault>
+/// Writes a response, or a beginning of it. It takes no memory: the response is gathered in the room that is there.
+fn put_response<W: Sink>(
+    sink: &mut W,
+    room: &mut [u8],
+    response: &Response,
+) -> Result<(), WriteFault>
     requires { IfErr response.now.text (λ f. f ≢ Fault.F19) }
     ensures ok { OnOk result (Appends (W.written sink.old) (W.written sink.new) (text_response response.now.to_head response.now.text)) }
     ensures err { OnErr result (IsCut (W.written sink.old) (W.written sink.new) (text_response response.now.to_head response.now.text)) }
@@ -84,8 +88,10 @@ fn put_response<W: Sink>(sink: &mut W, response: &Response) -> Result<(), WriteF
     ensures fault { OnErr result (W.faults sink.new ≢ W.faults sink.old) }
 {
     match &response.text {
-        Ok((status, body)) => write_reply(sink, *status, body.as_bytes(), response.to_head),
-        Err(fault) => write_refusal(sink, *fault, response.to_head),
+        Ok((status, body)) => {
+            write_reply(sink, room, *status, body.as_bytes(), response.to_head)
+        }
+        Err(fault) => write_refusal(sink, room, *fault, response.to_head),
     }
 }
 
@@ -98,7 +104,8 @@ fn put_response<W: Sink>(sink: &mut W, response: &Response) -> Result<(), WriteF
 /// message that is anything else, or is cut, is refused as malformed, and one for whose body there is no room is F20.
 /// To HEAD the body of the reply is left off, where the head was read.
 ///
-/// The room for the head is made first: where it can't be, `Memory` is reported, and nothing is read, answered or written.
+/// The rooms for the head and for the response are made first: where one can't be, `Memory` is reported, and nothing is
+/// read, answered or written.
 /// After `Read` nothing was answered or written. After `Write` the message was answered, and a beginning of its response
 /// was written. `Read` and `Write` are reported only where the reader or the writer failed in this call.
 pub fn serve_one<S: InstitutionStore, R: Source, W: Sink>(
@@ -114,11 +121,17 @@ pub fn serve_one<S: InstitutionStore, R: Source, W: Sink>(
     ensures unwritten { IfErr result (λ f. f.cause ≢ cause.Write → sink.new ≡ sink.old) }
     ensures memory { IfErr result (λ f. f.cause ≡ cause.Memory → source.new ≡ source.old) }
 {
+    let Ok(mut room) = response_room(alloc) else {
+        return Err(StreamFault {
+            answered: 0,
+            cause: Cause::Memory,
+        });
+    };
     let arrival = read_message(alloc, source)?;
     let Some(response) = answer_arrival(alloc, desk, store, arrival) else {
         return Ok(false);
     };
-    match put_response(sink, &response) {
+    match put_response(sink, room.as_mut_slice(), &response) {
         Ok(()) => Ok(true),
         Err(WriteFault) => Err(StreamFault {
             answered: 0,

@@ -1,5 +1,6 @@
 pub mod BodyLemmas
 pub mod FieldLemmas
+pub mod GatherLemmas
 pub mod HeadLemmas
 pub mod MessageLemmas
 pub mod PhraseLemmas

@@ -1,5 +1,5 @@
 -- Responses, as bytes.
-use Rattle.std.specs.Prelude.{ℕ, ◌<◌, Bool, ◌&&◌, cond, List, [], ◌++◌, length, take, nat_le, nat_lt, codes, decimal, Option, unwrap_or}
+use Rattle.std.specs.Prelude.{◌≡◌, ℕ, ◌<◌, Bool, ◌&&◌, cond, List, [], ◌++◌, length, take, nat_le, nat_lt, codes, decimal, Option, unwrap_or}
 use Rattle.std.specs.Io.KnownBytes.{Appends}
 use Rattle.http.specs.StatusCode.{reason_phrase}
 use Rattle.mf_base.specs.declared.fault.Fault.{Fault}
@@ -34,6 +34,12 @@ response status body to_head = status_line status ++ fields_and_body body to_hea
 -- the response of a refusal
 abbrev pub refusal : Fault → Bool → List ℕ
 refusal fault to_head = response (fault_status fault) (fault_body fault) to_head
+
+-- Bytes were written, and these are left: together they are what was held and a text behind it.
+pub record Gathers (before after : Option (List ℕ)) (held text left : List ℕ) : Type 0 where
+  pub out : List ℕ
+  pub written : Appends before after out
+  pub together : out ++ left ≡ held ++ text
 
 -- only a beginning of the bytes was written
 abbrev pub IsCut : Option (List ℕ) → Option (List ℕ) → List ℕ → Type 0

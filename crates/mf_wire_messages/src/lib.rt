@@ -14,4 +14,4 @@ mod responses;
 pub use bodies::fill;
 pub use messages::Message;
 pub use reading::{Arrival, read_message};
-pub use responses::{write_refusal, write_reply};
+pub use responses::{response_room, write_refusal, write_reply};

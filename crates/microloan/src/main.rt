@@ -73,6 +73,7 @@ fn serve(rt: &HostRuntime, asked: &ServeWords<'_>) -> u8
     let work = Work::Serve {
         port: asked.port,
         connections: asked.count,
+        patience: asked.patience,
     };
     work_over(rt, asked.file.as_str(), asked.day, work)
 }

@@ -37,12 +37,12 @@ pub fn tell_sheet<R: Eprint>(rt: &R, ended: &Result<(), SheetFault>) -> u8
     }
 }
 
-/// Says what is wrong with words, or the help that they ask for, and gives the program's status.
+/// Says what is wrong with words, or the help or the version that they ask for, and gives the program's status.
 pub fn refuse_words<R: Print + Eprint>(rt: &R, words: Words) -> u8
     ensures { IsWordsStatus words result }
 {
     match words {
-        Words::Help(text) => print_text(rt, text),
+        Words::Help(text) | Words::Version(text) => print_text(rt, text),
         Words::Bad(line) => {
             let _said = rt.eprintln(line);
             BAD_WORDS

@@ -20,7 +20,11 @@ pub enum Work {
     /// Request lines on standard input are answered.
     Answer,
     /// HTTP messages on a port of this machine are answered, one a connection.
-    Serve { port: u16, connections: u64 },
+    Serve {
+        port: u16,
+        connections: u64,
+        patience: u32,
+    },
     /// The sheet on standard input is collected, for this member of staff.
     Collect(Caller),
     /// The report of arrears is printed, as this member of staff sees it.
@@ -33,7 +37,11 @@ pub fn work_on<S: InstitutionStore>(rt: &HostRuntime, store: &mut S, work: Work)
 {
     match work {
         Work::Answer => answer_input(rt, store),
-        Work::Serve { port, connections } => serve_port(rt, store, port, connections),
+        Work::Serve {
+            port,
+            connections,
+            patience,
+        } => serve_port(rt, store, port, connections, patience),
         Work::Collect(staff) => collect_input(rt, store, staff),
         Work::Report(staff) => print_report(rt, store, staff),
     }
@@ -70,13 +78,14 @@ fn serve_port<S: InstitutionStore>(
     store: &mut S,
     port: u16,
     connections: u64,
+    patience: u32,
 ) -> u8
     ensures { IsPrintStatus result }
 {
     let Ok(listener) = TcpListener::bind(rt, (Ipv4Addr::LOCALHOST, port)) else {
         return tell_cause(rt, Cause::Read);
     };
-    let ended = serve_connections(rt.alloc(), store, &listener, connections);
+    let ended = serve_connections(rt.alloc(), rt, store, &listener, connections, patience);
     tell_end(rt, &ended)
 }
 

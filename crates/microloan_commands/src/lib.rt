@@ -3,6 +3,7 @@
 #![tactic(auto)]
 
 mod batch;
+mod connections;
 mod first;
 mod printing;
 mod reporting;

@@ -2,6 +2,7 @@ ghost use Rattle.std.specs.Prelude.{◌≡◌, IfOk, IfErr};
 ghost use Rattle.mf_base.specs.declared.fault.Cause.TheVariants as cause;
 ghost use Rattle.microloan_commands.specs.Served.{Serves, whole_of};
 
+use crate::connections::{Timed, Times, end_connection};
 use mf_base::{Cause, StreamFault};
 use mf_model::InstitutionStore;
 use mf_wire::{Desk, serve_one};
@@ -9,6 +10,8 @@ use mf_wire_lines::{WatchedReader, WatchedWriter};
 use std::alloc::Global;
 use std::io::{Read, Write};
 use std::net::{OpenListener, TcpStream};
+use std::rt::Clock;
+use std::time::Instant;
 
 /// How many responses were written whole.
 fn whole(served: Result<bool, StreamFault>) -> u64
@@ -37,31 +40,63 @@ fn serve_streams<S: InstitutionStore, R: Read + Drop, W: Write + Drop>(
     whole(serve_one(alloc, desk, store, &mut source, &mut sink))
 }
 
-/// Serves the next connection, where it can be accepted, and gives how many responses were written whole.
-fn serve_next<S: InstitutionStore, L: OpenListener<Stream = TcpStream>>(
+/// Answers the message of a connection in the time that its client is given, and gives how many responses were written whole.
+fn serve_connection<S: InstitutionStore, C: Clock>(
     alloc: Global,
+    clock: &C,
+    desk: &Desk,
+    store: &mut S,
+    stream: &TcpStream,
+    patience: u32,
+) -> u64
+    ensures { Serves S.InstitutionStore 1 store.old store.new result }
+{
+    let Ok(begun) = Instant::now(clock) else {
+        return 0;
+    };
+    let times = Times::of_message(patience);
+    let reader = Timed::new(stream, clock, begun, times);
+    let writer = Timed::new(stream, clock, begun, times);
+    serve_streams(alloc, desk, store, reader, writer)
+}
+
+/// Serves the next connection, where it can be accepted, and gives how many responses were written whole.
+fn serve_next<S: InstitutionStore, C: Clock, L: OpenListener<Stream = TcpStream>>(
+    alloc: Global,
+    clock: &C,
     desk: &Desk,
     store: &mut S,
     listener: &L,
+    patience: u32,
 ) -> u64
     ensures { Serves S.InstitutionStore 1 store.old store.new result }
 {
     let Ok((stream, _)) = listener.accept() else {
         return 0;
     };
-    serve_streams(alloc, desk, store, &stream, &stream)
+    let answered = serve_connection(alloc, clock, desk, store, &stream, patience);
+    if answered > 0 {
+        let _ended = end_connection(clock, &stream);
+    }
+    answered
 }
 
 /// Accepts so many connections, one after another, and answers the HTTP message of each over a store, as
 /// `mf_wire::serve_one` does. It gives how many responses were written whole.
 ///
+/// A client that neither sends nor takes a byte for so many seconds as the patience says, or that takes more than six times as
+/// long for its message and its response, is left: that is a fault of its streams. After a whole response the connection is
+/// ended by `end_connection`.
+///
 /// A connection that can't be accepted counts as one, and so does one whose streams fail; the next is served. Memory is
 /// reported where there is none for the routes, which are made first: nothing is accepted or answered then.
-pub fn serve_connections<S: InstitutionStore, L: OpenListener<Stream = TcpStream>>(
+pub fn serve_connections<S: InstitutionStore, C: Clock, L: OpenListener<Stream = TcpStream>>(
     alloc: Global,
+    clock: &C,
     store: &mut S,
     listener: &L,
     connections: u64,
+    patience: u32,
 ) -> Result<u64, StreamFault>
     ensures served { IfOk result (Serves S.InstitutionStore connections store.old store.new) }
     ensures memory { IfErr result (λ fault. (fault ≡ record { answered = 0; cause = cause.Memory }) × (store.new ≡ store.old)) }
@@ -74,7 +109,7 @@ pub fn serve_connections<S: InstitutionStore, L: OpenListener<Stream = TcpStream
     };
     let mut answered = 0u64;
     for _ in 0..connections {
-        answered += serve_next(alloc, &desk, store, listener);
+        answered += serve_next(alloc, clock, &desk, store, listener, patience);
     }
     Ok(answered)
 }

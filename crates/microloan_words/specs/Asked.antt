@@ -15,7 +15,7 @@ use Rattle.microloan_words.specs.declared.asked.ServeWords.{ServeWords}
 use Rattle.microloan_words.specs.declared.asked.StaffWords.{StaffWords}
 use Rattle.microloan_words.specs.declared.asked.ScheduleWords.{ScheduleWords}
 use Rattle.microloan_words.specs.declared.asked.Words.{Words}
-use Rattle.microloan_words.specs.declared.asked.Words.TheVariants.{Bad, Help, Memory}
+use Rattle.microloan_words.specs.declared.asked.Words.TheVariants.{Bad, Help, Version, Memory}
 use Rattle.microloan_words.specs.declared.asked.Command.{Command}
 use Rattle.microloan_words.specs.declared.asked.Command.TheVariants.{Batch, Serve, Collect, Report, Schedule}
 
@@ -42,6 +42,10 @@ pub record IsCallerAt (rows : List Row) (id : Text) (caller : Caller) : Type 0 w
 abbrev pub most_connections : ℕ
 most_connections = 18446744073709551615
 
+-- the most seconds that a silent client is waited for
+abbrev pub most_patience : ℕ
+most_patience = 3600
+
 -- as many as a number says, and 0 says as many as can be counted
 abbrev pub connections : ℕ → ℕ
 connections number = if number == 0 then most_connections else number
@@ -62,6 +66,7 @@ pub record AreServeWords (rows : List Row) (asked : ServeWords) : Type 0 where
   pub file : first_of (codes "file") rows ≡ Some asked.file
   pub port : IsNumberAt rows (codes "port") 1 65535 asked.port
   pub count : IsCountAt rows (codes "count") asked.count
+  pub patience : IsNumberAt rows (codes "patience") 1 most_patience asked.patience
   pub day : IsDayAt rows (codes "day") asked.day
 
 -- the options of `collect` and of `report`
@@ -91,11 +96,13 @@ pub record IsWithinLimits (asked : ScheduleWords) : Type 0 where
   pub some_step : 1 ≤ asked.every
   pub longest_step : asked.every ≤ longest_step asked.frequency
 
--- a port that can be asked for, some connections, and a day that may be entered
+-- a port that can be asked for, some connections, a patience within its limits, and a day that may be entered
 pub record IsServeWithinLimits (asked : ServeWords) : Type 0 where
   pub some_port : 1 ≤ asked.port
   pub most_port : asked.port ≤ 65535
   pub some_count : 1 ≤ asked.count
+  pub some_patience : 1 ≤ asked.patience
+  pub most_patience : asked.patience ≤ most_patience
   pub day_entered : asked.day ≤ last_entered_day
 
 -- a command's numbers are within their limits
@@ -137,18 +144,28 @@ faults_of words = fault_of microloan_app words
 -- the help was asked for
 abbrev pub IsHelp : Words → Type 0
 IsHelp (Help text) = Unit {0}
+IsHelp (Version text) = ⊥
 IsHelp (Bad line) = ⊥
 IsHelp Memory = ⊥
+
+-- the version was asked for
+abbrev pub IsVersion : Words → Type 0
+IsVersion (Help text) = ⊥
+IsVersion (Version text) = Unit {0}
+IsVersion (Bad line) = ⊥
+IsVersion Memory = ⊥
 
 -- the words are wrong
 abbrev pub IsBad : Words → Type 0
 IsBad (Help text) = ⊥
+IsBad (Version text) = ⊥
 IsBad (Bad line) = Unit {0}
 IsBad Memory = ⊥
 
--- What is found is read as what it asks for, and refused, without help, where it asks for nothing.
+-- What is found is read as what it asks for, and refused, without help or the version, where it asks for nothing.
 pub record Reads (found : Option (Text × List Row)) (result : Result Command Words) : Type 0 where
   pub asked : IfOk result (IsAskedIn found)
   pub limits : IfOk result HasLimits
   pub every : (asked : Command) → IsAskedIn found asked → result ≡ Ok asked
   pub help : IfErr result (λ refusal. IsHelp refusal → ⊥)
+  pub version : IfErr result (λ refusal. IsVersion refusal → ⊥)

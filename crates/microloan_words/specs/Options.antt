@@ -47,6 +47,7 @@ serve_app = app_with (codes "serve") (
     required_rule (codes "file")
     ∷ required_rule (codes "port")
     ∷ default_rule (codes "count") (codes "0")
+    ∷ default_rule (codes "patience") (codes "10")
     ∷ default_rule (codes "day") (codes "2024-01-01")
     ∷ [])
 
@@ -68,11 +69,11 @@ schedule_app = app_with (codes "schedule") (
     ∷ default_rule (codes "interest-grace") (codes "0")
     ∷ [])
 
--- the program, which wants a command
+-- the program, which has a version and wants a command
 abbrev pub bare_app : App
 bare_app =
     let top = (new_app (codes "microloan")).top in
-    record { top = record top { subcommand_required = true; disable_help_subcommand = true }; subs = [] }
+    record { top = record top { has_version = true; subcommand_required = true; disable_help_subcommand = true }; subs = [] }
 
 -- the program with the commands over an institution
 abbrev pub desk_app : App

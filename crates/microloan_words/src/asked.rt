@@ -69,6 +69,8 @@ pub struct ServeWords<'a> {
     pub port: u16,
     /// How many connections are served; 2^64 - 1 where the words ask for no end.
     pub count: u64,
+    /// How many seconds a silent client is waited for, from 1 to 3,600.
+    pub patience: u32,
     /// The first business day of an institution that is new.
     pub day: Day,
 }
@@ -112,6 +114,8 @@ pub enum Words {
     Bad(String),
     /// They ask for help: its text.
     Help(String),
+    /// They ask for the version: its text.
+    Version(String),
     /// Out of memory.
     Memory,
 }

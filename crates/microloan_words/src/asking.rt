@@ -1,7 +1,7 @@
 ghost use Rattle.std.specs.Prelude.{◌≡◌, ◌≢◌, ◌⊎◌, List, [], ◌∷◌, map, true, is_some, codes, Some, IfSome, IfOk, IfErr, IsErrOf, string_bytes, Ok, Err};
 ghost use Rattle.clap.specs.Words.{Row, found_of, rows_of, subcommand_of, subcommand_rows_of, takes, kind_of, HasKind, IsAmong};
 ghost use Rattle.microloan_words.specs.Options.{microloan_app};
-ghost use Rattle.microloan_words.specs.Asked.{HasLimits, IsAsked, IsHelp, IsBad, Reads, faults_of};
+ghost use Rattle.microloan_words.specs.Asked.{HasLimits, IsAsked, IsHelp, IsVersion, IsBad, Reads, faults_of};
 ghost use Rattle.microloan_words.specs.declared.asked.Command.{Command};
 
 use crate::asked::{Command, Words};
@@ -101,14 +101,18 @@ fn command_asked<'a>(alloc: Global, matches: &ArgMatches<'a>) -> Result<Command<
 /// What the words ask for; the first of them is the program's own name.
 ///
 /// Words that `clap` takes, and whose options are as they should be, are refused only when out of memory. Help is told
-/// only where `clap` finds that it is asked for; where that is all it finds, the words are not told to be wrong.
+/// only where `clap` finds that it is asked for, and so is the version; where either is all it finds, the words are not
+/// told to be wrong.
 pub fn command<'a>(alloc: Global, words: &'a [String]) -> Result<Command<'a>, Words>
     ensures asked { IfOk result (IsAsked (map string_bytes words.entry.now)) }
     ensures limits { IfOk result HasLimits }
     ensures every { (asked : Command) → takes microloan_app (map string_bytes words.entry.now) ≡ true →
         IsAsked (map string_bytes words.entry.now) asked → (result ≡ Ok asked) ⊎ (result ≡ Err Words.Memory) }
     ensures help { IfErr result (λ refusal. IsHelp refusal → IsAmong ErrorKind.DisplayHelp (faults_of (map string_bytes words.entry.now))) }
-    ensures bad { IfErr result (λ refusal. IsBad refusal → faults_of (map string_bytes words.entry.now) ≢ ErrorKind.DisplayHelp ∷ []) }
+    ensures version { IfErr result (λ refusal. IsVersion refusal → IsAmong ErrorKind.DisplayVersion (faults_of (map string_bytes words.entry.now))) }
+    ensures bad { IfErr result (λ refusal. IsBad refusal →
+        (faults_of (map string_bytes words.entry.now) ≢ ErrorKind.DisplayHelp ∷ [])
+        × (faults_of (map string_bytes words.entry.now) ≢ ErrorKind.DisplayVersion ∷ [])) }
 {
     let matches = match matches_of(alloc, words) {
         Ok(matches) => matches,

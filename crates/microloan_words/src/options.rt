@@ -7,6 +7,9 @@ use crate::values::DEFAULT_DAY;
 use clap::{Arg, Command};
 use std::alloc::{AllocError, Global};
 
+/// This release, and the schema of the files that it writes.
+const VERSION: &str = "1.0.0 (schema 2)";
+
 /// Whether an option must be given, or has a text that stands where it isn't.
 pub(crate) enum Need {
     Optional,
@@ -50,7 +53,7 @@ const BATCH_OPTIONS: [CommandOption; 2] = [
 ];
 
 /// The options of `serve`.
-const SERVE_OPTIONS: [CommandOption; 4] = [
+const SERVE_OPTIONS: [CommandOption; 5] = [
     FILE,
     CommandOption {
         id: "port",
@@ -63,6 +66,12 @@ const SERVE_OPTIONS: [CommandOption; 4] = [
         value_name: "COUNT",
         help: "Connections to serve; 0: without end",
         need: Need::Default("0"),
+    },
+    CommandOption {
+        id: "patience",
+        value_name: "SECONDS",
+        help: "Wait for a silent client: 1 to 3600",
+        need: Need::Default("10"),
     },
     FIRST_DAY,
 ];
@@ -295,6 +304,7 @@ fn bare_program<'a>(alloc: Global) -> Command<'a>
         "A command's options: microloan batch --help, and so on\n\nExit status: 0 done (refused requests included), 1 a fault, 2 wrong words.",
     );
     texts
+        .version(VERSION)
         .subcommand_required(true)
         .disable_help_subcommand(true)
 }

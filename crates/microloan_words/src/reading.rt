@@ -11,8 +11,8 @@ ghost use Rattle.microloan_words.specs.declared.asked.ScheduleWords.{ScheduleWor
 
 use crate::asked::{BatchWords, ScheduleWords, ServeWords, StaffWords};
 use crate::values::{
-    connections_at, count_at, day_at, file_at, frequency_at, method_at, number_at, port_at,
-    staff_at,
+    MOST_PATIENCE, connections_at, count_at, day_at, file_at, frequency_at, method_at, number_at,
+    port_at, staff_at,
 };
 use clap::ArgMatches;
 use mf_catalog::{GREATEST_AMOUNT, GREATEST_RATE, MOST_GRACE, MOST_PERIODS, longest_step};
@@ -23,6 +23,7 @@ pub(crate) enum Wrong {
     File,
     Port,
     Count,
+    Patience,
     Staff,
     Method,
     Principal,
@@ -55,11 +56,13 @@ pub(crate) fn serve_words<'a>(options: &ArgMatches<'a>) -> Result<ServeWords<'a>
     let file = file_at(options).ok_or(Wrong::File)?;
     let port = port_at(options).ok_or(Wrong::Port)?;
     let count = connections_at(options).ok_or(Wrong::Count)?;
+    let patience = count_at(options, "patience", 1, MOST_PATIENCE).ok_or(Wrong::Patience)?;
     let day = day_at(options, "day").ok_or(Wrong::Day)?;
     Ok(ServeWords {
         file,
         port,
         count,
+        patience,
         day,
     })
 }

@@ -1,6 +1,6 @@
 ghost use Rattle.std.specs.Prelude.{◌≡◌, ◌≢◌};
 ghost use Rattle.clap.specs.Words.{kind_of};
-ghost use Rattle.microloan_words.specs.Asked.{IsHelp, IsBad};
+ghost use Rattle.microloan_words.specs.Asked.{IsHelp, IsVersion, IsBad};
 
 use crate::asked::Words;
 use crate::reading::Wrong;
@@ -14,6 +14,7 @@ fn wants(wrong: Wrong) -> &'static str {
         Wrong::File => "--file wants the path of a file",
         Wrong::Port => "--port wants a number from 1 to 65535",
         Wrong::Count => "--count wants a number of connections, or 0 for no end",
+        Wrong::Patience => "--patience wants a number of seconds from 1 to 3600",
         Wrong::Staff => "--staff wants an office and a member of its staff, as 2/1",
         Wrong::Method => {
             "--method wants flat, declining-equal-principal or declining-equal-instalments"
@@ -31,7 +32,8 @@ fn wants(wrong: Wrong) -> &'static str {
 
 /// Bad words, with the line that says so, or out of memory for that line.
 fn bad(line: Result<String, AllocError>) -> Words
-    ensures { IsHelp result → ⊥ }
+    ensures help { IsHelp result → ⊥ }
+    ensures version { IsVersion result → ⊥ }
 {
     match line {
         Ok(line) => Words::Bad(line),
@@ -41,7 +43,8 @@ fn bad(line: Result<String, AllocError>) -> Words
 
 /// An option of a command isn't what it should be.
 pub(crate) fn wrong_option(alloc: Global, command: &str, wrong: Wrong) -> Words
-    ensures { IsHelp result → ⊥ }
+    ensures help { IsHelp result → ⊥ }
+    ensures version { IsVersion result → ⊥ }
 {
     let wants = wants(wrong);
     bad(format!(in alloc; "microloan: {wants}; see 'microloan {command} --help'"))
@@ -49,21 +52,27 @@ pub(crate) fn wrong_option(alloc: Global, command: &str, wrong: Wrong) -> Words
 
 /// No command of the program is named.
 pub(crate) fn no_command(alloc: Global) -> Words
-    ensures { IsHelp result → ⊥ }
+    ensures help { IsHelp result → ⊥ }
+    ensures version { IsVersion result → ⊥ }
 {
     bad(format!(in alloc; "microloan: no such command; see 'microloan --help'"))
 }
 
-/// What `clap` says of the words: help where they ask for it, else what is wrong, in one line.
+/// What `clap` says of the words: help or the version where they ask for it, else what is wrong, in one line.
 pub(crate) fn refused_by_clap(alloc: Global, words: &[String], error: &Error) -> Words
     ensures memory { kind_of error.now ≡ ErrorKind.OutOfMemory → result ≡ Words.Memory }
     ensures help { IsHelp result → kind_of error.now ≡ ErrorKind.DisplayHelp }
-    ensures bad { IsBad result → kind_of error.now ≢ ErrorKind.DisplayHelp }
+    ensures version { IsVersion result → kind_of error.now ≡ ErrorKind.DisplayVersion }
+    ensures bad { IsBad result → (kind_of error.now ≢ ErrorKind.DisplayHelp) × (kind_of error.now ≢ ErrorKind.DisplayVersion) }
 {
     match error.kind() {
         ErrorKind::OutOfMemory => Words::Memory,
         ErrorKind::DisplayHelp => match format!(in alloc; "{error}") {
             Ok(text) => Words::Help(text),
+            Err(_) => Words::Memory,
+        },
+        ErrorKind::DisplayVersion => match format!(in alloc; "{error}") {
+            Ok(text) => Words::Version(text),
             Err(_) => Words::Memory,
         },
         ErrorKind::MissingSubcommand => {

@@ -17,7 +17,10 @@ use mf_office::Caller;
 /// The day on which a new institution begins where the words name none.
 pub(crate) const DEFAULT_DAY: &str = "2024-01-01";
 
-/// The same as a day.
+/// The most seconds that a silent client is waited for.
+pub(crate) const MOST_PATIENCE: u32 = 3600;
+
+/// The default day as a day.
 pub fn default_day() -> Day
     ensures text { day_text result ≡ codes "2024-01-01" }
     ensures entered { result ≤ last_entered_day }

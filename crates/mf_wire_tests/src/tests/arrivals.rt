@@ -4,10 +4,10 @@ use mf_base::{Cause, Fault, StreamFault};
 use mf_desk_books::streams::{CLIENT, CREATED};
 use mf_desk_books::{Narrow, Torn};
 use mf_wire_lines::{WatchedReader, WatchedWriter};
-use mf_wire_messages::{Arrival, read_message, write_refusal, write_reply};
+use mf_wire_messages::{Arrival, read_message, response_room, write_refusal, write_reply};
 use std::alloc::Global;
 use std::io;
-use std::io::Read;
+use std::io::{Read, Write};
 use std::process::Abort;
 use std::test::Fail;
 
@@ -177,17 +177,53 @@ fn a_reader_that_fails(rt: HostRuntime) -> Result<(), Fail> {
     Ok(())
 }
 
+/// Takes all that is written, and counts the writes.
+#[derive(Drop)]
+struct Counting {
+    taken: Vec<u8>,
+    writes: u32,
+}
+
+impl Write for Counting {
+    fn write(&mut self, buf: &[u8]) -> io::Result<usize> {
+        self.writes = self.writes.saturating_add(1);
+        self.taken.write(buf)
+    }
+
+    fn flush(&mut self) -> io::Result<()> {
+        Ok(())
+    }
+}
+
+/// The response of a success and two refusals, the second to HEAD. Where the room takes a response it is written at once, and
+/// where it takes the head alone, the body is written after it. Without a room each piece is written.
 #[test]
 fn responses_as_bytes(rt: HostRuntime) -> Result<(), Fail> {
     let alloc = rt.alloc();
+    let body = b"{\"client\":\"0001-000001\"}";
+    let head = CREATED.len() - body.len();
+    for (size, writes) in [
+        (CREATED.len(), 1),
+        (CREATED.len() - 1, 2),
+        (head, 2),
+        (0, 8),
+    ] {
+        let mut room = vec![in alloc; 0; size]?;
+        let mut sink = WatchedWriter::new(Counting {
+            taken: Vec::new(alloc),
+            writes: 0,
+        });
+        assert!(rt; write_reply(&mut sink, room.as_mut_slice(), 201, body, false).is_ok());
+        let written = sink.into_inner();
+        assert_eq!(rt; written.taken.as_slice(), CREATED.as_bytes());
+        assert_eq!(rt; written.writes, writes, "{size}");
+    }
+    let mut room = response_room(alloc)?;
     let mut sink = WatchedWriter::new(Vec::new(alloc));
-    assert!(rt; write_reply(&mut sink, 201, b"{\"client\":\"0001-000001\"}", false).is_ok());
-    assert_eq!(rt; sink.into_inner().as_slice(), CREATED.as_bytes());
-    let mut sink = WatchedWriter::new(Vec::new(alloc));
-    assert!(rt; write_refusal(&mut sink, Fault::F1, false).is_ok());
+    assert!(rt; write_refusal(&mut sink, room.as_mut_slice(), Fault::F1, false).is_ok());
     assert_eq!(rt; sink.into_inner().as_slice(), REFUSED.as_bytes());
     let mut sink = WatchedWriter::new(Vec::new(alloc));
-    assert!(rt; write_refusal(&mut sink, Fault::F1, true).is_ok());
+    assert!(rt; write_refusal(&mut sink, room.as_mut_slice(), Fault::F1, true).is_ok());
     assert_eq!(rt;
         sink.into_inner().as_slice(),
         &REFUSED.as_bytes()[..REFUSED.len() - 14]
@@ -195,18 +231,22 @@ fn responses_as_bytes(rt: HostRuntime) -> Result<(), Fail> {
     Ok(())
 }
 
-/// The writer takes so many bytes and then fails: they are a beginning of the response.
+/// The writer takes so many bytes and then fails: they are a beginning of the response, whether it is gathered or not.
 #[test]
 fn a_writer_that_fails(rt: HostRuntime) -> Result<(), Fail> {
     let alloc = rt.alloc();
-    for room in [0usize, 9, 40, CREATED.len() - 1, CREATED.len()] {
-        let mut sink = WatchedWriter::new(Narrow::new(alloc, 7, room));
-        let told = write_reply(&mut sink, 201, b"{\"client\":\"0001-000001\"}", false);
-        assert_eq!(rt; told.is_ok(), room == CREATED.len());
-        assert_eq!(rt;
-            sink.into_inner().taken.as_slice(),
-            &CREATED.as_bytes()[..room]
-        );
+    for size in [0usize, 100, 200] {
+        let mut room = vec![in alloc; 0; size]?;
+        for most in [0usize, 9, 40, CREATED.len() - 1, CREATED.len()] {
+            let mut sink = WatchedWriter::new(Narrow::new(alloc, 7, most));
+            let body = b"{\"client\":\"0001-000001\"}";
+            let told = write_reply(&mut sink, room.as_mut_slice(), 201, body, false);
+            assert_eq!(rt; told.is_ok(), most == CREATED.len());
+            assert_eq!(rt;
+                sink.into_inner().taken.as_slice(),
+                &CREATED.as_bytes()[..most]
+            );
+        }
     }
     Ok(())
 }

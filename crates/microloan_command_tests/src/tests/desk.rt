@@ -13,7 +13,9 @@ use std::io;
 use std::io::{Read, Write};
 use std::net::{Ipv4Addr, Net, OpenListener, Shutdown, SocketAddr, TcpListener, TcpStream};
 use std::process::Abort;
+use std::rt::Clock;
 use std::test::Fail;
+use std::time::Duration;
 
 /// The first instalment is paid; the second is 30 days overdue.
 const AGED: &str =
@@ -31,6 +33,9 @@ const THIRTY_ONE_DAYS: &str =
     "   1           1                  666.67                    0.00                  666.67                    0.00                    0.00  100.00
  all           1                  666.67                    0.00                  666.67                    0.00                    0.00  100.00\n";
 
+/// How many seconds a silent client is waited for.
+const PATIENCE: u32 = 1;
+
 /// The response to a head that is cut.
 const CUT: &str = "HTTP/1.1 400 Bad Request\r\n\
 Content-Type: application/json\r\n\
@@ -47,11 +52,17 @@ fn books_after(alloc: Global, lines: &str) -> Result<Books, Fail> {
     Ok(books)
 }
 
-/// Sends request lines.
-fn send(alloc: Global, books: &mut Books, lines: &str) -> Result<(), Fail> {
+/// The replies to request lines.
+fn replies(alloc: Global, books: &mut Books, lines: &str) -> Result<Vec<u8>, Fail> {
     let mut source = WatchedReader::new(lines.as_bytes());
     let mut sink = WatchedWriter::new(Vec::new(alloc));
     run(alloc, books, &mut source, &mut sink)?;
+    Ok(sink.into_inner())
+}
+
+/// Sends request lines.
+fn send(alloc: Global, books: &mut Books, lines: &str) -> Result<(), Fail> {
+    replies(alloc, books, lines)?;
     Ok(())
 }
 
@@ -173,12 +184,12 @@ fn connections_are_served_in_turn(rt: HostRuntime) -> Result<(), Fail> {
     let cut = sent(&rt, port, "POST /clients HTTP/1.1\r\nX-Sta")?;
     let whole = sent(&rt, port, CLIENT)?;
     let _late = sent(&rt, port, CLIENT)?;
-    let served = serve_connections(alloc, &mut books, &listener, 3)?;
+    let served = serve_connections(alloc, &rt, &mut books, &listener, 3, PATIENCE)?;
     assert_eq!(rt; served, 2);
     assert_eq!(rt; answer(alloc, &silent)?.as_str(), "");
     assert_eq!(rt; answer(alloc, &cut)?.as_str(), CUT);
     assert_eq!(rt; answer(alloc, &whole)?.as_str(), CREATED);
-    let served = serve_connections(alloc, &mut books, &listener, 0)?;
+    let served = serve_connections(alloc, &rt, &mut books, &listener, 0, PATIENCE)?;
     assert_eq!(rt; served, 0);
     Ok(())
 }
@@ -223,8 +234,105 @@ fn connections_that_fail_count(rt: HostRuntime) -> Result<(), Fail> {
         listener: &listener,
         calls: &calls,
     };
-    let served = serve_connections(alloc, &mut books, &unsteady, 3)?;
+    let served = serve_connections(alloc, &rt, &mut books, &unsteady, 3, PATIENCE)?;
     assert_eq!(rt; served, 1);
     assert_eq!(rt; answer(alloc, &whole)?.as_str(), CREATED);
+    Ok(())
+}
+
+/// A client sends a message with 60,000 bytes behind it. They are thrown away, and the response comes whole: where they were
+/// left unread, the connection would be reset.
+#[test]
+fn what_follows_a_message_is_thrown_away(rt: HostRuntime) -> Result<(), Fail> {
+    let alloc = rt.alloc();
+    let mut books = books_after(alloc, "")?;
+    let listener = TcpListener::bind(&rt, (Ipv4Addr::LOCALHOST, 0))?;
+    let port = listener.local_addr()?.port();
+    let client = TcpStream::connect(&rt, (Ipv4Addr::LOCALHOST, port))?;
+    (&client).write_all(CLIENT.as_bytes())?;
+    let rest = vec![in alloc; b'x'; 60000]?;
+    (&client).write_all(rest.as_slice())?;
+    client.shutdown(Shutdown::Write)?;
+    let served = serve_connections(alloc, &rt, &mut books, &listener, 1, PATIENCE)?;
+    assert_eq!(rt; served, 1);
+    assert_eq!(rt; answer(alloc, &client)?.as_str(), CREATED);
+    Ok(())
+}
+
+/// A client sends a message and doesn't end its sending. The connection is ended for it, and so it reads its whole response.
+#[test]
+fn a_connection_is_ended(rt: HostRuntime) -> Result<(), Fail> {
+    let alloc = rt.alloc();
+    let mut books = books_after(alloc, "")?;
+    let listener = TcpListener::bind(&rt, (Ipv4Addr::LOCALHOST, 0))?;
+    let port = listener.local_addr()?.port();
+    let client = TcpStream::connect(&rt, (Ipv4Addr::LOCALHOST, port))?;
+    (&client).write_all(CLIENT.as_bytes())?;
+    let served = serve_connections(alloc, &rt, &mut books, &listener, 1, PATIENCE)?;
+    assert_eq!(rt; served, 1);
+    assert_eq!(rt; answer(alloc, &client)?.as_str(), CREATED);
+    Ok(())
+}
+
+/// A client connects and sends nothing. It is left when the patience ends, and the next is served.
+#[test]
+fn a_silent_client_is_left(rt: HostRuntime) -> Result<(), Fail> {
+    let alloc = rt.alloc();
+    let mut books = books_after(alloc, "")?;
+    let listener = TcpListener::bind(&rt, (Ipv4Addr::LOCALHOST, 0))?;
+    let port = listener.local_addr()?.port();
+    let silent = TcpStream::connect(&rt, (Ipv4Addr::LOCALHOST, port))?;
+    let whole = sent(&rt, port, CLIENT)?;
+    let served = serve_connections(alloc, &rt, &mut books, &listener, 2, PATIENCE)?;
+    assert_eq!(rt; served, 1);
+    assert_eq!(rt; answer(alloc, &silent)?.as_str(), "");
+    assert_eq!(rt; answer(alloc, &whole)?.as_str(), CREATED);
+    Ok(())
+}
+
+/// A clock that goes on by so many seconds each time that it is read.
+#[derive(Drop)]
+struct Leaping<'a> {
+    seconds: &'a Cell<u64>,
+    step: u64,
+}
+
+impl Clock for Leaping<'_> {
+    fn monotonic(&self) -> io::Result<Duration> {
+        let now = self.seconds.get();
+        self.seconds.set(now.saturating_add(self.step));
+        Ok(Duration::from_secs(now))
+    }
+
+    fn since_1970(&self) -> io::Result<Duration> {
+        self.monotonic()
+    }
+}
+
+/// With a patience of a second a message and its response may take less than six. The first client's time is up before
+/// anything is read of it, and its message is not answered; the second's is up before its response is written, and its message
+/// was answered; the third is in time.
+#[test]
+fn a_client_that_takes_too_long_is_left(rt: HostRuntime) -> Result<(), Fail> {
+    let alloc = rt.alloc();
+    let mut books = books_after(alloc, "")?;
+    let listener = TcpListener::bind(&rt, (Ipv4Addr::LOCALHOST, 0))?;
+    let port = listener.local_addr()?.port();
+    for (step, answered, clients) in [(6, 0, 0), (3, 0, 1), (2, 1, 2)] {
+        let seconds = Cell::new(0);
+        let clock = Leaping {
+            seconds: &seconds,
+            step,
+        };
+        let client = sent(&rt, port, CLIENT)?;
+        let served = serve_connections(alloc, &clock, &mut books, &listener, 1, PATIENCE)?;
+        assert_eq!(rt; served, answered);
+        let came = answer(alloc, &client).unwrap_or(String::new(alloc));
+        assert_eq!(rt; came.len() > 0, answered > 0);
+        let number = format!(in alloc; "0001-{clients:06}")?;
+        let asked = format!(in alloc; "1/1 GET /clients/{number}\n")?;
+        let shown = replies(alloc, &mut books, asked.as_str())?;
+        assert_eq!(rt; shown.as_slice().starts_with(b"200 "), clients > 0);
+    }
     Ok(())
 }

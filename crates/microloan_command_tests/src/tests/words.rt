@@ -103,22 +103,28 @@ fn reads_what_is_served(rt: HostRuntime) -> Result<(), Fail> {
     assert_eq!(rt; asked.file.as_str(), "desk.db");
     assert_eq!(rt; asked.port, 65535);
     assert_eq!(rt; asked.count, u64::MAX);
+    assert_eq!(rt; asked.patience, 10);
     assert_eq!(rt; Some(asked.day), Day::parse(b"2024-01-01"));
     let words = words_of(
         alloc,
-        "microloan serve --file desk.db --port 1 --count 18446744073709551615 --day 2099-12-31",
+        "microloan serve --file desk.db --port 1 --count 18446744073709551615 --patience 3600 --day 2099-12-31",
     )?;
     let Ok(Command::Serve(asked)) = command(alloc, &words) else {
         return Err(Fail::from("a server"));
     };
     assert_eq!(rt; asked.port, 1);
     assert_eq!(rt; asked.count, u64::MAX);
+    assert_eq!(rt; asked.patience, 3600);
     assert_eq!(rt; Some(asked.day), Day::parse(b"2099-12-31"));
-    let words = words_of(alloc, "microloan serve --file desk.db --port 80 --count 7")?;
+    let words = words_of(
+        alloc,
+        "microloan serve --file desk.db --port 80 --count 7 --patience 1",
+    )?;
     let Ok(Command::Serve(asked)) = command(alloc, &words) else {
         return Err(Fail::from("a server"));
     };
     assert_eq!(rt; asked.count, 7);
+    assert_eq!(rt; asked.patience, 1);
     Ok(())
 }
 
@@ -141,7 +147,7 @@ fn reads_who_asks(rt: HostRuntime) -> Result<(), Fail> {
 }
 
 /// Words that are wrong, and what is said of them.
-const WRONG: [(&str, &str); 14] = [
+const WRONG: [(&str, &str); 17] = [
     (
         "microloan",
         "microloan: name a command: batch, serve, collect, report or schedule; see 'microloan --help'",
@@ -181,6 +187,18 @@ const WRONG: [(&str, &str); 14] = [
     (
         "microloan serve --file f --port 80 --count 18446744073709551616",
         "microloan: --count wants a number of connections, or 0 for no end; see 'microloan serve --help'",
+    ),
+    (
+        "microloan serve --file f --port 80 --patience 0",
+        "microloan: --patience wants a number of seconds from 1 to 3600; see 'microloan serve --help'",
+    ),
+    (
+        "microloan serve --file f --port 80 --patience 3601",
+        "microloan: --patience wants a number of seconds from 1 to 3600; see 'microloan serve --help'",
+    ),
+    (
+        "microloan serve --file f --port 80 --patience ten",
+        "microloan: --patience wants a number of seconds from 1 to 3600; see 'microloan serve --help'",
     ),
     (
         "microloan serve --file f --port 80 --day 2024-02-30",
@@ -267,5 +285,20 @@ fn shows_help(rt: HostRuntime) -> Result<(), Fail> {
         assert!(rt; help.as_str().find("Example:").is_some());
         assert!(rt; help.as_str().lines().all(|line| line.len() <= 80));
     }
+    Ok(())
+}
+
+#[test]
+fn tells_the_version(rt: HostRuntime) -> Result<(), Fail> {
+    let alloc = rt.alloc();
+    for line in ["microloan --version", "microloan -V"] {
+        let words = words_of(alloc, line)?;
+        let Err(Words::Version(text)) = command(alloc, &words) else {
+            return Err(Fail::from("a version"));
+        };
+        assert_eq!(rt; text.as_str(), "microloan 1.0.0 (schema 2)\n");
+    }
+    let said = line_of(&rt, alloc, "microloan report --version")?;
+    assert!(rt; said.as_str().find("--version").is_some());
     Ok(())
 }

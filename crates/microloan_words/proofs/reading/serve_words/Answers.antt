@@ -6,3 +6,6 @@ returns-in_err-port-clause-every c asked h = read _ _ c.in_err-port.ensures.vari
 
 pub returns-in_err-count-clause-every : goal.returns-in_err-count-clause-every
 returns-in_err-count-clause-every c asked h = read _ _ c.in_err-count.ensures.variant (c.connections_at.ensures.every asked.count h.count)
+
+pub returns-in_err-patience-clause-every : goal.returns-in_err-patience-clause-every
+returns-in_err-patience-clause-every c asked h = read _ _ c.in_err-patience.ensures.variant (c.count_at.ensures.every asked.patience h.patience)

@@ -1,0 +1,119 @@
+//! A connection to a client, with the time that it is given.
+
+ghost use Rattle.std.specs.Prelude.{◌≡◌, ◌-◌, ◌*◌, ◌≤◌, min};
+ghost use Rattle.std.specs.Duration.{as_nanos};
+
+use std::io;
+use std::io::{Read, Write};
+use std::net::{Shutdown, TcpStream};
+use std::rt::Clock;
+use std::time::{Duration, Instant};
+
+/// How many bytes are thrown away of what a client sends behind its message.
+const MOST_DISCARDED: u64 = 65536;
+
+/// How many times as long as one read or write a whole message may take.
+const WAITS_OF_A_MESSAGE: u64 = 6;
+
+/// The time that a client is given.
+#[derive(Clone, Copy)]
+pub(crate) struct Times {
+    /// The longest that one read or write waits.
+    pub each: Duration,
+    /// The longest that all of them take.
+    pub all: Duration,
+}
+
+impl Times {
+    /// The time of a message, where a read or a write waits for so many seconds.
+    pub fn of_message(patience: u32) -> Times
+        ensures each { as_nanos result.each ≡ patience * 1000000000 }
+        ensures all { as_nanos result.all ≡ 6 * (patience * 1000000000) }
+    {
+        Times {
+            each: Duration::from_secs(u64::from(patience)),
+            all: Duration::from_secs(u64::from(patience) * WAITS_OF_A_MESSAGE),
+        }
+    }
+
+    /// How long the next read or write may wait, where so much time has passed.
+    fn left(self, passed: Duration) -> Duration
+        ensures { as_nanos result ≡ min (as_nanos self.all - as_nanos passed) (as_nanos self.each) }
+    {
+        let left = self.all.saturating_sub(passed);
+        if left < self.each { left } else { self.each }
+    }
+}
+
+/// A connection whose reads and writes fail once its time is up. One that a signal interrupts is made again.
+#[derive(Drop)]
+pub(crate) struct Timed<'a, C: Clock> {
+    stream: &'a TcpStream,
+    clock: &'a C,
+    begun: Instant,
+    times: Times,
+}
+
+impl<'a, C: Clock> Timed<'a, C> {
+    /// The connection, whose time has begun then.
+    pub fn new(stream: &'a TcpStream, clock: &'a C, begun: Instant, times: Times) -> Timed<'a, C> {
+        Timed {
+            stream,
+            clock,
+            begun,
+            times,
+        }
+    }
+
+    /// How long the next read or write may wait: not at all once the time is up.
+    fn left(&self) -> io::Result<Duration> {
+        Ok(self.times.left(self.begun.elapsed(self.clock)?))
+    }
+}
+
+impl<C: Clock> Read for Timed<'_, C> {
+    fn read(&mut self, buf: &mut [u8]) -> io::Result<usize> {
+        for _ in 0..u64::MAX {
+            self.stream.set_read_timeout(Some(self.left()?))?;
+            let mut stream = self.stream;
+            match stream.read(buf) {
+                Err(error) if error.kind() == io::ErrorKind::Interrupted => {}
+                done => return done,
+            }
+        }
+        Err(io::Error::from(io::ErrorKind::TimedOut))
+    }
+}
+
+impl<C: Clock> Write for Timed<'_, C> {
+    fn write(&mut self, buf: &[u8]) -> io::Result<usize> {
+        for _ in 0..u64::MAX {
+            self.stream.set_write_timeout(Some(self.left()?))?;
+            let mut stream = self.stream;
+            match stream.write(buf) {
+                Err(error) if error.kind() == io::ErrorKind::Interrupted => {}
+                done => return done,
+            }
+        }
+        Err(io::Error::from(io::ErrorKind::TimedOut))
+    }
+
+    fn flush(&mut self) -> io::Result<()> {
+        Ok(())
+    }
+}
+
+/// Ends a connection whose response was written. The client is told that nothing more comes, and what it still sends is read
+/// and thrown away until it ends too, for a second at most and 65,536 bytes at most: where bytes are left unread, the system
+/// may drop the response.
+pub(crate) fn end_connection<C: Clock>(clock: &C, stream: &TcpStream) -> io::Result<()> {
+    stream.shutdown(Shutdown::Write)?;
+    let second = Duration::from_secs(1);
+    let times = Times {
+        each: second,
+        all: second,
+    };
+    let rest = Timed::new(stream, clock, Instant::now(clock)?, times);
+    io::copy(&mut rest.take(MOST_DISCARDED), &mut io::sink())?;
+    Ok(())
+}
