@@ -1,6 +1,7 @@
 //! The loan desk's program: reads its words, and does what they ask for.
 #![tactic(auto)]
 
+mod places;
 mod telling;
 mod working;
 
@@ -10,9 +11,10 @@ ghost use Rattle.microloan_words.specs.Asked.{IsWithinLimits, IsServeWithinLimit
 ghost use Rattle.microloan_commands.specs.Printed.{HasLongGrace};
 ghost use Rattle.microloan.specs.Status.{IsPrintStatus};
 
-use crate::telling::{print_made, refuse_words, tell_refusal};
+use crate::places::{Place, place_at};
+use crate::telling::{print_made, refuse_words, tell_no_institution, tell_refusal};
 use crate::working::{Work, answer_input_in_memory, work_on};
-use mf_base::Day;
+use mf_base::{Day, Fault};
 use mf_store_files::open;
 use microloan_commands::schedule;
 use microloan_words::{
@@ -61,7 +63,7 @@ fn batch(rt: &HostRuntime, asked: &BatchWords<'_>) -> u8
 {
     match &asked.file {
         None => answer_input_in_memory(rt, asked.day),
-        Some(file) => work_over(rt, file.as_str(), asked.day, Work::Answer),
+        Some(file) => work_where(rt, file.as_str(), asked.existing, asked.day, Work::Answer),
     }
 }
 
@@ -75,24 +77,42 @@ fn serve(rt: &HostRuntime, asked: &ServeWords<'_>) -> u8
         connections: asked.count,
         patience: asked.patience,
     };
-    work_over(rt, asked.file.as_str(), asked.day, work)
+    work_where(rt, asked.file.as_str(), asked.existing, asked.day, work)
 }
 
-/// Works over a file for a member of staff; a missing file becomes a new institution on the default day.
+/// Works over a file for a member of staff; a missing file becomes a new institution on the default day, unless it is to hold one.
 fn work_as(rt: &HostRuntime, asked: &StaffWords<'_>, work: Work) -> u8
     ensures { IsPrintStatus result }
 {
-    work_over(rt, asked.file.as_str(), default_day(), work)
+    work_where(rt, asked.file.as_str(), asked.existing, default_day(), work)
 }
 
-/// Opens a file, works over the institution that it holds, and gives the program's status. The only function that holds a store
-/// of a known type: the prover reads all of `sqlite` for each.
+/// Works over a file unless that would put a new institution in the place of something, or make one where one is to be there, and gives the
+/// program's status.
+fn work_where(rt: &HostRuntime, file: &str, existing: bool, day: Day, work: Work) -> u8
+    requires { day ≤ last_entered_day }
+    ensures { IsPrintStatus result }
+{
+    match place_at(rt, file) {
+        Place::Foreign => tell_refusal(rt, Fault::F20),
+        Place::Vacant if existing => tell_no_institution(rt),
+        Place::Vacant | Place::Taken => work_over(rt, file, day, work),
+    }
+}
+
+/// Opens a file, works over the institution that it holds, closes it, and gives the program's status. Closing copies the log into the
+/// file, so that the file alone is whole; where that fails the two hold the institution together, and the status is the same. The only
+/// function that holds a store of a known type: the prover reads all of `sqlite` for each.
 fn work_over(rt: &HostRuntime, file: &str, day: Day, work: Work) -> u8
     requires { day ≤ last_entered_day }
     ensures { IsPrintStatus result }
 {
     match open(rt, file, day) {
-        Ok(mut store) => work_on(rt, &mut store, work),
+        Ok(mut store) => {
+            let status = work_on(rt, &mut store, work);
+            let _closed = store.release().close();
+            status
+        }
         Err(fault) => tell_refusal(rt, fault),
     }
 }

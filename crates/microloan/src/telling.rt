@@ -86,6 +86,13 @@ pub fn tell_refusal<R: Eprint>(rt: &R, fault: Fault) -> u8
     tell_fault(rt, format_args!("{fault:?}"))
 }
 
+/// Says that a file that is to hold an institution holds none, and gives the program's status.
+pub fn tell_no_institution<R: Eprint>(rt: &R) -> u8
+    ensures { result ≡ 1 }
+{
+    tell_fault(rt, "no institution")
+}
+
 /// Says what failed, and gives the program's status.
 pub fn tell_cause<R: Eprint>(rt: &R, cause: Cause) -> u8
     ensures { result ≡ 1 }

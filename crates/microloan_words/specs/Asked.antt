@@ -1,5 +1,5 @@
 -- What the program is asked to do, as it follows from the words.
-use Rattle.std.specs.Prelude.{◌≡◌, ℕ, ◌≤◌, ◌==◌, List, codes, Option, Some, Result, Ok, IfOk, IfErr, if◌then◌else◌}
+use Rattle.std.specs.Prelude.{◌≡◌, ℕ, ◌≤◌, ◌==◌, Bool, true, false, IsTrue, List, codes, Option, Some, is_some, Result, Ok, IfOk, IfErr, if◌then◌else◌}
 use Rattle.std.specs.Str.Parse.{IsNumeral, digits_value, without_leading_plus}
 use Rattle.clap.specs.Words.{Row, Text, Kinds, first_of, subcommand_of, fault_of}
 use Rattle.mf_base.specs.Choices.{frequency_name}
@@ -46,6 +46,11 @@ most_connections = 18446744073709551615
 abbrev pub most_patience : ℕ
 most_patience = 3600
 
+-- the text of a flag that is given, and of one that isn't
+abbrev pub flag_text : Bool → Text
+flag_text true = codes "true"
+flag_text false = codes "false"
+
 -- as many as a number says, and 0 says as many as can be counted
 abbrev pub connections : ℕ → ℕ
 connections number = if number == 0 then most_connections else number
@@ -56,10 +61,12 @@ pub record IsCountAt (rows : List Row) (id : Text) (count : ℕ) : Type 0 where
   pub given : IsNumberAt rows id 0 most_connections number
   pub asks : connections number ≡ count
 
--- the options of `batch`: a file may be named
+-- the options of `batch`: a file may be named, and must be where no new institution is to be made
 pub record AreBatchWords (rows : List Row) (asked : BatchWords) : Type 0 where
   pub file : first_of (codes "file") rows ≡ asked.file
   pub day : IsDayAt rows (codes "day") asked.day
+  pub existing : first_of (codes "existing") rows ≡ Some (flag_text asked.existing)
+  pub named : IsTrue asked.existing → is_some asked.file ≡ true
 
 -- the options of `serve`
 pub record AreServeWords (rows : List Row) (asked : ServeWords) : Type 0 where
@@ -68,11 +75,13 @@ pub record AreServeWords (rows : List Row) (asked : ServeWords) : Type 0 where
   pub count : IsCountAt rows (codes "count") asked.count
   pub patience : IsNumberAt rows (codes "patience") 1 most_patience asked.patience
   pub day : IsDayAt rows (codes "day") asked.day
+  pub existing : first_of (codes "existing") rows ≡ Some (flag_text asked.existing)
 
 -- the options of `collect` and of `report`
 pub record AreStaffWords (rows : List Row) (asked : StaffWords) : Type 0 where
   pub file : first_of (codes "file") rows ≡ Some asked.file
   pub staff : IsCallerAt rows (codes "staff") asked.staff
+  pub existing : first_of (codes "existing") rows ≡ Some (flag_text asked.existing)
 
 -- the options of `schedule`
 pub record AreScheduleWords (rows : List Row) (asked : ScheduleWords) : Type 0 where

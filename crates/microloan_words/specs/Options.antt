@@ -1,9 +1,10 @@
 -- The commands of the program and their options, as `clap` reads them.
 use Rattle.std.specs.Prelude.{List, [], ◌∷◌, codes, fold, Some, true}
 use Rattle.clap.specs.Words.{App, Rule, Text, new_app, new_rule, with_rule, with_subcommand}
+use Rattle.clap.specs.declared.builder.action.ArgAction.TheVariants.{SetTrue}
 use Rattle.microloan_words.specs.declared.options.CommandOption.{CommandOption}
 use Rattle.microloan_words.specs.declared.options.Need.{Need}
-use Rattle.microloan_words.specs.declared.options.Need.TheVariants.{Optional, Required, Default}
+use Rattle.microloan_words.specs.declared.options.Need.TheVariants.{Optional, Required, Default, Flag}
 
 -- an option by its long name, with one value
 abbrev pub option_rule : Text → Rule
@@ -17,11 +18,16 @@ required_rule id = record (option_rule id) { required = true }
 abbrev pub default_rule : Text → Text → Rule
 default_rule id text = record (option_rule id) { defaults = text ∷ [] }
 
+-- a flag by its long name, without a value
+abbrev pub flag_rule : Text → Rule
+flag_rule id = record (new_rule id) { long = Some id; action = Some SetTrue }
+
 -- an option as the program's tables declare it
 abbrev pub rule_needed : Text → Need → Rule
 rule_needed id Optional = option_rule id
 rule_needed id Required = required_rule id
 rule_needed id (Default text) = default_rule id text.now
+rule_needed id Flag = flag_rule id
 
 abbrev pub rule_for : CommandOption → Rule
 rule_for option = rule_needed option.id.now option.need
@@ -39,6 +45,7 @@ abbrev pub batch_app : App
 batch_app = app_with (codes "batch") (
     option_rule (codes "file")
     ∷ default_rule (codes "day") (codes "2024-01-01")
+    ∷ flag_rule (codes "existing")
     ∷ [])
 
 -- `serve` with its options
@@ -49,11 +56,12 @@ serve_app = app_with (codes "serve") (
     ∷ default_rule (codes "count") (codes "0")
     ∷ default_rule (codes "patience") (codes "10")
     ∷ default_rule (codes "day") (codes "2024-01-01")
+    ∷ flag_rule (codes "existing")
     ∷ [])
 
 -- a command over a file, asked for by a member of staff
 abbrev pub staff_app : Text → App
-staff_app name = app_with name (required_rule (codes "file") ∷ required_rule (codes "staff") ∷ [])
+staff_app name = app_with name (required_rule (codes "file") ∷ required_rule (codes "staff") ∷ flag_rule (codes "existing") ∷ [])
 
 -- `schedule` with its options
 abbrev pub schedule_app : App

@@ -58,6 +58,8 @@ pub struct BatchWords<'a> {
     pub file: Option<FilePath<'a>>,
     /// The first business day of an institution that is new.
     pub day: Day,
+    /// Whether a file without an institution is refused. Then a file is named.
+    pub existing: bool,
 }
 
 /// The options of `serve`.
@@ -73,6 +75,8 @@ pub struct ServeWords<'a> {
     pub patience: u32,
     /// The first business day of an institution that is new.
     pub day: Day,
+    /// Whether a file without an institution is refused.
+    pub existing: bool,
 }
 
 /// The options of `collect` and of `report`.
@@ -82,6 +86,8 @@ pub struct StaffWords<'a> {
     pub file: FilePath<'a>,
     /// The member of staff who asks.
     pub staff: Caller,
+    /// Whether a file without an institution is refused.
+    pub existing: bool,
 }
 
 /// The options of `schedule`.

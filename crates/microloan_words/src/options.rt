@@ -4,20 +4,22 @@ ghost use Rattle.clap.specs.declared.Command.TheViews.{out-Command as fields_of}
 ghost use Rattle.microloan_words.specs.Options.{rule_for, with_declared, batch_app, serve_app, staff_app, schedule_app, bare_app, desk_app, microloan_app};
 
 use crate::values::DEFAULT_DAY;
-use clap::{Arg, Command};
+use clap::{Arg, ArgAction, Command};
 use std::alloc::{AllocError, Global};
 
 /// This release, and the schema of the files that it writes.
 const VERSION: &str = "1.0.0 (schema 2)";
 
-/// Whether an option must be given, or has a text that stands where it isn't.
+/// Whether an option must be given, has a text that stands where it isn't, or is a flag.
 pub(crate) enum Need {
     Optional,
     Required,
     Default(&'static str),
+    /// It has no value.
+    Flag,
 }
 
-/// An option of a command, by its long name, with one value.
+/// An option of a command, by its long name, with one value unless it is a flag.
 pub(crate) struct CommandOption {
     id: &'static str,
     value_name: &'static str,
@@ -41,8 +43,16 @@ const FIRST_DAY: CommandOption = CommandOption {
     need: Need::Default(DEFAULT_DAY),
 };
 
+/// That no new institution is made.
+const EXISTING: CommandOption = CommandOption {
+    id: "existing",
+    value_name: "",
+    help: "Refuse a file without an institution",
+    need: Need::Flag,
+};
+
 /// The options of `batch`.
-const BATCH_OPTIONS: [CommandOption; 2] = [
+const BATCH_OPTIONS: [CommandOption; 3] = [
     CommandOption {
         id: "file",
         value_name: "PATH",
@@ -50,10 +60,11 @@ const BATCH_OPTIONS: [CommandOption; 2] = [
         need: Need::Optional,
     },
     FIRST_DAY,
+    EXISTING,
 ];
 
 /// The options of `serve`.
-const SERVE_OPTIONS: [CommandOption; 5] = [
+const SERVE_OPTIONS: [CommandOption; 6] = [
     FILE,
     CommandOption {
         id: "port",
@@ -74,10 +85,11 @@ const SERVE_OPTIONS: [CommandOption; 5] = [
         need: Need::Default("10"),
     },
     FIRST_DAY,
+    EXISTING,
 ];
 
 /// The options of a command over a file that a member of staff asks for.
-const STAFF_OPTIONS: [CommandOption; 2] = [
+const STAFF_OPTIONS: [CommandOption; 3] = [
     FILE,
     CommandOption {
         id: "staff",
@@ -85,6 +97,7 @@ const STAFF_OPTIONS: [CommandOption; 2] = [
         help: "Who asks: an office, a slash and a member of its staff",
         need: Need::Required,
     },
+    EXISTING,
 ];
 
 /// The options of `schedule`.
@@ -150,14 +163,12 @@ fn arg_of<'a>(alloc: Global, option: &CommandOption) -> Arg<'a>
     ensures rule { rule_of result ≡ rule_for option.now }
     ensures local { result.global ≡ false }
 {
-    let arg = Arg::new(alloc, option.id)
-        .long(option.id)
-        .value_name(option.value_name)
-        .help(option.help);
+    let arg = Arg::new(alloc, option.id).long(option.id).help(option.help);
     match option.need {
-        Need::Optional => arg,
-        Need::Required => arg.required(true),
-        Need::Default(text) => arg.default_value(text),
+        Need::Optional => arg.value_name(option.value_name),
+        Need::Required => arg.value_name(option.value_name).required(true),
+        Need::Default(text) => arg.value_name(option.value_name).default_value(text),
+        Need::Flag => arg.action(ArgAction::SetTrue),
     }
 }
 

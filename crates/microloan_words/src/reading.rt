@@ -11,8 +11,8 @@ ghost use Rattle.microloan_words.specs.declared.asked.ScheduleWords.{ScheduleWor
 
 use crate::asked::{BatchWords, ScheduleWords, ServeWords, StaffWords};
 use crate::values::{
-    MOST_PATIENCE, connections_at, count_at, day_at, file_at, frequency_at, method_at, number_at,
-    port_at, staff_at,
+    MOST_PATIENCE, connections_at, count_at, day_at, file_at, flag_at, frequency_at, method_at,
+    number_at, port_at, staff_at,
 };
 use clap::ArgMatches;
 use mf_catalog::{GREATEST_AMOUNT, GREATEST_RATE, MOST_GRACE, MOST_PERIODS, longest_step};
@@ -21,6 +21,7 @@ use mf_catalog::{GREATEST_AMOUNT, GREATEST_RATE, MOST_GRACE, MOST_PERIODS, longe
 #[derive(Clone, Copy, PartialEq, Eq)]
 pub(crate) enum Wrong {
     File,
+    Existing,
     Port,
     Count,
     Patience,
@@ -44,7 +45,15 @@ pub(crate) fn batch_words<'a>(options: &ArgMatches<'a>) -> Result<BatchWords<'a>
 {
     let file = file_at(options);
     let day = day_at(options, "day").ok_or(Wrong::Day)?;
-    Ok(BatchWords { file, day })
+    let existing = flag_at(options, "existing").ok_or(Wrong::Existing)?;
+    if existing && file.is_none() {
+        return Err(Wrong::Existing);
+    }
+    Ok(BatchWords {
+        file,
+        day,
+        existing,
+    })
 }
 
 /// The options of `serve`, or the first that isn't what it should be.
@@ -58,12 +67,14 @@ pub(crate) fn serve_words<'a>(options: &ArgMatches<'a>) -> Result<ServeWords<'a>
     let count = connections_at(options).ok_or(Wrong::Count)?;
     let patience = count_at(options, "patience", 1, MOST_PATIENCE).ok_or(Wrong::Patience)?;
     let day = day_at(options, "day").ok_or(Wrong::Day)?;
+    let existing = flag_at(options, "existing").ok_or(Wrong::Existing)?;
     Ok(ServeWords {
         file,
         port,
         count,
         patience,
         day,
+        existing,
     })
 }
 
@@ -75,7 +86,12 @@ pub(crate) fn staff_words<'a>(options: &ArgMatches<'a>) -> Result<StaffWords<'a>
 {
     let file = file_at(options).ok_or(Wrong::File)?;
     let staff = staff_at(options).ok_or(Wrong::Staff)?;
-    Ok(StaffWords { file, staff })
+    let existing = flag_at(options, "existing").ok_or(Wrong::Existing)?;
+    Ok(StaffWords {
+        file,
+        staff,
+        existing,
+    })
 }
 
 /// The options of `schedule`, or the first that isn't what it should be.

@@ -12,6 +12,7 @@ use std::alloc::{AllocError, Global};
 fn wants(wrong: Wrong) -> &'static str {
     match wrong {
         Wrong::File => "--file wants the path of a file",
+        Wrong::Existing => "--existing wants the --file that holds the institution",
         Wrong::Port => "--port wants a number from 1 to 65535",
         Wrong::Count => "--count wants a number of connections, or 0 for no end",
         Wrong::Patience => "--patience wants a number of seconds from 1 to 3600",

@@ -1,9 +1,9 @@
-ghost use Rattle.std.specs.Prelude.{◌≡◌, ◌≤◌, ℕ, codes, IfSome, option_map};
+ghost use Rattle.std.specs.Prelude.{◌≡◌, ◌≤◌, ℕ, Bool, codes, Some, IfSome, option_map};
 ghost use Rattle.mf_base.specs.DayText.{day_text, last_entered_day};
 ghost use Rattle.clap.specs.Words.{first_of, found_of, rows_of};
 ghost use Rattle.mf_base.specs.Choices.{frequency_name};
 ghost use Rattle.mf_catalog.specs.Names.{method_name};
-ghost use Rattle.microloan_words.specs.Asked.{IsNumberAt, IsDayAt, IsCallerAt, IsCountAt};
+ghost use Rattle.microloan_words.specs.Asked.{IsNumberAt, IsDayAt, IsCallerAt, IsCountAt, flag_text};
 ghost use Rattle.mf_office.specs.declared.caller.Caller.{Caller};
 ghost use Rattle.mf_catalog.specs.declared.terms.Method.{Method};
 ghost use Rattle.mf_base.specs.declared.day.Freq.{Freq};
@@ -65,6 +65,21 @@ pub(crate) fn count_at(options: &ArgMatches<'_>, id: &str, least: u32, greatest:
         Some(number) => Some(number as u32),
         None => None,
     }
+}
+
+/// Whether a flag is given.
+pub(crate) fn flag_at(options: &ArgMatches<'_>, id: &str) -> Option<bool>
+    ensures read { IfSome result (λ given. first_of id.now (rows_of (found_of options.now)) ≡ Some (flag_text given)) }
+    ensures every { (given : Bool) → first_of id.now (rows_of (found_of options.now)) ≡ Some (flag_text given) → result ≡ Some given }
+{
+    let text = text_at(options, id)?;
+    if text == "true" {
+        return Some(true);
+    }
+    if text == "false" {
+        return Some(false);
+    }
+    None
 }
 
 /// The method that is asked for.
