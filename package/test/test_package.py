@@ -17,6 +17,7 @@ sys.path.insert(0, os.path.join(TOP, "front"))
 import running
 
 PASSWORD = "the head's password"
+PATIENCE = 300  # seconds that a command in the root may take
 ASK = """
 import base64, http.client, sys
 user, password, method, path, body = sys.argv[1:]
@@ -98,6 +99,7 @@ class Root:
             stdout=subprocess.PIPE,
             stderr=subprocess.STDOUT,
             text=True,
+            timeout=PATIENCE,
             check=False,
         )
         if done.returncode != wanted:
@@ -110,7 +112,7 @@ class Root:
 
     def end(self):
         if self.holder:
-            self.holder.terminate()
+            self.holder.kill()  # SIGTERM is ignored by unshare; its child is killed with it
             self.holder.wait()
             self.holder.stdout.close()
         shutil.rmtree(self.path, ignore_errors=True)
@@ -162,7 +164,7 @@ class Installed(unittest.TestCase):
         self.assertIn("microloan: now run microloan-setup, as root", said)
         self.assertEqual(self.root.run("pidof microloan nginx", wanted=1), "")
         for unit in ("microloan.service", "microloan-backup.service", "microloan-backup.timer"):
-            self.assertEqual(self.root.run(f"systemd-analyze verify /lib/systemd/system/{unit}"), "")
+            self.assertEqual(self.root.run(f"systemd-analyze verify --man=no /lib/systemd/system/{unit}"), "")
         said = self.root.run("microloan-setup --user amina --day 2026-11-26", given=PASSWORD + "\n")
         self.assertIn("its business day is 2026-11-26", said)
         self.assertIn("amina signs in as 1/1", said)
