@@ -1,0 +1,135 @@
+// Sends requests to the desk. One queue for the whole page sends at most four at once.
+
+const MOST_AT_ONCE = 4;
+const MOST_MILLISECONDS = 45_000;
+const WAITS_BETWEEN_TRIES = [300, 1000, 2000];
+
+// Why a request did not succeed. `fault` is the desk's refusal (F1 to F20), `front` the front's, both null where no reply came.
+export class Problem extends Error {
+    constructor({ fault = null, front = null, status = 0 }) {
+        super(fault ?? front ?? "lost");
+        this.fault = fault;
+        this.front = front;
+        this.status = status;
+    }
+
+    // whether it is not known that the request was refused: it may have been carried out
+    get isLost() {
+        return this.fault === "F20" || (this.fault === null && !["origin", "large", "sign-in"].includes(this.front));
+    }
+}
+
+let running = 0;
+const waiting = [];
+
+async function inTurn(send) {
+    if (running >= MOST_AT_ONCE) {
+        await new Promise((go) => waiting.push(go));
+    } else {
+        running += 1;
+    }
+    try {
+        return await send();
+    } finally {
+        const next = waiting.shift();
+        if (next) {
+            next();
+        } else {
+            running -= 1;
+        }
+    }
+}
+
+export function pause(milliseconds) {
+    return new Promise((go) => setTimeout(go, milliseconds));
+}
+
+// JSON in which a number of more digits than a Number can hold is kept as a text of its digits
+export function readJson(text) {
+    const isString = (part) => part.startsWith("\"");
+    return JSON.parse(text.replace(/"(?:[^"\\]|\\.)*"|-?\d{16,}/g, (part) => (isString(part) ? part : `"${part}"`)));
+}
+
+async function fetchOnce(method, url, body) {
+    const isWriting = method !== "GET";
+    const headers = isWriting ? { "X-Desk": "1", "Content-Type": "application/json" } : {};
+    const ending = new AbortController();
+    const clock = setTimeout(() => ending.abort(), MOST_MILLISECONDS);
+    try {
+        const reply = await fetch(url, {
+            method, headers, cache: "no-store", credentials: "same-origin", signal: ending.signal,
+            body: body === undefined ? undefined : JSON.stringify(body),
+        });
+        return { status: reply.status, text: await reply.text() };
+    } catch {
+        throw new Problem({});
+    } finally {
+        clearTimeout(clock);
+    }
+}
+
+function judged({ status, text }) {
+    if (status === 401 && !text.startsWith("{")) {
+        throw new Problem({ front: "sign-in", status });
+    }
+    let body;
+    try {
+        body = readJson(text);
+    } catch {
+        throw new Problem({ status });
+    }
+    if (status >= 200 && status < 300) {
+        return { status, body };
+    }
+    throw new Problem({ fault: body.fault ?? null, front: body.front ?? null, status });
+}
+
+// Chromium sends no request from a page whose address has a password in it unless the address is given without one.
+function send(method, path, body) {
+    return inTurn(async () => judged(await fetchOnce(method, location.origin + path, body)));
+}
+
+async function tryAgain(once) {
+    for (const wait of WAITS_BETWEEN_TRIES) {
+        try {
+            return await once();
+        } catch (problem) {
+            if (!(problem instanceof Problem) || !problem.isLost) {
+                throw problem;
+            }
+        }
+        await pause(wait);
+    }
+    return once();
+}
+
+// the body of the reply; a reading may be sent again, since it changes nothing
+export async function read(path) {
+    return (await tryAgain(() => send("GET", `/api${path}`))).body;
+}
+
+// the body of the reply, or null where the thing isn't there or isn't seen
+export async function readIfThere(path) {
+    try {
+        return await read(path);
+    } catch (problem) {
+        if (problem.fault === "F4") {
+            return null;
+        }
+        throw problem;
+    }
+}
+
+// a request that may change something, sent once
+export function change(method, path, body) {
+    return send(method, `/api${path}`, body);
+}
+
+// A repayment with its receipt may be sent again: what was entered is not entered twice, and is answered with status 200.
+export function repay(loan, repayment) {
+    return tryAgain(() => change("POST", `/loans/${loan}/repayments`, repayment));
+}
+
+export async function whoAmI() {
+    return (await tryAgain(() => send("GET", "/me"))).body;
+}
