@@ -74,8 +74,8 @@ function languageChoice() {
 
 function person(officeName) {
     return element("div", { class: "person" },
-        element("div", { class: "person-name" }, session.user),
-        element("div", { class: "person-role" }, `${say(`role.${ROLES[session.rank]}`)} · ${session.staff} ${officeName}`));
+        element("div", {}, `${session.user} · ${say(`role.${ROLES[session.rank]}`)}`),
+        element("div", { class: "person-office" }, `${session.staff} ${officeName}`));
 }
 
 function topBar(officeName) {
@@ -90,8 +90,9 @@ function topBar(officeName) {
     const inner = element("div", { class: "collapse navbar-collapse", id: "menu" },
         element("ul", { class: "navbar-nav me-auto", id: "ways" }, ways),
         element("div", { class: "bar-end" }, person(officeName), languageChoice()));
-    return element("nav", { class: "navbar navbar-expand-xl navbar-dark bar d-print-none", "aria-label": say("ways") },
-        element("div", { class: "container-xl" }, link("#/today", "microloan", { class: "navbar-brand" }), day, toggler, inner));
+    return element("header", { class: "bar d-print-none" },
+        element("nav", { class: "navbar navbar-expand-lg navbar-dark container-xl", "aria-label": say("ways") },
+            link("#/today", "microloan", { class: "navbar-brand" }), day, toggler, inner));
 }
 
 export function showNewDay() {

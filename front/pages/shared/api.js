@@ -15,7 +15,7 @@ export class Problem extends Error {
 
     // whether it is not known that the request was refused: it may have been carried out
     get isLost() {
-        return this.fault === "F20" || (this.fault === null && !["origin", "large", "sign-in"].includes(this.front));
+        return this.fault === "F20" || (this.fault === null && !["origin", "large", "password"].includes(this.front));
     }
 }
 
@@ -69,14 +69,11 @@ async function fetchOnce(method, url, body) {
 }
 
 function judged({ status, text }) {
-    if (status === 401 && !text.startsWith("{")) {
-        throw new Problem({ front: "sign-in", status });
-    }
     let body;
     try {
         body = readJson(text);
     } catch {
-        throw new Problem({ status });
+        throw new Problem({ front: status === 401 ? "password" : null, status });
     }
     if (status >= 200 && status < 300) {
         return { status, body };

@@ -83,17 +83,17 @@ function noteStack() {
     if (known) {
         return known;
     }
-    const stack = element("div", { id: "notes", class: "toast-container position-fixed bottom-0 end-0 p-3", "aria-live": "polite" });
+    const stack = element("div", { id: "notes", class: "toast-container position-fixed p-2", "aria-live": "polite" });
     document.body.append(stack);
     return stack;
 }
 
-// tells in a corner of the page that something was done
+// tells in a corner of the page that something was done, in place of what was told before
 export function note(...words) {
     const close = element("button", { type: "button", class: "btn-close me-2 m-auto", "data-bs-dismiss": "toast", "aria-label": say("close") });
     const body = element("div", { class: "d-flex" }, element("div", { class: "toast-body" }, words), close);
     const node = element("div", { class: "toast note", role: "status" }, body);
-    noteStack().append(node);
+    noteStack().replaceChildren(node);
     node.addEventListener("hidden.bs.toast", () => node.remove());
     new bootstrap.Toast(node, { delay: 6000 }).show();
 }

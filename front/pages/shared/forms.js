@@ -14,7 +14,7 @@ function field({ label, input, hint, judge, wide }) {
     const node = element("div", { class: wide ? "col-12" : "col-12 col-sm-6" },
         element("label", { class: "form-label", for: id }, label), input, wrong, help);
     return {
-        node, input,
+        node, input, help,
         read() {
             const judged = judge(input.value);
             input.classList.toggle("is-invalid", judged.wrong !== undefined);
@@ -52,7 +52,7 @@ export function moneyField({ label, value = null, range = () => [LEAST, MOST], h
     return field({ label, input, hint: hint ?? moneyRange(range()), judge });
 }
 
-function moneyRange([least, most]) {
+export function moneyRange([least, most]) {
     return say("field.range", { least: showMoney(least), most: showMoney(most) });
 }
 
@@ -73,7 +73,7 @@ export function numberField({ label, value = "", range, hint }) {
     return field({ label, input, hint: hint ?? numberRange(range()), judge });
 }
 
-function numberRange([least, most]) {
+export function numberRange([least, most]) {
     return say("field.range", { least: showCount(least), most: showCount(most) });
 }
 
@@ -85,11 +85,11 @@ export function dayField({ label, value = "", least = FIRST_DAY, most = LAST_DAY
 }
 
 // choices: pairs of a value and its words
-export function choiceField({ label, choices, value, hint, onchange }) {
+export function choiceField({ label, choices, value, hint, onchange, wide }) {
     const options = choices.map(([name, words]) => element("option", { value: name, selected: name === value }, words));
     const input = element("select", { class: "form-select", onchange }, options);
     const judge = (text) => (text === "" ? { wrong: say("field.choice.wrong") } : { value: text });
-    return field({ label, input, hint, judge });
+    return field({ label, input, hint, judge, wide });
 }
 
 // a choice among numbers, of which one stands for none

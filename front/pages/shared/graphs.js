@@ -17,10 +17,9 @@ function canvasFor(words) {
 
 // Chart.js measures the place where it draws, so a graph is drawn once it stands in the page.
 function drawn(canvas, settings) {
-    const isCalm = window.matchMedia("(prefers-reduced-motion: reduce)").matches;
     requestAnimationFrame(() => {
         if (canvas.isConnected) {
-            new Chart(canvas, { ...settings, options: { locale, maintainAspectRatio: false, animation: isCalm ? false : { duration: 250 }, ...settings.options } });
+            new Chart(canvas, { ...settings, options: { locale, maintainAspectRatio: false, animation: false, ...settings.options } });
         }
     });
 }
@@ -57,7 +56,7 @@ export function balanceSteps({ planned, real, today, words }) {
     const { canvas, node } = canvasFor(words);
     node.style.height = "260px";
     const line = (label, points, colour, dash) => ({
-        label, borderColor: colour, backgroundColor: colour, borderDash: dash, borderWidth: 2, stepped: "before", pointRadius: 2,
+        label, borderColor: colour, backgroundColor: colour, borderDash: dash, borderWidth: 2, stepped: "before", pointRadius: 2, pointStyle: "circle",
         data: points.map(({ day, cents }) => ({ x: numberOfDay(day), y: height(cents) })), cents: points.map(({ cents }) => cents),
     });
     drawn(canvas, {
@@ -65,11 +64,11 @@ export function balanceSteps({ planned, real, today, words }) {
         data: { datasets: [line(say("graph.planned"), planned, "#6b7785", [5, 4]), line(say("graph.real"), real, "#0b6e69", [])] },
         options: {
             scales: {
-                x: { type: "linear", ticks: { maxTicksLimit: 6, maxRotation: 0, precision: 0, callback: (value) => showDay(dayOfNumber(Math.round(value))) }, grid: { color: lineOfToday(today) } },
+                x: { type: "linear", ticks: { maxTicksLimit: window.innerWidth < 640 ? 3 : 6, maxRotation: 0, precision: 0, callback: (value) => showDay(dayOfNumber(Math.round(value))) }, grid: { color: lineOfToday(today) } },
                 y: { beginAtZero: true, ticks: { maxTicksLimit: 6, callback: (value) => compact.format(value) } },
             },
             plugins: {
-                legend: { position: "bottom", labels: { boxWidth: 14 } },
+                legend: { position: "bottom", labels: { usePointStyle: true, pointStyle: "line" } },
                 tooltip: { callbacks: { title: (items) => showDay(dayOfNumber(items[0].parsed.x)), label: centsLabel } },
             },
         },

@@ -4,7 +4,7 @@ import { Problem } from "./api.js";
 import { NotDone, NotKnown } from "./writing.js";
 import { hasWords, say } from "./words.js";
 
-const KINDS = ["origin", "down", "large", "busy", "sign-in"];
+const KINDS = ["origin", "down", "large", "busy", "password"];
 
 function keyOf(problem) {
     if (problem.fault !== null && hasWords(`refusal.${problem.fault}.what`)) {

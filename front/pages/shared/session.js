@@ -1,6 +1,6 @@
 // Who the reader is and what they may do. The desk tells no role, so it is learnt by three requests that can change nothing: each
 // names something that is never there, and is refused by F3 for who may not send it, and otherwise for what it names.
-import { change, read, whoAmI } from "./api.js";
+import { Problem, change, read, whoAmI } from "./api.js";
 
 export const TELLER = 1;
 export const OFFICER = 2;
@@ -50,6 +50,9 @@ function keepFor(person) {
 
 export async function beginSession() {
     const { user, staff } = await whoAmI();
+    if (staff === "") {
+        throw new Problem({ fault: "F2" });
+    }
     keepFor(`${user} ${staff}`);
     session.user = user;
     session.staff = staff;

@@ -2,10 +2,11 @@
 import { element, freshId } from "./elements.js";
 import { say, sayCount, showDay, showMoney } from "./words.js";
 
-// columns: { words, kind } where kind "number" is set right. rows, foot: made by `row`. On a phone each row becomes a block in which
+// columns: { words, kind, isHidden, isWide }: kind "number" is set right; a wide one has a line of its own on a phone. rows, foot: made by `row`. On a phone each row becomes a block in which
 // every cell stands behind its column's words; the roles keep it a table for a screen reader.
 export function table({ caption, columns, rows, foot }) {
-    const head = columns.map(({ words, kind, isHidden }) => element("th", { scope: "col", role: "columnheader", class: classOf(kind) },
+    const titled = columns.map((column) => ({ ...column, words: capital(column.words) }));
+    const head = titled.map(({ words, kind, isHidden }) => element("th", { scope: "col", role: "columnheader", class: classOf(kind) },
         isHidden ? element("span", { class: "visually-hidden" }, words) : words));
     const body = element("tbody", { role: "rowgroup" }, rows);
     const made = element("table", { class: "table table-hover align-middle mb-0", role: "table" },
@@ -13,9 +14,20 @@ export function table({ caption, columns, rows, foot }) {
         element("thead", { role: "rowgroup" }, element("tr", { role: "row" }, head)), body,
         foot && element("tfoot", { role: "rowgroup" }, foot));
     for (const line of [...rows, foot].filter(Boolean)) {
-        columns.forEach(({ words, isHidden }, i) => line.cells[i]?.setAttribute("data-words", isHidden ? "" : words));
+        titled.forEach((column, i) => markCell(line.cells[i], column));
     }
     return { node: element("div", { class: "table-scroll", tabindex: "0", role: "region", "aria-label": caption }, made), body };
+}
+
+function markCell(cell, { words, isHidden, isWide }) {
+    cell.setAttribute("data-words", isHidden ? "" : words);
+    cell.classList.toggle("wide", isWide === true);
+    cell.classList.toggle("is-number", cell.tagName === "TH" && /^\d+$/.test(cell.textContent));
+}
+
+// "principal" stands in small letters within a sentence, and begins a heading with a capital
+export function capital(words) {
+    return words.charAt(0).toLocaleUpperCase() + words.slice(1);
 }
 
 function classOf(kind) {
@@ -68,9 +80,9 @@ export function facts(pairs) {
 }
 
 export function figure(words, value, { isAlarming = false, more } = {}) {
-    return element("div", { class: "col-6 col-lg-3" }, element("div", { class: `figure${isAlarming ? " figure-alarming" : ""}` },
-        element("div", { class: "figure-words" }, words), element("div", { class: "figure-value amount" }, value),
-        more && element("div", { class: "figure-more" }, more)));
+    return element("div", { class: "col-6 col-lg-3" }, element("div", { class: `key-figure${isAlarming ? " key-figure-alarming" : ""}` },
+        element("div", { class: "key-figure-words" }, words), element("div", { class: "key-figure-value amount" }, value),
+        more && element("div", { class: "key-figure-more" }, more)));
 }
 
 export function figures(...made) {

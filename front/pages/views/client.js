@@ -3,10 +3,10 @@ import { button, card, element, emptyState, fill, spinner } from "../shared/elem
 import { change, Problem } from "../shared/api.js";
 import { may, OFFICER } from "../shared/session.js";
 import { clientName, isAccount, loan, loansAfter, loansOf, loansOfClient, numberOf, officeNamed, officeOf, products } from "../shared/desk.js";
-import { say, showCount, showMoney, showPercent } from "../shared/words.js";
+import { say, showPercent } from "../shared/words.js";
 import { facts, pageHead } from "../shared/tables.js";
 import { ask, note } from "../shared/dialogs.js";
-import { choiceField, moneyField, numberField } from "../shared/forms.js";
+import { choiceField, moneyField, moneyRange, numberField, numberRange } from "../shared/forms.js";
 import { keptWriting, Writing } from "../shared/writing.js";
 import { loanTable } from "./loans.js";
 
@@ -44,25 +44,19 @@ async function newLoan(account, name) {
 // The ranges of amount and periods are those of the chosen product, and are shown anew where another is chosen.
 function loanForm(open, account) {
     const chosen = () => open.find((one) => String(one.product) === fields.product.input.value);
-    const limits = element("p", { class: "mb-0" });
+    const amounts = () => [chosen().min_principal, chosen().max_principal];
+    const lengths = () => [chosen().min_periods, chosen().max_periods];
     const showLimits = () => {
-        const product = chosen();
-        limits.textContent = say("loan.limits", {
-            least: showMoney(product.min_principal), most: showMoney(product.max_principal), fewest: showCount(product.min_periods),
-            greatest: showCount(product.max_periods), unit: say(`frequency.${product.frequency}`, { every: product.every }), rate: showPercent(product.rate),
-        });
+        const step = say(`frequency.${chosen().frequency}`, { every: chosen().every });
+        fields.product.help.textContent = say("loan.product", { rate: showPercent(chosen().rate), method: say(`method.${chosen().method}`) });
+        fields.principal.help.textContent = moneyRange(amounts());
+        fields.periods.help.textContent = `${numberRange(lengths())}, ${step}`;
     };
+    const choices = open.map((one) => [String(one.product), `${one.product} ${one.name}`]);
     const fields = {
-        product: choiceField({
-            label: say("product"), onchange: showLimits, choices: open.map((one) => [String(one.product), `${one.product} ${one.name}`]),
-        }),
-        limits: { node: element("div", { class: "col-12" }, limits), input: limits, read: () => ({ value: null }) },
-        principal: moneyField({
-            label: say("principal"), hint: say("field.by-product"), range: () => [chosen().min_principal, chosen().max_principal],
-        }),
-        periods: numberField({
-            label: say("periods"), hint: say("field.by-product"), range: () => [chosen().min_periods, chosen().max_periods],
-        }),
+        product: choiceField({ label: say("product"), hint: " ", wide: true, onchange: showLimits, choices }),
+        principal: moneyField({ label: say("principal"), hint: " ", range: amounts }),
+        periods: numberField({ label: say("periods"), hint: " ", range: lengths }),
     };
     showLimits();
     const send = keptWriting(({ product, principal, periods }) => loanWriting({ client: account, product: Number(product), principal, periods }));

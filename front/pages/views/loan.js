@@ -6,7 +6,7 @@ import * as desk from "../shared/desk.js";
 import { daysBetween } from "../shared/days.js";
 import { sum } from "../shared/money.js";
 import { say, sayCount, showCount, showMoney, showPercent } from "../shared/words.js";
-import { amount, amountOrDash, day, facts, figure, figures, overdueBadge, pageHead, row, statusBadge, table } from "../shared/tables.js";
+import { amount, amountOrDash, capital, day, facts, figure, figures, overdueBadge, pageHead, row, statusBadge, table } from "../shared/tables.js";
 import { balanceSteps } from "../shared/graphs.js";
 import { loanActions, mayReverse, reverseEntry } from "./loan-actions.js";
 
@@ -21,6 +21,7 @@ export async function loan(page, account) {
         element("div", { class: "row g-3" },
             element("div", { class: "col-12 col-lg-5" }, card(say("loan.terms"), terms(told))),
             element("div", { class: "col-12 col-lg-7" }, card(say("loan.graph"), graph(told)))),
+        told.day && element("div", { class: "mt-3" }, card(say("loan.balances"), balances(told))),
         element("div", { class: "mt-3" }, card(say("loan.schedule"), scheduleTable(told))),
         element("div", { class: "mt-3" }, card(say("loan.entries"), entryTable(told, again))));
 }
@@ -73,7 +74,7 @@ function sums(told) {
 
 function terms(told) {
     const product = told.terms;
-    return [facts([
+    return facts([
         [say("client"), link(`#/client/${told.client}`, told.name), ` ${told.client}`],
         [say("product"), `${told.product} ${product.name}`],
         [say("method"), say(`method.${product.method}`)],
@@ -82,15 +83,15 @@ function terms(told) {
         [say("strategy"), say(`strategy.${product.strategy}`)],
         [say("loan.paid-out"), told.day ? day(told.day) : "–"],
         BigInt(told.disbursement_fee) > 0n && [say("loan.disbursement-fee"), showMoney(told.disbursement_fee)],
-    ].filter((fact) => fact !== false)), told.day && balances(told)];
+    ].filter((fact) => fact !== false));
 }
 
 function balances(told) {
     const columns = [{ words: say("loan.portion") }, { words: say("paid"), kind: "number" }, { words: say("waived"), kind: "number" },
         { words: say("written-off"), kind: "number" }, { words: say("outstanding"), kind: "number" }];
-    const rows = ["principal", "interest", "fees", "penalties"].map((name) => row([{ head: say(`portion.${name}`) },
+    const rows = ["principal", "interest", "fees", "penalties"].map((name) => row([{ head: capital(say(`portion.${name}`)) },
         ...["paid", "waived", "written_off", "outstanding"].map((group) => amountOrDash(told[group][name]))]));
-    return table({ caption: say("loan.portion"), columns, rows }).node;
+    return table({ caption: say("loan.balances"), columns, rows }).node;
 }
 
 // what is outstanding of the principal: as it was planned, and as the entries that stand made it
@@ -126,7 +127,7 @@ function scheduleTable(told) {
     const foot = row([{ head: say("all") }, "", ...totals.map(amountOrDash), amount(sum(totals)),
         amountOrDash(sum(told.instalments.map((one) => one.outstanding))), ""], { class: "fw-semibold" });
     const columns = [{ words: say("instalment.short") }, { words: say("due") }, ...portions.map((name) => ({ words: say(`portion.${name}`), kind: "number" })),
-        { words: say("owed"), kind: "number" }, { words: say("outstanding"), kind: "number" }, { words: say("state") }];
+        { words: say("owed"), kind: "number" }, { words: say("outstanding"), kind: "number" }, { words: say("state"), isWide: true }];
     return table({ caption: say("loan.schedule"), columns, rows, foot }).node;
 }
 
@@ -151,7 +152,7 @@ function entryTable(told, again) {
     }
     const rows = told.entries.map((entry) => entryRow(told, entry, again));
     const columns = [{ words: say("instalment.short") }, { words: say("day") }, { words: say("kind") }, { words: say("amount"), kind: "number" },
-        { words: say("entry.shares") }, { words: say("receipt") }, { words: say("staff") }, { words: say("entry.action"), isHidden: true }];
+        { words: say("entry.shares"), isWide: true }, { words: say("receipt") }, { words: say("staff") }, { words: say("entry.action"), isHidden: true }];
     return table({ caption: say("loan.entries"), columns, rows }).node;
 }
 

@@ -11,8 +11,8 @@ const DONE = ["entered", "repeated"];
 export function lineTable(lines, { keep, isEarly }) {
     let changed = () => {};
     const shown = new Map(lines.map((line) => [line, lineRow(line, () => { keep(); changed(); }, isEarly)]));
-    const columns = [{ words: say("loan") }, { words: say("client") }, { words: say("open-since") }, { words: say("round.due"), kind: "number" },
-        { words: say("outstanding"), kind: "number" }, { words: say("round.paid"), kind: "number" }, { words: say("round.result") }];
+    const columns = [{ words: say("loan") }, { words: say("client"), isWide: true }, { words: say("open-since"), isWide: true }, { words: say("round.due"), kind: "number" },
+        { words: say("outstanding"), kind: "number" }, { words: say("round.paid"), kind: "number", isWide: true }, { words: say("round.result"), isWide: true }];
     const { node } = table({ caption: say("round.title"), columns, rows: [...shown.values()].map(({ tr }) => tr) });
     return {
         node,

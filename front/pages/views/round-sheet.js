@@ -19,7 +19,7 @@ export async function sendLines(lines, tell) {
         const problem = await sendLine(line);
         line.isSending = false;
         tell(line);
-        if (problem?.isLost || problem?.front === "sign-in") {
+        if (problem?.isLost || problem?.front === "password") {
             return problem;
         }
     }
@@ -152,7 +152,7 @@ function showSheet(place, lines, name) {
         enter.disabled = false;
         save.hidden = false;
     }, { class: "btn btn-primary", disabled: good.length === 0 });
-    const columns = [{ words: say("receipt") }, { words: say("loan") }, { words: say("day") }, { words: say("amount"), kind: "number" }, { words: say("round.result") }];
+    const columns = [{ words: say("receipt") }, { words: say("loan") }, { words: say("day") }, { words: say("amount"), kind: "number" }, { words: say("round.result"), isWide: true }];
     fill(place, summary, table({ caption: say("sheet.title"), columns, rows: [...rows.values()].map(({ tr }) => tr) }).node,
         element("div", { class: "page-actions mt-3" }, enter, save), trouble);
 }
