@@ -1,0 +1,195 @@
+"""Starts and stops a front on loopback: nginx by the templates beside this file, over `microloan serve`.
+
+`try` and the tests use it.
+"""
+import contextlib
+import grp
+import os
+import shutil
+import signal
+import socket
+import subprocess
+import sys
+import time
+
+FRONT = os.path.dirname(os.path.abspath(__file__))
+TOP = os.path.dirname(FRONT)
+WORKERS = "www-data"  # whom nginx's workers run as, where root starts it
+PATIENCE = 60  # seconds that something may take to start
+
+# What is needed, and the package of Debian that has it.
+NEEDED = {
+    "nginx": "nginx",
+    "htpasswd": "apache2-utils",
+    "/usr/share/javascript/bootstrap5/css/bootstrap.min.css": "libjs-bootstrap5",
+    "/usr/share/javascript/chart.js/chart.min.js": "libjs-chart.js",
+    "/usr/share/nodejs/d3-dsv/dist/d3-dsv.min.js": "node-d3-dsv",
+}
+
+
+class Failed(Exception):
+    """Why something didn't start."""
+
+
+def find(name):
+    """The path of a program; nginx's folder isn't on the PATH of a plain user."""
+    return shutil.which(name, path=os.environ.get("PATH", "") + ":/usr/sbin:/sbin")
+
+
+def missing_packages(needed=None):
+    """The packages that must be installed first."""
+    needed = NEEDED if needed is None else needed
+    return sorted(package for what, package in needed.items() if not (os.path.exists(what) or find(what)))
+
+
+def program():
+    """The program that MICROLOAN names, else the one of this checkout."""
+    return os.environ.get("MICROLOAN") or os.path.join(TOP, "microloan")
+
+
+def free_port():
+    with socket.socket() as listener:
+        listener.bind(("127.0.0.1", 0))
+        return listener.getsockname()[1]
+
+
+def is_open(port):
+    with socket.socket() as client:
+        client.settimeout(1)
+        return client.connect_ex(("127.0.0.1", port)) == 0
+
+
+def answer_lines(path, lines):
+    """Enters request lines into the institution of a file. The replies."""
+    words = [program(), "batch", "--file", path]
+    done = subprocess.run(words, input=lines, stdout=subprocess.PIPE, umask=0o077, check=False)
+    if done.returncode:
+        raise Failed(f"{program()} batch ended with status {done.returncode}")
+    return done.stdout
+
+
+def is_readable_by_workers(path):
+    words = ["setpriv", f"--reuid={WORKERS}", f"--regid={WORKERS}", "--clear-groups", "test", "-r", path]
+    return subprocess.run(words, check=False).returncode == 0
+
+
+class Serve:
+    """`microloan serve` over a file."""
+
+    def __init__(self, path, port):
+        self.path = path
+        self.port = port
+        self.process = None
+
+    def start(self):
+        words = [program(), "serve", "--file", self.path, "--port", str(self.port)]
+        self.process = start_beside(words, umask=0o077)
+        wait_for(self.port, self.process, "microloan serve")
+
+    def stop(self, how=signal.SIGTERM):
+        if self.process:
+            with contextlib.suppress(ProcessLookupError):
+                self.process.send_signal(how)
+            self.process.wait()
+        self.process = None
+
+
+def start_beside(words, umask=-1):
+    """A process that ends with this one, in a session of its own, so that Ctrl-C reaches this one alone."""
+    words = ["setpriv", "--pdeathsig", "TERM"] + words
+    return subprocess.Popen(words, stdin=subprocess.DEVNULL, start_new_session=True, umask=umask)
+
+
+def wait_for(port, process, name):
+    """Waits until a process listens."""
+    end = time.monotonic() + PATIENCE
+    while not is_open(port):
+        if process.poll() is not None:
+            raise Failed(f"{name} ended with status {process.returncode}")
+        if time.monotonic() > end:
+            raise Failed(f"{name} doesn't listen on port {port}")
+        time.sleep(0.02)
+
+
+class Nginx:
+    """nginx over the port of a program, with its files in a folder that exists."""
+
+    def __init__(self, folder, port, desk_port, pages=None):
+        self.folder = folder
+        self.port = port
+        self.desk_port = desk_port
+        self.pages = pages or os.path.join(FRONT, "pages")
+        self.people = os.path.join(folder, "people")
+        self.log = os.path.join(folder, "messages.log")
+        self.process = None
+
+    def lay_out(self):
+        """Makes the files. Where root starts nginx its workers are others, who must read pages and people."""
+        is_root = os.geteuid() == 0
+        os.chmod(self.folder, 0o711 if is_root else 0o700)
+        os.makedirs(self.people, mode=0o750, exist_ok=True)
+        if is_root:
+            os.chown(self.people, 0, grp.getgrnam(WORKERS).gr_gid)
+            if not is_readable_by_workers(os.path.join(self.pages, "index.html")):
+                copy = os.path.join(self.folder, "pages")
+                shutil.rmtree(copy, ignore_errors=True)
+                self.pages = shutil.copytree(self.pages, copy)
+        for name in ("passwords", "staff.map"):
+            path = os.path.join(self.people, name)
+            if not os.path.exists(path):
+                os.close(os.open(path, os.O_CREAT | os.O_WRONLY, 0o640))
+                os.chown(path, -1, os.stat(self.people).st_gid)
+        os.close(os.open(self.log, os.O_CREAT | os.O_WRONLY, 0o600))
+        self.fill("nginx.conf", {"FOLDER": self.folder, "USER": f"user {WORKERS};" if is_root else ""})
+        places = {"PEOPLE": self.people, "PAGES": self.pages, "LOG": self.log, "LIBRARIES": "/usr/share"}
+        self.fill("site.conf", places | {"ADDRESS": f"127.0.0.1:{self.port}", "DESK_PORT": str(self.desk_port)})
+
+    def fill(self, name, values):
+        """Fills a template in, into the folder. The template's head, which explains the words, is left as it is."""
+        with open(os.path.join(FRONT, name), encoding="utf-8") as file:
+            lines = file.read().split("\n")
+        for place, line in enumerate(lines):
+            if not line.startswith("#"):
+                for word, value in values.items():
+                    line = line.replace(f"@{word}@", value)
+                lines[place] = line
+        with open(os.path.join(self.folder, name), "w", encoding="utf-8") as file:
+            file.write("\n".join(lines))
+
+    def add(self, name, staff, password):
+        """Lets a person sign in, from the next start on."""
+        words = [sys.executable, os.path.join(FRONT, "people"), "--folder", self.people, "add", name, staff]
+        done = subprocess.run(words, input=password + "\n", text=True, stderr=subprocess.PIPE, check=False)
+        if done.returncode:
+            raise Failed(done.stderr.strip())
+
+    def start(self):
+        errors = os.path.join(self.folder, "nginx-error.log")
+        words = [find("nginx"), "-e", errors, "-p", self.folder, "-c", os.path.join(self.folder, "nginx.conf")]
+        self.process = start_beside(words + ["-g", "daemon off;"])
+        try:
+            wait_for(self.port, self.process, "nginx")
+        except Failed as why:
+            with open(errors, encoding="utf-8") as file:
+                raise Failed(f"{why}: {file.read().strip()}") from None
+
+    def reload(self):
+        """Has nginx read its settings again, and waits until workers have them."""
+        before = self.workers()
+        self.process.send_signal(signal.SIGHUP)
+        end = time.monotonic() + PATIENCE
+        while not self.workers() - before or self.workers() & before:
+            if time.monotonic() > end:
+                raise Failed("nginx doesn't reload")
+            time.sleep(0.02)
+
+    def workers(self):
+        with open(f"/proc/{self.process.pid}/task/{self.process.pid}/children", encoding="ascii") as file:
+            return set(file.read().split())
+
+    def stop(self):
+        if self.process:
+            with contextlib.suppress(ProcessLookupError):
+                self.process.terminate()
+            self.process.wait()
+        self.process = None
