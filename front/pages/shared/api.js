@@ -22,11 +22,17 @@ export class Problem extends Error {
 let running = 0;
 const waiting = [];
 
+// The page is marked while it asks for something.
+function count(more) {
+    running += more;
+    document.documentElement.toggleAttribute("data-asking", running > 0);
+}
+
 async function inTurn(send) {
     if (running >= MOST_AT_ONCE) {
         await new Promise((go) => waiting.push(go));
     } else {
-        running += 1;
+        count(1);
     }
     try {
         return await send();
@@ -35,7 +41,7 @@ async function inTurn(send) {
         if (next) {
             next();
         } else {
-            running -= 1;
+            count(-1);
         }
     }
 }

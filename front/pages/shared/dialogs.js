@@ -29,6 +29,7 @@ export function ask({ title, text = [], fields = {}, action, isGrave = false, se
     const form = element("form", { novalidate: true, class: "dialog-form" }, body,
         element("div", { class: "modal-footer" }, cancel, submit));
     const node = dialogNode({ title, id: freshId("dialog"), form });
+    const asker = document.activeElement;
     document.body.append(node);
     const modal = new bootstrap.Modal(node, { backdrop: "static" });
     return new Promise((answer) => {
@@ -44,14 +45,26 @@ export function ask({ title, text = [], fields = {}, action, isGrave = false, se
                 }
             }
         });
+        node.addEventListener("keydown", (event) => keepInside(event, node));
         node.addEventListener("shown.bs.modal", () => (form.querySelector("input, select") ?? submit).focus());
         node.addEventListener("hidden.bs.modal", () => {
             modal.dispose();
             node.remove();
+            asker?.focus({ preventScroll: true });
             answer(result);
         });
         modal.show();
     });
+}
+
+// The key Tab goes round within the dialog.
+function keepInside(event, node) {
+    const inside = [...node.querySelectorAll("button, input, select")].filter((one) => !one.disabled);
+    const [from, to] = event.shiftKey ? [inside[0], inside.at(-1)] : [inside.at(-1), inside[0]];
+    if (event.key === "Tab" && document.activeElement === from) {
+        event.preventDefault();
+        to.focus();
+    }
 }
 
 async function sent({ send, values, trouble, submit, action }) {

@@ -89,12 +89,12 @@ export function figures(...made) {
     return element("div", { class: "row g-2 g-md-3 mb-3" }, made);
 }
 
-// the page's title with its trail above it, and what may be done on its right
+// the page's title with its trail above it, and what may be done on its right: buttons, or the place for them
 export function pageHead({ title, trail = [], actions = [], badge }) {
     const steps = trail.map(([words, href]) => element("li", { class: "breadcrumb-item" }, element("a", { href }, words)));
     const list = steps.length > 0 && element("nav", { "aria-label": say("trail") }, element("ol", { class: "breadcrumb mb-1" }, steps));
     const heading = element("h1", { class: "h3 mb-0", tabindex: "-1", id: "title" }, title, badge && [" ", badge]);
-    const buttons = element("div", { class: "page-actions d-print-none" }, actions);
+    const buttons = actions instanceof Node ? actions : element("div", { class: "page-actions d-print-none" }, actions);
     return element("header", { class: "page-head" }, element("div", {}, list, heading), buttons);
 }
 

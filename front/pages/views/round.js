@@ -43,7 +43,7 @@ export async function round(page, officeText, dayText) {
     dayChoice.node.className = "";
     dayChoice.input.addEventListener("change", () => isDay(dayChoice.input.value) && go(office, dayChoice.input.value));
     const place = element("div", {}, spinner(say("round.looking")));
-    const actions = element("div", { class: "page-actions" });
+    const actions = element("div", { class: "page-actions d-print-none" });
     const named = list.find((one) => one.number === office);
     fill(page, pageHead({ title: say("round.title"), actions }),
         element("p", { class: "d-none d-print-block" }, `${office} ${named?.name ?? ""} · ${showDay(day)}`),

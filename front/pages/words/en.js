@@ -191,7 +191,7 @@ export default {
     "loan.disbursement-fee": "Fee at disbursement",
     "loan.portion": "Portion",
     "loan.next-due": "Next instalment",
-    "loan.overdue-sum": "{amount} should have been paid by now.",
+    "loan.overdue-sum": "{amount} is overdue.",
     "graph.planned": "Planned",
     "graph.real": "Real",
     "entry.shares": "Settles",

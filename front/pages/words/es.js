@@ -191,7 +191,7 @@ export default {
     "loan.disbursement-fee": "Comisión de desembolso",
     "loan.portion": "Concepto",
     "loan.next-due": "Próxima cuota",
-    "loan.overdue-sum": "Ya deberían estar pagados {amount}.",
+    "loan.overdue-sum": "{amount} en mora.",
     "graph.planned": "Previsto",
     "graph.real": "Real",
     "entry.shares": "Salda",

@@ -191,7 +191,7 @@ export default {
     "loan.disbursement-fee": "Frais au décaissement",
     "loan.portion": "Composante",
     "loan.next-due": "Prochaine échéance",
-    "loan.overdue-sum": "{amount} devraient déjà être payés.",
+    "loan.overdue-sum": "{amount} en retard.",
     "graph.planned": "Prévu",
     "graph.real": "Réel",
     "entry.shares": "Règle",

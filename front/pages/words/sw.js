@@ -191,7 +191,7 @@ export default {
     "loan.disbursement-fee": "Ada ya kutoa mkopo",
     "loan.portion": "Sehemu",
     "loan.next-due": "Awamu inayofuata",
-    "loan.overdue-sum": "{amount} zilipaswa kulipwa kufikia sasa.",
+    "loan.overdue-sum": "{amount} zimechelewa.",
     "graph.planned": "Iliyopangwa",
     "graph.real": "Halisi",
     "entry.shares": "Inalipia",
