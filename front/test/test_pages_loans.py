@@ -132,7 +132,7 @@ class Way(Case):
         head.send("Move the business day")
         head.wait(lambda: head.title() == "Today, Mar 31, 2024", "the new day")
         self.assertEqual(it.send("head", "GET", "/api/business-day"), (200, {"day": "2024-03-31"}))
-        self.assertEqual(head.figures(), {"Active loans": "1", "Outstanding": "1,000.00", "Portfolio at risk": "100.00 %",
+        self.assertEqual(head.figures(), {"Active loans": "1", "Outstanding": "1,000.00", "Portfolio at risk": "100.00%",
                                           "Principal overdue": "1,000.00"})
         self.assertEqual(head.errors(), [])
 
@@ -415,7 +415,7 @@ class Others(Case):
         for label, value in (("Name", "Weekly"), ("Interest", "flat, on the original principal"), ("Rate a year", "24.5"), ("Counted in", "weeks"),
                              ("An instalment every", "2"), ("Least principal", "50"), ("Greatest principal", "1,500"),
                              ("Fewest instalments", "6"), ("Most instalments", "26"), ("First instalments without principal", "1"),
-                             ("Order of payment", "what is due first, by portion"), ("Charge at disbursement", "3 Papers: 1.50 % of the amount")):
+                             ("Order of payment", "what is due first, by portion"), ("Charge at disbursement", "3 Papers: 1.50% of the amount")):
             head.fill(label, value)
         head.send("Enter the product")
         self.assertEqual(it.send("head", "GET", "/api/products/2")[1], {

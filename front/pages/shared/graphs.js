@@ -52,21 +52,19 @@ function centsLabel(item) {
 }
 
 // steps of a balance over days: planned and real are [{ day, cents }]
-export function balanceSteps({ planned, real, today, words }) {
+export function balanceSteps({ planned, real, words }) {
     const { canvas, node } = canvasFor(words);
     node.style.height = "260px";
     const line = (label, points, colour, dash) => ({
         label, borderColor: colour, backgroundColor: colour, borderDash: dash, borderWidth: 2, stepped: "before", pointRadius: 2, pointStyle: "circle",
         data: points.map(({ day, cents }) => ({ x: numberOfDay(day), y: height(cents) })), cents: points.map(({ cents }) => cents),
     });
+    const ends = [...planned, ...real].map(({ day }) => numberOfDay(day));
     drawn(canvas, {
         type: "line",
         data: { datasets: [line(say("graph.planned"), planned, "#6b7785", [5, 4]), line(say("graph.real"), real, "#0b6e69", [])] },
         options: {
-            scales: {
-                x: { type: "linear", ticks: { maxTicksLimit: window.innerWidth < 640 ? 3 : 6, maxRotation: 0, precision: 0, callback: (value) => showDay(dayOfNumber(Math.round(value))) }, grid: { color: lineOfToday(today) } },
-                y: { beginAtZero: true, ticks: { maxTicksLimit: 6, callback: (value) => compact.format(value) } },
-            },
+            scales: { x: dayAxis(Math.min(...ends), Math.max(...ends)), y: { beginAtZero: true, ticks: { maxTicksLimit: 6, callback: (value) => compact.format(value) } } },
             plugins: {
                 legend: { position: "bottom", labels: { usePointStyle: true, pointStyle: "line" } },
                 tooltip: { callbacks: { title: (items) => showDay(dayOfNumber(items[0].parsed.x)), label: centsLabel } },
@@ -76,6 +74,12 @@ export function balanceSteps({ planned, real, today, words }) {
     return node;
 }
 
-function lineOfToday(today) {
-    return (context) => (context.tick && context.tick.value === numberOfDay(today) ? "#9aa5b1" : "#e9ecef");
+// an axis of days from the first to the last, with as many of them named as there is room for
+function dayAxis(first, last) {
+    const steps = Math.min(window.innerWidth < 640 ? 2 : 5, Math.max(1, last - first));
+    const days = Array.from({ length: steps + 1 }, (_, i) => first + Math.round(((last - first) * i) / steps));
+    return {
+        type: "linear", min: first, max: last, afterBuildTicks: (axis) => { axis.ticks = days.map((value) => ({ value })); },
+        ticks: { maxRotation: 0, autoSkip: false, align: "inner", callback: (value) => showDay(dayOfNumber(value)) },
+    };
 }

@@ -67,7 +67,14 @@ export function showCount(count) {
     return counted.format(count);
 }
 
-// hundredths of a percent
+const percent = new Intl.NumberFormat(locale, { style: "percent", numberingSystem: "latn" }).format(0);
+
+// hundredths of a percent, with the sign where the locale has it
 export function showPercent(hundredths) {
-    return `${money.format(hundredths)} %`;
+    return percent.replace("0", money.format(hundredths));
+}
+
+// how often an instalment is due
+export function showStep({ frequency, every }) {
+    return sayCount(`frequency.${frequency}`, every);
 }

@@ -5,7 +5,7 @@ import { renewDay, session } from "../shared/session.js";
 import { ACTIVE, asTree, clientName, loan, loansOf, offices, openSince, schedule } from "../shared/desk.js";
 import { centsOfText } from "../shared/money.js";
 import { daysBetween } from "../shared/days.js";
-import { say, sayCount, showCount, showDay, showMoney, showPercent } from "../shared/words.js";
+import { say, showCount, showDay, showMoney, showPercent } from "../shared/words.js";
 import { amount, day, pageHead, row, table } from "../shared/tables.js";
 import { classBars, CLASS_COLOURS } from "../shared/graphs.js";
 
@@ -98,7 +98,7 @@ function dot(name) {
 function overdueTable(overdue) {
     const rows = overdue.map(({ account, since, days, told, name }) => row([
         { head: link(`#/loan/${account}`, account) }, name, day(since),
-        { number: [dot(classOf(days)), sayCount("overdue", days)] }, amount(told.outstanding.principal)]));
+        { number: [dot(classOf(days)), showCount(days)] }, amount(told.outstanding.principal)]));
     const columns = [{ words: say("loan") }, { words: say("client") }, { words: say("open-since") },
         { words: say("overdue.days"), kind: "number" }, { words: say("outstanding.principal"), kind: "number" }];
     return table({ caption: say("arrears.loans"), columns, rows }).node;

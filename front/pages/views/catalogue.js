@@ -4,7 +4,7 @@ import { change, read } from "../shared/api.js";
 import { HEAD_OFFICE, may } from "../shared/session.js";
 import { charges, products } from "../shared/desk.js";
 import { MOST } from "../shared/money.js";
-import { say, showCount, showMoney, showPercent } from "../shared/words.js";
+import { say, showCount, showMoney, showPercent, showStep } from "../shared/words.js";
 import { facts, pageHead, row, table } from "../shared/tables.js";
 import { ask, note } from "../shared/dialogs.js";
 import { choiceField, moneyField, nameField, numberChoiceField, numberField, percentField } from "../shared/forms.js";
@@ -44,7 +44,7 @@ function productCard(product, chargeList, again) {
     return element("div", { class: "col-12 col-lg-6" }, element("article", { class: `inner-card${product.retired ? " is-retired" : ""}` },
         element("h3", { class: "h6" }, `${product.product} ${product.name}`, state),
         facts([[say("method"), say(`method.${product.method}`)], [say("rate"), `${showPercent(product.rate)} ${say("rate.yearly")}`],
-            [say("product.step"), say(`frequency.${product.frequency}`, { every: product.every })],
+            [say("product.step"), showStep(product)],
             [say("product.amounts"), `${showMoney(product.min_principal)} – ${showMoney(product.max_principal)}`],
             [say("periods"), `${showCount(product.min_periods)} – ${showCount(product.max_periods)}`],
             [say("product.graces"), `${showCount(product.principal_grace)} / ${showCount(product.interest_grace)}`],

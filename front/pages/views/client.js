@@ -3,7 +3,7 @@ import { button, card, element, emptyState, fill, spinner } from "../shared/elem
 import { change, Problem } from "../shared/api.js";
 import { may, OFFICER } from "../shared/session.js";
 import { clientName, isAccount, loan, loansAfter, loansOf, loansOfClient, numberOf, officeNamed, officeOf, products } from "../shared/desk.js";
-import { say, showPercent } from "../shared/words.js";
+import { say, showPercent, showStep } from "../shared/words.js";
 import { facts, pageHead } from "../shared/tables.js";
 import { ask, note } from "../shared/dialogs.js";
 import { choiceField, moneyField, moneyRange, numberField, numberRange } from "../shared/forms.js";
@@ -47,10 +47,9 @@ function loanForm(open, account) {
     const amounts = () => [chosen().min_principal, chosen().max_principal];
     const lengths = () => [chosen().min_periods, chosen().max_periods];
     const showLimits = () => {
-        const step = say(`frequency.${chosen().frequency}`, { every: chosen().every });
         fields.product.help.textContent = say("loan.product", { rate: showPercent(chosen().rate), method: say(`method.${chosen().method}`) });
         fields.principal.help.textContent = moneyRange(amounts());
-        fields.periods.help.textContent = `${numberRange(lengths())}, ${step}`;
+        fields.periods.help.textContent = `${numberRange(lengths())}, ${showStep(chosen())}`;
     };
     const choices = open.map((one) => [String(one.product), `${one.product} ${one.name}`]);
     const fields = {

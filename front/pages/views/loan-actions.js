@@ -3,7 +3,7 @@ import { change, repay } from "../shared/api.js";
 import { MANAGER, OFFICER, TELLER, may, session } from "../shared/session.js";
 import * as desk from "../shared/desk.js";
 import { sum } from "../shared/money.js";
-import { say, showDay, showMoney } from "../shared/words.js";
+import { say, showDay, showMoney, showPercent } from "../shared/words.js";
 import { ask, note } from "../shared/dialogs.js";
 import { choiceField, dayField, moneyField, receiptField } from "../shared/forms.js";
 import { keptWriting, Writing } from "../shared/writing.js";
@@ -113,7 +113,7 @@ async function enterFee(told, again) {
 }
 
 export function chargeWords({ calc, value }) {
-    return calc === "flat" ? showMoney(value) : `${showMoney(value)} % ${say(`calc.${calc}`)}`;
+    return calc === "flat" ? showMoney(value) : `${showPercent(value)} ${say(`calc.${calc}`)}`;
 }
 
 async function enterPenalty(told, again) {

@@ -5,7 +5,7 @@ import { renewDay, session } from "../shared/session.js";
 import * as desk from "../shared/desk.js";
 import { daysBetween } from "../shared/days.js";
 import { sum } from "../shared/money.js";
-import { say, sayCount, showCount, showMoney, showPercent } from "../shared/words.js";
+import { say, sayCount, showCount, showMoney, showPercent, showStep } from "../shared/words.js";
 import { amount, amountOrDash, capital, day, facts, figure, figures, overdueBadge, pageHead, row, statusBadge, table } from "../shared/tables.js";
 import { balanceSteps } from "../shared/graphs.js";
 import { loanActions, mayReverse, reverseEntry } from "./loan-actions.js";
@@ -79,7 +79,7 @@ function terms(told) {
         [say("product"), `${told.product} ${product.name}`],
         [say("method"), say(`method.${product.method}`)],
         [say("rate"), `${showPercent(product.rate)} ${say("rate.yearly")}`],
-        [say("periods"), `${showCount(told.periods)} × ${say(`frequency.${product.frequency}`, { every: product.every })}`],
+        [say("periods"), `${showCount(told.periods)}, ${showStep(product)}`],
         [say("strategy"), say(`strategy.${product.strategy}`)],
         [say("loan.paid-out"), told.day ? day(told.day) : "–"],
         BigInt(told.disbursement_fee) > 0n && [say("loan.disbursement-fee"), showMoney(told.disbursement_fee)],
@@ -113,7 +113,7 @@ function graph(told) {
     if (told.day === null) {
         return emptyState(say("loan.no-schedule"));
     }
-    return balanceSteps({ ...balancePoints(told), today: session.day, words: say("loan.graph") });
+    return balanceSteps({ ...balancePoints(told), words: say("loan.graph") });
 }
 
 function scheduleTable(told) {
@@ -158,7 +158,7 @@ function entryTable(told, again) {
 
 function entryRow(told, entry, again) {
     const kind = element("span", {}, say(`kind.${entry.kind}`), entry.portion && ` (${say(`portion.${entry.portion}`)})`,
-        entry.instalment !== null && ` ${say("instalment.of", { number: entry.instalment })}`,
+        entry.instalment !== null && ` · ${say("instalment.of", { number: entry.instalment })}`,
         entry.reversed && [" ", element("span", { class: "badge status-ended" }, say("entry.reversed"))]);
     const undo = mayReverse(told, entry) && button(say("entry.reverse"), () => reverseEntry(told, entry, again), {
         class: "btn btn-sm btn-outline-danger d-print-none", "aria-label": say("entry.reverse.number", { number: entry.entry }),

@@ -3,7 +3,7 @@ import { button, element, fill } from "../shared/elements.js";
 import { session } from "../shared/session.js";
 import * as desk from "../shared/desk.js";
 import { sum } from "../shared/money.js";
-import { say, showCount, showDay, showMoney, showPercent } from "../shared/words.js";
+import { say, showCount, showDay, showMoney, showPercent, showStep } from "../shared/words.js";
 import { amount, amountOrDash, day, facts, pageHead, row, statusBadge, table } from "../shared/tables.js";
 import { readLoan, shareList, stateOf } from "./loan.js";
 
@@ -32,7 +32,7 @@ function left(told) {
 
 function right(told) {
     return [[say("principal"), showMoney(told.principal)], [say("rate"), `${showPercent(told.terms.rate)} ${say("rate.yearly")}`],
-        [say("periods"), `${showCount(told.periods)} × ${say(`frequency.${told.terms.frequency}`, { every: told.terms.every })}`],
+        [say("periods"), `${showCount(told.periods)}, ${showStep(told.terms)}`],
         [say("paid"), showMoney(desk.total(told.paid))],
         [say("statement.left"), element("strong", {}, showMoney(desk.total(told.outstanding)))],
         BigInt(told.disbursement_fee) > 0n && [say("loan.disbursement-fee"), showMoney(told.disbursement_fee)],
