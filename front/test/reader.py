@@ -92,8 +92,10 @@ class Reader:
 
     def settle(self):
         """Waits until the page has all that it reads."""
-        script = ("return !!document.querySelector('h1, .alert') && !document.querySelector('.spinner-border') && "
-                  "!document.documentElement.hasAttribute('data-asking')")
+        script = (
+            "return !!document.querySelector('h1, .alert') && !document.querySelector('.spinner-border') && "
+            "!document.documentElement.hasAttribute('data-asking')"
+        )
         self.wait(lambda: self.driver.execute_script(script), "the page")
 
     def script(self, text, *values):
@@ -120,21 +122,27 @@ class Reader:
 
     def figures(self):
         """The key figures: their words and values."""
-        return dict(self.script(
-            "return [...document.querySelectorAll('.key-figure')].map((one) => "
-            "[one.querySelector('.key-figure-words').innerText, one.querySelector('.key-figure-value').innerText])"))
+        return dict(
+            self.script(
+                "return [...document.querySelectorAll('.key-figure')].map((one) => "
+                "[one.querySelector('.key-figure-words').innerText, one.querySelector('.key-figure-value').innerText])"
+            )
+        )
 
     def table(self, caption):
         """The rows of a table's body, each as its columns' words and what stands below them."""
         return self.script(
             "const table = [...document.querySelectorAll('table')].find((one) => one.caption?.textContent === arguments[0]);"
             "return table && [...table.tBodies[0].rows].map((row) => Object.fromEntries("
-            "[...row.cells].map((cell) => [cell.dataset.words, cell.innerText.trim()])))", caption)
+            "[...row.cells].map((cell) => [cell.dataset.words, cell.innerText.trim()])))",
+            caption,
+        )
 
     def actions(self):
         """The words of what may be done on the page, but for what is in the frame."""
         found = self.script(
-            "return [...document.querySelectorAll('.page-head .page-actions > *')].map((one) => one.textContent)")
+            "return [...document.querySelectorAll('.page-head .page-actions > *')].map((one) => one.textContent)"
+        )
         return set(found)
 
     def errors(self):
@@ -161,8 +169,13 @@ class Reader:
     def open_dialog(self, words):
         """Presses a button that asks a question, and waits for the question."""
         self.press(words)
-        self.wait(lambda: self.script("return document.querySelector('.modal.show') !== null && "
-                                      "document.querySelector('.modal').contains(document.activeElement)"), "the dialog")
+        self.wait(
+            lambda: self.script(
+                "return document.querySelector('.modal.show') !== null && "
+                "document.querySelector('.modal').contains(document.activeElement)"
+            ),
+            "the dialog",
+        )
         time.sleep(0.2)  # until it has faded in
 
     def field(self, label, within=".modal"):
@@ -175,7 +188,9 @@ class Reader:
         if field.tag_name == "select":
             Select(field).select_by_index([one.text.strip() for one in Select(field).options].index(value))
         elif field.get_attribute("type") == "date":
-            self.script("arguments[0].value = arguments[1]; arguments[0].dispatchEvent(new Event('change'))", field, value)
+            self.script(
+                "arguments[0].value = arguments[1]; arguments[0].dispatchEvent(new Event('change'))", field, value
+            )
         else:
             field.clear()
             field.send_keys(value)

@@ -8,19 +8,34 @@ import reader
 
 # the demonstration's people, and what each may do
 PEOPLE = ("amina", "ruth", "paulo", "zoe", "tom")
-PLACES = ("today", "clients/21", "client/0021-000003", "loans/21", "loan/0021-000028", "statement/0021-000028", "round/21",
-          "arrears", "arrears/21", "catalogue", "people")
+PLACES = (
+    "today",
+    "clients/21",
+    "client/0021-000003",
+    "loans/21",
+    "loan/0021-000028",
+    "statement/0021-000028",
+    "round/21",
+    "arrears",
+    "arrears/21",
+    "catalogue",
+    "people",
+)
 WIDTHS = (1280, 360)
 TELLER = {"loan/0021-000028": {"Enter a repayment", "Statement"}}
 OFFICER = {
-    "clients/21": {"New client"}, "client/0021-000003": {"New loan"},
+    "clients/21": {"New client"},
+    "client/0021-000003": {"New loan"},
     "loan/0021-000028": TELLER["loan/0021-000028"] | {"Enter a fee", "Enter a penalty"},
 }
 MANAGER = OFFICER | {
-    "loan/0021-000028": OFFICER["loan/0021-000028"] | {"Waive", "Write off"}, "people": {"New member of staff"},
+    "loan/0021-000028": OFFICER["loan/0021-000028"] | {"Waive", "Write off"},
+    "people": {"New member of staff"},
 }
 HEAD_OFFICE = MANAGER | {
-    "today": {"Move the business day"}, "catalogue": {"New charge", "New product"}, "people": {"New office", "New member of staff"},
+    "today": {"Move the business day"},
+    "catalogue": {"New charge", "New product"},
+    "people": {"New office", "New member of staff"},
 }
 MAY = {"tom": TELLER, "zoe": OFFICER, "paulo": MANAGER, "ruth": MANAGER, "amina": HEAD_OFFICE}
 ALWAYS = {"statement/0021-000028": {"Print"}, "round/21": {"Print", "Save as a sheet"}, "arrears": {"Print"}}
@@ -73,7 +88,9 @@ class EachPage(unittest.TestCase):
         it.go(place)
         it.picture(f"{place.replace('/', '-')}-{name}-{width}")
         self.assertTrue(it.title(), place)
-        self.assertLessEqual(it.script("return document.documentElement.scrollWidth"), width, f"{place} is wider than {width}")
+        self.assertLessEqual(
+            it.script("return document.documentElement.scrollWidth"), width, f"{place} is wider than {width}"
+        )
         allowed = MAY[name].get(place, set()) | ALWAYS.get(place, set())
         self.assertEqual(it.actions(), allowed, place)
         self.assertEqual(it.script(NAMELESS), [], place)
@@ -111,7 +128,11 @@ class EachPage(unittest.TestCase):
 class Languages(unittest.TestCase):
     def test_each_language(self):
         """By the browser's language, and by the switch, which is kept."""
-        titles = {"fr": "Impayés au 30 sept. 2026", "es": "Mora al 30 sept 2026", "sw": "Malimbikizo tarehe 30 Sep 2026"}
+        titles = {
+            "fr": "Impayés au 30 sept. 2026",
+            "es": "Mora al 30 sept 2026",
+            "sw": "Malimbikizo tarehe 30 Sep 2026",
+        }
         outstanding = {"fr": "187\u202f719,33", "es": "187.719,33", "sw": "187,719.33"}
         for language, title in titles.items():
             with self.subTest(language):
@@ -134,7 +155,9 @@ class Languages(unittest.TestCase):
         self.assertEqual(it.title(), "Arrears of 21 Kisumu")
         # words in English, amounts as the German reader writes them
         self.assertIn("21.919,75", it.text("main"))
-        it.script("const choice = document.getElementById('language'); choice.value = 'fr'; choice.dispatchEvent(new Event('change'))")
+        it.script(
+            "const choice = document.getElementById('language'); choice.value = 'fr'; choice.dispatchEvent(new Event('change'))"
+        )
         it.wait(lambda: it.title() == "Impayés de 21 Kisumu", "French")
         it.reload()
         self.assertEqual(it.title(), "Impayés de 21 Kisumu")
@@ -144,9 +167,12 @@ class Languages(unittest.TestCase):
     def test_same_keys(self):
         """All languages have the same keys, and the same values stand in the words of a key."""
         it = reader.Reader(DESK, "tom")
-        words = json.loads(it.module(
-            "const all = {}; for (const name of ['en', 'fr', 'es', 'sw']) all[name] = (await import(`/words/${name}.js`)).default;"
-            "return JSON.stringify(all)"))
+        words = json.loads(
+            it.module(
+                "const all = {}; for (const name of ['en', 'fr', 'es', 'sw']) all[name] = (await import(`/words/${name}.js`)).default;"
+                "return JSON.stringify(all)"
+            )
+        )
         it.close()
 
         def values(text):
@@ -164,17 +190,49 @@ class Languages(unittest.TestCase):
 class Money(unittest.TestCase):
     # by locale: what is typed, and its cents, None where it is no amount
     TYPED = {
-        "en": {"1,234.56": 123456, "1234.5": 123450, "1 234.56": 123456, "7": 700, "0.07": 7, "1,5": None, "1.234": None,
-               "12,34.50": None, "-1": None, "": None, "1e3": None, "١٢": None},
-        "fr": {"1 234,56": 123456, "1\u202f234,56": 123456, "1\u00a0234,5": 123450, "1234.56": 123456, "1.234": None,
-               "12 34": None, "1,234,5": None},
-        "es": {"1.234,56": 123456, "1234,56": 123456, "1.5": None, "1.234": 123400, "1,234.56": None, "1 234,56": 123456},
+        "en": {
+            "1,234.56": 123456,
+            "1234.5": 123450,
+            "1 234.56": 123456,
+            "7": 700,
+            "0.07": 7,
+            "1,5": None,
+            "1.234": None,
+            "12,34.50": None,
+            "-1": None,
+            "": None,
+            "1e3": None,
+            "١٢": None,
+        },
+        "fr": {
+            "1 234,56": 123456,
+            "1\u202f234,56": 123456,
+            "1\u00a0234,5": 123450,
+            "1234.56": 123456,
+            "1.234": None,
+            "12 34": None,
+            "1,234,5": None,
+        },
+        "es": {
+            "1.234,56": 123456,
+            "1234,56": 123456,
+            "1.5": None,
+            "1.234": 123400,
+            "1,234.56": None,
+            "1 234,56": 123456,
+        },
         "sw": {"1,234.56": 123456, "1234.56": 123456, "1,5": None},
         "de": {"1.234,56": 123456, "1.234.567,89": 123456789, "1234,5": 123450, "1.5": None},
         "de-CH": {"1’234.56": 123456, "1'234.56": 123456, "1234.56": 123456},
     }
-    SHOWN = {"en": "10,000,000,000.05", "fr": "10\u202f000\u202f000\u202f000,05", "es": "10.000.000.000,05",
-             "sw": "10,000,000,000.05", "de": "10.000.000.000,05", "de-CH": ("10’000’000’000.05", "10'000'000'000.05")}  # as the browser's tables have it
+    SHOWN = {
+        "en": "10,000,000,000.05",
+        "fr": "10\u202f000\u202f000\u202f000,05",
+        "es": "10.000.000.000,05",
+        "sw": "10,000,000,000.05",
+        "de": "10.000.000.000,05",
+        "de-CH": ("10’000’000’000.05", "10'000'000'000.05"),
+    }  # as the browser's tables have it
 
     def setUp(self):
         self.it = reader.Reader(DESK, "tom")
@@ -183,7 +241,8 @@ class Money(unittest.TestCase):
     def parsed(self, locale, texts):
         return self.it.module(
             f"const {{ moneyFor }} = await import('/shared/money.js'); const money = moneyFor({json.dumps(locale)});"
-            f"return {json.dumps(list(texts))}.map((text) => money.parse(text)).map((cents) => cents === null ? null : Number(cents))")
+            f"return {json.dumps(list(texts))}.map((text) => money.parse(text)).map((cents) => cents === null ? null : Number(cents))"
+        )
 
     def test_typed(self):
         for locale, table in self.TYPED.items():
@@ -194,16 +253,18 @@ class Money(unittest.TestCase):
         for locale, text in self.SHOWN.items():
             with self.subTest(locale):
                 shown = self.it.module(
-                    f"const {{ moneyFor }} = await import('/shared/money.js'); return moneyFor({json.dumps(locale)}).format(1000000000005n)")
+                    f"const {{ moneyFor }} = await import('/shared/money.js'); return moneyFor({json.dumps(locale)}).format(1000000000005n)"
+                )
                 self.assertIn(shown, text if isinstance(text, tuple) else (text,))
 
     def test_more_than_a_number_holds(self):
         """2^53 + 1 cents, and sums past it, keep their last digit."""
         shown = self.it.module(
             "const { moneyFor, sum } = await import('/shared/money.js'); const { readJson } = await import('/shared/api.js');"
-            "const told = readJson('{\"a\":9007199254740993,\"b\":\"9007199254740993 \\\\\" 12\",\"c\":[1,9007199254740993]}');"
-            "return [moneyFor('en').format(told.a), told.b, moneyFor('en').format(sum(told.c))]")
-        self.assertEqual(shown, ["90,071,992,547,409.93", "9007199254740993 \" 12", "90,071,992,547,409.94"])
+            'const told = readJson(\'{"a":9007199254740993,"b":"9007199254740993 \\\\" 12","c":[1,9007199254740993]}\');'
+            "return [moneyFor('en').format(told.a), told.b, moneyFor('en').format(sum(told.c))]"
+        )
+        self.assertEqual(shown, ["90,071,992,547,409.93", '9007199254740993 " 12', "90,071,992,547,409.94"])
 
 
 class Keyboard(unittest.TestCase):
@@ -221,7 +282,9 @@ class Keyboard(unittest.TestCase):
         self.assertEqual(it.driver.switch_to.active_element.get_attribute("id"), "main")
         button = it.find("New client")
         it.script("arguments[0].focus()", button)
-        outline = it.script("return getComputedStyle(arguments[0]).outlineStyle + getComputedStyle(arguments[0]).outlineWidth", button)
+        outline = it.script(
+            "return getComputedStyle(arguments[0]).outlineStyle + getComputedStyle(arguments[0]).outlineWidth", button
+        )
         button.send_keys(Keys.ENTER)
         it.wait(lambda: it.all(".modal.show") and it.driver.switch_to.active_element.tag_name == "input", "the dialog")
         for _ in range(9):

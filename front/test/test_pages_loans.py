@@ -1,5 +1,5 @@
-"""A loan's way through the pages, by the people of an office. The amounts are the worked ones of the loan that the program's own
-documents work out by hand: 1,000.00 at 12 percent a year over three months from 2024-01-31."""
+"""A loan's way through the pages, by the people of an office. The amounts are worked out by hand for one loan: 1,000.00 at
+12 percent a year over three months from 2024-01-31."""
 import contextlib
 import time
 import unittest
@@ -7,29 +7,40 @@ import unittest
 import desk
 import reader
 
-PRODUCT = (b'1/1 POST /products {"name":"Harvest","method":"declining-equal-principal","rate":1200,"frequency":"months","every":1,'
-           b'"principal_grace":0,"interest_grace":0,"min_principal":1,"max_principal":1000000,"min_periods":1,"max_periods":12,'
-           b'"strategy":"mifos-standard-strategy","overdue_charge":2}\n')
+PRODUCT = (
+    b'1/1 POST /products {"name":"Harvest","method":"declining-equal-principal","rate":1200,"frequency":"months","every":1,'
+    b'"principal_grace":0,"interest_grace":0,"min_principal":1,"max_principal":1000000,"min_periods":1,"max_periods":12,'
+    b'"strategy":"mifos-standard-strategy","overdue_charge":2}\n'
+)
 # office 2 with a manager 2/1, an officer 2/2 and a teller 2/3, on 2024-01-31
-LINES = b"""1/1 POST /offices {"number":2,"parent":1,"name":"North"}
+LINES = (
+    b"""1/1 POST /offices {"number":2,"parent":1,"name":"North"}
 1/1 POST /staff {"office":2,"name":"Ruth","role":"manager"}
 1/1 POST /staff {"office":2,"name":"Zoe","role":"officer"}
 1/1 POST /staff {"office":2,"name":"Tom","role":"teller"}
 1/1 PUT /business-day {"day":"2024-01-31"}
 1/1 POST /charges {"name":"Visit","kind":"due-date","calc":"flat","value":500}
 1/1 POST /charges {"name":"Late","kind":"overdue","calc":"percent-of-amount-and-interest","value":1000}
-""" + PRODUCT
+"""
+    + PRODUCT
+)
 # a loan 0002-000001 that is paid out, on 2024-03-31
-PAID_OUT = LINES + b"""2/2 POST /clients {"office":2,"name":"Amina"}
+PAID_OUT = (
+    LINES
+    + b"""2/2 POST /clients {"office":2,"name":"Amina"}
 2/2 POST /loans {"client":"0002-000001","product":1,"principal":100000,"periods":3}
 2/1 POST /loans/0002-000001/approve
 2/1 POST /loans/0002-000001/disburse {"day":"2024-01-31"}
 1/1 PUT /business-day {"day":"2024-03-31"}
 """
+)
 # and 700.00 of it paid back
-PAID = PAID_OUT + b"""2/3 POST /loans/0002-000001/repayments {"amount":20000,"day":"2024-02-29","receipt":"N-1"}
+PAID = (
+    PAID_OUT
+    + b"""2/3 POST /loans/0002-000001/repayments {"amount":20000,"day":"2024-02-29","receipt":"N-1"}
 2/3 POST /loans/0002-000001/repayments {"amount":50000,"day":"2024-03-31","receipt":"N-2"}
 """
+)
 PEOPLE = {"head": "1/1", "ruth": "2/1", "zoe": "2/2", "tom": "2/3"}
 LOAN = "loan/0002-000001"
 
@@ -85,8 +96,13 @@ class Way(Case):
         self.assertIn("From 0.01 to 10,000.00", zoe.text(".modal"))
         zoe.fill("Principal", "1,000.00")
         zoe.send("Submit the loan")
-        self.assertEqual(shown(zoe), ("Waits for approval", {
-            "Principal": "1,000.00", "Outstanding": "0.00", "Paid": "0.00", "Next instalment": "–"}))
+        self.assertEqual(
+            shown(zoe),
+            (
+                "Waits for approval",
+                {"Principal": "1,000.00", "Outstanding": "0.00", "Paid": "0.00", "Next instalment": "–"},
+            ),
+        )
         self.assertEqual(zoe.actions(), {"Withdraw", "Statement"})
         self.assertEqual(zoe.errors(), [])
 
@@ -106,11 +122,24 @@ class Way(Case):
         self.assertEqual(ruth.badge(), "Approved, to be paid out")
         ruth.open_dialog("Pay out")
         ruth.send("Pay out")
-        self.assertEqual(shown(ruth), ("Active", {
-            "Principal": "1,000.00", "Outstanding": "1,020.00", "Paid": "0.00", "Next instalment": "343.33"}))
-        schedule = [(row["Due"], row["Principal"], row["Interest"], row["Outstanding"]) for row in ruth.table("Schedule")]
-        self.assertEqual(schedule, [("Feb 29, 2024", "333.33", "10.00", "343.33"), ("Mar 31, 2024", "333.33", "6.67", "340.00"),
-                                    ("Apr 30, 2024", "333.34", "3.33", "336.67")])
+        self.assertEqual(
+            shown(ruth),
+            (
+                "Active",
+                {"Principal": "1,000.00", "Outstanding": "1,020.00", "Paid": "0.00", "Next instalment": "343.33"},
+            ),
+        )
+        schedule = [
+            (row["Due"], row["Principal"], row["Interest"], row["Outstanding"]) for row in ruth.table("Schedule")
+        ]
+        self.assertEqual(
+            schedule,
+            [
+                ("Feb 29, 2024", "333.33", "10.00", "343.33"),
+                ("Mar 31, 2024", "333.33", "6.67", "340.00"),
+                ("Apr 30, 2024", "333.34", "3.33", "336.67"),
+            ],
+        )
         self.assertEqual(ruth.errors(), [])
 
     def move_day(self, it):
@@ -132,8 +161,15 @@ class Way(Case):
         head.send("Move the business day")
         head.wait(lambda: head.title() == "Today, Mar 31, 2024", "the new day")
         self.assertEqual(it.send("head", "GET", "/api/business-day"), (200, {"day": "2024-03-31"}))
-        self.assertEqual(head.figures(), {"Active loans": "1", "Outstanding": "1,000.00", "Portfolio at risk": "100.00%",
-                                          "Principal overdue": "1,000.00"})
+        self.assertEqual(
+            head.figures(),
+            {
+                "Active loans": "1",
+                "Outstanding": "1,000.00",
+                "Portfolio at risk": "100.00%",
+                "Principal overdue": "1,000.00",
+            },
+        )
         self.assertEqual(head.errors(), [])
 
     def repay(self, tom, amount, day, receipt):
@@ -149,12 +185,25 @@ class Way(Case):
         self.assertIn("31 days overdue · 343.33 is overdue.", tom.text(".alert"))
         self.repay(tom, "200.00", "2024-02-29", "N-1")
         self.repay(tom, "500", "2024-03-31", "N-2")
-        self.assertEqual(shown(tom), ("Active", {
-            "Principal": "1,000.00", "Outstanding": "320.00", "Paid": "700.00", "Next instalment": "320.00"}))
-        self.assertEqual(entries(tom), [
-            ("Repayment", "200.00", "instalment 1: interest 10.00, principal 190.00"),
-            ("Repayment", "500.00", "instalment 1: principal 143.33\ninstalment 2: interest 6.67, principal 333.33\n"
-                                    "instalment 3: interest 3.33, principal 13.34")])
+        self.assertEqual(
+            shown(tom),
+            (
+                "Active",
+                {"Principal": "1,000.00", "Outstanding": "320.00", "Paid": "700.00", "Next instalment": "320.00"},
+            ),
+        )
+        self.assertEqual(
+            entries(tom),
+            [
+                ("Repayment", "200.00", "instalment 1: interest 10.00, principal 190.00"),
+                (
+                    "Repayment",
+                    "500.00",
+                    "instalment 1: principal 143.33\ninstalment 2: interest 6.67, principal 333.33\n"
+                    "instalment 3: interest 3.33, principal 13.34",
+                ),
+            ],
+        )
         tom.open_dialog("Enter a repayment")
         tom.fill("Amount", "320.01")
         tom.fill("Receipt", "N-2")
@@ -163,8 +212,10 @@ class Way(Case):
         tom.fill("Receipt", "N-3")
         tom.fill("Amount", "320.00")
         tom.send("Enter a repayment")
-        self.assertEqual(shown(tom), ("Closed", {
-            "Principal": "1,000.00", "Outstanding": "0.00", "Paid": "1,020.00", "Next instalment": "–"}))
+        self.assertEqual(
+            shown(tom),
+            ("Closed", {"Principal": "1,000.00", "Outstanding": "0.00", "Paid": "1,020.00", "Next instalment": "–"}),
+        )
         self.assertEqual(tom.actions(), {"Statement"})
         tom.press("Statement")
         tom.wait(lambda: tom.title() == "Statement of loan 0002-000001", "the statement")
@@ -193,8 +244,13 @@ class Corrections(Case):
             ruth.send("Reverse the entry")
             self.assertEqual((ruth.badge(), ruth.figures()["Overpaid"]), ("Overpaid", "80.00"))
             rows = ruth.all("tr.row-reversed")
-            self.assertEqual([one.value_of_css_property("text-decoration-line") for one in rows[0].find_elements("css selector", "td")][0],
-                             "line-through")
+            self.assertEqual(
+                [
+                    one.value_of_css_property("text-decoration-line")
+                    for one in rows[0].find_elements("css selector", "td")
+                ][0],
+                "line-through",
+            )
             self.assertEqual(ruth.errors(), [])
 
     def test_reversed_and_written_off(self):
@@ -204,13 +260,23 @@ class Corrections(Case):
             ruth.script("arguments[0].click()", ruth.all("table button[aria-label='Reverse entry 1']")[0])
             ruth.wait(lambda: ruth.all(".modal.show"), "the dialog")
             time.sleep(0.4)
-            self.assertIn("Entry 1 of loan 0002-000001 (Repayment, 200.00, Feb 29, 2024) counts no more", ruth.text(".modal"))
+            self.assertIn(
+                "Entry 1 of loan 0002-000001 (Repayment, 200.00, Feb 29, 2024) counts no more", ruth.text(".modal")
+            )
             ruth.send("Reverse the entry")
             balances = {row["Portion"]: row["Outstanding"] for row in ruth.table("Balances by portion")}
             self.assertEqual(balances, {"Principal": "516.67", "Interest": "3.33", "Fees": "–", "Penalties": "–"})
-            self.assertEqual(entries(ruth), [
-                ("Repayment reversed", "200.00", "–"),
-                ("Repayment", "500.00", "instalment 1: interest 10.00, principal 333.33\ninstalment 2: interest 6.67, principal 150.00")])
+            self.assertEqual(
+                entries(ruth),
+                [
+                    ("Repayment reversed", "200.00", "–"),
+                    (
+                        "Repayment",
+                        "500.00",
+                        "instalment 1: interest 10.00, principal 333.33\ninstalment 2: interest 6.67, principal 150.00",
+                    ),
+                ],
+            )
             ruth.open_dialog("Write off")
             self.assertIn("Gives up 520.00", ruth.text(".modal"))
             ruth.send("Write off")
@@ -230,13 +296,23 @@ class Corrections(Case):
             ruth.send("Enter a penalty")
             ruth.open_dialog("Waive")
             choices = [one.text for one in ruth.all(".modal option")]
-            self.assertEqual(choices, ["instalment 1 · penalties 34.33", "instalment 1 · interest 10.00", "instalment 2 · interest 6.67",
-                                       "instalment 3 · fees 5.00", "instalment 3 · interest 3.33"])
+            self.assertEqual(
+                choices,
+                [
+                    "instalment 1 · penalties 34.33",
+                    "instalment 1 · interest 10.00",
+                    "instalment 2 · interest 6.67",
+                    "instalment 3 · fees 5.00",
+                    "instalment 3 · interest 3.33",
+                ],
+            )
             ruth.fill("What is waived", "instalment 1 · penalties 34.33")
             ruth.send("Waive")
             told = it.send("ruth", "GET", "/api/loans/0002-000001/entries")[1]["entries"]
-            self.assertEqual([(one["kind"], one["amount"], one["instalment"], one["portion"]) for one in told],
-                             [("fee", 500, 3, None), ("penalty", 3433, 1, None), ("waiver", 3433, 1, "penalties")])
+            self.assertEqual(
+                [(one["kind"], one["amount"], one["instalment"], one["portion"]) for one in told],
+                [("fee", 500, 3, None), ("penalty", 3433, 1, None), ("waiver", 3433, 1, "penalties")],
+            )
             self.assertEqual(ruth.figures()["Outstanding"], "1,025.00")
             self.assertEqual(ruth.errors(), [])
 
@@ -266,8 +342,10 @@ class Lost(Case):
 
     def test_reply_lost(self):
         """It is looked whether it was done: it was, and is not sent again."""
-        with desk_with(LINES + b'2/2 POST /clients {"office":2,"name":"Amina"}\n'
-                       b'2/2 POST /loans {"client":"0002-000001","product":1,"principal":100000,"periods":3}\n') as it:
+        with desk_with(
+            LINES + b'2/2 POST /clients {"office":2,"name":"Amina"}\n'
+            b'2/2 POST /loans {"client":"0002-000001","product":1,"principal":100000,"periods":3}\n'
+        ) as it:
             ruth = self.reader_who_loses(it, "ruth", LOAN)
             ruth.open_dialog("Approve")
             ruth.script("window.losing = 'reply'")
@@ -300,8 +378,10 @@ class Lost(Case):
         with desk_with(PAID_OUT) as it:
             ruth = self.reader_who_loses(it, "ruth", LOAN)
             ruth.open_dialog("Write off")
-            ruth.script("window.losing = 'reply'; const losing = window.fetch; window.fetch = (url, options) => { "
-                        "const reply = losing(url, options); window.isDown ||= options.method === 'POST'; return reply; }")
+            ruth.script(
+                "window.losing = 'reply'; const losing = window.fetch; window.fetch = (url, options) => { "
+                "const reply = losing(url, options); window.isDown ||= options.method === 'POST'; return reply; }"
+            )
             self.assertIn("it can't be looked up whether it was done", ruth.refused("Write off"))
             ruth.script("window.isDown = false")
             ruth.send("Look again")
@@ -343,8 +423,10 @@ class Lost(Case):
 class Others(Case):
     def test_two_at_once(self):
         """Two managers decide on one loan: the second is told, and sees how it stands."""
-        lines = LINES + (b'2/2 POST /clients {"office":2,"name":"Amina"}\n'
-                         b'2/2 POST /loans {"client":"0002-000001","product":1,"principal":100000,"periods":3}\n')
+        lines = LINES + (
+            b'2/2 POST /clients {"office":2,"name":"Amina"}\n'
+            b'2/2 POST /loans {"client":"0002-000001","product":1,"principal":100000,"periods":3}\n'
+        )
         with desk_with(lines) as it:
             ruth, head = self.reader(it, "ruth"), self.reader(it, "head")
             for one in (ruth, head):
@@ -362,12 +444,24 @@ class Others(Case):
         lines = PAID_OUT.replace(b'"name":"Amina"', b'"name":"' + name.encode() + b'"')
         with desk_with(lines) as it:
             tom = self.reader(it, "tom")
-            for place in ("clients/2", "client/0002-000001", "loans/2", LOAN, "statement/0002-000001", "round/2", "arrears/2"):
+            for place in (
+                "clients/2",
+                "client/0002-000001",
+                "loans/2",
+                LOAN,
+                "statement/0002-000001",
+                "round/2",
+                "arrears/2",
+            ):
                 with self.subTest(place):
                     tom.go(place)
                     self.assertIn(name, tom.text("main"))
-                    self.assertEqual(tom.script("return [window.hit ?? null, document.querySelectorAll('main script, main img').length]"),
-                                     [None, 0])
+                    self.assertEqual(
+                        tom.script(
+                            "return [window.hit ?? null, document.querySelectorAll('main script, main img').length]"
+                        ),
+                        [None, 0],
+                    )
             self.assertEqual(tom.errors(), [])
 
     def test_not_a_member(self):
@@ -394,7 +488,9 @@ class Others(Case):
             head.fill("Role", "Loan officer")
             head.send("Enter")
             self.assertIn("Sami is entered as 30/1.", head.text(".alert"))
-            self.assertEqual(it.send("head", "GET", "/api/offices")[1]["offices"][-1], {"name": "South", "number": 30, "parent": 1})
+            self.assertEqual(
+                it.send("head", "GET", "/api/offices")[1]["offices"][-1], {"name": "South", "number": 30, "parent": 1}
+            )
             self.new_product(it, head)
             self.assertEqual(head.errors(), [])
 
@@ -409,19 +505,49 @@ class Others(Case):
         self.assertIn("From 0.01 to 100.00", head.text(".modal"))
         head.fill("Amount or percent", "1.5")
         head.send("Enter the charge")
-        self.assertEqual(it.send("head", "GET", "/api/charges/3")[1],
-                         {"calc": "percent-of-amount", "charge": 3, "kind": "disbursement", "name": "Papers", "value": 150})
+        self.assertEqual(
+            it.send("head", "GET", "/api/charges/3")[1],
+            {"calc": "percent-of-amount", "charge": 3, "kind": "disbursement", "name": "Papers", "value": 150},
+        )
         head.open_dialog("New product")
-        for label, value in (("Name", "Weekly"), ("Interest", "flat, on the original principal"), ("Rate a year", "24.5"), ("Counted in", "weeks"),
-                             ("An instalment every", "2"), ("Least principal", "50"), ("Greatest principal", "1,500"),
-                             ("Fewest instalments", "6"), ("Most instalments", "26"), ("First instalments without principal", "1"),
-                             ("Order of payment", "what is due first, by portion"), ("Charge at disbursement", "3 Papers: 1.50% of the amount")):
+        for label, value in (
+            ("Name", "Weekly"),
+            ("Interest", "flat, on the original principal"),
+            ("Rate a year", "24.5"),
+            ("Counted in", "weeks"),
+            ("An instalment every", "2"),
+            ("Least principal", "50"),
+            ("Greatest principal", "1,500"),
+            ("Fewest instalments", "6"),
+            ("Most instalments", "26"),
+            ("First instalments without principal", "1"),
+            ("Order of payment", "what is due first, by portion"),
+            ("Charge at disbursement", "3 Papers: 1.50% of the amount"),
+        ):
             head.fill(label, value)
         head.send("Enter the product")
-        self.assertEqual(it.send("head", "GET", "/api/products/2")[1], {
-            "disbursement_charge": 3, "every": 2, "frequency": "weeks", "instalment_charge": None, "interest_grace": 0, "max_periods": 26,
-            "max_principal": 150000, "method": "flat", "min_periods": 6, "min_principal": 5000, "name": "Weekly", "overdue_charge": None,
-            "principal_grace": 1, "product": 2, "rate": 2450, "retired": False, "strategy": "due-first-by-portion"})
+        self.assertEqual(
+            it.send("head", "GET", "/api/products/2")[1],
+            {
+                "disbursement_charge": 3,
+                "every": 2,
+                "frequency": "weeks",
+                "instalment_charge": None,
+                "interest_grace": 0,
+                "max_periods": 26,
+                "max_principal": 150000,
+                "method": "flat",
+                "min_periods": 6,
+                "min_principal": 5000,
+                "name": "Weekly",
+                "overdue_charge": None,
+                "principal_grace": 1,
+                "product": 2,
+                "rate": 2450,
+                "retired": False,
+                "strategy": "due-first-by-portion",
+            },
+        )
         head.script("arguments[0].click()", head.all("button[aria-label='Retire Weekly']")[0])
         head.wait(lambda: head.all(".modal.show"), "the dialog")
         time.sleep(0.4)

@@ -4,9 +4,10 @@ const MOST_AT_ONCE = 4;
 const MOST_MILLISECONDS = 45_000;
 const WAITS_BETWEEN_TRIES = [300, 1000, 2000];
 
-// Why a request did not succeed. `fault` is the desk's refusal (F1 to F20), `front` the front's, both null where no reply came.
+// Why a request did not succeed. `fault` is the desk's refusal (F1 to F20), `front` the front's, both null where no
+// reply came.
 export class Problem extends Error {
-    constructor({ fault = null, front = null, status = 0 }) {
+    constructor({fault = null, front = null, status = 0}) {
         super(fault ?? front ?? "lost");
         this.fault = fault;
         this.front = front;
@@ -58,15 +59,19 @@ export function readJson(text) {
 
 async function fetchOnce(method, url, body) {
     const isWriting = method !== "GET";
-    const headers = isWriting ? { "X-Desk": "1", "Content-Type": "application/json" } : {};
+    const headers = isWriting ? {"X-Desk": "1", "Content-Type": "application/json"} : {};
     const ending = new AbortController();
     const clock = setTimeout(() => ending.abort(), MOST_MILLISECONDS);
     try {
         const reply = await fetch(url, {
-            method, headers, cache: "no-store", credentials: "same-origin", signal: ending.signal,
+            method,
+            headers,
+            cache: "no-store",
+            credentials: "same-origin",
+            signal: ending.signal,
             body: body === undefined ? undefined : JSON.stringify(body),
         });
-        return { status: reply.status, text: await reply.text() };
+        return {status: reply.status, text: await reply.text()};
     } catch {
         throw new Problem({});
     } finally {
@@ -74,17 +79,17 @@ async function fetchOnce(method, url, body) {
     }
 }
 
-function judged({ status, text }) {
+function judged({status, text}) {
     let body;
     try {
         body = readJson(text);
     } catch {
-        throw new Problem({ front: status === 401 ? "password" : null, status });
+        throw new Problem({front: status === 401 ? "password" : null, status});
     }
     if (status >= 200 && status < 300) {
-        return { status, body };
+        return {status, body};
     }
-    throw new Problem({ fault: body.fault ?? null, front: body.front ?? null, status });
+    throw new Problem({fault: body.fault ?? null, front: body.front ?? null, status});
 }
 
 // Chromium sends no request from a page whose address has a password in it unless the address is given without one.
@@ -128,7 +133,8 @@ export function change(method, path, body) {
     return send(method, `/api${path}`, body);
 }
 
-// A repayment with its receipt may be sent again: what was entered is not entered twice, and is answered with status 200.
+// A repayment with its receipt may be sent again: what was entered is not entered twice, and is answered with status
+// 200.
 export function repay(loan, repayment) {
     return tryAgain(() => change("POST", `/loans/${loan}/repayments`, repayment));
 }

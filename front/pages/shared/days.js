@@ -26,7 +26,12 @@ export function isDay(text) {
 
 export function daysFor(locale) {
     const shown = new Intl.DateTimeFormat(locale, {
-        year: "numeric", month: "short", day: "numeric", timeZone: "UTC", calendar: "gregory", numberingSystem: "latn",
+        year: "numeric",
+        month: "short",
+        day: "numeric",
+        timeZone: "UTC",
+        calendar: "gregory",
+        numberingSystem: "latn",
     });
     return (day) => shown.format(new Date(numberOfDay(day) * HOURS_24));
 }

@@ -1,7 +1,7 @@
-// What the pages read from the desk. Names of clients, the terms of loans, charges and products never change, so they are kept
-// for the session.
-import { read, readIfThere } from "./api.js";
-import { session } from "./session.js";
+// What the pages read from the desk. Names of clients, the terms of loans, charges and products never change, so they
+// are kept for the session.
+import {read, readIfThere} from "./api.js";
+import {session} from "./session.js";
 
 const LOANS_OF_A_PAGE = 100;
 const READ_AHEAD = 4;
@@ -56,17 +56,18 @@ export async function officeNamed(number) {
 // the offices that the reader sees as a tree: each with how deep it lies, its own before those below it
 export function asTree(list) {
     const isTop = (office) => !list.some((other) => other.number === office.parent);
-    const below = (office, depth) => [
-        { ...office, depth },
-        ...list.filter((other) => other.parent === office.number).flatMap((other) => below(other, depth + 1)),
+    const below = (office, depth) =>
+        [{...office, depth},
+         ...list.filter((other) => other.parent === office.number).flatMap((other) => below(other, depth + 1)),
     ];
     return list.filter(isTop).flatMap((office) => below(office, 0));
 }
 
-// Reads things that are numbered from 1 without gaps, a few ahead, up to the first that is not there, and adds them to the list.
+// Reads things that are numbered from 1 without gaps, a few ahead, up to the first that is not there, and adds them to
+// the list.
 async function readOn(list, readOne, whenMore) {
     for (;;) {
-        const numbers = Array.from({ length: READ_AHEAD }, (_, i) => list.length + 1 + i);
+        const numbers = Array.from({length: READ_AHEAD}, (_, i) => list.length + 1 + i);
         const things = await Promise.all(numbers.map(readOne));
         const end = things.indexOf(null);
         list.push(...(end < 0 ? things : things.slice(0, end)));
@@ -96,8 +97,9 @@ export function clientsOf(office, whenMore = () => {}) {
     whenMore(list);
     const readOne = async (number) => (await readIfThere(`/clients/${accountOf(office, number)}`))?.name ?? null;
     const before = readingClients.get(office) ?? Promise.resolve();
-    const reading = before.catch(() => {}).then(() => readOn(list, readOne, whenMore))
-        .finally(() => keepList(`clients-${office}`, list));
+    const reading = before.catch(() => {})
+                        .then(() => readOn(list, readOne, whenMore))
+                        .finally(() => keepList(`clients-${office}`, list));
     readingClients.set(office, reading);
     return reading;
 }
@@ -127,7 +129,7 @@ export async function loansAfter(office, after) {
 // all loans of an office, each with its number and its status
 export async function loansOf(office) {
     const loans = [];
-    for (let after = 0; ;) {
+    for (let after = 0;;) {
         const page = await loansAfter(office, after);
         loans.push(...page);
         if (page.length < LOANS_OF_A_PAGE) {
@@ -170,14 +172,17 @@ async function ownerOf(account) {
 export async function loansOfClient(client) {
     const office = officeOf(client);
     const loans = await loansOf(office);
-    const owners = await Promise.all(loans.map(({ loan: account }) => ownerOf(account)));
+    const owners = await Promise.all(loans.map(({loan: account}) => ownerOf(account)));
     keepList(`owners-${office}`, ownerList(office));
     return loans.filter((_, i) => owners[i] === numberOf(client));
 }
 
 // charges and products
 
-const catalogue = { charges: [], products: [] };
+const catalogue = {
+    charges: [],
+    products: []
+};
 
 export function charges() {
     return readOn(catalogue.charges, (number) => readIfThere(`/charges/${number}`), () => {});
@@ -224,11 +229,11 @@ export function isOpen(instalment) {
 
 // the earliest due day on which anything is outstanding, or null
 export function openSince(instalments) {
-    return instalments.filter(isOpen).map(({ due }) => due).sort()[0] ?? null;
+    return instalments.filter(isOpen).map(({due}) => due).sort()[0] ?? null;
 }
 
-// A text of 27 characters at most that no other repayment of the office has: who took the money, the business day, eight
-// characters by chance.
+// A text of 27 characters at most that no other repayment of the office has: who took the money, the business day,
+// eight characters by chance.
 export function makeReceipt() {
     const letters = "ABCDEFGHJKLMNPQRSTUVWXYZ23456789";
     const chance = crypto.getRandomValues(new Uint8Array(8));

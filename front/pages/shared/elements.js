@@ -42,27 +42,27 @@ export function freshId(start) {
 }
 
 export function link(href, text, attributes) {
-    return element("a", { href, ...attributes }, text);
+    return element("a", {href, ...attributes}, text);
 }
 
 export function button(text, onclick, attributes) {
-    return element("button", { type: "button", class: "btn btn-outline-primary", onclick, ...attributes }, text);
+    return element("button", {type: "button", class: "btn btn-outline-primary", onclick, ...attributes}, text);
 }
 
 export function spinner(text) {
-    const turning = element("span", { class: "spinner-border spinner-border-sm me-2", "aria-hidden": "true" });
-    return element("p", { class: "text-muted py-3", role: "status" }, turning, text);
+    const turning = element("span", {class: "spinner-border spinner-border-sm me-2", "aria-hidden": "true"});
+    return element("p", {class: "text-muted py-3", role: "status"}, turning, text);
 }
 
 export function emptyState(text, ...more) {
-    return element("div", { class: "empty-state" }, element("p", { class: "mb-0" }, text), more);
+    return element("div", {class: "empty-state"}, element("p", {class: "mb-0"}, text), more);
 }
 
 export function alertBox(kind, ...children) {
-    return element("div", { class: `alert alert-${kind}`, role: "alert" }, children);
+    return element("div", {class: `alert alert-${kind}`, role: "alert"}, children);
 }
 
 export function card(title, ...children) {
-    const heading = title && element("h2", { class: "card-title h6" }, title);
-    return element("section", { class: "card" }, element("div", { class: "card-body" }, heading, children));
+    const heading = title && element("h2", {class: "card-title h6"}, title);
+    return element("section", {class: "card"}, element("div", {class: "card-body"}, heading, children));
 }

@@ -8,19 +8,20 @@ const APOSTROPHES = "'\u2019";
 
 // which marks a locale puts between thousands and before the decimals
 function marksOf(locale) {
-    const options = { minimumFractionDigits: 2, useGrouping: true, numberingSystem: "latn" };
+    const options = {minimumFractionDigits: 2, useGrouping: true, numberingSystem: "latn"};
     const parts = new Intl.NumberFormat(locale, options).formatToParts(1234567.89);
     const mark = (type, otherwise) => parts.find((part) => part.type === type)?.value ?? otherwise;
-    return { group: mark("group", ""), decimal: mark("decimal", ".") };
+    return {group: mark("group", ""), decimal: mark("decimal", ".")};
 }
 
 function escaped(marks) {
     return [...marks].map((mark) => `\\u${mark.charCodeAt(0).toString(16).padStart(4, "0")}`).join("");
 }
 
-// Between thousands: the locale's own mark, and always a space. Before the decimals: the locale's own mark, and a point where
-// the locale does not group by points. A group has three digits, so that "1.5" is no amount where points group thousands.
-function patternOf({ group, decimal }) {
+// Between thousands: the locale's own mark, and always a space. Before the decimals: the locale's own mark, and a point
+// where the locale does not group by points. A group has three digits, so that "1.5" is no amount where points group
+// thousands.
+function patternOf({group, decimal}) {
     const groups = SPACES + (APOSTROPHES.includes(group) ? APOSTROPHES : group);
     const decimals = decimal + (group === "." ? "" : ".");
     const whole = `\\d{1,3}(?:[${escaped(groups)}]\\d{3})+|\\d{1,15}`;
@@ -30,7 +31,7 @@ function patternOf({ group, decimal }) {
 export function moneyFor(locale) {
     const marks = marksOf(locale);
     const pattern = patternOf(marks);
-    const units = new Intl.NumberFormat(locale, { useGrouping: true, numberingSystem: "latn" });
+    const units = new Intl.NumberFormat(locale, {useGrouping: true, numberingSystem: "latn"});
     return {
         format(cents) {
             const value = BigInt(cents);
@@ -49,7 +50,8 @@ export function moneyFor(locale) {
     };
 }
 
-// "666.67", as the report of arrears and the collection sheets write units of money, in cents; null where it is no such text
+// "666.67", as the report of arrears and the collection sheets write units of money, in cents; null where it is no such
+// text
 export function centsOfText(text) {
     const found = /^(\d+)(?:\.(\d{1,2}))?$/.exec(text);
     return found ? BigInt(found[1]) * 100n + BigInt((found[2] ?? "").padEnd(2, "0")) : null;

@@ -1,6 +1,7 @@
-// Who the reader is and what they may do. The desk tells no role, so it is learnt by three requests that can change nothing: each
-// names something that is never there, and is refused by F3 for who may not send it, and otherwise for what it names.
-import { Problem, change, read, whoAmI } from "./api.js";
+// Who the reader is and what they may do. The desk tells no role, so it is learnt by three requests that can change
+// nothing: each names something that is never there, and is refused by F3 for who may not send it, and otherwise for
+// what it names.
+import {Problem, change, read, whoAmI} from "./api.js";
 
 export const TELLER = 1;
 export const OFFICER = 2;
@@ -8,12 +9,18 @@ export const MANAGER = 3;
 export const HEAD_OFFICE = 4;
 
 const PROBES = [
-    [OFFICER, "/loans", { client: "0001-000001", product: 0, principal: 1, periods: 1 }],
+    [OFFICER, "/loans", {client: "0001-000001", product: 0, principal: 1, periods: 1}],
     [MANAGER, "/loans/0001-000001/entries/0/reverse", undefined],
     [HEAD_OFFICE, "/products/0/retire", undefined],
 ];
 
-export const session = { user: "", staff: "", office: 0, rank: 0, day: "" };
+export const session = {
+    user: "",
+    staff: "",
+    office: 0,
+    rank: 0,
+    day: ""
+};
 
 async function isAllowed(path, body) {
     try {
@@ -49,9 +56,9 @@ function keepFor(person) {
 }
 
 export async function beginSession() {
-    const { user, staff } = await whoAmI();
+    const {user, staff} = await whoAmI();
     if (staff === "") {
-        throw new Problem({ fault: "F2" });
+        throw new Problem({fault: "F2"});
     }
     keepFor(`${user} ${staff}`);
     session.user = user;

@@ -3,10 +3,15 @@ import en from "../words/en.js";
 import fr from "../words/fr.js";
 import es from "../words/es.js";
 import sw from "../words/sw.js";
-import { moneyFor } from "./money.js";
-import { daysFor } from "./days.js";
+import {moneyFor} from "./money.js";
+import {daysFor} from "./days.js";
 
-const ALL = { en, fr, es, sw };
+const ALL = {
+    en,
+    fr,
+    es,
+    sw
+};
 const KEPT_AS = "language";
 
 export const LANGUAGES = [["en", "English"], ["fr", "Français"], ["es", "Español"], ["sw", "Kiswahili"]];
@@ -22,13 +27,13 @@ function mainPart(locale) {
 function chosen() {
     const kept = localStorage.getItem(KEPT_AS);
     if (kept in ALL) {
-        return { language: kept, locale: browserLanguages().find((locale) => mainPart(locale) === kept) ?? kept };
+        return {language: kept, locale: browserLanguages().find((locale) => mainPart(locale) === kept) ?? kept};
     }
     const known = browserLanguages().find((locale) => mainPart(locale) in ALL);
-    return { language: known ? mainPart(known) : "en", locale: browserLanguages()[0] };
+    return {language: known ? mainPart(known) : "en", locale: browserLanguages()[0]};
 }
 
-export const { language, locale } = chosen();
+export const {language, locale} = chosen();
 
 export function chooseLanguage(name) {
     localStorage.setItem(KEPT_AS, name);
@@ -38,7 +43,7 @@ export function chooseLanguage(name) {
 const words = ALL[language];
 const money = moneyFor(locale);
 const plural = new Intl.PluralRules(language);
-const counted = new Intl.NumberFormat(locale, { numberingSystem: "latn" });
+const counted = new Intl.NumberFormat(locale, {numberingSystem: "latn"});
 
 // the words of a key, each {name} in them replaced by that value
 export function say(key, values = {}) {
@@ -56,7 +61,7 @@ export function hasWords(key) {
 // the words for so many: those of the key that ends in .one or in .other, as the language counts
 export function sayCount(key, count, values = {}) {
     const form = plural.select(count) === "one" ? "one" : "other";
-    return say(`${key}.${form}`, { count: showCount(count), ...values });
+    return say(`${key}.${form}`, {count: showCount(count), ...values});
 }
 
 export const showMoney = money.format;
@@ -67,7 +72,7 @@ export function showCount(count) {
     return counted.format(count);
 }
 
-const percent = new Intl.NumberFormat(locale, { style: "percent", numberingSystem: "latn" }).format(0);
+const percent = new Intl.NumberFormat(locale, {style: "percent", numberingSystem: "latn"}).format(0);
 
 // hundredths of a percent, with the sign where the locale has it
 export function showPercent(hundredths) {
@@ -75,6 +80,6 @@ export function showPercent(hundredths) {
 }
 
 // how often an instalment is due
-export function showStep({ frequency, every }) {
+export function showStep({frequency, every}) {
     return sayCount(`frequency.${frequency}`, every);
 }

@@ -1,5 +1,6 @@
-// A request that changes something, and whose reply may be lost. Before it is sent again, it is looked whether it was carried out.
-import { Problem } from "./api.js";
+// A request that changes something, and whose reply may be lost. Before it is sent again, it is looked whether it was
+// carried out.
+import {Problem} from "./api.js";
 
 // The request was lost, and what the desk shows since says that it was not carried out.
 export class NotDone extends Error {
@@ -19,10 +20,10 @@ export class NotKnown extends Error {
 }
 
 // before: what is read before the first sending, to tell later what is new. send: sends, and answers the reply's body.
-// find: looks for what was sent, given what `before` read, and answers what `send` would have, or null where it is not there.
-// Without `find` there is no route that tells whether it was carried out.
+// find: looks for what was sent, given what `before` read, and answers what `send` would have, or null where it is not
+// there. Without `find` there is no route that tells whether it was carried out.
 export class Writing {
-    constructor({ before = async () => null, send, find = null }) {
+    constructor({before = async () => null, send, find = null}) {
         this.before = before;
         this.send = send;
         this.find = find;
@@ -72,13 +73,13 @@ export class Writing {
     }
 }
 
-// Answers a function that carries out the writing of the values it is handed. Handed the same values again, after a lost reply, it
-// goes on with the same writing, which looks first.
+// Answers a function that carries out the writing of the values it is handed. Handed the same values again, after a
+// lost reply, it goes on with the same writing, which looks first.
 export function keptWriting(make) {
     let kept = null;
     return (values) => {
         const text = JSON.stringify(values);
-        kept = kept?.text === text ? kept : { text, one: make(values) };
+        kept = kept?.text === text ? kept : {text, one: make(values)};
         return kept.one.attempt();
     };
 }

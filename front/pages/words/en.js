@@ -132,7 +132,8 @@ export default {
     "field.name.hint": "1 to 100 characters. It can't be changed later.",
     "field.choice.wrong": "Choose one",
     "field.receipt.wrong": "1 to 40 letters, digits and signs, without a space or an accent",
-    "field.receipt.hint": "No other repayment of the office may have this receipt. Keep the one proposed, or type the number of your receipt book.",
+    "field.receipt.hint": "No other repayment of the office may have this receipt. Keep the one proposed, or type " +
+        "the number of your receipt book.",
 
     // today
     "today.title": "Today, {day}",
@@ -147,7 +148,8 @@ export default {
     "day.move": "Move the business day",
     "day.new": "New business day",
     "day.now": "The business day is {day}.",
-    "day.what": "All offices go on to the new day together. What falls due until then counts as due, and what is unpaid becomes overdue. The business day never goes back.",
+    "day.what": "All offices go on to the new day together. What falls due until then counts as due, and what is " +
+        "unpaid becomes overdue. The business day never goes back.",
     "day.moved": "The business day is now {day}.",
     "day.sure": "Is this day right?",
     "day.far": "This moves the business day by {count} days, to {day}.",
@@ -165,7 +167,8 @@ export default {
     "clients.more": "The first {count} are shown; type more of the name.",
     "client.number": "Client number",
     "client.new": "New client",
-    "client.new.what": "The client is entered in office {office}, and gets the next number there. A client can't be renamed or removed.",
+    "client.new.what": "The client is entered in office {office}, and gets the next number there. A client can't be " +
+        "renamed or removed.",
     "client.enter": "Enter the client",
     "client.entered": "Client {client} is entered.",
     "client.loans": "Loans of this client",
@@ -204,28 +207,34 @@ export default {
 
     // what may be done with a loan
     "do.approve": "Approve",
-    "do.approve.what": "Approves loan {loan} of {client} over {amount}. It can then be paid out, from today's business day on. The approval can be undone until then.",
+    "do.approve.what": "Approves loan {loan} of {client} over {amount}. It can then be paid out, from today's " +
+        "business day on. The approval can be undone until then.",
     "do.approve.done": "Loan {loan} is approved.",
     "do.reject": "Reject",
-    "do.reject.what": "Rejects loan {loan} of {client} over {amount}. This can't be undone; a new loan has to be submitted.",
+    "do.reject.what": "Rejects loan {loan} of {client} over {amount}. This can't be undone; a new loan has to be " +
+        "submitted.",
     "do.reject.done": "Loan {loan} is rejected.",
     "do.withdraw": "Withdraw",
-    "do.withdraw.what": "The client withdraws loan {loan} over {amount}. This can't be undone; a new loan has to be submitted.",
+    "do.withdraw.what": "The client withdraws loan {loan} over {amount}. This can't be undone; a new loan has to be " +
+        "submitted.",
     "do.withdraw.done": "Loan {loan} is withdrawn.",
     "do.undo-approval": "Undo the approval",
     "do.undo-approval.what": "Loan {loan} of {client} goes back to those that wait for approval.",
     "do.undo-approval.done": "The approval of loan {loan} is undone.",
     "do.disburse": "Pay out",
-    "do.disburse.what": "Pays {amount} out to {client}. The schedule of loan {loan} begins on this day. A loan that is paid out stays so.",
+    "do.disburse.what": "Pays {amount} out to {client}. The schedule of loan {loan} begins on this day. A loan that " +
+        "is paid out stays so.",
     "do.disburse.hint": "From the day of approval to the business day",
     "do.disburse.done": "Loan {loan} is paid out.",
     "do.repayment": "Enter a repayment",
-    "do.repayment.what": "Enters what {client} paid on loan {loan}. What it settles follows from the product's order of payment; what is more than all that is owed is kept as overpaid.",
+    "do.repayment.what": "Enters what {client} paid on loan {loan}. What it settles follows from the product's order " +
+        "of payment; what is more than all that is owed is kept as overpaid.",
     "do.repayment.hint": "Due by today: {due}. Owed in all: {owed}.",
     "do.repayment.day": "Paid on",
     "do.repayment.done": "The repayment on loan {loan} is entered.",
     "do.fee": "Enter a fee",
-    "do.fee.what": "Adds a fee to loan {loan} of {client}. It is laid on the first instalment that is due on its day or later.",
+    "do.fee.what": "Adds a fee to loan {loan} of {client}. It is laid on the first instalment that is due on its day " +
+        "or later.",
     "do.fee.due": "Due on",
     "do.fee.hint": "On the day of disbursement or later",
     "do.fee.none": "The catalogue has no charge for a due day.",
@@ -236,18 +245,22 @@ export default {
     "do.penalty.no-charge": "The product of this loan has no charge for overdue instalments.",
     "do.penalty.done": "The penalty on loan {loan} is entered.",
     "do.waiver": "Waive",
-    "do.waiver.what": "{client} need no longer pay what is outstanding of the chosen interest, fees or penalties of loan {loan}. Principal is never waived.",
+    "do.waiver.what": "{client} need no longer pay what is outstanding of the chosen interest, fees or penalties of " +
+        "loan {loan}. Principal is never waived.",
     "do.waiver.choose": "What is waived",
     "do.waiver.none": "No interest, fees or penalties are outstanding.",
     "do.waiver.done": "The waiver on loan {loan} is entered.",
     "do.write-off": "Write off",
-    "do.write-off.what": "Gives up {amount}, all that is outstanding of loan {loan} of {client}. The loan then takes no entry until the write-off is reversed.",
+    "do.write-off.what": "Gives up {amount}, all that is outstanding of loan {loan} of {client}. The loan then takes " +
+        "no entry until the write-off is reversed.",
     "do.write-off.done": "Loan {loan} is written off.",
     "do.refund": "Refund",
-    "do.refund.what": "Gives {amount} back to {client}, all that is overpaid of loan {loan}. The loan then takes no entry until the refund is reversed.",
+    "do.refund.what": "Gives {amount} back to {client}, all that is overpaid of loan {loan}. The loan then takes no " +
+        "entry until the refund is reversed.",
     "do.refund.done": "What was overpaid of loan {loan} is refunded.",
     "do.reverse": "Reverse the entry",
-    "do.reverse.what": "Entry {number} of loan {loan} ({kind}, {amount}, {day}) counts no more, and what later entries settle is worked out anew. A reversal can't be undone: enter what is right as a new entry.",
+    "do.reverse.what": "Entry {number} of loan {loan} ({kind}, {amount}, {day}) counts no more, and what later " +
+        "entries settle is worked out anew. A reversal can't be undone: enter what is right as a new entry.",
     "do.reverse.done": "The entry of loan {loan} is reversed.",
 
     // a round of collections
@@ -265,9 +278,11 @@ export default {
     "round.send-again": "Send {count} again",
     "round.new": "Begin a new round",
     "round.new.what": "The lines get new receipts, so that further payments of this day can be entered.",
-    "round.new.open": "{count} lines are not entered yet. What was typed there is given up. If one of them was sent and its reply lost, send the round again instead: a new receipt could enter it twice.",
+    "round.new.open": "{count} lines are not entered yet. What was typed there is given up. If one of them was sent " +
+        "and its reply lost, send the round again instead: a new receipt could enter it twice.",
     "round.early": "The business day is {day}. This round can be printed or saved, and entered once its day has come.",
-    "round.stopped": "The connection was lost. What is marked as entered stands; the lines after it were not sent. Send the round again: nothing is entered twice.",
+    "round.stopped": "The connection was lost. What is marked as entered stands; the lines after it were not sent. " +
+        "Send the round again: nothing is entered twice.",
     "round.sum": "Due {due} · typed in {typed} {results}",
     "tally.entered": "{count} entered",
     "tally.repeated": "{count} repeated",
@@ -277,7 +292,8 @@ export default {
     "result.repeated": "repeated: it was entered before",
     "result.lost": "no reply: send again",
     "sheet.title": "A sheet from disk",
-    "sheet.what": "A CSV file with the columns receipt, loan, date, amount, as this page saves it. Amounts are written as 1234.50, days as 2024-02-29.",
+    "sheet.what": "A CSV file with the columns receipt, loan, date, amount, as this page saves it. Amounts are " +
+        "written as 1234.50, days as 2024-02-29.",
     "sheet.choose": "Choose a sheet",
     "sheet.large": "The sheet has more than 1,048,576 bytes. Send it in parts.",
     "sheet.empty": "The sheet has no line.",
@@ -286,7 +302,8 @@ export default {
 
     // arrears
     "arrears.title": "Arrears on {day}",
-    "arrears.what": "Principal outstanding of the active loans, by how many days the earliest unpaid instalment is overdue. Each office's line counts its own loans.",
+    "arrears.what": "Principal outstanding of the active loans, by how many days the earliest unpaid instalment is " +
+        "overdue. Each office's line counts its own loans.",
     "arrears.graph": "Outstanding principal by office and class",
     "arrears.table": "Report of arrears",
     "arrears.office": "Arrears of {office}",
@@ -306,13 +323,15 @@ export default {
     "charge.value": "Amount or percent",
     "charge.value.hint": "A fixed amount from {least} to {most}, a percentage from {least} to {percent}",
     "product.new": "New product",
-    "product.new.what": "All offices lend by the products of the catalogue. A product can't be changed later, only retired.",
+    "product.new.what": "All offices lend by the products of the catalogue. A product can't be changed later, only " +
+        "retired.",
     "product.enter": "Enter the product",
     "product.entered": "The product is entered.",
     "product.retired": "retired",
     "product.retire": "Retire",
     "product.retire.name": "Retire {product}",
-    "product.retire.what": "No new loan can be submitted by {product}. Its loans go on as they are. This can't be undone.",
+    "product.retire.what": "No new loan can be submitted by {product}. Its loans go on as they are. This can't be " +
+        "undone.",
     "product.retired.done": "The product is retired.",
     "product.step": "An instalment",
     "product.amounts": "Amounts",
@@ -343,11 +362,13 @@ export default {
     "office.open": "Open the office",
     "office.opened": "The office is open.",
     "staff.new": "New member of staff",
-    "staff.new.what": "Enters somebody who works in an office. Name and role can't be changed later, and nobody can be removed.",
+    "staff.new.what": "Enters somebody who works in an office. Name and role can't be changed later, and nobody can " +
+        "be removed.",
     "staff.enter": "Enter",
     "staff.entered": "{name} is entered as {staff}.",
     "staff.sign-in": "Note this number down. Whoever keeps the sign-ins can now give {name} a password for {staff}.",
-    "staff.no-list": "The desk shows no list of staff. A new member's number is shown once, when they are entered; whoever keeps the sign-ins has the list of those who can sign in.",
+    "staff.no-list": "The desk shows no list of staff. A new member's number is shown once, when they are entered; " +
+        "whoever keeps the sign-ins has the list of those who can sign in.",
 
     // a statement
     "statement.title": "Statement of loan {loan}",
@@ -374,11 +395,15 @@ export default {
     "refusal.F7.what": "The product is retired.",
     "refusal.F7.do": "Lend by another product. A product is retired once and for good.",
     "refusal.F8.what": "It is outside the limits of the product, or the parts don't agree.",
-    "refusal.F8.do": "A loan has to lie within its product's limits. Of a product, the least must not be above the greatest, and each grace lies below the fewest instalments. A fee or a penalty that comes to nothing is none.",
+    "refusal.F8.do": "A loan has to lie within its product's limits. Of a product, the least must not be above the " +
+        "greatest, and each grace lies below the fewest instalments. A fee or a penalty that comes to nothing is " +
+        "none.",
     "refusal.F9.what": "The status of the loan does not allow it.",
-    "refusal.F9.do": "Look at the loan as it stands now: somebody may have changed it. Only an active loan takes an entry, and only an overpaid one a refund.",
+    "refusal.F9.do": "Look at the loan as it stands now: somebody may have changed it. Only an active loan takes an " +
+        "entry, and only an overpaid one a refund.",
     "refusal.F10.what": "The day does not fit.",
-    "refusal.F10.do": "A loan is paid out from the day of its approval to the business day. A repayment lies from the disbursement to the business day. A fee falls due on the day of disbursement or later.",
+    "refusal.F10.do": "A loan is paid out from the day of its approval to the business day. A repayment lies from " +
+        "the disbursement to the business day. A fee falls due on the day of disbursement or later.",
     "refusal.F11.what": "The loan is written off or refunded.",
     "refusal.F11.do": "A manager can reverse that entry first.",
     "refusal.F12.what": "The loan has no entry of this number.",
@@ -386,7 +411,8 @@ export default {
     "refusal.F13.what": "The entry is reversed already.",
     "refusal.F13.do": "There is nothing to do: it counts no more.",
     "refusal.F14.what": "The instalment does not allow it.",
-    "refusal.F14.do": "Look at the loan's schedule and entries: the instalment is not overdue, or owes nothing of the kind, or has a penalty already, or the product has no charge for overdue instalments.",
+    "refusal.F14.do": "Look at the loan's schedule and entries: the instalment is not overdue, or owes nothing of " +
+        "the kind, or has a penalty already, or the product has no charge for overdue instalments.",
     "refusal.F15.what": "The office has this receipt with another loan, amount or day.",
     "refusal.F15.do": "Look at the receipt. A further payment needs a receipt of its own.",
     "refusal.F16.what": "The office number is taken.",
@@ -394,9 +420,11 @@ export default {
     "refusal.F17.what": "The business day never goes back.",
     "refusal.F17.do": "Choose a later day than the present one.",
     "refusal.F18.what": "A limit is reached.",
-    "refusal.F18.do": "An office that is full needs another beside it. Six levels of offices, 999 charges, 999 products and 9,999 entries of a loan are the most.",
+    "refusal.F18.do": "An office that is full needs another beside it. Six levels of offices, 999 charges, 999 " +
+        "products and 9,999 entries of a loan are the most.",
     "refusal.F20.what": "The desk is out of memory, or its disk failed.",
-    "refusal.F20.do": "Try again. If it keeps coming, the program has to be stopped, its disk seen to, and started again; then look first whether it was done.",
+    "refusal.F20.do": "Try again. If it keeps coming, the program has to be stopped, its disk seen to, and started " +
+        "again; then look first whether it was done.",
     "front.origin.what": "The request did not come from this desk's own pages.",
     "front.origin.do": "Open the desk by its own address and try again.",
     "front.down.what": "The desk does not run at the moment.",
@@ -412,9 +440,11 @@ export default {
     "front.not-done.what": "No reply came. It was looked up: it was not done.",
     "front.not-done.do": "It can be sent again.",
     "front.not-known.what": "No reply came, and it can't be looked up whether it was done.",
-    "front.not-known.do": "When the connection is back, press the button: it is looked up first, and sent again only where it was not done.",
+    "front.not-known.do": "When the connection is back, press the button: it is looked up first, and sent again only " +
+        "where it was not done.",
     "front.blind.what": "No reply came. Whether it was done can't be looked up, since the desk shows no list of staff.",
-    "front.blind.do": "Sent again, the same person may be entered a second time, under another number. That does no harm as long as only one of the numbers gets a password.",
+    "front.blind.do": "Sent again, the same person may be entered a second time, under another number. That does no " +
+        "harm as long as only one of the numbers gets a password.",
     "front.page.what": "Something went wrong in this page.",
     "front.page.do": "Load the page again.",
 };

@@ -132,7 +132,8 @@ export default {
     "field.name.hint": "De 1 a 100 caracteres. No se puede cambiar después.",
     "field.choice.wrong": "Elija uno",
     "field.receipt.wrong": "De 1 a 40 letras, cifras y signos, sin espacio ni acento",
-    "field.receipt.hint": "Ningún otro pago de la oficina puede llevar este recibo. Deje el propuesto, o escriba el número de su talonario.",
+    "field.receipt.hint": "Ningún otro pago de la oficina puede llevar este recibo. Deje el propuesto, o escriba el " +
+        "número de su talonario.",
 
     // today
     "today.title": "Hoy, {day}",
@@ -147,7 +148,8 @@ export default {
     "day.move": "Mover el día contable",
     "day.new": "Nuevo día contable",
     "day.now": "El día contable es el {day}.",
-    "day.what": "Todas las oficinas pasan juntas al nuevo día. Lo que vence hasta entonces se debe, y lo que no está pagado queda atrasado. El día contable nunca retrocede.",
+    "day.what": "Todas las oficinas pasan juntas al nuevo día. Lo que vence hasta entonces se debe, y lo que no está " +
+        "pagado queda atrasado. El día contable nunca retrocede.",
     "day.moved": "El día contable es ahora el {day}.",
     "day.sure": "¿Es correcto este día?",
     "day.far": "Esto mueve el día contable {count} días, al {day}.",
@@ -165,7 +167,8 @@ export default {
     "clients.more": "Se muestran los primeros {count}; escriba más del nombre.",
     "client.number": "Número de cliente",
     "client.new": "Nuevo cliente",
-    "client.new.what": "El cliente se inscribe en la oficina {office} y recibe allí el número siguiente. Un cliente no se puede renombrar ni borrar.",
+    "client.new.what": "El cliente se inscribe en la oficina {office} y recibe allí el número siguiente. Un cliente " +
+        "no se puede renombrar ni borrar.",
     "client.enter": "Inscribir al cliente",
     "client.entered": "El cliente {client} está inscrito.",
     "client.loans": "Préstamos de este cliente",
@@ -204,50 +207,62 @@ export default {
 
     // what may be done with a loan
     "do.approve": "Aprobar",
-    "do.approve.what": "Aprueba el préstamo {loan} de {client} por {amount}. Después se puede desembolsar, desde el día contable de hoy. Hasta entonces la aprobación se puede deshacer.",
+    "do.approve.what": "Aprueba el préstamo {loan} de {client} por {amount}. Después se puede desembolsar, desde el " +
+        "día contable de hoy. Hasta entonces la aprobación se puede deshacer.",
     "do.approve.done": "El préstamo {loan} está aprobado.",
     "do.reject": "Rechazar",
-    "do.reject.what": "Rechaza el préstamo {loan} de {client} por {amount}. No se puede deshacer; hay que presentar un préstamo nuevo.",
+    "do.reject.what": "Rechaza el préstamo {loan} de {client} por {amount}. No se puede deshacer; hay que presentar " +
+        "un préstamo nuevo.",
     "do.reject.done": "El préstamo {loan} está rechazado.",
     "do.withdraw": "Retirar",
-    "do.withdraw.what": "El cliente retira el préstamo {loan} por {amount}. No se puede deshacer; hay que presentar un préstamo nuevo.",
+    "do.withdraw.what": "El cliente retira el préstamo {loan} por {amount}. No se puede deshacer; hay que presentar " +
+        "un préstamo nuevo.",
     "do.withdraw.done": "El préstamo {loan} está retirado.",
     "do.undo-approval": "Deshacer la aprobación",
     "do.undo-approval.what": "El préstamo {loan} de {client} vuelve a los que esperan aprobación.",
     "do.undo-approval.done": "La aprobación del préstamo {loan} está deshecha.",
     "do.disburse": "Desembolsar",
-    "do.disburse.what": "Desembolsa {amount} a {client}. El plan de pagos del préstamo {loan} comienza ese día. Un préstamo desembolsado queda así.",
+    "do.disburse.what": "Desembolsa {amount} a {client}. El plan de pagos del préstamo {loan} comienza ese día. Un " +
+        "préstamo desembolsado queda así.",
     "do.disburse.hint": "Desde el día de la aprobación hasta el día contable",
     "do.disburse.done": "El préstamo {loan} está desembolsado.",
     "do.repayment": "Registrar un pago",
-    "do.repayment.what": "Registra lo que {client} pagó del préstamo {loan}. Lo que salda sigue el orden de imputación del producto; lo que pasa de todo lo debido se guarda como pagado de más.",
+    "do.repayment.what": "Registra lo que {client} pagó del préstamo {loan}. Lo que salda sigue el orden de " +
+        "imputación del producto; lo que pasa de todo lo debido se guarda como pagado de más.",
     "do.repayment.hint": "Vencido hasta hoy: {due}. Saldo total: {owed}.",
     "do.repayment.day": "Pagado el",
     "do.repayment.done": "El pago del préstamo {loan} está registrado.",
     "do.fee": "Registrar una comisión",
-    "do.fee.what": "Añade una comisión al préstamo {loan} de {client}. Se pone en la primera cuota que vence ese día o después.",
+    "do.fee.what": "Añade una comisión al préstamo {loan} de {client}. Se pone en la primera cuota que vence ese día " +
+        "o después.",
     "do.fee.due": "Vence el",
     "do.fee.hint": "El día del desembolso o después",
     "do.fee.none": "El catálogo no tiene ningún cargo para una fecha dada.",
     "do.fee.done": "La comisión del préstamo {loan} está registrada.",
     "do.penalty": "Registrar una penalización",
-    "do.penalty.what": "Añade una penalización a una cuota atrasada del préstamo {loan} de {client}, por el cargo {charge}.",
+    "do.penalty.what": "Añade una penalización a una cuota atrasada del préstamo {loan} de {client}, por el cargo " +
+        "{charge}.",
     "do.penalty.none": "Ninguna cuota atrasada está sin penalización.",
     "do.penalty.no-charge": "El producto de este préstamo no tiene cargo por cuotas atrasadas.",
     "do.penalty.done": "La penalización del préstamo {loan} está registrada.",
     "do.waiver": "Condonar",
-    "do.waiver.what": "{client} ya no debe pagar lo pendiente de los intereses, comisiones o penalizaciones elegidos del préstamo {loan}. El capital nunca se condona.",
+    "do.waiver.what": "{client} ya no debe pagar lo pendiente de los intereses, comisiones o penalizaciones elegidos " +
+        "del préstamo {loan}. El capital nunca se condona.",
     "do.waiver.choose": "Lo que se condona",
     "do.waiver.none": "No hay intereses, comisiones ni penalizaciones pendientes.",
     "do.waiver.done": "La condonación del préstamo {loan} está registrada.",
     "do.write-off": "Castigar",
-    "do.write-off.what": "Renuncia a {amount}, todo el saldo del préstamo {loan} de {client}. El préstamo no admite más movimientos hasta que se anule el castigo.",
+    "do.write-off.what": "Renuncia a {amount}, todo el saldo del préstamo {loan} de {client}. El préstamo no admite " +
+        "más movimientos hasta que se anule el castigo.",
     "do.write-off.done": "El préstamo {loan} está castigado.",
     "do.refund": "Devolver",
-    "do.refund.what": "Devuelve {amount} a {client}, todo lo pagado de más del préstamo {loan}. El préstamo no admite más movimientos hasta que se anule la devolución.",
+    "do.refund.what": "Devuelve {amount} a {client}, todo lo pagado de más del préstamo {loan}. El préstamo no " +
+        "admite más movimientos hasta que se anule la devolución.",
     "do.refund.done": "Lo pagado de más del préstamo {loan} está devuelto.",
     "do.reverse": "Anular el movimiento",
-    "do.reverse.what": "El movimiento {number} del préstamo {loan} ({kind}, {amount}, {day}) deja de contar, y se calcula de nuevo lo que saldan los movimientos posteriores. Una anulación no se puede deshacer: registre lo correcto como movimiento nuevo.",
+    "do.reverse.what": "El movimiento {number} del préstamo {loan} ({kind}, {amount}, {day}) deja de contar, y se " +
+        "calcula de nuevo lo que saldan los movimientos posteriores. Una anulación no se puede deshacer: registre lo " +
+        "correcto como movimiento nuevo.",
     "do.reverse.done": "El movimiento del préstamo {loan} está anulado.",
 
     // a round of collections
@@ -265,9 +280,12 @@ export default {
     "round.send-again": "Enviar los {count} de nuevo",
     "round.new": "Comenzar una ronda nueva",
     "round.new.what": "Las líneas reciben recibos nuevos, para poder registrar más pagos de este día.",
-    "round.new.open": "{count} líneas aún no están registradas. Lo escrito en ellas se pierde. Si alguna se envió y su respuesta se perdió, envíe mejor la ronda de nuevo: un recibo nuevo podría registrarla dos veces.",
-    "round.early": "El día contable es el {day}. Esta ronda se puede imprimir o guardar, y registrar cuando llegue su día.",
-    "round.stopped": "Se perdió la conexión. Lo marcado como registrado vale; las líneas siguientes no se enviaron. Envíe la ronda de nuevo: nada se registra dos veces.",
+    "round.new.open": "{count} líneas aún no están registradas. Lo escrito en ellas se pierde. Si alguna se envió y " +
+        "su respuesta se perdió, envíe mejor la ronda de nuevo: un recibo nuevo podría registrarla dos veces.",
+    "round.early": "El día contable es el {day}. Esta ronda se puede imprimir o guardar, y registrar cuando llegue " +
+        "su día.",
+    "round.stopped": "Se perdió la conexión. Lo marcado como registrado vale; las líneas siguientes no se enviaron. " +
+        "Envíe la ronda de nuevo: nada se registra dos veces.",
     "round.sum": "Vencido {due} · escrito {typed} {results}",
     "tally.entered": "{count} registrados",
     "tally.repeated": "{count} repetidos",
@@ -277,7 +295,8 @@ export default {
     "result.repeated": "repetido: ya estaba registrado",
     "result.lost": "sin respuesta: enviar de nuevo",
     "sheet.title": "Una hoja del disco",
-    "sheet.what": "Un archivo CSV con las columnas receipt, loan, date, amount, tal como esta página lo guarda. Los importes se escriben 1234.50, los días 2024-02-29.",
+    "sheet.what": "Un archivo CSV con las columnas receipt, loan, date, amount, tal como esta página lo guarda. Los " +
+        "importes se escriben 1234.50, los días 2024-02-29.",
     "sheet.choose": "Elegir una hoja",
     "sheet.large": "La hoja tiene más de 1.048.576 bytes. Envíela por partes.",
     "sheet.empty": "La hoja no tiene ninguna línea.",
@@ -286,7 +305,8 @@ export default {
 
     // arrears
     "arrears.title": "Mora al {day}",
-    "arrears.what": "Saldo de capital de los préstamos activos, según los días de atraso de la cuota impaga más antigua. La línea de cada oficina cuenta sus propios préstamos.",
+    "arrears.what": "Saldo de capital de los préstamos activos, según los días de atraso de la cuota impaga más " +
+        "antigua. La línea de cada oficina cuenta sus propios préstamos.",
     "arrears.graph": "Saldo de capital por oficina y clase",
     "arrears.table": "Informe de mora",
     "arrears.office": "Mora de {office}",
@@ -306,13 +326,15 @@ export default {
     "charge.value": "Importe o por ciento",
     "charge.value.hint": "Un importe fijo de {least} a {most}, un porcentaje de {least} a {percent}",
     "product.new": "Nuevo producto",
-    "product.new.what": "Todas las oficinas prestan con los productos del catálogo. Un producto no se puede cambiar después, solo retirar.",
+    "product.new.what": "Todas las oficinas prestan con los productos del catálogo. Un producto no se puede cambiar " +
+        "después, solo retirar.",
     "product.enter": "Inscribir el producto",
     "product.entered": "El producto está inscrito.",
     "product.retired": "retirado",
     "product.retire": "Retirar",
     "product.retire.name": "Retirar {product}",
-    "product.retire.what": "No se podrá presentar ningún préstamo nuevo con {product}. Sus préstamos siguen como están. No se puede deshacer.",
+    "product.retire.what": "No se podrá presentar ningún préstamo nuevo con {product}. Sus préstamos siguen como " +
+        "están. No se puede deshacer.",
     "product.retired.done": "El producto está retirado.",
     "product.step": "Una cuota",
     "product.amounts": "Importes",
@@ -343,11 +365,13 @@ export default {
     "office.open": "Abrir la oficina",
     "office.opened": "La oficina está abierta.",
     "staff.new": "Nuevo miembro del personal",
-    "staff.new.what": "Inscribe a alguien que trabaja en una oficina. El nombre y la función no se pueden cambiar después, y a nadie se le puede borrar.",
+    "staff.new.what": "Inscribe a alguien que trabaja en una oficina. El nombre y la función no se pueden cambiar " +
+        "después, y a nadie se le puede borrar.",
     "staff.enter": "Inscribir",
     "staff.entered": "{name} está inscrito como {staff}.",
     "staff.sign-in": "Anote este número. Quien lleva los accesos puede dar ahora a {name} una contraseña para {staff}.",
-    "staff.no-list": "No hay lista del personal. El número de un nuevo miembro se muestra una sola vez, al inscribirlo; quien lleva los accesos tiene la lista de quienes pueden entrar.",
+    "staff.no-list": "No hay lista del personal. El número de un nuevo miembro se muestra una sola vez, al " +
+        "inscribirlo; quien lleva los accesos tiene la lista de quienes pueden entrar.",
 
     // a statement
     "statement.title": "Estado de cuenta del préstamo {loan}",
@@ -374,11 +398,15 @@ export default {
     "refusal.F7.what": "El producto está retirado.",
     "refusal.F7.do": "Preste con otro producto. Un producto se retira de una vez para siempre.",
     "refusal.F8.what": "Está fuera de los límites del producto, o las partes no concuerdan.",
-    "refusal.F8.do": "Un préstamo debe estar en los límites de su producto. En un producto, lo mínimo no pasa de lo máximo, y cada gracia es menor que el mínimo de cuotas. Una comisión o penalización que da cero no se registra.",
+    "refusal.F8.do": "Un préstamo debe estar en los límites de su producto. En un producto, lo mínimo no pasa de lo " +
+        "máximo, y cada gracia es menor que el mínimo de cuotas. Una comisión o penalización que da cero no se " +
+        "registra.",
     "refusal.F9.what": "El estado del préstamo no lo permite.",
-    "refusal.F9.do": "Mire el préstamo como está ahora: alguien puede haberlo cambiado. Solo un préstamo activo admite movimientos, y solo uno pagado de más una devolución.",
+    "refusal.F9.do": "Mire el préstamo como está ahora: alguien puede haberlo cambiado. Solo un préstamo activo " +
+        "admite movimientos, y solo uno pagado de más una devolución.",
     "refusal.F10.what": "El día no conviene.",
-    "refusal.F10.do": "Un préstamo se desembolsa desde el día de su aprobación hasta el día contable. Un pago va desde el desembolso hasta el día contable. Una comisión vence el día del desembolso o después.",
+    "refusal.F10.do": "Un préstamo se desembolsa desde el día de su aprobación hasta el día contable. Un pago va " +
+        "desde el desembolso hasta el día contable. Una comisión vence el día del desembolso o después.",
     "refusal.F11.what": "El préstamo está castigado o devuelto.",
     "refusal.F11.do": "Un gerente puede anular antes ese movimiento.",
     "refusal.F12.what": "El préstamo no tiene movimiento con ese número.",
@@ -386,7 +414,8 @@ export default {
     "refusal.F13.what": "El movimiento ya está anulado.",
     "refusal.F13.do": "No hay nada que hacer: ya no cuenta.",
     "refusal.F14.what": "La cuota no lo permite.",
-    "refusal.F14.do": "Mire el plan de pagos y los movimientos: la cuota no está atrasada, o no debe nada de eso, o ya tiene una penalización, o el producto no tiene cargo por cuotas atrasadas.",
+    "refusal.F14.do": "Mire el plan de pagos y los movimientos: la cuota no está atrasada, o no debe nada de eso, o " +
+        "ya tiene una penalización, o el producto no tiene cargo por cuotas atrasadas.",
     "refusal.F15.what": "La oficina tiene este recibo con otro préstamo, importe o día.",
     "refusal.F15.do": "Compruebe el recibo. Un pago más necesita un recibo propio.",
     "refusal.F16.what": "El número de oficina está ocupado.",
@@ -394,9 +423,11 @@ export default {
     "refusal.F17.what": "El día contable nunca retrocede.",
     "refusal.F17.do": "Elija un día posterior al presente.",
     "refusal.F18.what": "Se ha llegado a un límite.",
-    "refusal.F18.do": "Una oficina llena necesita otra a su lado. Lo máximo son seis niveles de oficinas, 999 cargos, 999 productos y 9.999 movimientos de un préstamo.",
+    "refusal.F18.do": "Una oficina llena necesita otra a su lado. Lo máximo son seis niveles de oficinas, 999 " +
+        "cargos, 999 productos y 9.999 movimientos de un préstamo.",
     "refusal.F20.what": "Al programa le falta memoria, o falló su disco.",
-    "refusal.F20.do": "Intente de nuevo. Si sigue así, hay que parar el programa, revisar el disco y arrancarlo; después compruebe primero si se hizo.",
+    "refusal.F20.do": "Intente de nuevo. Si sigue así, hay que parar el programa, revisar el disco y arrancarlo; " +
+        "después compruebe primero si se hizo.",
     "front.origin.what": "La petición no viene de las páginas de este programa.",
     "front.origin.do": "Abra las páginas por su propia dirección e intente de nuevo.",
     "front.down.what": "El programa no está en marcha en este momento.",
@@ -412,9 +443,11 @@ export default {
     "front.not-done.what": "No llegó respuesta. Se comprobó: no se hizo.",
     "front.not-done.do": "Se puede enviar de nuevo.",
     "front.not-known.what": "No llegó respuesta, y no se puede comprobar si se hizo.",
-    "front.not-known.do": "Cuando vuelva la conexión, pulse el botón: primero se comprueba, y solo se envía de nuevo si no se hizo.",
+    "front.not-known.do": "Cuando vuelva la conexión, pulse el botón: primero se comprueba, y solo se envía de nuevo " +
+        "si no se hizo.",
     "front.blind.what": "No llegó respuesta. No se puede comprobar si se hizo, pues no hay lista del personal.",
-    "front.blind.do": "Enviada de nuevo, la misma persona puede quedar inscrita dos veces, con otro número. No hace daño mientras solo uno de los números reciba contraseña.",
+    "front.blind.do": "Enviada de nuevo, la misma persona puede quedar inscrita dos veces, con otro número. No hace " +
+        "daño mientras solo uno de los números reciba contraseña.",
     "front.page.what": "Algo falló en esta página.",
     "front.page.do": "Cargue la página de nuevo.",
 };

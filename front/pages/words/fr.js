@@ -132,7 +132,8 @@ export default {
     "field.name.hint": "1 à 100 caractères. Il ne pourra plus être modifié.",
     "field.choice.wrong": "Choisissez",
     "field.receipt.wrong": "1 à 40 lettres, chiffres et signes, sans espace ni accent",
-    "field.receipt.hint": "Aucun autre remboursement de l’agence ne doit porter ce reçu. Gardez celui qui est proposé, ou écrivez le numéro de votre carnet de reçus.",
+    "field.receipt.hint": "Aucun autre remboursement de l’agence ne doit porter ce reçu. Gardez celui qui est " +
+        "proposé, ou écrivez le numéro de votre carnet de reçus.",
 
     // today
     "today.title": "Aujourd’hui, {day}",
@@ -147,7 +148,8 @@ export default {
     "day.move": "Changer le jour comptable",
     "day.new": "Nouveau jour comptable",
     "day.now": "Le jour comptable est le {day}.",
-    "day.what": "Toutes les agences passent ensemble au nouveau jour. Ce qui arrive à échéance jusque-là est dû, et ce qui n’est pas payé est en retard. Le jour comptable ne recule jamais.",
+    "day.what": "Toutes les agences passent ensemble au nouveau jour. Ce qui arrive à échéance jusque-là est dû, et " +
+        "ce qui n’est pas payé est en retard. Le jour comptable ne recule jamais.",
     "day.moved": "Le jour comptable est maintenant le {day}.",
     "day.sure": "Ce jour est-il juste ?",
     "day.far": "Le jour comptable avance de {count} jours, au {day}.",
@@ -165,7 +167,8 @@ export default {
     "clients.more": "Les {count} premiers sont montrés ; écrivez davantage du nom.",
     "client.number": "Numéro du client",
     "client.new": "Nouveau client",
-    "client.new.what": "Le client est inscrit à l’agence {office} et y reçoit le numéro suivant. Un client ne peut être ni renommé ni supprimé.",
+    "client.new.what": "Le client est inscrit à l’agence {office} et y reçoit le numéro suivant. Un client ne peut " +
+        "être ni renommé ni supprimé.",
     "client.enter": "Inscrire le client",
     "client.entered": "Le client {client} est inscrit.",
     "client.loans": "Prêts de ce client",
@@ -204,50 +207,62 @@ export default {
 
     // what may be done with a loan
     "do.approve": "Approuver",
-    "do.approve.what": "Approuve le prêt {loan} de {client} de {amount}. Il peut ensuite être décaissé, à partir du jour comptable d’aujourd’hui. D’ici là, l’approbation peut être retirée.",
+    "do.approve.what": "Approuve le prêt {loan} de {client} de {amount}. Il peut ensuite être décaissé, à partir du " +
+        "jour comptable d’aujourd’hui. D’ici là, l’approbation peut être retirée.",
     "do.approve.done": "Le prêt {loan} est approuvé.",
     "do.reject": "Rejeter",
-    "do.reject.what": "Rejette le prêt {loan} de {client} de {amount}. C’est définitif ; un nouveau prêt doit être soumis.",
+    "do.reject.what": "Rejette le prêt {loan} de {client} de {amount}. C’est définitif ; un nouveau prêt doit être " +
+        "soumis.",
     "do.reject.done": "Le prêt {loan} est rejeté.",
     "do.withdraw": "Retirer",
-    "do.withdraw.what": "Le client retire le prêt {loan} de {amount}. C’est définitif ; un nouveau prêt doit être soumis.",
+    "do.withdraw.what": "Le client retire le prêt {loan} de {amount}. C’est définitif ; un nouveau prêt doit être " +
+        "soumis.",
     "do.withdraw.done": "Le prêt {loan} est retiré.",
     "do.undo-approval": "Retirer l’approbation",
     "do.undo-approval.what": "Le prêt {loan} de {client} retourne parmi ceux qui attendent l’approbation.",
     "do.undo-approval.done": "L’approbation du prêt {loan} est retirée.",
     "do.disburse": "Décaisser",
-    "do.disburse.what": "Verse {amount} à {client}. L’échéancier du prêt {loan} commence ce jour-là. Un prêt décaissé le reste.",
+    "do.disburse.what": "Verse {amount} à {client}. L’échéancier du prêt {loan} commence ce jour-là. Un prêt " +
+        "décaissé le reste.",
     "do.disburse.hint": "Du jour de l’approbation au jour comptable",
     "do.disburse.done": "Le prêt {loan} est décaissé.",
     "do.repayment": "Saisir un remboursement",
-    "do.repayment.what": "Saisit ce que {client} a payé sur le prêt {loan}. Ce qui est réglé suit l’ordre d’imputation du produit ; ce qui dépasse tout ce qui est dû est gardé comme trop-perçu.",
+    "do.repayment.what": "Saisit ce que {client} a payé sur le prêt {loan}. Ce qui est réglé suit l’ordre " +
+        "d’imputation du produit ; ce qui dépasse tout ce qui est dû est gardé comme trop-perçu.",
     "do.repayment.hint": "Dû à ce jour : {due}. Restant dû en tout : {owed}.",
     "do.repayment.day": "Payé le",
     "do.repayment.done": "Le remboursement du prêt {loan} est saisi.",
     "do.fee": "Saisir des frais",
-    "do.fee.what": "Ajoute des frais au prêt {loan} de {client}. Ils sont portés sur la première échéance due ce jour-là ou plus tard.",
+    "do.fee.what": "Ajoute des frais au prêt {loan} de {client}. Ils sont portés sur la première échéance due ce " +
+        "jour-là ou plus tard.",
     "do.fee.due": "Dus le",
     "do.fee.hint": "Le jour du décaissement ou plus tard",
     "do.fee.none": "Le catalogue n’a pas de frais à une date donnée.",
     "do.fee.done": "Les frais du prêt {loan} sont saisis.",
     "do.penalty": "Saisir une pénalité",
-    "do.penalty.what": "Ajoute une pénalité à une échéance en retard du prêt {loan} de {client}, selon les frais {charge}.",
+    "do.penalty.what": "Ajoute une pénalité à une échéance en retard du prêt {loan} de {client}, selon les frais " +
+        "{charge}.",
     "do.penalty.none": "Aucune échéance en retard n’est sans pénalité.",
     "do.penalty.no-charge": "Le produit de ce prêt n’a pas de frais pour les échéances en retard.",
     "do.penalty.done": "La pénalité du prêt {loan} est saisie.",
     "do.waiver": "Abandonner",
-    "do.waiver.what": "{client} ne doit plus ce qui reste dû des intérêts, frais ou pénalités choisis du prêt {loan}. Le capital n’est jamais abandonné.",
+    "do.waiver.what": "{client} ne doit plus ce qui reste dû des intérêts, frais ou pénalités choisis du prêt " +
+        "{loan}. Le capital n’est jamais abandonné.",
     "do.waiver.choose": "Ce qui est abandonné",
     "do.waiver.none": "Ni intérêts, ni frais, ni pénalités ne restent dus.",
     "do.waiver.done": "L’abandon sur le prêt {loan} est saisi.",
     "do.write-off": "Passer en perte",
-    "do.write-off.what": "Renonce à {amount}, tout ce qui reste dû du prêt {loan} de {client}. Le prêt ne reçoit plus d’opération tant que ce passage en perte n’est pas annulé.",
+    "do.write-off.what": "Renonce à {amount}, tout ce qui reste dû du prêt {loan} de {client}. Le prêt ne reçoit " +
+        "plus d’opération tant que ce passage en perte n’est pas annulé.",
     "do.write-off.done": "Le prêt {loan} est passé en perte.",
     "do.refund": "Restituer",
-    "do.refund.what": "Rend {amount} à {client}, tout le trop-perçu du prêt {loan}. Le prêt ne reçoit plus d’opération tant que cette restitution n’est pas annulée.",
+    "do.refund.what": "Rend {amount} à {client}, tout le trop-perçu du prêt {loan}. Le prêt ne reçoit plus " +
+        "d’opération tant que cette restitution n’est pas annulée.",
     "do.refund.done": "Le trop-perçu du prêt {loan} est restitué.",
     "do.reverse": "Annuler l’opération",
-    "do.reverse.what": "L’opération {number} du prêt {loan} ({kind}, {amount}, {day}) ne compte plus, et ce que règlent les opérations suivantes est recalculé. Une annulation est définitive : saisissez ce qui est juste comme nouvelle opération.",
+    "do.reverse.what": "L’opération {number} du prêt {loan} ({kind}, {amount}, {day}) ne compte plus, et ce que " +
+        "règlent les opérations suivantes est recalculé. Une annulation est définitive : saisissez ce qui est juste " +
+        "comme nouvelle opération.",
     "do.reverse.done": "L’opération du prêt {loan} est annulée.",
 
     // a round of collections
@@ -264,10 +279,15 @@ export default {
     "round.enter": "Saisir {count} remboursements",
     "round.send-again": "Envoyer de nouveau les {count}",
     "round.new": "Commencer une nouvelle tournée",
-    "round.new.what": "Les lignes reçoivent de nouveaux reçus, pour que d’autres paiements de ce jour puissent être saisis.",
-    "round.new.open": "{count} lignes ne sont pas encore saisies. Ce qui y est écrit est perdu. Si l’une d’elles a été envoyée sans réponse, envoyez plutôt la tournée de nouveau : un nouveau reçu pourrait la saisir deux fois.",
-    "round.early": "Le jour comptable est le {day}. Cette tournée peut être imprimée ou enregistrée, et saisie quand son jour sera venu.",
-    "round.stopped": "La connexion a été perdue. Ce qui est marqué comme saisi est acquis ; les lignes suivantes n’ont pas été envoyées. Envoyez la tournée de nouveau : rien n’est saisi deux fois.",
+    "round.new.what": "Les lignes reçoivent de nouveaux reçus, pour que d’autres paiements de ce jour puissent être " +
+        "saisis.",
+    "round.new.open": "{count} lignes ne sont pas encore saisies. Ce qui y est écrit est perdu. Si l’une d’elles a " +
+        "été envoyée sans réponse, envoyez plutôt la tournée de nouveau : un nouveau reçu pourrait la saisir deux " +
+        "fois.",
+    "round.early": "Le jour comptable est le {day}. Cette tournée peut être imprimée ou enregistrée, et saisie quand " +
+        "son jour sera venu.",
+    "round.stopped": "La connexion a été perdue. Ce qui est marqué comme saisi est acquis ; les lignes suivantes " +
+        "n’ont pas été envoyées. Envoyez la tournée de nouveau : rien n’est saisi deux fois.",
     "round.sum": "Dû {due} · écrit {typed} {results}",
     "tally.entered": "{count} saisis",
     "tally.repeated": "{count} répétés",
@@ -277,7 +297,8 @@ export default {
     "result.repeated": "répété : déjà saisi auparavant",
     "result.lost": "sans réponse : envoyer de nouveau",
     "sheet.title": "Une feuille du disque",
-    "sheet.what": "Un fichier CSV avec les colonnes receipt, loan, date, amount, tel que cette page l’enregistre. Les montants s’écrivent 1234.50, les jours 2024-02-29.",
+    "sheet.what": "Un fichier CSV avec les colonnes receipt, loan, date, amount, tel que cette page l’enregistre. " +
+        "Les montants s’écrivent 1234.50, les jours 2024-02-29.",
     "sheet.choose": "Choisir une feuille",
     "sheet.large": "La feuille a plus de 1 048 576 octets. Envoyez-la en plusieurs parties.",
     "sheet.empty": "La feuille n’a aucune ligne.",
@@ -286,7 +307,8 @@ export default {
 
     // arrears
     "arrears.title": "Impayés au {day}",
-    "arrears.what": "Capital restant dû des prêts actifs, selon le nombre de jours de retard de la plus ancienne échéance impayée. La ligne d’une agence compte ses propres prêts.",
+    "arrears.what": "Capital restant dû des prêts actifs, selon le nombre de jours de retard de la plus ancienne " +
+        "échéance impayée. La ligne d’une agence compte ses propres prêts.",
     "arrears.graph": "Capital restant dû par agence et par classe",
     "arrears.table": "État des impayés",
     "arrears.office": "Impayés de {office}",
@@ -298,7 +320,8 @@ export default {
     "products.none": "Pas encore de produit. Le siège inscrit le premier.",
     "charges.none": "Pas encore de frais.",
     "charge.new": "Nouveaux frais",
-    "charge.new.what": "Les frais sont les mêmes pour toutes les agences. Ils ne peuvent être ni modifiés ni supprimés.",
+    "charge.new.what": "Les frais sont les mêmes pour toutes les agences. Ils ne peuvent être ni modifiés ni " +
+        "supprimés.",
     "charge.enter": "Inscrire les frais",
     "charge.entered": "Les frais sont inscrits.",
     "charge.kind": "Perçus",
@@ -306,13 +329,15 @@ export default {
     "charge.value": "Montant ou pour cent",
     "charge.value.hint": "Un montant fixe de {least} à {most}, un pourcentage de {least} à {percent}",
     "product.new": "Nouveau produit",
-    "product.new.what": "Toutes les agences prêtent selon les produits du catalogue. Un produit ne peut pas être modifié, seulement retiré.",
+    "product.new.what": "Toutes les agences prêtent selon les produits du catalogue. Un produit ne peut pas être " +
+        "modifié, seulement retiré.",
     "product.enter": "Inscrire le produit",
     "product.entered": "Le produit est inscrit.",
     "product.retired": "retiré",
     "product.retire": "Retirer",
     "product.retire.name": "Retirer {product}",
-    "product.retire.what": "Plus aucun prêt ne peut être soumis avec {product}. Ses prêts continuent tels quels. C’est définitif.",
+    "product.retire.what": "Plus aucun prêt ne peut être soumis avec {product}. Ses prêts continuent tels quels. " +
+        "C’est définitif.",
     "product.retired.done": "Le produit est retiré.",
     "product.step": "Une échéance",
     "product.amounts": "Montants",
@@ -343,11 +368,14 @@ export default {
     "office.open": "Ouvrir l’agence",
     "office.opened": "L’agence est ouverte.",
     "staff.new": "Nouveau membre du personnel",
-    "staff.new.what": "Inscrit une personne qui travaille dans une agence. Le nom et la fonction ne peuvent plus être modifiés, et personne ne peut être supprimé.",
+    "staff.new.what": "Inscrit une personne qui travaille dans une agence. Le nom et la fonction ne peuvent plus " +
+        "être modifiés, et personne ne peut être supprimé.",
     "staff.enter": "Inscrire",
     "staff.entered": "{name} est inscrit comme {staff}.",
-    "staff.sign-in": "Notez ce numéro. La personne chargée des accès peut maintenant donner à {name} un mot de passe pour {staff}.",
-    "staff.no-list": "Il n’y a pas de liste du personnel. Le numéro d’un nouveau membre est montré une seule fois, à l’inscription ; la personne chargée des accès a la liste de ceux qui peuvent se connecter.",
+    "staff.sign-in": "Notez ce numéro. La personne chargée des accès peut maintenant donner à {name} un mot de passe " +
+        "pour {staff}.",
+    "staff.no-list": "Il n’y a pas de liste du personnel. Le numéro d’un nouveau membre est montré une seule fois, à " +
+        "l’inscription ; la personne chargée des accès a la liste de ceux qui peuvent se connecter.",
 
     // a statement
     "statement.title": "Relevé du prêt {loan}",
@@ -374,11 +402,15 @@ export default {
     "refusal.F7.what": "Le produit est retiré.",
     "refusal.F7.do": "Prêtez avec un autre produit. Un produit est retiré une fois pour toutes.",
     "refusal.F8.what": "C’est hors des limites du produit, ou les parties ne s’accordent pas.",
-    "refusal.F8.do": "Un prêt doit être dans les limites de son produit. Dans un produit, le minimum ne dépasse pas le maximum, et chaque différé est inférieur au nombre minimal d’échéances. Des frais ou une pénalité qui reviennent à zéro ne sont pas saisis.",
+    "refusal.F8.do": "Un prêt doit être dans les limites de son produit. Dans un produit, le minimum ne dépasse pas " +
+        "le maximum, et chaque différé est inférieur au nombre minimal d’échéances. Des frais ou une pénalité qui " +
+        "reviennent à zéro ne sont pas saisis.",
     "refusal.F9.what": "Le statut du prêt ne le permet pas.",
-    "refusal.F9.do": "Regardez le prêt tel qu’il est maintenant : quelqu’un l’a peut-être changé. Seul un prêt actif reçoit une opération, et seul un trop-perçu une restitution.",
+    "refusal.F9.do": "Regardez le prêt tel qu’il est maintenant : quelqu’un l’a peut-être changé. Seul un prêt actif " +
+        "reçoit une opération, et seul un trop-perçu une restitution.",
     "refusal.F10.what": "Le jour ne convient pas.",
-    "refusal.F10.do": "Un prêt est décaissé du jour de son approbation au jour comptable. Un remboursement se situe du décaissement au jour comptable. Des frais sont dus le jour du décaissement ou plus tard.",
+    "refusal.F10.do": "Un prêt est décaissé du jour de son approbation au jour comptable. Un remboursement se situe " +
+        "du décaissement au jour comptable. Des frais sont dus le jour du décaissement ou plus tard.",
     "refusal.F11.what": "Le prêt est passé en perte ou restitué.",
     "refusal.F11.do": "Un chef d’agence peut d’abord annuler cette opération.",
     "refusal.F12.what": "Le prêt n’a pas d’opération de ce numéro.",
@@ -386,7 +418,8 @@ export default {
     "refusal.F13.what": "L’opération est déjà annulée.",
     "refusal.F13.do": "Il n’y a rien à faire : elle ne compte plus.",
     "refusal.F14.what": "L’échéance ne le permet pas.",
-    "refusal.F14.do": "Regardez l’échéancier et les opérations : l’échéance n’est pas en retard, ou ne doit rien de ce genre, ou a déjà une pénalité, ou le produit n’a pas de frais pour les échéances en retard.",
+    "refusal.F14.do": "Regardez l’échéancier et les opérations : l’échéance n’est pas en retard, ou ne doit rien de " +
+        "ce genre, ou a déjà une pénalité, ou le produit n’a pas de frais pour les échéances en retard.",
     "refusal.F15.what": "L’agence connaît ce reçu avec un autre prêt, montant ou jour.",
     "refusal.F15.do": "Vérifiez le reçu. Un autre paiement demande un autre reçu.",
     "refusal.F16.what": "Ce numéro d’agence est pris.",
@@ -394,9 +427,11 @@ export default {
     "refusal.F17.what": "Le jour comptable ne recule jamais.",
     "refusal.F17.do": "Choisissez un jour plus tardif que le jour présent.",
     "refusal.F18.what": "Une limite est atteinte.",
-    "refusal.F18.do": "Une agence pleine en demande une autre à côté. Six niveaux d’agences, 999 frais, 999 produits et 9 999 opérations d’un prêt sont le maximum.",
+    "refusal.F18.do": "Une agence pleine en demande une autre à côté. Six niveaux d’agences, 999 frais, 999 produits " +
+        "et 9 999 opérations d’un prêt sont le maximum.",
     "refusal.F20.what": "Le programme manque de mémoire, ou son disque est en panne.",
-    "refusal.F20.do": "Réessayez. Si cela persiste, il faut arrêter le programme, examiner le disque et le redémarrer ; vérifiez ensuite d’abord si l’opération a été faite.",
+    "refusal.F20.do": "Réessayez. Si cela persiste, il faut arrêter le programme, examiner le disque et le " +
+        "redémarrer ; vérifiez ensuite d’abord si l’opération a été faite.",
     "front.origin.what": "La demande ne vient pas des pages de ce programme.",
     "front.origin.do": "Ouvrez les pages par leur propre adresse et réessayez.",
     "front.down.what": "Le programme ne tourne pas en ce moment.",
@@ -412,9 +447,11 @@ export default {
     "front.not-done.what": "Aucune réponse. Vérification faite : l’opération n’a pas eu lieu.",
     "front.not-done.do": "Elle peut être envoyée de nouveau.",
     "front.not-known.what": "Aucune réponse, et il est impossible de vérifier si l’opération a eu lieu.",
-    "front.not-known.do": "Quand la connexion est revenue, appuyez sur le bouton : il est d’abord vérifié, et envoyé de nouveau seulement si rien n’a été fait.",
+    "front.not-known.do": "Quand la connexion est revenue, appuyez sur le bouton : il est d’abord vérifié, et envoyé " +
+        "de nouveau seulement si rien n’a été fait.",
     "front.blind.what": "Aucune réponse. Il est impossible de vérifier, puisqu’il n’y a pas de liste du personnel.",
-    "front.blind.do": "Envoyée de nouveau, la même personne peut être inscrite deux fois, sous un autre numéro. C’est sans conséquence tant qu’un seul des numéros reçoit un mot de passe.",
+    "front.blind.do": "Envoyée de nouveau, la même personne peut être inscrite deux fois, sous un autre numéro. " +
+        "C’est sans conséquence tant qu’un seul des numéros reçoit un mot de passe.",
     "front.page.what": "Quelque chose n’a pas fonctionné dans cette page.",
     "front.page.do": "Rechargez la page.",
 };

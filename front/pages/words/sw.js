@@ -132,7 +132,8 @@ export default {
     "field.name.hint": "Herufi 1 hadi 100. Haliwezi kubadilishwa baadaye.",
     "field.choice.wrong": "Chagua moja",
     "field.receipt.wrong": "Herufi, tarakimu na alama 1 hadi 40, bila nafasi wala lafudhi",
-    "field.receipt.hint": "Rejesho jingine la ofisi lisiwe na risiti hii. Acha iliyopendekezwa, au andika namba ya kitabu chako cha risiti.",
+    "field.receipt.hint": "Rejesho jingine la ofisi lisiwe na risiti hii. Acha iliyopendekezwa, au andika namba ya " +
+        "kitabu chako cha risiti.",
 
     // today
     "today.title": "Leo, {day}",
@@ -147,7 +148,8 @@ export default {
     "day.move": "Sogeza siku ya kazi",
     "day.new": "Siku mpya ya kazi",
     "day.now": "Siku ya kazi ni {day}.",
-    "day.what": "Ofisi zote zinasonga pamoja hadi siku mpya. Kinachofikia tarehe hadi hapo kinadaiwa, na kisicholipwa kinakuwa kimechelewa. Siku ya kazi hairudi nyuma kamwe.",
+    "day.what": "Ofisi zote zinasonga pamoja hadi siku mpya. Kinachofikia tarehe hadi hapo kinadaiwa, na " +
+        "kisicholipwa kinakuwa kimechelewa. Siku ya kazi hairudi nyuma kamwe.",
     "day.moved": "Siku ya kazi sasa ni {day}.",
     "day.sure": "Je, siku hii ni sahihi?",
     "day.far": "Hii inasogeza siku ya kazi kwa siku {count}, hadi {day}.",
@@ -165,7 +167,8 @@ export default {
     "clients.more": "Wa kwanza {count} wanaonyeshwa; andika jina zaidi.",
     "client.number": "Namba ya mteja",
     "client.new": "Mteja mpya",
-    "client.new.what": "Mteja anaandikishwa katika ofisi {office}, na anapata namba inayofuata hapo. Jina la mteja haliwezi kubadilishwa wala mteja kuondolewa.",
+    "client.new.what": "Mteja anaandikishwa katika ofisi {office}, na anapata namba inayofuata hapo. Jina la mteja " +
+        "haliwezi kubadilishwa wala mteja kuondolewa.",
     "client.enter": "Andikisha mteja",
     "client.entered": "Mteja {client} ameandikishwa.",
     "client.loans": "Mikopo ya mteja huyu",
@@ -204,10 +207,12 @@ export default {
 
     // what may be done with a loan
     "do.approve": "Idhinisha",
-    "do.approve.what": "Inaidhinisha mkopo {loan} wa {client} wa {amount}. Kisha unaweza kutolewa, kuanzia siku ya kazi ya leo. Hadi hapo idhini inaweza kuondolewa.",
+    "do.approve.what": "Inaidhinisha mkopo {loan} wa {client} wa {amount}. Kisha unaweza kutolewa, kuanzia siku ya " +
+        "kazi ya leo. Hadi hapo idhini inaweza kuondolewa.",
     "do.approve.done": "Mkopo {loan} umeidhinishwa.",
     "do.reject": "Kataa",
-    "do.reject.what": "Inakataa mkopo {loan} wa {client} wa {amount}. Haiwezi kutenguliwa; mkopo mpya lazima uwasilishwe.",
+    "do.reject.what": "Inakataa mkopo {loan} wa {client} wa {amount}. Haiwezi kutenguliwa; mkopo mpya lazima " +
+        "uwasilishwe.",
     "do.reject.done": "Mkopo {loan} umekataliwa.",
     "do.withdraw": "Ondoa",
     "do.withdraw.what": "Mteja anaondoa mkopo {loan} wa {amount}. Haiwezi kutenguliwa; mkopo mpya lazima uwasilishwe.",
@@ -216,16 +221,19 @@ export default {
     "do.undo-approval.what": "Mkopo {loan} wa {client} unarudi kwenye inayosubiri idhini.",
     "do.undo-approval.done": "Idhini ya mkopo {loan} imeondolewa.",
     "do.disburse": "Toa mkopo",
-    "do.disburse.what": "Inatoa {amount} kwa {client}. Ratiba ya mkopo {loan} inaanza siku hii. Mkopo uliotolewa unabaki hivyo.",
+    "do.disburse.what": "Inatoa {amount} kwa {client}. Ratiba ya mkopo {loan} inaanza siku hii. Mkopo uliotolewa " +
+        "unabaki hivyo.",
     "do.disburse.hint": "Kuanzia siku ya idhini hadi siku ya kazi",
     "do.disburse.done": "Mkopo {loan} umetolewa.",
     "do.repayment": "Ingiza rejesho",
-    "do.repayment.what": "Inaingiza alichokilipa {client} kwa mkopo {loan}. Kinacholipiwa hufuata mpangilio wa malipo wa bidhaa; kinachozidi deni lote kinahifadhiwa kama kilichozidi.",
+    "do.repayment.what": "Inaingiza alichokilipa {client} kwa mkopo {loan}. Kinacholipiwa hufuata mpangilio wa " +
+        "malipo wa bidhaa; kinachozidi deni lote kinahifadhiwa kama kilichozidi.",
     "do.repayment.hint": "Kinachodaiwa hadi leo: {due}. Deni lote: {owed}.",
     "do.repayment.day": "Kililipwa",
     "do.repayment.done": "Rejesho la mkopo {loan} limeingizwa.",
     "do.fee": "Ingiza ada",
-    "do.fee.what": "Inaongeza ada kwa mkopo {loan} wa {client}. Inawekwa kwenye awamu ya kwanza inayodaiwa siku hiyo au baadaye.",
+    "do.fee.what": "Inaongeza ada kwa mkopo {loan} wa {client}. Inawekwa kwenye awamu ya kwanza inayodaiwa siku hiyo " +
+        "au baadaye.",
     "do.fee.due": "Inadaiwa",
     "do.fee.hint": "Siku ya kutoa mkopo au baadaye",
     "do.fee.none": "Katalogi haina tozo ya siku maalumu.",
@@ -236,18 +244,23 @@ export default {
     "do.penalty.no-charge": "Bidhaa ya mkopo huu haina tozo ya awamu zilizochelewa.",
     "do.penalty.done": "Faini ya mkopo {loan} imeingizwa.",
     "do.waiver": "Samehe",
-    "do.waiver.what": "{client} hadaiwi tena kilichobaki cha riba, ada au faini iliyochaguliwa ya mkopo {loan}. Mtaji hausamehewi kamwe.",
+    "do.waiver.what": "{client} hadaiwi tena kilichobaki cha riba, ada au faini iliyochaguliwa ya mkopo {loan}. " +
+        "Mtaji hausamehewi kamwe.",
     "do.waiver.choose": "Kinachosamehewa",
     "do.waiver.none": "Hakuna riba, ada wala faini iliyobaki.",
     "do.waiver.done": "Msamaha wa mkopo {loan} umeingizwa.",
     "do.write-off": "Futa deni",
-    "do.write-off.what": "Inaachilia {amount}, yote yaliyobaki ya mkopo {loan} wa {client}. Mkopo haupokei ingizo hadi ufutaji ubatilishwe.",
+    "do.write-off.what": "Inaachilia {amount}, yote yaliyobaki ya mkopo {loan} wa {client}. Mkopo haupokei ingizo " +
+        "hadi ufutaji ubatilishwe.",
     "do.write-off.done": "Mkopo {loan} umefutwa.",
     "do.refund": "Rudisha",
-    "do.refund.what": "Inarudisha {amount} kwa {client}, yote yaliyolipwa zaidi ya mkopo {loan}. Mkopo haupokei ingizo hadi urudishaji ubatilishwe.",
+    "do.refund.what": "Inarudisha {amount} kwa {client}, yote yaliyolipwa zaidi ya mkopo {loan}. Mkopo haupokei " +
+        "ingizo hadi urudishaji ubatilishwe.",
     "do.refund.done": "Kilicholipwa zaidi cha mkopo {loan} kimerudishwa.",
     "do.reverse": "Batilisha ingizo",
-    "do.reverse.what": "Ingizo {number} la mkopo {loan} ({kind}, {amount}, {day}) halihesabiwi tena, na kinacholipiwa na maingizo ya baadaye kinakokotolewa upya. Ubatilishaji hautenguliwi: ingiza kilicho sahihi kama ingizo jipya.",
+    "do.reverse.what": "Ingizo {number} la mkopo {loan} ({kind}, {amount}, {day}) halihesabiwi tena, na " +
+        "kinacholipiwa na maingizo ya baadaye kinakokotolewa upya. Ubatilishaji hautenguliwi: ingiza kilicho sahihi " +
+        "kama ingizo jipya.",
     "do.reverse.done": "Ingizo la mkopo {loan} limebatilishwa.",
 
     // a round of collections
@@ -265,9 +278,12 @@ export default {
     "round.send-again": "Tuma tena yote {count}",
     "round.new": "Anza mzunguko mpya",
     "round.new.what": "Mistari inapata risiti mpya, ili malipo mengine ya siku hii yaweze kuingizwa.",
-    "round.new.open": "Mistari {count} bado haijaingizwa. Kilichoandikwa humo kitapotea. Kama mmoja ulitumwa na jibu likapotea, tuma mzunguko tena badala yake: risiti mpya inaweza kuuingiza mara mbili.",
-    "round.early": "Siku ya kazi ni {day}. Mzunguko huu unaweza kuchapishwa au kuhifadhiwa, na kuingizwa siku yake ikifika.",
-    "round.stopped": "Muunganisho umepotea. Kilichowekwa alama kuwa kimeingizwa kimeingia; mistari inayofuata haikutumwa. Tuma mzunguko tena: hakuna kinachoingizwa mara mbili.",
+    "round.new.open": "Mistari {count} bado haijaingizwa. Kilichoandikwa humo kitapotea. Kama mmoja ulitumwa na jibu " +
+        "likapotea, tuma mzunguko tena badala yake: risiti mpya inaweza kuuingiza mara mbili.",
+    "round.early": "Siku ya kazi ni {day}. Mzunguko huu unaweza kuchapishwa au kuhifadhiwa, na kuingizwa siku yake " +
+        "ikifika.",
+    "round.stopped": "Muunganisho umepotea. Kilichowekwa alama kuwa kimeingizwa kimeingia; mistari inayofuata " +
+        "haikutumwa. Tuma mzunguko tena: hakuna kinachoingizwa mara mbili.",
     "round.sum": "Kinachodaiwa {due} · kilichoandikwa {typed} {results}",
     "tally.entered": "{count} yameingizwa",
     "tally.repeated": "{count} yamerudiwa",
@@ -277,7 +293,8 @@ export default {
     "result.repeated": "limerudiwa: lilikuwa limeingizwa",
     "result.lost": "hakuna jibu: tuma tena",
     "sheet.title": "Karatasi kutoka diski",
-    "sheet.what": "Faili la CSV lenye safu receipt, loan, date, amount, kama ukurasa huu unavyohifadhi. Kiasi huandikwa 1234.50, siku 2024-02-29.",
+    "sheet.what": "Faili la CSV lenye safu receipt, loan, date, amount, kama ukurasa huu unavyohifadhi. Kiasi " +
+        "huandikwa 1234.50, siku 2024-02-29.",
     "sheet.choose": "Chagua karatasi",
     "sheet.large": "Karatasi ina zaidi ya baiti 1,048,576. Itume kwa sehemu.",
     "sheet.empty": "Karatasi haina mstari.",
@@ -286,7 +303,8 @@ export default {
 
     // arrears
     "arrears.title": "Malimbikizo tarehe {day}",
-    "arrears.what": "Mtaji uliobaki wa mikopo hai, kwa siku ambazo awamu ya kwanza isiyolipwa imechelewa. Mstari wa kila ofisi unahesabu mikopo yake yenyewe.",
+    "arrears.what": "Mtaji uliobaki wa mikopo hai, kwa siku ambazo awamu ya kwanza isiyolipwa imechelewa. Mstari wa " +
+        "kila ofisi unahesabu mikopo yake yenyewe.",
     "arrears.graph": "Mtaji uliobaki kwa ofisi na daraja",
     "arrears.table": "Ripoti ya malimbikizo",
     "arrears.office": "Malimbikizo ya {office}",
@@ -306,13 +324,15 @@ export default {
     "charge.value": "Kiasi au asilimia",
     "charge.value.hint": "Kiasi maalumu kuanzia {least} hadi {most}, asilimia kuanzia {least} hadi {percent}",
     "product.new": "Bidhaa mpya",
-    "product.new.what": "Ofisi zote hukopesha kwa bidhaa za katalogi. Bidhaa haiwezi kubadilishwa baadaye, inaweza tu kustaafishwa.",
+    "product.new.what": "Ofisi zote hukopesha kwa bidhaa za katalogi. Bidhaa haiwezi kubadilishwa baadaye, inaweza " +
+        "tu kustaafishwa.",
     "product.enter": "Ingiza bidhaa",
     "product.entered": "Bidhaa imeingizwa.",
     "product.retired": "imestaafishwa",
     "product.retire": "Staafisha",
     "product.retire.name": "Staafisha {product}",
-    "product.retire.what": "Hakuna mkopo mpya utakaowasilishwa kwa {product}. Mikopo yake inaendelea kama ilivyo. Haiwezi kutenguliwa.",
+    "product.retire.what": "Hakuna mkopo mpya utakaowasilishwa kwa {product}. Mikopo yake inaendelea kama ilivyo. " +
+        "Haiwezi kutenguliwa.",
     "product.retired.done": "Bidhaa imestaafishwa.",
     "product.step": "Awamu",
     "product.amounts": "Viasi",
@@ -336,18 +356,21 @@ export default {
     // offices and staff
     "people.title": "Ofisi na wafanyakazi",
     "office.new": "Ofisi mpya",
-    "office.new.what": "Inafungua ofisi chini ya nyingine. Haiwezi kuhamishwa, kubadilishwa jina wala kufungwa baadaye.",
+    "office.new.what": "Inafungua ofisi chini ya nyingine. Haiwezi kuhamishwa, kubadilishwa jina wala kufungwa " +
+        "baadaye.",
     "office.number": "Namba ya ofisi",
     "office.parent": "Chini ya",
     "office.parent.hint": "Ngazi sita kwa wingi, makao makuu ikiwa ya kwanza",
     "office.open": "Fungua ofisi",
     "office.opened": "Ofisi imefunguliwa.",
     "staff.new": "Mfanyakazi mpya",
-    "staff.new.what": "Inaandikisha anayefanya kazi katika ofisi. Jina na wadhifa haviwezi kubadilishwa baadaye, na hakuna anayeweza kuondolewa.",
+    "staff.new.what": "Inaandikisha anayefanya kazi katika ofisi. Jina na wadhifa haviwezi kubadilishwa baadaye, na " +
+        "hakuna anayeweza kuondolewa.",
     "staff.enter": "Andikisha",
     "staff.entered": "{name} ameandikishwa kama {staff}.",
     "staff.sign-in": "Andika namba hii. Anayetunza nywila sasa anaweza kumpa {name} nywila ya {staff}.",
-    "staff.no-list": "Hakuna orodha ya wafanyakazi. Namba ya mfanyakazi mpya huonyeshwa mara moja, anapoandikishwa; anayetunza nywila ana orodha ya wanaoweza kuingia.",
+    "staff.no-list": "Hakuna orodha ya wafanyakazi. Namba ya mfanyakazi mpya huonyeshwa mara moja, anapoandikishwa; " +
+        "anayetunza nywila ana orodha ya wanaoweza kuingia.",
 
     // a statement
     "statement.title": "Taarifa ya mkopo {loan}",
@@ -374,11 +397,14 @@ export default {
     "refusal.F7.what": "Bidhaa imestaafishwa.",
     "refusal.F7.do": "Kopesha kwa bidhaa nyingine. Bidhaa hustaafishwa mara moja kwa daima.",
     "refusal.F8.what": "Iko nje ya mipaka ya bidhaa, au sehemu hazipatani.",
-    "refusal.F8.do": "Mkopo lazima uwe ndani ya mipaka ya bidhaa yake. Katika bidhaa, kidogo kabisa kisizidi kikubwa kabisa, na kila muda wa neema uwe chini ya awamu chache kabisa. Ada au faini inayofikia sifuri haiingizwi.",
+    "refusal.F8.do": "Mkopo lazima uwe ndani ya mipaka ya bidhaa yake. Katika bidhaa, kidogo kabisa kisizidi kikubwa " +
+        "kabisa, na kila muda wa neema uwe chini ya awamu chache kabisa. Ada au faini inayofikia sifuri haiingizwi.",
     "refusal.F9.what": "Hali ya mkopo hairuhusu hili.",
-    "refusal.F9.do": "Angalia mkopo ulivyo sasa: huenda mtu ameubadilisha. Mkopo hai tu hupokea ingizo, na uliolipwa zaidi tu hurudishiwa.",
+    "refusal.F9.do": "Angalia mkopo ulivyo sasa: huenda mtu ameubadilisha. Mkopo hai tu hupokea ingizo, na uliolipwa " +
+        "zaidi tu hurudishiwa.",
     "refusal.F10.what": "Siku haifai.",
-    "refusal.F10.do": "Mkopo hutolewa kuanzia siku ya idhini hadi siku ya kazi. Rejesho huwa kuanzia kutolewa kwa mkopo hadi siku ya kazi. Ada hudaiwa siku ya kutoa mkopo au baadaye.",
+    "refusal.F10.do": "Mkopo hutolewa kuanzia siku ya idhini hadi siku ya kazi. Rejesho huwa kuanzia kutolewa kwa " +
+        "mkopo hadi siku ya kazi. Ada hudaiwa siku ya kutoa mkopo au baadaye.",
     "refusal.F11.what": "Mkopo umefutwa au umerudishiwa.",
     "refusal.F11.do": "Meneja anaweza kubatilisha ingizo hilo kwanza.",
     "refusal.F12.what": "Mkopo hauna ingizo lenye namba hii.",
@@ -386,7 +412,8 @@ export default {
     "refusal.F13.what": "Ingizo limeshabatilishwa.",
     "refusal.F13.do": "Hakuna la kufanya: halihesabiwi tena.",
     "refusal.F14.what": "Awamu hairuhusu hili.",
-    "refusal.F14.do": "Angalia ratiba na maingizo ya mkopo: awamu haijachelewa, au haidaiwi kitu cha aina hiyo, au ina faini tayari, au bidhaa haina tozo ya awamu zilizochelewa.",
+    "refusal.F14.do": "Angalia ratiba na maingizo ya mkopo: awamu haijachelewa, au haidaiwi kitu cha aina hiyo, au " +
+        "ina faini tayari, au bidhaa haina tozo ya awamu zilizochelewa.",
     "refusal.F15.what": "Ofisi inayo risiti hii kwa mkopo, kiasi au siku nyingine.",
     "refusal.F15.do": "Angalia risiti. Malipo mengine yanahitaji risiti yake.",
     "refusal.F16.what": "Namba ya ofisi imeshachukuliwa.",
@@ -394,9 +421,11 @@ export default {
     "refusal.F17.what": "Siku ya kazi hairudi nyuma kamwe.",
     "refusal.F17.do": "Chagua siku ya baadaye kuliko ya sasa.",
     "refusal.F18.what": "Kikomo kimefikiwa.",
-    "refusal.F18.do": "Ofisi iliyojaa inahitaji nyingine kando yake. Kikomo ni ngazi sita za ofisi, tozo 999, bidhaa 999 na maingizo 9,999 ya mkopo.",
+    "refusal.F18.do": "Ofisi iliyojaa inahitaji nyingine kando yake. Kikomo ni ngazi sita za ofisi, tozo 999, bidhaa " +
+        "999 na maingizo 9,999 ya mkopo.",
     "refusal.F20.what": "Programu imeishiwa kumbukumbu, au diski yake imeharibika.",
-    "refusal.F20.do": "Jaribu tena. Ikiendelea, programu lazima isimamishwe, diski ikaguliwe, na ianzishwe tena; kisha angalia kwanza kama lilifanyika.",
+    "refusal.F20.do": "Jaribu tena. Ikiendelea, programu lazima isimamishwe, diski ikaguliwe, na ianzishwe tena; " +
+        "kisha angalia kwanza kama lilifanyika.",
     "front.origin.what": "Ombi halikutoka kwenye kurasa za programu hii.",
     "front.origin.do": "Fungua kurasa kwa anwani yake na ujaribu tena.",
     "front.down.what": "Programu haifanyi kazi kwa sasa.",
@@ -412,9 +441,11 @@ export default {
     "front.not-done.what": "Hakuna jibu. Imeangaliwa: halikufanyika.",
     "front.not-done.do": "Linaweza kutumwa tena.",
     "front.not-known.what": "Hakuna jibu, na haiwezekani kuangalia kama lilifanyika.",
-    "front.not-known.do": "Muunganisho ukirudi, bonyeza kitufe: huangaliwa kwanza, na kutumwa tena tu kama halikufanyika.",
+    "front.not-known.do": "Muunganisho ukirudi, bonyeza kitufe: huangaliwa kwanza, na kutumwa tena tu kama " +
+        "halikufanyika.",
     "front.blind.what": "Hakuna jibu. Haiwezekani kuangalia kama lilifanyika, kwa kuwa hakuna orodha ya wafanyakazi.",
-    "front.blind.do": "Likitumwa tena, mtu huyohuyo anaweza kuandikishwa mara ya pili, kwa namba nyingine. Haina madhara mradi namba moja tu ipate nywila.",
+    "front.blind.do": "Likitumwa tena, mtu huyohuyo anaweza kuandikishwa mara ya pili, kwa namba nyingine. Haina " +
+        "madhara mradi namba moja tu ipate nywila.",
     "front.page.what": "Kuna hitilafu katika ukurasa huu.",
     "front.page.do": "Pakia ukurasa tena.",
 };
