@@ -1,5 +1,6 @@
 // The frame of all pages: who is signed in, the way to each page, and which page the address names.
 import {button, element, fill, link, spinner} from "./shared/elements.js";
+import {leavePage} from "./shared/api.js";
 import {beginSession, session, HEAD_OFFICE, MANAGER, OFFICER, TELLER} from "./shared/session.js";
 import {showRefusal} from "./shared/refusals.js";
 import {officeNamed} from "./shared/desk.js";
@@ -46,6 +47,7 @@ function place() {
 let shown = null;
 
 async function showPage() {
+    leavePage();
     const {name, rest} = place();
     const page = element("div", {class: `page page-${name}`}, spinner(say("loading")));
     fill(main, page);
@@ -65,6 +67,13 @@ async function showPage() {
         if (!isFirst && title && !page.contains(document.activeElement)) {
             title.focus({preventScroll: true});
         }
+    }
+}
+
+// The way to the page that is shown shows it anew.
+function showAgain(event) {
+    if (event.currentTarget.hash === location.hash) {
+        showPage();
     }
 }
 
@@ -88,70 +97,70 @@ function languageChoice() {
     const select = element(
         "select", {class: "form-select form-select-sm", id: "language", onchange: () => chooseLanguage(select.value)},
         options);
-    return [element("label", { class: "visually-hidden", for: "language" }, say("language")), select];
+    return [element("label", {class: "visually-hidden", "for": "language"}, say("language")), select];
 }
 
 function person(officeName) {
-        return element(
-            "div", {class: "person"}, element("div", {}, `${session.user} · ${say(`role.${ROLES[session.rank]}`)}`),
-            element("div", {class: "person-office"}, `${session.staff} ${officeName}`));
+    return element(
+        "div", {class: "person"}, element("div", {}, `${session.user} · ${say(`role.${ROLES[session.rank]}`)}`),
+        element("div", {class: "person-office"}, `${session.staff} ${officeName}`));
 }
 
 function topBar(officeName) {
-        const ways = WAYS.map(
-            ([name]) => element(
-                "li", {class: "nav-item"},
-                link(`#/${name}`, say(`way.${name}`), {class: "nav-link", "data-way": name})));
-        const toggler = element(
-            "button", {
-                class: "navbar-toggler",
-                type: "button",
-                "data-bs-toggle": "collapse",
-                "data-bs-target": "#menu",
-                "aria-controls": "menu",
-                "aria-expanded": "false",
-                "aria-label": say("menu"),
-            },
-            element("span", {class: "navbar-toggler-icon"}));
-        const day = element(
-            "span", {class: "business-day", id: "business-day", title: say("business-day")},
-            element("span", {class: "visually-hidden"}, `${say("business-day")} `),
-            element("span", {id: "day-shown"}, showDay(session.day)));
-        const inner = element(
-            "div", {class: "collapse navbar-collapse", id: "menu"},
-            element("ul", {class: "navbar-nav me-auto", id: "ways"}, ways),
-            element("div", {class: "bar-end"}, person(officeName), languageChoice()));
-        return element(
-            "header", {class: "bar d-print-none"},
-            element(
-                "nav", {class: "navbar navbar-expand-lg navbar-dark container-xl", "aria-label": say("ways")},
-                link("#/today", "microloan", {class: "navbar-brand"}), day, toggler, inner));
+    const ways = WAYS.map(
+        ([name]) => element(
+            "li", {class: "nav-item"},
+            link(`#/${name}`, say(`way.${name}`), {class: "nav-link", "data-way": name, onclick: showAgain})));
+    const toggler = element(
+        "button", {
+            class: "navbar-toggler",
+            type: "button",
+            "data-bs-toggle": "collapse",
+            "data-bs-target": "#menu",
+            "aria-controls": "menu",
+            "aria-expanded": "false",
+            "aria-label": say("menu"),
+        },
+        element("span", {class: "navbar-toggler-icon"}));
+    const day = element(
+        "span", {class: "business-day", id: "business-day", title: say("business-day")},
+        element("span", {class: "visually-hidden"}, `${say("business-day")} `),
+        element("span", {id: "day-shown"}, showDay(session.day)));
+    const inner = element(
+        "div", {class: "collapse navbar-collapse", id: "menu"},
+        element("ul", {class: "navbar-nav me-auto", id: "ways"}, ways),
+        element("div", {class: "bar-end"}, person(officeName), languageChoice()));
+    return element(
+        "header", {class: "bar d-print-none"},
+        element(
+            "nav", {class: "navbar navbar-expand-lg navbar-dark container-xl", "aria-label": say("ways")},
+            link("#/today", "microloan", {class: "navbar-brand"}), day, toggler, inner));
 }
 
 export function showNewDay() {
-        document.getElementById("day-shown").textContent = showDay(session.day);
+    document.getElementById("day-shown").textContent = showDay(session.day);
 }
 
 function skipLink() {
-        const skip = () => main.focus();
-        return button(say("skip"), skip, {class: "btn btn-primary skip-link"});
+    const skip = () => main.focus();
+    return button(say("skip"), skip, {class: "btn btn-primary skip-link"});
 }
 
 async function begin() {
-        const desk = document.getElementById("desk");
-        document.documentElement.lang = language;
-        fill(desk, element("div", {class: "container py-5"}, spinner(say("loading"))));
-        try {
-            await beginSession();
-            const own = await officeNamed(session.office);
-            fill(desk, skipLink(), topBar(own?.name ?? ""), main);
-            document.documentElement.dataset.locale = locale;
-            window.addEventListener("hashchange", showPage);
-            window.addEventListener("desk-day", showNewDay);
-            await showPage();
-        } catch (problem) {
-            showRefusal(fill(desk, element("div", {class: "container py-5"})).firstChild, problem, begin);
-        }
+    const desk = document.getElementById("desk");
+    document.documentElement.lang = language;
+    fill(desk, element("div", {class: "container py-5"}, spinner(say("loading"))));
+    try {
+        await beginSession();
+        const own = await officeNamed(session.office);
+        fill(desk, skipLink(), topBar(own?.name ?? ""), main);
+        document.documentElement.dataset.locale = locale;
+        window.addEventListener("hashchange", showPage);
+        window.addEventListener("desk-day", showNewDay);
+        await showPage();
+    } catch (problem) {
+        showRefusal(fill(desk, element("div", {class: "container py-5"})).firstChild, problem, begin);
+    }
 }
 
 begin();

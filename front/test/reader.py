@@ -32,7 +32,7 @@ def quit_all():
 
 
 def take_browser(language, url):
-    """A browser in which nobody is signed in at this address: one that is free, since each takes seconds to start, or a new one."""
+    """A browser in which nobody is signed in at this address: a free one, since starting one takes seconds, or a new one."""
     for place, (driver, spoken, urls) in enumerate(FREE):
         if spoken == language and url not in urls:
             del FREE[place]
@@ -65,7 +65,12 @@ class Reader:
     # pages
 
     def go(self, place):
-        self.driver.get(f"{self.desk.url}/#/{place}")
+        """Shows a page, anew where it is the one that is shown."""
+        address = f"{self.desk.url}/#/{place}"
+        if self.driver.current_url == address:
+            self.driver.refresh()
+        else:
+            self.driver.get(address)
         self.settle()
 
     def reload(self):
@@ -103,8 +108,8 @@ class Reader:
 
     def module(self, text):
         """What an asynchronous script answers, which may import modules of the pages."""
-        whole = f"const done = arguments[arguments.length - 1]; (async () => {{ {text} }})().then(done, (e) => done(String(e)))"
-        return self.driver.execute_async_script(whole)
+        begin = "const done = arguments[arguments.length - 1]; (async () => {"
+        return self.driver.execute_async_script(f"{begin} {text} }})().then(done, (error) => done(String(error)))")
 
     # what stands there
 
@@ -132,7 +137,8 @@ class Reader:
     def table(self, caption):
         """The rows of a table's body, each as its columns' words and what stands below them."""
         return self.script(
-            "const table = [...document.querySelectorAll('table')].find((one) => one.caption?.textContent === arguments[0]);"
+            "const tables = [...document.querySelectorAll('table')];"
+            "const table = tables.find((one) => one.caption?.textContent === arguments[0]);"
             "return table && [...table.tBodies[0].rows].map((row) => Object.fromEntries("
             "[...row.cells].map((cell) => [cell.dataset.words, cell.innerText.trim()])))",
             caption,

@@ -41,9 +41,10 @@ MAY = {"tom": TELLER, "zoe": OFFICER, "paulo": MANAGER, "ruth": MANAGER, "amina"
 ALWAYS = {"statement/0021-000028": {"Print"}, "round/21": {"Print", "Save as a sheet"}, "arrears": {"Print"}}
 ROLES = {"tom": "Teller", "zoe": "Loan officer", "paulo": "Manager", "ruth": "Manager", "amina": "Head office"}
 
-# every text that is seen has at least this contrast with what lies behind it (WCAG 2.1 AA: 4.5, and 3 where it is large)
+# the texts that have too little contrast with what lies behind them (WCAG 2.1 AA: 4.5, and 3 where they are large)
 CONTRAST = """
-const light = (c) => { const l = c.map((v) => { v /= 255; return v <= .03928 ? v / 12.92 : ((v + .055) / 1.055) ** 2.4; });
+const linear = (v) => v / 255 <= .03928 ? v / 255 / 12.92 : ((v / 255 + .055) / 1.055) ** 2.4;
+const light = (c) => { const l = c.map(linear);
     return .2126 * l[0] + .7152 * l[1] + .0722 * l[2]; };
 const read = (text) => { const n = text.match(/[\\d.]+/g).map(Number); return [n.slice(0, 3), n[3] ?? 1]; };
 const over = (top, share, under) => top.map((v, i) => v * share + under[i] * (1 - share));
@@ -58,8 +59,9 @@ for (const node of document.querySelectorAll('body *')) {
     const style = getComputedStyle(node); const behind = ground(node);
     const [c, share] = read(style.color); const text = over(c, share, behind);
     const [a, b] = [light(text), light(behind)].sort((x, y) => y - x); const ratio = (a + .05) / (b + .05);
-    const size = parseFloat(style.fontSize); const isLarge = size >= 24 || (size >= 18.66 && Number(style.fontWeight) >= 700);
-    if (ratio < (isLarge ? 3 : 4.5)) poor.push(`${ratio.toFixed(2)} ${node.className} ${node.textContent.trim().slice(0, 40)}`);
+    const size = parseFloat(style.fontSize);
+    const isLarge = size >= 24 || (size >= 18.66 && Number(style.fontWeight) >= 700);
+    if (ratio < (isLarge ? 3 : 4.5)) poor.push(`${ratio.toFixed(2)} ${node.className} ${node.textContent.trim()}`);
 }
 return poor;
 """
@@ -68,10 +70,14 @@ return poor;
 NAMELESS = """
 return [...document.querySelectorAll('input, select, button, a[href]')].filter((node) => {
     const label = node.id && document.querySelector(`label[for="${node.id}"]`);
-    const words = (node.getAttribute('aria-label') ?? '') + (label?.textContent ?? '') + (/INPUT|SELECT/.test(node.tagName) ? '' : node.textContent);
+    const own = /INPUT|SELECT/.test(node.tagName) ? '' : node.textContent;
+    const words = (node.getAttribute('aria-label') ?? '') + (label?.textContent ?? '') + own;
     return words.trim() === '' && getComputedStyle(node).display !== 'none';
 }).map((node) => node.outerHTML.slice(0, 120));
 """
+
+# all that the page has loaded
+LOADED = "return performance.getEntriesByType('resource').map((one) => one.name)"
 
 
 def setUpModule():
@@ -99,6 +105,8 @@ class EachPage(unittest.TestCase):
         is_manager = MAY[name] in (MANAGER, HEAD_OFFICE)
         self.assertEqual(reversals, 3 if is_manager and place.startswith("loan/") else 0, place)
         self.assertEqual(it.errors(), [], place)
+        foreign = [one for one in it.script(LOADED) if not one.startswith(DESK.url + "/")]
+        self.assertEqual(foreign, [], "loaded from elsewhere")
 
     def look_at_all(self, name):
         it = reader.Reader(DESK, name)
@@ -156,7 +164,8 @@ class Languages(unittest.TestCase):
         # words in English, amounts as the German reader writes them
         self.assertIn("21.919,75", it.text("main"))
         it.script(
-            "const choice = document.getElementById('language'); choice.value = 'fr'; choice.dispatchEvent(new Event('change'))"
+            "const choice = document.getElementById('language'); choice.value = 'fr';"
+            "choice.dispatchEvent(new Event('change'))"
         )
         it.wait(lambda: it.title() == "Impayés de 21 Kisumu", "French")
         it.reload()
@@ -169,7 +178,8 @@ class Languages(unittest.TestCase):
         it = reader.Reader(DESK, "tom")
         words = json.loads(
             it.module(
-                "const all = {}; for (const name of ['en', 'fr', 'es', 'sw']) all[name] = (await import(`/words/${name}.js`)).default;"
+                "const all = {}; for (const name of ['en', 'fr', 'es', 'sw'])"
+                " all[name] = (await import(`/words/${name}.js`)).default;"
                 "return JSON.stringify(all)"
             )
         )
@@ -241,7 +251,8 @@ class Money(unittest.TestCase):
     def parsed(self, locale, texts):
         return self.it.module(
             f"const {{ moneyFor }} = await import('/shared/money.js'); const money = moneyFor({json.dumps(locale)});"
-            f"return {json.dumps(list(texts))}.map((text) => money.parse(text)).map((cents) => cents === null ? null : Number(cents))"
+            f"return {json.dumps(list(texts))}.map((text) => money.parse(text))"
+            ".map((cents) => cents === null ? null : Number(cents))"
         )
 
     def test_typed(self):
@@ -253,15 +264,18 @@ class Money(unittest.TestCase):
         for locale, text in self.SHOWN.items():
             with self.subTest(locale):
                 shown = self.it.module(
-                    f"const {{ moneyFor }} = await import('/shared/money.js'); return moneyFor({json.dumps(locale)}).format(1000000000005n)"
+                    "const { moneyFor } = await import('/shared/money.js');"
+                    f"return moneyFor({json.dumps(locale)}).format(1000000000005n)"
                 )
                 self.assertIn(shown, text if isinstance(text, tuple) else (text,))
 
     def test_more_than_a_number_holds(self):
         """2^53 + 1 cents, and sums past it, keep their last digit."""
         shown = self.it.module(
-            "const { moneyFor, sum } = await import('/shared/money.js'); const { readJson } = await import('/shared/api.js');"
-            'const told = readJson(\'{"a":9007199254740993,"b":"9007199254740993 \\\\" 12","c":[1,9007199254740993]}\');'
+            "const { moneyFor, sum } = await import('/shared/money.js');"
+            "const { readJson } = await import('/shared/api.js');"
+            'const told = readJson(\'{"a":9007199254740993,"b":"9007199254740993 \\\\" 12",'
+            '"c":[1,9007199254740993]}\');'
             "return [moneyFor('en').format(told.a), told.b, moneyFor('en').format(sum(told.c))]"
         )
         self.assertEqual(shown, ["90,071,992,547,409.93", '9007199254740993 " 12', "90,071,992,547,409.94"])

@@ -1,5 +1,5 @@
-"""A loan's way through the pages, by the people of an office. The amounts are worked out by hand for one loan: 1,000.00 at
-12 percent a year over three months from 2024-01-31."""
+"""A loan's way through the pages, by the people of an office. The amounts are worked out by hand for one loan: 1,000.00
+at 12 percent a year over three months from 2024-01-31."""
 import contextlib
 import time
 import unittest
@@ -8,8 +8,9 @@ import desk
 import reader
 
 PRODUCT = (
-    b'1/1 POST /products {"name":"Harvest","method":"declining-equal-principal","rate":1200,"frequency":"months","every":1,'
-    b'"principal_grace":0,"interest_grace":0,"min_principal":1,"max_principal":1000000,"min_periods":1,"max_periods":12,'
+    b'1/1 POST /products {"name":"Harvest","method":"declining-equal-principal","rate":1200,"frequency":"months",'
+    b'"every":1,"principal_grace":0,"interest_grace":0,"min_principal":1,"max_principal":1000000,"min_periods":1,'
+    b'"max_periods":12,'
     b'"strategy":"mifos-standard-strategy","overdue_charge":2}\n'
 )
 # office 2 with a manager 2/1, an officer 2/2 and a teller 2/3, on 2024-01-31
@@ -74,7 +75,7 @@ def entries(it):
 
 class Way(Case):
     def test_from_submission_to_the_last_repayment(self):
-        """An officer submits, a manager approves and pays out, head office moves the day, a teller takes three repayments."""
+        """An officer submits, a manager approves and pays out, head office moves the day, a teller takes repayments."""
         with desk_with(LINES) as it:
             self.submit(it)
             self.decide(it)
@@ -142,6 +143,33 @@ class Way(Case):
         )
         self.assertEqual(ruth.errors(), [])
 
+    def test_how_far_the_day_moves(self):
+        """Up to a week at once, up to 31 days after a second question, further once the day was typed again."""
+        with desk_with(LINES) as it:
+            head = self.reader(it, "head")
+            for day, asked, typed in (
+                ("2024-02-07", False, False),
+                ("2024-02-15", True, False),
+                ("2024-03-17", True, False),
+                ("2024-04-18", True, True),
+            ):
+                with self.subTest(day):
+                    head.go("today")
+                    head.open_dialog("Move the business day")
+                    head.fill("New business day", day)
+                    head.press("Move the business day", ".modal")
+                    if asked:
+                        head.wait(lambda: "Is this day right?" in head.text(".modal.show"), "the second question")
+                        time.sleep(0.4)
+                        self.assertEqual(len(head.all(".modal input")), 1 if typed else 0)
+                        head.cancel()
+                        self.assertNotEqual(it.send("head", "GET", "/api/business-day")[1], {"day": day})
+                        it.send("head", "PUT", "/api/business-day", {"day": day})
+                    else:
+                        head.wait(lambda: not head.all(".modal"), "the end of the dialog")
+                        head.settle()
+                    self.assertEqual(it.send("head", "GET", "/api/business-day")[1], {"day": day})
+
     def move_day(self, it):
         """60 days are asked again, and the day has to be typed twice."""
         head = self.reader(it, "head")
@@ -182,7 +210,7 @@ class Way(Case):
     def pay_back(self, it):
         tom = self.reader(it, "tom")
         tom.go(LOAN)
-        self.assertIn("31 days overdue · 343.33 is overdue.", tom.text(".alert"))
+        self.assertIn("31 days overdue · 343.33 in arrears", tom.text(".alert"))
         self.repay(tom, "200.00", "2024-02-29", "N-1")
         self.repay(tom, "500", "2024-03-31", "N-2")
         self.assertEqual(
@@ -285,7 +313,7 @@ class Corrections(Case):
             self.assertEqual(ruth.errors(), [])
 
     def test_fee_penalty_waiver(self):
-        """A tenth of 333.33 and 10.00 is 34.333: a penalty of 34.33. It is waived, and so is the interest of the second."""
+        """A tenth of 333.33 and 10.00 is 34.333: a penalty of 34.33, which is then waived."""
         with desk_with(PAID_OUT) as it:
             ruth = self.reader(it, "ruth", width=360)
             ruth.go(LOAN)
@@ -318,7 +346,7 @@ class Corrections(Case):
 
 
 class Lost(Case):
-    """Replies and requests that are lost. The page's own fetch is wrapped: the next writing loses its reply, or never leaves."""
+    """The page's own fetch is wrapped: the next writing loses its reply, or never leaves."""
 
     LOSE = """
     const real = window.fetch;

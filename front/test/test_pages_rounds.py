@@ -44,7 +44,7 @@ class Rounds(loans.Case):
         tom.settle()
 
     def test_sent_twice(self):
-        """A round of forty is entered, sent again, after the page was loaded anew too, and from a second browser: each once."""
+        """A round is entered, sent again, after the page was loaded anew too, and from a second browser: each once."""
         with loans.desk_with(FORTY) as it:
             tom = self.reader(it, "tom")
             tom.go("round/2/2024-02-29")
@@ -113,7 +113,7 @@ class Rounds(loans.Case):
             tom.go("round/2/2024-03-31")
             for amount in ("10", "20"):
                 tom.all(".paid-field")[0].send_keys(amount)
-                self.whole_round(tom, "Enter 1 repayments", {"entered": 1})
+                self.whole_round(tom, "Enter 1 repayment", {"entered": 1})
                 self.assertFalse(tom.all(".paid-field")[0].get_attribute("readonly") is None)
                 tom.open_dialog("Begin a new round")
                 tom.send("Begin a new round")
@@ -220,11 +220,13 @@ class Many(loans.Case):
             zoe.settle()
             zoe.script(
                 "window.most = 0; window.now = 0; const real = window.fetch; window.fetch = async (...words) => { "
-                "window.most = Math.max(window.most, ++window.now); try { return await real(...words); } finally { window.now--; } }"
+                "window.most = Math.max(window.most, ++window.now);"
+                "try { return await real(...words); } finally { window.now--; } }"
             )
             took = zoe.module(
                 "const from = performance.now(); location.hash = '#/loans/2';"
-                "while (!document.querySelector('.pager')) await new Promise((go) => setTimeout(go, 5)); return performance.now() - from"
+                "while (!document.querySelector('.pager')) await new Promise((go) => setTimeout(go, 5));"
+                "return performance.now() - from"
             )
             self.assertEqual(len(zoe.table("Loans")), 100)
             self.assertIn("1 to 100 of 120", zoe.text("main"))

@@ -16,12 +16,13 @@ export class Problem extends Error {
 
     // whether it is not known that the request was refused: it may have been carried out
     get isLost() {
-        return this.fault === "F20" || (this.fault === null && !["origin", "large", "password"].includes(this.front));
+        return this.fault === "F20" ||
+            (this.fault === null && !["origin", "large", "password", "left"].includes(this.front));
     }
 }
 
 let running = 0;
-const waiting = [];
+let waiting = [];
 
 // The page is marked while it asks for something.
 function count(more) {
@@ -29,22 +30,33 @@ function count(more) {
     document.documentElement.toggleAttribute("data-asking", running > 0);
 }
 
-async function inTurn(send) {
-    if (running >= MOST_AT_ONCE) {
-        await new Promise((go) => waiting.push(go));
-    } else {
+// Each waits for its turn in the order of asking.
+function turn(isReading) {
+    if (running < MOST_AT_ONCE) {
         count(1);
+        return Promise.resolve();
     }
+    return new Promise((go, refuse) => waiting.push({go, refuse, isReading}));
+}
+
+async function inTurn(isReading, send) {
+    await turn(isReading);
     try {
         return await send();
     } finally {
         const next = waiting.shift();
         if (next) {
-            next();
+            next.go();
         } else {
             count(-1);
         }
     }
+}
+
+// Gives up the readings of a page that is left and that were not sent yet, so that they don't hold up the next page.
+export function leavePage() {
+    waiting.filter(({isReading}) => isReading).forEach(({refuse}) => refuse(new Problem({front: "left"})));
+    waiting = waiting.filter(({isReading}) => !isReading);
 }
 
 export function pause(milliseconds) {
@@ -94,7 +106,7 @@ function judged({status, text}) {
 
 // Chromium sends no request from a page whose address has a password in it unless the address is given without one.
 function send(method, path, body) {
-    return inTurn(async () => judged(await fetchOnce(method, location.origin + path, body)));
+    return inTurn(method === "GET", async () => judged(await fetchOnce(method, location.origin + path, body)));
 }
 
 async function tryAgain(once) {

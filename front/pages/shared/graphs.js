@@ -105,7 +105,7 @@ export function balanceSteps({planned, real, words}) {
 
 // an axis of days from the first to the last, with as many of them named as there is room for
 function dayAxis(first, last) {
-    const steps = Math.min(window.innerWidth < 640 ? 2 : 5, Math.max(1, last - first));
+    const steps = Math.min(window.innerWidth < 640 ? 2 : 4, Math.max(1, last - first));
     const days = Array.from({length: steps + 1}, (_, i) => first + Math.round(((last - first) * i) / steps));
     return {
         type: "linear",

@@ -128,5 +128,5 @@ export function officeChoice({tree, value, label, onchange}) {
             element("option", {value: number, selected: number === value}, `${indent(depth)}${number} ${name}`));
     const select =
         element("select", {class: "form-select", id, onchange: () => onchange(Number(select.value))}, options);
-    return element("div", {}, element("label", { class: "form-label", for: id }, label), select);
+    return element("div", {}, element("label", {class: "form-label", "for": id}, label), select);
 }

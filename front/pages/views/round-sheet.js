@@ -5,7 +5,7 @@ import {isAccount} from "../shared/desk.js";
 import {centsOfText, LEAST, MOST, textOfCents} from "../shared/money.js";
 import {isDay} from "../shared/days.js";
 import {inWords} from "../shared/refusals.js";
-import {say, showCount} from "../shared/words.js";
+import {say, sayCount, showCount} from "../shared/words.js";
 import {amount, day, row, table} from "../shared/tables.js";
 
 const NAMES = ["receipt", "loan", "date", "amount"];
@@ -125,60 +125,60 @@ export function sheetCard() {
             await showFile(place, file);
         }
     });
-    return card(say("sheet.title"), element("p", { class: "text-muted" }, say("sheet.what")),
-        element("label", { class: "form-label", for: id }, say("sheet.choose")), input, place);
+    return card(
+        say("sheet.title"), element("p", {class: "text-muted"}, say("sheet.what")),
+        element("label", {class: "form-label", "for": id}, say("sheet.choose")), input, place);
 }
 
 async function showFile(place, file) {
-        if (file.size > MOST_BYTES) {
-            fill(place, alertBox("danger", say("sheet.large")));
-            return;
-        }
-        const lines = readSheet(await file.text());
-        if (lines.length === 0) {
-            fill(place, alertBox("info", say("sheet.empty")));
-            return;
-        }
-        showSheet(place, lines, file.name);
+    if (file.size > MOST_BYTES) {
+        fill(place, alertBox("danger", say("sheet.large")));
+        return;
+    }
+    const lines = readSheet(await file.text());
+    if (lines.length === 0) {
+        fill(place, alertBox("info", say("sheet.empty")));
+        return;
+    }
+    showSheet(place, lines, file.name);
 }
 
 function showSheet(place, lines, name) {
-        const good = lines.filter((line) => line.isGood);
-        const rows = new Map(lines.map((line) => [line, sheetRow(line)]));
-        const summary = element(
-            "p", {class: "fw-semibold", role: "status"},
-            say("sheet.found", {count: showCount(lines.length), good: showCount(good.length)}));
-        const trouble = element("div", {"aria-live": "assertive"});
-        const save = button(
-            say("sheet.save"), () => saveText(resultText(lines), name.replace(/(\.csv)?$/i, "-results.csv")),
-            {class: "btn btn-outline-secondary", hidden: true});
-        const enter = button(say("round.enter", {count: showCount(good.length)}), async () => {
-            enter.disabled = true;
-            fill(trouble);
-            const problem = await sendLines(good, (line) => rows.get(line).show());
-            summary.textContent = tally(lines);
-            fill(trouble, problem && alertBox("warning", say("round.stopped")));
-            enter.textContent = say("round.send-again", {count: showCount(good.length)});
-            enter.disabled = false;
-            save.hidden = false;
-        }, {class: "btn btn-primary", disabled: good.length === 0});
-        const columns = [
-            {words: say("receipt")}, {words: say("loan")}, {words: say("day")}, {words: say("amount"), kind: "number"},
-            {words: say("round.result"), isWide: true}
-        ];
-        fill(
-            place, summary,
-            table({caption: say("sheet.title"), columns, rows: [...rows.values()].map(({tr}) => tr)}).node,
-            element("div", {class: "page-actions mt-3"}, enter, save), trouble);
+    const good = lines.filter((line) => line.isGood);
+    const rows = new Map(lines.map((line) => [line, sheetRow(line)]));
+    const summary = element(
+        "p", {class: "fw-semibold", role: "status"},
+        say("sheet.found", {count: showCount(lines.length), good: showCount(good.length)}));
+    const trouble = element("div", {"aria-live": "assertive"});
+    const save = button(
+        say("sheet.save"), () => saveText(resultText(lines), name.replace(/(\.csv)?$/i, "-results.csv")),
+        {class: "btn btn-outline-secondary", hidden: true});
+    const enter = button(sayCount("round.enter", good.length), async () => {
+        enter.disabled = true;
+        fill(trouble);
+        const problem = await sendLines(good, (line) => rows.get(line).show());
+        summary.textContent = tally(lines);
+        fill(trouble, problem && alertBox("warning", say("round.stopped")));
+        enter.textContent = say("round.send-again", {count: showCount(good.length)});
+        enter.disabled = false;
+        save.hidden = false;
+    }, {class: "btn btn-primary", disabled: good.length === 0});
+    const columns = [
+        {words: say("receipt")}, {words: say("loan")}, {words: say("day")}, {words: say("amount"), kind: "number"},
+        {words: say("round.result"), isWide: true}
+    ];
+    fill(
+        place, summary, table({caption: say("sheet.title"), columns, rows: [...rows.values()].map(({tr}) => tr)}).node,
+        element("div", {class: "page-actions mt-3"}, enter, save), trouble);
 }
 
 function sheetRow(line) {
-        const result = element("div", {class: "line-result", "aria-live": "polite"});
-        const show = () => result.replaceChildren(line.isSending ? say("sending") : resultNode(line.result));
-        show();
-        const cells = line.isGood ? [{head: line.receipt}, line.loan, day(line.day), amount(line.cents), result] : [
-            {head: line.written[0] ?? ""}, line.written[1] ?? "", line.written[2] ?? "",
-            {number: line.written[3] ?? ""}, result
-        ];
-        return {tr: row(cells), show};
+    const result = element("div", {class: "line-result", "aria-live": "polite"});
+    const show = () => result.replaceChildren(line.isSending ? say("sending") : resultNode(line.result));
+    show();
+    const cells = line.isGood ? [{head: line.receipt}, line.loan, day(line.day), amount(line.cents), result] : [
+        {head: line.written[0] ?? ""}, line.written[1] ?? "", line.written[2] ?? "", {number: line.written[3] ?? ""},
+        result
+    ];
+    return {tr: row(cells), show};
 }

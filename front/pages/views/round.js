@@ -17,17 +17,25 @@ import {
 } from "../shared/desk.js";
 import {daysBetween, isDay} from "../shared/days.js";
 import {sum} from "../shared/money.js";
-import {say, showCount, showDay, showMoney} from "../shared/words.js";
+import {say, sayCount, showCount, showDay, showMoney} from "../shared/words.js";
 import {officeChoice, pageHead} from "../shared/tables.js";
 import {dayField} from "../shared/forms.js";
 import {ask} from "../shared/dialogs.js";
 import {lineTable} from "./round-lines.js";
 import {saveSheet, sheetCard, sendLines, tally} from "./round-sheet.js";
 
+const KEPT_DAYS = 90;
+
 // Drafts: which round of this office and day it is, and by loan what was typed in and what came of it.
 
 function keyOf(office, day) {
     return `round ${session.staff} ${office} ${day}`;
+}
+
+// What was kept of rounds long past is given up.
+function forgetOld() {
+    const isOld = (key) => key.startsWith("round ") && daysBetween(key.split(" ").at(-1), session.day) > KEPT_DAYS;
+    Object.keys(localStorage).filter(isOld).forEach((key) => localStorage.removeItem(key));
 }
 
 function readDrafts(office, day) {
@@ -50,6 +58,7 @@ function receiptOf(account, day, turn) {
 export async function round(page, officeText, dayText) {
     const [list] = await Promise.all([offices(), renewDay()]);
     window.dispatchEvent(new Event("desk-day"));
+    forgetOld();
     const office = Number(officeText ?? session.office);
     const day = isDay(dayText ?? "") ? dayText : session.day;
     const go = (otherOffice, otherDay) => {
@@ -153,7 +162,8 @@ function showState({lines, day}, {enter, propose, summary, renew, isSending = fa
     const typed = lines.filter((line) => line.cents !== null);
     const isAllDone = typed.length > 0 && typed.every(isDone);
     const isEarly = day > session.day;
-    enter.textContent = say(isAllDone ? "round.send-again" : "round.enter", {count: showCount(typed.length)});
+    const again = () => say("round.send-again", {count: showCount(typed.length)});
+    enter.textContent = isAllDone ? again() : sayCount("round.enter", typed.length);
     enter.disabled = typed.length === 0 || isEarly || isSending;
     propose.disabled = isEarly || isSending;
     renew.disabled = isSending;

@@ -24,6 +24,7 @@ export async function statement(page, account) {
                 "div", {class: "sheet-head"},
                 element("div", {}, element("strong", {}, told.office?.name ?? ""), ` · ${say("office")} ${office}`),
                 element("div", {class: "text-end"}, say("statement.day", {day: showDay(session.day)}))),
+            element("p", {class: "h5 d-none d-print-block"}, say("statement.title", {loan: account})),
             element("div", {class: "sheet-columns"}, facts(left(told)), facts(right(told))),
             element("h2", {class: "h6 mt-3"}, say("loan.schedule")), scheduleTable(told),
             element("h2", {class: "h6 mt-3"}, say("loan.entries")), entryTable(told),

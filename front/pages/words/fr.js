@@ -196,7 +196,7 @@ export default {
     "loan.disbursement-fee": "Frais au décaissement",
     "loan.portion": "Composante",
     "loan.next-due": "Prochaine échéance",
-    "loan.overdue-sum": "{amount} en retard.",
+    "loan.overdue-sum": "{amount} en retard",
     "graph.planned": "Prévu",
     "graph.real": "Réel",
     "entry.shares": "Règle",
@@ -276,7 +276,8 @@ export default {
     "round.result": "Résultat et reçu",
     "round.save": "Enregistrer la feuille",
     "round.propose": "Remplir avec ce qui est dû",
-    "round.enter": "Saisir {count} remboursements",
+    "round.enter.one": "Saisir {count} remboursement",
+    "round.enter.other": "Saisir {count} remboursements",
     "round.send-again": "Envoyer de nouveau les {count}",
     "round.new": "Commencer une nouvelle tournée",
     "round.new.what": "Les lignes reçoivent de nouveaux reçus, pour que d’autres paiements de ce jour puissent être " +
