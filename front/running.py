@@ -159,7 +159,7 @@ class Nginx:
     def add(self, name, staff, password):
         """Lets a person sign in, from the next start on."""
         words = [sys.executable, os.path.join(FRONT, "people"), "--folder", self.people, "add", name, staff]
-        done = subprocess.run(words, input=password + "\n", text=True, stderr=subprocess.PIPE, check=False)
+        done = subprocess.run(words, input=password + "\n", text=True, capture_output=True, check=False)
         if done.returncode:
             raise Failed(done.stderr.strip())
 

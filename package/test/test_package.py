@@ -1,0 +1,257 @@
+"""Tests of the package: built, looked at by lintian, and installed in a fresh root of Debian, which needs root."""
+import contextlib
+import json
+import os
+import re
+import shlex
+import shutil
+import subprocess
+import sys
+import tempfile
+import time
+import unittest
+
+HERE = os.path.dirname(os.path.abspath(__file__))
+TOP = os.path.dirname(os.path.dirname(HERE))
+sys.path.insert(0, os.path.join(TOP, "front"))
+import running
+
+PASSWORD = "the head's password"
+ASK = """
+import base64, http.client, sys
+user, password, method, path, body = sys.argv[1:]
+front = http.client.HTTPConnection("127.0.0.1", 8190, timeout=30)
+fields = {"Authorization": "Basic " + base64.b64encode(f"{user}:{password}".encode()).decode(), "X-Desk": "1"}
+front.request(method, path, body or None, fields)
+reply = front.getresponse()
+print(reply.status, reply.read().decode())
+"""
+
+
+def setUpModule():
+    global PACKAGE
+    room = tempfile.mkdtemp()
+    unittest.addModuleCleanup(shutil.rmtree, room)
+    words = [os.path.join(TOP, "package", "build"), "--out", room, "--lint"]
+    program = os.environ.get("MICROLOAN")
+    if program:
+        words += ["--program", program]
+    done = subprocess.run(words, capture_output=True, text=True, check=False)
+    if done.returncode:
+        raise AssertionError(f"package/build --lint: status {done.returncode}\n{done.stdout}{done.stderr}")
+    PACKAGE = done.stdout.splitlines()[-1]
+
+
+class Built(unittest.TestCase):
+    """The module's beginning has built it, and lintian found no error and no warning."""
+
+    def test_what_it_holds(self):
+        listed = subprocess.run(["dpkg", "-c", PACKAGE], stdout=subprocess.PIPE, text=True, check=True).stdout
+        modes = {line.split()[-1]: line.split()[0] for line in listed.splitlines()}
+        for path in ("usr/bin/microloan", "usr/bin/microloan-collect", "usr/sbin/microloan-setup"):
+            self.assertEqual(modes["./" + path], "-rwxr-xr-x")
+        for path in ("lib/systemd/system/microloan.service", "etc/nginx/sites-available/microloan"):
+            self.assertEqual(modes["./" + path], "-rw-r--r--")
+        for path in ("usr/share/microloan/pages/index.html", "usr/share/man/man1/microloan.1.gz"):
+            self.assertIn("./" + path, modes)
+        self.assertIn("./usr/share/doc/microloan/handbook.md.gz", modes)
+        self.assertEqual([path for path in modes if "pycache" in path], [])
+
+    def test_the_site_is_filled_in(self):
+        words = f"dpkg --fsys-tarfile {shlex.quote(PACKAGE)} | tar xO ./etc/nginx/sites-available/microloan"
+        site = subprocess.run(words, shell=True, stdout=subprocess.PIPE, text=True, check=True).stdout
+        self.assertEqual(re.findall(r"@[A-Z_]+@", site), [])
+        self.assertIn("server 127.0.0.1:8180", site)
+
+
+class Root:
+    """A fresh root of Debian, with processes and a loopback network of its own. All of it ends with this process."""
+
+    def __init__(self):
+        self.path = tempfile.mkdtemp(prefix="microloan-root-", dir="/var/tmp")
+        self.holder = None
+        include = "ca-certificates,systemd,logrotate"
+        words = ["mmdebstrap", "--quiet", "--variant=minbase", f"--include={include}", "bookworm", self.path]
+        subprocess.run(words, check=True, stdin=subprocess.DEVNULL)
+        with open(os.path.join(self.path, "usr/sbin/policy-rc.d"), "w", encoding="ascii") as file:
+            file.write("#!/bin/sh\nexit 101\n")
+        os.chmod(file.name, 0o755)
+        for name in ("resolv.conf", "hosts"):
+            shutil.copy(f"/etc/{name}", os.path.join(self.path, "etc", name))
+        words = ["unshare", "--fork", "--pid", "--mount", "--net", f"--mount-proc={self.path}/proc", "--kill-child"]
+        hold = "mount -t tmpfs none /dev/shm; ip link set lo up; echo ready; exec sleep 1800"
+        self.holder = subprocess.Popen(words + ["sh", "-c", hold], stdout=subprocess.PIPE, text=True)
+        if self.holder.stdout.readline() != "ready\n":
+            raise AssertionError("no namespace")
+        with open(f"/proc/{self.holder.pid}/task/{self.holder.pid}/children", encoding="ascii") as file:
+            self.inside = file.read().split()[0]
+
+    def run(self, command, given="", network=False, wanted=0):
+        """Runs a shell's command in the root. What it prints, on both streams."""
+        spaces = ["--mount", "--pid"] + ([] if network else ["--net"])
+        words = ["nsenter", f"--target={self.inside}", *spaces, "chroot", self.path, "env", "-i"]
+        words += ["PATH=/usr/sbin:/usr/bin:/sbin:/bin", "HOME=/root", "LC_ALL=C.UTF-8"]
+        words += ["DEBIAN_FRONTEND=noninteractive"]
+        done = subprocess.run(
+            [*words, "sh", "-c", command],
+            input=given,
+            stdout=subprocess.PIPE,
+            stderr=subprocess.STDOUT,
+            text=True,
+            check=False,
+        )
+        if done.returncode != wanted:
+            raise AssertionError(f"{command}: status {done.returncode}\n{done.stdout}")
+        return done.stdout
+
+    def start(self, command):
+        """Starts something that stays, as the unit would."""
+        self.run(f"{command} </dev/null >/tmp/started.log 2>&1 & echo started")
+
+    def end(self):
+        if self.holder:
+            self.holder.terminate()
+            self.holder.wait()
+            self.holder.stdout.close()
+        shutil.rmtree(self.path, ignore_errors=True)
+
+
+@unittest.skipUnless(os.geteuid() == 0 and shutil.which("mmdebstrap"), "needs root and mmdebstrap")
+class Installed(unittest.TestCase):
+    @classmethod
+    def setUpClass(cls):
+        cls.root = Root()
+        cls.addClassCleanup(cls.root.end)
+        shutil.copy(PACKAGE, os.path.join(cls.root.path, "root/microloan.deb"))
+
+    def install(self):
+        return self.root.run("apt-get -qq update && apt-get -qq install -y /root/microloan.deb 2>&1", network=True)
+
+    def ask(self, user, password, method, path, members=None):
+        body = "" if members is None else json.dumps(members)
+        words = " ".join(map(shlex.quote, (user, password, method, path, body)))
+        status, _, text = self.root.run(f"python3 - {words}", given=ASK).partition(" ")
+        return int(status), json.loads(text)
+
+    def start(self):
+        """Starts the program as the unit has it, waits as the unit does, and starts nginx."""
+        unit = self.root.run("cat /lib/systemd/system/microloan.service")
+        settings = dict(line.split("=", 1) for line in unit.splitlines() if re.match("[A-Z]", line))
+        user, mask = settings["User"], settings["UMask"]
+        as_user = f"umask {mask}; exec setpriv --reuid={user} --regid={user} --clear-groups"
+        self.root.start(f"sh -c '{as_user} {settings['ExecStart']}'")
+        self.root.run(f"timeout 60 {settings['ExecStartPost']}")
+        self.root.run("nginx")
+
+    def stop(self):
+        self.root.run("kill $(cat /run/nginx.pid); kill $(pidof microloan); while pidof microloan; do sleep 0.1; done")
+
+    def modes(self, *paths):
+        shown = self.root.run("stat -c '%n %a %U:%G' " + " ".join(paths))
+        return {line.split()[0]: " ".join(line.split()[1:]) for line in shown.splitlines()}
+
+    def test_from_nothing_to_restored(self):
+        self.first_day()
+        backup = self.back_up()
+        self.purge(backup)
+        self.restore(backup)
+        self.remove_and_install()
+
+    def first_day(self):
+        said = self.install()
+        self.assertIn("microloan: now run microloan-setup, as root", said)
+        self.assertEqual(self.root.run("pidof microloan nginx", wanted=1), "")
+        for unit in ("microloan.service", "microloan-backup.service", "microloan-backup.timer"):
+            self.assertEqual(self.root.run(f"systemd-analyze verify /lib/systemd/system/{unit}"), "")
+        said = self.root.run("microloan-setup --user amina --day 2026-11-26", given=PASSWORD + "\n")
+        self.assertIn("its business day is 2026-11-26", said)
+        self.assertIn("amina signs in as 1/1", said)
+        wanted = {
+            "/var/lib/microloan": "700 microloan:microloan",
+            "/var/lib/microloan/desk.db": "600 microloan:microloan",
+            "/var/backups/microloan": "700 microloan:microloan",
+            "/etc/microloan": "750 root:www-data",
+            "/etc/microloan/passwords": "640 root:www-data",
+            "/var/log/microloan/messages.log": "640 www-data:adm",
+        }
+        self.assertEqual(self.modes(*wanted), wanted)
+        said = self.root.run("microloan-setup", given=PASSWORD + "\n")
+        self.assertIn("is there, and is kept", said)
+        self.start()
+        self.assertEqual(self.ask("amina", PASSWORD, "GET", "/me"), (200, {"user": "amina", "staff": "1/1"}))
+        self.assertEqual(self.ask("amina", "wrong", "GET", "/api/offices")[0], 401)
+        staff = {"office": 1, "name": "Zoë", "role": "officer"}
+        self.assertEqual(self.ask("amina", PASSWORD, "POST", "/api/staff", staff), (201, {"staff": "1/2"}))
+        self.root.run("microloan-people add zoe 1/2 --reload", given="a password of zoe's\n")
+        client = {"office": 1, "name": "Awa Diallo"}
+        self.wait_until(lambda: self.ask("zoe", "a password of zoe's", "GET", "/api/offices")[0] == 200)
+        self.assertEqual(self.ask("zoe", "a password of zoe's", "POST", "/api/clients", client)[0], 201)
+        script = "import urllib.request as r\nprint(r.urlopen('http://127.0.0.1:8190{}').headers['Content-Type'])"
+        for path in ("/lib/bootstrap/css/bootstrap.min.css", "/lib/chart/chart.min.js", "/lib/dsv/d3-dsv.min.js"):
+            kind = "text/css" if path.endswith(".css") else "application/javascript"
+            self.assertEqual(self.root.run("python3 -", given=script.format(path)).strip(), kind)
+        words = " ".join(map(shlex.quote, ("zoe", "a password of zoe's", "GET", "/", "")))
+        self.assertIn("<!doctype html>", self.root.run(f"python3 - {words}", given=ASK).lower())
+
+    def wait_until(self, holds):
+        end = time.monotonic() + 20
+        while not holds():
+            self.assertLess(time.monotonic(), end)
+            time.sleep(0.2)
+
+    def back_up(self):
+        self.assertIn(" all ", self.root.run("microloan-report --user zoe", given="a password of zoe's\n"))
+        moved = self.root.run("microloan-day 2026-11-27 --user amina", given=PASSWORD + "\n")
+        self.assertEqual(moved, "2026-11-26 -> 2026-11-27\n")
+        said = self.root.run("microloan-backup")
+        self.assertIn("business day 2026-11-27, 0 loans, 0 entries", said)
+        backup = said.split(": ")[0]
+        self.assertEqual(self.modes(backup)[backup], "600 microloan:microloan")
+        self.assertIn("amina 1/1 200 PUT /api/business-day", self.root.run("microloan-who day"))
+        # a rotated log is read too, and what comes after it goes into the new one
+        self.root.run("logrotate --force /etc/logrotate.d/microloan")
+        self.wait_until(lambda: self.log_grows())
+        self.assertIn("Awa Diallo", self.root.run("microloan-who client"))
+        log = "/var/log/microloan/messages.log"
+        self.assertEqual(self.modes(log), {log: "640 www-data:adm"})
+        said = self.root.run(f"microloan-restore {backup}", wanted=1)
+        self.assertIn("stop the service first", said)
+        return backup
+
+    def log_grows(self):
+        self.ask("zoe", "a password of zoe's", "GET", "/api/offices")
+        return "GET" in self.root.run("cat /var/log/microloan/messages.log")
+
+    def purge(self, backup):
+        self.stop()
+        said = self.root.run("apt-get -qq purge -y microloan 2>&1")
+        self.assertIn("the backups in /var/backups/microloan are kept", said)
+        gone = ("/var/lib/microloan", "/etc/microloan", "/var/log/microloan", "/etc/nginx/sites-available/microloan")
+        for path in gone + ("/etc/nginx/sites-enabled/microloan", "/usr/share/microloan", "/usr/bin/microloan"):
+            self.assertEqual(self.root.run(f"ls -d {path} 2>/dev/null", wanted=2), "")
+        self.root.run(f"test -s {backup} && nginx -q -t")
+
+    def restore(self, backup):
+        self.install()
+        said = self.root.run(f"microloan-restore {backup}")
+        self.assertIn("business day 2026-11-27, 0 loans, 0 entries", said)
+        said = self.root.run("microloan-setup --user amina", given=PASSWORD + "\n")
+        self.assertIn("is there, and is kept", said)
+        self.start()
+        reply = self.ask("amina", PASSWORD, "GET", "/api/clients/0001-000001")
+        self.assertEqual(reply, (200, {"client": "0001-000001", "name": "Awa Diallo"}))
+        self.stop()
+
+    def remove_and_install(self):
+        self.root.run("apt-get -qq remove -y microloan")
+        self.root.run("test -s /var/lib/microloan/desk.db && test -s /etc/microloan/passwords && nginx -q -t")
+        self.assertEqual(self.root.run("ls /etc/nginx/sites-enabled/microloan 2>/dev/null", wanted=2), "")
+        self.install()
+        self.assertIn("amina is 1/1 already", self.root.run("microloan-setup"))
+        self.start()
+        self.assertEqual(self.ask("amina", PASSWORD, "GET", "/api/clients/0001-000001")[0], 200)
+        self.stop()
+
+
+if __name__ == "__main__":
+    unittest.main()

@@ -1,0 +1,379 @@
+"""Tests of the package's tools, run from the checkout: sheets, report and day while it serves, backup and restore."""
+import contextlib
+import datetime
+import json
+import os
+import pty
+import random
+import shutil
+import signal
+import sqlite3
+import subprocess
+import sys
+import tempfile
+import threading
+import time
+import unittest
+
+HERE = os.path.dirname(os.path.abspath(__file__))
+TOP = os.path.dirname(os.path.dirname(HERE))
+TOOLS = os.path.join(TOP, "package", "tools")
+sys.path[:0] = [os.path.join(TOP, "front", "test"), TOOLS]
+import desk
+import running
+
+SHEET_LINES = 10000
+
+
+def setUpModule():
+    global DESK
+    DESK = desk.Desk()
+    unittest.addModuleCleanup(DESK.end)
+
+
+def tool(name, *words, user="tom", password=None, at=None):
+    """Runs a tool that asks at the front. Its status, its output, and what it says on standard error."""
+    asked = [os.path.join(TOOLS, name), "--user", user, "--address", (at or DESK).url, *words]
+    done = subprocess.run(
+        asked, input=(password or desk.PASSWORD.format(user)).encode() + b"\n", capture_output=True, check=False
+    )
+    return done.returncode, done.stdout, done.stderr.decode()
+
+
+def by_command(path, command, staff, given=b""):
+    words = [running.program(), command, "--file", path, "--staff", staff]
+    return subprocess.run(words, input=given, stdout=subprocess.PIPE, check=True).stdout
+
+
+def draw_sheet(count, loans):
+    """A sheet with lines of every kind, drawn the same each time: right ones, and ones that are wrong."""
+    draw = random.Random(7)
+    right = {
+        "receipt": lambda place: f"S-{place}".encode(),
+        "loan": lambda place: draw.choice(loans).encode(),
+        "date": lambda place: b"2026-09-%02d" % draw.randint(1, 30),
+        "amount": lambda place: draw.choice([b"1", b"0.5", b"2.05", b"007", b"1.00", b"0.01"]),
+    }
+    wrong = {
+        "receipt": b"|S-1|a b|" + b"x" * 41 + b'|\xc3\xa9|"S,1"|=cmd("a")|\xff\xfe|"a ""b"" c"',
+        "loan": b"|0021-000000|0021-999999|0031-000001|21-1|0021-1|00021-000001| 0021-000001 |0021-00000x",
+        "date": b"|2026-02-30|2026-10-01|2020-01-01|30.09.2026|1999-12-31|2026-9-01|\t2026-09-30|2100-01-01",
+        "amount": b"|0|-1|.5|1.|1.234|1,5|1e3|10000000000.01|99999999999| \"1\"|1_0|+1|123456789012",
+    }
+    lines = [b"\xef\xbb\xbf Receipt ,LOAN,date,\tamount"]
+    for place in range(count):
+        fields = [make(place) for make in right.values()]
+        for _ in range(draw.choice([0, 0, 0, 0, 1, 2])):
+            column = draw.randrange(4)
+            fields[column] = draw.choice(list(wrong.values())[column].split(b"|"))
+        if draw.random() < 0.03:
+            fields = fields[: draw.randint(1, 3)] if draw.random() < 0.5 else fields + [b"more", b'"and\nmore"']
+        lines.append(b",".join(fields) + draw.choice([b"", b"", b"\r", b"\n", b"\r\n\r"]))
+    return b"\n".join(lines) + b'\n"a quote that stays open,1,2,3'
+
+
+class Sheets(unittest.TestCase):
+    def collect(self, sheet, user):
+        with tempfile.NamedTemporaryFile() as file:
+            file.write(sheet)
+            file.flush()
+            return tool("microloan-collect", file.name, user=user)
+
+    def test_10000_lines_as_by_the_command(self):
+        loans = [f"{office:04}-{number:06}" for office in (21, 22) for number in range(1, 31)]
+        sheet = draw_sheet(SHEET_LINES, loans)
+        with tempfile.TemporaryDirectory() as room:
+            copy = os.path.join(room, "desk.db")
+            desk.copy_file(desk.demonstration_file(), copy)
+            first, again = (by_command(copy, "collect", "2/1", sheet) for _ in range(2))
+        self.assertEqual(self.collect(sheet, "ruth"), (0, first, ""))
+        self.assertEqual(self.collect(sheet, "ruth"), (0, again, ""))
+        results = {line.rsplit(b",", 1)[-1] for line in first.splitlines()}
+        self.assertLessEqual({b"entered", b"F1", b"F4", b"F9", b"F10", b"F15"}, results)
+        self.assertIn(b",repeated\n", again)
+
+    def test_the_worked_sheet_of_the_handbook(self):
+        examples = os.path.join(TOP, "examples")
+        with open(os.path.join(examples, "evening-lines.txt"), "rb") as file:
+            lines = file.read()
+        with open(os.path.join(examples, "evening-results.csv"), "rb") as file:
+            wanted = file.read()
+        with desk.Desk(lines=lines, people={"head": "1/1"}) as it:
+            sheet = os.path.join(examples, "evening-sheet.csv")
+            self.assertEqual(tool("microloan-collect", sheet, user="head", at=it), (0, wanted, ""))
+            again = tool("microloan-collect", sheet, user="head", at=it)
+            self.assertEqual(again, (0, wanted.replace(b"entered", b"repeated"), ""))
+
+    def test_a_sheet_that_is_too_large(self):
+        self.assertEqual(self.collect(b"x" * 1048577, "tom"), (1, b"", "microloan-collect: F1\n"))
+
+    def test_whoever_is_not_signed_in(self):
+        sheet = os.path.join(TOP, "examples", "evening-sheet.csv")
+        status, shown, said = tool("microloan-collect", sheet, password="wrong")
+        self.assertEqual((status, shown), (1, b""))
+        self.assertIn("password", said)
+
+    def test_the_program_is_killed_in_the_middle_and_started_again(self):
+        loans = [f"0021-{number:06}" for number in range(1, 31)]
+        lines = [f"K-{place},{loans[place % 30]},2026-09-30,0.01\n" for place in range(400)]
+        with desk.Desk() as it, tempfile.NamedTemporaryFile() as file:
+            file.write("".join(lines).encode())
+            file.flush()
+            found = []
+            thread = threading.Thread(target=lambda: found.append(tool("microloan-collect", file.name, at=it)))
+            thread.start()
+            desk_wait(lambda: len(it.log) > 100)
+            it.kill_serve()
+            time.sleep(1)
+            it.start_serve()
+            thread.join(120)
+            status, shown, _ = found[0]
+            again = tool("microloan-collect", file.name, at=it)[1]
+        self.assertEqual(status, 0)
+        results = [line.rsplit(b",", 1)[-1] for line in shown.splitlines()[1:]]
+        self.assertEqual(len(results), 400)
+        self.assertIn(b"entered", results)
+        # what was entered by a message whose reply was lost is repeated, and nothing is entered by the sheet sent again
+        self.assertLessEqual(set(results), {b"entered", b"repeated", b"F9"})
+        self.assertNotIn(b"entered", [line.rsplit(b",", 1)[-1] for line in again.splitlines()[1:]])
+
+
+class Reports(unittest.TestCase):
+    def test_as_by_the_command(self):
+        with desk.Desk() as it, tempfile.TemporaryDirectory() as room:
+            copy = os.path.join(room, "desk.db")
+            desk.copy_file(desk.demonstration_file(), copy)
+            for user, staff in desk.PEOPLE.items():
+                with self.subTest(user):
+                    wanted = by_command(copy, "report", staff)
+                    self.assertEqual(tool("microloan-report", user=user, at=it), (0, wanted, ""))
+                    self.assertIn(b" all ", wanted)
+
+    def test_whom_the_program_does_not_know(self):
+        DESK.add_person("lost", "2/99")
+        self.assertEqual(tool("microloan-report", user="lost"), (1, b"", "microloan-report: F2\n"))
+
+
+class Days(unittest.TestCase):
+    def test_far_days_need_more_words(self):
+        with desk.Desk() as it:
+            def day(*words, user="amina"):
+                return tool("microloan-day", *words, user=user, at=it)
+
+            self.assertEqual(day(), (0, b"2026-09-30\n", ""))
+            self.assertEqual(day("2026-10-07"), (0, b"2026-09-30 -> 2026-10-07\n", ""))
+            for words in (("2026-10-15",), ("2026-10-15", "--again", "2026-10-16"), ("2026-10-15", "--far")):
+                self.assertEqual(day(*words)[0], 1)
+            for words in (("2026-11-08", "--again", "2026-11-08"), ("2026-11-08", "--far")):
+                self.assertEqual(day(*words)[0], 1)
+            self.assertEqual(day()[1], b"2026-10-07\n")
+            self.assertEqual(day("2026-10-15", "--again", "2026-10-15")[1], b"2026-10-07 -> 2026-10-15\n")
+            wanted = b"2026-10-15 -> 2026-11-20\n"
+            self.assertEqual(day("2026-11-20", "--again", "2026-11-20", "--far"), (0, wanted, ""))
+            for words, user, fault in ((("2026-11-20",), "amina", "F17"), (("2026-11-21",), "ruth", "F3")):
+                status, _, said = day(*words, user=user)
+                self.assertEqual(status, 1)
+                self.assertIn(fault, said)
+            self.assertEqual(day("2026-11-31")[0], 2)
+
+    def test_a_terminal_is_asked_once_more(self):
+        with desk.Desk() as it:
+            for given, status in ((b"2026-10-21", 1), (b"2026-10-20", 0)):
+                words = ["microloan-day", "--user", "amina", "--address", it.url, "2026-10-20"]
+                number, terminal = pty.fork()
+                if number == 0:
+                    os.execv(os.path.join(TOOLS, "microloan-day"), words)
+                shown = b""
+                for answer in (desk.PASSWORD.format("amina").encode(), given):
+                    while not shown.endswith(b": "):
+                        shown += os.read(terminal, 1000)
+                    os.write(terminal, answer + b"\n")
+                    shown += b"|"
+                with contextlib.suppress(OSError):
+                    while more := os.read(terminal, 1000):
+                        shown += more
+                os.close(terminal)
+                self.assertEqual(os.waitstatus_to_exitcode(os.waitpid(number, 0)[1]), status, shown)
+            self.assertEqual(it.send("amina", "GET", "/api/business-day"), (200, {"day": "2026-10-20"}))
+
+
+class Who(unittest.TestCase):
+    def test_who_did_what(self):
+        def who(*words):
+            done = subprocess.run(
+                [os.path.join(TOOLS, "microloan-who"), "--log", DESK.nginx.log, *words], capture_output=True, check=True
+            )
+            return [line.split(" ", 1)[1] for line in done.stdout.decode().splitlines()]
+
+        name = "Zoë\x1b[31m"
+        created = DESK.send("zoe", "POST", "/api/clients", {"office": 21, "name": "Zoë"})[1]["client"]
+        members = {"client": created, "product": 1, "principal": 100000, "periods": 3}
+        loan = DESK.send("zoe", "POST", "/api/loans", members)[1]["loan"]
+        DESK.send("tom", "POST", f"/api/loans/{loan}/approve")
+        DESK.send("paulo", "POST", f"/api/loans/{loan}/approve")
+        DESK.send("paulo", "POST", f"/api/loans/{loan}/disburse", {"day": "2026-09-30"})
+        DESK.send("zoe", "POST", "/api/clients", {"office": 99, "name": name})
+        DESK.send("paulo", "POST", f"/api/loans/{loan}/reject", password="wrong")
+        approved = f"paulo 21/1 200 POST /api/loans/{loan}/approve"
+        desk_wait(lambda: DESK.log[-1]["status"] == 401)
+        self.assertEqual(who("approve", "--loan", loan), [approved])
+        paid = f'paulo 21/1 200 POST /api/loans/{loan}/disburse {{"day": "2026-09-30"}}'
+        self.assertEqual(who("--loan", loan), [approved, paid])
+        self.assertEqual(who("pay-out", "--user", "paulo", "--loan", loan), [paid])
+        self.assertEqual(who("--loan", loan, "--user", "zoe"), [])
+        refused = [f"tom 21/3 403 POST /api/loans/{loan}/approve", f"paulo - 401 POST /api/loans/{loan}/reject"]
+        self.assertEqual(who("--refused", "--loan", loan), refused)
+        self.assertEqual(who("--since", "2099-01-01"), [])
+        shown = who("client", "--refused", "--user", "zoe")[-1]
+        self.assertNotIn("\x1b", shown)
+        self.assertIn("office", shown)
+
+    def test_rotated_files_come_first(self):
+        line = {"user": "amina", "staff": "1/1", "method": "PUT", "path": "/api/business-day"}
+        line |= {"body": "{}", "status": 200}
+        with tempfile.TemporaryDirectory() as room:
+            log = os.path.join(room, "messages.log")
+            for ending, day in (("-20261101", "2026-11-01"), ("-20261108", "2026-11-08"), ("", "2026-11-15")):
+                with open(log + ending, "w", encoding="utf-8") as file:
+                    file.write(json.dumps(line | {"time": f"{day}T10:00:00+00:00"}) + "\nno message\n")
+            subprocess.run(["gzip", log + "-20261101"], check=True)
+            words = [os.path.join(TOOLS, "microloan-who"), "--log", log, "day"]
+            done = subprocess.run(words, capture_output=True, text=True, check=True)
+        days = [shown[:10] for shown in done.stdout.splitlines()]
+        self.assertEqual(days, ["2026-11-01", "2026-11-08", "2026-11-15"])
+        self.assertEqual(done.stderr, "microloan-who: 3 lines are no messages\n")
+
+
+class Backups(unittest.TestCase):
+    def setUp(self):
+        room = tempfile.TemporaryDirectory()
+        self.addCleanup(room.cleanup)
+        self.folder = room.name
+        self.it = desk.Desk()
+        self.addCleanup(self.it.end)
+
+    def run_tool(self, name, *words):
+        asked = [os.path.join(TOOLS, name), "--file", self.it.file, "--program", running.program(), *words]
+        done = subprocess.run(asked, capture_output=True, text=True, check=False)
+        return done.returncode, done.stdout, done.stderr
+
+    def back_up(self):
+        status, shown, said = self.run_tool("microloan-backup", "--folder", self.folder)
+        self.assertEqual((status, said), (0, ""))
+        return shown.split(": ")[0], shown
+
+    def add_client(self, name):
+        return self.it.send("zoe", "POST", "/api/clients", {"office": 21, "name": name})
+
+    def has_client(self, client):
+        return self.it.send("tom", "GET", f"/api/clients/{client}")[0] == 200
+
+    def test_backed_up_while_it_serves_and_restored(self):
+        before = self.add_client("Before")[1]["client"]
+        path, shown = self.back_up()
+        self.assertIn("business day 2026-09-30, 400 loans, ", shown)
+        self.assertEqual(os.listdir(self.folder), [os.path.basename(path)])
+        after = self.add_client("After")[1]["client"]
+        status, _, said = self.run_tool("microloan-restore", path)
+        self.assertEqual(status, 1)
+        self.assertIn("stop the service first", said)
+        self.it.kill_serve()
+        status, shown, said = self.run_tool("microloan-restore", path)
+        self.assertEqual((status, said), (0, ""))
+        first, second = shown.splitlines()
+        self.assertIn("400 loans", first)
+        aside = second.split(" is in ")[1].split(":")[0]
+        self.assertIn("400 loans", second)
+        self.it.start_serve()
+        self.assertTrue(self.has_client(before))
+        self.assertFalse(self.has_client(after))
+        # what was set aside is whole, and can be put back in the same way
+        self.it.kill_serve()
+        self.assertEqual(self.run_tool("microloan-restore", os.path.join(aside, "desk.db"))[0], 0)
+        self.it.start_serve()
+        self.assertTrue(self.has_client(after))
+
+    def test_a_backup_is_whole_without_its_log(self):
+        """SQLite, told that no log counts, reads from the file alone all that the program holds."""
+        client = self.add_client("In the log")[1]["client"]
+        path, _ = self.back_up()
+        with contextlib.closing(sqlite3.connect(f"file:{path}?mode=ro&immutable=1", uri=True)) as database:
+            found = database.execute(
+                "select printf('%04d-%06d', office, number) from clients where name = 'In the log'"
+            ).fetchall()
+            self.assertEqual(database.execute("pragma integrity_check").fetchall(), [("ok",)])
+        self.assertEqual(found, [(client,)])
+
+    def test_the_program_goes_on_whatever_ends_the_backup(self):
+        """The backup is killed while the program stands still: the program goes on all the same."""
+        script = (
+            "import sys, os, time; sys.path.insert(0, sys.argv[1]); import institution_files as files\n"
+            "with files.standing_still(int(sys.argv[2]), sys.argv[3]): print('still', flush=True); time.sleep(60)\n"
+        )
+        served = self.it.serve.process.pid
+        for how in (signal.SIGKILL, signal.SIGTERM, signal.SIGINT):
+            words = [sys.executable, "-c", script, TOOLS, str(served), self.it.file]
+            with subprocess.Popen(words, stdout=subprocess.PIPE, stderr=subprocess.DEVNULL) as backup:
+                self.assertEqual(backup.stdout.readline(), b"still\n")
+                with open(f"/proc/{served}/stat", encoding="ascii") as file:
+                    self.assertEqual(file.read().rpartition(")")[2].split()[0], "T")
+                backup.send_signal(how)
+                backup.wait()
+            self.assertEqual(self.add_client("Goes on")[0], 201)
+
+    def test_no_institution_is_no_backup(self):
+        self.it.kill_serve()
+        for ending in ("", "-wal"):
+            if os.path.exists(self.it.file + ending):
+                os.rename(self.it.file + ending, self.it.file + ".kept" + ending)
+        self.assertEqual(self.run_tool("microloan-backup", "--folder", self.folder)[0], 1)
+        for data in (b"", b"x", b"text " * 1000):
+            with open(self.it.file, "wb") as file:
+                file.write(data)
+            status, shown, said = self.run_tool("microloan-backup", "--folder", self.folder)
+            self.assertEqual((status, shown), (1, ""))
+            self.assertIn("holds no institution", said)
+            self.assertEqual(self.run_tool("microloan-restore", self.it.file)[0], 1)
+        self.assertEqual(os.listdir(self.folder), [])
+
+    def test_a_row_that_was_changed_is_no_backup(self):
+        self.it.kill_serve()
+        with contextlib.closing(sqlite3.connect(self.it.file)) as database, database:
+            database.execute("update entries set amount = amount + 1 where kind = 1 and seq = 1 and reversed = 0")
+        status, _, said = self.run_tool("microloan-backup", "--folder", self.folder)
+        self.assertEqual(status, 1)
+        self.assertIn("F19", said)
+        self.assertEqual(os.listdir(self.folder), [])
+
+    def test_which_are_kept(self):
+        """Of two backups a day over three years: seven days, five weeks and twelve months, by the last one of each."""
+        now = datetime.datetime(2026, 11, 26, 20)
+        times = [now - datetime.timedelta(hours=12 * place) for place in range(2 * 1095)]
+        for moment in times:
+            with open(os.path.join(self.folder, moment.strftime("desk-%Y-%m-%dT%H%M%S.db")), "wb"):
+                pass
+        with open(os.path.join(self.folder, "another file"), "wb"):
+            pass
+        path, _ = self.back_up()
+        kept = sorted(os.listdir(self.folder))
+        self.assertIn("another file", kept)
+        self.assertIn(os.path.basename(path), kept)
+        days = [datetime.date.fromisoformat(name[5:15]) for name in kept if name.startswith("desk-")]
+        self.assertEqual(len({(day.year, day.month) for day in days}), 12)
+        self.assertGreaterEqual(len({day.isocalendar()[:2] for day in days}), 5)
+        self.assertEqual(len(set(days)), len(days))
+        last_seven = sorted({moment.date() for moment in times} | {datetime.date.today()})[-7:]
+        self.assertLessEqual(set(last_seven), set(days))
+        self.assertLessEqual(len(days), 7 + 5 + 12)
+
+
+def desk_wait(holds, seconds=60):
+    end = time.monotonic() + seconds
+    while not holds():
+        if time.monotonic() > end:
+            raise AssertionError("waited in vain")
+        time.sleep(0.02)
+
+
+if __name__ == "__main__":
+    unittest.main()
