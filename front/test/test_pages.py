@@ -21,7 +21,7 @@ PLACES = (
     "catalogue",
     "people",
 )
-WIDTHS = (1280, 360)
+WIDTHS = (360, 1280)
 TELLER = {"loan/0021-000028": {"Enter a repayment", "Statement"}}
 OFFICER = {
     "clients/21": {"New client"},
@@ -89,33 +89,33 @@ def setUpModule():
 class EachPage(unittest.TestCase):
     """Each page by each role: what may be done there, at two widths."""
 
-    def look(self, it, name, place, width):
-        it.widen(width, 740 if width < 600 else 900)
-        it.go(place)
-        it.picture(f"{place.replace('/', '-')}-{name}-{width}")
-        self.assertTrue(it.title(), place)
-        self.assertLessEqual(
-            it.script("return document.documentElement.scrollWidth"), width, f"{place} is wider than {width}"
-        )
+    def look(self, it, name, place):
+        """What may be done there, and what a screen reader is told."""
         allowed = MAY[name].get(place, set()) | ALWAYS.get(place, set())
-        self.assertEqual(it.actions(), allowed, place)
-        self.assertEqual(it.script(NAMELESS), [], place)
-        self.assertEqual(it.script(CONTRAST), [], place)
+        self.assertTrue(it.title())
+        self.assertEqual(it.actions(), allowed)
+        self.assertEqual(it.script(NAMELESS), [])
         reversals = len([one for one in it.all("table button") if one.text == "Reverse"])
         is_manager = MAY[name] in (MANAGER, HEAD_OFFICE)
-        self.assertEqual(reversals, 3 if is_manager and place.startswith("loan/") else 0, place)
-        self.assertEqual(it.errors(), [], place)
+        self.assertEqual(reversals, 3 if is_manager and place.startswith("loan/") else 0)
+        self.assertEqual(it.errors(), [])
         foreign = [one for one in it.script(LOADED) if not one.startswith(DESK.url + "/")]
         self.assertEqual(foreign, [], "loaded from elsewhere")
 
     def look_at_all(self, name):
-        it = reader.Reader(DESK, name)
-        for width in WIDTHS:
+        with reader.Reader(DESK, name) as it:
             for place in PLACES:
-                with self.subTest(place=place, width=width):
-                    self.look(it, name, place, width)
-        self.assertIn(f"{name} · {ROLES[name]}", it.script("return document.querySelector('.person').textContent"))
-        it.close()
+                with self.subTest(place):
+                    it.go(place)
+                    self.look(it, name, place)
+                for width in WIDTHS:
+                    with self.subTest(place, width=width):
+                        it.widen(width)
+                        it.picture(f"{place.replace('/', '-')}-{name}-{width}")
+                        self.assertLessEqual(it.script("return document.documentElement.scrollWidth"), width)
+                        self.assertEqual(it.script(CONTRAST), [])
+            person = it.script("return document.querySelector('.person').textContent")
+        self.assertIn(f"{name} · {ROLES[name]}", person)
 
     def test_head_office(self):
         self.look_at_all("amina")

@@ -1,7 +1,6 @@
 """A loan's way through the pages, by the people of an office. The amounts are worked out by hand for one loan: 1,000.00
 at 12 percent a year over three months from 2024-01-31."""
 import contextlib
-import time
 import unittest
 
 import desk
@@ -159,8 +158,7 @@ class Way(Case):
                     head.fill("New business day", day)
                     head.press("Move the business day", ".modal")
                     if asked:
-                        head.wait(lambda: "Is this day right?" in head.text(".modal.show"), "the second question")
-                        time.sleep(0.4)
+                        head.wait_for_dialog("Is this day right?")
                         self.assertEqual(len(head.all(".modal input")), 1 if typed else 0)
                         head.cancel()
                         self.assertNotEqual(it.send("head", "GET", "/api/business-day")[1], {"day": day})
@@ -177,9 +175,8 @@ class Way(Case):
         head.open_dialog("Move the business day")
         head.fill("New business day", "2024-03-31")
         head.press("Move the business day", ".modal")
-        head.wait(lambda: "Is this day right?" in head.text(".modal.show"), "the second question")
+        head.wait_for_dialog("Is this day right?")
         self.assertIn("by 60 days, to Mar 31, 2024", head.text(".modal"))
-        time.sleep(0.4)
         head.press("Move the business day", ".modal")
         self.assertEqual(it.send("head", "GET", "/api/business-day"), (200, {"day": "2024-01-31"}))
         head.fill("Type the new day once more", "2024-03-30")
@@ -286,8 +283,7 @@ class Corrections(Case):
             ruth = self.reader(it, "ruth")
             ruth.go(LOAN)
             ruth.script("arguments[0].click()", ruth.all("table button[aria-label='Reverse entry 1']")[0])
-            ruth.wait(lambda: ruth.all(".modal.show"), "the dialog")
-            time.sleep(0.4)
+            ruth.wait_for_dialog()
             self.assertIn(
                 "Entry 1 of loan 0002-000001 (Repayment, 200.00, Feb 29, 2024) counts no more", ruth.text(".modal")
             )
@@ -577,8 +573,7 @@ class Others(Case):
             },
         )
         head.script("arguments[0].click()", head.all("button[aria-label='Retire Weekly']")[0])
-        head.wait(lambda: head.all(".modal.show"), "the dialog")
-        time.sleep(0.4)
+        head.wait_for_dialog()
         head.send("Retire")
         self.assertTrue(it.send("head", "GET", "/api/products/2")[1]["retired"])
 
