@@ -1,8 +1,9 @@
 // The frame of all pages: who is signed in, the way to each page, and which page the address names.
 import {button, element, fill, link, spinner} from "./shared/elements.js";
-import {leavePage} from "./shared/api.js";
+import {leavePage, Problem} from "./shared/api.js";
 import {beginSession, session, HEAD_OFFICE, MANAGER, OFFICER, TELLER} from "./shared/session.js";
-import {showRefusal} from "./shared/refusals.js";
+import {note} from "./shared/dialogs.js";
+import {refusalLine, showRefusal} from "./shared/refusals.js";
 import {officeNamed} from "./shared/desk.js";
 import {LANGUAGES, chooseLanguage, language, locale, say, showDay} from "./shared/words.js";
 import {today} from "./views/today.js";
@@ -141,6 +142,17 @@ export function showNewDay() {
     document.getElementById("day-shown").textContent = showDay(session.day);
 }
 
+// What went wrong while something was read in the background, or after a question, is told in a corner of the page.
+function tellProblem(event) {
+    const problem = event.reason;
+    if (problem instanceof Problem) {
+        event.preventDefault();
+        if (problem.front !== "left") {
+            note(refusalLine(problem));
+        }
+    }
+}
+
 function skipLink() {
     const skip = () => main.focus();
     return button(say("skip"), skip, {class: "btn btn-primary skip-link"});
@@ -157,6 +169,7 @@ async function begin() {
         document.documentElement.dataset.locale = locale;
         window.addEventListener("hashchange", showPage);
         window.addEventListener("desk-day", showNewDay);
+        window.addEventListener("unhandledrejection", tellProblem);
         await showPage();
     } catch (problem) {
         showRefusal(fill(desk, element("div", {class: "container py-5"})).firstChild, problem, begin);

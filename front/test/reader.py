@@ -32,7 +32,7 @@ def quit_all():
 
 
 def take_browser(language, url):
-    """A browser in which nobody is signed in at this address: a free one, as starting one takes seconds, or a new one."""
+    """A browser in which nobody is signed in at this address: a free one, or a new one: each takes seconds to start."""
     for place, (driver, spoken, urls) in enumerate(FREE):
         if spoken == language and url not in urls:
             del FREE[place]

@@ -349,8 +349,9 @@ class Lost(Case):
     window.fetch = async (url, options) => {
         if (window.isDown && options.method === 'GET') throw new TypeError('down');
         if (options.method === 'GET' || !window.losing) return real(url, options);
-        const kind = window.losing; window.losing = null;
-        if (kind === 'reply') await real(url, options);
+        const kind = window.losing;
+        window.losing = kind === 'always' ? kind : null;
+        if (kind !== 'request') await real(url, options);
         throw new TypeError('lost');
     };
     """
@@ -423,6 +424,27 @@ class Lost(Case):
             told = it.send("tom", "GET", "/api/loans/0002-000001/entries")[1]["entries"]
             self.assertEqual([(one["amount"], one["staff"]) for one in told], [(2000, "2/3")])
             self.assertEqual(self.sent(it, "/repayments"), 2)
+
+    def test_repayment_given_up_and_entered_again(self):
+        """Whoever gives up after lost replies, and enters the repayment once more, does so with the same receipt."""
+        with desk_with(PAID_OUT) as it:
+            tom = self.reader_who_loses(it, "tom", LOAN)
+            tom.open_dialog("Enter a repayment")
+            tom.fill("Amount", "20")
+            tom.fill("Receipt", "N-7")
+            tom.script("window.losing = 'always'")
+            self.assertIn("No reply came: the connection was lost.", tom.refused("Enter a repayment"))
+            tom.cancel()
+            tom.script("window.losing = null")
+            tom.open_dialog("Enter a repayment")
+            tom.fill("Amount", "20")
+            tom.send("Enter a repayment")
+            told = it.send("tom", "GET", "/api/loans/0002-000001/entries")[1]["entries"]
+            self.assertEqual([one["amount"] for one in told], [2000])
+            self.assertEqual(told[0]["receipt"], "N-7")
+            tom.open_dialog("Enter a repayment")
+            self.assertNotEqual(tom.field("Receipt").get_attribute("value"), "N-7")
+            tom.cancel()
 
     def test_program_stopped(self):
         """Where the program does not run, the page says so, and goes on once it runs again."""

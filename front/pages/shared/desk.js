@@ -234,9 +234,31 @@ export function openSince(instalments) {
 
 // A text of 27 characters at most that no other repayment of the office has: who took the money, the business day,
 // eight characters by chance.
-export function makeReceipt() {
+function makeReceipt() {
     const letters = "ABCDEFGHJKLMNPQRSTUVWXYZ23456789";
     const chance = crypto.getRandomValues(new Uint8Array(8));
     const end = [...chance].map((byte) => letters[byte % letters.length]).join("");
     return `${session.staff.replace("/", ".")}-${session.day.replaceAll("-", "")}-${end}`;
+}
+
+function receiptKey(account) {
+    return `receipt ${session.staff} ${account}`;
+}
+
+// The receipt for the next repayment of a loan. It stays the same until a repayment with it was answered: whoever gives
+// up after a lost reply, and enters the repayment once more, does not enter it twice.
+export function nextReceipt(account) {
+    const key = receiptKey(account);
+    const receipt = localStorage.getItem(key) ?? makeReceipt();
+    localStorage.setItem(key, receipt);
+    return receipt;
+}
+
+// A receipt that is sent is the next one until it is answered, whoever made it.
+export function keepReceipt(account, receipt) {
+    localStorage.setItem(receiptKey(account), receipt);
+}
+
+export function endReceipt(account) {
+    localStorage.removeItem(receiptKey(account));
 }

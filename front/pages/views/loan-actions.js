@@ -94,9 +94,22 @@ function enterRepayment(told, again) {
             hint: say("do.repayment.hint", {due: showMoney(due), owed: showMoney(owed)})
         }),
         day: dayField({label: say("do.repayment.day"), value: session.day, least: told.day, most: session.day}),
-        receipt: receiptField({label: say("receipt"), value: desk.makeReceipt()}),
+        receipt: receiptField({label: say("receipt"), value: desk.nextReceipt(told.loan)}),
     };
-    return carryOut({name: "repayment", told, again, fields, send: (repayment) => repay(told.loan, repayment)});
+    return carryOut({name: "repayment", told, again, fields, send: (values) => sendRepayment(told.loan, values)});
+}
+
+async function sendRepayment(loan, repayment) {
+    desk.keepReceipt(loan, repayment.receipt);
+    try {
+        await repay(loan, repayment);
+    } catch (problem) {
+        if (problem.fault === "F15") {
+            desk.endReceipt(loan);
+        }
+        throw problem;
+    }
+    desk.endReceipt(loan);
 }
 
 // other entries: what tells later that one was entered is a new entry of this kind
