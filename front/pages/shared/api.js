@@ -1,0 +1,156 @@
+// Sends requests to the desk. One queue for the whole page sends at most four at once.
+
+const MOST_AT_ONCE = 4;
+const MOST_MILLISECONDS = 45_000;
+const WAITS_BETWEEN_TRIES = [300, 1000, 2000];
+
+// Why a request did not succeed. `fault` is the desk's refusal (F1 to F20), `front` the front's, both null where no
+// reply came.
+export class Problem extends Error {
+    constructor({fault = null, front = null, status = 0}) {
+        super(fault ?? front ?? "lost");
+        this.fault = fault;
+        this.front = front;
+        this.status = status;
+    }
+
+    // whether it is not known that the request was refused: it may have been carried out
+    get isLost() {
+        return this.fault === "F20" ||
+            (this.fault === null && !["origin", "large", "password", "left"].includes(this.front));
+    }
+}
+
+let running = 0;
+let waiting = [];
+
+// The page is marked while it asks for something.
+function count(more) {
+    running += more;
+    document.documentElement.toggleAttribute("data-asking", running > 0);
+}
+
+// Each waits for its turn in the order of asking.
+function turn(isReading) {
+    if (running < MOST_AT_ONCE) {
+        count(1);
+        return Promise.resolve();
+    }
+    return new Promise((go, refuse) => waiting.push({go, refuse, isReading}));
+}
+
+async function inTurn(isReading, send) {
+    await turn(isReading);
+    try {
+        return await send();
+    } finally {
+        const next = waiting.shift();
+        if (next) {
+            next.go();
+        } else {
+            count(-1);
+        }
+    }
+}
+
+// Gives up the readings of a page that is left and that were not sent yet, so that they don't hold up the next page.
+export function leavePage() {
+    waiting.filter(({isReading}) => isReading).forEach(({refuse}) => refuse(new Problem({front: "left"})));
+    waiting = waiting.filter(({isReading}) => !isReading);
+}
+
+export function pause(milliseconds) {
+    return new Promise((go) => setTimeout(go, milliseconds));
+}
+
+// JSON in which a number of more digits than a Number can hold is kept as a text of its digits
+export function readJson(text) {
+    const isString = (part) => part.startsWith("\"");
+    return JSON.parse(text.replace(/"(?:[^"\\]|\\.)*"|-?\d{16,}/g, (part) => (isString(part) ? part : `"${part}"`)));
+}
+
+async function fetchOnce(method, url, body) {
+    const isWriting = method !== "GET";
+    const headers = isWriting ? {"X-Desk": "1", "Content-Type": "application/json"} : {};
+    const ending = new AbortController();
+    const clock = setTimeout(() => ending.abort(), MOST_MILLISECONDS);
+    try {
+        const reply = await fetch(url, {
+            method,
+            headers,
+            cache: "no-store",
+            credentials: "same-origin",
+            signal: ending.signal,
+            body: body === undefined ? undefined : JSON.stringify(body),
+        });
+        return {status: reply.status, text: await reply.text()};
+    } catch {
+        throw new Problem({});
+    } finally {
+        clearTimeout(clock);
+    }
+}
+
+function judged({status, text}) {
+    let body;
+    try {
+        body = readJson(text);
+    } catch {
+        throw new Problem({front: status === 401 ? "password" : null, status});
+    }
+    if (status >= 200 && status < 300) {
+        return {status, body};
+    }
+    throw new Problem({fault: body.fault ?? null, front: body.front ?? null, status});
+}
+
+// Chromium sends no request from a page whose address has a password in it unless the address is given without one.
+function send(method, path, body) {
+    return inTurn(method === "GET", async () => judged(await fetchOnce(method, location.origin + path, body)));
+}
+
+async function tryAgain(once) {
+    for (const wait of WAITS_BETWEEN_TRIES) {
+        try {
+            return await once();
+        } catch (problem) {
+            if (!(problem instanceof Problem) || !problem.isLost) {
+                throw problem;
+            }
+        }
+        await pause(wait);
+    }
+    return once();
+}
+
+// the body of the reply; a reading may be sent again, since it changes nothing
+export async function read(path) {
+    return (await tryAgain(() => send("GET", `/api${path}`))).body;
+}
+
+// the body of the reply, or null where the thing isn't there or isn't seen
+export async function readIfThere(path) {
+    try {
+        return await read(path);
+    } catch (problem) {
+        if (problem.fault === "F4") {
+            return null;
+        }
+        throw problem;
+    }
+}
+
+// a request that may change something, sent once
+export function change(method, path, body) {
+    return send(method, `/api${path}`, body);
+}
+
+// A repayment with its receipt may be sent again: what was entered is not entered twice, and is answered with status
+// 200.
+export function repay(loan, repayment) {
+    return tryAgain(() => change("POST", `/loans/${loan}/repayments`, repayment));
+}
+
+export async function whoAmI() {
+    return (await tryAgain(() => send("GET", "/me"))).body;
+}

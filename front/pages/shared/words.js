@@ -1,0 +1,85 @@
+// The reader's language and locale. All words of a language stand in one file of words/, each under the same keys.
+import en from "../words/en.js";
+import fr from "../words/fr.js";
+import es from "../words/es.js";
+import sw from "../words/sw.js";
+import {moneyFor} from "./money.js";
+import {daysFor} from "./days.js";
+
+const ALL = {
+    en,
+    fr,
+    es,
+    sw
+};
+const KEPT_AS = "language";
+
+export const LANGUAGES = [["en", "English"], ["fr", "Français"], ["es", "Español"], ["sw", "Kiswahili"]];
+
+function browserLanguages() {
+    return navigator.languages?.length ? navigator.languages : [navigator.language || "en"];
+}
+
+function mainPart(locale) {
+    return locale.toLowerCase().split("-")[0];
+}
+
+function chosen() {
+    const kept = localStorage.getItem(KEPT_AS);
+    if (kept in ALL) {
+        return {language: kept, locale: browserLanguages().find((locale) => mainPart(locale) === kept) ?? kept};
+    }
+    const known = browserLanguages().find((locale) => mainPart(locale) in ALL);
+    return {language: known ? mainPart(known) : "en", locale: browserLanguages()[0]};
+}
+
+export const {language, locale} = chosen();
+
+export function chooseLanguage(name) {
+    localStorage.setItem(KEPT_AS, name);
+    location.reload();
+}
+
+const words = ALL[language];
+const money = moneyFor(locale);
+const plural = new Intl.PluralRules(language);
+const counted = new Intl.NumberFormat(locale, {numberingSystem: "latn"});
+
+// the words of a key, each {name} in them replaced by that value
+export function say(key, values = {}) {
+    const text = words[key];
+    if (text === undefined) {
+        throw new Error(`no words for ${key}`);
+    }
+    return text.replace(/\{(\w+)\}/g, (_, name) => String(values[name]));
+}
+
+export function hasWords(key) {
+    return key in words;
+}
+
+// the words for so many: those of the key that ends in .one or in .other, as the language counts
+export function sayCount(key, count, values = {}) {
+    const form = plural.select(count) === "one" ? "one" : "other";
+    return say(`${key}.${form}`, {count: showCount(count), ...values});
+}
+
+export const showMoney = money.format;
+export const readMoney = money.parse;
+export const showDay = daysFor(locale);
+
+export function showCount(count) {
+    return counted.format(count);
+}
+
+const percent = new Intl.NumberFormat(locale, {style: "percent", numberingSystem: "latn"}).format(0);
+
+// hundredths of a percent, with the sign where the locale has it
+export function showPercent(hundredths) {
+    return percent.replace("0", money.format(hundredths));
+}
+
+// how often an instalment is due
+export function showStep({frequency, every}) {
+    return sayCount(`frequency.${frequency}`, every);
+}

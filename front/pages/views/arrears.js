@@ -1,0 +1,133 @@
+// Arrears: the report as a table and as a graph, and an office's overdue loans.
+import {card, element, emptyState, fill, link, spinner, button} from "../shared/elements.js";
+import {read} from "../shared/api.js";
+import {renewDay, session} from "../shared/session.js";
+import {ACTIVE, asTree, clientName, loan, loansOf, offices, openSince, schedule} from "../shared/desk.js";
+import {centsOfText} from "../shared/money.js";
+import {daysBetween} from "../shared/days.js";
+import {say, showCount, showDay, showMoney, showPercent} from "../shared/words.js";
+import {amount, day, pageHead, row, table} from "../shared/tables.js";
+import {classBars, CLASS_COLOURS} from "../shared/graphs.js";
+
+const MOST_BARS = 30;
+const CLASSES = ["c1_30", "c31_60", "c61_90", "over_90"];
+
+// The bars of those offices that have active loans: what is outstanding of their principal, by class. What no class
+// holds is not overdue. Where there are more than can be read, those with the most outstanding.
+export function barsOf(tree, report) {
+    const names = new Map(tree.map(({number, name}) => [number, name]));
+    const outstanding = (line) => centsOfText(line.outstanding);
+    const most = report.offices.filter((line) => line.loans > 0)
+                     .sort((one, other) => (outstanding(one) > outstanding(other) ? -1 : 1))
+                     .slice(0, MOST_BARS);
+    return most.sort((one, other) => one.office - other.office).map((line) => {
+        const cents = Object.fromEntries(CLASSES.map((name) => [name, centsOfText(line[name])]));
+        const overdue = CLASSES.reduce((all, name) => all + cents[name], 0n);
+        return {
+            name: `${line.office} ${names.get(line.office) ?? ""}`,
+            cents: {none: outstanding(line) - overdue, ...cents},
+        };
+    });
+}
+
+export async function arrears(page, number) {
+    const [list, report] = await Promise.all([offices(), read("/reports/arrears"), renewDay()]);
+    window.dispatchEvent(new Event("desk-day"));
+    const tree = asTree(list);
+    const office = number && list.find((one) => one.number === Number(number));
+    if (office) {
+        return officeArrears(page, office, report);
+    }
+    const made = barsOf(tree, report);
+    const graph = made.length === 0 ? emptyState(say("today.no-loans")) : classBars(made, say("arrears.graph"));
+    const print = button(say("print"), () => window.print(), {class: "btn btn-outline-secondary"});
+    fill(
+        page, pageHead({title: say("arrears.title", {day: showDay(session.day)}), actions: [print]}),
+        element("p", {class: "text-muted"}, say("arrears.what")), card(say("arrears.graph"), graph),
+        element("div", {class: "mt-3"}, card(say("arrears.table"), reportTable(tree, report))));
+}
+
+function lineCells(line) {
+    return [
+        {number: showCount(line.loans)}, ...["outstanding", ...CLASSES].map((name) => amount(centsOfText(line[name]))),
+        {number: showPercent(centsOfText(line.par30))}
+    ];
+}
+
+function reportTable(tree, report) {
+    const lines = new Map(report.offices.map((line) => [line.office, line]));
+    const rows = tree.filter(({number}) => lines.has(number))
+                     .map((office) => row([
+                              {
+                                  head: element(
+                                      "span", {class: `level-${office.depth}`},
+                                      link(`#/arrears/${office.number}`, `${office.number} ${office.name}`))
+                              },
+                              ...lineCells(lines.get(office.number))
+                          ]));
+    const foot = row([{head: say("all")}, ...lineCells(report.all)], {class: "fw-semibold"});
+    const columns = [
+        {words: say("office")}, {words: say("loans.active"), kind: "number"},
+        {words: say("outstanding"), kind: "number"},
+        ...CLASSES.map((name) => ({words: say(`class.${name}`), kind: "number"})), {words: say("par30"), kind: "number"}
+    ];
+    return table({caption: say("arrears.table"), columns, rows, foot}).node;
+}
+
+async function officeArrears(page, office, report) {
+    const line = report.offices.find((one) => one.office === office.number);
+    const place = element("div", {}, spinner(say("loading")));
+    const title = say("arrears.office", {office: `${office.number} ${office.name}`});
+    fill(
+        page, pageHead({title, trail: [[say("way.arrears"), "#/arrears"]]}),
+        line && card(null, table({
+                               caption: title,
+                               rows: [row([{head: `${office.number} ${office.name}`}, ...lineCells(line)])],
+                               columns: [
+                                   {words: say("office")}, {words: say("loans.active"), kind: "number"},
+                                   {words: say("outstanding"), kind: "number"},
+                                   ...CLASSES.map((name) => ({words: say(`class.${name}`), kind: "number"})),
+                                   {words: say("par30"), kind: "number"}
+                               ],
+                           }).node),
+        element("div", {class: "mt-3"}, card(say("arrears.loans"), place)));
+    const overdue = await overdueLoans(office.number);
+    fill(place, overdue.length === 0 ? emptyState(say("arrears.none")) : overdueTable(overdue));
+}
+
+// the active loans of an office of which something is overdue, the longest overdue first
+async function overdueLoans(office) {
+    const active = (await loansOf(office)).filter(({status}) => status === ACTIVE);
+    const seen = await Promise.all(active.map(async ({loan: account}) => {
+        const since = openSince(await schedule(account));
+        const days = since === null ? 0 : daysBetween(since, session.day);
+        if (days <= 0) {
+            return null;
+        }
+        const told = await loan(account);
+        return {account, since, days, told, name: await clientName(told.client)};
+    }));
+    return seen.filter((one) => one !== null).sort((one, other) => other.days - one.days);
+}
+
+function classOf(days) {
+    return days <= 30 ? "c1_30" : days <= 60 ? "c31_60" : days <= 90 ? "c61_90" : "over_90";
+}
+
+function dot(name) {
+    const mark = element("span", {class: "class-dot", "aria-hidden": "true"});
+    mark.style.backgroundColor = CLASS_COLOURS[name];
+    return mark;
+}
+
+function overdueTable(overdue) {
+    const rows = overdue.map(({account, since, days, told, name}) => row([
+                                 {head: link(`#/loan/${account}`, account)}, name, day(since),
+                                 {number: [dot(classOf(days)), showCount(days)]}, amount(told.outstanding.principal)
+                             ]));
+    const columns = [
+        {words: say("loan")}, {words: say("client")}, {words: say("open-since")},
+        {words: say("overdue.days"), kind: "number"}, {words: say("outstanding.principal"), kind: "number"}
+    ];
+    return table({caption: say("arrears.loans"), columns, rows}).node;
+}

@@ -1,0 +1,105 @@
+// An office's clients, found by name as one types; a new client.
+import {button, card, element, emptyState, fill, freshId, link, spinner} from "../shared/elements.js";
+import {change} from "../shared/api.js";
+import {may, OFFICER, session} from "../shared/session.js";
+import {accountOf, asTree, clientsOf, offices} from "../shared/desk.js";
+import {say, showCount} from "../shared/words.js";
+import {officeChoice, pageHead, row, table} from "../shared/tables.js";
+import {ask, note} from "../shared/dialogs.js";
+import {nameField} from "../shared/forms.js";
+import {keptWriting, Writing} from "../shared/writing.js";
+
+const SHOWN_AT_MOST = 100;
+
+export async function clients(page, office = session.office) {
+    const number = Number(office);
+    const tree = asTree(await offices());
+    const own = tree.find((one) => one.number === number);
+    const name = own ? `${own.number} ${own.name}` : String(number);
+    const actions = may(OFFICER) && own ?
+        [button(say("client.new"), () => newClient(number, name), {class: "btn btn-primary"})] :
+        [];
+    const choice = officeChoice({
+        tree,
+        value: number,
+        label: say("office"),
+        onchange: (other) => {
+            location.hash = `#/clients/${other}`;
+        }
+    });
+    const id = freshId("find");
+    const search = element("input", {class: "form-control", type: "search", id, autocomplete: "off"});
+    const finder = element("div", {}, element("label", {class: "form-label", "for": id}, say("clients.find")), search);
+    const place = element("div", {}, spinner(say("loading")));
+    fill(
+        page, pageHead({title: say("clients.title"), actions}), element("div", {class: "filters"}, choice, finder),
+        card(null, place));
+    let known = [];
+    let isWhole = false;
+    const show = () => showFound(place, number, known, search.value, isWhole);
+    search.addEventListener("input", show);
+    await clientsOf(number, (list) => {
+        known = list;
+        show();
+    });
+    isWhole = true;
+    show();
+}
+
+// without accents and in small letters, so that "jose" finds "José"
+function plain(text) {
+    return text.normalize("NFD").replace(/\p{Mn}/gu, "").toLowerCase();
+}
+
+function found(list, wanted) {
+    const parts = plain(wanted).split(/\s+/).filter((part) => part !== "");
+    return list.map((name, i) => ({name, number: i + 1})).filter(({name, number}) => {
+        const text = `${plain(name)} ${String(number).padStart(6, "0")}`;
+        return parts.every((part) => text.includes(part));
+    });
+}
+
+function showFound(place, office, list, wanted, isWhole) {
+    const all = found(list, wanted);
+    const rows = all.slice(0, SHOWN_AT_MOST).map(({name, number}) => {
+        const account = accountOf(office, number);
+        return row([{head: link(`#/client/${account}`, name)}, element("span", {class: "amount"}, account)]);
+    });
+    const columns = [{words: say("client")}, {words: say("number")}];
+    const count = element(
+        "p", {class: "text-muted mt-2 mb-0", role: "status"},
+        isWhole ? say("clients.count", {found: showCount(all.length), all: showCount(list.length)}) : say("loading"),
+        all.length > SHOWN_AT_MOST && ` ${say("clients.more", {count: showCount(SHOWN_AT_MOST)})}`);
+    if (rows.length === 0 && isWhole) {
+        fill(place, emptyState(say(list.length === 0 ? "clients.none" : "clients.not-found")), count);
+    } else {
+        fill(place, table({caption: say("clients.title"), columns, rows}).node, count);
+    }
+}
+
+async function newClient(office, officeName) {
+    const made = await ask({
+        title: say("client.new"),
+        text: say("client.new.what", {office: officeName}),
+        action: say("client.enter"),
+        fields: {name: nameField({label: say("name")})},
+        send: keptWriting(({name: chosen}) => clientWriting(office, chosen)),
+    });
+    if (made !== null) {
+        note(say("client.entered", {client: made.client}));
+        location.hash = `#/client/${made.client}`;
+    }
+}
+
+// What tells later that the client was entered is one of this name with a number past those that were there before.
+function clientWriting(office, name) {
+    return new Writing({
+        before: async () => (await clientsOf(office)).length,
+        send: async () => (await change("POST", "/clients", {office, name})).body,
+        find: async (count) => {
+            const list = await clientsOf(office);
+            const place = list.indexOf(name, count);
+            return place < 0 ? null : {client: accountOf(office, place + 1)};
+        },
+    });
+}

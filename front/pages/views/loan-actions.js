@@ -1,0 +1,235 @@
+// What may be done with a loan, by its status and the reader's role. Each is asked before it is sent.
+import {change, repay} from "../shared/api.js";
+import {MANAGER, OFFICER, TELLER, may, session} from "../shared/session.js";
+import * as desk from "../shared/desk.js";
+import {sum} from "../shared/money.js";
+import {say, showDay, showMoney, showPercent} from "../shared/words.js";
+import {ask, note} from "../shared/dialogs.js";
+import {choiceField, dayField, moneyField, receiptField} from "../shared/forms.js";
+import {keptWriting, Writing} from "../shared/writing.js";
+
+const SEALS = ["write-off", "refund"];
+
+// each with its words, how to run it, and whether it is grave
+export function loanActions(told, again) {
+    const made = [];
+    const offer = (rank, status, name, run, isGrave = false) => {
+        if (may(rank) && told.status === status) {
+            made.push({words: say(`do.${name}`), run: () => run(told, again), isGrave});
+        }
+    };
+    offer(MANAGER, 100, "approve", stepTo("approve", 200));
+    offer(MANAGER, 100, "reject", stepTo("reject", 500, true), true);
+    offer(OFFICER, 100, "withdraw", stepTo("withdraw", 400, true), true);
+    offer(MANAGER, 200, "disburse", disburse);
+    offer(MANAGER, 200, "undo-approval", stepTo("undo-approval", 100));
+    offer(TELLER, 300, "repayment", enterRepayment);
+    offer(OFFICER, 300, "fee", enterFee);
+    offer(OFFICER, 300, "penalty", enterPenalty);
+    offer(MANAGER, 300, "waiver", enterWaiver);
+    offer(MANAGER, 300, "write-off", enterWriteOff, true);
+    offer(MANAGER, 700, "refund", enterRefund);
+    return made;
+}
+
+// Asks, sends, tells that it was done and shows the loan anew. It is shown anew where nothing was done too: another may
+// have changed it meanwhile.
+async function carryOut({name, told, again, values = {}, fields = {}, isGrave = false, send}) {
+    const all = {loan: told.loan, client: told.name, ...values};
+    const done = await ask({
+        title: say(`do.${name}`),
+        text: say(`do.${name}.what`, all),
+        fields,
+        isGrave,
+        action: say(`do.${name}`),
+        send
+    });
+    if (done !== null) {
+        note(say(`do.${name}.done`, all));
+    }
+    await again();
+    document.getElementById("title")?.focus({preventScroll: true});
+}
+
+// a step to another status
+
+function stepTo(step, status, isGrave = false) {
+    return (told, again) => {
+        const writing = stepWriting(told, step, status);
+        const values = {amount: showMoney(told.principal)};
+        return carryOut({name: step, told, again, values, isGrave, send: () => writing.attempt()});
+    };
+}
+
+function stepWriting(told, step, status, body) {
+    return new Writing({
+        send: () => change("POST", `/loans/${told.loan}/${step}`, body),
+        find: async () => {
+            const now = await desk.loan(told.loan);
+            return now.status === status || (status === desk.ACTIVE && now.day !== null) ? now : null;
+        },
+    });
+}
+
+function disburse(told, again) {
+    const fields = {
+        day: dayField(
+            {label: say("loan.paid-out"), value: session.day, most: session.day, hint: say("do.disburse.hint")})
+    };
+    const send = keptWriting(({day}) => stepWriting(told, "disburse", desk.ACTIVE, {day}));
+    return carryOut({name: "disburse", told, again, fields, values: {amount: showMoney(told.principal)}, send});
+}
+
+// a repayment: its receipt is made before it is sent, so it may be sent again
+
+function enterRepayment(told, again) {
+    const due = sum(told.instalments.filter((one) => one.due <= session.day).map((one) => one.outstanding));
+    const next = told.instalments.find(desk.isOpen);
+    const proposed = due > 0n ? due : BigInt(next?.outstanding ?? 0);
+    const owed = desk.total(told.outstanding);
+    const fields = {
+        amount: moneyField({
+            label: say("amount"),
+            value: proposed,
+            hint: say("do.repayment.hint", {due: showMoney(due), owed: showMoney(owed)})
+        }),
+        day: dayField({label: say("do.repayment.day"), value: session.day, least: told.day, most: session.day}),
+        receipt: receiptField({label: say("receipt"), value: desk.nextReceipt(told.loan)}),
+    };
+    return carryOut({name: "repayment", told, again, fields, send: (values) => sendRepayment(told.loan, values)});
+}
+
+async function sendRepayment(loan, repayment) {
+    desk.keepReceipt(loan, repayment.receipt);
+    try {
+        await repay(loan, repayment);
+    } catch (problem) {
+        if (problem.fault === "F15") {
+            desk.endReceipt(loan);
+        }
+        throw problem;
+    }
+    desk.endReceipt(loan);
+}
+
+// other entries: what tells later that one was entered is a new entry of this kind
+
+function entryWriting(told, {path, body, kind, isSame = () => true}) {
+    return new Writing({
+        before: async () => (await desk.entries(told.loan)).length,
+        send: () => change("POST", `/loans/${told.loan}/${path}`, body),
+        find: async (count) => {
+            const made = (await desk.entries(told.loan)).slice(count);
+            return made.find((entry) => entry.kind === kind && entry.staff === session.staff && isSame(entry)) ?? null;
+        },
+    });
+}
+
+async function enterFee(told, again) {
+    const dueCharges = (await desk.charges()).filter(({kind}) => kind === "due-date");
+    if (dueCharges.length === 0) {
+        note(say("do.fee.none"));
+        return;
+    }
+    const fields = {
+        charge: choiceField({
+            label: say("charge"),
+            choices: dueCharges.map((one) => [String(one.charge), `${one.charge} ${one.name}: ${chargeWords(one)}`])
+        }),
+        due: dayField({label: say("do.fee.due"), value: session.day, least: told.day, hint: say("do.fee.hint")}),
+    };
+    const send = keptWriting(
+        ({charge, due}) => entryWriting(told, {path: "fees", kind: "fee", body: {charge: Number(charge), due}}));
+    await carryOut({name: "fee", told, again, fields, send});
+}
+
+export function chargeWords({calc, value}) {
+    return calc === "flat" ? showMoney(value) : `${showPercent(value)} ${say(`calc.${calc}`)}`;
+}
+
+async function enterPenalty(told, again) {
+    const hasPenalty = (number) =>
+        told.entries.some((entry) => entry.kind === "penalty" && !entry.reversed && entry.instalment === number);
+    const late = told.instalments.filter((one) => desk.isOpen(one) && one.due < session.day && !hasPenalty(one.number));
+    if (told.terms.overdue_charge === null || late.length === 0) {
+        note(say(told.terms.overdue_charge === null ? "do.penalty.no-charge" : "do.penalty.none"));
+        return;
+    }
+    const charge = await desk.charge(told.terms.overdue_charge);
+    const fields = {instalment: instalmentChoice(late)};
+    const send = keptWriting(({instalment}) => entryWriting(told, {
+                                 path: "penalties",
+                                 kind: "penalty",
+                                 body: {instalment: Number(instalment)},
+                                 isSame: (entry) => entry.instalment === Number(instalment),
+                             }));
+    await carryOut(
+        {name: "penalty", told, again, fields, values: {charge: `${charge.name}: ${chargeWords(charge)}`}, send});
+}
+
+function instalmentChoice(instalments) {
+    return choiceField({
+        label: say("instalment"),
+        choices: instalments.map(
+            (one) => [String(one.number), `${one.number} · ${showDay(one.due)} · ${showMoney(one.outstanding)}`]),
+    });
+}
+
+async function enterWaiver(told, again) {
+    const choices = told.instalments.flatMap(
+        (one) => Object.entries(desk.outstandingPortions(one, told.entries))
+                     .filter(([portion, cents]) => portion !== "principal" && cents > 0n)
+                     .map(([portion, cents]) => [`${one.number} ${portion}`, `${say("instalment.of", {
+                                                     number: one.number
+                                                 })} · ${say(`portion.${portion}`)} ${showMoney(cents)}`]));
+    if (choices.length === 0) {
+        note(say("do.waiver.none"));
+        return;
+    }
+    const fields = {what: choiceField({label: say("do.waiver.choose"), choices})};
+    const send = keptWriting(({what}) => {
+        const [instalment, portion] = [Number(what.split(" ")[0]), what.split(" ")[1]];
+        const isSame = (entry) => entry.instalment === instalment && entry.portion === portion;
+        return entryWriting(told, {path: "waivers", kind: "waiver", body: {instalment, portion}, isSame});
+    });
+    await carryOut({name: "waiver", told, again, fields, send});
+}
+
+function enterWriteOff(told, again) {
+    const send = keptWriting(() => entryWriting(told, {path: "write-off", kind: "write-off"}));
+    return carryOut({
+        name: "write-off",
+        told,
+        again,
+        isGrave: true,
+        values: {amount: showMoney(desk.total(told.outstanding))},
+        send
+    });
+}
+
+function enterRefund(told, again) {
+    const send = keptWriting(() => entryWriting(told, {path: "refund", kind: "refund"}));
+    return carryOut({name: "refund", told, again, values: {amount: showMoney(told.overpaid)}, send});
+}
+
+// a reversal: where a write-off or a refund stands, that one alone
+
+export function mayReverse(told, entry) {
+    const seal = told.entries.find((one) => SEALS.includes(one.kind) && !one.reversed);
+    return may(MANAGER) && !entry.reversed && (seal === undefined || seal.entry === entry.entry);
+}
+
+export function reverseEntry(told, entry, again) {
+    const writing = new Writing({
+        send: () => change("POST", `/loans/${told.loan}/entries/${entry.entry}/reverse`),
+        find: async () =>
+            (await desk.entries(told.loan)).find((one) => one.entry === entry.entry && one.reversed) ?? null,
+    });
+    const values = {
+        number: entry.entry,
+        kind: say(`kind.${entry.kind}`),
+        amount: showMoney(entry.amount),
+        day: showDay(entry.day)
+    };
+    return carryOut({name: "reverse", told, again, isGrave: true, values, send: () => writing.attempt()});
+}

@@ -1,0 +1,184 @@
+// Collection sheets: the repayments of a round or of a file are sent line by line, and what came of each is told.
+import {alertBox, button, card, element, fill, freshId} from "../shared/elements.js";
+import {Problem, repay} from "../shared/api.js";
+import {isAccount} from "../shared/desk.js";
+import {centsOfText, LEAST, MOST, textOfCents} from "../shared/money.js";
+import {isDay} from "../shared/days.js";
+import {inWords} from "../shared/refusals.js";
+import {say, sayCount, showCount} from "../shared/words.js";
+import {amount, day, row, table} from "../shared/tables.js";
+
+const NAMES = ["receipt", "loan", "date", "amount"];
+const MOST_BYTES = 1_048_576;
+
+// Sends lines in their order. Ends early where no reply comes, and answers that problem: the lines after it were not
+// sent.
+export async function sendLines(lines, tell) {
+    for (const line of lines) {
+        line.isSending = true;
+        tell(line);
+        const problem = await sendLine(line);
+        line.isSending = false;
+        tell(line);
+        if (problem?.isLost || problem?.front === "password") {
+            return problem;
+        }
+    }
+    return null;
+}
+
+async function sendLine(line) {
+    try {
+        const {status} = await repay(line.loan, {amount: Number(line.cents), day: line.day, receipt: line.receipt});
+        line.result = status === 201 ? "entered" : "repeated";
+        return null;
+    } catch (problem) {
+        if (!(problem instanceof Problem)) {
+            throw problem;
+        }
+        line.result = problem.fault ?? "lost";
+        return problem;
+    }
+}
+
+// what came of a line: entered, repeated, the refusal in words, or that no reply came
+export function resultNode(result) {
+    if (result === null) {
+        return "";
+    }
+    if (result === "entered" || result === "repeated") {
+        return element("span", {class: "badge status-closed", "data-result": result}, say(`result.${result}`));
+    }
+    if (result === "lost") {
+        return element("span", {class: "badge status-waiting", "data-result": result}, say("result.lost"));
+    }
+    const {what, todo} = inWords(new Problem({fault: result}));
+    return element(
+        "span", {class: "line-refusal", "data-result": result}, element("strong", {}, `${result}: ${what} `), todo);
+}
+
+// how many lines came to what, in words
+export function tally(lines) {
+    const count = (names) => lines.filter((line) => names.includes(line.result)).length;
+    const refused = lines.filter((line) => /^F/.test(line.result ?? "")).length;
+    return [
+        ["entered", count(["entered"])], ["repeated", count(["repeated"])], ["refused", refused],
+        ["lost", count(["lost"])]
+    ].filter(([, number]) => number > 0)
+        .map(([name, number]) => say(`tally.${name}`, {count: showCount(number)}))
+        .join(" · ");
+}
+
+// the round as a sheet: the amounts typed in; where none is, what is due
+export function saveSheet(lines, name) {
+    const isTyped = lines.some((line) => line.cents !== null);
+    const rows = lines.filter((line) => !isTyped || line.cents !== null)
+                     .map((line) => [line.receipt, line.loan, line.day, textOfCents(line.cents ?? line.due)]);
+    saveText(`${d3.csvFormatRows([NAMES, ...rows])}\n`, `sheet-${name}.csv`);
+}
+
+function saveText(text, name) {
+    const address = URL.createObjectURL(new Blob([text], {type: "text/csv"}));
+    const save = element("a", {href: address, download: name});
+    document.body.append(save);
+    save.click();
+    save.remove();
+    URL.revokeObjectURL(address);
+}
+
+// a sheet from disk
+
+// Reads as the command `collect` does: a first line with the names of the columns is passed over, spaces round a field
+// are ignored, and a line that has not four good fields is refused by F1.
+export function readSheet(text) {
+    const rows = d3.csvParseRows(text.replace(/^\ufeff/, "")).filter((fields) => fields.length > 1 || fields[0] !== "");
+    const bare = rows.map((fields) => fields.map((field) => field.replace(/^[ \t]+|[ \t]+$/g, "")));
+    const isHead = bare[0]?.length === 4 && bare[0].every((field, i) => field.toLowerCase() === NAMES[i]);
+    return (isHead ? bare.slice(1) : bare).map((fields, i) => lineOf(fields, rows[i + (isHead ? 1 : 0)]));
+}
+
+function lineOf(fields, written) {
+    const [receipt, loan, date, money] = fields;
+    const cents = centsOf(money ?? "");
+    const isGood = fields.length === 4 && /^[\u0021-\u007e]{1,40}$/.test(receipt) && isAccount(loan) && isDay(date) &&
+        cents !== null;
+    return {receipt, loan, day: date, cents, written, isGood, result: isGood ? null : "F1"};
+}
+
+function centsOf(text) {
+    const cents = /^\d{1,11}(\.\d{1,2})?$/.test(text) ? centsOfText(text) : null;
+    return cents !== null && cents >= LEAST && cents <= MOST ? cents : null;
+}
+
+function resultText(lines) {
+    const rows = lines.map((line) => [...NAMES.map((_, i) => line.written[i] ?? ""), line.result ?? ""]);
+    return `${d3.csvFormatRows([[...NAMES, "result"], ...rows])}\n`;
+}
+
+export function sheetCard() {
+    const id = freshId("sheet");
+    const input = element("input", {class: "form-control", type: "file", id, accept: ".csv,text/csv"});
+    const place = element("div", {class: "mt-3"});
+    input.addEventListener("change", async () => {
+        const file = input.files[0];
+        if (file) {
+            await showFile(place, file);
+        }
+    });
+    return card(
+        say("sheet.title"), element("p", {class: "text-muted"}, say("sheet.what")),
+        element("label", {class: "form-label", "for": id}, say("sheet.choose")), input, place);
+}
+
+async function showFile(place, file) {
+    if (file.size > MOST_BYTES) {
+        fill(place, alertBox("danger", say("sheet.large")));
+        return;
+    }
+    const lines = readSheet(await file.text());
+    if (lines.length === 0) {
+        fill(place, alertBox("info", say("sheet.empty")));
+        return;
+    }
+    showSheet(place, lines, file.name);
+}
+
+function showSheet(place, lines, name) {
+    const good = lines.filter((line) => line.isGood);
+    const rows = new Map(lines.map((line) => [line, sheetRow(line)]));
+    const summary = element(
+        "p", {class: "fw-semibold", role: "status"},
+        say("sheet.found", {count: showCount(lines.length), good: showCount(good.length)}));
+    const trouble = element("div", {"aria-live": "assertive"});
+    const save = button(
+        say("sheet.save"), () => saveText(resultText(lines), name.replace(/(\.csv)?$/i, "-results.csv")),
+        {class: "btn btn-outline-secondary", hidden: true});
+    const enter = button(sayCount("round.enter", good.length), async () => {
+        enter.disabled = true;
+        fill(trouble);
+        const problem = await sendLines(good, (line) => rows.get(line).show());
+        summary.textContent = tally(lines);
+        fill(trouble, problem && alertBox("warning", say("round.stopped")));
+        enter.textContent = say("round.send-again", {count: showCount(good.length)});
+        enter.disabled = false;
+        save.hidden = false;
+    }, {class: "btn btn-primary", disabled: good.length === 0});
+    const columns = [
+        {words: say("receipt")}, {words: say("loan")}, {words: say("day")}, {words: say("amount"), kind: "number"},
+        {words: say("round.result"), isWide: true}
+    ];
+    fill(
+        place, summary, table({caption: say("sheet.title"), columns, rows: [...rows.values()].map(({tr}) => tr)}).node,
+        element("div", {class: "page-actions mt-3"}, enter, save), trouble);
+}
+
+function sheetRow(line) {
+    const result = element("div", {class: "line-result", "aria-live": "polite"});
+    const show = () => result.replaceChildren(line.isSending ? say("sending") : resultNode(line.result));
+    show();
+    const cells = line.isGood ? [{head: line.receipt}, line.loan, day(line.day), amount(line.cents), result] : [
+        {head: line.written[0] ?? ""}, line.written[1] ?? "", line.written[2] ?? "", {number: line.written[3] ?? ""},
+        result
+    ];
+    return {tr: row(cells), show};
+}

@@ -1,0 +1,323 @@
+"""Tests of each page: by each role, at two widths, in each language; what a keyboard and a screen reader need."""
+import json
+import re
+import unittest
+
+import desk
+import reader
+
+# the demonstration's people, and what each may do
+PEOPLE = ("amina", "ruth", "paulo", "zoe", "tom")
+PLACES = (
+    "today",
+    "clients/21",
+    "client/0021-000003",
+    "loans/21",
+    "loan/0021-000028",
+    "statement/0021-000028",
+    "round/21",
+    "arrears",
+    "arrears/21",
+    "catalogue",
+    "people",
+)
+WIDTHS = (360, 1280)
+TELLER = {"loan/0021-000028": {"Enter a repayment", "Statement"}}
+OFFICER = {
+    "clients/21": {"New client"},
+    "client/0021-000003": {"New loan"},
+    "loan/0021-000028": TELLER["loan/0021-000028"] | {"Enter a fee", "Enter a penalty"},
+}
+MANAGER = OFFICER | {
+    "loan/0021-000028": OFFICER["loan/0021-000028"] | {"Waive", "Write off"},
+    "people": {"New member of staff"},
+}
+HEAD_OFFICE = MANAGER | {
+    "today": {"Move the business day"},
+    "catalogue": {"New charge", "New product"},
+    "people": {"New office", "New member of staff"},
+}
+MAY = {"tom": TELLER, "zoe": OFFICER, "paulo": MANAGER, "ruth": MANAGER, "amina": HEAD_OFFICE}
+ALWAYS = {"statement/0021-000028": {"Print"}, "round/21": {"Print", "Save as a sheet"}, "arrears": {"Print"}}
+ROLES = {"tom": "Teller", "zoe": "Loan officer", "paulo": "Manager", "ruth": "Manager", "amina": "Head office"}
+
+# the texts that have too little contrast with what lies behind them (WCAG 2.1 AA: 4.5, and 3 where they are large)
+CONTRAST = """
+const linear = (v) => v / 255 <= .03928 ? v / 255 / 12.92 : ((v / 255 + .055) / 1.055) ** 2.4;
+const light = (c) => { const l = c.map(linear);
+    return .2126 * l[0] + .7152 * l[1] + .0722 * l[2]; };
+const read = (text) => { const n = text.match(/[\\d.]+/g).map(Number); return [n.slice(0, 3), n[3] ?? 1]; };
+const over = (top, share, under) => top.map((v, i) => v * share + under[i] * (1 - share));
+const ground = (node) => { const [c, share] = read(getComputedStyle(node).backgroundColor);
+    const below = share < 1 ? (node.parentElement ? ground(node.parentElement) : [255, 255, 255]) : c;
+    return share < 1 ? over(c, share, below) : c; };
+const poor = [];
+for (const node of document.querySelectorAll('body *')) {
+    const own = [...node.childNodes].some((one) => one.nodeType === 3 && one.textContent.trim() !== '');
+    const box = node.getBoundingClientRect();
+    if (!own || node.closest('.visually-hidden, :disabled, .skip-link') || box.width < 2 || box.height < 2) continue;
+    const style = getComputedStyle(node); const behind = ground(node);
+    const [c, share] = read(style.color); const text = over(c, share, behind);
+    const [a, b] = [light(text), light(behind)].sort((x, y) => y - x); const ratio = (a + .05) / (b + .05);
+    const size = parseFloat(style.fontSize);
+    const isLarge = size >= 24 || (size >= 18.66 && Number(style.fontWeight) >= 700);
+    if (ratio < (isLarge ? 3 : 4.5)) poor.push(`${ratio.toFixed(2)} ${node.className} ${node.textContent.trim()}`);
+}
+return poor;
+"""
+
+# the fields and buttons that a screen reader has no name for
+NAMELESS = """
+return [...document.querySelectorAll('input, select, button, a[href]')].filter((node) => {
+    const label = node.id && document.querySelector(`label[for="${node.id}"]`);
+    const own = /INPUT|SELECT/.test(node.tagName) ? '' : node.textContent;
+    const words = (node.getAttribute('aria-label') ?? '') + (label?.textContent ?? '') + own;
+    return words.trim() === '' && getComputedStyle(node).display !== 'none';
+}).map((node) => node.outerHTML.slice(0, 120));
+"""
+
+# all that the page has loaded
+LOADED = "return performance.getEntriesByType('resource').map((one) => one.name)"
+
+
+def setUpModule():
+    global DESK
+    DESK = desk.Desk()
+    unittest.addModuleCleanup(DESK.end)
+
+
+class EachPage(unittest.TestCase):
+    """Each page by each role: what may be done there, at two widths."""
+
+    def look(self, it, name, place):
+        """What may be done there, and what a screen reader is told."""
+        allowed = MAY[name].get(place, set()) | ALWAYS.get(place, set())
+        self.assertTrue(it.title())
+        self.assertEqual(it.actions(), allowed)
+        self.assertEqual(it.script(NAMELESS), [])
+        reversals = len([one for one in it.all("table button") if one.text == "Reverse"])
+        is_manager = MAY[name] in (MANAGER, HEAD_OFFICE)
+        self.assertEqual(reversals, 3 if is_manager and place.startswith("loan/") else 0)
+        self.assertEqual(it.errors(), [])
+        foreign = [one for one in it.script(LOADED) if not one.startswith(DESK.url + "/")]
+        self.assertEqual(foreign, [], "loaded from elsewhere")
+
+    def look_at_all(self, name):
+        with reader.Reader(DESK, name) as it:
+            for place in PLACES:
+                with self.subTest(place):
+                    it.go(place)
+                    self.look(it, name, place)
+                for width in WIDTHS:
+                    with self.subTest(place, width=width):
+                        it.widen(width)
+                        it.picture(f"{place.replace('/', '-')}-{name}-{width}")
+                        self.assertLessEqual(it.script("return document.documentElement.scrollWidth"), width)
+                        self.assertEqual(it.script(CONTRAST), [])
+            person = it.script("return document.querySelector('.person').textContent")
+        self.assertIn(f"{name} · {ROLES[name]}", person)
+
+    def test_head_office(self):
+        self.look_at_all("amina")
+
+    def test_manager_of_a_region(self):
+        self.look_at_all("ruth")
+
+    def test_manager_of_a_branch(self):
+        self.look_at_all("paulo")
+
+    def test_officer(self):
+        self.look_at_all("zoe")
+
+    def test_teller(self):
+        self.look_at_all("tom")
+
+
+class Languages(unittest.TestCase):
+    def test_each_language(self):
+        """By the browser's language, and by the switch, which is kept."""
+        titles = {
+            "fr": "Impayés au 30 sept. 2026",
+            "es": "Mora al 30 sept 2026",
+            "sw": "Malimbikizo tarehe 30 Sep 2026",
+        }
+        outstanding = {"fr": "187\u202f719,33", "es": "187.719,33", "sw": "187,719.33"}
+        for language, title in titles.items():
+            with self.subTest(language):
+                it = reader.Reader(DESK, "amina", language=language)
+                it.go("arrears")
+                self.assertEqual(it.title(), title)
+                self.assertIn(outstanding[language], it.text("tfoot"))
+                for width, places in ((1280, PLACES[:1]), (360, PLACES)):
+                    it.widen(width)
+                    for place in places:
+                        it.go(place)
+                        self.assertLessEqual(it.script("return document.documentElement.scrollWidth"), width, place)
+                        it.picture(f"{place.replace('/', '-')}-{language}-{width}")
+                self.assertEqual(it.errors(), [])
+                it.close()
+
+    def test_switch(self):
+        it = reader.Reader(DESK, "tom", language="de")
+        it.go("arrears/21")
+        self.assertEqual(it.title(), "Arrears of 21 Kisumu")
+        # words in English, amounts as the German reader writes them
+        self.assertIn("21.919,75", it.text("main"))
+        it.script(
+            "const choice = document.getElementById('language'); choice.value = 'fr';"
+            "choice.dispatchEvent(new Event('change'))"
+        )
+        it.wait(lambda: it.title() == "Impayés de 21 Kisumu", "French")
+        it.reload()
+        self.assertEqual(it.title(), "Impayés de 21 Kisumu")
+        self.assertEqual(it.script("return document.documentElement.lang"), "fr")
+        it.close()
+
+    def test_same_keys(self):
+        """All languages have the same keys, and the same values stand in the words of a key."""
+        it = reader.Reader(DESK, "tom")
+        words = json.loads(
+            it.module(
+                "const all = {}; for (const name of ['en', 'fr', 'es', 'sw'])"
+                " all[name] = (await import(`/words/${name}.js`)).default;"
+                "return JSON.stringify(all)"
+            )
+        )
+        it.close()
+
+        def values(text):
+            return sorted(re.findall(r"\{\w+\}", text))
+
+        for name in ("fr", "es", "sw"):
+            with self.subTest(name):
+                self.assertEqual(list(words[name]), list(words["en"]))
+                other = [key for key, text in words["en"].items() if values(words[name][key]) != values(text)]
+                self.assertEqual(other, [])
+                same = [key for key, text in words["en"].items() if len(text) > 25 and words[name][key] == text]
+                self.assertEqual(same, [], "not translated")
+
+
+class Money(unittest.TestCase):
+    # by locale: what is typed, and its cents, None where it is no amount
+    TYPED = {
+        "en": {
+            "1,234.56": 123456,
+            "1234.5": 123450,
+            "1 234.56": 123456,
+            "7": 700,
+            "0.07": 7,
+            "1,5": None,
+            "1.234": None,
+            "12,34.50": None,
+            "-1": None,
+            "": None,
+            "1e3": None,
+            "١٢": None,
+        },
+        "fr": {
+            "1 234,56": 123456,
+            "1\u202f234,56": 123456,
+            "1\u00a0234,5": 123450,
+            "1234.56": 123456,
+            "1.234": None,
+            "12 34": None,
+            "1,234,5": None,
+        },
+        "es": {
+            "1.234,56": 123456,
+            "1234,56": 123456,
+            "1.5": None,
+            "1.234": 123400,
+            "1,234.56": None,
+            "1 234,56": 123456,
+        },
+        "sw": {"1,234.56": 123456, "1234.56": 123456, "1,5": None},
+        "de": {"1.234,56": 123456, "1.234.567,89": 123456789, "1234,5": 123450, "1.5": None},
+        "de-CH": {"1’234.56": 123456, "1'234.56": 123456, "1234.56": 123456},
+    }
+    SHOWN = {
+        "en": "10,000,000,000.05",
+        "fr": "10\u202f000\u202f000\u202f000,05",
+        "es": "10.000.000.000,05",
+        "sw": "10,000,000,000.05",
+        "de": "10.000.000.000,05",
+        "de-CH": ("10’000’000’000.05", "10'000'000'000.05"),
+    }  # as the browser's tables have it
+
+    def setUp(self):
+        self.it = reader.Reader(DESK, "tom")
+        self.addCleanup(self.it.close)
+
+    def parsed(self, locale, texts):
+        return self.it.module(
+            f"const {{ moneyFor }} = await import('/shared/money.js'); const money = moneyFor({json.dumps(locale)});"
+            f"return {json.dumps(list(texts))}.map((text) => money.parse(text))"
+            ".map((cents) => cents === null ? null : Number(cents))"
+        )
+
+    def test_typed(self):
+        for locale, table in self.TYPED.items():
+            with self.subTest(locale):
+                self.assertEqual(dict(zip(table, self.parsed(locale, table))), table)
+
+    def test_shown(self):
+        for locale, text in self.SHOWN.items():
+            with self.subTest(locale):
+                shown = self.it.module(
+                    "const { moneyFor } = await import('/shared/money.js');"
+                    f"return moneyFor({json.dumps(locale)}).format(1000000000005n)"
+                )
+                self.assertIn(shown, text if isinstance(text, tuple) else (text,))
+
+    def test_more_than_a_number_holds(self):
+        """2^53 + 1 cents, and sums past it, keep their last digit."""
+        shown = self.it.module(
+            "const { moneyFor, sum } = await import('/shared/money.js');"
+            "const { readJson } = await import('/shared/api.js');"
+            'const told = readJson(\'{"a":9007199254740993,"b":"9007199254740993 \\\\" 12",'
+            '"c":[1,9007199254740993]}\');'
+            "return [moneyFor('en').format(told.a), told.b, moneyFor('en').format(sum(told.c))]"
+        )
+        self.assertEqual(shown, ["90,071,992,547,409.93", '9007199254740993 " 12', "90,071,992,547,409.94"])
+
+
+class Keyboard(unittest.TestCase):
+    def test_skip_and_dialog(self):
+        """The first key leads past the frame; a dialog takes the focus, keeps it, and gives it back."""
+        from selenium.webdriver.common.keys import Keys
+
+        it = reader.Reader(DESK, "zoe")
+        it.go("clients/21")
+        it.reload()
+        active = it.driver.switch_to.active_element
+        active.send_keys(Keys.TAB)
+        self.assertEqual(it.driver.switch_to.active_element.text, "Skip to the content")
+        it.driver.switch_to.active_element.send_keys(Keys.ENTER)
+        self.assertEqual(it.driver.switch_to.active_element.get_attribute("id"), "main")
+        button = it.find("New client")
+        it.script("arguments[0].focus()", button)
+        outline = it.script(
+            "return getComputedStyle(arguments[0]).outlineStyle + getComputedStyle(arguments[0]).outlineWidth", button
+        )
+        button.send_keys(Keys.ENTER)
+        it.wait(lambda: it.all(".modal.show") and it.driver.switch_to.active_element.tag_name == "input", "the dialog")
+        for _ in range(9):
+            it.driver.switch_to.active_element.send_keys(Keys.TAB)
+            self.assertTrue(it.script("return document.querySelector('.modal').contains(document.activeElement)"))
+        it.driver.switch_to.active_element.send_keys(Keys.ESCAPE)
+        it.wait(lambda: not it.all(".modal"), "the end of the dialog")
+        self.assertEqual(it.driver.switch_to.active_element.text, "New client")
+        self.assertEqual(outline, "solid3px")
+        it.close()
+
+    def test_focus_goes_to_the_title(self):
+        it = reader.Reader(DESK, "tom")
+        it.press("Arrears", "#ways")
+        it.wait(lambda: it.title().startswith("Arrears"), "the page")
+        it.wait(lambda: it.script("return document.activeElement.tagName") == "H1", "the focus")
+        self.assertEqual(it.driver.title, "Arrears on Sep 30, 2026 · microloan")
+        it.close()
+
+
+if __name__ == "__main__":
+    unittest.main()
