@@ -1,4 +1,4 @@
-"""HTTP messages as request lines, for the programs beside this file: read as `serve` reads them, and answered as it answers."""
+"""HTTP messages as request lines, for the programs beside this file, read and answered as `serve` does."""
 import http.server
 import json
 import re
@@ -9,7 +9,7 @@ MALFORMED, GIVEN_UP = b'400 {"fault":"F1"}', b'503 {"fault":"F20"}'
 
 
 def line_of(staff, method, target, body):
-    """The request line of a message. JSON has line breaks only between its tokens; a body that is no JSON stays none."""
+    """The request line of a message. JSON has line breaks only between its tokens; what is no JSON stays none."""
     try:
         json.loads(body.decode())
         breaks_become = b"  "
@@ -73,7 +73,8 @@ class Server(http.server.ThreadingHTTPServer):
 
 
 def serve(port, answer):
-    """Listens on this port of 127.0.0.1. `answer` gives a line's reply and further fields of the response; many threads call it."""
+    """Listens on this port of 127.0.0.1. `answer` gives a line's reply and further fields of the response; many
+    threads call it."""
     server = Server(("127.0.0.1", port), Handler)
     server.answer = answer
     threading.Thread(target=server.serve_forever, daemon=True).start()

@@ -1,18 +1,24 @@
 """Which desk a request goes to, where each region has a desk of its own.
 
-A region is an office directly under the head with all that lies below it; office 1 alone is one too, named HEAD. The rule follows
-from what a request's reply and change are read off (`carried_out` and `touches` of crates/mf_model/specs):
+A region is an office directly under the head with all that lies below it; office 1 alone is one too, named HEAD.
+The rule follows from what a request's reply and change are read off (`carried_out` and `touches` of
+crates/mf_model/specs):
 
-- What a caller is told depends on the catalogue and the offices at or below the caller's. For a caller outside office 1 these lie
-  in one region, and so does the target of each write that is accepted from there: all goes to that region's desk.
-- A write from office 1 whose target is the catalogue touches every office. One that adds an office changes the tree, by which every
-  desk judges whether a number is free and what is visible; one that adds staff to office 1 adds callers for every desk. These go
-  to every desk, in one order. So all desks have the catalogue, the tree and the staff of office 1 alike.
-- Every other request from office 1 names one office or none: it goes to the desk of that office's region, or to that of HEAD. So
-  does what is refused by its text alone, and what comes from an office that is not there: no desk has it.
-- The report of arrears for office 1 is read from every desk and put together. The list of offices is the same on every desk.
+- What a caller is told depends on the catalogue and the offices at or below the caller's. For a caller outside
+  office 1 these lie in one region, and so does the target of each write that is accepted from there: all goes to
+  that region's desk.
+- A write from office 1 whose target is the catalogue touches every office. One that adds an office changes the
+  tree, by which every desk judges whether a number is free and what is visible; one that adds staff to office 1
+  adds callers for every desk. These go to every desk, in one order. So all desks have the catalogue, the tree and
+  the staff of office 1 alike.
+- Every other request from office 1 names one office or none: it goes to the desk of that office's region, or to
+  that of HEAD. So does what is refused by its text alone, and what comes from an office that is not there: no desk
+  has it.
+- The report of arrears for office 1 is read from every desk and put together. The list of offices is the same on
+  every desk.
 
-Each desk then gets, in order, every accepted write that touches an office of its region, and every request from there.
+Each desk then gets, in order, every accepted write that touches an office of its region, and every request from
+there.
 """
 import json
 import re
@@ -105,12 +111,14 @@ def half_even(a, d):
 
 
 def put_together(replies, region_of):
-    """The report of all offices, from the reply of each region's desk: an office's line is that of its region's desk, and `all` has
-    the sums. Where the desks refuse, they all do so alike."""
+    """The report of all offices, from the reply of each region's desk: an office's line is that of its region's
+    desk, and `all` has the sums. Where the desks refuse, they all do so alike."""
     first = next(iter(replies.values()))
     if not first.startswith(b"200 "):
         return first
-    told = {region: {line["office"]: line for line in json.loads(reply[4:])["offices"]} for region, reply in replies.items()}
+    told = {
+        region: {line["office"]: line for line in json.loads(reply[4:])["offices"]} for region, reply in replies.items()
+    }
     lines = [told[region_of[office]][office] for office in sorted(region_of)]
     sums = {name: sum(cents(line[name]) for line in lines) for name in ["outstanding", *CLASSES]}
     risk = sum(sums[name] for name in CLASSES[1:])
