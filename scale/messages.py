@@ -40,10 +40,12 @@ class Handler(http.server.BaseHTTPRequestHandler):
 
     def answer(self):
         line = self.message()
-        self.tell(*(self.server.answer(line) if line is not None else (MALFORMED, [])))
+        told, more = self.server.answer(line) if line is not None else (MALFORMED, [])
+        if told is not None:
+            self.tell(told, more)
 
     def tell(self, told, more=()):
-        """Sends a reply line as a response, with further fields."""
+        """Sends a reply line as a response, with further fields. (The connection is closed after it, as after none.)"""
         self.send_response(int(told[:3]))
         fields = [("Content-Type", "application/json"), ("Content-Length", len(told) - 4), ("Connection", "close")]
         for name, value in [*fields, *more]:
@@ -72,9 +74,9 @@ class Server(http.server.ThreadingHTTPServer):
         """A client that went away is no fault of the server's."""
 
 
-def serve(port, answer):
-    """Listens on this port of 127.0.0.1. `answer` gives a line's reply and further fields of the response; many
-    threads call it."""
-    server = Server(("127.0.0.1", port), Handler)
+def serve(address, port, answer):
+    """Listens on an address and a port. `answer` gives a line's reply, or None for no response, and further fields of
+    the response; many threads call it."""
+    server = Server((address, port), Handler)
     server.answer = answer
     threading.Thread(target=server.serve_forever, daemon=True).start()
