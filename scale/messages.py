@@ -1,0 +1,82 @@
+"""HTTP messages as request lines, for the programs beside this file, read and answered as `serve` does."""
+import http.server
+import json
+import re
+import threading
+
+LONGEST_LINE, LONGEST_BODY = 65536, 1048576
+MALFORMED, GIVEN_UP = b'400 {"fault":"F1"}', b'503 {"fault":"F20"}'
+
+
+def line_of(staff, method, target, body):
+    """The request line of a message. JSON has line breaks only between its tokens; what is no JSON stays none."""
+    try:
+        json.loads(body.decode())
+        breaks_become = b"  "
+    except (ValueError, RecursionError):
+        breaks_become = b"\x01\x01"
+    body = body.translate(bytes.maketrans(b"\r\n", breaks_become))
+    return b" ".join([staff, method, target] + ([body] if body else []))
+
+
+class Handler(http.server.BaseHTTPRequestHandler):
+    """A connection, which carries one message."""
+
+    protocol_version = "HTTP/1.1"
+
+    def message(self):
+        """The line of the message; none where it is malformed, or longer than a line may be."""
+        staff, lengths = self.headers.get_all("X-Staff", []), self.headers.get_all("Content-Length", ["0"])
+        is_whole = self.request_version in ("HTTP/1.0", "HTTP/1.1") and "Transfer-Encoding" not in self.headers
+        if not is_whole or len(staff) != 1 or not re.fullmatch("[!-~]+", staff[0]):
+            return None
+        if len(lengths) != 1 or not re.fullmatch("[0-9]{1,10}", lengths[0]) or int(lengths[0]) > LONGEST_BODY:
+            return None
+        body = self.rfile.read(int(lengths[0]))
+        # the target as it was sent: `path` is one that the library may have changed
+        words = [staff[0], self.command, self.requestline.split()[1]]
+        line = line_of(*[word.encode("latin-1") for word in words], body)
+        return line if len(body) == int(lengths[0]) and len(line) <= LONGEST_LINE else None
+
+    def answer(self):
+        line = self.message()
+        told, more = self.server.answer(line) if line is not None else (MALFORMED, [])
+        if told is not None:
+            self.tell(told, more)
+
+    def tell(self, told, more=()):
+        """Sends a reply line as a response, with further fields. (The connection is closed after it, as after none.)"""
+        self.send_response(int(told[:3]))
+        fields = [("Content-Type", "application/json"), ("Content-Length", len(told) - 4), ("Connection", "close")]
+        for name, value in [*fields, *more]:
+            self.send_header(name, str(value))
+        self.end_headers()
+        if self.command != "HEAD":
+            self.wfile.write(told[4:])
+
+    def __getattr__(self, name):
+        """Each method is answered by the program alone."""
+        if name.startswith("do_"):
+            return self.answer
+        raise AttributeError(name)
+
+    def send_error(self, code, message=None, explain=None):
+        self.tell(MALFORMED)
+
+    def log_message(self, *words):
+        pass
+
+
+class Server(http.server.ThreadingHTTPServer):
+    request_queue_size = 1024
+
+    def handle_error(self, request, address):
+        """A client that went away is no fault of the server's."""
+
+
+def serve(address, port, answer):
+    """Listens on an address and a port. `answer` gives a line's reply, or None for no response, and further fields of
+    the response; many threads call it."""
+    server = Server((address, port), Handler)
+    server.answer = answer
+    threading.Thread(target=server.serve_forever, daemon=True).start()
