@@ -82,14 +82,19 @@ fn reads_a_batch(rt: HostRuntime) -> Result<(), Fail> {
         return Err(Fail::from("a batch"));
     };
     assert!(rt; asked.file.is_none());
+    assert!(rt; !asked.existing);
     assert_eq!(rt; Some(asked.day), Day::parse(b"2024-01-01"));
-    let words = words_of(alloc, "microloan batch --day 2024-01-31 --file desk.db")?;
+    let words = words_of(
+        alloc,
+        "microloan batch --day 2024-01-31 --existing --file desk.db",
+    )?;
     let Ok(Command::Batch(asked)) = command(alloc, &words) else {
         return Err(Fail::from("a batch"));
     };
+    assert!(rt; asked.existing);
+    assert_eq!(rt; Some(asked.day), Day::parse(b"2024-01-31"));
     let file = asked.file.ok_or("a file")?;
     assert_eq!(rt; file.as_str(), "desk.db");
-    assert_eq!(rt; Some(asked.day), Day::parse(b"2024-01-31"));
     Ok(())
 }
 
@@ -118,11 +123,12 @@ fn reads_what_is_served(rt: HostRuntime) -> Result<(), Fail> {
     assert_eq!(rt; Some(asked.day), Day::parse(b"2099-12-31"));
     let words = words_of(
         alloc,
-        "microloan serve --file desk.db --port 80 --count 7 --patience 1",
+        "microloan serve --existing --file desk.db --port 80 --count 7 --patience 1",
     )?;
     let Ok(Command::Serve(asked)) = command(alloc, &words) else {
         return Err(Fail::from("a server"));
     };
+    assert!(rt; asked.existing);
     assert_eq!(rt; asked.count, 7);
     assert_eq!(rt; asked.patience, 1);
     Ok(())
@@ -137,17 +143,22 @@ fn reads_who_asks(rt: HostRuntime) -> Result<(), Fail> {
     };
     assert_eq!(rt; asked.file.as_str(), "desk.db");
     assert_eq!(rt; Some(asked.staff), Caller::parse(b"2/1"));
-    let words = words_of(alloc, "microloan report --staff 9999/9999 --file desk.db")?;
+    assert!(rt; !asked.existing);
+    let words = words_of(
+        alloc,
+        "microloan report --staff 9999/9999 --file desk.db --existing",
+    )?;
     let Ok(Command::Report(asked)) = command(alloc, &words) else {
         return Err(Fail::from("a report"));
     };
+    assert!(rt; asked.existing);
     assert_eq!(rt; asked.file.as_str(), "desk.db");
     assert_eq!(rt; Some(asked.staff), Caller::parse(b"9999/9999"));
     Ok(())
 }
 
 /// Words that are wrong, and what is said of them.
-const WRONG: [(&str, &str); 17] = [
+const WRONG: [(&str, &str); 18] = [
     (
         "microloan",
         "microloan: name a command: batch, serve, collect, report or schedule; see 'microloan --help'",
@@ -171,6 +182,10 @@ const WRONG: [(&str, &str); 17] = [
     (
         "microloan batch --day 2100-01-01",
         "microloan: --day wants a day from 2000-01-01 to 2099-12-31, as 2024-01-31; see 'microloan batch --help'",
+    ),
+    (
+        "microloan batch --existing",
+        "microloan: --existing wants the --file that holds the institution; see 'microloan batch --help'",
     ),
     (
         "microloan serve --file f --port 0",
