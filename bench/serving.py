@@ -40,18 +40,21 @@ def peak_of(number):
 
 
 class Server:
-    """The program's `serve` over a file, for so many connections; for 0 without end."""
+    """The program's `serve` over a file, for so many connections; for 0 without end. It waits for a silent client for so
+    many seconds, or for as long as the program does by itself."""
 
-    def __init__(self, program, path, count=0):
+    def __init__(self, program, path, count=0, patience=None):
         self.port = free_port()
         words = [program, "serve", "--file", path, "--port", str(self.port), "--count", str(count)]
+        if patience is not None:
+            words += ["--patience", str(patience)]
         self.process = subprocess.Popen(words, stdin=subprocess.DEVNULL)
 
-    def connect(self):
-        """A connection, as soon as the server listens."""
+    def connect(self, patience=PATIENCE):
+        """A connection, as soon as the server listens; its client waits for the server for so many seconds."""
         while True:
             stream = socket.socket()
-            stream.settimeout(PATIENCE)
+            stream.settimeout(patience)
             if stream.connect_ex(("127.0.0.1", self.port)) == 0:
                 return stream
             stream.close()
@@ -59,9 +62,9 @@ class Server:
                 sys.exit(f"the server ended with status {self.process.returncode}")
             time.sleep(0.005)
 
-    def exchange(self, sent):
+    def exchange(self, sent, patience=PATIENCE):
         """The reply to a message, which goes over a connection of its own."""
-        with self.connect() as stream:
+        with self.connect(patience) as stream:
             stream.sendall(sent)
             return received(stream)
 

@@ -12,8 +12,8 @@ use std::time::{Duration, Instant};
 /// How many bytes are thrown away of what a client sends behind its message.
 const MOST_DISCARDED: u64 = 65536;
 
-/// How many times as long as one read or write a whole message may take.
-const WAITS_OF_A_MESSAGE: u64 = 6;
+/// How many times as long as one read a whole message may take, and as one write a whole response.
+const WAITS_IN_ALL: u64 = 6;
 
 /// The time that a client is given.
 #[derive(Clone, Copy)]
@@ -25,14 +25,14 @@ pub(crate) struct Times {
 }
 
 impl Times {
-    /// The time of a message, where a read or a write waits for so many seconds.
-    pub fn of_message(patience: u32) -> Times
+    /// The time of a message or of a response, where a read or a write waits for so many seconds.
+    pub fn of_client(patience: u32) -> Times
         ensures each { as_nanos result.each ≡ patience * 1000000000 }
         ensures all { as_nanos result.all ≡ 6 * (patience * 1000000000) }
     {
         Times {
             each: Duration::from_secs(u64::from(patience)),
-            all: Duration::from_secs(u64::from(patience) * WAITS_OF_A_MESSAGE),
+            all: Duration::from_secs(u64::from(patience) * WAITS_IN_ALL),
         }
     }
 
@@ -45,36 +45,43 @@ impl Times {
     }
 }
 
-/// A connection whose reads and writes fail once its time is up. One that a signal interrupts is made again.
+/// A connection whose reads or writes fail once their time is up, which begins with the first of them. One that a signal
+/// interrupts is made again.
 #[derive(Drop)]
 pub(crate) struct Timed<'a, C: Clock> {
     stream: &'a TcpStream,
     clock: &'a C,
-    begun: Instant,
+    begun: Option<Instant>,
     times: Times,
 }
 
 impl<'a, C: Clock> Timed<'a, C> {
-    /// The connection, whose time has begun then.
-    pub fn new(stream: &'a TcpStream, clock: &'a C, begun: Instant, times: Times) -> Timed<'a, C> {
+    /// The connection, whose time has not begun.
+    pub fn new(stream: &'a TcpStream, clock: &'a C, times: Times) -> Timed<'a, C> {
         Timed {
             stream,
             clock,
-            begun,
+            begun: None,
             times,
         }
     }
 
     /// How long the next read or write may wait: not at all once the time is up.
-    fn left(&self) -> io::Result<Duration> {
-        Ok(self.times.left(self.begun.elapsed(self.clock)?))
+    fn left(&mut self) -> io::Result<Duration> {
+        let begun = match self.begun {
+            Some(begun) => begun,
+            None => Instant::now(self.clock)?,
+        };
+        self.begun = Some(begun);
+        Ok(self.times.left(begun.elapsed(self.clock)?))
     }
 }
 
 impl<C: Clock> Read for Timed<'_, C> {
     fn read(&mut self, buf: &mut [u8]) -> io::Result<usize> {
         for _ in 0..u64::MAX {
-            self.stream.set_read_timeout(Some(self.left()?))?;
+            let left = self.left()?;
+            self.stream.set_read_timeout(Some(left))?;
             let mut stream = self.stream;
             match stream.read(buf) {
                 Err(error) if error.kind() == io::ErrorKind::Interrupted => {}
@@ -88,7 +95,8 @@ impl<C: Clock> Read for Timed<'_, C> {
 impl<C: Clock> Write for Timed<'_, C> {
     fn write(&mut self, buf: &[u8]) -> io::Result<usize> {
         for _ in 0..u64::MAX {
-            self.stream.set_write_timeout(Some(self.left()?))?;
+            let left = self.left()?;
+            self.stream.set_write_timeout(Some(left))?;
             let mut stream = self.stream;
             match stream.write(buf) {
                 Err(error) if error.kind() == io::ErrorKind::Interrupted => {}
@@ -113,7 +121,7 @@ pub(crate) fn end_connection<C: Clock>(clock: &C, stream: &TcpStream) -> io::Res
         each: second,
         all: second,
     };
-    let rest = Timed::new(stream, clock, Instant::now(clock)?, times);
+    let rest = Timed::new(stream, clock, times);
     io::copy(&mut rest.take(MOST_DISCARDED), &mut io::sink())?;
     Ok(())
 }

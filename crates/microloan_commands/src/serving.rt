@@ -11,7 +11,6 @@ use std::alloc::Global;
 use std::io::{Read, Write};
 use std::net::{OpenListener, TcpStream};
 use std::rt::Clock;
-use std::time::Instant;
 
 /// How many responses were written whole.
 fn whole(served: Result<bool, StreamFault>) -> u64
@@ -40,26 +39,6 @@ fn serve_streams<S: InstitutionStore, R: Read + Drop, W: Write + Drop>(
     whole(serve_one(alloc, desk, store, &mut source, &mut sink))
 }
 
-/// Answers the message of a connection in the time that its client is given, and gives how many responses were written whole.
-fn serve_connection<S: InstitutionStore, C: Clock>(
-    alloc: Global,
-    clock: &C,
-    desk: &Desk,
-    store: &mut S,
-    stream: &TcpStream,
-    patience: u32,
-) -> u64
-    ensures { Serves S.InstitutionStore 1 store.old store.new result }
-{
-    let Ok(begun) = Instant::now(clock) else {
-        return 0;
-    };
-    let times = Times::of_message(patience);
-    let reader = Timed::new(stream, clock, begun, times);
-    let writer = Timed::new(stream, clock, begun, times);
-    serve_streams(alloc, desk, store, reader, writer)
-}
-
 /// Serves the next connection, where it can be accepted, and gives how many responses were written whole.
 fn serve_next<S: InstitutionStore, C: Clock, L: OpenListener<Stream = TcpStream>>(
     alloc: Global,
@@ -74,7 +53,10 @@ fn serve_next<S: InstitutionStore, C: Clock, L: OpenListener<Stream = TcpStream>
     let Ok((stream, _)) = listener.accept() else {
         return 0;
     };
-    let answered = serve_connection(alloc, clock, desk, store, &stream, patience);
+    let times = Times::of_client(patience);
+    let reader = Timed::new(&stream, clock, times);
+    let writer = Timed::new(&stream, clock, times);
+    let answered = serve_streams(alloc, desk, store, reader, writer);
     if answered > 0 {
         let _ended = end_connection(clock, &stream);
     }
@@ -84,9 +66,9 @@ fn serve_next<S: InstitutionStore, C: Clock, L: OpenListener<Stream = TcpStream>
 /// Accepts so many connections, one after another, and answers the HTTP message of each over a store, as
 /// `mf_wire::serve_one` does. It gives how many responses were written whole.
 ///
-/// A client that neither sends nor takes a byte for so many seconds as the patience says, or that takes more than six times as
-/// long for its message and its response, is left: that is a fault of its streams. After a whole response the connection is
-/// ended by `end_connection`.
+/// A client that neither sends nor takes a byte for so many seconds as the patience says, or that takes six times as long for
+/// its message, or for its response, is left: that is a fault of its streams. After a whole response the connection is ended by
+/// `end_connection`.
 ///
 /// A connection that can't be accepted counts as one, and so does one whose streams fail; the next is served. Memory is
 /// reported where there is none for the routes, which are made first: nothing is accepted or answered then.

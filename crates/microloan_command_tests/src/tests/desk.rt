@@ -290,18 +290,19 @@ fn a_silent_client_is_left(rt: HostRuntime) -> Result<(), Fail> {
     Ok(())
 }
 
-/// A clock that goes on by so many seconds each time that it is read.
+/// A clock that is read so many times, and says these seconds one after another.
 #[derive(Drop)]
-struct Leaping<'a> {
-    seconds: &'a Cell<u64>,
-    step: u64,
+struct Readings<'a> {
+    seconds: &'a [u64],
+    read: &'a Cell<usize>,
 }
 
-impl Clock for Leaping<'_> {
+impl Clock for Readings<'_> {
     fn monotonic(&self) -> io::Result<Duration> {
-        let now = self.seconds.get();
-        self.seconds.set(now.saturating_add(self.step));
-        Ok(Duration::from_secs(now))
+        let read = self.read.get();
+        self.read.set(read.saturating_add(1));
+        let seconds = self.seconds.get(read).copied().unwrap_or(1000);
+        Ok(Duration::from_secs(seconds))
     }
 
     fn since_1970(&self) -> io::Result<Duration> {
@@ -309,20 +310,24 @@ impl Clock for Leaping<'_> {
     }
 }
 
-/// With a patience of a second a message and its response may take less than six. The first client's time is up before
+/// With a patience of a second a message may take less than six, and so may its response. The first client's time is up before
 /// anything is read of it, and its message is not answered; the second's is up before its response is written, and its message
-/// was answered; the third is in time.
+/// was answered; the third takes five seconds for each, and the answer between them takes a hundred.
 #[test]
 fn a_client_that_takes_too_long_is_left(rt: HostRuntime) -> Result<(), Fail> {
     let alloc = rt.alloc();
     let mut books = books_after(alloc, "")?;
     let listener = TcpListener::bind(&rt, (Ipv4Addr::LOCALHOST, 0))?;
     let port = listener.local_addr()?.port();
-    for (step, answered, clients) in [(6, 0, 0), (3, 0, 1), (2, 1, 2)] {
-        let seconds = Cell::new(0);
-        let clock = Leaping {
-            seconds: &seconds,
-            step,
+    for (seconds, answered, clients) in [
+        ([0, 6, 6, 6], 0, 0),
+        ([0, 5, 5, 11], 0, 1),
+        ([0, 5, 105, 110], 1, 2),
+    ] {
+        let read = Cell::new(0);
+        let clock = Readings {
+            seconds: seconds.as_slice(),
+            read: &read,
         };
         let client = sent(&rt, port, CLIENT)?;
         let served = serve_connections(alloc, &clock, &mut books, &listener, 1, PATIENCE)?;

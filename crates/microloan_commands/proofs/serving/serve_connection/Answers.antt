@@ -1,6 +1,0 @@
-use Rattle.std.proofs.Common.{refl}
-use Rattle.microloan_commands.proofs.ServedLemmas.{serves_nothing}
-use Rattle.microloan_commands.proofs.serving.serve_connection.Goals as goal
-
-pub returns-in_default : goal.returns-in_default
-returns-in_default g c = serves_nothing _ 1 _ _ refl
