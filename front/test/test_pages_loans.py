@@ -446,6 +446,24 @@ class Lost(Case):
             self.assertNotEqual(tom.field("Receipt").get_attribute("value"), "N-7")
             tom.cancel()
 
+    def test_not_closed_while_sending(self):
+        """A dialog stays until the reply is there, whatever is pressed."""
+        with desk_with(PAID_OUT) as it:
+            ruth = self.reader(it, "ruth")
+            ruth.go(LOAN)
+            ruth.open_dialog("Write off")
+            ruth.script(
+                "const real = window.fetch; window.fetch = async (url, options) => { if (options.method === 'POST')"
+                "await new Promise((go) => { window.go = go; }); return real(url, options); }"
+            )
+            ruth.press("Write off", ".modal.show")
+            ruth.wait(lambda: ruth.script("return !!window.go"), "the request")
+            ruth.press("Cancel", ".modal.show")
+            self.assertEqual(len(ruth.all(".modal.show")), 1)
+            ruth.script("window.go()")
+            ruth.wait(lambda: not ruth.all(".modal"), "the end of the dialog")
+            ruth.wait(lambda: ruth.badge() == "Written off", "the write-off")
+
     def test_program_stopped(self):
         """Where the program does not run, the page says so, and goes on once it runs again."""
         with desk_with(PAID_OUT) as it:
