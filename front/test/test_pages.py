@@ -1,10 +1,12 @@
 """Tests of each page: by each role, at two widths, in each language; what a keyboard and a screen reader need."""
 import json
+import os
 import re
 import unittest
 
 import desk
 import reader
+import running
 
 # the demonstration's people, and what each may do
 PEOPLE = ("amina", "ruth", "paulo", "zoe", "tom")
@@ -195,6 +197,51 @@ class Languages(unittest.TestCase):
                 self.assertEqual(other, [])
                 same = [key for key, text in words["en"].items() if len(text) > 25 and words[name][key] == text]
                 self.assertEqual(same, [], "not translated")
+
+
+class Sources(unittest.TestCase):
+    """What the pages' files hold."""
+
+    def files(self, ending):
+        for folder, _, names in os.walk(os.path.join(running.FRONT, "pages")):
+            for name in names:
+                if name.endswith(ending):
+                    with open(os.path.join(folder, name), encoding="utf-8") as file:
+                        yield name, file.read()
+
+    def test_texts_are_no_markup(self):
+        """Nothing makes markup of texts, and no markup has script or style in it."""
+        found = [
+            name
+            for name, text in self.files(".js")
+            if re.search(r"(inner|outer)HTML|insertAdjacent|document\.write|eval\(", text)
+        ]
+        self.assertEqual(found, [])
+        found = [
+            name
+            for name, text in self.files(".html")
+            if re.search(r"<script(?![^>]*\ssrc=)|<style|\sstyle=|\son\w+=", text)
+        ]
+        self.assertEqual(found, [])
+
+    def test_words_are_there(self):
+        """Each key that the pages name has words, and no key stands unused."""
+        sources = "".join(text for name, text in self.files(".js") if name not in ("en.js", "fr.js", "es.js", "sw.js"))
+        keys = set(re.findall(r'^ {4}"([^"]+)":', dict(self.files("en.js"))["en.js"], re.MULTILINE))
+        plain = set(re.findall(r'\bsay\("([^"]+)"', sources))
+        counted = set(re.findall(r'\bsayCount\("([^"]+)"', sources))
+        self.assertGreater(len(plain), 150)
+        self.assertEqual(plain - keys, set())
+        self.assertEqual({f"{key}.{form}" for key in counted for form in ("one", "other")} - keys, set())
+        # `status.${status}` names all that begin so
+        begun = tuple(re.findall(r"`([a-z]+\.)\$\{", sources)) + ("refusal.", "front.")
+        strings = set(re.findall(r'"([a-z0-9.-]+)"', sources))
+        unused = {
+            key
+            for key in keys - strings
+            if re.sub(r"\.(one|other)$", "", key) not in strings and not key.startswith(begun)
+        }
+        self.assertEqual(unused, set())
 
 
 class Money(unittest.TestCase):

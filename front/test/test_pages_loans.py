@@ -351,6 +351,7 @@ class Lost(Case):
         if (options.method === 'GET' || !window.losing) return real(url, options);
         const kind = window.losing;
         window.losing = kind === 'always' ? kind : null;
+        if (kind === 'F20') return new Response('{"fault":"F20"}', { status: 503 });
         if (kind !== 'request') await real(url, options);
         throw new TypeError('lost');
     };
@@ -445,6 +446,47 @@ class Lost(Case):
             tom.open_dialog("Enter a repayment")
             self.assertNotEqual(tom.field("Receipt").get_attribute("value"), "N-7")
             tom.cancel()
+
+    def test_out_of_memory(self):
+        """After F20 it is looked whether it was done, and it can be sent again."""
+        with desk_with(PAID_OUT) as it:
+            ruth = self.reader_who_loses(it, "ruth", LOAN)
+            ruth.open_dialog("Write off")
+            ruth.script("window.losing = 'F20'")
+            words = ruth.refused("Write off")
+            self.assertIn("It was looked up: it was not done.", words)
+            self.assertIn("F20", words)
+            ruth.send("Send again")
+            self.assertEqual(ruth.badge(), "Written off")
+
+    def test_staff_lost(self):
+        """No route shows staff: the page says that it can't be looked up."""
+        with desk_with(LINES) as it:
+            head = self.reader_who_loses(it, "head", "people")
+            head.open_dialog("New member of staff")
+            head.fill("Name", "Sami")
+            head.script("window.losing = 'request'")
+            self.assertIn("Whether it was done can't be looked up", head.refused("Enter"))
+            head.send("Send again")
+            self.assertIn("Sami is entered as 1/2.", head.text(".alert"))
+
+    def test_not_closed_while_sending(self):
+        """A dialog stays until the reply is there, whatever is pressed."""
+        with desk_with(PAID_OUT) as it:
+            ruth = self.reader(it, "ruth")
+            ruth.go(LOAN)
+            ruth.open_dialog("Write off")
+            ruth.script(
+                "const real = window.fetch; window.fetch = async (url, options) => { if (options.method === 'POST')"
+                "await new Promise((go) => { window.go = go; }); return real(url, options); }"
+            )
+            ruth.press("Write off", ".modal.show")
+            ruth.wait(lambda: ruth.script("return !!window.go"), "the request")
+            ruth.press("Cancel", ".modal.show")
+            self.assertEqual(len(ruth.all(".modal.show")), 1)
+            ruth.script("window.go()")
+            ruth.wait(lambda: not ruth.all(".modal"), "the end of the dialog")
+            ruth.wait(lambda: ruth.badge() == "Written off", "the write-off")
 
     def test_program_stopped(self):
         """Where the program does not run, the page says so, and goes on once it runs again."""

@@ -129,7 +129,7 @@ class Rounds(loans.Case):
             tom = self.reader(it, "tom")
             tom.go("round/2/2024-04-30")
             self.assertIn("entered once its day has come", tom.text("main"))
-            self.assertFalse(tom.all("main .round-end .btn-primary")[0].is_enabled())
+            self.assertFalse(tom.all("main .round-end .btn:nth-child(2)")[0].is_enabled())
 
 
 class Sheets(loans.Case):

@@ -21,10 +21,7 @@ function busyText(isBusy, words) {
     return [turning, words];
 }
 
-// Asks before something is done. text: what it does, in words. fields: by name. send: is handed their values, and
-// carries it out. Answers what `send` answered, or null where the reader thought better of it. A refusal is shown in
-// the dialog, which stays open.
-export function ask({title, text = [], fields = {}, action, isGrave = false, send}) {
+function dialogParts({text, fields, action, isGrave}) {
     const trouble = element("div", {"aria-live": "assertive"});
     const submit = element("button", {type: "submit", class: `btn ${isGrave ? "btn-danger" : "btn-primary"}`}, action);
     const cancel = element(
@@ -35,6 +32,14 @@ export function ask({title, text = [], fields = {}, action, isGrave = false, sen
     const form = element(
         "form", {novalidate: true, class: "dialog-form"}, body,
         element("div", {class: "modal-footer"}, cancel, submit));
+    return {trouble, submit, form};
+}
+
+// Asks before something is done. text: what it does, in words. fields: by name. send: is handed their values, and
+// carries it out. Answers what `send` answered, or null where the reader thought better of it. A refusal is shown in
+// the dialog, which stays open. It can't be closed while something is sent.
+export function ask({title, text = [], fields = {}, action, isGrave = false, send}) {
+    const {trouble, submit, form} = dialogParts({text, fields, action, isGrave});
     const node = dialogNode({title, id: freshId("dialog"), form});
     const asker = document.activeElement;
     document.body.append(node);
@@ -45,15 +50,15 @@ export function ask({title, text = [], fields = {}, action, isGrave = false, sen
             event.preventDefault();
             const values = submit.disabled ? null : readAll(fields);
             if (values !== null) {
-                const done = await sent({send, values, trouble, submit, action});
-                result = done ?? result;
-                if (done !== null) {
+                result = await sent({send, values, trouble, submit, action});
+                if (result !== null) {
                     modal.hide();
                 }
             }
         });
         node.addEventListener("keydown", (event) => keepInside(event, node));
         node.addEventListener("shown.bs.modal", () => (form.querySelector("input, select") ?? submit).focus());
+        node.addEventListener("hide.bs.modal", (event) => submit.disabled && event.preventDefault());
         node.addEventListener("hidden.bs.modal", () => {
             modal.dispose();
             node.remove();

@@ -164,6 +164,7 @@ function showState({lines, day}, {enter, propose, summary, renew, isSending = fa
     const isEarly = day > session.day;
     const again = () => say("round.send-again", {count: showCount(typed.length)});
     enter.textContent = isAllDone ? again() : sayCount("round.enter", typed.length);
+    enter.className = `btn ${isAllDone ? "btn-outline-primary" : "btn-primary"}`;
     enter.disabled = typed.length === 0 || isEarly || isSending;
     propose.disabled = isEarly || isSending;
     renew.disabled = isSending;
@@ -171,7 +172,7 @@ function showState({lines, day}, {enter, propose, summary, renew, isSending = fa
     summary.textContent = say("round.sum", {
         due: showMoney(sum(lines.map((line) => line.due))),
         typed: showMoney(sum(typed.map((line) => line.cents))),
-        results: tally(lines),
+        results: tally(lines) && ` · ${tally(lines)}`,
     });
 }
 

@@ -284,7 +284,7 @@ export default {
     "round.early": "The business day is {day}. This round can be printed or saved, and entered once its day has come.",
     "round.stopped": "The connection was lost. What is marked as entered stands; the lines after it were not sent. " +
         "Send the round again: nothing is entered twice.",
-    "round.sum": "Due {due} · typed in {typed} {results}",
+    "round.sum": "Due {due} · typed in {typed}{results}",
     "tally.entered": "{count} entered",
     "tally.repeated": "{count} repeated",
     "tally.refused": "{count} refused",

@@ -287,7 +287,7 @@ export default {
         "su día.",
     "round.stopped": "Se perdió la conexión. Lo marcado como registrado vale; las líneas siguientes no se enviaron. " +
         "Envíe la ronda de nuevo: nada se registra dos veces.",
-    "round.sum": "Vencido {due} · escrito {typed} {results}",
+    "round.sum": "Vencido {due} · escrito {typed}{results}",
     "tally.entered": "{count} registrados",
     "tally.repeated": "{count} repetidos",
     "tally.refused": "{count} rechazados",

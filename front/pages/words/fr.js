@@ -289,7 +289,7 @@ export default {
         "son jour sera venu.",
     "round.stopped": "La connexion a été perdue. Ce qui est marqué comme saisi est acquis ; les lignes suivantes " +
         "n’ont pas été envoyées. Envoyez la tournée de nouveau : rien n’est saisi deux fois.",
-    "round.sum": "Dû {due} · écrit {typed} {results}",
+    "round.sum": "Dû {due} · écrit {typed}{results}",
     "tally.entered": "{count} saisis",
     "tally.repeated": "{count} répétés",
     "tally.refused": "{count} refusés",

@@ -285,7 +285,7 @@ export default {
         "ikifika.",
     "round.stopped": "Muunganisho umepotea. Kilichowekwa alama kuwa kimeingizwa kimeingia; mistari inayofuata " +
         "haikutumwa. Tuma mzunguko tena: hakuna kinachoingizwa mara mbili.",
-    "round.sum": "Kinachodaiwa {due} · kilichoandikwa {typed} {results}",
+    "round.sum": "Kinachodaiwa {due} · kilichoandikwa {typed}{results}",
     "tally.entered": "{count} yameingizwa",
     "tally.repeated": "{count} yamerudiwa",
     "tally.refused": "{count} yamekataliwa",
