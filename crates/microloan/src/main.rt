@@ -5,14 +5,16 @@ mod places;
 mod telling;
 mod working;
 
-ghost use Rattle.std.specs.Prelude.{◌≡◌, ◌≤◌};
+ghost use Rattle.std.specs.Prelude.{◌≡◌, ◌≤◌, IfSome};
 ghost use Rattle.mf_base.specs.DayText.{last_entered_day};
 ghost use Rattle.microloan_words.specs.Asked.{IsWithinLimits, IsServeWithinLimits};
 ghost use Rattle.microloan_commands.specs.Printed.{HasLongGrace};
 ghost use Rattle.microloan.specs.Status.{IsPrintStatus};
 
 use crate::places::{Place, place_at};
-use crate::telling::{print_made, refuse_words, tell_no_institution, tell_refusal};
+use crate::telling::{
+    print_made, refuse_words, tell_checking, tell_no_institution, tell_reading, tell_refusal,
+};
 use crate::working::{Work, answer_input_in_memory, work_on};
 use mf_base::{Day, Fault};
 use mf_store_files::open;
@@ -62,7 +64,10 @@ fn batch(rt: &HostRuntime, asked: &BatchWords<'_>) -> u8
     ensures { IsPrintStatus result }
 {
     match &asked.file {
-        None => answer_input_in_memory(rt, asked.day),
+        None => {
+            tell_reading(rt);
+            answer_input_in_memory(rt, asked.day)
+        }
         Some(file) => work_where(rt, file.as_str(), asked.existing, asked.day, Work::Answer),
     }
 }
@@ -77,6 +82,7 @@ fn serve(rt: &HostRuntime, asked: &ServeWords<'_>) -> u8
         connections: asked.count,
         patience: asked.patience,
     };
+    tell_checking(rt, asked.file.as_str());
     work_where(rt, asked.file.as_str(), asked.existing, asked.day, work)
 }
 
@@ -87,16 +93,26 @@ fn work_as(rt: &HostRuntime, asked: &StaffWords<'_>, work: Work) -> u8
     work_where(rt, asked.file.as_str(), asked.existing, default_day(), work)
 }
 
-/// Works over a file unless that would put a new institution in the place of something, or make one where one is to be there, and gives the
-/// program's status.
+/// Says why a file is not opened, and gives the program's status, where opening would put a new institution in the place of something, or
+/// make one where one is to be there.
+fn refuse_place(rt: &HostRuntime, file: &str, existing: bool) -> Option<u8>
+    ensures { IfSome result IsPrintStatus }
+{
+    match place_at(rt, file) {
+        Place::Foreign => Some(tell_refusal(rt, Fault::F20)),
+        Place::Vacant if existing => Some(tell_no_institution(rt)),
+        Place::Vacant | Place::Taken => None,
+    }
+}
+
+/// Works over a file unless it is refused for what stands there, and gives the program's status.
 fn work_where(rt: &HostRuntime, file: &str, existing: bool, day: Day, work: Work) -> u8
     requires { day ≤ last_entered_day }
     ensures { IsPrintStatus result }
 {
-    match place_at(rt, file) {
-        Place::Foreign => tell_refusal(rt, Fault::F20),
-        Place::Vacant if existing => tell_no_institution(rt),
-        Place::Vacant | Place::Taken => work_over(rt, file, day, work),
+    match refuse_place(rt, file, existing) {
+        Some(status) => status,
+        None => work_over(rt, file, day, work),
     }
 }
 
@@ -109,7 +125,7 @@ fn work_over(rt: &HostRuntime, file: &str, day: Day, work: Work) -> u8
 {
     match open(rt, file, day) {
         Ok(mut store) => {
-            let status = work_on(rt, &mut store, work);
+            let status = work_on(rt, file, &mut store, work);
             let _closed = store.release().close();
             status
         }

@@ -7,6 +7,7 @@ ghost use Rattle.microloan.specs.Status.{IsStatusOf, IsPrintStatus, IsWordsStatu
 use mf_base::{Cause, Fault, StreamFault};
 use microloan_commands::SheetFault;
 use microloan_words::Words;
+use std::io::IsTerminal;
 use std::{fmt, io};
 
 /// Done, refused requests included.
@@ -15,6 +16,25 @@ pub const DONE: u8 = 0;
 const FAULT: u8 = 1;
 /// The words ask for nothing that the program does.
 const BAD_WORDS: u8 = 2;
+
+/// Tells the person at a terminal what the program does. Where standard error is no terminal, nothing is said.
+pub fn tell_person(rt: &HostRuntime, doing: impl fmt::Display + Drop) {
+    if rt.stderr().is_terminal() {
+        let _said = rt.eprintln(doing);
+    }
+}
+
+/// Tells the person at a terminal that a file is checked.
+pub fn tell_checking(rt: &HostRuntime, file: &str) {
+    tell_person(rt, format_args!("checking {file}"));
+}
+
+/// Tells the person at a terminal that request lines are read from it.
+pub fn tell_reading(rt: &HostRuntime) {
+    if rt.stdin().is_terminal() {
+        tell_person(rt, "reading request lines until Ctrl-D");
+    }
+}
 
 /// Says which fault ended a run, if one did, and gives the program's status.
 pub fn tell_end<R: Eprint>(rt: &R, ended: &Result<u64, StreamFault>) -> u8

@@ -4,7 +4,7 @@ ghost use Rattle.std.specs.Prelude.{◌≤◌};
 ghost use Rattle.mf_base.specs.DayText.{last_entered_day};
 ghost use Rattle.microloan.specs.Status.{IsPrintStatus};
 
-use crate::telling::{print_made, tell_cause, tell_end, tell_sheet};
+use crate::telling::{print_made, tell_cause, tell_end, tell_person, tell_reading, tell_sheet};
 use mf_base::{Cause, Day};
 use mf_model::InstitutionStore;
 use mf_office::Caller;
@@ -32,16 +32,19 @@ pub enum Work {
 }
 
 /// Works over the store of a file, and gives the program's status.
-pub fn work_on<S: InstitutionStore>(rt: &HostRuntime, store: &mut S, work: Work) -> u8
+pub fn work_on<S: InstitutionStore>(rt: &HostRuntime, file: &str, store: &mut S, work: Work) -> u8
     ensures { IsPrintStatus result }
 {
     match work {
-        Work::Answer => answer_input(rt, store),
+        Work::Answer => {
+            tell_reading(rt);
+            answer_input(rt, store)
+        }
         Work::Serve {
             port,
             connections,
             patience,
-        } => serve_port(rt, store, port, connections, patience),
+        } => serve_port(rt, file, store, port, connections, patience),
         Work::Collect(staff) => collect_input(rt, store, staff),
         Work::Report(staff) => print_report(rt, store, staff),
     }
@@ -75,6 +78,7 @@ fn answer_input<R: Print + Eprint + Input + AllocGlobal, S: InstitutionStore>(
 /// that can't be had can't be read.
 fn serve_port<S: InstitutionStore>(
     rt: &HostRuntime,
+    file: &str,
     store: &mut S,
     port: u16,
     connections: u64,
@@ -85,6 +89,7 @@ fn serve_port<S: InstitutionStore>(
     let Ok(listener) = TcpListener::bind(rt, (Ipv4Addr::LOCALHOST, port)) else {
         return tell_cause(rt, Cause::Read);
     };
+    tell_person(rt, format_args!("serving {file} on 127.0.0.1:{port}"));
     let ended = serve_connections(rt.alloc(), rt, store, &listener, connections, patience);
     tell_end(rt, &ended)
 }
