@@ -1,20 +1,16 @@
 """Tests of the package: built, looked at by lintian, and installed in a fresh root of Debian, which needs root."""
-import contextlib
 import json
 import os
 import re
 import shlex
 import shutil
 import subprocess
-import sys
 import tempfile
 import time
 import unittest
 
 HERE = os.path.dirname(os.path.abspath(__file__))
 TOP = os.path.dirname(os.path.dirname(HERE))
-sys.path.insert(0, os.path.join(TOP, "front"))
-import running
 
 PASSWORD = "the head's password"
 PATIENCE = 300  # seconds that a command in the root may take

@@ -5,7 +5,6 @@ import json
 import os
 import pty
 import random
-import shutil
 import signal
 import sqlite3
 import subprocess

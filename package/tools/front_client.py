@@ -73,7 +73,7 @@ class Front:
         for left in range(TRIES if again else 1, 0, -1):
             try:
                 status, body = self.exchange(method, path, data)
-                read = json.loads(body)
+                read = self.read(status, body)
             except (OSError, http.client.HTTPException, ValueError) as fault:
                 why, self.connection = str(fault) or type(fault).__name__, None
             else:
@@ -83,6 +83,11 @@ class Front:
             if left > 1:
                 time.sleep(PAUSE)
         raise Failed(f"no reply from {self.address.geturl()}: {why}")
+
+    @staticmethod
+    def read(status, body):
+        """The members of a reply. What nginx itself says to a wrong password is a page."""
+        return {"front": "password"} if status == 401 and not body.startswith(b"{") else json.loads(body)
 
     @staticmethod
     def passed(status, read):
