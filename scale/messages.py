@@ -80,3 +80,4 @@ def serve(address, port, answer):
     server = Server((address, port), Handler)
     server.answer = answer
     threading.Thread(target=server.serve_forever, daemon=True).start()
+    return server
