@@ -114,7 +114,9 @@ class EachPage(unittest.TestCase):
                     with self.subTest(place, width=width):
                         it.widen(width)
                         it.picture(f"{place.replace('/', '-')}-{name}-{width}")
-                        self.assertLessEqual(it.script("return document.documentElement.scrollWidth"), width)
+                        # a page is laid out anew a moment after its window has another width
+                        fits = f"return document.documentElement.scrollWidth <= {width}"
+                        it.wait(lambda fits=fits: it.script(fits), f"a page of {width} columns")
                         self.assertEqual(it.script(CONTRAST), [])
             person = it.script("return document.querySelector('.person').textContent")
         self.assertIn(f"{name} · {ROLES[name]}", person)
