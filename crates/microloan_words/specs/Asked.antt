@@ -13,11 +13,12 @@ use Rattle.microloan_words.specs.Options.{microloan_app}
 use Rattle.microloan_words.specs.declared.asked.BatchWords.{BatchWords}
 use Rattle.microloan_words.specs.declared.asked.ServeWords.{ServeWords}
 use Rattle.microloan_words.specs.declared.asked.StaffWords.{StaffWords}
+use Rattle.microloan_words.specs.declared.asked.FileWords.{FileWords}
 use Rattle.microloan_words.specs.declared.asked.ScheduleWords.{ScheduleWords}
 use Rattle.microloan_words.specs.declared.asked.Words.{Words}
 use Rattle.microloan_words.specs.declared.asked.Words.TheVariants.{Bad, Help, Version, Memory}
 use Rattle.microloan_words.specs.declared.asked.Command.{Command}
-use Rattle.microloan_words.specs.declared.asked.Command.TheVariants.{Batch, Serve, Collect, Report, Schedule}
+use Rattle.microloan_words.specs.declared.asked.Command.TheVariants.{Batch, Serve, Collect, Report, Schedule, Why}
 
 -- the option's text is this number in decimal digits, and the number lies in its limits
 pub record IsNumberAt (rows : List Row) (id : Text) (least greatest number : ℕ) : Type 0 where
@@ -83,6 +84,10 @@ pub record AreStaffWords (rows : List Row) (asked : StaffWords) : Type 0 where
   pub staff : IsCallerAt rows (codes "staff") asked.staff
   pub existing : first_of (codes "existing") rows ≡ Some (flag_text asked.existing)
 
+-- the options of a command over a file alone
+pub record AreFileWords (rows : List Row) (asked : FileWords) : Type 0 where
+  pub file : first_of (codes "file") rows ≡ Some asked.file
+
 -- the options of `schedule`
 pub record AreScheduleWords (rows : List Row) (asked : ScheduleWords) : Type 0 where
   pub method : first_of (codes "method") rows ≡ Some (method_name asked.method)
@@ -121,6 +126,7 @@ HasLimits (Serve asked) = IsServeWithinLimits asked
 HasLimits (Collect asked) = IsCaller asked.staff
 HasLimits (Report asked) = IsCaller asked.staff
 HasLimits (Schedule asked) = IsWithinLimits asked
+HasLimits (Why asked) = Unit {0}
 
 -- the name of a command
 abbrev pub name_of : Command → Text
@@ -129,6 +135,7 @@ name_of (Serve asked) = codes "serve"
 name_of (Collect asked) = codes "collect"
 name_of (Report asked) = codes "report"
 name_of (Schedule asked) = codes "schedule"
+name_of (Why asked) = codes "why"
 
 -- the options are those of the command
 abbrev pub AreWords : List Row → Command → Type 0
@@ -137,6 +144,7 @@ AreWords rows (Serve asked) = AreServeWords rows asked
 AreWords rows (Collect asked) = AreStaffWords rows asked
 AreWords rows (Report asked) = AreStaffWords rows asked
 AreWords rows (Schedule asked) = AreScheduleWords rows asked
+AreWords rows (Why asked) = AreFileWords rows asked
 
 -- what a command and its options ask for, where `clap` found them
 abbrev pub IsAskedIn : Option (Text × List Row) → Command → Type 0

@@ -63,6 +63,10 @@ serve_app = app_with (codes "serve") (
 abbrev pub staff_app : Text → App
 staff_app name = app_with name (required_rule (codes "file") ∷ required_rule (codes "staff") ∷ flag_rule (codes "existing") ∷ [])
 
+-- a command over a file alone
+abbrev pub file_app : Text → App
+file_app name = app_with name (required_rule (codes "file") ∷ [])
+
 -- `schedule` with its options
 abbrev pub schedule_app : App
 schedule_app = app_with (codes "schedule") (
@@ -90,4 +94,4 @@ desk_app = with_subcommand (with_subcommand (with_subcommand (with_subcommand ba
 
 -- the program with its commands
 abbrev pub microloan_app : App
-microloan_app = with_subcommand desk_app schedule_app.top
+microloan_app = with_subcommand (with_subcommand desk_app schedule_app.top) (file_app (codes "why")).top

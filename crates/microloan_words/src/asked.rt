@@ -17,6 +17,8 @@ pub enum Command<'a> {
     Report(StaffWords<'a>),
     /// Print a schedule.
     Schedule(ScheduleWords),
+    /// Say what stands in a file, and whether it would be opened.
+    Why(FileWords<'a>),
 }
 
 /// The path of a file, as it stands in the words. Contracts see its bytes.
@@ -88,6 +90,13 @@ pub struct StaffWords<'a> {
     pub staff: Caller,
     /// Whether a file without an institution is refused.
     pub existing: bool,
+}
+
+/// The options of a command over a file that no member of staff asks for.
+#[derive(Drop)]
+pub struct FileWords<'a> {
+    /// The file that may hold an institution.
+    pub file: FilePath<'a>,
 }
 
 /// The options of `schedule`.

@@ -6,7 +6,7 @@ ghost use Rattle.microloan_words.specs.declared.asked.Command.{Command};
 
 use crate::asked::{Command, Words};
 use crate::options::microloan_command;
-use crate::reading::{batch_words, schedule_words, serve_words, staff_words};
+use crate::reading::{batch_words, file_words, schedule_words, serve_words, staff_words};
 use crate::refusal::{no_command, refused_by_clap, wrong_option};
 use clap::error::ErrorKind;
 use clap::{ArgMatches, Error};
@@ -76,6 +76,15 @@ fn schedule_asked<'a>(alloc: Global, options: &ArgMatches<'a>) -> Result<Command
     }
 }
 
+fn why_asked<'a>(alloc: Global, options: &ArgMatches<'a>) -> Result<Command<'a>, Words>
+    ensures { Reads (Some (codes "why", rows_of (found_of options.now))) result }
+{
+    match file_words(options) {
+        Ok(asked) => Ok(Command::Why(asked)),
+        Err(wrong) => Err(wrong_option(alloc, "why", wrong)),
+    }
+}
+
 /// What the command asks for that `clap` found.
 fn command_asked<'a>(alloc: Global, matches: &ArgMatches<'a>) -> Result<Command<'a>, Words>
     ensures { Reads (subcommand_rows_of matches.now) result }
@@ -92,8 +101,11 @@ fn command_asked<'a>(alloc: Global, matches: &ArgMatches<'a>) -> Result<Command<
     if let Some(options) = options_of(matches, "report") {
         return report_asked(alloc, options);
     }
-    match options_of(matches, "schedule") {
-        Some(options) => schedule_asked(alloc, options),
+    if let Some(options) = options_of(matches, "schedule") {
+        return schedule_asked(alloc, options);
+    }
+    match options_of(matches, "why") {
+        Some(options) => why_asked(alloc, options),
         None => Err(no_command(alloc)),
     }
 }

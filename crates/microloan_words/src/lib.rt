@@ -8,6 +8,8 @@ mod reading;
 mod refusal;
 mod values;
 
-pub use asked::{BatchWords, Command, FilePath, ScheduleWords, ServeWords, StaffWords, Words};
+pub use asked::{
+    BatchWords, Command, FilePath, FileWords, ScheduleWords, ServeWords, StaffWords, Words,
+};
 pub use asking::command;
 pub use values::default_day;

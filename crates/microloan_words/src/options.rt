@@ -1,7 +1,7 @@
 ghost use Rattle.std.specs.Prelude.{◌≡◌, codes, IfOk, false, fold};
 ghost use Rattle.clap.specs.Words.{App, app_of, rule_of, new_app, with_subcommand};
 ghost use Rattle.clap.specs.declared.Command.TheViews.{out-Command as fields_of};
-ghost use Rattle.microloan_words.specs.Options.{rule_for, with_declared, batch_app, serve_app, staff_app, schedule_app, bare_app, desk_app, microloan_app};
+ghost use Rattle.microloan_words.specs.Options.{rule_for, with_declared, batch_app, serve_app, staff_app, schedule_app, file_app, bare_app, desk_app, microloan_app};
 
 use crate::values::DEFAULT_DAY;
 use clap::{Arg, ArgAction, Command};
@@ -99,6 +99,9 @@ const STAFF_OPTIONS: [CommandOption; 3] = [
     },
     EXISTING,
 ];
+
+/// The options of a command over a file that no member of staff asks for.
+const FILE_OPTIONS: [CommandOption; 1] = [FILE];
 
 /// The options of `schedule`.
 const SCHEDULE_OPTIONS: [CommandOption; 9] = [
@@ -290,6 +293,20 @@ fn schedule_command<'a>(alloc: Global) -> Result<Command<'a>, AllocError>
     with_options(alloc, schedule_named(alloc), SCHEDULE_OPTIONS.as_slice())
 }
 
+/// The command `why`.
+fn why_command<'a>(alloc: Global) -> Result<Command<'a>, AllocError>
+    ensures app { IfOk result (λ c. app_of c ≡ file_app (codes "why")) }
+    ensures local { IfOk result (λ c. (fields_of c).has_globals ≡ false) }
+{
+    let command = described(
+        alloc,
+        "why",
+        "Say what stands in a file, and why it isn't opened",
+        "One line of standard output says what the other commands would find: an\ninstitution, or why there is none to open. Nothing is changed. The status is 0\nwhere the file would be opened as the institution that it holds, else 1.\n\nExample:\n  microloan why --file desk.db",
+    );
+    with_options(alloc, command, FILE_OPTIONS.as_slice())
+}
+
 /// The program with one more command. That may have failed to be made, so that it is this call alone that drops a program.
 fn with_command<'a>(
     program: Command<'a>,
@@ -336,6 +353,6 @@ pub(crate) fn microloan_command<'a>(alloc: Global) -> Result<Command<'a>, AllocE
     ensures app { IfOk result (λ c. app_of c ≡ microloan_app) }
     ensures local { IfOk result (λ c. (fields_of c).has_globals ≡ false) }
 {
-    let program = desk_program(alloc)?;
-    with_command(program, schedule_command(alloc))
+    let program = with_command(desk_program(alloc)?, schedule_command(alloc))?;
+    with_command(program, why_command(alloc))
 }

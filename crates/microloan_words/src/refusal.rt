@@ -78,7 +78,7 @@ pub(crate) fn refused_by_clap(alloc: Global, words: &[String], error: &Error) ->
         },
         ErrorKind::MissingSubcommand => {
             bad(format!(in alloc;
-                "microloan: name a command: batch, serve, collect, report or schedule; see 'microloan --help'"
+                "microloan: name a command: batch, serve, collect, report, schedule or why; see 'microloan --help'"
             ))
         }
         _ => bad(one_line(alloc, words, error)),
@@ -94,6 +94,7 @@ fn help_on(words: &[String]) -> &'static str {
         "collect" => "microloan collect --help",
         "report" => "microloan report --help",
         "schedule" => "microloan schedule --help",
+        "why" => "microloan why --help",
         _ => "microloan --help",
     }
 }
