@@ -3,6 +3,7 @@
 
 mod places;
 mod telling;
+mod why;
 mod working;
 
 ghost use Rattle.std.specs.Prelude.{◌≡◌, ◌≤◌, IfSome};
@@ -11,10 +12,11 @@ ghost use Rattle.microloan_words.specs.Asked.{IsWithinLimits, IsServeWithinLimit
 ghost use Rattle.microloan_commands.specs.Printed.{HasLongGrace};
 ghost use Rattle.microloan.specs.Status.{IsPrintStatus};
 
-use crate::places::{Place, place_at};
+use crate::places::place_at;
 use crate::telling::{
     print_made, refuse_words, tell_checking, tell_no_institution, tell_reading, tell_refusal,
 };
+use crate::why::say_why;
 use crate::working::{Work, answer_input_in_memory, work_on};
 use mf_base::{Day, Fault};
 use mf_store_files::open;
@@ -54,6 +56,7 @@ fn obey(rt: &HostRuntime, words: &[String]) -> u8 {
         Ok(Command::Collect(asked)) => work_as(rt, &asked, Work::Collect(asked.staff)),
         Ok(Command::Report(asked)) => work_as(rt, &asked, Work::Report(asked.staff)),
         Ok(Command::Schedule(asked)) => print_schedule(rt, &asked),
+        Ok(Command::Why(asked)) => say_why(rt, asked.file.as_str()),
         Err(words) => refuse_words(rt, words),
     }
 }
@@ -98,10 +101,13 @@ fn work_as(rt: &HostRuntime, asked: &StaffWords<'_>, work: Work) -> u8
 fn refuse_place(rt: &HostRuntime, file: &str, existing: bool) -> Option<u8>
     ensures { IfSome result IsPrintStatus }
 {
-    match place_at(rt, file) {
-        Place::Foreign => Some(tell_refusal(rt, Fault::F20)),
-        Place::Vacant if existing => Some(tell_no_institution(rt)),
-        Place::Vacant | Place::Taken => None,
+    let place = place_at(rt, file);
+    if place.is_vacant() && existing {
+        Some(tell_no_institution(rt))
+    } else if place.is_vacant() || place.is_taken() {
+        None
+    } else {
+        Some(tell_refusal(rt, Fault::F20))
     }
 }
 

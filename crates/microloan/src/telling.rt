@@ -13,7 +13,7 @@ use std::{fmt, io};
 /// Done, refused requests included.
 pub const DONE: u8 = 0;
 /// A fault, which standard error names.
-const FAULT: u8 = 1;
+pub const FAULT: u8 = 1;
 /// The words ask for nothing that the program does.
 const BAD_WORDS: u8 = 2;
 
@@ -76,6 +76,13 @@ pub fn print_text<R: Print + Eprint>(rt: &R, text: String) -> u8
     ensures { IsPrintStatus result }
 {
     tell_printed(rt, &rt.print(text))
+}
+
+/// Prints a line, and gives the program's status.
+pub fn print_line<R: Print + Eprint>(rt: &R, line: impl fmt::Display + Drop) -> u8
+    ensures { IsPrintStatus result }
+{
+    tell_printed(rt, &rt.println(line))
 }
 
 /// Prints a text, or says why there is none, and gives the program's status.
