@@ -20,6 +20,7 @@ import desk
 import running
 
 PEOPLE_SCRIPT = os.path.join(running.FRONT, "people")
+COMPARE = os.path.join(running.TOP, "audit", "compare")
 REFUSED_ORIGIN = (403, {"front": "origin"})
 # office 2 with a manager 2/1, an officer 2/2 and a teller 2/3; office 3 with a teller 3/1
 LINES = b"""1/1 POST /offices {"number":2,"parent":1,"name":"North"}
@@ -301,6 +302,37 @@ class Messages(unittest.TestCase):
             self.assertTrue(reply == b"" or b" 408 " in reply.split(b"\r\n")[0], reply[:60])
             client.close()
         self.assertGreater(time.monotonic() - began, 8)
+
+
+def compare(it, beginning, log):
+    """The status and the lines of audit/compare, from a copy of the beginning on."""
+    words = [COMPARE, "--program", running.program(), "--file", it.file, "--from", beginning, log]
+    done = subprocess.run(words, capture_output=True, text=True, check=False)
+    return done.returncode, done.stdout.splitlines() + done.stderr.splitlines()
+
+
+class TheLog(unittest.TestCase):
+    def test_it_gives_the_file(self):
+        sent = [("zoe", *add_client(f'Zoë "{number}" \\ {{}}')) for number in range(20)]
+        spread = json.dumps({"office": 2, "name": "Spread"}, indent=1).replace("\n", "\r\n")
+        sent += [("zoe", "POST", "/api/clients", spread.encode()), ("tom", *add_client("Refused"))]
+        sent += [("head", "GET", "/api/offices", None)]
+        with desk.Desk(lines=LINES, people=PEOPLE) as it:
+            beginning = os.path.join(it.folder, "beginning.db")
+            it.stop_serve()
+            desk.copy_file(it.file, beginning)
+            it.start_serve()
+            for message in sent:
+                it.send(*message)
+            desk_wait(lambda: len(it.log) >= len(sent))
+            it.stop_serve()
+            self.assertEqual(compare(it, beginning, it.nginx.log)[1][-1], "the same")
+            changed = os.path.join(it.folder, "changed.log")
+            with open(it.nginx.log, encoding="utf-8") as file, open(changed, "w", encoding="utf-8") as other:
+                other.write(file.read().replace('\\"7\\\\\"', '\\"8\\\\\"'))
+            status, lines = compare(it, beginning, changed)
+            self.assertEqual((status, lines[-1]), (1, "0 messages are answered otherwise, 1 rows differ"))
+            self.assertIn("clients 0002-000008: name is ", lines[0])
 
 
 class TheProgram(unittest.TestCase):
