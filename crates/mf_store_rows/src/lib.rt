@@ -4,12 +4,14 @@
 #![tactic(auto)]
 
 mod groups;
+mod logs;
 mod opened;
 mod rows;
 mod tables;
 mod whole;
 
 pub use groups::Group;
+pub use logs::{has_log, remove_bare_log};
 pub use opened::open_file;
 pub use rows::{read_all, read_any};
 pub use whole::{Whole, every};

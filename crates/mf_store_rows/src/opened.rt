@@ -10,10 +10,11 @@ ghost use Rattle.mf_store_records.specs.Tables.{schema};
 ghost use Rattle.mf_store_rows.specs.Schemas.{first_schema};
 ghost use Rattle.mf_store_rows.specs.Whole.{HaveRowids, HaveFirstRowids};
 
+use crate::logs::remove_bare_log;
 use sqlite::{Connection, Error, FileFrom, FileStore, Start};
 use std::rt::HostRuntime;
 
-/// Opens a file, or makes it. The errors are those of SQLite.
+/// Opens a file, or makes it. The errors are those of SQLite; a file that is refused gets no log beside it.
 pub fn open_file<S: Start>(
     rt: &HostRuntime,
     path: &str,
@@ -28,6 +29,11 @@ pub fn open_file<S: Start>(
 {
     match Connection::open_from(rt, path, false, start) {
         Ok(connection) => Ok(connection),
-        Err((error, _)) => Err(error),
+        Err((error, None)) => Err(error),
+        Err((error, Some(held))) => {
+            remove_bare_log(rt, path);
+            drop(held);
+            Err(error)
+        }
     }
 }

@@ -1,11 +1,9 @@
 //! What stands at the path of an institution's file, told by the system and by the file's first byte, before anything is opened.
 
+use mf_store_rows::has_log;
 use std::fs::{self, File};
 use std::io::{self, ErrorKind, Read};
 use std::rt::HostRuntime;
-
-/// How long a log without a page is at most, in bytes: its header and the header of a page. That of a file that is being made is shorter.
-const LOG_WITHOUT_PAGE: u64 = 56;
 
 /// What stands at a path.
 #[derive(Clone, Copy, PartialEq, Eq)]
@@ -53,42 +51,15 @@ pub fn place_at(rt: &HostRuntime, path: &str) -> Place {
     }
 }
 
-/// Whether a log with a page in it stands beside a file.
-pub fn has_log(rt: &HostRuntime, path: &str) -> bool {
-    matches!(has_page(rt, path), Ok(true))
-}
-
 fn look_at(rt: &HostRuntime, path: &str) -> io::Result<Place> {
     match fs::metadata(rt, path) {
         Ok(found) if !found.is_file() => Ok(Place::NoFile),
-        Ok(found) if found.len() == 0 => {
-            let alone = if has_page(rt, path)? { Place::LogBesideEmpty } else { Place::Empty };
-            Ok(alone)
-        }
-        Ok(_) => beginning_of(rt, path),
-        Err(error) if error.kind() == ErrorKind::NotFound => {
-            let alone = if has_page(rt, path)? { Place::LogAlone } else { Place::Missing };
-            Ok(alone)
-        }
-        Err(error) => Err(error),
-    }
-}
-
-/// Whether the log beside a path has a page in it.
-fn has_page(rt: &HostRuntime, path: &str) -> io::Result<bool> {
-    let log = log_path(rt, path)?;
-    match fs::metadata(rt, log.as_str()) {
-        Ok(found) => Ok(found.len() > LOG_WITHOUT_PAGE),
-        Err(error) if error.kind() == ErrorKind::NotFound => Ok(false),
-        Err(error) => Err(error),
-    }
-}
-
-/// The path of the log beside a file; it lies where a link to the file leads.
-fn log_path(rt: &HostRuntime, path: &str) -> io::Result<String> {
-    match fs::canonicalize(rt, path) {
-        Ok(found) => Ok(format!(in rt.alloc(); "{}-wal", found.as_str())?),
-        Err(_) => Ok(format!(in rt.alloc(); "{path}-wal")?),
+        Ok(found) if found.len() > 0 => beginning_of(rt, path),
+        Ok(_) if has_log(rt, path)? => Ok(Place::LogBesideEmpty),
+        Ok(_) => Ok(Place::Empty),
+        Err(error) if error.kind() != ErrorKind::NotFound => Err(error),
+        Err(_) if has_log(rt, path)? => Ok(Place::LogAlone),
+        Err(_) => Ok(Place::Missing),
     }
 }
 

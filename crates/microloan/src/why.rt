@@ -2,9 +2,10 @@
 
 ghost use Rattle.microloan.specs.Status.{IsPrintStatus};
 
-use crate::places::{Place, has_log, place_at};
+use crate::places::{Place, place_at};
 use crate::telling::{FAULT, print_line};
 use mf_store_files::{Finding, look};
+use mf_store_rows::has_log;
 
 /// Says in a line what opening a file would find, and gives the program's status: 0 where it is opened as the institution
 /// that it holds. Nothing is made and nothing is changed.
@@ -31,7 +32,7 @@ fn say(rt: &HostRuntime, file: &str, words: &str, more: &str) -> u8
 fn say_found(rt: &HostRuntime, file: &str, found: Finding) -> u8
     ensures { IsPrintStatus result }
 {
-    let by_log = is_torn(found) && has_log(rt, file);
+    let by_log = is_torn(found) && matches!(has_log(rt, file), Ok(true));
     let more = if by_log { "; the log beside it may be another file's" } else { "" };
     let said = say(rt, file, words_of(found), more);
     if is_opened(found) { said } else { FAULT }
