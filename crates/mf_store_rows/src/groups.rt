@@ -8,6 +8,7 @@ ghost use Rattle.sqlite.specs.State.{HasCleanDisk};
 ghost use Rattle.sqlite.specs.Tree.{Trees};
 ghost use Rattle.mf_store_rows.specs.Schemas.{IsUnchangedUnder};
 
+use crate::progress::Progress;
 use crate::whole::{Whole, every};
 use mf_base::Fault;
 use sqlite::{Alter, Connection};
@@ -35,12 +36,13 @@ pub trait Group: Sized {
     /// The rowids of their tables are in order.
     ghost HaveRowids: { Trees → Type 0 };
 
-    /// What the tables keep, and none where they keep nothing that records can hold.
+    /// What the tables keep, and none where they keep nothing that records can hold. Each table that is read is told.
     ///
     /// The clauses on what is read speak of a connection whose tables are those of a schema with these tables, whatever rows stand there.
-    fn read_group<S: Alter>(
+    fn read_group<S: Alter, P: Progress>(
         alloc: Global,
         connection: &mut Connection<S>,
+        progress: &mut P,
     ) -> Result<Option<Self>, Fault>
         requires alone { connection.old.in_transaction ≡ false }
         ensures kept { IsUnchangedUnder IsUnder (state S.Store connection.old) (state S.Store connection.new) }
@@ -78,11 +80,14 @@ impl<T: Whole + Drop> Group for Vec<T> {
 
     ghost HaveRowids = { λ trees. HasRowids (trees T.Whole.tree) };
 
-    fn read_group<S: Alter>(
+    fn read_group<S: Alter, P: Progress>(
         alloc: Global,
         connection: &mut Connection<S>,
+        progress: &mut P,
     ) -> Result<Option<Vec<T>>, Fault> {
-        every(alloc, connection)
+        let found = every(alloc, connection);
+        progress.pass();
+        found
     }
 }
 
@@ -101,15 +106,16 @@ impl<A: Group + Drop, B: Group + Drop> Group for (A, B) {
 
     ghost HaveRowids = { λ trees. A.Group.HaveRowids trees × B.Group.HaveRowids trees };
 
-    fn read_group<S: Alter>(
+    fn read_group<S: Alter, P: Progress>(
         alloc: Global,
         connection: &mut Connection<S>,
+        progress: &mut P,
     ) -> Result<Option<(A, B)>, Fault> {
-        let found: Option<A> = A::read_group(alloc, connection)?;
+        let found: Option<A> = A::read_group(alloc, connection, progress)?;
         let Some(first) = found else {
             return Ok(None);
         };
-        let more: Option<B> = B::read_group(alloc, connection)?;
+        let more: Option<B> = B::read_group(alloc, connection, progress)?;
         let Some(second) = more else {
             return Ok(None);
         };

@@ -6,6 +6,7 @@
 mod groups;
 mod logs;
 mod opened;
+mod progress;
 mod rows;
 mod tables;
 mod whole;
@@ -13,5 +14,6 @@ mod whole;
 pub use groups::Group;
 pub use logs::{has_log, remove_bare_log};
 pub use opened::open_file;
+pub use progress::{Progress, Unfollowed};
 pub use rows::{read_all, read_any};
 pub use whole::{Whole, every};
