@@ -187,6 +187,12 @@ def contents(path):
     return tuple(found)
 
 
+def is_kept(before, after):
+    """Whether a file and its log, which were refused, are as they were. Only a log that holds no frame may have become
+    another such log, whose header was drawn anew."""
+    return before == after or (before[0] == after[0] and not any(frames(log or b"") for log in (before[1], after[1])))
+
+
 def put(path, database, log):
     """Puts a file and a log in place, each bytes or none."""
     files.remove(path)
