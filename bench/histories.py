@@ -1,6 +1,7 @@
 """Request lines with what an institution is after each of them, and the files of processes that were killed: for the
 scripts beside this one that damage files and open them again.
 """
+import hashlib
 import os
 import struct
 import subprocess
@@ -25,7 +26,7 @@ def repayments(loan, first, last, amount):
     """Repayments of a loan, numbered, each with a receipt."""
     body = '{{"amount":{},"day":"2024-06-30","receipt":"E-{}"}}'
     return [
-        f"1/1 POST /loans/{loan}/repayments {body.format(amount + number, number)}\n".encode()
+        f"1/1 POST /loans/{loan}/repayments {body.format(amount + number % 100, number)}\n".encode()
         for number in range(first, last)
     ]
 
@@ -51,6 +52,11 @@ def third_day(amount):
     )
 
 
+def busy_day(count):
+    """Lines of a day on which one loan takes so many repayments."""
+    return repayments("0005-000002", 100, 100 + count, 1)
+
+
 def days_of_two():
     """The lines of three days of an institution, and of another one with other amounts and names, whose pages are alike."""
     first = changes(files.handbook_lines())
@@ -59,40 +65,77 @@ def days_of_two():
 
 
 class History:
-    """What an institution is after each beginning of some lines, from a new one on."""
+    """What an institution is after each beginning of some lines, from a new one on: what is shown of it, and its rows."""
 
     def __init__(self, lines):
-        self.lines = lines
-        self.states = shown_after_each(lines)
+        self.shown = shown_after_each(lines)
+        self.rows = rows_after_each(lines)
         self.count = len(lines)
-        self.known = {}
 
     def until(self, count):
         """The history of so many first lines."""
         part = object.__new__(History)
-        part.lines, part.states, part.count, part.known = self.lines, self.states, count, self.known
+        part.shown, part.rows, part.count = self.shown, self.rows, count
         return part
 
-    def rows_after(self, count):
-        """The rows after so many lines, as the program leaves them in a new file."""
-        if count not in self.known:
-            with files.room() as folder:
-                path = os.path.join(folder, "reference.db")
-                files.answered(path, b"".join(self.lines[:count]))
-                self.known[count] = sorted(files.rows(path).splitlines())
-        return self.known[count]
-
-    def beginning(self, path, least=0):
-        """How many lines the file's institution has, by what is shown of it and by its rows: as many as may be, from the
-        least number on; none where it is not one after a beginning."""
-        status, shown, _ = files.ended(["batch", "--existing", "--file", path], files.ASKED)
-        rows = sorted(files.rows(path).splitlines())
+    def beginning(self, path, most=None, options=("--existing",)):
+        """How many lines the file's institution has, by what is shown of it and by its rows: as many as may be, up to the
+        most; none where it is refused, or is not one after a beginning."""
+        status, shown, _ = files.ended(["batch", "--file", path, *options], files.ASKED)
+        rows = digest_of_rows(path)
         if status != 0:
             return None
-        for count in range(self.count, least - 1, -1):
-            if self.states[count] == shown and self.rows_after(count) == rows:
+        for count in range(self.count if most is None else min(most, self.count), -1, -1):
+            if self.shown[count] == shown and self.rows[count] == rows:
                 return count
         return None
+
+
+def digest_of_rows(path):
+    return hashlib.sha256(b"\n".join(sorted(files.rows(path).splitlines()))).digest()
+
+
+def rows_after_each(lines):
+    """The rows after each number of lines, from none on, as SQLite finds them in copies of the files of a process that
+    waits for its next line."""
+    with files.room() as folder:
+        path, other = os.path.join(folder, "reference.db"), os.path.join(folder, "copy.db")
+        with Answering(path) as process:
+            process.answer(b"1/1 GET /business-day\n")
+            found = []
+            for line in [None, *lines]:
+                if line:
+                    process.answer(line)
+                files.copy(path, other)
+                found.append(digest_of_rows(other))
+    return found
+
+
+class Answering:
+    """The program answering lines over a file, one at a time. It is killed at the end."""
+
+    def __init__(self, path, before=()):
+        words = [*before, files.PROGRAM, "batch", "--file", path]
+        self.process = subprocess.Popen(words, stdin=subprocess.PIPE, stdout=subprocess.PIPE)
+
+    def answer(self, line):
+        self.process.stdin.write(line)
+        self.process.stdin.flush()
+        return self.process.stdout.readline()
+
+    def end(self):
+        """Ends it in order. Its status."""
+        self.process.stdin.close()
+        return self.process.wait()
+
+    def __enter__(self):
+        return self
+
+    def __exit__(self, *_):
+        self.process.kill()
+        self.process.wait()
+        self.process.stdin.close()
+        self.process.stdout.close()
 
 
 def shown_after_each(lines):
@@ -107,13 +150,9 @@ def shown_after_each(lines):
 
 def killed(path, lines):
     """Has a process answer lines one by one, and kills it."""
-    words = [files.PROGRAM, "batch", "--file", path]
-    with subprocess.Popen(words, stdin=subprocess.PIPE, stdout=subprocess.PIPE) as process:
+    with Answering(path) as process:
         for line in lines:
-            process.stdin.write(line)
-            process.stdin.flush()
-            process.stdout.readline()
-        process.kill()
+            process.answer(line)
 
 
 class Day:
@@ -146,6 +185,12 @@ def contents(path):
         except FileNotFoundError:
             found.append(None)
     return tuple(found)
+
+
+def is_kept(before, after):
+    """Whether a file and its log, which were refused, are as they were. Only a log that holds no frame may have become
+    another such log, whose header was drawn anew."""
+    return before == after or (before[0] == after[0] and not any(frames(log or b"") for log in (before[1], after[1])))
 
 
 def put(path, database, log):

@@ -3,8 +3,10 @@
 The program is that of this checkout, or the one that MICROLOAN names. What is written to the disk goes to memory where
 the system has a folder for it. It wants the `sqlite3` shell.
 """
+import contextlib
 import os
 import shutil
+import sqlite3
 import struct
 import subprocess
 import tempfile
@@ -69,9 +71,14 @@ def shell(path, statements):
 
 
 def rows(path):
-    """All tables with their rows, as SQLite reads them. The files stay as they are."""
-    words = ["sqlite3", "-readonly", path, ".dump"]
-    return subprocess.run(words, stdout=subprocess.PIPE, stderr=subprocess.STDOUT, check=False).stdout
+    """All tables with their rows, as SQLite reads them, or what it says of the file. The files stay as they are."""
+    words = f"file:{path}?mode=ro"
+    try:
+        with contextlib.closing(sqlite3.connect(words, uri=True)) as database:
+            database.text_factory = lambda text: text.decode(errors="surrogateescape")
+            return "".join(f"{line}\n" for line in database.iterdump()).encode(errors="surrogateescape")
+    except sqlite3.Error as fault:
+        return f"{fault}\n".encode()
 
 
 def remove(path):

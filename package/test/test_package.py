@@ -9,34 +9,16 @@ import tempfile
 import time
 import unittest
 
-HERE = os.path.dirname(os.path.abspath(__file__))
-TOP = os.path.dirname(os.path.dirname(HERE))
+import roots
 
 PASSWORD = "the head's password"
-PATIENCE = 300  # seconds that a command in the root may take
-ASK = """
-import base64, http.client, sys
-user, password, method, path, body = sys.argv[1:]
-front = http.client.HTTPConnection("127.0.0.1", 8190, timeout=30)
-fields = {"Authorization": "Basic " + base64.b64encode(f"{user}:{password}".encode()).decode(), "X-Desk": "1"}
-front.request(method, path, body or None, fields)
-reply = front.getresponse()
-print(reply.status, reply.read().decode())
-"""
 
 
 def setUpModule():
     global PACKAGE
     room = tempfile.mkdtemp()
     unittest.addModuleCleanup(shutil.rmtree, room)
-    words = [os.path.join(TOP, "package", "build"), "--out", room, "--lint"]
-    program = os.environ.get("MICROLOAN")
-    if program:
-        words += ["--program", program]
-    done = subprocess.run(words, capture_output=True, text=True, check=False)
-    if done.returncode:
-        raise AssertionError(f"package/build --lint: status {done.returncode}\n{done.stdout}{done.stderr}")
-    PACKAGE = done.stdout.splitlines()[-1]
+    PACKAGE = roots.built_package(room)
 
 
 class Built(unittest.TestCase):
@@ -61,64 +43,11 @@ class Built(unittest.TestCase):
         self.assertIn("server 127.0.0.1:8180", site)
 
 
-class Root:
-    """A fresh root of Debian, with processes and a loopback network of its own. All of it ends with this process."""
-
-    def __init__(self):
-        self.path = tempfile.mkdtemp(prefix="microloan-root-", dir="/var/tmp")
-        self.holder = None
-        include = "ca-certificates,systemd,logrotate"
-        words = ["mmdebstrap", "--quiet", "--variant=minbase", f"--include={include}", "bookworm", self.path]
-        subprocess.run(words, check=True, stdin=subprocess.DEVNULL)
-        with open(os.path.join(self.path, "usr/sbin/policy-rc.d"), "w", encoding="ascii") as file:
-            file.write("#!/bin/sh\nexit 101\n")
-        os.chmod(file.name, 0o755)
-        for name in ("resolv.conf", "hosts"):
-            shutil.copy(f"/etc/{name}", os.path.join(self.path, "etc", name))
-        words = ["unshare", "--fork", "--pid", "--mount", "--net", f"--mount-proc={self.path}/proc", "--kill-child"]
-        hold = "mount -t tmpfs none /dev/shm; ip link set lo up; echo ready; exec sleep 1800"
-        self.holder = subprocess.Popen(words + ["sh", "-c", hold], stdout=subprocess.PIPE, text=True)
-        if self.holder.stdout.readline() != "ready\n":
-            raise AssertionError("no namespace")
-        with open(f"/proc/{self.holder.pid}/task/{self.holder.pid}/children", encoding="ascii") as file:
-            self.inside = file.read().split()[0]
-
-    def run(self, command, given="", network=False, wanted=0):
-        """Runs a shell's command in the root. What it prints, on both streams."""
-        spaces = ["--mount", "--pid"] + ([] if network else ["--net"])
-        words = ["nsenter", f"--target={self.inside}", *spaces, "chroot", self.path, "env", "-i"]
-        words += ["PATH=/usr/sbin:/usr/bin:/sbin:/bin", "HOME=/root", "LC_ALL=C.UTF-8"]
-        words += ["DEBIAN_FRONTEND=noninteractive"]
-        done = subprocess.run(
-            [*words, "sh", "-c", command],
-            input=given,
-            stdout=subprocess.PIPE,
-            stderr=subprocess.STDOUT,
-            text=True,
-            timeout=PATIENCE,
-            check=False,
-        )
-        if done.returncode != wanted:
-            raise AssertionError(f"{command}: status {done.returncode}\n{done.stdout}")
-        return done.stdout
-
-    def start(self, command):
-        """Starts something that stays, as the unit would."""
-        self.run(f"{command} </dev/null >/tmp/started.log 2>&1 & echo started")
-
-    def end(self):
-        if self.holder:
-            self.holder.kill()  # SIGTERM is ignored by unshare; its child is killed with it
-            self.holder.wait()
-            self.holder.stdout.close()
-        shutil.rmtree(self.path, ignore_errors=True)
-
-
 @unittest.skipUnless(os.geteuid() == 0 and shutil.which("mmdebstrap"), "needs root and mmdebstrap")
 class Installed(unittest.TestCase):
     @classmethod
     def setUpClass(cls):
-        cls.root = Root()
+        cls.root = roots.Root()
         cls.addClassCleanup(cls.root.end)
         shutil.copy(PACKAGE, os.path.join(cls.root.path, "root/microloan.deb"))
 
@@ -126,10 +55,7 @@ class Installed(unittest.TestCase):
         return self.root.run("apt-get -qq update && apt-get -qq install -y /root/microloan.deb 2>&1", network=True)
 
     def ask(self, user, password, method, path, members=None):
-        body = "" if members is None else json.dumps(members)
-        words = " ".join(map(shlex.quote, (user, password, method, path, body)))
-        status, _, text = self.root.run(f"python3 - {words}", given=ASK).partition(" ")
-        return int(status), json.loads(text)
+        return roots.ask(self.root, user, password, method, path, members)
 
     def start(self):
         """Starts the program as the unit has it, waits as the unit does, and starts nginx."""
@@ -189,7 +115,7 @@ class Installed(unittest.TestCase):
             kind = "text/css" if path.endswith(".css") else "application/javascript"
             self.assertEqual(self.root.run("python3 -", given=script.format(path)).strip(), kind)
         words = " ".join(map(shlex.quote, ("zoe", "a password of zoe's", "GET", "/", "")))
-        self.assertIn("<!doctype html>", self.root.run(f"python3 - {words}", given=ASK).lower())
+        self.assertIn("<!doctype html>", self.root.run(f"python3 - {words}", given=roots.ASK).lower())
 
     def wait_until(self, holds):
         end = time.monotonic() + 20

@@ -114,9 +114,8 @@ def checked(path, program=PROGRAM, user=None):
     """
     before = counts_of(path)
     words = (["setpriv", f"--reuid={user}", f"--regid={user}", "--init-groups"] if user else []) + [program]
-    done = subprocess.run(
-        words + ["batch", "--file", path], input=b"1/1 GET /business-day\n", capture_output=True, check=False
-    )
+    words += ["batch", "--existing", "--file", path]
+    done = subprocess.run(words, input=b"1/1 GET /business-day\n", capture_output=True, check=False)
     if done.returncode or done.stdout != f'200 {{"day":"{before[0]}"}}\n'.encode():
         raise Failed(f"the program refuses {path}: {(done.stderr or done.stdout).decode(errors='replace').strip()}")
     if counts_of(path) != before:

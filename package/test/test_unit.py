@@ -1,0 +1,118 @@
+"""Tests of the unit and its timer under a running systemd, in a fresh root of Debian; needs root and mmdebstrap.
+
+Where a machine lets no systemd run in namespaces, it says why and skips them.
+"""
+import os
+import re
+import shutil
+import tempfile
+import time
+import unittest
+
+import roots
+
+PASSWORD = "the head's password"
+FILE = "/var/lib/microloan/desk.db"
+EMPTY_LOG = 41  # bytes of a log that holds no commit, at most
+MOST_EXPOSED = 2.0  # of ten, as systemd-analyze counts
+
+
+@unittest.skipUnless(os.geteuid() == 0 and shutil.which("mmdebstrap"), "needs root and mmdebstrap")
+class Unit(unittest.TestCase):
+    @classmethod
+    def setUpClass(cls):
+        room = tempfile.mkdtemp()
+        cls.addClassCleanup(shutil.rmtree, room)
+        package = roots.built_package(room)
+        cls.root = roots.Booted()
+        cls.addClassCleanup(cls.root.end)
+        if cls.root.fault:
+            raise unittest.SkipTest(f"no systemd runs here: {cls.root.fault}")
+        shutil.copy(package, os.path.join(cls.root.path, "root/microloan.deb"))
+        cls.root.run("apt-get -qq update && apt-get -qq install -y /root/microloan.deb 2>&1", network=True)
+        said = cls.root.run("microloan-setup --user amina --day 2026-11-26", given=PASSWORD + "\n")
+        if "the desk answers at http://127.0.0.1:8190" not in said:
+            raise AssertionError(said)
+
+    def shown(self, *names):
+        """What systemd shows of the service, by name."""
+        words = "systemctl show microloan.service --property=" + ",".join(names)
+        return dict(line.split("=", 1) for line in self.root.run(words).splitlines())
+
+    def ask(self, method, path, members=None):
+        return roots.ask(self.root, "amina", PASSWORD, method, path, members)
+
+    def enter(self, name):
+        status, reply = self.ask("POST", "/api/clients", {"office": 1, "name": name})
+        self.assertEqual(status, 201)
+        return reply["client"]
+
+    def name_of(self, client):
+        return self.ask("GET", f"/api/clients/{client}")[1].get("name")
+
+    def log_size(self):
+        return int(self.root.run(f"stat -c %s {FILE}-wal"))
+
+    def wait_until(self, holds):
+        end = time.monotonic() + 60
+        while not holds():
+            self.assertLess(time.monotonic(), end)
+            time.sleep(0.1)
+
+    def test_a_start_that_waits(self):
+        self.root.run("systemctl stop microloan")
+        self.root.run("systemctl start microloan")
+        self.assertEqual(self.ask("GET", "/api/business-day"), (200, {"day": "2026-11-26"}))
+        self.assertEqual(self.shown("ActiveState", "User"), {"ActiveState": "active", "User": "microloan"})
+
+    def test_killed_it_comes_back_with_all_that_was_answered(self):
+        client = self.enter("Before the kill")
+        before = self.shown("MainPID", "NRestarts")
+        self.root.run("systemctl kill --signal=KILL --kill-who=main microloan")
+        self.wait_until(lambda: self.shown("MainPID")["MainPID"] not in ("0", before["MainPID"]))
+        self.wait_until(lambda: self.shown("ActiveState")["ActiveState"] == "active")
+        self.assertEqual(int(self.shown("NRestarts")["NRestarts"]), int(before["NRestarts"]) + 1)
+        self.assertEqual(self.name_of(client), "Before the kill")
+
+    def test_a_stop_leaves_one_whole_file(self):
+        client = self.enter("Before the stop")
+        self.assertGreater(self.log_size(), EMPTY_LOG)
+        self.root.run("systemctl stop microloan")
+        self.assertLessEqual(self.log_size(), EMPTY_LOG)
+        # the file alone
+        self.root.run(f"mkdir /root/alone && cp {FILE} /root/alone/desk.db")
+        line = f"1/1 GET /clients/{client}\n"
+        said = self.root.run("microloan batch --existing --file /root/alone/desk.db", given=line)
+        self.assertEqual(said, f'200 {{"client":"{client}","name":"Before the stop"}}\n')
+        self.assertEqual(self.shown("Result")["Result"], "success")
+        self.root.run("systemctl start microloan")
+
+    def test_no_institution_is_no_start(self):
+        self.root.run("systemctl stop microloan")
+        self.root.run(f"mv {FILE} {FILE}.kept && mv {FILE}-wal {FILE}-wal.kept")
+        self.root.run("systemctl start microloan", wanted=1)
+        self.assertEqual(self.root.run("ls /var/lib/microloan"), "desk.db-wal.kept\ndesk.db.kept\n")
+        self.root.run(f"mv {FILE}.kept {FILE} && mv {FILE}-wal.kept {FILE}-wal && systemctl start microloan")
+        self.assertEqual(self.ask("GET", "/api/business-day")[0], 200)
+
+    def test_the_timer_and_its_backup(self):
+        client = self.enter("Before the backup")
+        self.assertIn("microloan-backup.service", self.root.run("systemctl list-timers --no-pager"))
+        self.root.run("systemctl start microloan-backup.service")
+        names = self.root.run("ls /var/backups/microloan").split()
+        self.assertRegex(names[-1], r"^desk-.*\.db$")
+        line = f"1/1 GET /clients/{client}\n"
+        self.root.run(f"mkdir -p /root/copy && cp /var/backups/microloan/{names[-1]} /root/copy/desk.db")
+        said = self.root.run("microloan batch --existing --file /root/copy/desk.db", given=line)
+        self.assertEqual(said, f'200 {{"client":"{client}","name":"Before the backup"}}\n')
+        self.assertEqual(self.ask("GET", "/api/business-day")[0], 200)
+
+    def test_how_far_it_is_shut_off(self):
+        said = self.root.run("systemd-analyze --no-pager security microloan.service")
+        found = re.search(r"Overall exposure level for microloan.service: ([0-9.]+)", said)
+        print(found[0], flush=True)
+        self.assertLessEqual(float(found[1]), MOST_EXPOSED)
+
+
+if __name__ == "__main__":
+    unittest.main()
