@@ -1,0 +1,48 @@
+//! How far a file is checked, told to the person at a terminal.
+
+use crate::telling::tell_person;
+use mf_store_files::PARTS;
+use mf_store_rows::Progress;
+use std::rt::HostRuntime;
+use std::time::{Duration, Instant};
+
+/// How long a check may take before anything is told.
+const LONG: Duration = Duration::from_secs(1);
+
+/// Follows the check of a file, and tells after each part how far it is, once that takes long.
+pub struct Following<'a> {
+    rt: &'a HostRuntime,
+    file: &'a str,
+    /// None where the clock can't be read: then nothing is told.
+    begun: Option<Instant>,
+    passed: u32,
+}
+
+impl<'a> Following<'a> {
+    /// Follows a check that begins now.
+    pub fn new(rt: &'a HostRuntime, file: &'a str) -> Following<'a> {
+        Following {
+            rt,
+            file,
+            begun: Instant::now(rt).ok(),
+            passed: 0,
+        }
+    }
+
+    /// Whether the check has taken long.
+    fn is_long(&self) -> bool {
+        match &self.begun {
+            Some(begun) => matches!(begun.elapsed(self.rt), Ok(time) if time > LONG),
+            None => false,
+        }
+    }
+}
+
+impl<'a> Progress for Following<'a> {
+    fn pass(&mut self) {
+        self.passed = self.passed.saturating_add(1);
+        if self.is_long() {
+            tell_person(self.rt, format_args!("checking {}: {} of {PARTS}", self.file, self.passed));
+        }
+    }
+}
