@@ -76,6 +76,7 @@ fn words_of(found: Finding) -> &'static str {
         Finding::NoDatabase => "damaged, or not a database: its pages, schema and rows don't fit together",
         Finding::Damaged => "damaged: a page is not as it was written",
         Finding::DiskFailed => "the disk failed while it was read",
+        Finding::Unread => "not read to its end: out of memory, or the disk failed",
         Finding::NoTables => "a database without tables; a new institution would be made",
         Finding::OtherTables => "a database of something else",
         Finding::FirstSchema { sound: true } => "a sound institution, schema 1; opening it brings it to schema 2",
