@@ -1,5 +1,5 @@
 -- A table is the one that words describe where each of its parts is.
-use Rattle.std.proofs.Common.{◌≡◌, map, refl, sym, ap, subst}
+use Rattle.std.proofs.Common.{◌≡◌, map, ap}
 use Rattle.sqlite.specs.Table.{Table}
 use Rattle.mf_store_schemas.specs.Described.{HasKeys, HasNoRules, column_of, table_of}
 use Rattle.mf_store_schemas.specs.declared.words.TableWords.{TableWords}

@@ -7,14 +7,18 @@ use Rattle.sqlite_schema.specs.declared.schema.Column.{Column}
 use Rattle.sqlite_schema.specs.declared.schema.Index.{Index}
 use Rattle.sqlite_schema.specs.declared.schema.Stamps.{Stamps}
 use Rattle.sqlite_value.specs.declared.keys.Order.{Order}
-use Rattle.mf_store_tables.specs.Tables.{typed_column, table_with, index_on}
+use Rattle.mf_store_tables.specs.Tables.{int, text, maybe_int, maybe_text, table_with, index_on}
 use Rattle.mf_store_schemas.specs.declared.words.ColumnWords.{ColumnWords}
+use Rattle.mf_store_schemas.specs.declared.words.ColumnWords.TheVariants.{Int, Text, MaybeInt, MaybeText}
 use Rattle.mf_store_schemas.specs.declared.words.TableWords.{TableWords}
 use Rattle.mf_store_schemas.specs.declared.words.IndexWords.{IndexWords}
 
 -- a column with this name and type, of a STRICT table
 abbrev pub column_of : ColumnWords → Column
-column_of w = typed_column w.kind w.not_null w.name.now
+column_of (Int name) = int name.now
+column_of (Text name) = text name.now
+column_of (MaybeInt name) = maybe_int name.now
+column_of (MaybeText name) = maybe_text name.now
 
 -- a table with these columns and no rule but its keys
 abbrev pub table_of : TableWords → Table

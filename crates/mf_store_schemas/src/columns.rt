@@ -2,10 +2,11 @@
 
 ghost use Rattle.std.specs.Prelude.{◌≡◌, ◌↔◌, IsTrue, map};
 ghost use Rattle.sqlite_value.specs.declared.value.Value.TheVariants.{Null};
+ghost use Rattle.mf_store_tables.specs.Tables.{typed_column};
 ghost use Rattle.mf_store_schemas.specs.Described.{column_of};
 
 use crate::words::ColumnWords;
-use sqlite_schema::schema::Column;
+use sqlite_schema::schema::{Column, Kind};
 use sqlite_value::keys::Collation;
 use sqlite_value::value::Value;
 
@@ -18,15 +19,27 @@ fn is_nothing(value: &Value) -> bool
     }
 }
 
+/// Whether a column has this name and type, no default, and takes values of its type alone.
+fn is_typed(found: &Column, kind: Kind, not_null: bool, name: &str) -> bool
+    ensures { IsTrue result ↔ (found.now ≡ typed_column kind not_null name.now) }
+{
+    found.name.as_slice() == name.as_bytes()
+        && found.kind == kind
+        && found.is_strict
+        && found.not_null == not_null
+        && is_nothing(&found.default)
+        && found.collation == Collation::Binary
+}
+
 fn is_column(found: &Column, wanted: &ColumnWords) -> bool
     ensures { IsTrue result ↔ (found.now ≡ column_of wanted.now) }
 {
-    found.name.as_slice() == wanted.name.as_bytes()
-        && found.kind == wanted.kind
-        && found.is_strict
-        && found.not_null == wanted.not_null
-        && is_nothing(&found.default)
-        && found.collation == Collation::Binary
+    match wanted {
+        ColumnWords::Int(name) => is_typed(found, Kind::Integer, true, name),
+        ColumnWords::Text(name) => is_typed(found, Kind::Text, true, name),
+        ColumnWords::MaybeInt(name) => is_typed(found, Kind::Integer, false, name),
+        ColumnWords::MaybeText(name) => is_typed(found, Kind::Text, false, name),
+    }
 }
 
 /// Whether columns are those that the words describe, in their order.

@@ -1,13 +1,12 @@
 //! Words that describe tables.
 
-use sqlite_schema::schema::Kind;
-
-/// A column of a STRICT table, without a default.
+/// A column of a STRICT table, by its name: of type INTEGER or TEXT, and NOT NULL or not. It has no default.
 #[derive(Clone, Copy)]
-pub struct ColumnWords {
-    pub name: &'static str,
-    pub kind: Kind,
-    pub not_null: bool,
+pub enum ColumnWords {
+    Int(&'static str),
+    Text(&'static str),
+    MaybeInt(&'static str),
+    MaybeText(&'static str),
 }
 
 /// A STRICT table with no rule but its keys, by the tree that has its rows. A key is a list of columns, counted from 1.
