@@ -30,7 +30,7 @@ module _ (trees : Trees) (held : HoldsSound trees) where
 module _ {D : Type 0} {g : Ghosts D} (c : Held (FileStore D g)) (settled : IsTrue (file_state c).is_open → (file_state c).now ≡ (file_state c).committed) where
   module _ (end : Files D) (copied : IsCopied c end) (i : Institution) (was : IsTabled over_files c i) where
     -- the last commit holds the rows
-    committed_holds : HoldsSound (file_state c).committed.trees
+    abbrev committed_holds : HoldsSound (file_state c).committed.trees
     committed_holds = record {
       institution = i;
       sound = was.sound;
