@@ -10,3 +10,4 @@ pub mod AdoptLemmas
 pub mod OpenedLemmas
 pub mod UpgradedLemmas
 pub mod StopLemmas
+pub mod ClosedLemmas

@@ -1,3 +1,4 @@
+pub mod Closed
 pub mod Files
 pub mod First
 pub mod Held

@@ -2,10 +2,12 @@
 #![tactic(auto)]
 
 mod adopted;
+mod closing;
 mod files;
 mod judged;
 pub mod laws;
 mod upgraded;
 
 pub use adopted::adopt;
+pub use closing::close;
 pub use files::{open, open_with};

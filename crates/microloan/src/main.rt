@@ -19,7 +19,7 @@ use crate::telling::{
 use crate::why::say_why;
 use crate::working::{Work, answer_input_in_memory, work_on};
 use mf_base::{Day, Fault};
-use mf_store_files::open;
+use mf_store_files::{close, open};
 use microloan_commands::schedule;
 use microloan_words::{
     BatchWords, Command, ScheduleWords, ServeWords, StaffWords, Words, command, default_day,
@@ -122,9 +122,9 @@ fn work_where(rt: &HostRuntime, file: &str, existing: bool, day: Day, work: Work
     }
 }
 
-/// Opens a file, works over the institution that it holds, closes it, and gives the program's status. Closing copies the log into the
-/// file, so that the file alone is whole; where that fails the two hold the institution together, and the status is the same. The only
-/// function that holds a store of a known type: the prover reads all of `sqlite` for each.
+/// Opens a file, works over the institution that it holds, closes it (`mf_store_files::close`), and gives the program's status. Where
+/// closing fails, the file and its log hold the institution together, and the status is the same. The only function that holds a store
+/// of a known type: the prover reads all of `sqlite` for each.
 fn work_over(rt: &HostRuntime, file: &str, day: Day, work: Work) -> u8
     requires { day ≤ last_entered_day }
     ensures { IsPrintStatus result }
@@ -132,7 +132,7 @@ fn work_over(rt: &HostRuntime, file: &str, day: Day, work: Work) -> u8
     match open(rt, file, day) {
         Ok(mut store) => {
             let status = work_on(rt, file, &mut store, work);
-            let _closed = store.release().close();
+            let _closed = close(store);
             status
         }
         Err(fault) => tell_refusal(rt, fault),
