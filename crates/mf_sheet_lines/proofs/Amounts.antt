@@ -79,3 +79,12 @@ pub cents_written_is : (text : List ℕ) (r : Option ℕ) → IfSome r (IsMoneyT
 unfolding cents_written
 cents_written_is text (Some c) some every = sym (is_read text _ c refl some)
 cents_written_is text None some every = sym (nothing _ (λ c is. let no = every c (read_is text _ c refl is) in cc))
+
+-- so what is read is at most what may be entered
+pub cents_range : (text : List ℕ) → IfSome (cents_written text) (λ cents. cents ≤ money_limit)
+unfolding cents_written
+cents_range text = step (cents_by (prefix_len is_ascii_digit text) text) refl
+  where
+    step : (o : Option ℕ) → cents_by (prefix_len is_ascii_digit text) text ≡ o → IfSome o (λ cents. cents ≤ money_limit)
+    step None e = tt
+    step (Some c) e = (IsRead-is text (take (prefix_len is_ascii_digit text) text) (drop (prefix_len is_ascii_digit text) text) (prefix_len is_ascii_digit text) c refl refl refl (read_is text (prefix_len is_ascii_digit text) c refl e)).limit

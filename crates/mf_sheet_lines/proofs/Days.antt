@@ -84,3 +84,11 @@ pub day_written_is : (text : List ℕ) (r : Option ℕ) → IfSome r (λ day. (d
     → ((day : ℕ) → day ≤ last_entered_day → text ≡ day_text day → r ≡ Some day) → r ≡ day_written text
 day_written_is text (Some day) some every = sym (is_read text day some.0 some.1)
 day_written_is text None some every = sym (nothing _ (λ day is. let read = read_is text day is in let no = every day read.0 read.1 in cc))
+
+-- so a day that is read may be entered
+pub day_range : (text : List ℕ) → IfSome (day_written text) (λ day. day ≤ last_entered_day)
+day_range text = step (day_written text) refl
+  where
+    step : (o : Option ℕ) → day_written text ≡ o → IfSome o (λ day. day ≤ last_entered_day)
+    step None e = tt
+    step (Some day) e = (read_is text day e).0

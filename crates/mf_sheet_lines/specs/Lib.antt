@@ -1,3 +1,4 @@
+pub mod Causes
 pub mod Fields
 pub mod Lines
 pub mod Results

@@ -46,3 +46,12 @@ day_among_is count text r some every = step (find (λ day. bytes_eq text (day_te
     step (Some day) e =
         let f = found_passes (λ day. bytes_eq text (day_text day)) count 0 day e in
         every day (omega (arith, f.1)) ((bytes_eq-Decides text (day_text day)).0 f.0)
+
+-- so a day that is found is among them
+pub day_among_below : (count : ℕ) (text : List ℕ) → IfSome (day_among count text) (λ day. day < count)
+unfolding day_among
+day_among_below count text = step (find (λ day. bytes_eq text (day_text day)) (range_with_len 0 count)) refl
+  where
+    step : (o : Option ℕ) → find (λ day. bytes_eq text (day_text day)) (range_with_len 0 count) ≡ o → IfSome o (λ day. day < count)
+    step None e = tt
+    step (Some day) e = let found = found_passes (λ day. bytes_eq text (day_text day)) count 0 day e in omega (arith, found.1)

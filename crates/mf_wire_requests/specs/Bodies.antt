@@ -26,9 +26,9 @@ whole_at name d = option_and_then as_u64 (option_and_then as_number (get name d)
 abbrev pub text_at : List ℕ → Data → Option (List ℕ)
 text_at name d = option_and_then as_str (get name d)
 
--- a name has 1 to 100 characters, and no control character of ASCII among them
+-- a name is a text of 1 to 100 characters, and no control character of ASCII among them
 abbrev pub is_name : List ℕ → Bool
-is_name text = nat_le 1 (length (chars text)) && nat_le (length (chars text)) 100 && list_all is_plain (chars text)
+is_name text = is_utf8 text && nat_le 1 (length (chars text)) && nat_le (length (chars text)) 100 && list_all is_plain (chars text)
 
 -- a member that is a name
 abbrev pub name_at : List ℕ → Data → Option (List ℕ)

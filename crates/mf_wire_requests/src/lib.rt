@@ -2,6 +2,7 @@
 #![tactic(auto)]
 
 mod body;
+pub mod laws;
 mod paths;
 mod request;
 mod request_line;

@@ -8,15 +8,15 @@ use Rattle.csv.proofs.ReadFacts.{rows-end, rows-more}
 use Rattle.mf_sheet_lines.proofs.AllRecords.{all_records}
 use Rattle.mf_sheet_lines.proofs.records.records.Goals as goal
 
-pub loop-record-init : goal.loop-record-init
+pub loop-read-init : goal.loop-read-init
 unfolding Reached
-loop-record-init c =
+loop-read-init c =
     let fr = c.from_reader-reader.ensures in
     let e = c.flexible.ensures in
     let f = c.has_headers.ensures in
-    let start = c.into_iter-record-iterator.ensures.into_iter_gives ∙ refl in
-    let rdr = c.into_byte_records-record-items.ensures.rdr in
-    let left = c.into_byte_records-record-items.ensures.left in
+    let start = c.into_iter-read-iterator.ensures.into_iter_gives ∙ refl in
+    let rdr = c.into_byte_records-read-items.ensures.rdr in
+    let left = c.into_byte_records-read-items.ensures.left in
     rw (start, rdr, c.new-records.ensures.items) (
       rw (e, f) at fr.trim ∙ c.new.ensures.trim,
       inr (inr (rw (e, f) at fr.has_headers, fr.headers)),
@@ -25,19 +25,21 @@ loop-record-init c =
       strip_bom c.args.text.now,
       fr.source,
       (sym fr.state, refl),
+      rw e at fr.flexible,
     )
 
-pub loop-record-preserved : goal.loop-record-preserved
-loop-record-preserved c =
-    let inv = c.loop-record.invariant in
-    let s = rw (c.in-Some.is, c.in_ok-record.was) at ((c.next.ensures.steps inv.2 inv.0).0 inv.1) in
+pub loop-read-preserved : goal.loop-read-preserved
+loop-read-preserved c =
+    let inv = c.loop-read.invariant in
+    let s = rw (c.in-Some.is, c.in-Ok.is) at ((c.next.ensures.steps inv.2 inv.0).0 inv.1) in
+    let flexible = rw (c.in-Some.is, c.in-Ok.is) at (c.next.ensures.steps inv.2 inv.0).3 in
     let good : is_ok c.push.result ≡ true = search rules in
     let items = rw good at c.push.ensures.items in
-    let m = rows-more (λ (s : Bor (List ℕ)). Some s.now) c.loop-record.record-iterator.rdr c.next.new.self.rdr (fields_of c.in_ok-record.field-0) default_config st.StartRecord (strip_bom c.args.text.now) inv.4 (map fields_of c.loop-record.records.items) inv.3 inv.5 inv.6 s.0 in
-    (s.0.3 ∙ inv.0, inl s.1, s.2, s.0.2 ∙ inv.3, m.0, m.1, rw (items, map-append fields_of c.loop-record.records.items (c.in_ok-record.field-0 ∷ [])) m.2)
+    let m = rows-more (λ (s : Bor (List ℕ)). Some s.now) c.loop-read.read-iterator.rdr c.next.new.self.rdr (fields_of c.in-Ok.record) default_config st.StartRecord (strip_bom c.args.text.now) inv.4 (map fields_of c.loop-read.records.items) inv.3 inv.5 inv.6 s.0 in
+    (s.0.3 ∙ inv.0, inl s.1, s.2, s.0.2 ∙ inv.3, m.0, m.1, rw (items, map-append fields_of c.loop-read.records.items (c.in-Ok.record ∷ [])) m.2, flexible ∙ inv.7)
 
-pub returns : goal.returns
-returns c =
-    let inv = c.loop-record.invariant in
+pub returns-clause-ok : goal.returns-clause-ok
+returns-clause-ok c =
+    let inv = c.loop-read.invariant in
     let s = rw c.in-None.is at ((c.next.ensures.steps inv.2 inv.0).0 inv.1) in
-    all_records _ _ c.loop-record.record-iterator.rdr.state inv.4 inv.6 (rows-end (λ (s : Bor (List ℕ)). Some s.now) c.loop-record.record-iterator.rdr c.next.new.self.rdr [] default_config inv.4 inv.3 inv.5 s)
+    all_records _ _ c.loop-read.read-iterator.rdr.state inv.4 inv.6 (rows-end (λ (s : Bor (List ℕ)). Some s.now) c.loop-read.read-iterator.rdr c.next.new.self.rdr [] default_config inv.4 inv.3 inv.5 s)
