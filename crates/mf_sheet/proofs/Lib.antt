@@ -1,3 +1,4 @@
+pub mod InRange
 pub mod Rows
 pub mod Ran
 pub mod Uses

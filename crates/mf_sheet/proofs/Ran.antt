@@ -17,6 +17,7 @@ use Rattle.mf_sheet_lines.specs.declared.results.SheetResult.TheVariants.{Refuse
 use Rattle.mf_sheet.specs.Lines.{call_by, result_of}
 use Rattle.mf_sheet.specs.Runs.{NoneIsF20, OnlyF20GivesUp, AnswersFields, RunsRows, Steps}
 use Rattle.mf_sheet.specs.Ends.{SheetStreams, EndsWhole, NeverBegins, EndsBefore, CutsHeading, CutsRecord, EndsBy, Ends}
+use Rattle.mf_sheet.proofs.InRange.{row_in_range}
 use Rattle.mf_sheet.proofs.Rows.{Rows}
 
 not_given_up : (given_up : Bool) (reply : Result Reply Fault) → result_of (cond given_up (Err F20) reply) ≢ Refused F20 → given_up ≡ false
@@ -43,6 +44,7 @@ module _ {S : Type 0} (store : Ghosts S) (caller : Caller) where
         record {
           run = l ∷ more.run;
           calls = ap (λ cs. call_by caller f ∷ cs) more.calls;
+          in_range = (row_in_range caller f, more.in_range);
           replied = replied;
           follows = more.follows;
           given_up = subst (OnlyF20GivesUp (l ∷ more.run)) (sym replied) (only_F20 (l ∷ more.run) i);
@@ -54,7 +56,7 @@ module _ {S : Type 0} (store : Ghosts S) (caller : Caller) where
   pub runs_rows : (old : S) (rows : Rows) (results : List SheetResult) (new : S) → Steps (AnswersFields store caller) old rows results new → RunsRows store caller old rows results new
   runs_rows old [] [] new h = subst (λ n. RunsRows store caller old [] [] n) (sym h) (record {
     premise = λ c. c;
-    ran = λ c i s. record { run = []; calls = refl; replied = refl; follows = s; given_up = tt; with_memory = λ none. tt; stop = λ is l. l };
+    ran = λ c i s. record { run = []; calls = refl; in_range = tt; replied = refl; follows = s; given_up = tt; with_memory = λ none. tt; stop = λ is l. l };
   })
   runs_rows old [] (r ∷ results) new h = absurd h
   runs_rows old (f ∷ rows) [] new h = absurd h

@@ -5,6 +5,7 @@ use Rattle.mf_base.specs.declared.fault.Fault.TheVariants.{F20}
 use Rattle.mf_office.specs.declared.caller.Caller.{Caller}
 use Rattle.mf_model.specs.Institution.{Institution}
 use Rattle.mf_model.specs.Run.{Line, answers, last, NoneGivenUp}
+use Rattle.mf_model.specs.Sound.{AreInRange}
 use Rattle.mf_model.specs.Store.{left_after}
 use Rattle.mf_model.specs.declared.store.InstitutionStore.{Ghosts}
 use Rattle.mf_desk.specs.Runs.{Calls}
@@ -27,10 +28,11 @@ module _ {S : Type 0} (store : Ghosts S) where
   abbrev pub AnswersFields : Caller → S → List (List ℕ) → SheetResult → S → Type 0
   AnswersFields c old fields result new = Calls store (λ r. result ≡ result_of r) (call_by c fields) old new
 
-  -- The results are those of a run over the lines on the institution, and the store stands for what follows. A line is given up only where its result is F20, so where none is, no line is.
+  -- The results are those of a run over the lines on the institution, and the store stands for what follows. Each call has its members in range, also that of a line which was given up. A line is given up only where its result is F20, so where none is, no line is.
   pub record RunsOn (c : Caller) (i : Institution) (rows : List (List (List ℕ))) (old : S) (results : List SheetResult) (new : S) : Type 0 where
     pub run : List Line
     pub calls : map (λ l. l.call) run ≡ map (call_by c) rows
+    pub in_range : AreInRange run
     pub replied : results ≡ map result_of (answers run i)
     pub follows : store.stands new (last run i)
     pub given_up : OnlyF20GivesUp run results

@@ -16,6 +16,7 @@ use Rattle.mf_model.specs.Store.{left_by, left_after}
 use Rattle.mf_model.specs.declared.store.InstitutionStore.{Ghosts}
 use Rattle.mf_wire_lines.specs.Replies.{fault_line}
 use Rattle.mf_wire_requests.specs.Requests.{call_of}
+use Rattle.mf_wire_requests.proofs.InRange.{line_in_range, calls_in_range}
 use Rattle.mf_wire_replies.specs.Shown.{shown_line}
 use Rattle.mf_wire_lines.specs.Run.{LineStep, Run}
 use Rattle.mf_wire.specs.Senders.{is_sent_by, is_sent_from, texts_for, NoneIsF20}
@@ -112,6 +113,7 @@ module _ {S : Type 0} (store : Ghosts S) where
         ran = λ c i s. let w = r.ran c i s in let tree = (sound old i s).tree in record {
           run = w.run;
           calls = w.calls;
+          in_range = calls_in_range call_of line_in_range w.run lines w.calls;
           replied = w.replied;
           follows = w.follows;
           isolated = isolated i w.run lines texts w.calls w.replied (law.views i w.run tree) (law.replies i w.run tree) (law.own_replies i w.run tree);

@@ -4,14 +4,21 @@ use Rattle.std.specs.Io.KnownBytes.{Consumes, IsAtEnd}
 use Rattle.mf_base.specs.declared.fault.Fault.TheVariants.{F20}
 use Rattle.mf_model.specs.Institution.{Institution}
 use Rattle.mf_model.specs.declared.store.InstitutionStore.{Ghosts}
+use Rattle.mf_model.specs.Sound.{IsInRange}
+use Rattle.mf_wire_requests.proofs.InRange.{parts_in_range}
 use Rattle.mf_wire_messages.specs.declared.reading.Arrival.TheVariants as arrival
 use Rattle.mf_wire_messages.specs.Arrivals.{bytes_left, Tells}
 use Rattle.mf_wire_messages.specs.Messages.{is_head, request_of, IsMessage, Request as Message}
 use Rattle.mf_wire_messages.specs.Responses.{refusal}
 use Rattle.mf_wire_messages.proofs.MessageLemmas.{received}
 use Rattle.mf_wire.specs.Runs.{Calls}
-use Rattle.mf_wire.specs.Serving.{call_of_message, shown_response, AnswersMessage}
+use Rattle.mf_wire.specs.Serving.{parts_of_message, call_of_message, shown_response, AnswersMessage}
 use Rattle.mf_wire.proofs.Calling.{told_given_up}
+
+-- whatever a message is, its call has its members in range
+pub message_in_range : (message : Option Message) → IsInRange (call_of_message message).request
+message_in_range None = tt
+message_in_range (Some message) = parts_in_range (parts_of_message message)
 
 module _ {S : Type 0} (store : Ghosts S) where
   -- a request was received
@@ -21,6 +28,7 @@ module _ {S : Type 0} (store : Ghosts S) where
     message = Some message;
     to_head = to_head;
     is = subst (IsMessage bytes (Some message)) (sym e) (received bytes message t);
+    in_range = message_in_range (Some message);
     answered = calls;
   }
 
@@ -30,6 +38,7 @@ module _ {S : Type 0} (store : Ghosts S) where
     message = request_of t.0 t.1;
     to_head = to_head;
     is = inr (t.0, t.1, t.2, refl, t.4);
+    in_range = message_in_range (request_of t.0 t.1);
     answered = told_given_up store (λ r. refusal F20 to_head ≡ shown_response to_head r) (call_of_message (request_of t.0 t.1)) s more refl;
   }
 

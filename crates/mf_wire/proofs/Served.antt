@@ -4,6 +4,7 @@ use Rattle.mf_model.specs.Institution.{Institution}
 use Rattle.mf_model.specs.Tree.{IsTree}
 use Rattle.mf_model.specs.Desk.{outcome, change_in}
 use Rattle.mf_model.specs.Run.{Line, next, answers, last}
+use Rattle.mf_model.specs.Sound.{AreInRange}
 use Rattle.mf_model.specs.Store.{left_by, left_after}
 use Rattle.mf_model.specs.declared.store.InstitutionStore.{Ghosts}
 use Rattle.mf_wire.specs.OneCall.{alone}
@@ -21,12 +22,13 @@ module _ {S : Type 0} (store : Ghosts S) where
     pub run : List Line
     pub to_heads : List Bool
     pub calls : AreLinesOf es run to_heads
+    pub in_range : AreInRange run
     pub replied : map (λ (e : Exchange). e.text) es ≡ responses to_heads (answers run i)
     pub follows : store.stands new (last run i)
     pub stop : (is : List Institution) → store.leaves old is → store.leaves new (left_after run i is)
 
   ran : (old : S) (es : List Exchange) (new : S) (i : Institution) → AnswersAll store old es new → store.clean new → store.stands old i → RanOn i es old new
-  ran old [] new i h c s = subst (λ (n : S). RanOn i [] old n) (sym h) (record { run = []; to_heads = []; calls = tt; replied = refl; follows = s; stop = λ is l. l })
+  ran old [] new i h c s = subst (λ (n : S). RanOn i [] old n) (sym h) (record { run = []; to_heads = []; calls = tt; in_range = tt; replied = refl; follows = s; stop = λ is l. l })
   ran old (e ∷ es) new i h c s =
       let one = h.1 in
       let w = one.answered.answered (premise h.0 es new h.2 c) i s in
@@ -35,6 +37,7 @@ module _ {S : Type 0} (store : Ghosts S) where
         run = l ∷ r.run;
         to_heads = one.to_head ∷ r.to_heads;
         calls = ((one.message, one.is, refl), r.calls);
+        in_range = (one.in_range, r.in_range);
         replied = ap₂ (λ (text : List ℕ) (texts : List (List ℕ)). text ∷ texts) w.1.replied r.replied;
         follows = r.follows;
         stop = λ is k. r.stop (left_by (change_in (outcome l.call i)) w.0 i is) (w.1.stop is k);
@@ -46,6 +49,7 @@ module _ {S : Type 0} (store : Ghosts S) where
         run = r.run;
         to_heads = r.to_heads;
         calls = r.calls;
+        in_range = r.in_range;
         replied = r.replied;
         follows = r.follows;
         views = law.views i r.run tree;

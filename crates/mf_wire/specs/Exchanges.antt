@@ -4,6 +4,7 @@ use Rattle.mf_base.specs.declared.fault.Fault.{Fault}
 use Rattle.mf_model.specs.declared.reply.Reply.{Reply}
 use Rattle.mf_model.specs.Institution.{Institution}
 use Rattle.mf_model.specs.Run.{Line, answers, last, ViewIsPlay, RepliesArePlay, OwnRepliesArePlay}
+use Rattle.mf_model.specs.Sound.{AreInRange}
 use Rattle.mf_model.specs.Store.{left_after}
 use Rattle.mf_model.specs.declared.store.InstitutionStore.{Ghosts}
 use Rattle.mf_wire_messages.specs.Messages.{IsMessage, Request as Message}
@@ -35,11 +36,12 @@ module _ {S : Type 0} (store : Ghosts S) where
   AnswersAll old [] new = new ≡ old
   AnswersAll old (e ∷ es) new = (mid : S) × AnswersMessage store e.bytes old e.text mid × AnswersAll mid es new
 
-  -- The messages are the lines of a run on the institution, the responses are those of its replies, and the store stands for what follows. What each office sees and is told is isolated.
+  -- The messages are the lines of a run on the institution, with their members in range, the responses are those of its replies, and the store stands for what follows. What each office sees and is told is isolated.
   pub record ServesOn (i : Institution) (es : List Exchange) (old new : S) : Type 0 where
     pub run : List Line
     pub to_heads : List Bool
     pub calls : AreLinesOf es run to_heads
+    pub in_range : AreInRange run
     pub replied : map (λ e. e.text) es ≡ responses to_heads (answers run i)
     pub follows : store.stands new (last run i)
     pub views : ViewIsPlay i run

@@ -6,6 +6,7 @@ use Rattle.mf_office.specs.Written.{caller_text}
 use Rattle.mf_base.specs.declared.fault.Fault.{Fault}
 use Rattle.mf_model.specs.declared.reply.Reply.{Reply}
 use Rattle.mf_model.specs.Institution.{Institution}
+use Rattle.mf_model.specs.Sound.{AreInRange}
 use Rattle.mf_model.specs.Tree.{view}
 use Rattle.mf_model.specs.Run.{Line, answers, last, from_office, from_caller, touching_list, play, play_replies, given_up, but_given_up}
 use Rattle.mf_model.specs.Answering.{all_answered}
@@ -51,10 +52,11 @@ pub record IsIsolated (r : WireRun) : Type 0 where
   pub all_own_texts : (c : Caller) → IsCaller c → NoneIsF20 (texts_of_caller c r) → texts_of_caller c r ≡ map shown_line (own_play c r.run r.institution)
 
 module _ {S : Type 0} (store : Ghosts S) where
-  -- These texts are the replies of a run over the lines on the institution, and the store stands for what follows. What each office is told is isolated. Where no text is F20's, the run is that of the lines' calls with none given up.
+  -- These texts are the replies of a run over the lines on the institution, and the store stands for what follows. Each call has its members in range, also that of a line which was given up. What each office is told is isolated. Where no text is F20's, the run is that of the lines' calls with none given up.
   pub record RunsOn (i : Institution) (lines : List (List ℕ)) (old : S) (texts : List (List ℕ)) (new : S) : Type 0 where
     pub run : List Line
     pub calls : map (λ l. l.call) run ≡ map call_of lines
+    pub in_range : AreInRange run
     pub replied : texts ≡ texts_of run i
     pub follows : store.stands new (last run i)
     pub isolated : IsIsolated (record { institution = i; run = run; lines = lines; texts = texts })

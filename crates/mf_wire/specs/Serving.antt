@@ -9,6 +9,7 @@ use Rattle.mf_model.specs.declared.request.Call.{Call}
 use Rattle.mf_model.specs.declared.request.Flaw.TheVariants.{Malformed}
 use Rattle.mf_model.specs.declared.request.Request.TheVariants.{Unreadable}
 use Rattle.mf_model.specs.declared.reply.Reply.{Reply}
+use Rattle.mf_model.specs.Sound.{IsInRange}
 use Rattle.mf_model.specs.declared.store.InstitutionStore.{Ghosts}
 use Rattle.mf_wire_lines.specs.Replies.{fault_status, fault_body}
 use Rattle.mf_wire_messages.specs.Arrivals.{bytes_left}
@@ -48,11 +49,12 @@ abbrev pub text_response : {Z : Type 0} → Bool → Result (ℕ × String Z) Fa
 text_response to_head (Ok text) = response text.0 (string_bytes text.1) to_head
 text_response to_head (Err fault) = refusal fault to_head
 
--- A store answered the message that a stream of these bytes is by that response: the reply to its call, which is the only one that was made.
+-- A store answered the message that a stream of these bytes is by that response: the reply to its call, which is the only one that was made and has its members in range.
 pub record AnswersMessage {S : Type 0} (store : Ghosts S) (bytes : List ℕ) (old : S) (text : List ℕ) (new : S) : Type 0 where
   pub message : Option Message
   pub to_head : Bool
   pub is : IsMessage bytes message to_head
+  pub in_range : IsInRange (call_of_message message).request
   pub answered : Calls store (λ r. text ≡ shown_response to_head r) (call_of_message message) old new
 
 module _ {S : Type 0} (answers : List ℕ → S → List ℕ → S → Type 0) (old new : S) (streams : Streams) where
