@@ -1,6 +1,7 @@
 //! The loan desk's program: reads its words, and does what they ask for.
 #![tactic(auto)]
 
+mod following;
 mod places;
 mod telling;
 mod why;
@@ -12,6 +13,7 @@ ghost use Rattle.microloan_words.specs.Asked.{IsWithinLimits, IsServeWithinLimit
 ghost use Rattle.microloan_commands.specs.Printed.{HasLongGrace};
 ghost use Rattle.microloan.specs.Status.{IsPrintStatus};
 
+use crate::following::Following;
 use crate::places::place_at;
 use crate::telling::{
     print_made, refuse_words, tell_checking, tell_no_institution, tell_reading, tell_refusal,
@@ -19,7 +21,7 @@ use crate::telling::{
 use crate::why::say_why;
 use crate::working::{Work, answer_input_in_memory, work_on};
 use mf_base::{Day, Fault};
-use mf_store_files::{close, open};
+use mf_store_files::{Refused, close, open, open_existing};
 use microloan_commands::schedule;
 use microloan_words::{
     BatchWords, Command, ScheduleWords, ServeWords, StaffWords, Words, command, default_day,
@@ -118,24 +120,31 @@ fn work_where(rt: &HostRuntime, file: &str, existing: bool, day: Day, work: Work
 {
     match refuse_place(rt, file, existing) {
         Some(status) => status,
-        None => work_over(rt, file, day, work),
+        None => work_over(rt, file, existing, day, work),
     }
 }
 
 /// Opens a file, works over the institution that it holds, closes it (`mf_store_files::close`), and gives the program's status. Where
 /// closing fails, the file and its log hold the institution together, and the status is the same. The only function that holds a store
 /// of a known type: the prover reads all of `sqlite` for each.
-fn work_over(rt: &HostRuntime, file: &str, day: Day, work: Work) -> u8
+fn work_over(rt: &HostRuntime, file: &str, existing: bool, day: Day, work: Work) -> u8
     requires { day ≤ last_entered_day }
     ensures { IsPrintStatus result }
 {
-    match open(rt, file, day) {
+    let mut following = Following::new(rt, file);
+    let opened = if existing {
+        open_existing(rt, file, &mut following)
+    } else {
+        open(rt, file, day, &mut following)
+    };
+    match opened {
         Ok(mut store) => {
             let status = work_on(rt, file, &mut store, work);
             let _closed = close(store);
             status
         }
-        Err(fault) => tell_refusal(rt, fault),
+        Err(Refused::NoInstitution) => tell_no_institution(rt),
+        Err(Refused::Failed(fault)) => tell_refusal(rt, fault),
     }
 }
 
