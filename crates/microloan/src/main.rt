@@ -135,7 +135,7 @@ fn work_over(rt: &HostRuntime, file: &str, existing: bool, day: Day, work: Work)
     let opened = if existing {
         open_existing(rt, file, &mut following)
     } else {
-        open(rt, file, day, &mut following)
+        open(rt, file, day, &mut following).map_err(Refused::Failed)
     };
     match opened {
         Ok(mut store) => {
