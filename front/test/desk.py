@@ -203,7 +203,11 @@ def screenshot(driver, name, whole=False):
     folder = os.environ.get("MICROLOAN_SHOTS") or os.path.join(running.TOP, "out", "shots")
     os.makedirs(folder, exist_ok=True)
     path = os.path.join(folder, name + ".png")
-    taken = driver.execute_cdp_cmd("Page.captureScreenshot", {"format": "png", "captureBeyondViewport": whole})
+    wanted = {"format": "png", "captureBeyondViewport": whole}
+    if whole:  # without a clip what is taken is sometimes what is seen alone
+        size = driver.execute_cdp_cmd("Page.getLayoutMetrics", {})["cssContentSize"]
+        wanted["clip"] = size | {"scale": 1}
+    taken = driver.execute_cdp_cmd("Page.captureScreenshot", wanted)
     with open(path, "wb") as file:
         file.write(base64.b64decode(taken["data"]))
     return path
