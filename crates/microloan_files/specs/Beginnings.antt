@@ -1,0 +1,37 @@
+-- How a run of request lines over a file ends, and what a stop then leaves of the file.
+use Rattle.std.specs.Prelude.{◌≡◌, ℕ, List, [], map, Result, Err}
+use Rattle.mf_base.specs.declared.fault.Cause.TheVariants.{Memory}
+use Rattle.mf_base.specs.declared.fault.StreamFault.{StreamFault}
+use Rattle.mf_model.specs.Institution.{Institution}
+use Rattle.mf_model.specs.Answering.{all_answered}
+use Rattle.mf_model.specs.Run.{Line}
+use Rattle.mf_store_files.specs.Stops.{IsLeftBy}
+use Rattle.mf_wire.specs.Runs.{IsIsolated, texts_of}
+use Rattle.mf_wire.specs.Senders.{NoneIsF20}
+use Rattle.mf_wire_lines.specs.Ends.{Ends}
+use Rattle.mf_wire_lines.specs.Streams.{Streams}
+use Rattle.mf_wire_requests.specs.Requests.{call_of}
+use Rattle.sqlite_disk.specs.declared.Disk.{Ghosts}
+use Rattle.sqlite_store.specs.FileStore.{state}
+use Rattle.sqlite_store.specs.declared.store.FileStore.{FileStore}
+use Rattle.sqlite_wal.specs.Recovery.{Image}
+use Rattle.microloan_files.specs.Opening.{HoldsInstitution}
+
+module _ {D : Type 0} {g : Ghosts D} where
+  -- Whatever a stop leaves of the files holds the institution after all lines of the run that were answered, or with the change of one line more, of those that were given up after the last change.
+  abbrev pub LeaveBeginning : Institution → List Line → FileStore D g → Type 0
+  LeaveBeginning i run files = (left : Image) → (state files).may_leave left → ∥ ((j : Institution) × IsLeftBy run i j × HoldsInstitution left j) ∥₁
+
+  -- The texts are the replies of a run over the lines on the institution, and what a stop leaves of the files is a beginning of that run.
+  pub record RunsOverFiles (i : Institution) (files : FileStore D g) (lines texts : List (List ℕ)) : Type 0 where
+    pub run : List Line
+    pub calls : map (λ l. l.call) run ≡ map call_of lines
+    pub replied : texts ≡ texts_of run i
+    pub isolated : IsIsolated (record { institution = i; run = run; lines = lines; texts = texts })
+    pub with_memory : NoneIsF20 texts → run ≡ all_answered (map call_of lines)
+    pub left : LeaveBeginning i run files
+
+  -- The lines of the source were run as the result says, up to its end or to a fault, and what a stop leaves holds a beginning of them; none was run where there was no memory to begin.
+  pub record EndsAsBeginning (i : Institution) (files : FileStore D g) (streams : Streams) (result : Result ℕ StreamFault) : Type 0 where
+    pub ended : Ends (λ (old : Unit {0}) lines texts (new : Unit {0}). RunsOverFiles i files lines texts) tt tt streams result
+    pub unbegun : (fault : StreamFault) → result ≡ Err fault → fault.cause ≡ Memory → RunsOverFiles i files [] []

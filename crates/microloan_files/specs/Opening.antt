@@ -1,0 +1,30 @@
+-- Which institution a file holds, and as which it is opened.
+use Rattle.std.specs.Prelude.{◌≡◌, ◌⊎◌, ℕ, Some}
+use Rattle.sqlite.specs.Files.{HoldsDatabase}
+use Rattle.sqlite.specs.Tree.{Trees}
+use Rattle.sqlite_wal.specs.Recovery.{Image}
+use Rattle.mf_model.specs.Institution.{Institution, newly_made}
+use Rattle.mf_model.specs.Sound.{IsSound}
+use Rattle.mf_store_accounts.specs.Flat.{tables_of}
+use Rattle.mf_store_records.specs.Writes.{Holds}
+use Rattle.mf_store_sound.specs.Schemas.{first_tables_of}
+use Rattle.mf_store_upgrade.specs.Upgrade.{HoldsFirst}
+use Rattle.mf_store_files.specs.Files.{HasNoTables}
+
+-- the file is a database that has this sound institution's rows and nothing else
+pub record HoldsInstitution (image : Image) (i : Institution) : Type 0 where
+  pub trees : Trees
+  pub database : HoldsDatabase image trees
+  pub sound : IsSound i
+  pub holds : Holds trees (Some (tables_of i))
+
+-- the same of a file of the first schema
+pub record HoldsInstitutionFirst (image : Image) (i : Institution) : Type 0 where
+  pub trees : Trees
+  pub database : HoldsDatabase image trees
+  pub sound : IsSound i
+  pub holds : HoldsFirst trees (first_tables_of i)
+
+-- the institution as which a file is opened on a day: a new one where the file has no tables, else the one that it holds
+abbrev pub OpensAs : ℕ → Image → Institution → Type 0
+OpensAs day image i = (HasNoTables image × (i ≡ newly_made day)) ⊎ (HoldsInstitution image i ⊎ HoldsInstitutionFirst image i)

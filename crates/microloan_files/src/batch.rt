@@ -1,0 +1,66 @@
+//! Request lines answered over a file, from its opening to what a stop leaves of it.
+
+ghost use Rattle.std.specs.Prelude.{◌≡◌, ◌≤◌, ◌⊎◌, [], ◌∷◌, IfOk, IfErr, IfSome};
+ghost use Rattle.mf_base.specs.DayText.{last_entered_day};
+ghost use Rattle.mf_base.specs.declared.fault.Fault.TheVariants.{F19, F20};
+ghost use Rattle.mf_model.specs.Institution.{Institution};
+ghost use Rattle.mf_store.specs.Stands.{StandsFor, Leaves};
+ghost use Rattle.mf_store_commits.specs.Tabled.{HasGoodDisk};
+ghost use Rattle.mf_wire_lines.specs.Streams.{stream_of, streams_of};
+ghost use Rattle.sqlite.specs.Files.{over_files};
+ghost use Rattle.sqlite_store.specs.FileStore.{view};
+ghost use Rattle.sqlite_trees.specs.View.{IsClean};
+ghost use Rattle.sqlite_wal.specs.Files.{image_at};
+ghost use Rattle.microloan_files.specs.Opening.{OpensAs};
+ghost use Rattle.microloan_files.specs.Beginnings.{EndsAsBeginning};
+
+use crate::handing::hand_back;
+use mf_base::{Day, Fault, StreamFault};
+use mf_store::Store;
+use mf_store_files::open_with;
+use mf_wire::{Sink, Source, run};
+use sqlite::{FileFrom, FileStore, Start};
+use sqlite_disk::Disk;
+use std::alloc::Global;
+use std::rt::HostRuntime;
+
+/// Answers request lines over a store of files, and gives these back with what the run told. Whatever a stop leaves of the files then
+/// opens as the institution after a beginning of the lines that holds every line that was answered.
+pub fn run_over<D: Disk + Drop, R: Source, W: Sink>(
+    alloc: Global,
+    mut store: Store<FileStore<D>>,
+    source: &mut R,
+    sink: &mut W,
+) -> (Result<u64, StreamFault>, FileStore<D>)
+    ensures premise { IsClean (view result.1) → HasGoodDisk over_files store.connection }
+    ensures ends { IsClean (view result.1) → (i : Institution) → StandsFor over_files store i → Leaves over_files store (i ∷ []) →
+        EndsAsBeginning i result.1 (streams_of (stream_of R.unread R.faults source.old source.new) (stream_of W.written W.faults sink.old sink.new)) result.0 }
+{
+    let told = run(alloc, &mut store, source, sink);
+    (told, hand_back(store))
+}
+
+/// Answers request lines over the file at a path, where `start` stands for what the file held: it is opened, the lines are run, and what
+/// the run told comes back with the files. A file without tables becomes a new institution on this day.
+///
+/// Whatever a stop leaves of the files, at the end of the lines and at each fault, opens as the institution after a beginning of the lines
+/// that holds every line that was answered. F19 and F20 are those of opening the file, of which nothing was run.
+pub fn batch_over<S: Start, R: Source, W: Sink>(
+    rt: &HostRuntime,
+    path: &str,
+    start: S,
+    day: Day,
+    source: &mut R,
+    sink: &mut W,
+) -> Result<(Result<u64, StreamFault>, FileStore<FileFrom<S>>), Fault>
+    requires { day ≤ last_entered_day }
+    ensures ends { IfOk result (λ r. IsClean (view r.1) → (i : Institution) → OpensAs day (image_at S.Start) i →
+        EndsAsBeginning i r.1 (streams_of (stream_of R.unread R.faults source.old source.new) (stream_of W.written W.faults sink.old sink.new)) r.0) }
+    ensures errors { IfErr result (λ fault. (fault ≡ F19) ⊎ (fault ≡ F20)) }
+    ensures unopened { IfErr result (λ fault. (source.new ≡ source.old) × (sink.new ≡ sink.old)) }
+{
+    match open_with(rt, path, start, day) {
+        Ok(store) => Ok(run_over(rt.alloc(), store, source, sink)),
+        Err((fault, _)) => Err(fault),
+    }
+}

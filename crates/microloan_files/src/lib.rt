@@ -1,0 +1,8 @@
+//! Request lines that are answered over a file, up to what a stop leaves of it.
+#![tactic(auto)]
+
+mod batch;
+mod handing;
+
+pub use batch::{batch_over, run_over};
+pub use handing::hand_back;
