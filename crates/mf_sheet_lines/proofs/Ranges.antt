@@ -62,7 +62,7 @@ repayment_range receipt loan date amount =
   where
     step : (r : Option (List ℕ)) (l : Option Account) (d a : Option ℕ) → IfSome r IsReceipt → IfSome l IsAccount → IfSome d (λ day. day ≤ last_entered_day) → IfSome a IsAmount
         → IfSome (option_and_then (λ x. option_and_then (λ y. option_and_then (λ z. option_map
-          (λ w. let it : SheetRepayment = record { receipt = x; loan = y; day = z; amount = w } in it) a) d) l) r) IsRepaymentInRange
+        (λ w. let it : SheetRepayment = record { receipt = x; loan = y; day = z; amount = w } in it) a) d) l) r) IsRepaymentInRange
     step None l d a h k m n = tt
     step (Some x) None d a h k m n = tt
     step (Some x) (Some y) None a h k m n = tt

@@ -141,8 +141,8 @@ planning_in_range d =
     step : (method : Option Method) (rate : Option ℕ) (by : Option Step) (principal interest : Option ℕ) (strategy : Option StrategyName)
         → IfSome rate (IsWithin 0 greatest_rate) → IfSome by IsStepInRange → IfSome principal (IsWithin 0 most_grace) → IfSome interest (IsWithin 0 most_grace)
         → IfSome (option_and_then (λ m. option_and_then (λ r. option_and_then (λ s. option_and_then (λ p. option_and_then (λ i. option_map (λ y.
-          let planning : Planning = record { method = m; rate = r; step = s; principal_grace = p; interest_grace = i; strategy = y } in planning)
-          strategy) interest) principal) by) rate) method) IsPlanningInRange
+        let planning : Planning = record { method = m; rate = r; step = s; principal_grace = p; interest_grace = i; strategy = y } in planning)
+        strategy) interest) principal) by) rate) method) IsPlanningInRange
     step None rate by principal interest strategy h k l n = tt
     step (Some m) None by principal interest strategy h k l n = tt
     step (Some m) (Some r) None principal interest strategy h k l n = tt
@@ -158,7 +158,7 @@ bounds_in_range d =
   where
     step : (a b p q : Option ℕ) → IfSome a (IsWithin 1 greatest_amount) → IfSome b (IsWithin 1 greatest_amount) → IfSome p (IsWithin 1 most_periods) → IfSome q (IsWithin 1 most_periods)
         → IfSome (option_and_then (λ least. option_and_then (λ most. option_and_then (λ few. option_map (λ many.
-          let bounds : Bounds = record { min_principal = least; max_principal = most; min_periods = few; max_periods = many } in bounds) q) p) b) a) AreBoundsInRange
+        let bounds : Bounds = record { min_principal = least; max_principal = most; min_periods = few; max_periods = many } in bounds) q) p) b) a) AreBoundsInRange
     step None b p q h k l n = tt
     step (Some x) None p q h k l n = tt
     step (Some x) (Some y) None q h k l n = tt
@@ -236,7 +236,7 @@ new_loan_in_range d =
     step : (client : Option Account) (product principal periods : Option ℕ)
         → IfSome client IsAccount → IfSome product (IsWithin 0 999999999) → IfSome principal (IsWithin 1 greatest_amount) → IfSome periods (IsWithin 1 most_periods)
         → IfSome (option_and_then (λ c. option_and_then (λ p. option_and_then (λ a. option_map (λ n.
-          Office c.office (SubmitLoan (record { client = c.number; product = p; principal = a; periods = n }))) periods) principal) product) client) IsInRange
+        Office c.office (SubmitLoan (record { client = c.number; product = p; principal = a; periods = n }))) periods) principal) product) client) IsInRange
     step None product principal periods h k l n = tt
     step (Some c) None principal periods h k l n = tt
     step (Some c) (Some p) None periods h k l n = tt

@@ -129,10 +129,10 @@ digits_range : (text : List ℕ) → IfSome (number_of_digits text) IsOfNineDigi
 digits_range text =
     passes IsOfNineDigits ((nat_le 1 (length text) && nat_le (length text) 9) && list_all is_ascii_digit text) (digits_value 10 text)
     (λ h.
-        let digits = and_parts (nat_le 1 (length text) && nat_le (length text) 9) (list_all is_ascii_digit text) h in
-        let short = and_parts (nat_le 1 (length text)) (nat_le (length text) 9) digits.0 in
-        let below = value_of_nine text (sym (digits_test text) ∙ digits.1) (leb-true (length text) 9 short.1) in
-        omega (arith, below))
+    let digits = and_parts (nat_le 1 (length text) && nat_le (length text) 9) (list_all is_ascii_digit text) h in
+    let short = and_parts (nat_le 1 (length text)) (nat_le (length text) 9) digits.0 in
+    let below = value_of_nine text (sym (digits_test text) ∙ digits.1) (leb-true (length text) 9 short.1) in
+    omega (arith, below))
 
 pub number_in_range : (name : List ℕ) (parts : PathParts) → IfSome (number_in name parts) IsOfNineDigits
 number_in_range name parts = then_some IsOfNineDigits number_of_digits digits_range (named name parts)

@@ -1,0 +1,4 @@
+pub mod Numbered
+pub mod OneRequest
+pub mod OneLine
+pub mod Whole
