@@ -42,7 +42,10 @@ impl<'a> Progress for Following<'a> {
     fn pass(&mut self) {
         self.passed = self.passed.saturating_add(1);
         if self.is_long() {
-            tell_person(self.rt, format_args!("checking {}: {} of {PARTS}", self.file, self.passed));
+            tell_person(
+                self.rt,
+                format_args!("checking {}: {} of {PARTS}", self.file, self.passed),
+            );
         }
     }
 }

@@ -33,7 +33,11 @@ fn say_found(rt: &HostRuntime, file: &str, found: Finding) -> u8
     ensures { IsPrintStatus result }
 {
     let by_log = is_torn(found) && matches!(has_log(rt, file), Ok(true));
-    let more = if by_log { "; the log beside it may be another file's" } else { "" };
+    let more = if by_log {
+        "; the log beside it may be another file's"
+    } else {
+        ""
+    };
     let said = say(rt, file, words_of(found), more);
     if is_opened(found) { said } else { FAULT }
 }
@@ -56,13 +60,16 @@ fn words_of_place(place: Place) -> &'static str {
     match place {
         Place::Missing => "there is no file; a new institution would be made",
         Place::Empty => "an empty file; a new institution would be made",
-        Place::LogAlone => "there is no file, but its log is there and holds commits; put the file back beside it",
-        Place::LogBesideEmpty => "an empty file beside a log that holds commits; put the log's file back",
+        Place::LogAlone =>
+            "there is no file, but its log is there and holds commits; put the file back beside it",
+        Place::LogBesideEmpty =>
+            "an empty file beside a log that holds commits; put the log's file back",
         Place::NoFile => "a folder or a device, and not a file",
         Place::Forbidden => "no permission to read it",
         Place::Untold => "the system doesn't tell what stands there",
         Place::Foreign => "not a database",
-        Place::Begun => "begun by a program that was stopped before its first commit, or not a database",
+        Place::Begun =>
+            "begun by a program that was stopped before its first commit, or not a database",
         Place::Database => "a database",
     }
 }
@@ -72,16 +79,21 @@ fn words_of(found: Finding) -> &'static str {
     match found {
         Finding::NoMemory => "out of memory",
         Finding::Locked => "another process has it open",
-        Finding::Unopened => "no permission to write it or its folder, or a second name or a journal of it is there",
-        Finding::NoDatabase => "damaged, or not a database: its pages, schema and rows don't fit together",
+        Finding::Unopened =>
+            "no permission to write it or its folder, or a second name or a journal of it is there",
+        Finding::NoDatabase =>
+            "damaged, or not a database: its pages, schema and rows don't fit together",
         Finding::Damaged => "damaged: a page is not as it was written",
         Finding::DiskFailed => "the disk failed while it was read",
         Finding::Unread => "not read to its end: out of memory, or the disk failed",
         Finding::NoTables => "a database without tables; a new institution would be made",
         Finding::OtherTables => "a database of something else",
-        Finding::FirstSchema { sound: true } => "a sound institution, schema 1; opening it brings it to schema 2",
-        Finding::FirstSchema { sound: false } => "schema 1, but no sound institution has these rows",
+        Finding::FirstSchema { sound: true } =>
+            "a sound institution, schema 1; opening it brings it to schema 2",
+        Finding::FirstSchema { sound: false } =>
+            "schema 1, but no sound institution has these rows",
         Finding::PresentSchema { sound: true } => "a sound institution, schema 2",
-        Finding::PresentSchema { sound: false } => "schema 2, but no sound institution has these rows",
+        Finding::PresentSchema { sound: false } =>
+            "schema 2, but no sound institution has these rows",
     }
 }
