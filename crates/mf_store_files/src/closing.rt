@@ -24,9 +24,7 @@ use sqlite_disk::Disk;
 ///
 /// F20 tells that the disk failed or that there was no memory: the log stays, a stop leaves of the two what it could before, and what is
 /// left of the store comes back.
-pub fn close<D: Disk + Drop>(
-    store: Store<FileStore<D>>,
-) -> Result<Files<D>, (Fault, FileStore<D>)>
+pub fn close<D: Disk + Drop>(store: Store<FileStore<D>>) -> Result<Files<D>, (Fault, FileStore<D>)>
     ensures whole { IfOk result (λ files. AreClean D.Disk files.log files.db → (i : Institution) → StandsFor over_files store i → HoldsByItself (image_of D.Disk files) i) }
     ensures left_whole { IfOk result (λ files. AreClean D.Disk files.log files.db → (i : Institution) → StandsFor over_files store i
         → (left : Image) → outcomes D.Disk files.log files.db left → HoldsByItself left i) }
