@@ -19,8 +19,6 @@ use Rattle.mf_store.specs.Facts.{KnownStore}
 use Rattle.mf_store_commits.specs.Tabled.{HasGoodDisk, IsTabled}
 use Rattle.mf_store.specs.Stands.{StandsFor, IsClean, IsOpen, Leaves}
 use Rattle.mf_store_commits.proofs.StandLemmas.{unchanged_stays}
-use Rattle.mf_store_files.specs.declared.adopted.Found.{Found}
-use Rattle.mf_store_files.specs.declared.adopted.Found.TheVariants.{Nothing, Present, First}
 use Rattle.mf_store_files.specs.First.{IsTabledFirst, IsLeftFirst}
 use Rattle.mf_store_files.specs.Held.{HoldsSoundFirst}
 
@@ -92,19 +90,3 @@ module _ {S : Type 0} (g : Ghosts S) (old mid : Held S) (u : IsUnchangedUnder Is
           ];
           refused = λ clean rowids none_held trees may. absurd (none_held (sound (premise clean) its rowids));
         }
-
--- what holds of each store holds of the one that there is
-pub of_any : {A E : Type 0} (r : Result A E) (P : A → Type 0) → ((x : A) → P x) → IfOk r P
-of_any (Ok x) P all = all x
-of_any (Err e) P all = tt
-
--- ---- tables are found to be one thing alone
-
-pub nothing_present : (f : Found) → f ≡ Nothing → f ≡ Present → ⊥
-nothing_present f is also = let both : Nothing ≡ Present = sym is ∙ also in cc
-
-pub nothing_first : (f : Found) → f ≡ Nothing → f ≡ First → ⊥
-nothing_first f is also = let both : Nothing ≡ First = sym is ∙ also in cc
-
-pub present_first : (f : Found) → f ≡ Present → f ≡ First → ⊥
-present_first f is also = let both : Present ≡ First = sym is ∙ also in cc

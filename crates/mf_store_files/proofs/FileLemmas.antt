@@ -1,7 +1,6 @@
 -- What a connection to a file shows, by what the file held.
 use Rattle.std.proofs.Common.{◌≡◌, inl, inr, None, [], sym, ap, ◌∙◌, subst}
 use Rattle.sqlite.specs.Effect.{Database}
-use Rattle.sqlite.specs.Schema.{Schema}
 use Rattle.sqlite.specs.Files.{HoldsDatabase}
 use Rattle.sqlite.specs.Start.{FindsIn}
 use Rattle.sqlite.specs.State.{State, Opens, IsLive}
@@ -10,10 +9,14 @@ use Rattle.sqlite_trees.specs.Objects.{catalog_tree}
 use Rattle.sqlite_catalog.specs.Listing.{IsSound}
 use Rattle.sqlite_wal.specs.Recovery.{Image}
 use Rattle.mf_store_tables.specs.Writes.{Serves}
+use Rattle.mf_store_records.specs.Tables.{schema}
 use Rattle.mf_store_records.specs.Writes.{schema_of, Holds}
+use Rattle.mf_store_rows.specs.Schemas.{first_schema}
+use Rattle.mf_store_rows.specs.Whole.{HaveRowids, HaveFirstRowids}
 use Rattle.mf_store_files.specs.Files.{HasNoTables}
+use Rattle.mf_store_files.specs.Opened.{ShowsFile}
 use Rattle.mf_store_files.proofs.BlankLemmas.{empty_if_nothing}
-use Rattle.mf_store_files.proofs.SchemaLemmas.{one_schema, nothing_listed}
+use Rattle.mf_store_files.proofs.SchemaLemmas.{nothing_listed}
 
 module _ (image : Image) (s : State) (opens : Opens s) (live : IsLive s) (found : FindsIn image s) where
   now_are : (trees : Trees) → HoldsDatabase image trees → s.now.trees ≡ trees
@@ -25,13 +28,17 @@ module _ (image : Image) (s : State) (opens : Opens s) (live : IsLive s) (found 
       let bare = nothing_listed s.now.trees s.now.schema none sound in
       record { schema_is = bare; holds = subst (λ k. IsSound k s.now.trees) bare sound }
 
-  pub no_tables : HasNoTables image → Serves schema_of Holds s.now None
+  no_tables : HasNoTables image → Serves schema_of Holds s.now None
   no_tables (inl nothing) = unlisted (ap (λ (db : Database). db.trees catalog_tree) opens.clean ∙ (empty_if_nothing image s.committed.trees nothing found.reads).1)
   no_tables (inr held) = unlisted (ap (λ (trees : Trees). trees catalog_tree) (now_are held.0 held.1) ∙ held.2.1)
 
-  -- the schema is the one that the trees list, which has no views
-  pub tables_under : (own : Schema) → own.views ≡ [] → (trees : Trees) → HoldsDatabase image trees → IsSound own trees → s.now ≡ record { schema = own; trees = trees }
-  tables_under own bare trees held sound =
-      let are = now_are trees held in
-      let same = one_schema s.now.trees s.now.schema own bare (live opens.is_open).0 (subst (IsSound own) (sym are) sound) in
-      λ t. record { schema = same t; trees = are t }
+  pub shows : (s.now.schema ≡ schema → HaveRowids s.now.trees) → (s.now.schema ≡ first_schema → HaveFirstRowids s.now.trees) → ((left : Trees) → s.may_leave left → left ≡ s.now.trees) → ShowsFile image s
+  shows rowids first_rowids leaves = record {
+    is_open = opens.is_open;
+    none = no_tables;
+    holds = now_are;
+    sound = (live opens.is_open).0;
+    rowids = rowids;
+    first_rowids = first_rowids;
+    leaves = leaves;
+  }

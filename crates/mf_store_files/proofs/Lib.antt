@@ -11,3 +11,5 @@ pub mod OpenedLemmas
 pub mod UpgradedLemmas
 pub mod StopLemmas
 pub mod ClosedLemmas
+pub mod TakenLemmas
+pub mod ToldLemmas

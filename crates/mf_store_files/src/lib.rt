@@ -5,9 +5,14 @@ mod adopted;
 mod closing;
 mod files;
 mod judged;
+mod judging;
 pub mod laws;
+mod looking;
+mod tables;
 mod upgraded;
 
-pub use adopted::adopt;
+pub use adopted::{Refused, adopt, adopt_existing};
 pub use closing::close;
-pub use files::{open, open_with};
+pub use files::{open, open_existing, open_existing_with, open_with};
+pub use judging::{Contents, judge};
+pub use looking::{Finding, look, look_with};

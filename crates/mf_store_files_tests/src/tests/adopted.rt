@@ -274,3 +274,46 @@ fn each_changed_row_is_refused(rt: HostRuntime) -> Result<(), Fail> {
     assert!(rt; kept.is_none(), "{kept:?}");
     Ok(())
 }
+
+/// Changes of the tables themselves: one more, a view, an index, a table that takes any value, and one with a column more or with a
+/// column that may be NULL.
+const SHAPES: [&str; 6] = [
+    "CREATE TABLE more (number INTEGER) STRICT",
+    "CREATE VIEW more AS SELECT number FROM clients",
+    "CREATE INDEX more ON clients (name)",
+    "DROP TABLE shares; CREATE TABLE shares (office INTEGER NOT NULL, loan INTEGER NOT NULL, seq INTEGER NOT NULL, place INTEGER NOT NULL, instalment INTEGER NOT NULL, portion INTEGER NOT NULL, how INTEGER NOT NULL, amount INTEGER NOT NULL, PRIMARY KEY (office, loan, seq, place))",
+    "DROP TABLE shares; CREATE TABLE shares (office INTEGER NOT NULL, loan INTEGER NOT NULL, seq INTEGER NOT NULL, place INTEGER NOT NULL, instalment INTEGER NOT NULL, portion INTEGER NOT NULL, how INTEGER NOT NULL, amount INTEGER NOT NULL, more INTEGER, PRIMARY KEY (office, loan, seq, place)) STRICT",
+    "DROP TABLE shares; CREATE TABLE shares (office INTEGER NOT NULL, loan INTEGER NOT NULL, seq INTEGER NOT NULL, place INTEGER NOT NULL, instalment INTEGER NOT NULL, portion INTEGER NOT NULL, how INTEGER NOT NULL, amount INTEGER, PRIMARY KEY (office, loan, seq, place)) STRICT",
+];
+
+/// A new institution, whose table of shares has no rows, is refused once its tables are others.
+#[derive(Drop)]
+struct OtherTables {
+    change: &'static str,
+}
+
+impl Trial for OtherTables {
+    fn holds<S: Alter + Drop>(
+        &self,
+        alloc: Global,
+        connection: Connection<S>,
+    ) -> Result<bool, Fail> {
+        let (_, connection) = answered_over(alloc, connection, b"");
+        let (refused, mut connection) = refused_over(alloc, connection);
+        connection.execute_batch(self.change)?;
+        if refused || !connection.is_autocommit() {
+            return Ok(false);
+        }
+        let (refused, _) = refused_over(alloc, connection);
+        Ok(refused)
+    }
+}
+
+#[test]
+fn other_tables_are_refused(rt: HostRuntime) -> Result<(), Fail> {
+    for change in SHAPES {
+        let tables = OtherTables { change };
+        assert!(rt; holds(rt.alloc(), &tables)?, "{change}");
+    }
+    Ok(())
+}

@@ -1,0 +1,83 @@
+-- What is told of tables that nothing changed, and of the file that they came from.
+use Rattle.std.proofs.Common.{◌≡◌, ◌≢◌, ◌⊎◌, inl, inr, [], refl, sym, ap, ◌∙◌, subst, IsTrue}
+use Rattle.std.specs.Prelude.{◌↔◌}
+use Rattle.sqlite.specs.Effect.{Database}
+use Rattle.sqlite.specs.Files.{HoldsDatabase}
+use Rattle.sqlite.specs.Schema.{Schema}
+use Rattle.sqlite.specs.State.{State}
+use Rattle.sqlite.specs.Tree.{Trees}
+use Rattle.sqlite_catalog.specs.Listing.{IsSound}
+use Rattle.sqlite_wal.specs.Recovery.{Image}
+use Rattle.mf_store_tables.specs.Tables.{no_schema}
+use Rattle.mf_store_records.specs.Calls.{IsUnchanged}
+use Rattle.mf_store_records.specs.Tables.{schema}
+use Rattle.mf_store_rows.specs.Schemas.{first_schema, IsFirst, IsKnown, IsUnchangedUnder}
+use Rattle.mf_store_files.specs.Files.{HasNoTables}
+use Rattle.mf_store_files.specs.Held.{HoldsSound, HoldsSoundFirst}
+use Rattle.mf_store_files.specs.Opened.{ShowsFile}
+use Rattle.mf_store_files.specs.Told.{IsAny, IsToldOf, IsToldOfFile}
+use Rattle.mf_store_files.specs.declared.judging.Contents.{Contents}
+use Rattle.mf_store_files.specs.declared.judging.Contents.TheVariants.{Nothing, Present, First, Others}
+use Rattle.mf_store_files.proofs.OpenedLemmas.{under, seen}
+use Rattle.mf_store_files.proofs.TakenLemmas.{not_present, none_first}
+
+-- ---- what is unchanged under the schema that there is, is unchanged
+
+pub as_it_was : (s : State) → IsUnchangedUnder IsAny s s
+as_it_was s = record {
+  premise = λ clean. clean;
+  was_open = λ clean live. live;
+  same = λ clean live any. refl;
+  shuts = λ faults few up_to. up_to;
+  stop = λ clean any trees may. may;
+}
+
+pub unchanged_present : (old new : State) → old.now.schema ≡ schema → IsUnchanged old new → IsUnchangedUnder IsAny old new
+unchanged_present old new ours u = record {
+  premise = u.premise;
+  was_open = u.was_open;
+  same = λ clean live any. u.same clean live ours;
+  shuts = u.shuts;
+  stop = λ clean any. u.stop clean (λ live. ours);
+}
+
+pub unchanged_first : (old new : State) → old.now.schema ≡ first_schema → IsUnchangedUnder IsFirst old new → IsUnchangedUnder IsAny old new
+unchanged_first old new ours u = record {
+  premise = u.premise;
+  was_open = u.was_open;
+  same = λ clean live any. u.same clean live ours;
+  shuts = u.shuts;
+  stop = λ clean any. u.stop clean (λ live. ours);
+}
+
+-- ---- what is told of the connection is told of the file
+
+module _ (image : Image) (s : State) (shows : ShowsFile image s) where
+  told_nothing : (contents : Contents) → IsToldOf s.now contents → s.now.schema ≡ no_schema → contents ≡ Nothing
+  told_nothing Nothing told none = refl
+  told_nothing (Present sound) told none = absurd (not_present (sym none ∙ told.0))
+  told_nothing (First sound) told none = absurd (none_first (sym none ∙ told.0))
+  told_nothing Others told none = absurd (told.0 none)
+
+  module _ (trees : Trees) (k : Schema) (holds : HoldsDatabase image trees) (sound : IsSound k trees) where
+    is_seen : (own : Schema) → own.views ≡ [] → s.now.schema ≡ own → k ≡ own
+    is_seen own bare is = seen image s shows trees k holds sound (ap (λ (x : Schema). x.views) is ∙ bare) ∙ is
+
+    was_seen : (own : Schema) → own.views ≡ [] → k ≡ own → s.now.schema ≡ own
+    was_seen own bare is = ap (λ (db : Database). db.schema) (under image s shows k (ap (λ (x : Schema). x.views) is ∙ bare) trees holds sound) ∙ is
+
+    told_tables : (contents : Contents) → IsToldOf s.now contents → IsToldOf (record { schema = k; trees = trees }) contents
+    told_tables Nothing told = is_seen no_schema refl told
+    told_tables (Present held) told = (is_seen schema refl told.0, subst (λ (t : Trees). IsTrue held ↔ HoldsSound t) (shows.holds trees holds) told.1)
+    told_tables (First held) told = (is_seen first_schema refl told.0, subst (λ (t : Trees). IsTrue held ↔ HoldsSoundFirst t) (shows.holds trees holds) told.1)
+    told_tables Others told = (λ none. told.0 (was_seen no_schema refl none), λ known. told.1 (as_known known))
+      where
+        as_known : IsKnown k → IsKnown s.now.schema
+        as_known (inl present) = inl (was_seen schema refl present)
+        as_known (inr first) = inr (was_seen first_schema refl first)
+
+  pub told_of_file : (contents : Contents) → IsToldOf s.now contents → IsToldOfFile image contents
+  told_of_file contents told = record {
+    nothing = λ nothing. told_nothing contents told (shows.none nothing).schema_is;
+    tables = λ trees k holds sound. told_tables trees k holds sound contents told;
+  }
