@@ -25,6 +25,7 @@ use crate::tables::{has_no_tables, is_first, is_present};
 use crate::upgraded::upgrade_tables;
 use mf_base::{Day, Fault};
 use mf_store::{Known, Store};
+use mf_store_rows::Progress;
 use sqlite::{Alter, Connection};
 use std::alloc::Global;
 
@@ -37,9 +38,10 @@ pub enum Refused {
 }
 
 /// A store over tables that there are.
-fn take_over<S: Alter>(
+fn take_over<S: Alter, P: Progress>(
     alloc: Global,
     mut connection: Connection<S>,
+    progress: &mut P,
 ) -> Result<Store<S>, (Fault, Connection<S>)>
     requires alone { connection.in_transaction ≡ false }
     ensures premise { IfOk result (λ store. IsClean S.Store store → HasCleanDisk (state S.Store connection)) }
@@ -54,7 +56,7 @@ fn take_over<S: Alter>(
     ensures unchanged { IfErr result (λ e. (state S.Store connection).now.schema ≡ schema → IsUnchanged (state S.Store connection) (state S.Store e.1)) }
     ensures alone { IfErr result (λ e. e.1.in_transaction ≡ false) }
 {
-    let sound = match holds_sound(alloc, &mut connection) {
+    let sound = match holds_sound(alloc, &mut connection, progress) {
         Ok(sound) => sound,
         Err(fault) => return Err((fault, connection)),
     };
@@ -68,9 +70,10 @@ fn take_over<S: Alter>(
 }
 
 /// A store over tables of the first schema that there are, which are brought to the second in one commit.
-fn take_over_first<S: Alter>(
+fn take_over_first<S: Alter, P: Progress>(
     alloc: Global,
     mut connection: Connection<S>,
+    progress: &mut P,
 ) -> Result<Store<S>, (Fault, Connection<S>)>
     requires alone { connection.in_transaction ≡ false }
     ensures premise { IfOk result (λ store. IsClean S.Store store → HasCleanDisk (state S.Store connection)) }
@@ -86,7 +89,7 @@ fn take_over_first<S: Alter>(
     ensures left { IfErr result (λ e. (state S.Store connection).now.schema ≡ first_schema → IsLeftFirst S.Store connection e.1) }
     ensures alone { IfErr result (λ e. e.1.in_transaction ≡ false) }
 {
-    let tables = match read_sound_first(alloc, &mut connection) {
+    let tables = match read_sound_first(alloc, &mut connection, progress) {
         Ok(Some(tables)) => tables,
         Ok(None) => return Err((Fault::F19, connection)),
         Err(fault) => return Err((fault, connection)),
@@ -103,9 +106,10 @@ fn take_over_first<S: Alter>(
 
 /// A store over the tables of a connection where they are this program's, of today or of the first schema; these are brought to
 /// today's, in one commit.
-fn take_known<S: Alter>(
+fn take_known<S: Alter, P: Progress>(
     alloc: Global,
     connection: Connection<S>,
+    progress: &mut P,
 ) -> Result<Store<S>, (Fault, Connection<S>)>
     requires alone { connection.in_transaction ≡ false }
     ensures taken { IfOk result (IsTaken S.Store connection) }
@@ -113,10 +117,10 @@ fn take_known<S: Alter>(
     ensures given_back { IfErr result (λ e. IsGivenBack S.Store connection e.1 e.0) }
 {
     if is_present(connection.schema()) {
-        return take_over(alloc, connection);
+        return take_over(alloc, connection, progress);
     }
     if is_first(connection.schema()) {
-        return take_over_first(alloc, connection);
+        return take_over_first(alloc, connection, progress);
     }
     Err((Fault::F19, connection))
 }
@@ -126,10 +130,11 @@ fn take_known<S: Alter>(
 ///
 /// The day is at most 2099-12-31. F19 tells that the tables are others than this program makes, or that no sound institution has their
 /// rows, and F20 out of memory or a failure of the disk; with either the connection comes back.
-pub fn adopt<S: Alter>(
+pub fn adopt<S: Alter, P: Progress>(
     alloc: Global,
     connection: Connection<S>,
     day: Day,
+    progress: &mut P,
 ) -> Result<Store<S>, (Fault, Connection<S>)>
     requires alone { connection.in_transaction ≡ false }
     requires day { day ≤ last_entered_day }
@@ -148,14 +153,15 @@ pub fn adopt<S: Alter>(
     if has_no_tables(connection.schema()) {
         return Store::found(alloc, connection, day);
     }
-    take_known(alloc, connection)
+    take_known(alloc, connection, progress)
 }
 
 /// A store over the tables of a connection as `adopt` makes it, but where there are none nothing is made: then it is refused, and the
 /// connection comes back as it was.
-pub fn adopt_existing<S: Alter>(
+pub fn adopt_existing<S: Alter, P: Progress>(
     alloc: Global,
     connection: Connection<S>,
+    progress: &mut P,
 ) -> Result<Store<S>, (Refused, Connection<S>)>
     requires alone { connection.in_transaction ≡ false }
     ensures taken { IfOk result (IsTaken S.Store connection) }
@@ -167,7 +173,7 @@ pub fn adopt_existing<S: Alter>(
     if has_no_tables(connection.schema()) {
         return Err((Refused::NoInstitution, connection));
     }
-    match take_known(alloc, connection) {
+    match take_known(alloc, connection, progress) {
         Ok(store) => Ok(store),
         Err((fault, connection)) => Err((Refused::Failed(fault), connection)),
     }

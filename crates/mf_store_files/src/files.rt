@@ -19,9 +19,12 @@ ghost use Rattle.mf_store_files.specs.Opened.{ShowsFile, HoldsNoneSound, OpensAs
 use crate::adopted::{Refused, adopt, adopt_existing};
 use mf_base::{Day, Fault};
 use mf_store::Store;
-use mf_store_rows::open_file;
+use mf_store_rows::{Progress, open_file, remove_bare_log};
 use sqlite::{Alter, Connection, Error, File, FileFrom, FileStore, Start, Unknown};
 use std::rt::HostRuntime;
+
+/// How many parts are told at most while a file is opened: its tables, each read whole.
+pub const PARTS: u32 = 11;
 
 /// A stop leaves the tables of a connection that has nothing to commit.
 fn nothing_waits<S: Alter>(connection: &Connection<S>)
@@ -56,11 +59,12 @@ pub(crate) fn connect<S: Start>(
 /// The day is at most 2099-12-31. F19 tells that the tables are others than this program makes, or that no sound institution has the
 /// rows of the file, and F20 out of memory, a file that could not be opened, or a failure of the disk. The connection comes back once
 /// there is one.
-pub fn open_with<S: Start>(
+pub fn open_with<S: Start, P: Progress>(
     rt: &HostRuntime,
     path: &str,
     start: S,
     day: Day,
+    progress: &mut P,
 ) -> Result<Store<FileStore<FileFrom<S>>>, (Fault, Option<Connection<FileStore<FileFrom<S>>>>)>
     requires { day ≤ last_entered_day }
 
@@ -81,7 +85,7 @@ pub fn open_with<S: Start>(
         Ok(connection) => connection,
         Err(_) => return Err((Fault::F20, None)),
     };
-    match adopt(rt.alloc(), connection, day) {
+    match adopt(rt.alloc(), connection, day, progress) {
         Ok(store) => Ok(store),
         Err((fault, connection)) => Err((fault, Some(connection))),
     }
@@ -89,10 +93,11 @@ pub fn open_with<S: Start>(
 
 /// As `open_with`, but where the file had no tables no institution is made: then it is refused with `NoInstitution`. A file that is
 /// missing is made even so, without tables; so the caller sees first that there is one.
-pub fn open_existing_with<S: Start>(
+pub fn open_existing_with<S: Start, P: Progress>(
     rt: &HostRuntime,
     path: &str,
     start: S,
+    progress: &mut P,
 ) -> Result<Store<FileStore<FileFrom<S>>>, (Refused, Option<Connection<FileStore<FileFrom<S>>>>)>
     // Where there were no tables.
     ensures some { IfOk result (λ store. IsClean over_files store → ¬ HasNoTables (image_at S.Start)) }
@@ -111,31 +116,50 @@ pub fn open_existing_with<S: Start>(
         Ok(connection) => connection,
         Err(_) => return Err((Refused::Failed(Fault::F20), None)),
     };
-    match adopt_existing(rt.alloc(), connection) {
+    match adopt_existing(rt.alloc(), connection, progress) {
         Ok(store) => Ok(store),
         Err((refused, connection)) => Err((refused, Some(connection))),
     }
 }
 
 /// As `open_with`, in `main` and where nothing is said of what the file held. It supposes that a torn write leaves each byte old or new.
-pub fn open(rt: &HostRuntime, path: &str, day: Day) -> Result<Store<FileStore<File>>, Fault>
+pub fn open<P: Progress>(
+    rt: &HostRuntime,
+    path: &str,
+    day: Day,
+    progress: &mut P,
+) -> Result<Store<FileStore<File>>, Fault>
     requires { day ≤ last_entered_day }
     ensures open { IfOk result (λ store. IsClean over_files store → IsOpen over_files store) }
     ensures errors { IfErr result (λ fault. (fault ≡ F19) ⊎ (fault ≡ F20)) }
 {
-    match open_with(rt, path, Unknown, day) {
+    match open_with(rt, path, Unknown, day, progress) {
         Ok(store) => Ok(store),
-        Err((fault, _)) => Err(fault),
+        Err((fault, None)) => Err(fault),
+        Err((fault, Some(held))) => {
+            remove_bare_log(rt, path);
+            drop(held);
+            Err(fault)
+        }
     }
 }
 
 /// As `open_existing_with`, likewise.
-pub fn open_existing(rt: &HostRuntime, path: &str) -> Result<Store<FileStore<File>>, Refused>
+pub fn open_existing<P: Progress>(
+    rt: &HostRuntime,
+    path: &str,
+    progress: &mut P,
+) -> Result<Store<FileStore<File>>, Refused>
     ensures open { IfOk result (λ store. IsClean over_files store → IsOpen over_files store) }
     ensures errors { IfErr result (λ refused. (refused ≡ Refused.NoInstitution) ⊎ ((refused ≡ Refused.Failed F19) ⊎ (refused ≡ Refused.Failed F20))) }
 {
-    match open_existing_with(rt, path, Unknown) {
+    match open_existing_with(rt, path, Unknown, progress) {
         Ok(store) => Ok(store),
-        Err((refused, _)) => Err(refused),
+        Err((refused, None)) => Err(refused),
+        Err((refused, Some(held))) => {
+            remove_bare_log(rt, path);
+            drop(held);
+            Err(refused)
+        }
     }
 }

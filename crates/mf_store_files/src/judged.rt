@@ -19,7 +19,7 @@ use mf_store_records::{
     ChargeRow, ClientRow, EntryRow, InstalmentRow, LoanRow, MetaRow, OfficeRow, ProductRow,
     ReceiptRow, ShareRow, StaffRow,
 };
-use mf_store_rows::Group;
+use mf_store_rows::{Group, Progress};
 use mf_store_sound::{Tables, is_sound, is_sound_first};
 use sqlite::{Alter, Connection};
 use std::alloc::Global;
@@ -39,9 +39,10 @@ type Books = (Entered, (Vec<InstalmentRow>, Vec<ShareRow>));
 /// What the tables hold, and none where they hold nothing that records can hold. The error is F20.
 ///
 /// The clauses on what is read speak of a connection whose tables are this program's, whatever rows stand there.
-fn read_tables<S: Alter>(
+fn read_tables<S: Alter, P: Progress>(
     alloc: Global,
     connection: &mut Connection<S>,
+    progress: &mut P,
 ) -> Result<Option<Tables>, Fault>
     requires alone { connection.old.in_transaction ≡ false }
     ensures kept { IsUnchanged (state S.Store connection.old) (state S.Store connection.new) }
@@ -56,7 +57,7 @@ fn read_tables<S: Alter>(
     ensures mode { connection.new.in_transaction ≡ false }
 {
     let _schema = connection.schema();
-    let found = <(Frame, Books)>::read_group(alloc, connection)?;
+    let found = <(Frame, Books)>::read_group(alloc, connection, progress)?;
     let Some((frame, books)) = found else {
         return Ok(None);
     };
@@ -80,9 +81,10 @@ fn read_tables<S: Alter>(
 /// Whether the tables hold the rows of a sound institution. It changes nothing. The error is F20.
 ///
 /// The answer speaks of a connection whose tables are this program's, whatever rows stand there.
-pub(crate) fn holds_sound<S: Alter>(
+pub(crate) fn holds_sound<S: Alter, P: Progress>(
     alloc: Global,
     connection: &mut Connection<S>,
+    progress: &mut P,
 ) -> Result<bool, Fault>
     requires alone { connection.old.in_transaction ≡ false }
     ensures kept { IsUnchanged (state S.Store connection.old) (state S.Store connection.new) }
@@ -94,7 +96,7 @@ pub(crate) fn holds_sound<S: Alter>(
         → IfOk result (λ yes. HoldsSound (state S.Store connection.old).now.trees → IsTrue yes) }
     ensures mode { connection.new.in_transaction ≡ false }
 {
-    let Some(tables) = read_tables(alloc, connection)? else {
+    let Some(tables) = read_tables(alloc, connection, progress)? else {
         return Ok(false);
     };
     is_sound(alloc, &tables)
@@ -104,9 +106,10 @@ pub(crate) fn holds_sound<S: Alter>(
 /// error is F20.
 ///
 /// The clauses on what is read speak of a connection whose tables are those of the first schema, whatever rows stand there.
-fn read_first_tables<S: Alter>(
+fn read_first_tables<S: Alter, P: Progress>(
     alloc: Global,
     connection: &mut Connection<S>,
+    progress: &mut P,
 ) -> Result<Option<Tables>, Fault>
     requires alone { connection.old.in_transaction ≡ false }
     ensures kept { IsUnchangedUnder IsFirst (state S.Store connection.old) (state S.Store connection.new) }
@@ -121,7 +124,7 @@ fn read_first_tables<S: Alter>(
     ensures mode { connection.new.in_transaction ≡ false }
 {
     let _schema = connection.schema();
-    let found = <(Frame, Entered)>::read_group(alloc, connection)?;
+    let found = <(Frame, Entered)>::read_group(alloc, connection, progress)?;
     let Some((frame, entered)) = found else {
         return Ok(None);
     };
@@ -146,9 +149,10 @@ fn read_first_tables<S: Alter>(
 /// changes nothing. The error is F20.
 ///
 /// The answer speaks of a connection whose tables are those of the first schema, whatever rows stand there.
-pub(crate) fn read_sound_first<S: Alter>(
+pub(crate) fn read_sound_first<S: Alter, P: Progress>(
     alloc: Global,
     connection: &mut Connection<S>,
+    progress: &mut P,
 ) -> Result<Option<Tables>, Fault>
     requires alone { connection.old.in_transaction ≡ false }
     ensures kept { IsUnchangedUnder IsFirst (state S.Store connection.old) (state S.Store connection.new) }
@@ -162,7 +166,7 @@ pub(crate) fn read_sound_first<S: Alter>(
         → IfOk result (λ x. IfNone x (¬ HoldsSoundFirst (state S.Store connection.old).now.trees)) }
     ensures mode { connection.new.in_transaction ≡ false }
 {
-    let Some(tables) = read_first_tables(alloc, connection)? else {
+    let Some(tables) = read_first_tables(alloc, connection, progress)? else {
         return Ok(None);
     };
     let sound = is_sound_first(alloc, &tables)?;

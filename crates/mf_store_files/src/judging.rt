@@ -12,6 +12,7 @@ ghost use Rattle.mf_store_files.specs.Told.{IsAny, HaveOwnRowids, IsToldOf};
 use crate::judged::{holds_sound, read_sound_first};
 use crate::tables::{has_no_tables, is_first, is_present};
 use mf_base::Fault;
+use mf_store_rows::Unfollowed;
 use sqlite::{Alter, Connection};
 use std::alloc::Global;
 
@@ -37,7 +38,7 @@ fn holds_sound_first<S: Alter>(alloc: Global, connection: &mut Connection<S>) ->
     ensures gives_up { IfErr result (λ fault. fault ≡ F20) }
     ensures mode { connection.new.in_transaction ≡ false }
 {
-    match read_sound_first(alloc, connection) {
+    match read_sound_first(alloc, connection, &mut Unfollowed) {
         Ok(Some(_)) => Ok(true),
         Ok(None) => Ok(false),
         Err(fault) => Err(fault),
@@ -56,7 +57,7 @@ pub fn judge<S: Alter>(alloc: Global, connection: &mut Connection<S>) -> Result<
         return Ok(Contents::Nothing);
     }
     if is_present(connection.schema()) {
-        return match holds_sound(alloc, connection) {
+        return match holds_sound(alloc, connection, &mut Unfollowed) {
             Ok(sound) => Ok(Contents::Present(sound)),
             Err(fault) => Err(fault),
         };

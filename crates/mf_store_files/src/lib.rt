@@ -13,6 +13,7 @@ mod upgraded;
 
 pub use adopted::{Refused, adopt, adopt_existing};
 pub use closing::close;
-pub use files::{open, open_existing, open_existing_with, open_with};
+pub use files::{PARTS, open, open_existing, open_existing_with, open_with};
 pub use judging::{Contents, judge};
 pub use looking::{Finding, look, look_with};
+pub use mf_store_rows::{Progress, Unfollowed};

@@ -9,6 +9,7 @@ ghost use Rattle.mf_store_files.specs.Told.{IsToldOfFile, finding_of};
 
 use crate::files::connect;
 use crate::judging::{Contents, judge};
+use mf_store_rows::remove_bare_log;
 use sqlite::{Connection, Error, ErrorCode, FileFrom, FileStore, Start, Unknown};
 use std::rt::HostRuntime;
 
@@ -90,7 +91,11 @@ pub fn look_with<S: Start>(
 /// missing is made, and an empty one made a database without tables, so the caller sees first that there is one.
 pub fn look(rt: &HostRuntime, path: &str) -> Finding {
     match look_with(rt, path, Unknown) {
-        Ok((contents, _)) => found(contents),
+        Ok((contents, held)) => {
+            remove_bare_log(rt, path);
+            drop(held);
+            found(contents)
+        }
         Err(finding) => finding,
     }
 }

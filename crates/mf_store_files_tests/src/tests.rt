@@ -8,7 +8,7 @@ mod stops;
 ghost use Rattle.std.specs.Prelude.{◌≡◌, false};
 
 use mf_base::{Day, Fault};
-use mf_store_files::adopt;
+use mf_store_files::{Unfollowed, adopt};
 use mf_wire::run;
 use mf_wire_lines::{WatchedReader, WatchedWriter};
 use sqlite::{Alter, Connection, Files, Options};
@@ -67,7 +67,7 @@ fn answered_over<S: Alter>(
     let Some(day) = Day::parse(b"2024-01-31") else {
         return (Vec::new(alloc), connection);
     };
-    match adopt(alloc, connection, day) {
+    match adopt(alloc, connection, day, &mut Unfollowed) {
         Ok(mut store) => {
             let mut source = WatchedReader::new(lines);
             let mut sink = WatchedWriter::new(Vec::new(alloc));
@@ -86,7 +86,7 @@ fn refused_over<S: Alter>(alloc: Global, connection: Connection<S>) -> (bool, Co
     let Some(day) = Day::parse(b"2024-01-31") else {
         return (false, connection);
     };
-    match adopt(alloc, connection, day) {
+    match adopt(alloc, connection, day, &mut Unfollowed) {
         Ok(store) => (false, store.release()),
         Err((fault, connection)) => (fault == Fault::F19, connection),
     }

@@ -44,7 +44,10 @@ impl<'a> Progress for Following<'a> {
         if self.is_long() {
             tell_person(
                 self.rt,
-                format_args!("checking {}: {} of {PARTS}", self.file, self.passed),
+                format_args!(
+                    "checking {}: {} of {PARTS} tables read",
+                    self.file, self.passed
+                ),
             );
         }
     }

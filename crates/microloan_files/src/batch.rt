@@ -17,7 +17,7 @@ ghost use Rattle.microloan_files.specs.Beginnings.{EndsAsBeginning};
 use crate::handing::hand_back;
 use mf_base::{Day, Fault, StreamFault};
 use mf_store::Store;
-use mf_store_files::open_with;
+use mf_store_files::{Unfollowed, open_with};
 use mf_wire::{Sink, Source, run};
 use sqlite::{FileFrom, FileStore, Start};
 use sqlite_disk::Disk;
@@ -59,7 +59,7 @@ pub fn batch_over<S: Start, R: Source, W: Sink>(
     ensures errors { IfErr result (λ fault. (fault ≡ F19) ⊎ (fault ≡ F20)) }
     ensures unopened { IfErr result (λ fault. (source.new ≡ source.old) × (sink.new ≡ sink.old)) }
 {
-    match open_with(rt, path, start, day) {
+    match open_with(rt, path, start, day, &mut Unfollowed) {
         Ok(store) => Ok(run_over(rt.alloc(), store, source, sink)),
         Err((fault, _)) => Err(fault),
     }

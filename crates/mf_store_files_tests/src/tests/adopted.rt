@@ -6,7 +6,7 @@ use super::{Trial, answered_over, holds, refused_over};
 use mf_base::{Day, Fault};
 use mf_office::OfficeNo;
 use mf_store::Store;
-use mf_store_files::adopt;
+use mf_store_files::{Unfollowed, adopt};
 use sqlite::{Alter, Connection, Error};
 use std::alloc::Global;
 use std::rt::HostRuntime;
@@ -194,7 +194,7 @@ impl Trial for HeadOffice {
         let (_, tables) = answered_over(alloc, connection, INSTITUTION.as_bytes());
         let day = Day::parse(b"2024-01-31").ok_or("a day")?;
         let office = OfficeNo::new(1).ok_or("an office")?;
-        let Ok(mut store) = adopt(alloc, tables, day) else {
+        let Ok(mut store) = adopt(alloc, tables, day, &mut Unfollowed) else {
             return Ok(false);
         };
         let told = office_told(alloc, &mut store, office)?;

@@ -2,7 +2,7 @@
 
 use mf_base::Day;
 use mf_store::Store;
-use mf_store_files::open;
+use mf_store_files::{Unfollowed, open};
 use mf_wire::run;
 use mf_wire_lines::{WatchedReader, WatchedWriter};
 use sqlite::Alter;
@@ -34,7 +34,7 @@ fn opened_on(rt: &HostRuntime, day: &str) -> Result<Vec<u8>, Fail> {
     let Some(day) = Day::parse(day.as_bytes()) else {
         return Err(Fail::new("a day"));
     };
-    match open(rt, FILE, day) {
+    match open(rt, FILE, day, &mut Unfollowed) {
         Ok(mut store) => Ok(told_by(rt.alloc(), &mut store, SHOW_DAY)),
         Err(_) => Err(Fail::new("a store over the file")),
     }
