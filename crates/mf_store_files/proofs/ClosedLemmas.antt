@@ -1,5 +1,5 @@
 -- Files that were closed, from the connection that held them.
-use Rattle.std.proofs.Common.{◌≡◌, [], List, Some, IsTrue, refl, sym, ap, ◌∙◌, subst, arith}
+use Rattle.std.proofs.Common.{◌≡◌, [], List, Some, IsTrue, refl, subst, arith}
 use Rattle.std.proofs.Math.Logic.{∥∥₁_map}
 use Rattle.sqlite.specs.Closing.{HoldsAlone, IsCopied}
 use Rattle.sqlite.specs.Effect.{Database}

@@ -1,5 +1,5 @@
 -- What a connection to a file shows, by what the file held.
-use Rattle.std.proofs.Common.{◌≡◌, inl, inr, None, [], sym, ap, ◌∙◌, subst}
+use Rattle.std.proofs.Common.{◌≡◌, inl, inr, None, [], ap, ◌∙◌, subst}
 use Rattle.sqlite.specs.Effect.{Database}
 use Rattle.sqlite.specs.Files.{HoldsDatabase}
 use Rattle.sqlite.specs.Start.{FindsIn}

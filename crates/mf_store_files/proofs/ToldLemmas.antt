@@ -1,5 +1,5 @@
 -- What is told of tables that nothing changed, and of the file that they came from.
-use Rattle.std.proofs.Common.{◌≡◌, ◌≢◌, ◌⊎◌, inl, inr, [], refl, sym, ap, ◌∙◌, subst, IsTrue}
+use Rattle.std.proofs.Common.{◌≡◌, inl, inr, [], refl, sym, ap, ◌∙◌, subst, IsTrue}
 use Rattle.std.specs.Prelude.{◌↔◌}
 use Rattle.sqlite.specs.Effect.{Database}
 use Rattle.sqlite.specs.Files.{HoldsDatabase}
@@ -12,7 +12,6 @@ use Rattle.mf_store_tables.specs.Tables.{no_schema}
 use Rattle.mf_store_records.specs.Calls.{IsUnchanged}
 use Rattle.mf_store_records.specs.Tables.{schema}
 use Rattle.mf_store_rows.specs.Schemas.{first_schema, IsFirst, IsKnown, IsUnchangedUnder}
-use Rattle.mf_store_files.specs.Files.{HasNoTables}
 use Rattle.mf_store_files.specs.Held.{HoldsSound, HoldsSoundFirst}
 use Rattle.mf_store_files.specs.Opened.{ShowsFile}
 use Rattle.mf_store_files.specs.Told.{IsAny, IsToldOf, IsToldOfFile}
