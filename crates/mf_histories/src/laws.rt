@@ -1,11 +1,14 @@
 //! Laws of a loan's entries over whole runs. Each function does nothing: its contract is the law.
 
-ghost use Rattle.std.specs.Prelude.{◌≡◌, ◌++◌, List, Some};
+ghost use Rattle.std.specs.Prelude.{◌≡◌, [], ◌∷◌, ◌++◌, List, Some, map};
 ghost use Rattle.mf_office.specs.declared.account.Account.{Account};
 ghost use Rattle.mf_model.specs.Accounts.{statement, instalments_in, entries_in};
-ghost use Rattle.mf_model.specs.Institution.{Institution, Ledger};
+ghost use Rattle.mf_model.specs.Institution.{Institution, Ledger, newly_made};
 ghost use Rattle.mf_model.specs.Run.{Line, last};
 ghost use Rattle.mf_model.specs.Store.{ledger_at};
+ghost use Rattle.mf_model.specs.WorkedAccounts.{january};
+ghost use Rattle.mf_model.specs.WorkedEntries.{reversing};
+ghost use Rattle.mf_model.specs.WorkedRows.{account};
 ghost use Rattle.mf_histories.specs.Histories.{added, deeds, entries_at, reversed, with_marks};
 
 /// The entries of a loan after any run are those that it had before, followed by those that the accepted requests on it added, with
@@ -22,4 +25,12 @@ pub fn entries_over_runs()
         (statement k ledger ≡ statement k replayed) × (instalments_in k ledger ≡ instalments_in k replayed) × (entries_in k ledger ≡ entries_in k replayed) }
     ensures alike { (i j : Institution) (run other : List Line) (loan : Account) →
         entries_at loan i ≡ entries_at loan j → deeds loan run i ≡ deeds loan other j → entries_at loan (last run i) ≡ entries_at loan (last other j) }
+{}
+
+/// Worked out: a loan is repaid twice, and the first repayment is reversed; requests to reverse it again and to reverse what is not
+/// there are refused. These add two entries and reverse one, and do nothing to another loan.
+pub fn worked_deeds()
+    ensures added { map (λ entry. entry.amount) (added (deeds (account 1 1) (map (λ row. row.0) reversing) (newly_made january))) ≡ 20000 ∷ 50000 ∷ [] }
+    ensures reversed { reversed (deeds (account 1 1) (map (λ row. row.0) reversing) (newly_made january)) ≡ 1 ∷ [] }
+    ensures other_loan { deeds (account 1 2) (map (λ row. row.0) reversing) (newly_made january) ≡ [] }
 {}

@@ -15,12 +15,16 @@ use Rattle.sqlite_disk.specs.declared.Disk.{Ghosts}
 use Rattle.sqlite_store.specs.FileStore.{state}
 use Rattle.sqlite_store.specs.declared.store.FileStore.{FileStore}
 use Rattle.sqlite_wal.specs.Recovery.{Image}
-use Rattle.microloan_files.specs.Opening.{HoldsInstitution}
+use Rattle.microloan_files.specs.Opening.{HoldsInstitution, HoldsInSchema}
 
 module _ {D : Type 0} {g : Ghosts D} where
   -- Whatever a stop leaves of the files holds the institution after all lines of the run that were answered, or with the change of one line more, of those that were given up after the last change.
   abbrev pub LeaveBeginning : Institution → List Line → FileStore D g → Type 0
   LeaveBeginning i run files = (left : Image) → (state files).may_leave left → ∥ ((j : Institution) × IsLeftBy run i j × HoldsInstitution left j) ∥₁
+
+  -- whatever a stop leaves of the files holds this institution
+  abbrev pub StillHolds : Institution → FileStore D g → Type 0
+  StillHolds i files = (left : Image) → (state files).may_leave left → ∥ (HoldsInSchema left i) ∥₁
 
   -- The texts are the replies of a run over the lines on the institution, and what a stop leaves of the files is a beginning of that run.
   pub record RunsOverFiles (i : Institution) (files : FileStore D g) (lines texts : List (List ℕ)) : Type 0 where

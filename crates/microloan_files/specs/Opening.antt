@@ -25,6 +25,10 @@ pub record HoldsInstitutionFirst (image : Image) (i : Institution) : Type 0 wher
   pub sound : IsSound i
   pub holds : HoldsFirst trees (first_tables_of i)
 
+-- the file holds this institution, by today's schema or by the first
+abbrev pub HoldsInSchema : Image → Institution → Type 0
+HoldsInSchema image i = HoldsInstitution image i ⊎ HoldsInstitutionFirst image i
+
 -- the institution as which a file is opened on a day: a new one where the file has no tables, else the one that it holds
 abbrev pub OpensAs : ℕ → Image → Institution → Type 0
-OpensAs day image i = (HasNoTables image × (i ≡ newly_made day)) ⊎ (HoldsInstitution image i ⊎ HoldsInstitutionFirst image i)
+OpensAs day image i = (HasNoTables image × (i ≡ newly_made day)) ⊎ HoldsInSchema image i

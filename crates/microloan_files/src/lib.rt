@@ -5,4 +5,4 @@ mod batch;
 mod handing;
 
 pub use batch::{batch_over, run_over};
-pub use handing::hand_back;
+pub use handing::{give_up, hand_back};
