@@ -104,15 +104,15 @@ class Root:
     def end(self):
         if self.holder:
             self.holder.kill()  # SIGTERM is ignored by unshare; its child is killed with it
-            self.holder.wait()
-            self.holder.stdout.close()
+            self.holder.communicate()
         shutil.rmtree(self.path, ignore_errors=True)
 
 
 class Booted(Root):
     """A fresh root of Debian in which systemd runs, over a tree of control groups of its own. All of it ends with this process.
 
-    `fault` says why systemd doesn't run, where it doesn't: a machine must let namespaces and control groups be made.
+    `fault` says why systemd doesn't run, where it doesn't: a machine must let namespaces and control groups be made. The
+    machine's own settings, in /proc/sys and /sys, can only be read there.
     """
 
     BOOT = """
@@ -121,7 +121,9 @@ class Booted(Root):
         mount --bind "$1" "$1"
         cd "$1"
         mount -t proc proc proc
-        mount -t sysfs sysfs sys
+        mount --bind proc/sys proc/sys
+        mount -o remount,bind,ro proc/sys
+        mount -t sysfs -o ro sysfs sys
         mount -t cgroup2 cgroup2 sys/fs/cgroup
         mount -t tmpfs -o mode=755 tmpfs run
         mount -t tmpfs tmpfs tmp
@@ -170,7 +172,7 @@ class Booted(Root):
                 return self.holder.stderr.read().strip() or f"status {self.holder.returncode}"
             try:
                 self.inside = child_of(self.holder)
-                self.state = self.run("systemctl is-system-running 2>&1; true").strip()
+                self.state = self.run("systemctl is-system-running; true").strip()
                 if self.state in ("running", "degraded"):
                     return None
             except (AssertionError, IndexError, FileNotFoundError):
@@ -180,7 +182,7 @@ class Booted(Root):
 
     def entered(self, network):
         spaces = ["--mount", "--pid", "--uts", "--ipc", "--cgroup"] + ([] if network else ["--net"])
-        return ["nsenter", f"--target={self.inside}", *spaces, "--root", "--wd=/"]
+        return ["nsenter", f"--target={self.inside}", *spaces, "--root", "--wd"]
 
     def end(self):
         super().end()
