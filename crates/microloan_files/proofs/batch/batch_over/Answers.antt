@@ -11,5 +11,5 @@ returns-in-Ok-clause-ends g c = λ clean i opens.
     let e = c.in-Ok.ensures in
     let store = c.in-Ok.store in
     c.run_over.ensures.ends clean i
-    (opened_so (λ j. StandsFor over_files store j) c.args.day (image_at g.S.Start) (e.made good) (e.stands good) (e.stands_first good) i opens)
-    (opened_so (λ j. Leaves over_files store (j ∷ [])) c.args.day (image_at g.S.Start) (e.made_leaves good) (e.leaves good) (e.leaves_first good) i opens)
+    (opened_so (λ j. StandsFor over_files store j) c.args.day (image_at g.S.Start) (e.made good) (e.found.stands good) (e.found.stands_first good) i opens)
+    (opened_so (λ j. Leaves over_files store (j ∷ [])) c.args.day (image_at g.S.Start) (e.made_leaves good) (e.found.leaves good) (e.found.leaves_first good) i opens)
