@@ -6,10 +6,11 @@ use mf_store_rows::Progress;
 use std::rt::HostRuntime;
 use std::time::{Duration, Instant};
 
-/// How long a check may take before anything is told.
-const LONG: Duration = Duration::from_secs(1);
+/// How many seconds a check may take before anything is told.
+const QUIET_SECONDS: u64 = 1;
 
-/// Follows the check of a file, and tells after each part how far it is, once that takes long.
+/// Follows the check of a file, and tells after each table how far it is, once that takes long.
+#[derive(Drop)]
 pub struct Following<'a> {
     rt: &'a HostRuntime,
     file: &'a str,
@@ -32,7 +33,8 @@ impl<'a> Following<'a> {
     /// Whether the check has taken long.
     fn is_long(&self) -> bool {
         match &self.begun {
-            Some(begun) => matches!(begun.elapsed(self.rt), Ok(time) if time > LONG),
+            Some(begun) =>
+                matches!(begun.elapsed(self.rt), Ok(time) if time > Duration::from_secs(QUIET_SECONDS)),
             None => false,
         }
     }
