@@ -1,5 +1,6 @@
 -- What a run over files leaves of these.
-use Rattle.std.proofs.Common.{◌≡◌, ◌≤◌, inl, inr, ℕ, List, [], ◌∷◌, map, Option, Some, Result, Ok, Err, IsTrue, refl, sym, ap, ◌∙◌, subst, arith}
+use Rattle.std.proofs.Common.{◌≡◌, ◌⊎◌, inl, inr, ℕ, List, [], ◌∷◌, ◌++◌, Option, Some, Result, Ok, Err, IsTrue, refl, sym, subst, arith}
+use Rattle.std.specs.Io.KnownBytes.{IsAtEnd}
 use Rattle.std.proofs.Math.Logic.{∥∥₁_map}
 use Rattle.mf_base.specs.declared.fault.Cause.{Cause}
 use Rattle.mf_base.specs.declared.fault.Cause.TheVariants.{Read, Write, Memory}
@@ -14,21 +15,19 @@ use Rattle.mf_store.specs.Facts.{KnownStore}
 use Rattle.mf_store.specs.Stands.{StandsFor, Leaves}
 use Rattle.mf_store.specs.Stands as stores
 use Rattle.mf_store_commits.specs.Tabled.{HasGoodDisk, HoldsOneOf}
-use Rattle.mf_store_files.specs.Stops.{IsLeftBy}
 use Rattle.mf_store_files.proofs.StopLemmas.{left_files}
 use Rattle.mf_wire.specs.Runs.{RunsLines}
+use Rattle.mf_wire_lines.specs.Cut.{ended_lines, request_lines}
 use Rattle.mf_wire_lines.specs.Run.{Answered, Broken}
 use Rattle.mf_wire_lines.specs.Streams.{Streams}
 use Rattle.mf_wire_lines.specs.Ends.{Ends, EndsBy}
 use Rattle.sqlite.specs.Files.{over_files}
 use Rattle.sqlite_disk.specs.declared.Disk.{Ghosts}
-use Rattle.sqlite_store.specs.FileStore.{state, view, faults, recovers, is_shielded}
+use Rattle.sqlite_store.specs.FileStore.{view, faults, recovers, is_shielded}
 use Rattle.sqlite_store.specs.declared.store.FileStore.{FileStore}
 use Rattle.sqlite_trees.specs.Tree.{Trees}
 use Rattle.sqlite_trees.specs.View.{IsClean, IsQuiet}
-use Rattle.sqlite_wal.specs.Recovery.{Image}
-use Rattle.microloan_files.specs.Opening.{HoldsInstitution}
-use Rattle.microloan_files.specs.Beginnings.{LeaveBeginning, RunsOverFiles, EndsAsBeginning}
+use Rattle.microloan_files.specs.Beginnings.{LeaveBeginning, IsRunOver, EndsAsBeginning}
 
 -- what each run between two states has, and what is so where these are one
 module _ {S : Type 0} (P : S → List (List ℕ) → List (List ℕ) → S → Type 0) (old new : S) (streams : Streams) (X : Type 0)
@@ -42,61 +41,53 @@ module _ {S : Type 0} (P : S → List (List ℕ) → List (List ℕ) → S → T
   either_way (Ok n) e = of_run _ _ e.answered.ran
   either_way (Err fault) e = at fault.cause fault.answered e
 
--- what is told of how a run ended between two states, of its lines and texts alone
-module _ {S : Type 0} (P : S → List (List ℕ) → List (List ℕ) → S → Type 0) (Q : List (List ℕ) → List (List ℕ) → Type 0) (old new : S)
-    (told : (lines texts : List (List ℕ)) → P old lines texts new → Q lines texts) (streams : Streams) where
-  abbrev Told : Unit {0} → List (List ℕ) → List (List ℕ) → Unit {0} → Type 0
-  Told before lines texts now = Q lines texts
+-- How a run between two states ended, told of the run itself: it begins empty.
+module _ {S : Type 0} (P : S → List (List ℕ) → List (List ℕ) → S → Type 0) (Q : List (List ℕ) → List (List ℕ) → List Line → Type 0) (K : List Line → Type 0) (old new : S)
+    (told : (lines texts : List (List ℕ)) → P old lines texts new → (run : List Line) × Q lines texts run × K run) (none : new ≡ old → K []) (streams : Streams) where
+  abbrev Told : List Line → List (List ℕ) → List (List ℕ) → List Line → Type 0
+  Told before lines texts run = Q lines texts run
 
-  answered : (lines : List (List ℕ)) (before after : Option (List ℕ)) (n : ℕ) → Answered P old new lines before after n → Answered Told tt tt lines before after n
-  answered lines before after n a = record { texts = a.texts; ran = told lines a.texts a.ran; written = a.written; counted = a.counted }
+  answered : (lines : List (List ℕ)) (before after : Option (List ℕ)) (n : ℕ) → Answered P old new lines before after n → (run : List Line) × Answered Told [] run lines before after n × K run
+  answered lines before after n a = let t = told lines a.texts a.ran in (t.0, record { texts = a.texts; ran = t.1; written = a.written; counted = a.counted }, t.2)
 
-  broken : (lines : List (List ℕ)) (before after : Option (List ℕ)) (n : ℕ) → Broken P old new lines before after n → Broken Told tt tt lines before after n
-  broken lines before after n b = record {
-    done = b.done;
-    line = b.line;
-    rest = b.rest;
-    among = b.among;
-    texts = b.texts;
-    text = b.text;
-    ran = told _ _ b.ran;
-    part = b.part;
-    short = b.short;
-    written = b.written;
-    counted = b.counted;
-  }
+  broken : (lines : List (List ℕ)) (before after : Option (List ℕ)) (n : ℕ) → Broken P old new lines before after n → (run : List Line) × Broken Told [] run lines before after n × K run
+  broken lines before after n b =
+      let t = told (b.done ++ b.line ∷ []) (b.texts ++ b.text ∷ []) b.ran in (
+        t.0,
+        record {
+          done = b.done;
+          line = b.line;
+          rest = b.rest;
+          among = b.among;
+          texts = b.texts;
+          text = b.text;
+          ran = t.1;
+          part = b.part;
+          short = b.short;
+          written = b.written;
+          counted = b.counted;
+        },
+        t.2,
+      )
 
-  by : (cause : Cause) (n : ℕ) → EndsBy P old new streams cause n → EndsBy Told tt tt streams cause n
-  by Read n e = record { bytes = e.bytes; consumed = e.consumed; answered = answered _ _ _ n e.answered; failed = e.failed; sink = e.sink }
-  by Write n e = record {
-    bytes = e.bytes;
-    consumed = e.consumed;
-    broken = elim e.broken [ inl b ↦ inl (broken _ _ _ n b) | inr b ↦ inr (b.0, broken _ _ _ n b.1) ];
-    source = e.source;
-    sink = e.sink;
-  }
-  by Memory n e = record { none = e.none; same = refl }
+  -- how it ended, and what is so of the run
+  abbrev TellsBy : Cause → ℕ → Type 0
+  TellsBy cause n = (run : List Line) × EndsBy Told [] run streams cause n × K run
 
-  pub ends : (r : Result ℕ StreamFault) → Ends P old new streams r → Ends Told tt tt streams r
-  ends (Ok n) e = record {
-    bytes = e.bytes;
-    consumed = e.consumed;
-    ended = e.ended;
-    answered = answered _ _ _ n e.answered;
-    source = e.source;
-    sink = e.sink;
-  }
-  ends (Err fault) e = by fault.cause fault.answered e
-
-  -- where there was no memory to begin, the two states are one
-  pub unbegun : (r : Result ℕ StreamFault) (fault : StreamFault) → Ends P old new streams r → r ≡ Err fault → fault.cause ≡ Memory → new ≡ old
-  unbegun (Ok n) fault e is memory = absurd (cc)
-  unbegun (Err other) fault e is memory = let same : other ≡ fault = cc in at other.cause (ap (λ (f : StreamFault). f.cause) same ∙ memory) e
+  by : (cause : Cause) (n : ℕ) → EndsBy P old new streams cause n → TellsBy cause n
+  by Read n e = let a = answered _ _ _ n e.answered in (a.0, record { bytes = e.bytes; consumed = e.consumed; answered = a.1; failed = e.failed; sink = e.sink }, a.2)
+  by Write n e = either e.broken
     where
-      at : (cause : Cause) → cause ≡ Memory → EndsBy P old new streams cause other.answered → new ≡ old
-      at Read c e = absurd (cc)
-      at Write c e = absurd (cc)
-      at Memory c e = e.same
+      either : Broken P old new (ended_lines e.bytes) streams.sink.before streams.sink.after n ⊎ (IsAtEnd streams.source.after × Broken P old new (request_lines e.bytes) streams.sink.before streams.sink.after n) → TellsBy Write n
+      either (inl b) = let t = broken _ _ _ n b in (t.0, record { bytes = e.bytes; consumed = e.consumed; broken = inl t.1; source = e.source; sink = e.sink }, t.2)
+      either (inr b) = let t = broken _ _ _ n b.1 in (t.0, record { bytes = e.bytes; consumed = e.consumed; broken = inr (b.0, t.1); source = e.source; sink = e.sink }, t.2)
+  by Memory n e = ([], record { none = e.none; same = refl }, none e.same)
+
+  pub told_of_run : (r : Result ℕ StreamFault) → Ends P old new streams r → (run : List Line) × Ends Told [] run streams r × K run
+  told_of_run (Ok n) e =
+      let a = answered _ _ _ n e.answered in
+      (a.0, record { bytes = e.bytes; consumed = e.consumed; ended = e.ended; answered = a.1; source = e.source; sink = e.sink }, a.2)
+  told_of_run (Err fault) e = by fault.cause fault.answered e
 
 -- the files of a store that is done with
 module _
@@ -127,30 +118,19 @@ module _ {D : Type 0} {g : Ghosts D} (i : Institution) (first final : KnownStore
   abbrev pub Runs : KnownStore (FileStore D g) → List (List ℕ) → List (List ℕ) → KnownStore (FileStore D g) → Type 0
   Runs = RunsLines (record { stands = StandsFor over_files; clean = stores.IsClean over_files; leaves = Leaves over_files })
 
-  ran_so : (lines texts : List (List ℕ)) → Runs first lines texts final → RunsOverFiles i files lines texts
+  ran_so : (lines texts : List (List ℕ)) → Runs first lines texts final → (run : List Line) × IsRunOver i lines texts run × LeaveBeginning i run files
   ran_so lines texts r =
-      let o = r.ran clean i stood in record {
-        run = o.run;
-        calls = o.calls;
-        replied = o.replied;
-        isolated = o.isolated;
-        with_memory = o.with_memory;
-        left = handed o.run o.in_range (o.stop (i ∷ []) leaves);
-      }
+      let o = r.ran clean i stood in (
+        o.run,
+        record { calls = o.calls; replied = o.replied; isolated = o.isolated; with_memory = o.with_memory },
+        handed o.run o.in_range (o.stop (i ∷ []) leaves),
+      )
 
-  -- the same where nothing was run
-  none_so : final ≡ first → RunsOverFiles i files [] []
-  none_so same = record {
-    run = [];
-    calls = refl;
-    replied = refl;
-    isolated = record { views = λ o. refl; office_texts = λ o. refl; own_texts = λ c range. refl; all_office_texts = λ o none. refl; all_own_texts = λ c range none. refl };
-    with_memory = λ none. refl;
-    left = handed [] tt (subst (λ (k : KnownStore (FileStore D g)). Leaves over_files k (i ∷ [])) (sym same) leaves);
-  }
+  -- nothing was run
+  none_so : final ≡ first → LeaveBeginning i [] files
+  none_so same = handed [] tt (subst (λ (k : KnownStore (FileStore D g)). Leaves over_files k (i ∷ [])) (sym same) leaves)
 
   pub ends_as_beginning : (streams : Streams) (result : Result ℕ StreamFault) → Ends Runs first final streams result → EndsAsBeginning i files streams result
-  ends_as_beginning streams result e = record {
-    ended = ends Runs (RunsOverFiles i files) first final ran_so streams result e;
-    unbegun = λ fault is memory. none_so (unbegun Runs (RunsOverFiles i files) first final ran_so streams result fault e is memory);
-  }
+  ends_as_beginning streams result e =
+      let t = told_of_run Runs (IsRunOver i) (λ run. LeaveBeginning i run files) first final ran_so none_so streams result e in
+      record { run = t.0; ended = t.1; left = t.2 }

@@ -1,2 +1,3 @@
 pub mod BeginningLemmas
 pub mod OpeningLemmas
+pub mod SheetLemmas

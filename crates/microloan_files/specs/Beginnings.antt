@@ -1,6 +1,5 @@
 -- How a run of request lines over a file ends, and what a stop then leaves of the file.
-use Rattle.std.specs.Prelude.{◌≡◌, ℕ, List, [], map, Result, Err}
-use Rattle.mf_base.specs.declared.fault.Cause.TheVariants.{Memory}
+use Rattle.std.specs.Prelude.{◌≡◌, ℕ, List, [], map, Result}
 use Rattle.mf_base.specs.declared.fault.StreamFault.{StreamFault}
 use Rattle.mf_model.specs.Institution.{Institution}
 use Rattle.mf_model.specs.Answering.{all_answered}
@@ -17,6 +16,13 @@ use Rattle.sqlite_store.specs.declared.store.FileStore.{FileStore}
 use Rattle.sqlite_wal.specs.Recovery.{Image}
 use Rattle.microloan_files.specs.Opening.{HoldsInstitution, HoldsInSchema}
 
+-- The run is that of the lines on the institution, and the texts are its replies. What each office is told is isolated. Where no text is F20's, no line was given up.
+pub record IsRunOver (i : Institution) (lines texts : List (List ℕ)) (run : List Line) : Type 0 where
+  pub calls : map (λ l. l.call) run ≡ map call_of lines
+  pub replied : texts ≡ texts_of run i
+  pub isolated : IsIsolated (record { institution = i; run = run; lines = lines; texts = texts })
+  pub with_memory : NoneIsF20 texts → run ≡ all_answered (map call_of lines)
+
 module _ {D : Type 0} {g : Ghosts D} where
   -- Whatever a stop leaves of the files holds the institution after all lines of the run that were answered, or with the change of one line more, of those that were given up after the last change.
   abbrev pub LeaveBeginning : Institution → List Line → FileStore D g → Type 0
@@ -26,16 +32,8 @@ module _ {D : Type 0} {g : Ghosts D} where
   abbrev pub StillHolds : Institution → FileStore D g → Type 0
   StillHolds i files = (left : Image) → (state files).may_leave left → ∥ (HoldsInSchema left i) ∥₁
 
-  -- The texts are the replies of a run over the lines on the institution, and what a stop leaves of the files is a beginning of that run.
-  pub record RunsOverFiles (i : Institution) (files : FileStore D g) (lines texts : List (List ℕ)) : Type 0 where
-    pub run : List Line
-    pub calls : map (λ l. l.call) run ≡ map call_of lines
-    pub replied : texts ≡ texts_of run i
-    pub isolated : IsIsolated (record { institution = i; run = run; lines = lines; texts = texts })
-    pub with_memory : NoneIsF20 texts → run ≡ all_answered (map call_of lines)
-    pub left : LeaveBeginning i run files
-
-  -- The lines of the source were run as the result says, up to its end or to a fault, and what a stop leaves holds a beginning of them; none was run where there was no memory to begin.
+  -- The lines of the source were answered as the result says, up to its end or to a fault, by one run on the institution, which is empty where there was no memory to begin. What a stop leaves of the files is a beginning of that run.
   pub record EndsAsBeginning (i : Institution) (files : FileStore D g) (streams : Streams) (result : Result ℕ StreamFault) : Type 0 where
-    pub ended : Ends (λ (old : Unit {0}) lines texts (new : Unit {0}). RunsOverFiles i files lines texts) tt tt streams result
-    pub unbegun : (fault : StreamFault) → result ≡ Err fault → fault.cause ≡ Memory → RunsOverFiles i files [] []
+    pub run : List Line
+    pub ended : Ends (λ before lines texts after. IsRunOver i lines texts after) [] run streams result
+    pub left : LeaveBeginning i run files

@@ -1,6 +1,6 @@
 //! Request lines answered over a file, from its opening to what a stop leaves of it.
 
-ghost use Rattle.std.specs.Prelude.{◌≡◌, ◌≤◌, ◌⊎◌, [], ◌∷◌, IfOk, IfErr, IfSome, OnErr};
+ghost use Rattle.std.specs.Prelude.{◌≡◌, ◌≤◌, ◌⊎◌, [], ◌∷◌, IfOk, IfErr, IfSome, IsSome, OnErr};
 ghost use Rattle.mf_base.specs.DayText.{last_entered_day};
 ghost use Rattle.mf_base.specs.declared.fault.Fault.TheVariants.{F19, F20};
 ghost use Rattle.mf_model.specs.Institution.{Institution};
@@ -61,6 +61,7 @@ pub fn batch_over<S: Start, R: Source, W: Sink>(
     ensures ends { IfOk result (λ r. IsClean (view r.1) → (i : Institution) → OpensAs day (image_at S.Start) i →
         EndsAsBeginning i r.1 (streams_of (stream_of R.unread R.faults source.old source.new) (stream_of W.written W.faults sink.old sink.new)) r.0) }
     ensures errors { IfErr result (λ e. (e.0 ≡ F19) ⊎ (e.0 ≡ F20)) }
+    ensures refused { IfErr result (λ e. e.0 ≡ F19 → IsSome e.1) }
     ensures unread { OnErr result ((source.new ≡ source.old) × (sink.new ≡ sink.old)) }
     ensures unopened { IfErr result (λ e. IfSome e.1 (λ files. IsClean (view files) → (i : Institution) → HoldsInSchema (image_at S.Start) i → StillHolds i files)) }
 {
