@@ -336,7 +336,7 @@ class Backups(unittest.TestCase):
         self.assertEqual(os.listdir(self.folder), [])
 
     def test_a_row_that_was_changed_is_no_backup(self):
-        """The rows are put into a new file first: SQLite's writes spoil page sums, and such a file is refused for these."""
+        """The rows are put into a new file first: SQLite's writes spoil page sums, for which a file is refused too."""
         self.it.kill_serve()
         with contextlib.closing(sqlite3.connect(self.it.file)) as database:
             rows = "\n".join(database.iterdump())
