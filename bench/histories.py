@@ -5,8 +5,12 @@ import hashlib
 import os
 import struct
 import subprocess
+import sys
 
 import institutions as files
+
+sys.path.append(os.path.join(files.TOP, "package", "tools"))
+from institution_files import damage_of_log
 
 
 def changes(lines):

@@ -88,6 +88,21 @@ class Unit(unittest.TestCase):
         self.assertEqual(self.shown("Result")["Result"], "success")
         self.root.run("systemctl start microloan")
 
+    def test_a_damaged_log_is_no_start(self):
+        """The service says so, and starts once the log is as it was."""
+        client = self.enter("In a damaged log")
+        self.enter("Behind the damage")
+        self.root.run("systemctl kill --signal=KILL microloan; systemctl stop microloan; true")
+        if self.log_size() <= EMPTY_LOG:
+            self.skipTest("the service was started again before it was stopped")
+        self.root.run(f"cp {FILE}-wal /root/kept-wal && printf x | dd of={FILE}-wal bs=1 seek=10 conv=notrunc")
+        self.root.run("systemctl start microloan", wanted=1)
+        self.root.run("systemctl stop microloan")
+        said = self.root.run("journalctl --no-pager --unit=microloan")
+        self.assertIn("its header is damaged, and nothing of it would count", said)
+        self.root.run(f"cat /root/kept-wal >{FILE}-wal && systemctl reset-failed microloan; systemctl start microloan")
+        self.assertEqual(self.name_of(client), "In a damaged log")
+
     def test_no_institution_is_no_start(self):
         self.root.run("systemctl stop microloan")
         self.root.run(f"mv {FILE} {FILE}.kept && mv {FILE}-wal {FILE}-wal.kept")
