@@ -5,8 +5,12 @@ import hashlib
 import os
 import struct
 import subprocess
+import sys
 
 import institutions as files
+
+sys.path.append(os.path.join(files.TOP, "package", "tools"))
+from institution_files import damage_of_log
 
 
 def changes(lines):
@@ -58,14 +62,14 @@ def busy_day(count):
 
 
 def days_of_two():
-    """The lines of three days of an institution, and of another one with other amounts and names, whose pages are alike."""
+    """The lines of three days of an institution, and of another one with other amounts and names, and pages alike."""
     first = changes(files.handbook_lines())
     others = [line.replace(b'"amount":20000', b'"amount":21000').replace(b"Amina", b"Amira") for line in first]
     return (first, second_day(100), third_day(100)), (others, second_day(200), third_day(200))
 
 
 class History:
-    """What an institution is after each beginning of some lines, from a new one on: what is shown of it, and its rows."""
+    """What an institution is after each beginning of some lines: what is shown of it, and its rows."""
 
     def __init__(self, lines):
         self.shown = shown_after_each(lines)
@@ -79,8 +83,8 @@ class History:
         return part
 
     def beginning(self, path, most=None, options=("--existing",)):
-        """How many lines the file's institution has, by what is shown of it and by its rows: as many as may be, up to the
-        most; none where it is refused, or is not one after a beginning."""
+        """How many lines the file's institution has, by what is shown of it and by its rows: as many as may be, up to
+        the most; none where it is refused, or is not one after a beginning."""
         status, shown, _ = files.ended(["batch", "--file", path, *options], files.ASKED)
         rows = digest_of_rows(path)
         if status != 0:

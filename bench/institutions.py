@@ -1,4 +1,5 @@
-"""Institutions' files for the scripts beside this one: made by the program, with page sums or without, and what they show.
+"""Institutions' files for the scripts beside this one: made by the program, with page sums or without, and what they
+show.
 
 The program is that of this checkout, or the one that MICROLOAN names. What is written to the disk goes to memory where
 the system has a folder for it. It wants the `sqlite3` shell.

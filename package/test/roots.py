@@ -1,4 +1,4 @@
-"""Fresh roots of Debian for the tests of the package: with processes of their own, and with systemd in charge of them."""
+"""Fresh roots of Debian for the tests of the package: with processes of their own, or with systemd in charge."""
 import json
 import os
 import shlex
@@ -109,10 +109,10 @@ class Root:
 
 
 class Booted(Root):
-    """A fresh root of Debian in which systemd runs, over a tree of control groups of its own. All of it ends with this process.
+    """A fresh root of Debian in which systemd runs, over control groups of its own. All of it ends with this process.
 
-    `fault` says why systemd doesn't run, where it doesn't: a machine must let namespaces and control groups be made. The
-    machine's own settings, in /proc/sys and /sys, can only be read there.
+    `fault` says why systemd doesn't run, where it doesn't: a machine must let namespaces and control groups be made.
+    The machine's own settings, in /proc/sys and /sys, can only be read there.
     """
 
     BOOT = """
@@ -137,7 +137,8 @@ class Booted(Root):
         ip link set lo up
         mkdir -p run/before
         pivot_root . run/before
-        exec chroot . /bin/sh -c 'umount -l /run/before; exec env -i container=other /lib/systemd/systemd' >/dev/null 2>&1
+        exec >/dev/null 2>&1
+        exec chroot . /bin/sh -c 'umount -l /run/before; exec env -i container=other /lib/systemd/systemd'
     """
 
     def __init__(self):

@@ -19,6 +19,7 @@ TOP = os.path.dirname(os.path.dirname(HERE))
 TOOLS = os.path.join(TOP, "package", "tools")
 sys.path[:0] = [os.path.join(TOP, "front", "test"), TOOLS]
 import desk
+import institution_files as files
 import running
 
 SHEET_LINES = 10000
@@ -336,7 +337,7 @@ class Backups(unittest.TestCase):
         self.assertEqual(os.listdir(self.folder), [])
 
     def test_a_row_that_was_changed_is_no_backup(self):
-        """The rows are put into a new file first: SQLite's writes spoil page sums, and such a file is refused for these."""
+        """The rows are put into a new file first: SQLite's writes spoil page sums, for which a file is refused too."""
         self.it.kill_serve()
         with contextlib.closing(sqlite3.connect(self.it.file)) as database:
             rows = "\n".join(database.iterdump())
@@ -353,6 +354,25 @@ class Backups(unittest.TestCase):
         self.assertEqual(status, 1)
         self.assertIn("F19", said)
         self.assertEqual(os.listdir(self.folder), [])
+
+    def test_a_damaged_log_is_no_backup(self):
+        """Each bit of a log's header that turns, and one in the middle; a stop damages nothing."""
+        for place in range(3):
+            self.add_client(f"In the log {place}")
+        self.it.kill_serve()
+        with open(self.it.file + "-wal", "rb") as file:
+            log = file.read()
+        self.assertIsNone(files.damage_of_log(self.it.file))
+        for at in (1, 8, 16, 30, 5000):
+            with open(self.it.file + "-wal", "wb") as file:
+                file.write(log[:at] + bytes([log[at] ^ 4]) + log[at + 1 :])
+            status, _, said = self.run_tool("microloan-backup", "--folder", self.folder)
+            self.assertEqual(status, 1)
+            self.assertIn("is damaged, and nothing", said)
+        self.assertEqual(os.listdir(self.folder), [])
+        with open(self.it.file + "-wal", "wb") as file:
+            file.write(log)
+        self.back_up()
 
     def test_which_are_kept(self):
         """Of two backups a day over three years: seven days, five weeks and twelve months, by the last one of each."""

@@ -14,6 +14,7 @@ import roots
 PASSWORD = "the head's password"
 FILE = "/var/lib/microloan/desk.db"
 EMPTY_LOG = 41  # bytes of a log that holds no commit, at most
+LIMIT, MOST_ENTERED = 600000, 200  # bytes of a file, and clients that are entered until it is reached
 MOST_EXPOSED = 2.0  # of ten, as systemd-analyze counts
 
 
@@ -87,6 +88,21 @@ class Unit(unittest.TestCase):
         self.assertEqual(self.shown("Result")["Result"], "success")
         self.root.run("systemctl start microloan")
 
+    def test_a_damaged_log_is_no_start(self):
+        """The service says so, and starts once the log is as it was."""
+        client = self.enter("In a damaged log")
+        self.enter("Behind the damage")
+        self.root.run("systemctl kill --signal=KILL microloan; systemctl stop microloan; true")
+        if self.log_size() <= EMPTY_LOG:
+            self.skipTest("the service was started again before it was stopped")
+        self.root.run(f"cp {FILE}-wal /root/kept-wal && printf x | dd of={FILE}-wal bs=1 seek=10 conv=notrunc")
+        self.root.run("systemctl start microloan", wanted=1)
+        self.root.run("systemctl stop microloan")
+        said = self.root.run("journalctl --no-pager --unit=microloan")
+        self.assertIn("its header is damaged, and nothing of it would count", said)
+        self.root.run(f"cat /root/kept-wal >{FILE}-wal && systemctl reset-failed microloan; systemctl start microloan")
+        self.assertEqual(self.name_of(client), "In a damaged log")
+
     def test_no_institution_is_no_start(self):
         self.root.run("systemctl stop microloan")
         self.root.run(f"mv {FILE} {FILE}.kept && mv {FILE}-wal {FILE}-wal.kept")
@@ -94,6 +110,23 @@ class Unit(unittest.TestCase):
         self.assertEqual(self.root.run("ls /var/lib/microloan"), "desk.db-wal.kept\ndesk.db.kept\n")
         self.root.run(f"mv {FILE}.kept {FILE} && mv {FILE}-wal.kept {FILE}-wal && systemctl start microloan")
         self.assertEqual(self.ask("GET", "/api/business-day")[0], 200)
+
+    def test_a_limit_on_a_file_s_size(self):
+        """The signal SIGXFSZ ends the program without a word: the unit starts it again, and what was answered stands."""
+        room = "/run/systemd/system/microloan.service.d"
+        limit = f"printf '[Service]\nLimitFSIZE={LIMIT}\n' >{room}/limit.conf"
+        self.root.run(f"mkdir -p {room} && {limit} && systemctl daemon-reload && systemctl restart microloan")
+        before = self.shown("NRestarts", "MainPID")
+        entered = []
+        for place in range(MOST_ENTERED):
+            status, reply = self.ask("POST", "/api/clients", {"office": 1, "name": f"Client {place}"})
+            if status != 201:
+                break
+            entered.append(reply["client"])
+        self.assertLess(len(entered), MOST_ENTERED)
+        self.wait_until(lambda: self.shown("NRestarts")["NRestarts"] != before["NRestarts"])
+        self.root.run(f"rm {room}/limit.conf && systemctl daemon-reload && systemctl restart microloan")
+        self.assertEqual([self.name_of(it) for it in entered], [f"Client {place}" for place in range(len(entered))])
 
     def test_the_timer_and_its_backup(self):
         client = self.enter("Before the backup")

@@ -1,15 +1,23 @@
-"""An institution's file: who holds it open, a copy of it while it is served, and what a copy holds."""
+"""An institution's file: who holds it open, a copy of it while it is served, what a copy holds, and whether its log is
+damaged.
+
+    institution_files.py FILE     the status is 1, and a line says so, where the log beside the file is damaged
+"""
 import contextlib
 import os
 import select
 import signal
 import sqlite3
+import struct
 import subprocess
+import sys
 import time
 
 FILE = "/var/lib/microloan/desk.db"
 PROGRAM = "/usr/bin/microloan"
 PATIENCE = 10  # seconds that a process may take to stand still
+MAGIC = 0x377F0682  # of a log whose sums are of words with the lowest byte first; with 1 added the other way round
+HEADER, FRAME = 32, 24  # bytes before the frames, and of a frame before its page
 
 
 class Failed(Exception):
@@ -85,6 +93,58 @@ def copy_files(path, copy):
                 raise Failed(done.stderr.strip())
 
 
+def sums(data, before, order):
+    """SQLite's sums over the words of some bytes, going on from those before."""
+    first, second = before
+    words = struct.unpack(f"{order}{len(data) // 4}I", data)
+    for one, other in zip(words[::2], words[1::2]):
+        first = first + one + second & 0xFFFFFFFF
+        second = second + other + first & 0xFFFFFFFF
+    return first, second
+
+
+def damage_of_log(path):
+    """How the log beside a file is damaged otherwise than by a stop or a lost disk write; nothing where it isn't.
+
+    The program, as SQLite does, reads a log up to the first frame whose sums are wrong, and takes what follows for a
+    commit that a stop has torn. But each commit is on the disk before the next begins, so that only the last one can be
+    torn: whatever was written with the same salts after another one's end tells of damage. A header that is wrong stands
+    after a stop too, but only while its first byte is 0, which is written last.
+    """
+    try:
+        with open(path + "-wal", "rb") as file:
+            log = file.read()
+    except FileNotFoundError:
+        return None
+    if len(log) <= HEADER + FRAME:
+        return None
+    magic, _, page, _, *words = struct.unpack_from(">8I", log)
+    salts, found = tuple(words[:2]), tuple(words[2:])
+    order = ">" if magic & 1 else "<"
+    if magic & ~1 != MAGIC or sums(log[:24], (0, 0), order) != found:
+        is_written = log[0] != 0 and any(log[HEADER : HEADER + 4])
+        return "its header is damaged, and nothing of it would count" if is_written else None
+    starts = range(HEADER, len(log) - FRAME - page + 1, FRAME + page)
+    heads = [struct.unpack_from(">6I", log, at) for at in starts]
+    whole = 0
+    for at, head in zip(starts, heads):
+        found = sums(log[at + FRAME : at + FRAME + page], sums(log[at : at + 8], found, order), order)
+        if head[2:4] != salts or found != head[4:]:
+            break
+        whole += 1
+    ours = [number for number in range(whole, len(heads)) if heads[number][2:4] == salts]
+    ends = [number for number in ours if heads[number][1]]
+    if ends and ours[-1] > ends[0]:
+        return f"its frame {whole + 1} of {ours[-1] + 1} is damaged, and nothing from there on would count"
+    return None
+
+
+def refuse_damaged_log(path):
+    damage = damage_of_log(path)
+    if damage:
+        raise Failed(f"{path}-wal: {damage}. Keep both files, and see the handbook: a damaged log")
+
+
 def counts_of(path):
     """The business day, and how many loans and entries there are, as SQLite reads them; no institution is Failed.
 
@@ -134,3 +194,10 @@ def keep(path, place):
         os.fsync(descriptor)
         os.close(descriptor)
         then()
+
+
+if __name__ == "__main__":
+    try:
+        refuse_damaged_log(sys.argv[1])
+    except (Failed, OSError) as why:
+        sys.exit(f"microloan: {why}")
