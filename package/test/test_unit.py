@@ -112,7 +112,7 @@ class Unit(unittest.TestCase):
         self.assertEqual(self.ask("GET", "/api/business-day")[0], 200)
 
     def test_a_limit_on_a_file_s_size(self):
-        """The signal SIGXFSZ ends the program without a word: the unit starts it again, and what was answered stands."""
+        """The signal SIGXFSZ ends the program without a word: the unit starts it again; what was answered stands."""
         room = "/run/systemd/system/microloan.service.d"
         limit = f"printf '[Service]\nLimitFSIZE={LIMIT}\n' >{room}/limit.conf"
         self.root.run(f"mkdir -p {room} && {limit} && systemctl daemon-reload && systemctl restart microloan")

@@ -107,9 +107,9 @@ def damage_of_log(path):
     """How the log beside a file is damaged otherwise than by a stop or a lost disk write; nothing where it isn't.
 
     The program, as SQLite does, reads a log up to the first frame whose sums are wrong, and takes what follows for a
-    commit that a stop has torn. But each commit is on the disk before the next begins, so that only the last one can be
-    torn: whatever was written with the same salts after another one's end tells of damage. A header that is wrong stands
-    after a stop too, but only while its first byte is 0, which is written last.
+    commit that a stop has torn. But each commit is on the disk before the next begins, so that only the last one can
+    be torn: whatever was written with the same salts after another one's end tells of damage. A header that is wrong
+    stands after a stop too, but only while its first byte is 0, which is written last.
     """
     try:
         with open(path + "-wal", "rb") as file:
