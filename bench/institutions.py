@@ -98,10 +98,12 @@ def copy(path, other):
 
 
 def made_anew(path, other, first=""):
-    """Has the shell make a file with the same tables and rows: one without sums, whatever the first file has."""
+    """Has the shell make a file with the same tables, in their order, and rows: one without sums, whatever the first
+    file has."""
     remove(other)
+    made = subprocess.run(["sqlite3", "-readonly", path, ".dump"], stdout=subprocess.PIPE, check=True).stdout
     words = ["sqlite3", "-bail", other]
-    subprocess.run(words, input=first.encode() + b"\n" + rows(path), stdout=subprocess.PIPE, check=True)
+    subprocess.run(words, input=first.encode() + b"\n" + made, stdout=subprocess.PIPE, check=True)
 
 
 def without_sums(path, other, statements=""):

@@ -72,6 +72,10 @@ def draw_sheet(count, loans):
     return b"\n".join(lines) + b'\n"a quote that stays open,1,2,3'
 
 
+def is_insert(statement):
+    return statement.startswith("INSERT")
+
+
 class Sheets(unittest.TestCase):
     def collect(self, sheet, user):
         with tempfile.NamedTemporaryFile() as file:
@@ -340,7 +344,8 @@ class Backups(unittest.TestCase):
         """The rows are put into a new file first: SQLite's writes spoil page sums, for which a file is refused too."""
         self.it.kill_serve()
         with contextlib.closing(sqlite3.connect(self.it.file)) as database:
-            rows = "\n".join(database.iterdump())
+            tables = database.execute("select sql || ';' from sqlite_schema where sql is not null order by rowid")
+            rows = "\n".join([*(text for (text,) in tables), *filter(is_insert, database.iterdump())])
         for name in os.listdir(os.path.dirname(self.it.file)):
             if name.startswith("desk.db"):
                 os.unlink(os.path.join(os.path.dirname(self.it.file), name))
