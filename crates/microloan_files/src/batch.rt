@@ -24,8 +24,8 @@ use sqlite_disk::Disk;
 use std::alloc::Global;
 use std::rt::HostRuntime;
 
-/// Answers request lines over a store of files, and gives these back with what the run told. Whatever a stop leaves of the files then
-/// opens as the institution after a beginning of the lines that holds every line that was answered.
+/// Answers request lines over a store of files, and gives these back with what the run told. Whatever a stop leaves of
+/// the files then opens as the institution after a beginning of the lines that holds every line that was answered.
 pub fn run_over<D: Disk + Drop, R: Source, W: Sink>(
     alloc: Global,
     mut store: Store<FileStore<D>>,
@@ -33,19 +33,23 @@ pub fn run_over<D: Disk + Drop, R: Source, W: Sink>(
     sink: &mut W,
 ) -> (Result<u64, StreamFault>, FileStore<D>)
     ensures premise { IsClean (view result.1) → HasGoodDisk over_files store.connection }
-    ensures ends { IsClean (view result.1) → (i : Institution) → StandsFor over_files store i → Leaves over_files store (i ∷ []) →
-        EndsAsBeginning i result.1 (streams_of (stream_of R.unread R.faults source.old source.new) (stream_of W.written W.faults sink.old sink.new)) result.0 }
+    ensures ends { IsClean (view result.1) → (i : Institution) → StandsFor over_files store i →
+        Leaves over_files store (i ∷ []) → EndsAsBeginning i result.1 (streams_of
+        (stream_of R.unread R.faults source.old source.new)
+        (stream_of W.written W.faults sink.old sink.new)) result.0 }
 {
     let told = run(alloc, &mut store, source, sink);
     (told, hand_back(store))
 }
 
-/// Answers request lines over the file at a path, where `start` stands for what the file held: it is opened, the lines are run, and what
-/// the run told comes back with the files. A file without tables becomes a new institution on this day.
+/// Answers request lines over the file at a path, where `start` stands for what the file held: it is opened, the lines
+/// are run, and what the run told comes back with the files. A file without tables becomes a new institution on this
+/// day.
 ///
-/// Whatever a stop leaves of the files, at the end of the lines and at each fault, opens as the institution after a beginning of the lines
-/// that holds every line that was answered. F19 and F20 are those of opening the file, of which nothing was run: the files come back
-/// where they could be opened at all, and whatever a stop leaves of them holds the institution that they held.
+/// Whatever a stop leaves of the files, at the end of the lines and at each fault, opens as the institution after a
+/// beginning of the lines that holds every line that was answered. F19 and F20 are those of opening the file, of which
+/// nothing was run: the files come back where they could be opened at all, and whatever a stop leaves of them holds the
+/// institution that they held.
 pub fn batch_over<S: Start, R: Source, W: Sink>(
     rt: &HostRuntime,
     path: &str,
@@ -59,11 +63,14 @@ pub fn batch_over<S: Start, R: Source, W: Sink>(
 >
     requires { day ≤ last_entered_day }
     ensures ends { IfOk result (λ r. IsClean (view r.1) → (i : Institution) → OpensAs day (image_at S.Start) i →
-        EndsAsBeginning i r.1 (streams_of (stream_of R.unread R.faults source.old source.new) (stream_of W.written W.faults sink.old sink.new)) r.0) }
+        EndsAsBeginning i r.1 (streams_of
+        (stream_of R.unread R.faults source.old source.new)
+        (stream_of W.written W.faults sink.old sink.new)) r.0) }
     ensures errors { IfErr result (λ e. (e.0 ≡ F19) ⊎ (e.0 ≡ F20)) }
     ensures refused { IfErr result (λ e. e.0 ≡ F19 → IsSome e.1) }
     ensures unread { OnErr result ((source.new ≡ source.old) × (sink.new ≡ sink.old)) }
-    ensures unopened { IfErr result (λ e. IfSome e.1 (λ files. IsClean (view files) → (i : Institution) → HoldsInSchema (image_at S.Start) i → StillHolds i files)) }
+    ensures unopened { IfErr result (λ e. IfSome e.1 (λ files. IsClean (view files) → (i : Institution) →
+        HoldsInSchema (image_at S.Start) i → StillHolds i files)) }
 {
     match open_with(rt, path, start, day, &mut Unfollowed) {
         Ok(store) => Ok(run_over(rt.alloc(), store, source, sink)),

@@ -21,8 +21,8 @@ use mf_store::Store;
 use sqlite::{Connection, FileStore};
 use sqlite_disk::Disk;
 
-/// Gives back the files of a connection, whose open changes are rolled back: whatever a stop leaves of them is a database with tables
-/// that a stop would have left before.
+/// Gives back the files of a connection, whose open changes are rolled back: whatever a stop leaves of them is a
+/// database with tables that a stop would have left before.
 pub fn give_up<D: Disk + Drop>(connection: Connection<FileStore<D>>) -> FileStore<D>
     ensures premise { IsClean (view result) → HasCleanDisk (file_state connection) }
     ensures left { IsClean (view result) → (left : Image) → (files.state result).may_leave left →
@@ -31,9 +31,9 @@ pub fn give_up<D: Disk + Drop>(connection: Connection<FileStore<D>>) -> FileStor
     connection.into_store()
 }
 
-/// Gives back the files of a store, whose open changes are rolled back. Where a stop would have left what some run leaves of an
-/// institution, whatever a stop leaves of the files holds the institution after a beginning of that run which has every line that was
-/// answered.
+/// Gives back the files of a store, whose open changes are rolled back. Where a stop would have left what some run
+/// leaves of an institution, whatever a stop leaves of the files holds the institution after a beginning of that run
+/// which has every line that was answered.
 pub fn hand_back<D: Disk + Drop>(store: Store<FileStore<D>>) -> FileStore<D>
     ensures premise { IsClean (view result) → HasGoodDisk over_files store.connection }
     ensures beginning { IsClean (view result) → (i : Institution) (run : List Line) → IsSound i → AreInRange run →

@@ -21,8 +21,8 @@ use sqlite::FileStore;
 use sqlite_disk::Disk;
 use std::alloc::Global;
 
-/// Collects a sheet over a store of files, and gives these back with what `collect` told. Whatever a stop leaves of the files then opens
-/// as the institution after a beginning of the sheet's lines that holds every line that was answered.
+/// Collects a sheet over a store of files, and gives these back with what `collect` told. Whatever a stop leaves of the
+/// files then opens as the institution after a beginning of the sheet's lines that holds every line that was answered.
 pub fn collect_over<D: Disk + Drop, W: Sink>(
     alloc: Global,
     mut store: Store<FileStore<D>>,
@@ -32,8 +32,11 @@ pub fn collect_over<D: Disk + Drop, W: Sink>(
 ) -> (Result<(), StreamFault>, FileStore<D>)
     requires { length bytes.now ≤ longest }
     ensures premise { IsClean (view result.1) → HasGoodDisk over_files store.connection }
-    ensures ends { IsClean (view result.1) → (i : Institution) → StandsFor over_files store i → Leaves over_files store (i ∷ []) →
-        CollectsAsBeginning caller i result.1 (record { rows = rows_of bytes.now; sink = stream_of W.written W.faults sink.old sink.new }) result.0 }
+    ensures ends { IsClean (view result.1) → (i : Institution) → StandsFor over_files store i →
+        Leaves over_files store (i ∷ []) → CollectsAsBeginning caller i result.1 (record {
+          rows = rows_of bytes.now;
+          sink = stream_of W.written W.faults sink.old sink.new;
+        }) result.0 }
 {
     let told = collect(alloc, &mut store, caller, bytes, sink);
     (told, hand_back(store))
