@@ -329,7 +329,10 @@ class TheLog(unittest.TestCase):
             self.assertEqual(compare(it, beginning, it.nginx.log)[1][-1], "the same")
             changed = os.path.join(it.folder, "changed.log")
             with open(it.nginx.log, encoding="utf-8") as file, open(changed, "w", encoding="utf-8") as other:
-                other.write(file.read().replace('\\"7\\\\\"', '\\"8\\\\\"'))
+                for line in file:
+                    message = json.loads(line)
+                    message["body"] = message["body"].replace('\\"7\\"', '\\"77\\"')
+                    other.write(json.dumps(message) + "\n")
             status, lines = compare(it, beginning, changed)
             self.assertEqual((status, lines[-1]), (1, "0 messages are answered otherwise, 1 rows differ"))
             self.assertIn("clients 0002-000008: name is ", lines[0])
