@@ -82,7 +82,7 @@ class Serve:
         self.process = None
 
     def start(self):
-        words = [program(), "serve", "--file", self.path, "--port", str(self.port)]
+        words = [program(), "serve", "--existing", "--file", self.path, "--port", str(self.port)]
         self.process = start_beside(words, umask=0o077)
         wait_for(self.port, self.process, "microloan serve")
 
