@@ -1,7 +1,4 @@
 //! The tables, each with its order and the text that asks for it.
-//!
-//! A sign before the columns of an order has SQLite read the rows as they stand and sort them. Without it each row would be
-//! looked up by way of the key's index, in a second tree.
 
 use crate::whole::Whole;
 use mf_store_records::{
@@ -20,7 +17,7 @@ impl Whole for MetaRow {
     ghost IsUnder = { IsKnown };
 
     fn every_text() -> &'static str {
-        "SELECT one, schema, day FROM meta ORDER BY +one"
+        "SELECT one, schema, day FROM meta ORDER BY one"
     }
 }
 
@@ -35,7 +32,7 @@ impl Whole for OfficeRow {
     ghost IsUnder = { IsKnown };
 
     fn every_text() -> &'static str {
-        "SELECT number, parent, hkey, name FROM offices ORDER BY +number"
+        "SELECT number, parent, hkey, name FROM offices ORDER BY number"
     }
 }
 
@@ -50,7 +47,7 @@ impl Whole for StaffRow {
     ghost IsUnder = { IsKnown };
 
     fn every_text() -> &'static str {
-        "SELECT office, number, name, role FROM staff ORDER BY +office, +number"
+        "SELECT office, number, name, role FROM staff ORDER BY office, number"
     }
 }
 
@@ -65,7 +62,7 @@ impl Whole for ClientRow {
     ghost IsUnder = { IsKnown };
 
     fn every_text() -> &'static str {
-        "SELECT office, number, name FROM clients ORDER BY +office, +number"
+        "SELECT office, number, name FROM clients ORDER BY office, number"
     }
 }
 
@@ -80,7 +77,7 @@ impl Whole for ChargeRow {
     ghost IsUnder = { IsKnown };
 
     fn every_text() -> &'static str {
-        "SELECT number, name, kind, calc, value FROM charges ORDER BY +number"
+        "SELECT number, name, kind, calc, value FROM charges ORDER BY number"
     }
 }
 
@@ -95,7 +92,7 @@ impl Whole for ProductRow {
     ghost IsUnder = { IsKnown };
 
     fn every_text() -> &'static str {
-        "SELECT number, name, method, rate, frequency, every, principal_grace, interest_grace, min_principal, max_principal, min_periods, max_periods, strategy, disbursement_charge, instalment_charge, overdue_charge, retired FROM products ORDER BY +number"
+        "SELECT number, name, method, rate, frequency, every, principal_grace, interest_grace, min_principal, max_principal, min_periods, max_periods, strategy, disbursement_charge, instalment_charge, overdue_charge, retired FROM products ORDER BY number"
     }
 }
 
@@ -110,7 +107,7 @@ impl Whole for LoanRow {
     ghost IsUnder = { IsKnown };
 
     fn every_text() -> &'static str {
-        "SELECT office, number, client, product, principal, periods, stage, approved, disbursed FROM loans ORDER BY +office, +number"
+        "SELECT office, number, client, product, principal, periods, stage, approved, disbursed FROM loans ORDER BY office, number"
     }
 }
 
@@ -125,7 +122,7 @@ impl Whole for EntryRow {
     ghost IsUnder = { IsKnown };
 
     fn every_text() -> &'static str {
-        "SELECT office, loan, seq, kind, day, amount, instalment, portion, receipt, staff, reversed FROM entries ORDER BY +office, +loan, +seq"
+        "SELECT office, loan, seq, kind, day, amount, instalment, portion, receipt, staff, reversed FROM entries ORDER BY office, loan, seq"
     }
 }
 
@@ -140,7 +137,7 @@ impl Whole for ReceiptRow {
     ghost IsUnder = { IsKnown };
 
     fn every_text() -> &'static str {
-        "SELECT office, receipt, loan, seq FROM receipts ORDER BY +office, +receipt"
+        "SELECT office, receipt, loan, seq FROM receipts ORDER BY office, receipt"
     }
 }
 
@@ -155,7 +152,7 @@ impl Whole for InstalmentRow {
     ghost IsUnder = { IsPresent };
 
     fn every_text() -> &'static str {
-        "SELECT office, loan, number, due, owed_penalty, paid_penalty, waived_penalty, written_off_penalty, owed_fee, paid_fee, waived_fee, written_off_fee, owed_interest, paid_interest, waived_interest, written_off_interest, owed_principal, paid_principal, waived_principal, written_off_principal FROM instalments ORDER BY +office, +loan, +number"
+        "SELECT office, loan, number, due, owed_penalty, paid_penalty, waived_penalty, written_off_penalty, owed_fee, paid_fee, waived_fee, written_off_fee, owed_interest, paid_interest, waived_interest, written_off_interest, owed_principal, paid_principal, waived_principal, written_off_principal FROM instalments ORDER BY office, loan, number"
     }
 }
 
@@ -170,6 +167,6 @@ impl Whole for ShareRow {
     ghost IsUnder = { IsPresent };
 
     fn every_text() -> &'static str {
-        "SELECT office, loan, seq, place, instalment, portion, how, amount FROM shares ORDER BY +office, +loan, +seq, +place"
+        "SELECT office, loan, seq, place, instalment, portion, how, amount FROM shares ORDER BY office, loan, seq, place"
     }
 }

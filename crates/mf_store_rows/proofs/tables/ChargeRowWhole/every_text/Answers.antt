@@ -1,5 +1,4 @@
 use Rattle.std.proofs.Common.{inl, inr, [], refl}
-use Rattle.sqlite_sql.specs.Ops.{binary}
 use Rattle.mf_store_records.specs.Tables.{charges}
 use Rattle.mf_store_records.specs.Rows.{by_charge, charge_row}
 use Rattle.mf_store_records.proofs.ReadLemmas.{charge_key, charge_ranks}
@@ -11,5 +10,4 @@ pub returns-clause-plain : goal.returns-clause-plain
 returns-clause-plain c = plain_known charges _ _ asks_charge first_asks_charge
 
 pub returns-clause-shows : goal.returns-clause-shows
-unfolding binary
 returns-clause-shows c = shows_known charge_row by_charge charges (inr (inr (inr (inr (inl refl))))) (inr (inr (inr (inr (inl refl))))) refl _ _ asks_charge first_asks_charge (λ t. refl) charge_key (λ id x. refl) (charge_ranks [])

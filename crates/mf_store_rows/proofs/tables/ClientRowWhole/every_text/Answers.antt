@@ -1,5 +1,4 @@
 use Rattle.std.proofs.Common.{inl, inr, [], refl}
-use Rattle.sqlite_sql.specs.Ops.{binary}
 use Rattle.mf_store_records.specs.Tables.{clients}
 use Rattle.mf_store_records.specs.Rows.{by_client, client_row}
 use Rattle.mf_store_records.proofs.ReadLemmas.{client_key, client_ranks}
@@ -11,5 +10,4 @@ pub returns-clause-plain : goal.returns-clause-plain
 returns-clause-plain c = plain_known clients _ _ asks_client first_asks_client
 
 pub returns-clause-shows : goal.returns-clause-shows
-unfolding binary
 returns-clause-shows c = shows_known client_row by_client clients (inr (inr (inr (inl refl)))) (inr (inr (inr (inl refl)))) refl _ _ asks_client first_asks_client (λ t. refl) client_key (λ id x. refl) (client_ranks [])

@@ -1,5 +1,4 @@
 use Rattle.std.proofs.Common.{inl, inr, [], refl}
-use Rattle.sqlite_sql.specs.Ops.{binary}
 use Rattle.mf_store_records.specs.Tables.{entries}
 use Rattle.mf_store_records.specs.Rows.{by_entry, entry_row}
 use Rattle.mf_store_records.proofs.ReadLemmas.{entry_key, entry_ranks}
@@ -11,5 +10,4 @@ pub returns-clause-plain : goal.returns-clause-plain
 returns-clause-plain c = plain_known entries _ _ asks_entry first_asks_entry
 
 pub returns-clause-shows : goal.returns-clause-shows
-unfolding binary
 returns-clause-shows c = shows_known entry_row by_entry entries (inr (inr (inr (inr (inr (inr (inr (inl refl)))))))) (inr (inr (inr (inr (inr (inr (inr (inl refl)))))))) refl _ _ asks_entry first_asks_entry (λ t. refl) entry_key (λ id x. refl) (entry_ranks [])

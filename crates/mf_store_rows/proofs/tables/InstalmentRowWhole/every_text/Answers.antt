@@ -1,6 +1,5 @@
 use Rattle.std.proofs.Common.{inl, inr, [], refl, subst}
 use Rattle.sqlite_catalog.specs.Listing.{IsSound}
-use Rattle.sqlite_sql.specs.Ops.{binary}
 use Rattle.mf_store_records.specs.Tables.{schema, instalments}
 use Rattle.mf_store_records.specs.Rows.{by_instalment, instalment_row}
 use Rattle.mf_store_records.proofs.ReadLemmas.{instalment_key, instalment_ranks}
@@ -12,5 +11,4 @@ pub returns-clause-plain : goal.returns-clause-plain
 returns-clause-plain c = plain_present instalments _ _ asks_instalment
 
 pub returns-clause-shows : goal.returns-clause-shows
-unfolding binary
 returns-clause-shows c db rows is sound = shows_table instalment_row by_instalment schema instalments (inr (inr (inr (inr (inr (inr (inr (inr (inr (inl refl)))))))))) refl _ _ asks_instalment (λ t. refl) instalment_key (λ id x. refl) (instalment_ranks []) db rows is (subst (λ k. IsSound k db.trees) is sound)
