@@ -108,8 +108,9 @@ def damage_of_log(path):
 
     The program, as SQLite does, reads a log up to the first frame whose sums are wrong, and takes what follows for a
     commit that a stop has torn. But each commit is on the disk before the next begins, so that only the last one can
-    be torn: whatever was written with the same salts after another one's end tells of damage. A header that is wrong
-    stands after a stop too, but only while its first byte is 0, which is written last.
+    be torn: a frame that goes on from another commit's end, by its sums, tells of damage. One that stands there without
+    going on is left of a longer commit that an earlier stop has torn. A header that is wrong stands after a stop too,
+    but only while its first byte is 0, which is written last.
     """
     try:
         with open(path + "-wal", "rb") as file:
@@ -126,16 +127,18 @@ def damage_of_log(path):
         return "its header is damaged, and nothing of it would count" if is_written else None
     starts = range(HEADER, len(log) - FRAME - page + 1, FRAME + page)
     heads = [struct.unpack_from(">6I", log, at) for at in starts]
+
+    def goes_on(number, before):
+        at = starts[number]
+        found = sums(log[at + FRAME : at + FRAME + page], sums(log[at : at + 8], before, order), order)
+        return heads[number][2:] == (*salts, *found)
+
     whole = 0
-    for at, head in zip(starts, heads):
-        found = sums(log[at + FRAME : at + FRAME + page], sums(log[at : at + 8], found, order), order)
-        if head[2:4] != salts or found != head[4:]:
-            break
+    while whole < len(heads) and goes_on(whole, heads[whole - 1][4:] if whole else found):
         whole += 1
-    ours = [number for number in range(whole, len(heads)) if heads[number][2:4] == salts]
-    ends = [number for number in ours if heads[number][1]]
-    if ends and ours[-1] > ends[0]:
-        return f"its frame {whole + 1} of {ours[-1] + 1} is damaged, and nothing from there on would count"
+    for number in range(whole, len(heads) - 1):
+        if heads[number][1] and heads[number][2:4] == salts and goes_on(number + 1, heads[number][4:]):
+            return f"its frame {whole + 1} of {len(heads)} is damaged, and nothing from there on would count"
     return None
 
 
