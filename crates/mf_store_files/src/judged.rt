@@ -39,7 +39,7 @@ type Books = (Entered, (Vec<InstalmentRow>, Vec<ShareRow>));
 /// What the tables hold, and none where they hold nothing that records can hold. The error is F20.
 ///
 /// The clauses on what is read speak of a connection whose tables are this program's, whatever rows stand there.
-fn read_tables<S: Alter, P: Progress>(
+pub fn read_tables<S: Alter, P: Progress>(
     alloc: Global,
     connection: &mut Connection<S>,
     progress: &mut P,
@@ -106,7 +106,7 @@ pub(crate) fn holds_sound<S: Alter, P: Progress>(
 /// error is F20.
 ///
 /// The clauses on what is read speak of a connection whose tables are those of the first schema, whatever rows stand there.
-fn read_first_tables<S: Alter, P: Progress>(
+pub fn read_first_tables<S: Alter, P: Progress>(
     alloc: Global,
     connection: &mut Connection<S>,
     progress: &mut P,

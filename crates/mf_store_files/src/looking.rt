@@ -1,10 +1,11 @@
 //! What a file holds, told without changing what it holds.
 
-ghost use Rattle.std.specs.Prelude.{◌≡◌, IfOk};
+ghost use Rattle.std.specs.Prelude.{◌≡◌, IfOk, false};
 ghost use Rattle.sqlite.specs.Files.{file_state, HoldsDatabase};
 ghost use Rattle.sqlite.specs.State.{HasCleanDisk};
 ghost use Rattle.sqlite.specs.Tree.{Trees};
 ghost use Rattle.sqlite_wal.specs.Files.{image_at};
+ghost use Rattle.mf_store_files.specs.Opened.{ShowsFile};
 ghost use Rattle.mf_store_files.specs.Told.{IsToldOfFile, finding_of};
 
 use crate::files::connect;
@@ -66,6 +67,22 @@ fn found(contents: Contents) -> Finding
     }
 }
 
+/// A connection to the file at a path, where `start` stands for what the file held. A file that is missing is made, and an empty one
+/// made a database without tables, so the caller sees first that there is one.
+pub fn reach<S: Start>(
+    rt: &HostRuntime,
+    path: &str,
+    start: S,
+) -> Result<Connection<FileStore<FileFrom<S>>>, Finding>
+    ensures shows { IfOk result (λ c. HasCleanDisk (file_state c) → ShowsFile (image_at S.Start) (file_state c)) }
+    ensures alone { IfOk result (λ c. c.in_transaction ≡ false) }
+{
+    match connect(rt, path, start) {
+        Ok(connection) => Ok(connection),
+        Err(error) => Err(why_unopened(error)),
+    }
+}
+
 /// What the file at a path holds, with the connection that was asked, where `start` stands for what the file held. What it holds isn't
 /// changed; a file that is missing is made, and an empty one made a database without tables, so the caller sees first that there is one.
 pub fn look_with<S: Start>(
@@ -77,9 +94,9 @@ pub fn look_with<S: Start>(
     ensures leaves { IfOk result (λ seen. HasCleanDisk (file_state seen.1) → (trees : Trees) → HoldsDatabase (image_at S.Start) trees
         → (left : Trees) → (file_state seen.1).may_leave left → left ≡ trees) }
 {
-    let mut connection = match connect(rt, path, start) {
+    let mut connection = match reach(rt, path, start) {
         Ok(connection) => connection,
-        Err(error) => return Err(why_unopened(error)),
+        Err(finding) => return Err(finding),
     };
     match judge(rt.alloc(), &mut connection) {
         Ok(contents) => Ok((contents, connection)),

@@ -248,21 +248,21 @@ const INDEXES: [IndexWords; 12] = [
 ];
 
 /// Whether a schema has no table, no index and no view.
-pub(crate) fn has_no_tables(found: &Schema) -> bool
+pub fn has_no_tables(found: &Schema) -> bool
     ensures { IsTrue result ↔ (found.now ≡ no_schema) }
 {
     found.tables.is_empty() && found.indexes.is_empty() && found.views.is_empty()
 }
 
 /// Whether a schema is today's.
-pub(crate) fn is_present(found: &Schema) -> bool
+pub fn is_present(found: &Schema) -> bool
     ensures { IsTrue result ↔ (found.now ≡ schema) }
 {
     is_schema(found, &TABLES, &INDEXES)
 }
 
 /// Whether a schema is the first.
-pub(crate) fn is_first(found: &Schema) -> bool
+pub fn is_first(found: &Schema) -> bool
     ensures { IsTrue result ↔ (found.now ≡ first_schema) }
 {
     is_schema(found, &TABLES[..9], &INDEXES[..10])

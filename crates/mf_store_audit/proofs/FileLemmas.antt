@@ -1,0 +1,49 @@
+-- What is said of a connection that shows a file is said of the database that the file held.
+use Rattle.std.proofs.Common.{◌≡◌, inl, inr, [], refl, sym, ap, ◌∙◌, subst}
+use Rattle.sqlite.specs.Effect.{Database}
+use Rattle.sqlite.specs.Files.{HoldsDatabase}
+use Rattle.sqlite.specs.Schema.{Schema}
+use Rattle.sqlite.specs.State.{State}
+use Rattle.sqlite.specs.Tree.{Trees}
+use Rattle.sqlite_catalog.specs.Listing.{IsSound}
+use Rattle.sqlite_wal.specs.Recovery.{Image}
+use Rattle.mf_store_tables.specs.Tables.{no_schema}
+use Rattle.mf_store_records.specs.Tables.{schema}
+use Rattle.mf_store_rows.specs.Schemas.{first_schema, IsKnown}
+use Rattle.mf_store_files.specs.Opened.{ShowsFile}
+use Rattle.mf_store_files.proofs.OpenedLemmas.{under, seen}
+use Rattle.mf_store_audit.specs.Audits.{IsAuditOf, IsAuditOfFile}
+use Rattle.mf_store_audit.specs.declared.audits.Audit.{Audit}
+use Rattle.mf_store_audit.specs.declared.audits.Audit.TheVariants.{NoTables, OtherTables, Sound, Unsound, Unreadable}
+
+module _ (image : Image) (s : State) (shows : ShowsFile image s) (trees : Trees) (k : Schema) (holds : HoldsDatabase image trees) (sound : IsSound k trees) where
+  abbrev held : Database
+  held = record { schema = k; trees = trees }
+
+  -- a connection with the program's tables, or with none, shows just the database that was held
+  is_held : (own : Schema) → own.views ≡ [] → s.now.schema ≡ own → s.now ≡ held
+  is_held own bare is =
+      let same = seen image s shows trees k holds sound (ap (λ (x : Schema). x.views) is ∙ bare) in
+      λ t. record { schema = sym same t; trees = shows.holds trees holds t }
+
+  was_seen : (own : Schema) → own.views ≡ [] → k ≡ own → s.now.schema ≡ own
+  was_seen own bare is = ap (λ (db : Database). db.schema) (under image s shows k (ap (λ (x : Schema). x.views) is ∙ bare) trees holds sound) ∙ is
+
+  as_known : IsKnown k → IsKnown s.now.schema
+  as_known (inl present) = inl (was_seen schema refl present)
+  as_known (inr first) = inr (was_seen first_schema refl first)
+
+  known_is_held : IsKnown s.now.schema → s.now ≡ held
+  known_is_held (inl present) = is_held schema refl present
+  known_is_held (inr first) = is_held first_schema refl first
+
+  told_of : (audit : Audit) → IsAuditOf s.now audit → IsAuditOf held audit
+  told_of NoTables told = subst (λ db. IsAuditOf db NoTables) (is_held no_schema refl told) told
+  told_of OtherTables told = (λ none. told.0 (was_seen no_schema refl none), λ known. told.1 (as_known known))
+  told_of (Sound n sums) told = subst (λ db. IsAuditOf db (Sound n sums)) (known_is_held (elim told.has [ inl present ↦ inl present.1 | inr first ↦ inr first.1 ])) told
+  told_of (Unsound n rows findings) told = subst (λ db. IsAuditOf db (Unsound n rows findings)) (known_is_held (elim told.1 [ inl present ↦ inl present.1 | inr first ↦ inr first.1 ])) told
+  told_of (Unreadable n unread) told = subst (λ db. IsAuditOf db (Unreadable n unread)) (known_is_held told.0) told
+
+module _ (image : Image) (s : State) (shows : ShowsFile image s) where
+  pub audit_of_file : (audit : Audit) → IsAuditOf s.now audit → IsAuditOfFile image audit
+  audit_of_file audit told = record { tables = λ trees k holds sound. told_of image s shows trees k holds sound audit told }

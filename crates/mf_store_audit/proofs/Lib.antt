@@ -1,0 +1,3 @@
+pub mod AuditLemmas
+pub mod KeptLemmas
+pub mod FileLemmas
