@@ -1,6 +1,7 @@
 //! The loan desk's program: reads its words, and does what they ask for.
 #![tactic(auto)]
 
+mod auditing;
 mod following;
 mod places;
 mod telling;
@@ -13,6 +14,7 @@ ghost use Rattle.microloan_words.specs.Asked.{IsWithinLimits, IsServeWithinLimit
 ghost use Rattle.microloan_commands.specs.Printed.{HasLongGrace};
 ghost use Rattle.microloan.specs.Status.{IsPrintStatus};
 
+use crate::auditing::say_audit;
 use crate::following::Following;
 use crate::places::place_at;
 use crate::telling::{
@@ -59,6 +61,7 @@ fn obey(rt: &HostRuntime, words: &[String]) -> u8 {
         Ok(Command::Report(asked)) => work_as(rt, &asked, Work::Report(asked.staff)),
         Ok(Command::Schedule(asked)) => print_schedule(rt, &asked),
         Ok(Command::Why(asked)) => say_why(rt, asked.file.as_str()),
+        Ok(Command::Audit(asked)) => say_audit(rt, asked.file.as_str(), asked.all),
         Err(words) => refuse_words(rt, words),
     }
 }

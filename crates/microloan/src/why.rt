@@ -56,7 +56,7 @@ fn is_torn(found: Finding) -> bool {
 }
 
 /// What is said of a place where there is nothing to look into.
-fn words_of_place(place: Place) -> &'static str {
+pub fn words_of_place(place: Place) -> &'static str {
     match place {
         Place::Missing => "there is no file; a new institution would be made",
         Place::Empty => "an empty file; a new institution would be made",
@@ -75,7 +75,7 @@ fn words_of_place(place: Place) -> &'static str {
 }
 
 /// What is said of what was found in a database.
-fn words_of(found: Finding) -> &'static str {
+pub fn words_of(found: Finding) -> &'static str {
     match found {
         Finding::NoMemory => "out of memory",
         Finding::Locked => "another process has it open",

@@ -14,11 +14,12 @@ use Rattle.microloan_words.specs.declared.asked.BatchWords.{BatchWords}
 use Rattle.microloan_words.specs.declared.asked.ServeWords.{ServeWords}
 use Rattle.microloan_words.specs.declared.asked.StaffWords.{StaffWords}
 use Rattle.microloan_words.specs.declared.asked.FileWords.{FileWords}
+use Rattle.microloan_words.specs.declared.asked.AuditWords.{AuditWords}
 use Rattle.microloan_words.specs.declared.asked.ScheduleWords.{ScheduleWords}
 use Rattle.microloan_words.specs.declared.asked.Words.{Words}
 use Rattle.microloan_words.specs.declared.asked.Words.TheVariants.{Bad, Help, Version, Memory}
 use Rattle.microloan_words.specs.declared.asked.Command.{Command}
-use Rattle.microloan_words.specs.declared.asked.Command.TheVariants.{Batch, Serve, Collect, Report, Schedule, Why}
+use Rattle.microloan_words.specs.declared.asked.Command.TheVariants.{Batch, Serve, Collect, Report, Schedule, Why, Audit}
 
 -- the option's text is this number in decimal digits, and the number lies in its limits
 pub record IsNumberAt (rows : List Row) (id : Text) (least greatest number : ℕ) : Type 0 where
@@ -88,6 +89,11 @@ pub record AreStaffWords (rows : List Row) (asked : StaffWords) : Type 0 where
 pub record AreFileWords (rows : List Row) (asked : FileWords) : Type 0 where
   pub file : first_of (codes "file") rows ≡ Some asked.file
 
+-- the options of `audit`
+pub record AreAuditWords (rows : List Row) (asked : AuditWords) : Type 0 where
+  pub file : first_of (codes "file") rows ≡ Some asked.file
+  pub all : first_of (codes "all") rows ≡ Some (flag_text asked.all)
+
 -- the options of `schedule`
 pub record AreScheduleWords (rows : List Row) (asked : ScheduleWords) : Type 0 where
   pub method : first_of (codes "method") rows ≡ Some (method_name asked.method)
@@ -127,6 +133,7 @@ HasLimits (Collect asked) = IsCaller asked.staff
 HasLimits (Report asked) = IsCaller asked.staff
 HasLimits (Schedule asked) = IsWithinLimits asked
 HasLimits (Why asked) = Unit {0}
+HasLimits (Audit asked) = Unit {0}
 
 -- the name of a command
 abbrev pub name_of : Command → Text
@@ -136,6 +143,7 @@ name_of (Collect asked) = codes "collect"
 name_of (Report asked) = codes "report"
 name_of (Schedule asked) = codes "schedule"
 name_of (Why asked) = codes "why"
+name_of (Audit asked) = codes "audit"
 
 -- the options are those of the command
 abbrev pub AreWords : List Row → Command → Type 0
@@ -145,6 +153,7 @@ AreWords rows (Collect asked) = AreStaffWords rows asked
 AreWords rows (Report asked) = AreStaffWords rows asked
 AreWords rows (Schedule asked) = AreScheduleWords rows asked
 AreWords rows (Why asked) = AreFileWords rows asked
+AreWords rows (Audit asked) = AreAuditWords rows asked
 
 -- what a command and its options ask for, where `clap` found them
 abbrev pub IsAskedIn : Option (Text × List Row) → Command → Type 0

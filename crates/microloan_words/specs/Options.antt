@@ -67,6 +67,10 @@ staff_app name = app_with name (required_rule (codes "file") ∷ required_rule (
 abbrev pub file_app : Text → App
 file_app name = app_with name (required_rule (codes "file") ∷ [])
 
+-- `audit` with its options
+abbrev pub audit_app : App
+audit_app = app_with (codes "audit") (required_rule (codes "file") ∷ flag_rule (codes "all") ∷ [])
+
 -- `schedule` with its options
 abbrev pub schedule_app : App
 schedule_app = app_with (codes "schedule") (
@@ -94,4 +98,4 @@ desk_app = with_subcommand (with_subcommand (with_subcommand (with_subcommand ba
 
 -- the program with its commands
 abbrev pub microloan_app : App
-microloan_app = with_subcommand (with_subcommand desk_app schedule_app.top) (file_app (codes "why")).top
+microloan_app = with_subcommand (with_subcommand (with_subcommand desk_app schedule_app.top) (file_app (codes "why")).top) audit_app.top

@@ -19,6 +19,8 @@ pub enum Command<'a> {
     Schedule(ScheduleWords),
     /// Say what stands in a file, and whether it would be opened.
     Why(FileWords<'a>),
+    /// Say what the institution in a file comes to, or which row of it breaks which condition.
+    Audit(AuditWords<'a>),
 }
 
 /// The path of a file, as it stands in the words. Contracts see its bytes.
@@ -97,6 +99,15 @@ pub struct StaffWords<'a> {
 pub struct FileWords<'a> {
     /// The file that may hold an institution.
     pub file: FilePath<'a>,
+}
+
+/// The options of `audit`.
+#[derive(Drop)]
+pub struct AuditWords<'a> {
+    /// The file that may hold an institution.
+    pub file: FilePath<'a>,
+    /// Whether each row that breaks a condition is told, and not the first alone.
+    pub all: bool,
 }
 
 /// The options of `schedule`.

@@ -6,7 +6,9 @@ ghost use Rattle.microloan_words.specs.declared.asked.Command.{Command};
 
 use crate::asked::{Command, Words};
 use crate::options::microloan_command;
-use crate::reading::{batch_words, file_words, schedule_words, serve_words, staff_words};
+use crate::reading::{
+    audit_words, batch_words, file_words, schedule_words, serve_words, staff_words,
+};
 use crate::refusal::{no_command, refused_by_clap, wrong_option};
 use clap::error::ErrorKind;
 use clap::{ArgMatches, Error};
@@ -85,6 +87,15 @@ fn why_asked<'a>(alloc: Global, options: &ArgMatches<'a>) -> Result<Command<'a>,
     }
 }
 
+fn audit_asked<'a>(alloc: Global, options: &ArgMatches<'a>) -> Result<Command<'a>, Words>
+    ensures { Reads (Some (codes "audit", rows_of (found_of options.now))) result }
+{
+    match audit_words(options) {
+        Ok(asked) => Ok(Command::Audit(asked)),
+        Err(wrong) => Err(wrong_option(alloc, "audit", wrong)),
+    }
+}
+
 /// What the command asks for that `clap` found.
 fn command_asked<'a>(alloc: Global, matches: &ArgMatches<'a>) -> Result<Command<'a>, Words>
     ensures { Reads (subcommand_rows_of matches.now) result }
@@ -104,8 +115,11 @@ fn command_asked<'a>(alloc: Global, matches: &ArgMatches<'a>) -> Result<Command<
     if let Some(options) = options_of(matches, "schedule") {
         return schedule_asked(alloc, options);
     }
-    match options_of(matches, "why") {
-        Some(options) => why_asked(alloc, options),
+    if let Some(options) = options_of(matches, "why") {
+        return why_asked(alloc, options);
+    }
+    match options_of(matches, "audit") {
+        Some(options) => audit_asked(alloc, options),
         None => Err(no_command(alloc)),
     }
 }

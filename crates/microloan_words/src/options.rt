@@ -1,14 +1,14 @@
 ghost use Rattle.std.specs.Prelude.{◌≡◌, codes, IfOk, false, fold};
 ghost use Rattle.clap.specs.Words.{App, app_of, rule_of, new_app, with_subcommand};
 ghost use Rattle.clap.specs.declared.Command.TheViews.{out-Command as fields_of};
-ghost use Rattle.microloan_words.specs.Options.{rule_for, with_declared, batch_app, serve_app, staff_app, schedule_app, file_app, bare_app, desk_app, microloan_app};
+ghost use Rattle.microloan_words.specs.Options.{rule_for, with_declared, batch_app, serve_app, staff_app, schedule_app, file_app, audit_app, bare_app, desk_app, microloan_app};
 
 use crate::values::DEFAULT_DAY;
 use clap::{Arg, ArgAction, Command};
 use std::alloc::{AllocError, Global};
 
 /// This release, and the schema of the files that it writes.
-const VERSION: &str = "1.1.0 (schema 2)";
+const VERSION: &str = "1.2.0 (schema 2)";
 
 /// Whether an option must be given, has a text that stands where it isn't, or is a flag.
 pub(crate) enum Need {
@@ -102,6 +102,17 @@ const STAFF_OPTIONS: [CommandOption; 3] = [
 
 /// The options of a command over a file that no member of staff asks for.
 const FILE_OPTIONS: [CommandOption; 1] = [FILE];
+
+/// The options of `audit`.
+const AUDIT_OPTIONS: [CommandOption; 2] = [
+    FILE,
+    CommandOption {
+        id: "all",
+        value_name: "",
+        help: "Tell each row that breaks a condition",
+        need: Need::Flag,
+    },
+];
 
 /// The options of `schedule`.
 const SCHEDULE_OPTIONS: [CommandOption; 9] = [
@@ -307,6 +318,20 @@ fn why_command<'a>(alloc: Global) -> Result<Command<'a>, AllocError>
     with_options(alloc, command, FILE_OPTIONS.as_slice())
 }
 
+/// The command `audit`.
+fn audit_command<'a>(alloc: Global) -> Result<Command<'a>, AllocError>
+    ensures app { IfOk result (λ c. app_of c ≡ audit_app) }
+    ensures local { IfOk result (λ c. (fields_of c).has_globals ≡ false) }
+{
+    let command = described(
+        alloc,
+        "audit",
+        "Check a file, and add up what it holds",
+        "Where the file holds a sound institution, standard output has its clients,\nloans, entries and balances, by office and in all, and the word sound: the\nstatus is 0. Where it doesn't, a line says which row breaks which condition: the\nstatus is 1. Nothing is changed. Audit a copy: the file is held meanwhile.\n\nExample:\n  microloan audit --file copy.db",
+    );
+    with_options(alloc, command, AUDIT_OPTIONS.as_slice())
+}
+
 /// The program with one more command. That may have failed to be made, so that it is this call alone that drops a program.
 fn with_command<'a>(
     program: Command<'a>,
@@ -354,5 +379,6 @@ pub(crate) fn microloan_command<'a>(alloc: Global) -> Result<Command<'a>, AllocE
     ensures local { IfOk result (λ c. (fields_of c).has_globals ≡ false) }
 {
     let program = with_command(desk_program(alloc)?, schedule_command(alloc))?;
-    with_command(program, why_command(alloc))
+    let program = with_command(program, why_command(alloc))?;
+    with_command(program, audit_command(alloc))
 }

@@ -1,16 +1,17 @@
 ghost use Rattle.std.specs.Prelude.{◌≡◌, ◌≤◌, IfOk};
 ghost use Rattle.clap.specs.Words.{found_of, rows_of};
 ghost use Rattle.mf_base.specs.DayText.{last_entered_day};
-ghost use Rattle.microloan_words.specs.Asked.{AreBatchWords, AreServeWords, AreStaffWords, AreFileWords, AreScheduleWords, IsWithinLimits};
+ghost use Rattle.microloan_words.specs.Asked.{AreBatchWords, AreServeWords, AreStaffWords, AreFileWords, AreAuditWords, AreScheduleWords, IsWithinLimits};
 ghost use Rattle.microloan_words.specs.Asked.{IsServeWithinLimits};
 ghost use Rattle.mf_office.specs.Texts.{IsCaller};
 ghost use Rattle.microloan_words.specs.declared.asked.BatchWords.{BatchWords};
 ghost use Rattle.microloan_words.specs.declared.asked.ServeWords.{ServeWords};
 ghost use Rattle.microloan_words.specs.declared.asked.StaffWords.{StaffWords};
 ghost use Rattle.microloan_words.specs.declared.asked.FileWords.{FileWords};
+ghost use Rattle.microloan_words.specs.declared.asked.AuditWords.{AuditWords};
 ghost use Rattle.microloan_words.specs.declared.asked.ScheduleWords.{ScheduleWords};
 
-use crate::asked::{BatchWords, FileWords, ScheduleWords, ServeWords, StaffWords};
+use crate::asked::{AuditWords, BatchWords, FileWords, ScheduleWords, ServeWords, StaffWords};
 use crate::values::{
     MOST_PATIENCE, connections_at, count_at, day_at, file_at, flag_at, frequency_at, method_at,
     number_at, port_at, staff_at,
@@ -23,6 +24,7 @@ use mf_catalog::{GREATEST_AMOUNT, GREATEST_RATE, MOST_GRACE, MOST_PERIODS, longe
 pub(crate) enum Wrong {
     File,
     Existing,
+    All,
     Port,
     Count,
     Patience,
@@ -102,6 +104,16 @@ pub(crate) fn file_words<'a>(options: &ArgMatches<'a>) -> Result<FileWords<'a>, 
 {
     let file = file_at(options).ok_or(Wrong::File)?;
     Ok(FileWords { file })
+}
+
+/// The options of `audit`, or the first that isn't what it should be.
+pub(crate) fn audit_words<'a>(options: &ArgMatches<'a>) -> Result<AuditWords<'a>, Wrong>
+    ensures read { IfOk result (λ asked. AreAuditWords (rows_of (found_of options.now)) asked) }
+    ensures every { (asked : AuditWords) → AreAuditWords (rows_of (found_of options.now)) asked → result ≡ Ok asked }
+{
+    let file = file_at(options).ok_or(Wrong::File)?;
+    let all = flag_at(options, "all").ok_or(Wrong::All)?;
+    Ok(AuditWords { file, all })
 }
 
 /// The options of `schedule`, or the first that isn't what it should be.

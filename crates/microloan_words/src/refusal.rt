@@ -13,6 +13,7 @@ fn wants(wrong: Wrong) -> &'static str {
     match wrong {
         Wrong::File => "--file wants the path of a file",
         Wrong::Existing => "--existing wants the --file that holds the institution",
+        Wrong::All => "--all has no value",
         Wrong::Port => "--port wants a number from 1 to 65535",
         Wrong::Count => "--count wants a number of connections, or 0 for no end",
         Wrong::Patience => "--patience wants a number of seconds from 1 to 3600",
@@ -78,7 +79,7 @@ pub(crate) fn refused_by_clap(alloc: Global, words: &[String], error: &Error) ->
         },
         ErrorKind::MissingSubcommand => {
             bad(format!(in alloc;
-                "microloan: name a command: batch, serve, collect, report, schedule or why; see 'microloan --help'"
+                "microloan: name a command: batch, serve, collect, report, schedule, why or audit; see 'microloan --help'"
             ))
         }
         _ => bad(one_line(alloc, words, error)),
@@ -95,6 +96,7 @@ fn help_on(words: &[String]) -> &'static str {
         "report" => "microloan report --help",
         "schedule" => "microloan schedule --help",
         "why" => "microloan why --help",
+        "audit" => "microloan audit --help",
         _ => "microloan --help",
     }
 }

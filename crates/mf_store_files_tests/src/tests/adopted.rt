@@ -6,7 +6,9 @@ use super::{Trial, answered_over, holds, refused_over};
 use mf_base::{Day, Fault};
 use mf_office::OfficeNo;
 use mf_store::Store;
+use mf_store_audit::audit_tables;
 use mf_store_files::{Unfollowed, adopt};
+use microloan_audit::audit_text;
 use sqlite::{Alter, Connection, Error};
 use std::alloc::Global;
 use std::rt::HostRuntime;
@@ -37,86 +39,295 @@ const MORE: &str = "\
 1/1 POST /clients {\"office\":3,\"name\":\"Omar\"}\n\
 1/1 POST /loans/0001-000001/repayments {\"amount\":32000,\"day\":\"2024-03-31\"}\n";
 
-/// Changes of a row, each of which leaves what no institution has, and of how many rows.
-const CHANGES: [(&str, usize); 52] = [
-    ("DELETE FROM meta", 1),
-    ("UPDATE meta SET schema = 1", 1),
-    ("UPDATE meta SET schema = 3", 1),
-    ("UPDATE meta SET day = '2024-02-30'", 1),
-    ("UPDATE meta SET day = '2100-01-01'", 1),
-    ("UPDATE meta SET day = '2024-03-30'", 1),
-    ("UPDATE offices SET parent = 2 WHERE number = 1", 1),
-    ("UPDATE offices SET parent = 77 WHERE number = 2", 1),
-    ("UPDATE offices SET parent = 2 WHERE number = 2", 1),
-    ("UPDATE offices SET hkey = '.3.' WHERE number = 2", 1),
-    ("UPDATE offices SET name = '' WHERE number = 2", 1),
-    ("UPDATE staff SET role = 4 WHERE office = 2", 1),
-    ("UPDATE staff SET role = 4294967297 WHERE office = 2", 1),
-    ("UPDATE staff SET number = 2 WHERE office = 2", 1),
-    ("INSERT INTO staff VALUES (77, 1, 'Ghost', 1)", 1),
-    ("UPDATE clients SET number = 2", 1),
-    ("UPDATE clients SET number = -1", 1),
-    ("UPDATE clients SET office = 77", 1),
-    ("UPDATE charges SET number = 2", 1),
-    ("UPDATE charges SET kind = 5", 1),
-    ("UPDATE charges SET value = 0", 1),
-    ("UPDATE products SET overdue_charge = 1", 1),
-    ("UPDATE products SET overdue_charge = 2", 1),
-    ("UPDATE products SET rate = 100001", 1),
-    ("UPDATE products SET min_principal = 1000001", 1),
-    ("UPDATE products SET retired = 2", 1),
-    ("UPDATE loans SET number = 2", 1),
-    ("UPDATE loans SET principal = 1000001", 1),
-    ("UPDATE loans SET periods = 13", 1),
-    ("UPDATE loans SET client = 2", 1),
-    ("UPDATE loans SET product = 2", 1),
-    ("UPDATE loans SET stage = 250", 1),
-    ("UPDATE loans SET stage = 200, disbursed = NULL", 1),
-    ("UPDATE loans SET disbursed = NULL", 1),
-    ("UPDATE loans SET approved = '2024-02-02'", 1),
-    ("UPDATE loans SET disbursed = '2024-03-01'", 1),
-    ("UPDATE entries SET seq = 9 WHERE seq = 2", 1),
-    ("UPDATE entries SET kind = 7 WHERE seq = 2", 1),
-    ("UPDATE entries SET amount = 0 WHERE seq = 2", 1),
-    ("UPDATE entries SET day = '2024-01-31' WHERE seq = 1", 1),
-    ("UPDATE entries SET day = '2024-04-01' WHERE seq = 2", 1),
-    ("UPDATE entries SET staff = '1/9' WHERE seq = 2", 1),
-    ("UPDATE entries SET reversed = 1 WHERE seq = 2", 1),
-    ("UPDATE entries SET receipt = 'R-2' WHERE seq = 2", 1),
-    ("DELETE FROM receipts", 1),
-    ("UPDATE receipts SET seq = 2", 1),
+/// Changes of a row, each of which leaves what no institution has, of how many rows, and what an audit says of them.
+const CHANGES: [(&str, usize, &str); 52] = [
+    ("DELETE FROM meta", 1, "meta: 0 rows, and not one"),
+    (
+        "UPDATE meta SET schema = 1",
+        1,
+        "meta: its schema is not that of these tables",
+    ),
+    (
+        "UPDATE meta SET schema = 3",
+        1,
+        "meta: its schema is not that of these tables",
+    ),
+    (
+        "UPDATE meta SET day = '2024-02-30'",
+        1,
+        "meta: its business day is no day up to 2099-12-31",
+    ),
+    (
+        "UPDATE meta SET day = '2100-01-01'",
+        1,
+        "meta: its business day is no day up to 2099-12-31",
+    ),
+    (
+        "UPDATE meta SET day = '2024-03-30'",
+        1,
+        "entries 0001-000001 entry 2: its day is after the business day",
+    ),
+    (
+        "UPDATE offices SET parent = 2 WHERE number = 1",
+        1,
+        "offices 1: the head office has a parent, 2",
+    ),
+    (
+        "UPDATE offices SET parent = 77 WHERE number = 2",
+        1,
+        "offices 2: its parent 77 is not there",
+    ),
+    (
+        "UPDATE offices SET parent = 2 WHERE number = 2",
+        1,
+        "offices 2: hierarchy text \".2.\", its parent gives \".2.2.\"",
+    ),
+    (
+        "UPDATE offices SET hkey = '.3.' WHERE number = 2",
+        1,
+        "offices 2: hierarchy text \".3.\", its parent gives \".2.\"",
+    ),
+    (
+        "UPDATE offices SET name = '' WHERE number = 2",
+        1,
+        "offices 2: its name is not 1 to 100 characters, none of them a control character",
+    ),
+    (
+        "UPDATE staff SET role = 4 WHERE office = 2",
+        1,
+        "staff 2/1: its role is not 1 to 3",
+    ),
+    (
+        "UPDATE staff SET role = 4294967297 WHERE office = 2",
+        1,
+        "staff 2 1: a number that is not 0 to 4294967295, or a text that is not UTF-8",
+    ),
+    (
+        "UPDATE staff SET number = 2 WHERE office = 2",
+        1,
+        "staff 2/2: its number is not the next after that of the row before it",
+    ),
+    (
+        "INSERT INTO staff VALUES (77, 1, 'Ghost', 1)",
+        1,
+        "staff 77/1: its office is not there",
+    ),
+    (
+        "UPDATE clients SET number = 2",
+        1,
+        "clients 0001-000002: its number is not the next after that of the row before it",
+    ),
+    (
+        "UPDATE clients SET number = -1",
+        1,
+        "clients 1 -1: a number that is not 0 to 4294967295, or a text that is not UTF-8",
+    ),
+    (
+        "UPDATE clients SET office = 77",
+        1,
+        "clients 0077-000001: its office is not there",
+    ),
+    (
+        "UPDATE charges SET number = 2",
+        1,
+        "charges 2: its number is not the next after that of the row before it",
+    ),
+    (
+        "UPDATE charges SET kind = 5",
+        1,
+        "charges 1: its kind is not 1 to 4",
+    ),
+    (
+        "UPDATE charges SET value = 0",
+        1,
+        "charges 1: its value is not 1 to 1000000000000 cents, or 1 to 10000 hundredths of a percent",
+    ),
+    (
+        "UPDATE products SET overdue_charge = 1",
+        1,
+        "products 1: its charge for an overdue instalment is not there, or is of another kind",
+    ),
+    (
+        "UPDATE products SET overdue_charge = 2",
+        1,
+        "products 1: its charge for an overdue instalment is not there, or is of another kind",
+    ),
+    (
+        "UPDATE products SET rate = 100001",
+        1,
+        "products 1: its rate is above 100000 hundredths of a percent",
+    ),
+    (
+        "UPDATE products SET min_principal = 1000001",
+        1,
+        "products 1: its least principal is above its greatest",
+    ),
+    (
+        "UPDATE products SET retired = 2",
+        1,
+        "products 1: it is neither retired (1) nor not (0)",
+    ),
+    (
+        "UPDATE loans SET number = 2",
+        1,
+        "loans 0001-000002: its number is not the next after that of the row before it",
+    ),
+    (
+        "UPDATE loans SET principal = 1000001",
+        1,
+        "loans 0001-000001: its product lends at most 1000000 cents",
+    ),
+    (
+        "UPDATE loans SET periods = 13",
+        1,
+        "loans 0001-000001: its product lends at most 12 periods",
+    ),
+    (
+        "UPDATE loans SET client = 2",
+        1,
+        "loans 0001-000001: its client 2 is not there",
+    ),
+    (
+        "UPDATE loans SET product = 2",
+        1,
+        "loans 0001-000001: its product 2 is not there",
+    ),
+    (
+        "UPDATE loans SET stage = 250",
+        1,
+        "loans 0001-000001: its status 250 is none",
+    ),
+    (
+        "UPDATE loans SET stage = 200, disbursed = NULL",
+        1,
+        "entries 0001-000001 entry 1: its loan is not disbursed",
+    ),
+    (
+        "UPDATE loans SET disbursed = NULL",
+        1,
+        "loans 0001-000001: its day of disbursement does not fit its status, or is no day",
+    ),
+    (
+        "UPDATE loans SET approved = '2024-02-02'",
+        1,
+        "loans 0001-000001: its days are out of order, or after the business day",
+    ),
+    (
+        "UPDATE loans SET disbursed = '2024-03-01'",
+        1,
+        "entries 0001-000001 entry 1: its day is before its loan's disbursement",
+    ),
+    (
+        "UPDATE entries SET seq = 9 WHERE seq = 2",
+        1,
+        "entries 0001-000001 entry 9: its number is not the next after that of the row before it",
+    ),
+    (
+        "UPDATE entries SET kind = 7 WHERE seq = 2",
+        1,
+        "entries 0001-000001 entry 2: its kind is not 1 to 6",
+    ),
+    (
+        "UPDATE entries SET amount = 0 WHERE seq = 2",
+        1,
+        "entries 0001-000001 entry 2: its amount, instalment, portion and receipt are not those of an entry of its kind",
+    ),
+    (
+        "UPDATE entries SET day = '2024-01-31' WHERE seq = 1",
+        1,
+        "entries 0001-000001 entry 1: its day is before its loan's disbursement",
+    ),
+    (
+        "UPDATE entries SET day = '2024-04-01' WHERE seq = 2",
+        1,
+        "entries 0001-000001 entry 2: its day is after the business day",
+    ),
+    (
+        "UPDATE entries SET staff = '1/9' WHERE seq = 2",
+        1,
+        "entries 0001-000001 entry 2: the member of staff who entered it is not there",
+    ),
+    (
+        "UPDATE entries SET reversed = 1 WHERE seq = 2",
+        1,
+        "instalments 0001-000001 instalment 1: not what replaying the entries gives",
+    ),
+    (
+        "UPDATE entries SET receipt = 'R-2' WHERE seq = 2",
+        1,
+        "entries 0001-000001 entry 2: its receipt is not among the receipts as this entry's",
+    ),
+    (
+        "DELETE FROM receipts",
+        1,
+        "entries 0001-000001 entry 1: its receipt is not among the receipts as this entry's",
+    ),
+    (
+        "UPDATE receipts SET seq = 2",
+        1,
+        "entries 0001-000001 entry 1: its receipt is not among the receipts as this entry's",
+    ),
     (
         "UPDATE instalments SET paid_principal = 1 WHERE number = 1",
         1,
+        "instalments 0001-000001 instalment 1: not what replaying the entries gives",
     ),
     (
         "UPDATE instalments SET due = '2024-03-02' WHERE number = 1",
         1,
+        "instalments 0001-000001 instalment 1: not what replaying the entries gives",
     ),
-    ("DELETE FROM instalments WHERE number = 3", 1),
+    (
+        "DELETE FROM instalments WHERE number = 3",
+        1,
+        "instalments 0001-000001 instalment 3: not what replaying the entries gives",
+    ),
     (
         "UPDATE shares SET amount = 1 WHERE seq = 1 AND place = 1",
         1,
+        "shares 0001-000001 entry 1: not what replaying the entries gives",
     ),
-    ("DELETE FROM shares WHERE seq = 1 AND place = 1", 1),
-    ("UPDATE shares SET place = 9 WHERE seq = 1 AND place = 2", 1),
+    (
+        "DELETE FROM shares WHERE seq = 1 AND place = 1",
+        1,
+        "shares 0001-000001 entry 1: not what replaying the entries gives",
+    ),
+    (
+        "UPDATE shares SET place = 9 WHERE seq = 1 AND place = 2",
+        1,
+        "shares 0001-000001 entry 1: not what replaying the entries gives",
+    ),
 ];
 
 /// Changes that come after these lines too. Each leaves what no institution has: a client whom another office
 /// alone has, two offices each below the other, the amounts of two entries or of two shares swapped, and a write-off that stands with
 /// a refund after it, though nothing was left to write off or to refund.
-const LATER_CHANGES: [(&str, usize); 5] = [
-    ("UPDATE loans SET client = 2", 1),
-    ("UPDATE offices SET parent = 5 - number WHERE number > 1", 2),
+const LATER_CHANGES: [(&str, usize, &str); 5] = [
+    (
+        "UPDATE loans SET client = 2",
+        1,
+        "loans 0001-000001: its client 2 is not there",
+    ),
+    (
+        "UPDATE offices SET parent = 5 - number WHERE number > 1",
+        2,
+        "offices 2: hierarchy text \".2.\", its parent gives \".2.3.2.\"",
+    ),
     (
         "UPDATE entries SET amount = 70000 - amount WHERE seq < 3",
         2,
+        "shares 0001-000001 entry 1: not what replaying the entries gives",
     ),
-    ("UPDATE shares SET amount = 20000 - amount WHERE seq = 1", 2),
+    (
+        "UPDATE shares SET amount = 20000 - amount WHERE seq = 1",
+        2,
+        "shares 0001-000001 entry 1: not what replaying the entries gives",
+    ),
     (
         "INSERT INTO entries VALUES (1, 1, 4, 5, '2024-03-31', 0, 0, 4, NULL, '1/1', 0), \
 (1, 1, 5, 6, '2024-03-31', 0, 0, 4, NULL, '1/1', 0)",
         2,
+        "entries 0001-000001 entry 4: a write-off or refund that stands, and another standing entry comes after it",
     ),
 ];
 
@@ -218,12 +429,23 @@ fn shown<S: Alter>(alloc: Global, connection: &mut Connection<S>) -> Result<Stri
     Ok(text)
 }
 
-/// The institution of these lines is adopted again, and refused once so many rows are changed so; all rows then stand as they were.
+/// The institution of these lines is adopted again, and refused once so many rows are changed so; an audit says which row breaks
+/// which condition, and all rows then stand as they were.
 #[derive(Drop)]
 struct Refusal<'a> {
     lines: &'a str,
     change: &'static str,
     rows: usize,
+    found: &'static str,
+}
+
+/// What an audit says of the tables of a connection, in its first line.
+fn audited<S: Alter>(alloc: Global, connection: &mut Connection<S>) -> Result<String, Fault>
+    requires alone { connection.old.in_transaction ≡ false }
+    ensures mode { connection.new.in_transaction ≡ false }
+{
+    let found = audit_tables(alloc, connection, false, &mut Unfollowed)?;
+    audit_text(alloc, &found)
 }
 
 impl Trial for Refusal<'_> {
@@ -240,8 +462,13 @@ impl Trial for Refusal<'_> {
             return Ok(false);
         }
         let (refused, mut connection) = refused_over(alloc, connection);
+        if !connection.is_autocommit() {
+            return Ok(false);
+        }
+        let said = audited(alloc, &mut connection)?;
+        let wanted = format!(in alloc; "audit: {}\n", self.found)?;
         let after = shown(alloc, &mut connection)?;
-        Ok(refused && before.as_str() == after.as_str())
+        Ok(refused && said.as_str() == wanted.as_str() && before.as_str() == after.as_str())
     }
 }
 
@@ -249,14 +476,15 @@ impl Trial for Refusal<'_> {
 fn first_kept(
     alloc: Global,
     lines: &str,
-    changes: &[(&'static str, usize)],
+    changes: &[(&'static str, usize, &'static str)],
 ) -> Result<Option<&'static str>, Fail> {
-    for (change, rows) in changes {
-        let (change, rows) = (*change, *rows);
+    for (change, rows, found) in changes {
+        let (change, rows, found) = (*change, *rows, *found);
         let refusal = Refusal {
             lines,
             change,
             rows,
+            found,
         };
         if !holds(alloc, &refusal)? {
             return Ok(Some(change));
@@ -266,7 +494,7 @@ fn first_kept(
 }
 
 #[test]
-fn each_changed_row_is_refused(rt: HostRuntime) -> Result<(), Fail> {
+fn each_changed_row_is_refused_and_named(rt: HostRuntime) -> Result<(), Fail> {
     let kept = first_kept(rt.alloc(), INSTITUTION, &CHANGES)?;
     assert!(rt; kept.is_none(), "{kept:?}");
     let lines = format!(in rt.alloc(); "{INSTITUTION}{MORE}")?;

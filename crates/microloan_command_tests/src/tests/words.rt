@@ -165,6 +165,17 @@ fn reads_which_file_to_look_into(rt: HostRuntime) -> Result<(), Fail> {
         return Err(Fail::from("a file to look into"));
     };
     assert_eq!(rt; asked.file.as_str(), "desk.db");
+    for (line, all) in [
+        ("microloan audit --file desk.db", false),
+        ("microloan audit --file desk.db --all", true),
+    ] {
+        let words = words_of(alloc, line)?;
+        let Ok(Command::Audit(asked)) = command(alloc, &words) else {
+            return Err(Fail::from("a file to audit"));
+        };
+        assert_eq!(rt; asked.file.as_str(), "desk.db");
+        assert_eq!(rt; asked.all, all);
+    }
     Ok(())
 }
 
@@ -172,7 +183,7 @@ fn reads_which_file_to_look_into(rt: HostRuntime) -> Result<(), Fail> {
 const WRONG: [(&str, &str); 18] = [
     (
         "microloan",
-        "microloan: name a command: batch, serve, collect, report, schedule or why; see 'microloan --help'",
+        "microloan: name a command: batch, serve, collect, report, schedule, why or audit; see 'microloan --help'",
     ),
     (
         "microloan schedule --method flat --principal 0 --rate 1200 --periods 3 --day 2024-01-31",
@@ -305,7 +316,7 @@ fn shows_help(rt: HostRuntime) -> Result<(), Fail> {
     let help = help_of(&rt, alloc, "microloan --help")?;
     assert!(rt; help.as_str().find("schedule").is_some());
     assert!(rt; help.as_str().lines().all(|line| line.len() <= 80));
-    for command in ["batch", "serve", "collect", "report", "why"] {
+    for command in ["batch", "serve", "collect", "report", "why", "audit"] {
         let line = format!(in alloc; "microloan {command} --help")?;
         let help = help_of(&rt, alloc, line.as_str())?;
         assert!(rt; help.as_str().find("Example:").is_some());
@@ -322,7 +333,7 @@ fn tells_the_version(rt: HostRuntime) -> Result<(), Fail> {
         let Err(Words::Version(text)) = command(alloc, &words) else {
             return Err(Fail::from("a version"));
         };
-        assert_eq!(rt; text.as_str(), "microloan 1.1.0 (schema 2)\n");
+        assert_eq!(rt; text.as_str(), "microloan 1.2.0 (schema 2)\n");
     }
     let said = line_of(&rt, alloc, "microloan report --version")?;
     assert!(rt; said.as_str().find("--version").is_some());

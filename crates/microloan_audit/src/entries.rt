@@ -1,0 +1,40 @@
+//! What is said of rows of entries and of receipts.
+
+use crate::catalogue::{NOT_NEXT, OUT_OF_ORDER};
+use mf_store_findings::{EntryFlaw, ReceiptFlaw};
+
+/// What is said of rows that replaying the entries does not give.
+pub(crate) const NOT_REPLAYED: &str = "not what replaying the entries gives";
+
+/// What is said of a row of an entry.
+pub(crate) fn words_of_entry(flaw: EntryFlaw) -> &'static str {
+    match flaw {
+        EntryFlaw::Order => OUT_OF_ORDER,
+        EntryFlaw::Loan => "its loan is not there",
+        EntryFlaw::Undisbursed => "its loan is not disbursed",
+        EntryFlaw::Number => NOT_NEXT,
+        EntryFlaw::Limit => "its number is above 9999",
+        EntryFlaw::Kind => "its kind is not 1 to 6",
+        EntryFlaw::Day => "its day is no day up to 2099-12-31",
+        EntryFlaw::Early => "its day is before its loan's disbursement",
+        EntryFlaw::Late => "its day is after the business day",
+        EntryFlaw::Amount => "its amount is below 0",
+        EntryFlaw::Portion => "its portion is not 1 to 4",
+        EntryFlaw::Reversed => "it is neither reversed (1) nor standing (0)",
+        EntryFlaw::Columns =>
+            "its amount, instalment, portion and receipt are not those of an entry of its kind",
+        EntryFlaw::Receipt => "its receipt is not the text of one",
+        EntryFlaw::Seal =>
+            "a write-off or refund that stands, and another standing entry comes after it",
+        EntryFlaw::Staff => "the member of staff who entered it is not there",
+        EntryFlaw::Unlisted => "its receipt is not among the receipts as this entry's",
+    }
+}
+
+/// What is said of a row of a receipt.
+pub(crate) fn words_of_receipt(flaw: ReceiptFlaw) -> &'static str {
+    match flaw {
+        ReceiptFlaw::Order => OUT_OF_ORDER,
+        ReceiptFlaw::Entry => "the entry that it names does not carry it",
+    }
+}

@@ -1,0 +1,13 @@
+//! What an audit prints: which row breaks which condition, or what the rows of a sound institution come to.
+#![tactic(auto)]
+
+mod catalogue;
+mod entries;
+mod line;
+mod loans;
+mod offices;
+mod sums;
+mod text;
+mod unread;
+
+pub use text::audit_text;
