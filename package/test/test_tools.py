@@ -272,6 +272,19 @@ class Backups(unittest.TestCase):
     def has_client(self, client):
         return self.it.send("tom", "GET", f"/api/clients/{client}")[0] == 200
 
+    def test_the_holder_of_a_file_is_found_whatever_else_it_opens(self):
+        """A process that opens and closes files all the time is found as the holder of the one that it keeps."""
+        words = "import os, sys\nkept = open(sys.argv[1])\nprint(flush=True)\nwhile True: open(os.devnull).close()"
+        with tempfile.NamedTemporaryFile() as file:
+            held = subprocess.Popen([sys.executable, "-c", words, file.name], stdout=subprocess.PIPE)
+            try:
+                held.stdout.readline()
+                found = [files.holders(file.name) for _ in range(300)]
+            finally:
+                held.kill()
+                held.communicate()
+        self.assertEqual(found, [[held.pid]] * 300)
+
     def test_backed_up_while_it_serves_and_restored(self):
         before = self.add_client("Before")[1]["client"]
         path, shown = self.back_up()

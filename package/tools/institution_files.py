@@ -24,6 +24,15 @@ class Failed(Exception):
     """Why something was not done."""
 
 
+def opened_by(name):
+    """What a process has open. What it closes meanwhile, as a connection, is left out."""
+    found = []
+    for number in os.listdir(f"/proc/{name}/fd"):
+        with contextlib.suppress(FileNotFoundError):
+            found.append(os.readlink(f"/proc/{name}/fd/{number}"))
+    return found
+
+
 def holders(path):
     """The processes that have the file open, of those that this user may look at."""
     found = []
@@ -31,8 +40,7 @@ def holders(path):
     for name in os.listdir("/proc"):
         if name.isdigit() and int(name) != os.getpid():
             with contextlib.suppress(OSError):
-                links = [os.readlink(f"/proc/{name}/fd/{number}") for number in os.listdir(f"/proc/{name}/fd")]
-                if wanted in links:
+                if wanted in opened_by(name):
                     found.append(int(name))
     return found
 
