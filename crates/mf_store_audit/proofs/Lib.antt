@@ -1,3 +1,4 @@
 pub mod AuditLemmas
 pub mod KeptLemmas
 pub mod FileLemmas
+pub mod UnreadLemmas

@@ -67,7 +67,7 @@ IsAuditOf db (Sound number sums) = AreSumsOf (HoldsUnder number db) sums.items
 IsAuditOf db (Unsound number tables findings) =
     HoldsNone db × AreAllHeld number db tables × AllBreak number tables findings.items
 IsAuditOf db (Unreadable number unread) =
-    IsKnown db.schema × HoldsNone db × IfSome unread (λ u. IsUnread u.table u.place db.trees)
+    IsKnown db.schema × HoldsNone db × IfSome unread (λ u. IsUnread u.table u.value u.place db.trees)
 
 -- the same of the database that a file held
 pub record IsAuditOfFile (image : Image) (audit : Audit) : Type 0 where

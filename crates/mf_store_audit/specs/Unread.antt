@@ -1,37 +1,91 @@
 -- Rows that no record can hold.
-use Rattle.std.specs.Prelude.{◌≡◌, ℕ, List, Some, slice_get}
+use Rattle.std.specs.Prelude.{◌≡◌, ◌⊎◌, ◌+◌, ◌^◌, ◌≤◌, ℕ, ℤ, pos, negsuc, List, [], ◌∷◌, length, Some, slice_get, IsUtf8}
 use Rattle.std.specs.declared.cmp.Ordering.{Ordering}
-use Rattle.sqlite.specs.Order.{Row}
+use Rattle.sqlite.specs.declared.types.Value.{Value}
+use Rattle.sqlite.specs.declared.types.Value.TheVariants.{Null, Int, Text as Words}
+use Rattle.sqlite.specs.Order.{Row, column}
 use Rattle.sqlite.specs.Tree.{Trees}
-use Rattle.mf_store_records.specs.Fields.{Field, HasFields}
+use Rattle.mf_store_records.specs.Fields.{Field, Number, Amount, Text, MaybeNumber, MaybeText, HasFields}
 use Rattle.mf_store_records.specs.Rows.{meta_row, office_row, staff_row, client_row, charge_row, product_row, loan_row, entry_row, receipt_row, instalment_row, share_row, by_meta, by_office, by_staff, by_client, by_charge, by_product, by_loan, by_entry, by_receipt, by_instalment, by_share, meta_fields, office_fields, staff_fields, client_fields, charge_fields, product_fields, loan_fields, entry_fields, receipt_fields, instalment_fields, share_fields}
 use Rattle.mf_store_rows.specs.Whole.{ShowsTable}
+use Rattle.mf_store_audit.specs.declared.unread.UnreadValue.{UnreadValue}
+use Rattle.mf_store_audit.specs.declared.unread.UnreadValue.TheVariants.{NotUtf8, OutOfRange}
 use Rattle.mf_store_audit.specs.declared.unread.TableName.{TableName}
 use Rattle.mf_store_audit.specs.declared.unread.TableName.TheVariants.{Meta, Offices, Staff, Clients, Charges, Products, Loans, Entries, Receipts, Instalments, Shares}
 
--- the row at a place is one that no record of these fields can hold
-pub record IsUnreadAt (fields : List Field) (place : ℕ) (rows : List Row) : Type 0 where
+-- a text that is not UTF-8
+abbrev pub IsBadText : Value → Type 0
+IsBadText v = (t : List ℕ) × (v ≡ Words t) × ¬ IsUtf8 t
+
+-- a column of the row holds such a text
+abbrev pub HasBadText : Row → Type 0
+HasBadText row = (at : ℕ) × IsBadText (column row at)
+
+-- a value of the type that the column of a field has
+abbrev pub IsOfType : Field → Value → Type 0
+IsOfType Number v = (n : ℤ) × (v ≡ Int n)
+IsOfType Amount v = (n : ℤ) × (v ≡ Int n)
+IsOfType Text v = (t : List ℕ) × (v ≡ Words t)
+IsOfType MaybeNumber v = (v ≡ Null) ⊎ ((n : ℤ) × (v ≡ Int n))
+IsOfType MaybeText v = (v ≡ Null) ⊎ ((t : List ℕ) × (v ≡ Words t))
+
+-- the row's columns hold values of the types of these fields, from this one on
+abbrev pub AreOfTypesFrom : ℕ → List Field → Row → Type 0
+AreOfTypesFrom at [] row = Unit {0}
+AreOfTypesFrom at (f ∷ fs) row = IsOfType f (column row at) × AreOfTypesFrom (at + 1) fs row
+
+-- a row of such a table: a value for each field, of its type, and no more
+pub record IsTyped (fields : List Field) (row : Row) : Type 0 where
+  pub width : length row ≡ length fields
+  pub types : AreOfTypesFrom 0 fields row
+
+-- a number below 0, or above 4294967295
+abbrev pub IsBadNumber : Value → Type 0
+IsBadNumber v = ((n : ℕ) × (v ≡ Int (negsuc n))) ⊎ ((n : ℕ) × (v ≡ Int (pos n)) × (2 ^ 32 ≤ n))
+
+-- a number that is not 0 to 4294967295, in the column of a field of 32 bits
+abbrev pub IsBadIn : Field → Value → Type 0
+IsBadIn Number v = IsBadNumber v
+IsBadIn Amount v = ⊥
+IsBadIn Text v = ⊥
+IsBadIn MaybeNumber v = IsBadNumber v
+IsBadIn MaybeText v = ⊥
+
+-- one of the row's columns holds such a number, from this one on
+abbrev pub HasBadNumberFrom : ℕ → List Field → Row → Type 0
+HasBadNumberFrom at [] row = ⊥
+HasBadNumberFrom at (f ∷ fs) row = IsBadIn f (column row at) ⊎ HasBadNumberFrom (at + 1) fs row
+
+-- the value for which no record of these fields can hold a row: a text that is not UTF-8; or, where no text is such a one and the
+-- values are of the types of their columns, a number that is not 0 to 4294967295
+abbrev pub IsUnreadFor : UnreadValue → List Field → Row → Type 0
+IsUnreadFor NotUtf8 fields row = HasBadText row
+IsUnreadFor OutOfRange fields row = (¬ HasBadText row) × (IsTyped fields row → HasBadNumberFrom 0 fields row)
+
+-- the row at a place is one that no record of these fields can hold, for this value
+pub record IsUnreadAt (fields : List Field) (value : UnreadValue) (place : ℕ) (rows : List Row) : Type 0 where
   pub row : Row
   pub at : slice_get rows place ≡ Some row
   pub unread : ¬ HasFields fields row
+  pub for_value : IsUnreadFor value fields row
 
 -- so is that at a place of a table, its rows in the order of its key
 pub record IsUnreadIn {X : Type 0} (fields : List Field) (stored : X → Row) (cmp : X → X
-    → Ordering) (tree : List Row) (place : ℕ) : Type 0 where
+    → Ordering) (tree : List Row) (value : UnreadValue) (place : ℕ) : Type 0 where
   pub rows : List Row
   pub shown : ShowsTable stored cmp tree rows
-  pub there : IsUnreadAt fields place rows
+  pub there : IsUnreadAt fields value place rows
 
 -- so is that at a place of a table of this name
-abbrev pub IsUnread : TableName → ℕ → Trees → Type 0
-IsUnread Meta place trees = IsUnreadIn meta_fields meta_row by_meta (trees 0) place
-IsUnread Offices place trees = IsUnreadIn office_fields office_row by_office (trees 2) place
-IsUnread Staff place trees = IsUnreadIn staff_fields staff_row by_staff (trees 5) place
-IsUnread Clients place trees = IsUnreadIn client_fields client_row by_client (trees 7) place
-IsUnread Charges place trees = IsUnreadIn charge_fields charge_row by_charge (trees 9) place
-IsUnread Products place trees = IsUnreadIn product_fields product_row by_product (trees 11) place
-IsUnread Loans place trees = IsUnreadIn loan_fields loan_row by_loan (trees 13) place
-IsUnread Entries place trees = IsUnreadIn entry_fields entry_row by_entry (trees 15) place
-IsUnread Receipts place trees = IsUnreadIn receipt_fields receipt_row by_receipt (trees 17) place
-IsUnread Instalments place trees = IsUnreadIn instalment_fields instalment_row by_instalment (trees 19) place
-IsUnread Shares place trees = IsUnreadIn share_fields share_row by_share (trees 21) place
+abbrev pub IsUnread : TableName → UnreadValue → ℕ → Trees → Type 0
+IsUnread Meta value place trees = IsUnreadIn meta_fields meta_row by_meta (trees 0) value place
+IsUnread Offices value place trees = IsUnreadIn office_fields office_row by_office (trees 2) value place
+IsUnread Staff value place trees = IsUnreadIn staff_fields staff_row by_staff (trees 5) value place
+IsUnread Clients value place trees = IsUnreadIn client_fields client_row by_client (trees 7) value place
+IsUnread Charges value place trees = IsUnreadIn charge_fields charge_row by_charge (trees 9) value place
+IsUnread Products value place trees = IsUnreadIn product_fields product_row by_product (trees 11) value place
+IsUnread Loans value place trees = IsUnreadIn loan_fields loan_row by_loan (trees 13) value place
+IsUnread Entries value place trees = IsUnreadIn entry_fields entry_row by_entry (trees 15) value place
+IsUnread Receipts value place trees = IsUnreadIn receipt_fields receipt_row by_receipt (trees 17) value place
+IsUnread Instalments value place trees = IsUnreadIn instalment_fields instalment_row by_instalment (trees 19) value place
+IsUnread Shares value place trees = IsUnreadIn share_fields share_row by_share (trees 21) value place

@@ -8,4 +8,4 @@ mod unread;
 
 pub use audits::{Audit, audit_tables};
 pub use files::{audit_file, audit_file_with};
-pub use unread::{TableName, Unread};
+pub use unread::{TableName, Unread, UnreadValue};

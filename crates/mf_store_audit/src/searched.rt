@@ -52,7 +52,7 @@ pub(crate) trait Searched: Sized {
             → OnOk result (IsTrue (state S.Store connection.new).is_open) }
         ensures found { HasCleanDisk (state S.Store connection.new) → IsUnder (state S.Store connection.old).now.schema
             → IfOk result (λ x. IfSome x
-            (λ unread. IsUnread unread.table unread.place (state S.Store connection.old).now.trees)) }
+            (λ unread. IsUnread unread.table unread.value unread.place (state S.Store connection.old).now.trees)) }
         ensures mode { connection.new.in_transaction ≡ false };
 }
 

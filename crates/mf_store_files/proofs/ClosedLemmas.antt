@@ -16,7 +16,7 @@ use Rattle.sqlite_wal.specs.Recovery.{Image}
 use Rattle.mf_model.specs.Institution.{Institution}
 use Rattle.mf_store_records.specs.Writes.{Holds}
 use Rattle.mf_store_accounts.specs.Flat.{tables_of}
-use Rattle.mf_store_commits.specs.Tabled.{IsTabled, LeavesTables, HoldsOneOf}
+use Rattle.mf_store_commits.specs.Tabled.{HasGoodDisk, IsTabled, LeavesTables, HoldsOneOf}
 use Rattle.mf_store_files.specs.Closed.{HoldsInstitution, HoldsByItself}
 use Rattle.mf_store_files.specs.Held.{HoldsSound}
 
@@ -49,3 +49,9 @@ pub kept : {D : Type 0} {g : Ghosts D} (c : Held (FileStore D g)) (last : FileSt
 kept c last closed clean is leaves trees may =
     let counts = closed.quiet.clean in
     leaves.whole (omega (arith, counts, clean)) trees (closed.quiet.outcomes trees may)
+
+-- where closing failed, the disk was good before if it still is
+pub was_good : {D : Type 0} {g : Ghosts D} (c : Held (FileStore D g)) (last : FileStore D g) → IsClosed c last → IsCleanView (files.view last) → HasGoodDisk over_files c
+was_good c last closed clean =
+    let counts = closed.quiet.clean in
+    omega (arith, counts, clean)

@@ -10,9 +10,9 @@ ghost use Rattle.sqlite_wal.specs.Files.{outcomes};
 ghost use Rattle.sqlite_wal.specs.Reads.{AreClean};
 ghost use Rattle.sqlite_wal.specs.Recovery.{Image};
 ghost use Rattle.mf_model.specs.Institution.{Institution};
-ghost use Rattle.mf_store_commits.specs.Tabled.{HoldsOneOf};
+ghost use Rattle.mf_store_commits.specs.Tabled.{HasGoodDisk, HoldsOneOf};
 ghost use Rattle.mf_store.specs.Stands.{StandsFor, Leaves};
-ghost use Rattle.mf_store_files.specs.Closed.{HoldsByItself};
+ghost use Rattle.mf_store_files.specs.Closed.{CloseWell, HoldsByItself};
 
 use mf_base::Fault;
 use mf_store::Store;
@@ -25,6 +25,7 @@ use sqlite_disk::Disk;
 /// F20 tells that the disk failed or that there was no memory: the log stays, a stop leaves of the two what it could before, and what is
 /// left of the store comes back.
 pub fn close<D: Disk + Drop>(store: Store<FileStore<D>>) -> Result<Files<D>, (Fault, FileStore<D>)>
+    ensures premise { CloseWell result → HasGoodDisk over_files store.connection }
     ensures whole { IfOk result (λ files. AreClean D.Disk files.log files.db → (i : Institution) → StandsFor over_files store i → HoldsByItself (image_of D.Disk files) i) }
     ensures left_whole { IfOk result (λ files. AreClean D.Disk files.log files.db → (i : Institution) → StandsFor over_files store i
         → (left : Image) → outcomes D.Disk files.log files.db left → HoldsByItself left i) }

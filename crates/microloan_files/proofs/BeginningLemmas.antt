@@ -27,7 +27,7 @@ use Rattle.sqlite_store.specs.FileStore.{view, faults, recovers, is_shielded}
 use Rattle.sqlite_store.specs.declared.store.FileStore.{FileStore}
 use Rattle.sqlite_trees.specs.Tree.{Trees}
 use Rattle.sqlite_trees.specs.View.{IsClean, IsQuiet}
-use Rattle.microloan_files.specs.Beginnings.{LeaveBeginning, IsRunOver, EndsAsBeginning}
+use Rattle.microloan_files.specs.Beginnings.{LeaveBeginning, IsRunOver}
 
 -- what each run between two states has, and what is so where these are one
 module _ {S : Type 0} (P : S → List (List ℕ) → List (List ℕ) → S → Type 0) (old new : S) (streams : Streams) (X : Type 0)
@@ -110,27 +110,28 @@ module _
       ∥∥₁_map (left_files stays_sound change_sound files run i sound range (numbered clean) whole left may)
       (λ found. (found.2.institution, found.3, record { trees = found.0; database = found.1; sound = found.2.sound; holds = found.2.holds }))
 
--- a run over files, which are handed back
-module _ {D : Type 0} {g : Ghosts D} (i : Institution) (first final : KnownStore (FileStore D g)) (files : FileStore D g)
+-- a run over a store of files, and what is so after it
+module _ {D : Type 0} {g : Ghosts D} (i : Institution) (first final : KnownStore (FileStore D g)) (K : List Line → Type 0)
     (clean : HasGoodDisk over_files final.connection)
     (stood : StandsFor over_files first i) (leaves : Leaves over_files first (i ∷ []))
-    (handed : (run : List Line) → AreInRange run → Leaves over_files final (left_after run i (i ∷ [])) → LeaveBeginning i run files) where
+    (after_run : (run : List Line) → AreInRange run → StandsFor over_files final (last run i) → Leaves over_files final (left_after run i (i ∷ [])) → K run) where
   abbrev pub Runs : KnownStore (FileStore D g) → List (List ℕ) → List (List ℕ) → KnownStore (FileStore D g) → Type 0
   Runs = RunsLines (record { stands = StandsFor over_files; clean = stores.IsClean over_files; leaves = Leaves over_files })
 
-  ran_so : (lines texts : List (List ℕ)) → Runs first lines texts final → (run : List Line) × IsRunOver i lines texts run × LeaveBeginning i run files
+  ran_so : (lines texts : List (List ℕ)) → Runs first lines texts final → (run : List Line) × IsRunOver i lines texts run × K run
   ran_so lines texts r =
       let o = r.ran clean i stood in (
         o.run,
         record { calls = o.calls; replied = o.replied; isolated = o.isolated; with_memory = o.with_memory },
-        handed o.run o.in_range (o.stop (i ∷ []) leaves),
+        after_run o.run o.in_range o.follows (o.stop (i ∷ []) leaves),
       )
 
   -- nothing was run
-  none_so : final ≡ first → LeaveBeginning i [] files
-  none_so same = handed [] tt (subst (λ (k : KnownStore (FileStore D g)). Leaves over_files k (i ∷ [])) (sym same) leaves)
+  pub none_so : final ≡ first → K []
+  none_so same =
+      after_run [] tt (subst (λ (k : KnownStore (FileStore D g)). StandsFor over_files k i) (sym same) stood)
+      (subst (λ (k : KnownStore (FileStore D g)). Leaves over_files k (i ∷ [])) (sym same) leaves)
 
-  pub ends_as_beginning : (streams : Streams) (result : Result ℕ StreamFault) → Ends Runs first final streams result → EndsAsBeginning i files streams result
-  ends_as_beginning streams result e =
-      let t = told_of_run Runs (IsRunOver i) (λ run. LeaveBeginning i run files) first final ran_so none_so streams result e in
-      record { run = t.0; ended = t.1; left = t.2 }
+  pub run_so : (streams : Streams) (result : Result ℕ StreamFault) → Ends Runs first final streams result
+      → (run : List Line) × Ends (λ before lines texts after. IsRunOver i lines texts after) [] run streams result × K run
+  run_so = told_of_run Runs (IsRunOver i) K first final ran_so none_so

@@ -1,3 +1,5 @@
 pub mod Opening
 pub mod Beginnings
 pub mod Sheets
+pub mod Serving
+pub mod Closing

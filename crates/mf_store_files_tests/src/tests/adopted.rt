@@ -100,7 +100,7 @@ const CHANGES: [(&str, usize, &str); 52] = [
     (
         "UPDATE staff SET role = 4294967297 WHERE office = 2",
         1,
-        "staff 2 1: a number that is not 0 to 4294967295, or a text that is not UTF-8",
+        "staff 2 1: a number that is not 0 to 4294967295",
     ),
     (
         "UPDATE staff SET number = 2 WHERE office = 2",
@@ -120,7 +120,7 @@ const CHANGES: [(&str, usize, &str); 52] = [
     (
         "UPDATE clients SET number = -1",
         1,
-        "clients 1 -1: a number that is not 0 to 4294967295, or a text that is not UTF-8",
+        "clients 1 -1: a number that is not 0 to 4294967295",
     ),
     (
         "UPDATE clients SET office = 77",

@@ -29,7 +29,7 @@ returns-in_default-clause-exact g c clean ours rowids =
     let its = subst (λ (d : Database). d.schema ≡ first_schema) (sym same) ours in
     let none = at_none c.in_ok-tables.field-0 _ c.in_default.is (c.in_ok-tables.ensures.none early ours) in
     let found = c.in_ok-unread.ensures.found clean (under_first _ its) in
-    (inr ours, unread_none_first db ours none, subst (λ (d : Database). IfSome c.in_ok-unread.unread (λ u. IsUnread u.table u.place d.trees)) same found)
+    (inr ours, unread_none_first db ours none, subst (λ (d : Database). IfSome c.in_ok-unread.unread (λ u. IsUnread u.table u.value u.place d.trees)) same found)
 
 pub returns-clause-exact : goal.returns-clause-exact
 returns-clause-exact g c clean ours rowids =

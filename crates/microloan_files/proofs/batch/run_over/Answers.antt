@@ -3,7 +3,8 @@ use Rattle.mf_store_commits.specs.Tabled.{HasGoodDisk}
 use Rattle.mf_store.specs.Stands.{StandsFor, IsClean, Leaves}
 use Rattle.mf_wire.specs.Runs.{RunsLines}
 use Rattle.sqlite.specs.Files.{over_files}
-use Rattle.microloan_files.proofs.BeginningLemmas.{either_way, ends_as_beginning}
+use Rattle.microloan_files.specs.Beginnings.{LeaveBeginning}
+use Rattle.microloan_files.proofs.BeginningLemmas.{either_way, run_so}
 use Rattle.microloan_files.proofs.batch.run_over.Goals as goal
 
 pub returns-clause-premise : goal.returns-clause-premise
@@ -15,5 +16,6 @@ returns-clause-premise g c = λ clean.
 
 pub returns-clause-ends : goal.returns-clause-ends
 returns-clause-ends g c = λ clean i stood leaves.
-    ends_as_beginning i c.args.store c.run-told.new.store c.hand_back.result (c.hand_back.ensures.premise clean) stood leaves
-    (λ run range after. c.hand_back.ensures.beginning clean i run stood.sound range after) _ c.run-told.result c.run-told.ensures.ends
+    let t = run_so i c.args.store c.run-told.new.store (λ run. LeaveBeginning i run c.hand_back.result) (c.hand_back.ensures.premise clean) stood leaves
+    (λ run range stands after. c.hand_back.ensures.beginning clean i run stood.sound range after) _ c.run-told.result c.run-told.ensures.ends in
+    record { run = t.0; ended = t.1; left = t.2 }

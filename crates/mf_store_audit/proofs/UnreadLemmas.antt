@@ -1,0 +1,104 @@
+-- The value for which no record can hold a row.
+use Rattle.std.proofs.Common.{◌≡◌, ◌↔◌, ◌⊎◌, ◌<◌, ◌≤◌, ◌+◌, ◌^◌, ℕ, ℤ, pos, negsuc, Bool, true, false, List, [], ◌∷◌, length, IsTrue, inl, inr, sym, subst, ap, refl, ◌∙◌, true≢false, arith}
+use Rattle.std.specs.Str.{is_utf8, IsUtf8}
+use Rattle.std.proofs.lemmas.Str.{IsUtf8-from_is_utf8, is_utf8-from_IsUtf8}
+use Rattle.std.proofs.lemmas.Bool.{ltb-true, ltb-false}
+use Rattle.std.proofs.Math.Dec.{ltb}
+use Rattle.sqlite.specs.declared.types.Value.{Value}
+use Rattle.sqlite.specs.declared.types.Value.TheVariants.{Null, Int, Text as Words}
+use Rattle.sqlite.specs.Order.{Row, column}
+use Rattle.mf_store_records.specs.Fields.{Field, Number, Amount, Text, MaybeNumber, MaybeText, IsNumber, IsText, CanHold, CanHoldFrom, HasFields}
+use Rattle.mf_store_rows.proofs.TreeLemmas.{past_end}
+use Rattle.mf_store_audit.specs.Unread.{IsBadText, HasBadText, IsOfType, AreOfTypesFrom, IsTyped, IsBadNumber, IsBadIn, HasBadNumberFrom}
+
+number_or_bad : (v : Value) (n : ℤ) → v ≡ Int n → IsNumber v ⊎ IsBadNumber v
+number_or_bad v (negsuc n) is = inr (inl (n, is))
+number_or_bad v (pos n) is = go (ltb n (2 ^ 32)) refl
+  where
+    go : (b : Bool) → ltb n (2 ^ 32) ≡ b → IsNumber v ⊎ IsBadNumber v
+    go true e = inl (n, is, ltb-true n (2 ^ 32) e)
+    go false e = inr (inr (n, is, ltb-false n (2 ^ 32) e))
+
+text_held : (v : Value) (t : List ℕ) → v ≡ Words t → ¬ IsBadText v → IsText v
+text_held v t is good = go (is_utf8 t) refl
+  where
+    go : (b : Bool) → is_utf8 t ≡ b → IsText v
+    go true e = (t, is, IsUtf8-from_is_utf8 t e)
+    go false e = absurd (good (t, is, λ utf8. true≢false (sym (is_utf8-from_IsUtf8 t utf8) ∙ e)))
+
+field_held : (f : Field) (v : Value) → IsOfType f v → ¬ IsBadText v → CanHold f v ⊎ IsBadIn f v
+field_held Number v of good = number_or_bad v of.0 of.1
+field_held Amount v of good = inl of
+field_held Text v of good = inl (text_held v of.0 of.1 good)
+field_held MaybeNumber v (inl is) good = inl (inl is)
+field_held MaybeNumber v (inr of) good = go (number_or_bad v of.0 of.1)
+  where
+    go : IsNumber v ⊎ IsBadNumber v → CanHold MaybeNumber v ⊎ IsBadNumber v
+    go (inl held) = inl (inr held)
+    go (inr bad) = inr bad
+field_held MaybeText v (inl is) good = inl (inl is)
+field_held MaybeText v (inr of) good = inl (inr (text_held v of.0 of.1 good))
+
+fields_held : (at : ℕ) (fs : List Field) (row : Row) → AreOfTypesFrom at fs row → ¬ HasBadText row → CanHoldFrom at fs row ⊎ HasBadNumberFrom at fs row
+fields_held at [] row of good = inl tt
+fields_held at (f ∷ fs) row of good = go (field_held f (column row at) of.0 (λ bad. good (at, bad))) (fields_held (at + 1) fs row of.1 good)
+  where
+    go : CanHold f (column row at) ⊎ IsBadIn f (column row at) → CanHoldFrom (at + 1) fs row ⊎ HasBadNumberFrom (at + 1) fs row
+        → CanHoldFrom at (f ∷ fs) row ⊎ HasBadNumberFrom at (f ∷ fs) row
+    go (inl here) (inl later) = inl (here, later)
+    go (inl here) (inr later) = inr (inr later)
+    go (inr here) later = inr (inl here)
+
+-- where each text is UTF-8 and each value of its column's type, a number is out of range
+pub out_of_range : (fs : List Field) (row : Row) → ¬ HasFields fs row → ¬ HasBadText row → IsTyped fs row → HasBadNumberFrom 0 fs row
+out_of_range fs row unread good typed = go (fields_held 0 fs row typed.types good)
+  where
+    go : CanHoldFrom 0 fs row ⊎ HasBadNumberFrom 0 fs row → HasBadNumberFrom 0 fs row
+    go (inl held) = absurd (unread (record { width = typed.width; values = held }))
+    go (inr bad) = bad
+
+words_one : {s t : List ℕ} → Words s ≡ Words t → s ≡ t
+words_one same = ap text_of same
+  where
+    text_of : Value → List ℕ
+    text_of (Words t) = t
+    text_of v = []
+
+null_good : (v : Value) → v ≡ Null → ¬ IsBadText v
+null_good v null bad = absurd (cc)
+
+-- ---- a value, and the columns of a row, one by one
+
+pub is_bad : (v : Value) (t : List ℕ) → v ≡ Words t → ¬ IsUtf8 t → IsTrue true ↔ IsBadText v
+is_bad v t is bad = (λ yes. (t, is, bad), λ has. refl)
+
+pub is_good : (v : Value) (t : List ℕ) → v ≡ Words t → IsUtf8 t → IsTrue false ↔ IsBadText v
+is_good v t is good = (λ no. absurd (true≢false (sym no)), λ has. absurd (has.2 (subst IsUtf8 (words_one (sym is ∙ has.1)) good)))
+
+pub below_more : (row : Row) (n : ℕ) → ((k : ℕ) → k < n → ¬ IsBadText (column row k)) → ¬ IsBadText (column row n)
+    → (k : ℕ) → k < n + 1 → ¬ IsBadText (column row k)
+below_more row n below here k low = go (ltb k n) refl
+  where
+    go : (b : Bool) → ltb k n ≡ b → ¬ IsBadText (column row k)
+    go true e = below k (ltb-true k n e)
+    go false e =
+        let high : n ≤ k = ltb-false k n e in
+        let same : k ≡ n = omega (arith) in
+        subst (λ m. ¬ IsBadText (column row m)) (sym same) here
+
+-- past the end a column is NULL, which is no text
+pub none_bad : (row : Row) (n : ℕ) → length row ≤ n → ((k : ℕ) → k < n → ¬ IsBadText (column row k)) → ¬ HasBadText row
+none_bad row n all below has = go (ltb has.0 n) refl
+  where
+    go : (b : Bool) → ltb has.0 n ≡ b → ⊥
+    go true e = below has.0 (ltb-true has.0 n e) has.1
+    go false e =
+        let high : n ≤ has.0 = ltb-false has.0 n e in
+        let past : length row ≤ has.0 = omega (arith) in
+        null_good (column row has.0) (past_end row has.0 past) has.1
+
+pub has_bad : (row : Row) (n : ℕ) → IsBadText (column row n) → IsTrue true ↔ HasBadText row
+has_bad row n bad = (λ yes. (n, bad), λ has. refl)
+
+pub has_none : (row : Row) → ¬ HasBadText row → IsTrue false ↔ HasBadText row
+has_none row none = (λ no. absurd (true≢false (sym no)), λ has. absurd (none has))

@@ -1,0 +1,24 @@
+-- Messages that are answered over a file, and what a stop then leaves of the file.
+use Rattle.std.specs.Prelude.{◌≡◌, ◌≤◌, ℕ, Bool, List, [], map, length, Result, Ok, Err}
+use Rattle.mf_base.specs.declared.fault.Cause.TheVariants.{Memory}
+use Rattle.mf_base.specs.declared.fault.StreamFault.{StreamFault}
+use Rattle.mf_model.specs.Institution.{Institution}
+use Rattle.mf_model.specs.Run.{Line, answers, ViewIsPlay, RepliesArePlay, OwnRepliesArePlay}
+use Rattle.mf_wire.specs.Exchanges.{Exchange, AreLinesOf, responses}
+
+-- The messages of at most so many connections are the lines of the run on the institution, and the responses are those of its replies; so many were written whole. What each office sees and is told is isolated.
+pub record IsServedRun (i : Institution) (connections count : ℕ) (run : List Line) : Type 0 where
+  pub exchanges : List Exchange
+  pub to_heads : List Bool
+  pub each : length exchanges ≤ connections
+  pub counted : count ≤ length exchanges
+  pub calls : AreLinesOf exchanges run to_heads
+  pub replied : map (λ e. e.text) exchanges ≡ responses to_heads (answers run i)
+  pub views : ViewIsPlay i run
+  pub replies : RepliesArePlay i run
+  pub own_replies : OwnRepliesArePlay i run
+
+-- Messages were answered by one run on the institution, and a stop leaves this after it. Without memory to begin none was answered.
+abbrev pub ServesSo : Institution → ℕ → (List Line → Type 0) → Result ℕ StreamFault → Type 0
+ServesSo i connections Left (Ok count) = (run : List Line) × IsServedRun i connections count run × Left run
+ServesSo i connections Left (Err fault) = (fault ≡ record { answered = 0; cause = Memory }) × Left []

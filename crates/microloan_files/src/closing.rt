@@ -1,0 +1,90 @@
+//! Work over a store of files that is closed after it, as the program does it.
+
+ghost use Rattle.std.specs.Prelude.{[], ◌∷◌};
+ghost use Rattle.mf_model.specs.Institution.{Institution};
+ghost use Rattle.mf_store.specs.Stands.{StandsFor, Leaves};
+ghost use Rattle.mf_store_commits.specs.Tabled.{HasGoodDisk};
+ghost use Rattle.mf_store_files.specs.Closed.{CloseWell};
+ghost use Rattle.mf_wire_lines.specs.Streams.{stream_of, streams_of};
+ghost use Rattle.sqlite.specs.Files.{over_files};
+ghost use Rattle.microloan_files.specs.Closing.{CloseAfter, RunsAndCloses, CollectsAndCloses};
+ghost use Rattle.microloan_files.specs.Serving.{ServesSo};
+
+use mf_base::{Fault, StreamFault};
+use mf_office::Caller;
+use mf_store::Store;
+use mf_store_files::close;
+use mf_wire::{Sink, Source, laws, run};
+use microloan_commands::{SheetFault, collect_sheet, serve_connections};
+use sqlite::{FileStore, Files};
+use sqlite_disk::Disk;
+use std::alloc::Global;
+use std::net::{OpenListener, TcpStream};
+use std::rt::Clock;
+
+/// Answers request lines over a store of files, as `run` does, and closes it (`mf_store_files::close`). Whatever a stop
+/// then leaves of the files holds the institution after all lines that were answered, with the log and without it. F20
+/// tells that they could not be closed: a stop leaves what it could before, the tables after a beginning of the lines that
+/// holds every line that was answered.
+pub fn run_and_close<D: Disk + Drop, R: Source, W: Sink>(
+    alloc: Global,
+    mut store: Store<FileStore<D>>,
+    source: &mut R,
+    sink: &mut W,
+) -> (
+    Result<u64, StreamFault>,
+    Result<Files<D>, (Fault, FileStore<D>)>,
+)
+    ensures premise { CloseWell result.1 → HasGoodDisk over_files store.connection }
+    ensures ends { CloseWell result.1 → (i : Institution) → StandsFor over_files store i →
+        Leaves over_files store (i ∷ []) → RunsAndCloses i result.1 (streams_of
+        (stream_of R.unread R.faults source.old source.new)
+        (stream_of W.written W.faults sink.old sink.new)) result.0 }
+{
+    let told = run(alloc, &mut store, source, sink);
+    (told, close(store))
+}
+
+/// Reads a source to its end, collects it as a sheet over a store of files, as `collect_sheet` does, and closes the store;
+/// a stop then leaves what `run_and_close` says.
+pub fn collect_and_close<D: Disk + Drop, R: Source, W: Sink>(
+    alloc: Global,
+    mut store: Store<FileStore<D>>,
+    caller: Caller,
+    source: &mut R,
+    sink: &mut W,
+) -> (
+    Result<(), SheetFault>,
+    Result<Files<D>, (Fault, FileStore<D>)>,
+)
+    ensures premise { CloseWell result.1 → HasGoodDisk over_files store.connection }
+    ensures ends { CloseWell result.1 → (i : Institution) → StandsFor over_files store i →
+        Leaves over_files store (i ∷ []) → CollectsAndCloses caller i result.1 (streams_of
+        (stream_of R.unread R.faults source.old source.new)
+        (stream_of W.written W.faults sink.old sink.new)) result.0 }
+{
+    let told = collect_sheet(alloc, &mut store, caller, source, sink);
+    (told, close(store))
+}
+
+/// Serves so many connections over a store of files, as `serve_connections` does, and closes the store; a stop then leaves
+/// what `run_and_close` says, of messages.
+pub fn serve_and_close<D: Disk + Drop, C: Clock, L: OpenListener<Stream = TcpStream>>(
+    alloc: Global,
+    clock: &C,
+    mut store: Store<FileStore<D>>,
+    listener: &L,
+    connections: u64,
+    patience: u32,
+) -> (
+    Result<u64, StreamFault>,
+    Result<Files<D>, (Fault, FileStore<D>)>,
+)
+    ensures premise { CloseWell result.1 → HasGoodDisk over_files store.connection }
+    ensures ends { CloseWell result.1 → (i : Institution) → StandsFor over_files store i →
+        Leaves over_files store (i ∷ []) → ServesSo i connections (CloseAfter i result.1) result.0 }
+{
+    laws::served_messages_are_isolated::<Store<FileStore<D>>>();
+    let told = serve_connections(alloc, clock, &mut store, listener, connections, patience);
+    (told, close(store))
+}

@@ -1,0 +1,42 @@
+//! HTTP messages answered over a file, up to what a stop leaves of it.
+
+ghost use Rattle.std.specs.Prelude.{[], ◌∷◌};
+ghost use Rattle.mf_model.specs.Institution.{Institution};
+ghost use Rattle.mf_store.specs.Stands.{StandsFor, Leaves};
+ghost use Rattle.mf_store_commits.specs.Tabled.{HasGoodDisk};
+ghost use Rattle.sqlite.specs.Files.{over_files};
+ghost use Rattle.sqlite_store.specs.FileStore.{view};
+ghost use Rattle.sqlite_trees.specs.View.{IsClean};
+ghost use Rattle.microloan_files.specs.Beginnings.{LeaveBeginning};
+ghost use Rattle.microloan_files.specs.Serving.{ServesSo};
+
+use crate::handing::hand_back;
+use mf_base::StreamFault;
+use mf_store::Store;
+use mf_wire::laws;
+use microloan_commands::serve_connections;
+use sqlite::FileStore;
+use sqlite_disk::Disk;
+use std::alloc::Global;
+use std::net::{OpenListener, TcpStream};
+use std::rt::Clock;
+
+/// Serves so many connections over a store of files, as `serve_connections` does, and gives these back with what it told.
+/// Whatever a stop then leaves of the files opens as the institution after a beginning of the messages that holds every
+/// message that was answered.
+pub fn serve_over<D: Disk + Drop, C: Clock, L: OpenListener<Stream = TcpStream>>(
+    alloc: Global,
+    clock: &C,
+    mut store: Store<FileStore<D>>,
+    listener: &L,
+    connections: u64,
+    patience: u32,
+) -> (Result<u64, StreamFault>, FileStore<D>)
+    ensures premise { IsClean (view result.1) → HasGoodDisk over_files store.connection }
+    ensures ends { IsClean (view result.1) → (i : Institution) → StandsFor over_files store i →
+        Leaves over_files store (i ∷ []) → ServesSo i connections (λ run. LeaveBeginning i run result.1) result.0 }
+{
+    laws::served_messages_are_isolated::<Store<FileStore<D>>>();
+    let told = serve_connections(alloc, clock, &mut store, listener, connections, patience);
+    (told, hand_back(store))
+}
