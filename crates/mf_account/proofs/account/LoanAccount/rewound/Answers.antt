@@ -1,51 +1,6 @@
-use Rattle.std.proofs.Common.{◌≡◌, ℕ, ◌+◌, ◌*◌, ◌≤◌, List, length, take, arith, ◌∙◌, ap, sym, subst}
-use Rattle.std.specs.Prelude.{All}
-use Rattle.std.proofs.lemmas.List.Elements.{All-weaker}
-use Rattle.mf_account.specs.declared.entry.Entry.{Entry}
-use Rattle.mf_account.specs.declared.settled.Settled.{Settled}
-use Rattle.mf_account.specs.Change.{Account, IsReplayed}
-use Rattle.mf_account.specs.Effect.{State}
-use Rattle.mf_account.specs.Safe.{most_kept, IsBounded}
-use Rattle.mf_account.specs.Told.{settled_amount}
-use Rattle.mf_account.specs.Account.{first_state}
-use Rattle.mf_account.specs.Applicable.{HasCharge}
-use Rattle.mf_account.specs.Standing.{standing_entries, entries_at}
-use Rattle.mf_account.specs.Loan.{Loan, schedule_of, orders_of, cell_places_of, settled_of_loan}
-use Rattle.mf_account.specs.Rewind.{state_before, settled_upto}
-use Rattle.mf_account.proofs.BoundLemmas.{bounded-weaker}
-use Rattle.mf_account.proofs.GoodLemmas.{IsReplayable}
-use Rattle.mf_account.proofs.RewindLemmas.{has_charge}
-use Rattle.mf_account.proofs.SoundLemmas.{each-standing}
-use Rattle.mf_account.proofs.TailLemmas.{rewindable-whole, back-whole}
+use Rattle.std.proofs.Common.{◌∙◌, ap}
+use Rattle.mf_account.specs.Change.{Account}
 use Rattle.mf_account.proofs.account.LoanAccount.rewound.Goals as goal
 
-pub rewind_to-requires-clause-charges : goal.rewind_to-requires-clause-charges
-rewind_to-requires-clause-charges c =
-    let old : Loan = record { terms = c.self.inside.terms; principal = c.self.inside.principal; periods = c.self.inside.periods; day = c.self.inside.day; entries = c.self.inside.entries.items } in
-    let tail : entries_at c.deref.result.now c.deref-2.result.now ≡ standing_entries old.entries =
-    ap (λ e. entries_at e c.deref-2.result.now) c.deref.ensures.value ∙ ap (entries_at old.entries) c.deref-2.ensures.value ∙ c.self.invariant.order_is in
-    let size : length c.in_ok-book.book.rows ≡ old.periods = ap (λ (s : State). length s.rows) c.in_ok-book.ensures.same ∙ c.self.invariant.safe.bounded.size in
-    let each : All (λ (e : Entry). HasCharge e.kind e old.periods) (standing_entries old.entries) =
-    All-weaker (IsReplayable old.periods) (λ (e : Entry). HasCharge e.kind e old.periods) (λ e is. has_charge e.kind e old.periods is.there) (standing_entries old.entries) (each-standing old c.self.invariant.sound) in
-    subst (λ (n : ℕ). All (λ (e : Entry). HasCharge e.kind e n) (entries_at c.deref.result.now c.deref-2.result.now)) (sym size)
-    (subst (λ (x : List Entry). All (λ (e : Entry). HasCharge e.kind e old.periods) x) (sym tail) each)
-
-pub returns-in-Some-clause-bounded : goal.returns-in-Some-clause-bounded
-returns-in-Some-clause-bounded c =
-    let n : ℕ = c.self.inside.periods in
-    let was : IsBounded n most_kept c.in_ok-book.book = subst (IsBounded n most_kept) (sym c.in_ok-book.ensures.same) c.self.invariant.safe.bounded in
-    let amount : settled_amount c.deref-3.result.now ≤ most_kept = subst (λ (x : List Settled). settled_amount x ≤ most_kept) (sym c.deref-3.ensures.value) c.self.invariant.safe.placed.amount in
-    subst (λ (a : Account). IsBounded a.loan.periods (2 * most_kept) c.rewind_to.new.book) c.self.view_is
-    (bounded-weaker n (most_kept + settled_amount c.deref-3.result.now) (2 * most_kept) c.rewind_to.new.book (omega (arith, amount)) (c.in-Some.ensures.bounded n most_kept was))
-
-pub returns-in-Some-clause-back : goal.returns-in-Some-clause-back
-returns-in-Some-clause-back c replayed =
-    let old : Loan = record { terms = c.self.inside.terms; principal = c.self.inside.principal; periods = c.self.inside.periods; day = c.self.inside.day; entries = c.self.inside.entries.items } in
-    let tail : entries_at c.deref.result.now c.deref-2.result.now ≡ standing_entries old.entries =
-    ap (λ e. entries_at e c.deref-2.result.now) c.deref.ensures.value ∙ ap (entries_at old.entries) c.deref-2.ensures.value ∙ c.self.invariant.order_is in
-    let true_to : IsReplayed (record { loan = old; state = c.self.inside.book; settled = c.self.inside.settled.items; change = c.self.inside.change }) = subst IsReplayed (sym c.self.view_is) replayed in
-    let settled : c.deref-3.result.now ≡ settled_of_loan old = c.deref-3.ensures.value ∙ true_to.settled in
-    let is = rewindable-whole old (entries_at c.deref.result.now c.deref-2.result.now) c.deref-3.result.now c.in_ok-book.book c.self.invariant.sound tail settled (c.in_ok-book.ensures.same ∙ true_to.state) in
-    subst (λ (a : Account). (c.rewind_to.new.book ≡ state_before a.loan c.args.place) × (take c.in-Some.kept (settled_of_loan a.loan) ≡ settled_upto a.loan c.args.place)) c.self.view_is
-    (back-whole old (entries_at c.deref.result.now c.deref-2.result.now) c.deref-3.result.now c.args.place c.in-Some.kept c.rewind_to.new.book
-    (c.in-Some.ensures.back (orders_of old) (cell_places_of old) (first_state (schedule_of old)) is) tail settled)
+pub rewind_copy-requires-clause-same : goal.rewind_copy-requires-clause-same
+rewind_copy-requires-clause-same c = c.in_ok-book.ensures.same ∙ ap (λ (a : Account). a.state) c.self.view_is
