@@ -9,7 +9,7 @@ use Rattle.mf_account.specs.Effect.{State}
 use Rattle.mf_account.specs.Safe.{most_kept, IsBounded}
 use Rattle.mf_account.specs.Told.{settled_amount}
 use Rattle.mf_account.specs.Account.{first_state}
-use Rattle.mf_account.specs.Applicable.{AreInRows, HasCharge}
+use Rattle.mf_account.specs.Applicable.{HasCharge}
 use Rattle.mf_account.specs.Standing.{standing_entries, entries_at}
 use Rattle.mf_account.specs.Loan.{Loan, schedule_of, orders_of, cell_places_of, settled_of_loan}
 use Rattle.mf_account.specs.Rewind.{state_before, settled_upto}
@@ -42,33 +42,6 @@ rewind_to-requires-clause-charges c =
     (each-standing old c.self.invariant.sound) in
     subst (λ (n : ℕ). All (λ (e : Entry). HasCharge e.kind e n) (entries_at c.deref.result.now c.deref-2.result.now))
     (sym size) (subst (λ (x : List Entry). All (λ (e : Entry). HasCharge e.kind e old.periods) x) (sym tail) each)
-
-pub rewind_to-requires-clause-cells : goal.rewind_to-requires-clause-cells
-rewind_to-requires-clause-cells c =
-    let same : c.args.book.now ≡ c.self.inside.book =
-    c.requires.same ∙ sym (ap (λ (a : Account). a.state) c.self.view_is) in
-    let size : length c.args.book.now.rows ≡ c.self.inside.periods =
-    ap (λ (s : State). length s.rows) same ∙ c.self.invariant.safe.bounded.size in
-    subst (λ (n : ℕ). AreInRows n c.deref-3.result.now) (sym size)
-    (subst (AreInRows c.self.inside.periods) (sym c.deref-3.ensures.value) c.self.invariant.safe.placed.cells)
-
-pub rewind_to-requires-clause-money : goal.rewind_to-requires-clause-money
-rewind_to-requires-clause-money c =
-    let same : c.args.book.now ≡ c.self.inside.book =
-    c.requires.same ∙ sym (ap (λ (a : Account). a.state) c.self.view_is) in
-    let money : c.args.book.now.overpaid + c.args.book.now.refunded ≤ most_kept =
-    subst (λ (s : State). s.overpaid + s.refunded ≤ most_kept) (sym same) c.self.invariant.safe.bounded.money in
-    let amount : settled_amount c.deref-3.result.now ≤ most_kept =
-    subst (λ (x : List Settled). settled_amount x ≤ most_kept) (sym c.deref-3.ensures.value)
-    c.self.invariant.safe.placed.amount in
-    omega (arith, money, amount)
-
-pub returns-clause-within : goal.returns-clause-within
-returns-clause-within c =
-    let all : c.deref-3.result.now ≡ c.args.self.now.settled =
-    c.deref-3.ensures.value ∙ ap (λ (a : Account). a.settled) c.self.view_is in
-    subst (λ (x : List Settled). IfSome c.rewind_to.result (λ (kept : ℕ). kept ≤ length x)) all
-    c.rewind_to.ensures.within
 
 pub returns-clause-bounded : goal.returns-clause-bounded
 returns-clause-bounded c =
