@@ -29,4 +29,5 @@ pub mod ToldLemmas
 pub mod ByDayLemmas
 mod OrderedLemmas
 mod SafeLemmas
+mod WithinLemmas
 pub mod ReceiptLemmas

@@ -17,3 +17,4 @@ pub mod Undo
 pub mod Rewind
 pub mod ClearingLaw
 pub mod Receipts
+pub mod BoundsLaw

@@ -2,7 +2,7 @@
 use Rattle.std.specs.Prelude.{◌≡◌, ◌≢◌, ℕ, ◌+◌, ◌-◌, ◌<◌, ◌≤◌, ◌^◌, Bool, false, not, ◌&&◌, ◌||◌, ◌==◌, nat_lt, nat_le, if◌then◌else◌, List, length, Option, Some, None, is_some}
 use Rattle.std.specs.List.{list_any}
 use Rattle.mf_base.specs.declared.fault.Fault.{Fault}
-use Rattle.mf_base.specs.declared.fault.Fault.TheVariants.{F8, F9, F10, F11, F12, F13, F14, F18, F19}
+use Rattle.mf_base.specs.declared.fault.Fault.TheVariants.{F8, F9, F10, F11, F12, F13, F14, F18, F20}
 use Rattle.mf_alloc.specs.declared.row.Portion.TheVariants.{Penalty as PenaltyPart, Fee as FeePart, Principal}
 use Rattle.mf_alloc.specs.Sums.{Sums, is_open}
 use Rattle.mf_alloc.specs.Rows.{outstanding, row_at}
@@ -122,6 +122,13 @@ pub record IsAdmitted (loan : Loan) (e : Entry) (business_day : ℕ) : Type 0 wh
   pub within : is_out_of_limits e.kind e.amount ≡ false
   pub few : length loan.entries < 9999
 
--- the refusals of an entry or a reversal, and F20 when out of memory
+-- what an entry is refused with, and F20 when out of memory
 abbrev pub IsEntryFault : Fault → Type 0
-IsEntryFault fault = fault ≢ F19
+IsEntryFault F8 = Unit {0}
+IsEntryFault F9 = Unit {0}
+IsEntryFault F10 = Unit {0}
+IsEntryFault F11 = Unit {0}
+IsEntryFault F14 = Unit {0}
+IsEntryFault F18 = Unit {0}
+IsEntryFault F20 = Unit {0}
+IsEntryFault fault = ⊥

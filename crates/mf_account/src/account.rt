@@ -232,7 +232,9 @@ impl LoanAccount {
     /// the loan is not at status 300, or at 700 for a refund; F10 for a repayment before disbursement or after the
     /// business day; F14 where the instalment does not allow it; F8 for a fee or penalty of 0 or over 10^12 cents; F18
     /// where the loan has 9,999 entries; and F20 when out of memory. A refused entry is given up, and the account is
-    /// as before. An account that is no replay's may be refused with F20 too, where sums would leave all bounds.
+    /// as before. An account that is a replay's is refused with F20 for want of memory alone: the two other causes, that
+    /// more would be taken back than stands and that sums would leave all bounds, never come about (`replayed` of
+    /// `rewind_copy` and `is_within_bounds`).
     pub fn enter(&mut self, alloc: Global, entry: Entry, business_day: Day) -> Result<(), Fault>
         requires { IsOffered self.old.loan entry business_day }
         ensures ok { OnOk result (self.new.loan ≡ record self.old.loan { entries = self.old.loan.entries ++ entry ∷ [] }) }
@@ -303,22 +305,24 @@ impl LoanAccount {
         let later = &self.order[place..];
         let strategy = &self.terms.strategy;
         let parts = apply_with(alloc, strategy, &mut book, entry, &self.entries, later)?;
-        self.bounded(&book, kept, &parts)?;
+        if !self.is_within_bounds(&book, kept, &parts) {
+            return Err(Fault::F20);
+        }
         Ok((book, kept, parts))
     }
 
-    /// F20 where a book, or parts behind the first ones, of which so many stay, come to more than is kept.
-    fn bounded(&self, book: &Book, kept: usize, parts: &[Settled]) -> Result<(), Fault>
+    /// Whether a book, and parts behind the first ones, of which so many stay, come to no more than is kept. What a
+    /// change leads to always does where the account is a replay's.
+    fn is_within_bounds(&self, book: &Book, kept: usize, parts: &[Settled]) -> bool
         requires within { kept ≤ length self.now.settled }
-        ensures book { (n : ℕ) → IsShaped n book.now → OnOk result (IsBounded n most_kept book.now) }
-        ensures parts { OnOk result (settled_amount (take kept self.now.settled ++ parts.now) ≤ most_kept) }
-        ensures only { IsOkUnless result Fault.F20 }
+        ensures book { (n : ℕ) → IsShaped n book.now → IsTrue result → IsBounded n most_kept book.now }
+        ensures parts { IsTrue result → settled_amount (take kept self.now.settled ++ parts.now) ≤ most_kept }
+        ensures exact { (n : ℕ) → IsBounded n most_kept book.now
+            → settled_amount (take kept self.now.settled ++ parts.now) ≤ most_kept → IsTrue result }
+        ensures replayed { IsReplayed self.now → (new : Loan) → IsSound new
+            → IsRedone self.now.loan new book.now kept parts.now → IsTrue result }
     {
-        if is_bounded(book) && is_amount_within(&self.settled[..kept], parts) {
-            Ok(())
-        } else {
-            Err(Fault::F20)
-        }
+        is_bounded(book) && is_amount_within(&self.settled[..kept], parts)
     }
 
     /// What a change that leads to a book and parts changes.
@@ -351,10 +355,26 @@ impl LoanAccount {
         ensures only { IsOkUnless result Fault.F20 }
     {
         let mut book = self.book.copied(alloc)?;
-        match rewind_to(&mut book, &self.entries, &self.order, place, &self.settled) {
+        match self.rewind_copy(&mut book, place) {
             Some(kept) => Ok((book, kept)),
             None => Err(Fault::F20),
         }
+    }
+
+    /// Takes the standing entries from a place on back from a copy of the book, and answers how many parts are settled
+    /// by then. None where more is settled of an instalment than would be owed, as it never is where the account is a
+    /// replay's: the copy is then given up.
+    fn rewind_copy(&self, book: &mut Book, place: usize) -> Option<usize>
+        requires place { place ≤ length (standing_entries self.now.loan.entries) }
+        requires same { book.old ≡ self.now.state }
+        ensures within { IfSome result (λ kept. kept ≤ length self.now.settled) }
+        ensures bounded { IfSome result (λ kept. IsBounded self.now.loan.periods (2 * most_kept) book.new) }
+        ensures back { IsReplayed self.now
+            → IfSome result (λ kept. (book.new ≡ state_before self.now.loan place)
+            × (take kept (settled_of_loan self.now.loan) ≡ settled_upto self.now.loan place)) }
+        ensures replayed { IsReplayed self.now → result ≢ None }
+    {
+        rewind_to(book, &self.entries, &self.order, place, &self.settled)
     }
 
     /// Why an entry is refused, if it is. It takes no memory.
@@ -388,8 +408,8 @@ impl LoanAccount {
     }
 
     /// Reverses entry `seq`. The refusals are, the first that holds: F12 where there is no such entry; F13 where it is
-    /// reversed; F11 where another entry seals the loan; and F20 when out of memory. The account is then as before. F20 comes for
-    /// an account that is no replay's as in `enter`.
+    /// reversed; F11 where another entry seals the loan; and F20 when out of memory. The account is then as before. An
+    /// account that is a replay's is refused with F20 for want of memory alone, as in `enter`.
     pub fn reverse(&mut self, alloc: Global, seq: u32) -> Result<(), Fault>
         ensures ok { OnOk result (self.new.loan ≡ record self.old.loan { entries = with_mark self.old.loan.entries (seq - 1) true }) }
         ensures replayed { IsReplayed self.old → OnOk result (IsReplayed self.new) }
@@ -454,7 +474,9 @@ impl LoanAccount {
         let (mut book, kept) = self.rewound(alloc, place)?;
         let later = &self.order[place + 1..];
         let parts = apply_all(alloc, &self.terms.strategy, &mut book, &self.entries, later)?;
-        self.bounded(&book, kept, &parts)?;
+        if !self.is_within_bounds(&book, kept, &parts) {
+            return Err(Fault::F20);
+        }
         Ok((book, kept, parts))
     }
 

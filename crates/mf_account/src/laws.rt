@@ -7,6 +7,7 @@ ghost use Rattle.mf_account.specs.Loan.{Loan, IsSound, state_of_loan, status_of_
 ghost use Rattle.mf_account.specs.StandingLaw.{StandingIsOne};
 ghost use Rattle.mf_account.specs.ClearingLaw.{WritesOffByCells, WaivesOneCell};
 ghost use Rattle.mf_account.specs.Rewind.{TailsCanBeRewound};
+ghost use Rattle.mf_account.specs.BoundsLaw.{ChangesStayWithinBounds};
 
 /// The standing entries of a loan are the one list of exactly those not reversed that ascends by day, then by number.
 pub fn standing_entries_are_one_list()
@@ -16,6 +17,12 @@ pub fn standing_entries_are_one_list()
 /// The standing entries of a sound loan, from the place of any of them on, can be rewound by what they settle.
 pub fn tails_can_be_rewound()
     ensures { TailsCanBeRewound }
+{}
+
+/// What an account comes to with an entry more, or with one reversed, stays within the bounds of what is kept, 10^18
+/// cents, where the account is a replay's and the loan is sound with the change.
+pub fn changes_stay_within_bounds()
+    ensures { ChangesStayWithinBounds }
 {}
 
 /// A write-off moves all that is outstanding in each cell to what is written off, a waiver all that is outstanding in

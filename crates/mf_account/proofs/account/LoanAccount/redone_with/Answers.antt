@@ -73,7 +73,8 @@ returns-clause-safe c =
     let kept : ℕ = c.in_ok-book.kept in
     let amount : settled_amount (take kept c.self.inside.settled.items ++ c.in_ok-parts.parts.items) ≤ most_kept =
     subst (λ (x : List Settled). settled_amount (take kept c.self.inside.settled.items ++ x) ≤ most_kept) c.deref-3.ensures.value
-    (subst (λ (a : Account). settled_amount (take kept a.settled ++ c.deref-3.result.now) ≤ most_kept) (sym c.self.view_is) c.in_ok-bounded.ensures.parts) in
+    (subst (λ (a : Account). settled_amount (take kept a.settled ++ c.deref-3.result.now) ≤ most_kept)
+    (sym c.self.view_is) (c.is_within_bounds.ensures.parts c.if-not-is_within_bounds.false)) in
     let count : length (old.entries ++ e ∷ []) ≡ length old.entries + 1 = length-append old.entries (e ∷ []) in
     let more : AreNumberedTo (length (old.entries ++ e ∷ [])) c.self.inside.settled.items =
     All-weaker (IsNumberedTo (length old.entries)) (IsNumberedTo (length (old.entries ++ e ∷ []))) (λ s is. (is.0, omega (arith, is.1, count))) c.self.inside.settled.items c.self.invariant.safe.placed.numbers in
@@ -85,4 +86,4 @@ returns-clause-safe c =
     c.apply_with.new.book (take kept c.self.inside.settled.items) c.in_ok-parts.parts.items c.in_ok-parts.ensures.state c.in_ok-parts.ensures.parts
     (All-take (λ (s : Settled). IsCell old.periods s.cell) kept c.self.inside.settled.items c.self.invariant.safe.placed.cells)
     (All-take (IsNumberedTo (length (old.entries ++ e ∷ []))) kept c.self.inside.settled.items more)
-    amount c.in_ok-bounded.ensures.book))
+    amount (λ n shaped. c.is_within_bounds.ensures.book n shaped c.if-not-is_within_bounds.false)))

@@ -80,7 +80,8 @@ returns-clause-safe c =
     let kept : ℕ = c.in_ok-book.kept in
     let amount : settled_amount (take kept c.self.inside.settled.items ++ c.in_ok-parts.parts.items) ≤ most_kept =
     subst (λ (x : List Settled). settled_amount (take kept c.self.inside.settled.items ++ x) ≤ most_kept) c.deref-3.ensures.value
-    (subst (λ (a : Account). settled_amount (take kept a.settled ++ c.deref-3.result.now) ≤ most_kept) (sym c.self.view_is) c.in_ok-bounded.ensures.parts) in
+    (subst (λ (a : Account). settled_amount (take kept a.settled ++ c.deref-3.result.now) ≤ most_kept)
+    (sym c.self.view_is) (c.is_within_bounds.ensures.parts c.if-not-is_within_bounds.false)) in
     let count : length (with_mark old.entries at.0 true) ≡ length old.entries = length-set old.entries at.0 (record (entry_at old.entries at.0) { reversed = true }) in
     let numbers : AreNumberedTo (length (with_mark old.entries at.0 true)) c.self.inside.settled.items =
     subst (λ (n : ℕ). AreNumberedTo n c.self.inside.settled.items) (sym count) c.self.invariant.safe.placed.numbers in
@@ -91,4 +92,4 @@ returns-clause-safe c =
     c.apply_all.new.book (take kept c.self.inside.settled.items) c.in_ok-parts.parts.items c.in_ok-parts.ensures.state c.in_ok-parts.ensures.parts
     (All-take (λ (s : Settled). IsCell old.periods s.cell) kept c.self.inside.settled.items c.self.invariant.safe.placed.cells)
     (All-take (IsNumberedTo (length (with_mark old.entries at.0 true))) kept c.self.inside.settled.items numbers)
-    amount c.in_ok-bounded.ensures.book))
+    amount (λ n shaped. c.is_within_bounds.ensures.book n shaped c.if-not-is_within_bounds.false)))
