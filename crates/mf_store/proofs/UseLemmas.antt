@@ -1,47 +1,21 @@
 -- The entry that carries a receipt: it is found by the loan and the number that the receipt's row tells.
-use Rattle.std.proofs.Common.{◌≡◌, ◌<◌, ◌+◌, ℕ, zero, suc, Bool, true, false, cond, ◌&&◌, List, [], ◌∷◌, ◌++◌, map, filter, find, slice_get, Option, None, Some, refl, sym, ap, ◌∙◌, subst, arith, Ordering, Less, Equal, Greater, is_eq, nat_cmp}
+use Rattle.std.proofs.Common.{◌≡◌, ◌+◌, ℕ, zero, suc, Bool, true, false, cond, List, [], ◌∷◌, ◌++◌, map, find, slice_get, Option, None, Some, refl, sym, ap, ◌∙◌, subst, arith}
 use Rattle.std.specs.Option.{option_or}
-use Rattle.std.specs.Ordering.{ordering_then}
 use Rattle.std.specs.Str.{bytes_eq}
-use Rattle.std.proofs.lemmas.Bool.Decides.{nat_tests}
 use Rattle.std.proofs.lemmas.List.Folds.{find-append}
 use Rattle.mf_account.specs.declared.entry.Entry.{Entry}
 use Rattle.mf_model.specs.Institution.{Institution, Ledger, item_numbered}
 use Rattle.mf_model.specs.Receipts.{Use, use_by, use_of, uses_in, uses_from, first_use}
 use Rattle.mf_model.specs.Sound.{IsSound}
 use Rattle.mf_model.specs.Store.{rows_at, use_at}
-use Rattle.mf_store_records.specs.Rows.{is_entry, is_entry_of}
-use Rattle.mf_store_records.specs.declared.entries.EntryRow.{EntryRow}
-use Rattle.mf_store_accounts.specs.Flat.{entry_in, entries_of, tables_of}
+use Rattle.mf_store_records.specs.Rows.{is_entry}
+use Rattle.mf_store_accounts.specs.Flat.{entry_in, tables_of}
 use Rattle.mf_store_changes.proofs.EnteredLemmas.{loan_numbered}
-use Rattle.mf_store_changes.proofs.EntryLemmas.{AreNumbered, later_numbered, entries_shown}
+use Rattle.mf_store_changes.proofs.EntryLemmas.{AreNumbered, later_numbered}
 use Rattle.mf_store_changes.proofs.FlatLemmas.{numbered-suc}
+use Rattle.mf_store_changes.proofs.FoundLemmas.{other_number, same_number, has_seq, entry_by_number}
 
 -- ---- an entry by its number
-
-find_filtered : {A : Type 0} (p q r : A → Bool) → ((x : A) → r x ≡ (p x && q x)) → (xs : List A) → find r xs ≡ find q (filter p xs)
-find_filtered p q r is [] = refl
-find_filtered p q r is (x ∷ xs) = ap (λ b. cond b (Some x) (find r xs)) (is x) ∙ go (p x) (find_filtered p q r is xs)
-  where
-    go : (b : Bool) → find r xs ≡ find q (filter p xs) → cond (b && q x) (Some x) (find r xs) ≡ find q (cond b (x ∷ filter p xs) (filter p xs))
-    go true more = ap (λ o. cond (q x) (Some x) o) more
-    go false more = more
-
-three : (a b c : Ordering) → is_eq (ordering_then a (ordering_then b c)) ≡ (is_eq (ordering_then a b) && is_eq c)
-three Less b c = refl
-three Equal Less c = refl
-three Equal Equal c = refl
-three Equal Greater c = refl
-three Greater b c = refl
-
-other_number : (s t : ℕ) → t < s → is_eq (nat_cmp s t) ≡ false
-other_number s t h = grind (arith, nat_tests)
-
-same_number : (s t : ℕ) → t ≡ s → is_eq (nat_cmp s t) ≡ true
-same_number s t h = grind (arith, nat_tests)
-
-abbrev has_seq : ℕ → EntryRow → Bool
-has_seq s row = is_eq (nat_cmp s row.seq)
 
 found_at : (x n m k : ℕ) (es : List Entry) (e : Entry) → AreNumbered m es → slice_get es k ≡ Some e → find (has_seq e.seq) (map (entry_in x n) es) ≡ Some (entry_in x n e)
 found_at x n m k es e are at = go m k es e.seq are at (number m k es are at)
@@ -123,8 +97,7 @@ carrier x r u i sound at =
     let loan_is : u.by.loan ≡ n = λ k. (a.inside.by_is k).loan in
     let seq_is : u.by.seq ≡ e.seq = λ k. (a.inside.by_is k).seq in
     let row : find (is_entry x n e.seq) (tables_of i).entries ≡ Some (entry_in x n e) =
-    find_filtered (is_entry_of x n) (has_seq e.seq) (is_entry x n e.seq) (λ y. three (nat_cmp x y.office) (nat_cmp n y.loan) (nat_cmp e.seq y.seq)) (tables_of i).entries
-    ∙ ap (find (has_seq e.seq)) (entries_shown x n i.offices sound.tree.ascending ∙ ap (λ o. map (entry_in x n) (entries_of o)) there)
+    entry_by_number x n e.seq a.ledger i sound there
     ∙ found_at x n 0 a.inside.place a.ledger.entries e numbers a.inside.at in
     record {
       entry = e;

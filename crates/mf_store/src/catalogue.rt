@@ -1,9 +1,12 @@
 //! The catalogue: its charges and products by number, and the commits that change it.
 
-ghost use Rattle.std.specs.Prelude.{◌≡◌, IfOk};
+ghost use Rattle.std.specs.Prelude.{◌≡◌, ◌+◌, ◌∷◌, [], length, IfOk, IfErr};
+ghost use Rattle.mf_base.specs.declared.fault.Fault.TheVariants.{F20};
 ghost use Rattle.mf_model.specs.Institution.{Institution, charge_in, product_in};
-ghost use Rattle.mf_model.specs.Store.{catalogue_counts};
+ghost use Rattle.mf_model.specs.Sound.{IsSound};
+ghost use Rattle.mf_model.specs.Store.{catalogue_counts, IsAdmitted};
 ghost use Rattle.mf_model.specs.declared.commit.Commit.TheVariants.{SetDay, AddCharge, AddProduct, RetireProduct};
+ghost use Rattle.mf_store_changes.specs.Suiting.{Carries};
 
 use crate::counts::{Kind, MOST};
 use crate::known::News;
@@ -16,6 +19,16 @@ use mf_store_records::{MetaRow, SCHEMA, StoreWrite, Text};
 use mf_store_values::{charge_from, product_from};
 use sqlite::Alter;
 use std::alloc::Global;
+
+/// The write that adds a product, where this is the number of the next.
+fn new_product(number: u32, members: ProductMembers) -> Result<StoreWrite, Fault>
+    ensures carries { IfOk result (λ write. (i : Institution) → IsSound i → IsAdmitted (AddProduct members) i
+        → number ≡ length i.catalogue.products + 1 → Carries (AddProduct members) (write ∷ []) i) }
+    ensures gives_up { IfErr result (λ fault. fault ≡ F20) }
+{
+    let row = product_row(number, members)?;
+    Ok(StoreWrite::AddProduct(row))
+}
 
 impl<S: Alter> Store<S> {
     ghost use Rattle.mf_store.specs.Stands.{StandsFor, IsClean, AsksTables, MayAskTables, MakesCommit};
@@ -121,22 +134,32 @@ impl<S: Alter> Store<S> {
             return Err(Fault::F20);
         }
         let number = counts.products + 1;
-        let row = product_row(number, members)?;
+        let write = new_product(number, members)?;
         let now = CatalogueCounts {
             products: number,
             ..counts
         };
-        self.make(&[StoreWrite::AddProduct(row)], News::Catalogue(now))
+        self.make(&[write], News::Catalogue(now))
+    }
+
+    /// The write that retires a product that is there.
+    fn retirement(&mut self, product: u32) -> Result<StoreWrite, Fault>
+        ensures asks { AsksTables S.Store self.old self.new result }
+        ensures carries { IsClean S.Store self.new → (i : Institution) → StandsFor S.Store self.old i
+            → IsAdmitted (RetireProduct product) i → IfOk result (λ write. Carries (RetireProduct product) (write ∷ []) i) }
+    {
+        let Some(found) = self.find_product(product)? else {
+            return Err(Fault::F20);
+        };
+        let row = retired(found);
+        Ok(StoreWrite::PutProduct(row))
     }
 
     /// Retires a product that is there.
     pub fn retire_product(&mut self, product: u32) -> Result<(), Fault>
         ensures { MakesCommit S.Store (RetireProduct product) self.old self.new result }
     {
-        let Some(found) = self.find_product(product)? else {
-            return Err(Fault::F20);
-        };
-        let row = retired(found);
-        self.make(&[StoreWrite::PutProduct(row)], News::Retirement)
+        let write = self.retirement(product)?;
+        self.make(&[write], News::Retirement)
     }
 }

@@ -1,9 +1,14 @@
 //! Loans as they were submitted, with their stages: by number, and the commits that change them.
 
-ghost use Rattle.std.specs.Prelude.{◌≡◌, Option, Some, IfOk};
+ghost use Rattle.std.specs.Prelude.{◌≡◌, ◌+◌, ◌<◌, [], ◌∷◌, length, true, Option, None, Some, IfOk, IfErr};
+ghost use Rattle.mf_base.specs.declared.fault.Fault.TheVariants.{F20};
 ghost use Rattle.mf_model.specs.Institution.{Institution};
-ghost use Rattle.mf_model.specs.Store.{loan_at};
+ghost use Rattle.mf_model.specs.Sound.{IsSound};
+ghost use Rattle.mf_model.specs.Stages.{disbursed_on};
+ghost use Rattle.mf_model.specs.Store.{loan_at, rows_at, IsAdmitted};
+ghost use Rattle.mf_model.specs.Tree.{is_there};
 ghost use Rattle.mf_model.specs.declared.commit.Commit.TheVariants.{AddLoan, SetStage};
+ghost use Rattle.mf_store_changes.specs.Suiting.{Carries};
 
 use crate::counts::MOST;
 use crate::known::News;
@@ -17,8 +22,19 @@ use mf_store_values::{disbursal_day, loan_from};
 use sqlite::Alter;
 use std::alloc::Global;
 
+/// The write that adds a loan to an office that is there, where this is the number of its next loan.
+fn new_loan(alloc: Global, office: u32, number: u32, loan: Loan) -> Result<StoreWrite, Fault>
+    ensures carries { IfOk result (λ write. (i : Institution) → IsSound i → IsAdmitted (AddLoan office loan) i
+        → is_there i.offices office ≡ true → number ≡ length (rows_at office i).loans + 1
+        → disbursed_on loan.stage ≡ None → Carries (AddLoan office loan) (write ∷ []) i) }
+    ensures gives_up { IfErr result (λ fault. fault ≡ F20) }
+{
+    let row = loan_row(alloc, office, number, loan)?;
+    Ok(StoreWrite::AddLoan(row))
+}
+
 impl<S: Alter> Store<S> {
-    ghost use Rattle.mf_store.specs.Stands.{StandsFor, IsClean, AsksTables, MakesCommit};
+    ghost use Rattle.mf_store.specs.Stands.{StandsFor, IsClean, Stays, AsksTables, MakesCommit};
 
     /// A loan, or None where there is no such loan.
     pub fn loan(&mut self, loan: Account) -> Result<Option<Loan>, Fault>
@@ -42,18 +58,27 @@ impl<S: Alter> Store<S> {
             return Err(Fault::F20);
         }
         let number = counts.loans + 1;
-        let row = loan_row(alloc, office, number, loan)?;
+        let write = new_loan(alloc, office, number, loan)?;
         let now = Counts {
             loans: number,
             ..counts
         };
-        self.make(&[StoreWrite::AddLoan(row)], News::OfficeCounts(office, now))
+        self.make(&[write], News::OfficeCounts(office, now))
     }
 
-    /// Brings a loan that is there to a stage, and writes its instalments where that disburses it. Where it was disbursed
-    /// before, the call gives up.
-    pub fn set_stage(&mut self, alloc: Global, loan: Account, stage: Stage) -> Result<(), Fault>
-        ensures { MakesCommit S.Store (SetStage loan stage) self.old self.new result }
+    /// The writes that bring a loan that is there to a stage: its row, and its instalments where that disburses it.
+    /// Where it was disbursed before, the call gives up.
+    fn stage_writes(
+        &mut self,
+        alloc: Global,
+        loan: Account,
+        stage: Stage,
+    ) -> Result<Vec<StoreWrite>, Fault>
+        ensures kept { Stays S.Store self.old self.new }
+        ensures gives_up { IfErr result (λ fault. fault ≡ F20) }
+        ensures some { IfOk result (λ writes. 0 < length writes.items) }
+        ensures carries { IsClean S.Store self.new → (i : Institution) → StandsFor S.Store self.old i
+            → IsAdmitted (SetStage loan stage) i → IfOk result (λ writes. Carries (SetStage loan stage) writes.items i) }
     {
         let Account { office, number } = loan;
         let Some(before) = self.loan(Account { office, number })? else {
@@ -69,6 +94,15 @@ impl<S: Alter> Store<S> {
         let mut writes = Vec::new(alloc);
         writes.push(StoreWrite::PutLoan(row))?;
         self.put_schedule_of(alloc, office, number, &now, &mut writes)?;
+        Ok(writes)
+    }
+
+    /// Brings a loan that is there to a stage, and writes its instalments where that disburses it. Where it was disbursed
+    /// before, the call gives up.
+    pub fn set_stage(&mut self, alloc: Global, loan: Account, stage: Stage) -> Result<(), Fault>
+        ensures { MakesCommit S.Store (SetStage loan stage) self.old self.new result }
+    {
+        let writes = self.stage_writes(alloc, loan, stage)?;
         self.make(&writes, News::Nothing)
     }
 }

@@ -6,6 +6,7 @@ pub mod InstalmentRowLemmas
 pub mod ShareRowLemmas
 pub mod AccountRowLemmas
 pub mod EntryLemmas
+pub mod FoundLemmas
 pub mod SortedLemmas
 pub mod ReceiptRowLemmas
 pub mod ChangedRowLemmas
@@ -15,4 +16,5 @@ pub mod CatalogueLemmas
 pub mod SoundLemmas
 pub mod EnteredLemmas
 pub mod LoanLemmas
+pub mod SuitLemmas
 pub mod FirstLemmas

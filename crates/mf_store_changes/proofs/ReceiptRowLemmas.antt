@@ -234,14 +234,22 @@ no_receipt_put x n e es l new fs up at is are none =
     let put = entered_put x n e es l new fs (record { up = up; there = at; are = are; loans = is }) in
     same_receipts_of x new fs up (put.new_is ∙ ap (λ o. put.before ++ (use_of o n e ++ put.after)) none ∙ sym put.old_is)
 
+-- no entry of its office carried the receipt before
+pub receipt_free : (x n : ℕ) (e : Entry) (es : List Entry) (l : Ledger) (new : Rows) (fs : List Office) (r : List ℕ) → Ascending fs → item_numbered (rows_of (office_at x fs)).loans n ≡ Some l → new.loans ≡ with_numbered n (with_entries es) (rows_of (office_at x fs)).loans → es ≡ l.entries ++ e ∷ []
+    → e.receipt ≡ Some r → AreApart (uses_from 1 new.loans) → first_use r (uses_from 1 (rows_of (office_at x fs)).loans) ≡ None
+receipt_free x n e es l new fs r up at is are some apart =
+    let u : Use = record { receipt = r; by = use_by n e } in
+    let put = entered_put x n e es l new fs (record { up = up; there = at; are = are; loans = is }) in
+    let new_is : uses_from 1 new.loans ≡ put.before ++ u ∷ put.after = put.new_is ∙ ap (λ o. put.before ++ (use_of o n e ++ put.after)) some in
+    ap (first_use r) put.old_is ∙ not_used r put.before put.after u refl (subst AreApart new_is apart)
+
 -- one that carries a receipt puts its row
 pub receipt_put : (x n : ℕ) (e : Entry) (es : List Entry) (l : Ledger) (new : Rows) (fs : List Office) (r : List ℕ) → Ascending fs → item_numbered (rows_of (office_at x fs)).loans n ≡ Some l → new.loans ≡ with_numbered n (with_entries es) (rows_of (office_at x fs)).loans → es ≡ l.entries ++ e ∷ []
     → e.receipt ≡ Some r → AreApart (uses_from 1 new.loans) → put_item by_receipt (receipt_in x (record { receipt = r; by = use_by n e })) (receipt_rows fs) ≡ receipt_rows (with_rows x new fs)
 receipt_put x n e es l new fs r up at is are some apart =
     let u : Use = record { receipt = r; by = use_by n e } in
     let put = entered_put x n e es l new fs (record { up = up; there = at; are = are; loans = is }) in
-    let new_is : uses_from 1 new.loans ≡ put.before ++ u ∷ put.after = put.new_is ∙ ap (λ o. put.before ++ (use_of o n e ++ put.after)) some in
-    let free : first_use r (uses_from 1 (rows_of (office_at x fs)).loans) ≡ None = ap (first_use r) put.old_is ∙ not_used r put.before put.after u refl (subst AreApart new_is apart) in
+    let free = receipt_free x n e es l new fs r up at is are some apart in
     let others : AreOthers x r (receipts_carried fs) = others_found x r (receipts_carried fs) (found x r fs up ∙ ap (option_map (receipt_in x)) free) in
     let at_rows = carried_put x (use_of e.receipt n e) new fs up (there_of x n l fs at) put in
     let apart_rows : AreOthers x r (at_rows.before ++ at_rows.after) = subst (AreOthers x r) at_rows.old_is others in

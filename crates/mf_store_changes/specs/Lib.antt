@@ -1,2 +1,3 @@
 pub mod Becoming
 pub mod ChangeWrites
+pub mod Suiting

@@ -1,10 +1,14 @@
 //! An entry of a loan, and the reversal of one, each in one commit with what it changes of the loan's instalments and shares.
 
-ghost use Rattle.std.specs.Prelude.{◌≡◌, false, IsTrue, OnOk};
+ghost use Rattle.std.specs.Prelude.{◌≡◌, ◌<◌, length, false, IsTrue, OnOk, IfOk, IfErr};
+ghost use Rattle.mf_base.specs.declared.fault.Fault.TheVariants.{F20};
 ghost use Rattle.sqlite.specs.Held.{state};
-ghost use Rattle.mf_model.specs.Store.{Commits};
+ghost use Rattle.mf_model.specs.Institution.{Institution};
+ghost use Rattle.mf_model.specs.Sound.{IsSound};
+ghost use Rattle.mf_model.specs.Store.{Commits, IsAdmitted};
 ghost use Rattle.mf_model.specs.declared.commit.Commit.TheVariants.{AddEntry, ReverseEntry};
 ghost use Rattle.mf_store_records.specs.Calls.{OnlyFaultsShut};
+ghost use Rattle.mf_store_changes.specs.Suiting.{Carries};
 ghost use Rattle.mf_store_commits.specs.Tabled.{IsTabled, HasGoodDisk, LeavesTables};
 
 use crate::commits::write;
@@ -15,6 +19,46 @@ use mf_store_changes::{put_change, row_of_entry, writes_of};
 use mf_store_records::StoreWrite;
 use sqlite::{Alter, Connection};
 use std::alloc::Global;
+
+/// The writes that add the last entry of a loan's account.
+fn entry_writes(
+    alloc: Global,
+    loan: Account,
+    account: &LoanAccount,
+) -> Result<Vec<StoreWrite>, Fault>
+    ensures carries { IfOk result (λ writes. (i : Institution) → IsSound i → IsAdmitted (AddEntry loan account.now) i
+        → Carries (AddEntry loan account.now) writes.items i) }
+    ensures some { IfOk result (λ writes. 0 < length writes.items) }
+    ensures gives_up { IfErr result (λ fault. fault ≡ F20) }
+{
+    let office = loan.office.get();
+    let loan = loan.number.get();
+    let row = row_of_entry(alloc, office, loan, account.entry_count(), account)?;
+    let mut writes = writes_of(alloc, row)?;
+    put_change(alloc, office, loan, account, &mut writes)?;
+    Ok(writes)
+}
+
+/// The writes that reverse an entry which is reversed in a loan's account.
+fn reversal_writes(
+    alloc: Global,
+    loan: Account,
+    seq: u32,
+    account: &LoanAccount,
+) -> Result<Vec<StoreWrite>, Fault>
+    ensures carries { IfOk result (λ writes. (i : Institution) → IsSound i → IsAdmitted (ReverseEntry loan seq account.now) i
+        → Carries (ReverseEntry loan seq account.now) writes.items i) }
+    ensures some { IfOk result (λ writes. 0 < length writes.items) }
+    ensures gives_up { IfErr result (λ fault. fault ≡ F20) }
+{
+    let office = loan.office.get();
+    let loan = loan.number.get();
+    let row = row_of_entry(alloc, office, loan, seq, account)?;
+    let mut writes = Vec::new(alloc);
+    writes.push(StoreWrite::ChangeEntry(row))?;
+    put_change(alloc, office, loan, account, &mut writes)?;
+    Ok(writes)
+}
 
 /// Adds the last entry of a loan's account to the loan, which has all the others and no more, and writes what that
 /// changed of the loan's instalments and shares. Where the entry carries a receipt, its row is added too.
@@ -30,11 +74,7 @@ pub fn add_entry<S: Alter>(
     ensures open { HasGoodDisk S.Store connection.new → OnOk result (IsTrue (state S.Store connection.new).is_open) }
     ensures mode { connection.new.in_transaction ≡ false }
 {
-    let office = loan.office.get();
-    let loan = loan.number.get();
-    let row = row_of_entry(alloc, office, loan, account.entry_count(), &account)?;
-    let mut writes = writes_of(alloc, row)?;
-    put_change(alloc, office, loan, &account, &mut writes)?;
+    let writes = entry_writes(alloc, loan, &account)?;
     write(connection, &writes)
 }
 
@@ -53,11 +93,6 @@ pub fn reverse_entry<S: Alter>(
     ensures open { HasGoodDisk S.Store connection.new → OnOk result (IsTrue (state S.Store connection.new).is_open) }
     ensures mode { connection.new.in_transaction ≡ false }
 {
-    let office = loan.office.get();
-    let loan = loan.number.get();
-    let row = row_of_entry(alloc, office, loan, seq, &account)?;
-    let mut writes = Vec::new(alloc);
-    writes.push(StoreWrite::ChangeEntry(row))?;
-    put_change(alloc, office, loan, &account, &mut writes)?;
+    let writes = reversal_writes(alloc, loan, seq, &account)?;
     write(connection, &writes)
 }

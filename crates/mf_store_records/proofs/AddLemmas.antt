@@ -19,7 +19,7 @@ use Rattle.mf_store_tables.proofs.CompareLemmas.{equals_back, and_true, key_step
 use Rattle.mf_store_tables.proofs.KeptLemmas.{Spares}
 use Rattle.mf_store_tables.proofs.InsertLemmas.{inserts_kept}
 use Rattle.mf_store_records.specs.Tables.{schema, offices, staff, clients, charges, products, loans, entries, receipts}
-use Rattle.mf_store_records.specs.Rows.{by_office, office_row, by_staff, staff_row, by_client, client_row, by_charge, charge_row, by_product, product_row, by_loan, loan_row, by_entry, entry_row, by_receipt, receipt_row}
+use Rattle.mf_store_records.specs.Rows.{IsNew, by_office, office_row, by_staff, staff_row, by_client, client_row, by_charge, charge_row, by_product, product_row, by_loan, loan_row, by_entry, entry_row, by_receipt, receipt_row}
 use Rattle.mf_store_records.specs.declared.offices.OfficeRow.{OfficeRow}
 use Rattle.mf_store_records.specs.declared.staff.StaffRow.{StaffRow}
 use Rattle.mf_store_records.specs.declared.clients.ClientRow.{ClientRow}
@@ -51,7 +51,7 @@ unfolding first_key
 office_agree x id i y = (and_true _ ∙ equals_back y.number x.number)
 
 pub adds_office : (x : OfficeRow) (old new : State) (count : ℕ) (items : List OfficeRow) → old.now.schema ≡ schema → Keeps office_row by_office (old.now.trees 2) items → Executes insert_office (office_row x) old new (Ok count)
-    → (new.now.schema ≡ schema) × Keeps office_row by_office (new.now.trees 2) (put_item by_office x items) × Spares schema 2 old.now.trees new.now.trees × IsSound schema new.now.trees
+    → (new.now.schema ≡ schema) × Keeps office_row by_office (new.now.trees 2) (put_item by_office x items) × Spares schema 2 old.now.trees new.now.trees × IsSound schema new.now.trees × IsNew by_office x items
 adds_office x old new count items has k h =
     inserts_kept office_row by_office by_office_total schema 1 offices refl (λ keys olds news. refl) refl insert_office insert_office_plain _ 5 office_key insert_office_is (inr (inr (inl refl))) refl _ x refl (λ v. each_kept offices v (office_row x) (refl, (null_kept x.parent, (refl, (refl, tt))))) (office_agree x) old new count items has k h
 
@@ -76,7 +76,7 @@ unfolding first_key
 staff_agree x id i y = (key_step _ _ _ _ (equals_back y.office x.office) (and_true _ ∙ equals_back y.number x.number))
 
 pub adds_staff : (x : StaffRow) (old new : State) (count : ℕ) (items : List StaffRow) → old.now.schema ≡ schema → Keeps staff_row by_staff (old.now.trees 5) items → Executes insert_staff (staff_row x) old new (Ok count)
-    → (new.now.schema ≡ schema) × Keeps staff_row by_staff (new.now.trees 5) (put_item by_staff x items) × Spares schema 5 old.now.trees new.now.trees × IsSound schema new.now.trees
+    → (new.now.schema ≡ schema) × Keeps staff_row by_staff (new.now.trees 5) (put_item by_staff x items) × Spares schema 5 old.now.trees new.now.trees × IsSound schema new.now.trees × IsNew by_staff x items
 adds_staff x old new count items has k h =
     inserts_kept staff_row by_staff by_staff_total schema 2 staff refl (λ keys olds news. refl) refl insert_staff insert_staff_plain _ 5 staff_key insert_staff_is (inr (inr (inr (inl refl)))) refl _ x refl (λ v. each_kept staff v (staff_row x) (refl, (refl, (refl, (refl, tt))))) (staff_agree x) old new count items has k h
 
@@ -101,7 +101,7 @@ unfolding first_key
 client_agree x id i y = (key_step _ _ _ _ (equals_back y.office x.office) (and_true _ ∙ equals_back y.number x.number))
 
 pub adds_client : (x : ClientRow) (old new : State) (count : ℕ) (items : List ClientRow) → old.now.schema ≡ schema → Keeps client_row by_client (old.now.trees 7) items → Executes insert_client (client_row x) old new (Ok count)
-    → (new.now.schema ≡ schema) × Keeps client_row by_client (new.now.trees 7) (put_item by_client x items) × Spares schema 7 old.now.trees new.now.trees × IsSound schema new.now.trees
+    → (new.now.schema ≡ schema) × Keeps client_row by_client (new.now.trees 7) (put_item by_client x items) × Spares schema 7 old.now.trees new.now.trees × IsSound schema new.now.trees × IsNew by_client x items
 adds_client x old new count items has k h =
     inserts_kept client_row by_client by_client_total schema 3 clients refl (λ keys olds news. refl) refl insert_client insert_client_plain _ 4 client_key insert_client_is (inr (inr (inr (inr (inl refl))))) refl _ x refl (λ v. each_kept clients v (client_row x) (refl, (refl, (refl, tt)))) (client_agree x) old new count items has k h
 
@@ -126,7 +126,7 @@ unfolding first_key
 charge_agree x id i y = (and_true _ ∙ equals_back y.number x.number)
 
 pub adds_charge : (x : ChargeRow) (old new : State) (count : ℕ) (items : List ChargeRow) → old.now.schema ≡ schema → Keeps charge_row by_charge (old.now.trees 9) items → Executes insert_charge (charge_row x) old new (Ok count)
-    → (new.now.schema ≡ schema) × Keeps charge_row by_charge (new.now.trees 9) (put_item by_charge x items) × Spares schema 9 old.now.trees new.now.trees × IsSound schema new.now.trees
+    → (new.now.schema ≡ schema) × Keeps charge_row by_charge (new.now.trees 9) (put_item by_charge x items) × Spares schema 9 old.now.trees new.now.trees × IsSound schema new.now.trees × IsNew by_charge x items
 adds_charge x old new count items has k h =
     inserts_kept charge_row by_charge by_charge_total schema 4 charges refl (λ keys olds news. refl) refl insert_charge insert_charge_plain _ 6 charge_key insert_charge_is (inr (inr (inr (inr (inr (inl refl)))))) refl _ x refl (λ v. each_kept charges v (charge_row x) (refl, (refl, (refl, (refl, (refl, tt)))))) (charge_agree x) old new count items has k h
 
@@ -151,7 +151,7 @@ unfolding first_key
 product_agree x id i y = (and_true _ ∙ equals_back y.number x.number)
 
 pub adds_product : (x : ProductRow) (old new : State) (count : ℕ) (items : List ProductRow) → old.now.schema ≡ schema → Keeps product_row by_product (old.now.trees 11) items → Executes insert_product (product_row x) old new (Ok count)
-    → (new.now.schema ≡ schema) × Keeps product_row by_product (new.now.trees 11) (put_item by_product x items) × Spares schema 11 old.now.trees new.now.trees × IsSound schema new.now.trees
+    → (new.now.schema ≡ schema) × Keeps product_row by_product (new.now.trees 11) (put_item by_product x items) × Spares schema 11 old.now.trees new.now.trees × IsSound schema new.now.trees × IsNew by_product x items
 adds_product x old new count items has k h =
     inserts_kept product_row by_product by_product_total schema 5 products refl (λ keys olds news. refl) refl insert_product insert_product_plain _ 18 product_key insert_product_is (inr (inr (inr (inr (inr (inr (inl refl))))))) refl _ x refl (λ v. each_kept products v (product_row x) (refl, (refl, (refl, (refl, (refl, (refl, (refl, (refl, (refl, (refl, (refl, (refl, (refl, (null_kept x.disbursement_charge, (null_kept x.instalment_charge, (null_kept x.overdue_charge, (refl, tt)))))))))))))))))) (product_agree x) old new count items has k h
 
@@ -176,7 +176,7 @@ unfolding first_key
 loan_agree x id i y = (key_step _ _ _ _ (equals_back y.office x.office) (and_true _ ∙ equals_back y.number x.number))
 
 pub adds_loan : (x : LoanRow) (old new : State) (count : ℕ) (items : List LoanRow) → old.now.schema ≡ schema → Keeps loan_row by_loan (old.now.trees 13) items → Executes insert_loan (loan_row x) old new (Ok count)
-    → (new.now.schema ≡ schema) × Keeps loan_row by_loan (new.now.trees 13) (put_item by_loan x items) × Spares schema 13 old.now.trees new.now.trees × IsSound schema new.now.trees
+    → (new.now.schema ≡ schema) × Keeps loan_row by_loan (new.now.trees 13) (put_item by_loan x items) × Spares schema 13 old.now.trees new.now.trees × IsSound schema new.now.trees × IsNew by_loan x items
 adds_loan x old new count items has k h =
     inserts_kept loan_row by_loan by_loan_total schema 6 loans refl (λ keys olds news. refl) refl insert_loan insert_loan_plain _ 10 loan_key insert_loan_is (inr (inr (inr (inr (inr (inr (inr (inl refl)))))))) refl _ x refl (λ v. each_kept loans v (loan_row x) (refl, (refl, (refl, (refl, (refl, (refl, (refl, (text_kept x.approved, (text_kept x.disbursed, tt)))))))))) (loan_agree x) old new count items has k h
 
@@ -201,7 +201,7 @@ unfolding first_key
 entry_agree x id i y = (key_step _ _ _ _ (equals_back y.office x.office) (key_step _ _ _ _ (equals_back y.loan x.loan) (and_true _ ∙ equals_back y.seq x.seq)))
 
 pub adds_entry : (x : EntryRow) (old new : State) (count : ℕ) (items : List EntryRow) → old.now.schema ≡ schema → Keeps entry_row by_entry (old.now.trees 15) items → Executes insert_entry (entry_row x) old new (Ok count)
-    → (new.now.schema ≡ schema) × Keeps entry_row by_entry (new.now.trees 15) (put_item by_entry x items) × Spares schema 15 old.now.trees new.now.trees × IsSound schema new.now.trees
+    → (new.now.schema ≡ schema) × Keeps entry_row by_entry (new.now.trees 15) (put_item by_entry x items) × Spares schema 15 old.now.trees new.now.trees × IsSound schema new.now.trees × IsNew by_entry x items
 adds_entry x old new count items has k h =
     inserts_kept entry_row by_entry by_entry_total schema 7 entries refl (λ keys olds news. refl) refl insert_entry insert_entry_plain _ 12 entry_key insert_entry_is (inr (inr (inr (inr (inr (inr (inr (inr (inl refl))))))))) refl _ x refl (λ v. each_kept entries v (entry_row x) (refl, (refl, (refl, (refl, (refl, (refl, (refl, (refl, (text_kept x.receipt, (refl, (refl, tt)))))))))))) (entry_agree x) old new count items has k h
 
@@ -226,6 +226,6 @@ unfolding first_key
 receipt_agree x id i y = (key_step _ _ _ _ (equals_back y.office x.office) (and_true _ ∙ equals_text_back y.receipt x.receipt))
 
 pub adds_receipt : (x : ReceiptRow) (old new : State) (count : ℕ) (items : List ReceiptRow) → old.now.schema ≡ schema → Keeps receipt_row by_receipt (old.now.trees 17) items → Executes insert_receipt (receipt_row x) old new (Ok count)
-    → (new.now.schema ≡ schema) × Keeps receipt_row by_receipt (new.now.trees 17) (put_item by_receipt x items) × Spares schema 17 old.now.trees new.now.trees × IsSound schema new.now.trees
+    → (new.now.schema ≡ schema) × Keeps receipt_row by_receipt (new.now.trees 17) (put_item by_receipt x items) × Spares schema 17 old.now.trees new.now.trees × IsSound schema new.now.trees × IsNew by_receipt x items
 adds_receipt x old new count items has k h =
     inserts_kept receipt_row by_receipt by_receipt_total schema 8 receipts refl (λ keys olds news. refl) refl insert_receipt insert_receipt_plain _ 5 receipt_key insert_receipt_is (inr (inr (inr (inr (inr (inr (inr (inr (inr (inl refl)))))))))) refl _ x refl (λ v. each_kept receipts v (receipt_row x) (refl, (refl, (refl, (refl, tt))))) (receipt_agree x) old new count items has k h

@@ -4,6 +4,7 @@ pub mod TableLemmas
 pub mod AddLemmas
 pub mod ReadLemmas
 pub mod PutLemmas
+pub mod NewLemmas
 pub mod CallLemmas
 pub mod TextLemmas
 pub mod ReceiptLemmas

@@ -1,5 +1,5 @@
 -- The rows of the tables, each table's as a list in the order of its key; and which of them the queries look for.
-use Rattle.std.specs.Prelude.{◌≡◌, ℕ, pos, Bool, true, not, ◌&&◌, List, [], ◌∷◌, filter}
+use Rattle.std.specs.Prelude.{◌≡◌, ℕ, pos, Bool, true, not, ◌&&◌, List, [], ◌∷◌, filter, find, None, IsSome}
 use Rattle.std.specs.declared.cmp.Ordering.{Ordering}
 use Rattle.std.specs.Ordering.{nat_cmp, ordering_then, is_eq, is_lt, is_ge, is_gt}
 use Rattle.std.specs.Cmp.Lexicographic.{slice_cmp}
@@ -21,6 +21,14 @@ use Rattle.mf_store_records.specs.declared.receipts.ReceiptRow.{ReceiptRow}
 use Rattle.mf_store_records.specs.declared.instalments.InstalmentRow.{InstalmentRow}
 use Rattle.mf_store_records.specs.declared.shares.EntryKey.{EntryKey}
 use Rattle.mf_store_records.specs.declared.shares.ShareRow.{ShareRow}
+
+-- no row has the key of this one
+abbrev pub IsNew : {X : Type 0} → (X → X → Ordering) → X → List X → Type 0
+IsNew cmp x rows = find (λ y. is_eq (cmp x y)) rows ≡ None
+
+-- a row has the key of this one
+abbrev pub IsThere : {X : Type 0} → (X → X → Ordering) → X → List X → Type 0
+IsThere cmp x rows = IsSome (find (λ y. is_eq (cmp x y)) rows)
 
 abbrev pub by_meta : MetaRow → MetaRow → Ordering
 by_meta a b = nat_cmp a.one b.one

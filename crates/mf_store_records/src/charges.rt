@@ -1,4 +1,4 @@
-ghost use Rattle.mf_store_records.specs.Rows.{charge_fields, charge_row, put_charge, is_charge};
+ghost use Rattle.mf_store_records.specs.Rows.{charge_fields, IsNew, by_charge, charge_row, put_charge, is_charge};
 
 use crate::table::{New, Put, Table, has_columns};
 use crate::text::Text;
@@ -56,6 +56,8 @@ impl Table for ChargeRow {
 }
 
 impl Put<New> for ChargeRow {
+    ghost Before = { λ charge lists. IsNew by_charge charge lists.charges };
+
     fn put_row<S: Alter>(&self, tx: &mut Transaction<'_, S>) -> Result<(), Error> {
         self.execute(tx, "INSERT INTO charges VALUES (?1, ?2, ?3, ?4, ?5)")
     }

@@ -1,4 +1,4 @@
-ghost use Rattle.mf_store_records.specs.Rows.{client_fields, client_row, put_client, is_client, is_client_of};
+ghost use Rattle.mf_store_records.specs.Rows.{client_fields, IsNew, by_client, client_row, put_client, is_client, is_client_of};
 
 use crate::table::{Listed, New, Put, Table, has_columns};
 use crate::text::Text;
@@ -45,6 +45,8 @@ impl Table for ClientRow {
 }
 
 impl Put<New> for ClientRow {
+    ghost Before = { λ client lists. IsNew by_client client lists.clients };
+
     fn put_row<S: Alter>(&self, tx: &mut Transaction<'_, S>) -> Result<(), Error> {
         self.execute(tx, "INSERT INTO clients VALUES (?1, ?2, ?3)")
     }

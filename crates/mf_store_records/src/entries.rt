@@ -1,4 +1,4 @@
-ghost use Rattle.mf_store_records.specs.Rows.{entry_fields, entry_row, put_entry, is_entry, is_entry_of};
+ghost use Rattle.mf_store_records.specs.Rows.{entry_fields, IsNew, by_entry, entry_row, put_entry, is_entry, is_entry_of};
 
 use crate::table::{Changed, Listed, New, Put, Table, has_columns};
 use crate::text::Text;
@@ -87,6 +87,8 @@ impl Table for EntryRow {
 }
 
 impl Put<New> for EntryRow {
+    ghost Before = { λ entry lists. IsNew by_entry entry lists.entries };
+
     fn put_row<S: Alter>(&self, tx: &mut Transaction<'_, S>) -> Result<(), Error> {
         self.execute(
             tx,
@@ -96,6 +98,8 @@ impl Put<New> for EntryRow {
 }
 
 impl Put<Changed> for EntryRow {
+    ghost Before = { λ entry lists. Unit {0} };
+
     fn put_row<S: Alter>(&self, tx: &mut Transaction<'_, S>) -> Result<(), Error> {
         self.execute(
             tx,

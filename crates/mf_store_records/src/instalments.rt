@@ -108,6 +108,8 @@ impl Table for InstalmentRow {
 }
 
 impl Put<Changed> for InstalmentRow {
+    ghost Before = { λ instalment lists. Unit {0} };
+
     fn put_row<S: Alter>(&self, tx: &mut Transaction<'_, S>) -> Result<(), Error> {
         self.execute(
             tx,

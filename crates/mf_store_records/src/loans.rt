@@ -2,7 +2,7 @@ ghost use Rattle.std.specs.Prelude.{◌≡◌, false, IsTrue, OnOk, IfOk, IfErr,
 ghost use Rattle.mf_base.specs.declared.fault.Fault.TheVariants.{F20};
 ghost use Rattle.sqlite.specs.Held.{state};
 ghost use Rattle.sqlite.specs.State.{HasCleanDisk};
-ghost use Rattle.mf_store_records.specs.Rows.{loan_fields, Lists, loan_row, put_loan, is_loan, is_loan_of, is_loan_above};
+ghost use Rattle.mf_store_records.specs.Rows.{loan_fields, IsNew, by_loan, Lists, loan_row, put_loan, is_loan, is_loan_of, is_loan_above};
 ghost use Rattle.mf_store_records.specs.Calls.{IsUnchanged, IsKeeping};
 
 use crate::table::{Changed, Listed, New, Put, Table, ask, has_columns};
@@ -82,6 +82,8 @@ impl Table for LoanRow {
 }
 
 impl Put<New> for LoanRow {
+    ghost Before = { λ loan lists. IsNew by_loan loan lists.loans };
+
     fn put_row<S: Alter>(&self, tx: &mut Transaction<'_, S>) -> Result<(), Error> {
         self.execute(
             tx,
@@ -91,6 +93,8 @@ impl Put<New> for LoanRow {
 }
 
 impl Put<Changed> for LoanRow {
+    ghost Before = { λ loan lists. Unit {0} };
+
     fn put_row<S: Alter>(&self, tx: &mut Transaction<'_, S>) -> Result<(), Error> {
         self.execute(
             tx,

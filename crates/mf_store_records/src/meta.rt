@@ -53,6 +53,8 @@ impl Table for MetaRow {
 }
 
 impl Put<Changed> for MetaRow {
+    ghost Before = { λ meta lists. Unit {0} };
+
     fn put_row<S: Alter>(&self, tx: &mut Transaction<'_, S>) -> Result<(), Error> {
         self.execute(
             tx,

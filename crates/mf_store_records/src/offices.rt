@@ -2,7 +2,7 @@ ghost use Rattle.std.specs.Prelude.{◌≡◌, false, IsTrue, OnOk, IfOk, IfErr,
 ghost use Rattle.mf_base.specs.declared.fault.Fault.TheVariants.{F20};
 ghost use Rattle.sqlite.specs.Held.{state};
 ghost use Rattle.sqlite.specs.State.{HasCleanDisk};
-ghost use Rattle.mf_store_records.specs.Rows.{office_fields, Lists, office_row, put_office, is_office, is_in_range};
+ghost use Rattle.mf_store_records.specs.Rows.{office_fields, IsNew, by_office, Lists, office_row, put_office, is_office, is_in_range};
 ghost use Rattle.mf_store_records.specs.Calls.{IsUnchanged, IsKeeping};
 
 use crate::table::{New, Put, Table, ask, has_columns};
@@ -59,6 +59,8 @@ impl Table for OfficeRow {
 }
 
 impl Put<New> for OfficeRow {
+    ghost Before = { λ office lists. IsNew by_office office lists.offices };
+
     fn put_row<S: Alter>(&self, tx: &mut Transaction<'_, S>) -> Result<(), Error> {
         self.execute(tx, "INSERT INTO offices VALUES (?1, ?2, ?3, ?4)")
     }

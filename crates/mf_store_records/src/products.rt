@@ -1,4 +1,4 @@
-ghost use Rattle.mf_store_records.specs.Rows.{product_fields, product_row, put_product, is_product};
+ghost use Rattle.mf_store_records.specs.Rows.{product_fields, IsNew, by_product, product_row, put_product, is_product};
 
 use crate::table::{Changed, New, Put, Table, has_columns};
 use crate::text::Text;
@@ -102,6 +102,8 @@ impl Table for ProductRow {
 }
 
 impl Put<New> for ProductRow {
+    ghost Before = { λ product lists. IsNew by_product product lists.products };
+
     fn put_row<S: Alter>(&self, tx: &mut Transaction<'_, S>) -> Result<(), Error> {
         self.execute(
             tx,
@@ -111,6 +113,8 @@ impl Put<New> for ProductRow {
 }
 
 impl Put<Changed> for ProductRow {
+    ghost Before = { λ product lists. Unit {0} };
+
     fn put_row<S: Alter>(&self, tx: &mut Transaction<'_, S>) -> Result<(), Error> {
         self.execute(
             tx,

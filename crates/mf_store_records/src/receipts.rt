@@ -2,7 +2,7 @@ ghost use Rattle.std.specs.Prelude.{◌≡◌, false, IsTrue, OnOk, IfOk, IfErr,
 ghost use Rattle.mf_base.specs.declared.fault.Fault.TheVariants.{F20};
 ghost use Rattle.sqlite.specs.Held.{state};
 ghost use Rattle.sqlite.specs.State.{HasCleanDisk};
-ghost use Rattle.mf_store_records.specs.Rows.{receipt_fields, Lists, receipt_row, put_receipt, is_receipt};
+ghost use Rattle.mf_store_records.specs.Rows.{receipt_fields, IsNew, by_receipt, Lists, receipt_row, put_receipt, is_receipt};
 ghost use Rattle.mf_store_records.specs.Calls.{IsUnchanged, IsKeeping};
 
 use crate::table::{New, Put, Table, ask, first, has_columns};
@@ -59,6 +59,8 @@ impl Table for ReceiptRow {
 }
 
 impl Put<New> for ReceiptRow {
+    ghost Before = { λ receipt lists. IsNew by_receipt receipt lists.receipts };
+
     fn put_row<S: Alter>(&self, tx: &mut Transaction<'_, S>) -> Result<(), Error> {
         self.execute(tx, "INSERT INTO receipts VALUES (?1, ?2, ?3, ?4)")
     }

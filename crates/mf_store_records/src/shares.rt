@@ -77,6 +77,8 @@ impl Table for ShareRow {
 }
 
 impl Put<Changed> for ShareRow {
+    ghost Before = { λ share lists. Unit {0} };
+
     fn put_row<S: Alter>(&self, tx: &mut Transaction<'_, S>) -> Result<(), Error> {
         self.execute(
             tx,

@@ -1,4 +1,4 @@
-ghost use Rattle.mf_store_records.specs.Rows.{staff_fields, staff_row, put_staff, is_staff, is_staff_of};
+ghost use Rattle.mf_store_records.specs.Rows.{staff_fields, IsNew, by_staff, staff_row, put_staff, is_staff, is_staff_of};
 
 use crate::table::{Listed, New, Put, Table, has_columns};
 use crate::text::Text;
@@ -52,6 +52,8 @@ impl Table for StaffRow {
 }
 
 impl Put<New> for StaffRow {
+    ghost Before = { λ staff lists. IsNew by_staff staff lists.staff };
+
     fn put_row<S: Alter>(&self, tx: &mut Transaction<'_, S>) -> Result<(), Error> {
         self.execute(tx, "INSERT INTO staff VALUES (?1, ?2, ?3, ?4)")
     }

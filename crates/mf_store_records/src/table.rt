@@ -136,19 +136,24 @@ pub trait Table: Sized {
             → rows ≡ map stored (filter (is_at key) (list lists)) };
 }
 
-/// A row is put as a new one, whose key no other has.
+/// A row is put as a new one: where a row has its key, that fails.
 pub struct New;
 
-/// A row is put in place of the one with its key.
+/// A row is put in place of the one with its key, if there is one.
 pub struct Changed;
 
 /// A table whose rows are put so: `How` is `New` or `Changed`.
 pub trait Put<How>: Table {
+    /// What holds of the lists before, where the row was put.
+    ghost Before: { Self → Lists → Type 0 };
+
     /// Puts the row under its key.
     fn put_row<S: Alter>(&self, tx: &mut Transaction<'_, S>) -> Result<(), Error>
         ensures same_reference { tx.new.conn.ghost_name ≡ tx.old.conn.ghost_name }
         ensures ok { HasCleanDisk (state S.Store tx.new.conn.now) → IsTrue (state S.Store tx.old.conn.now).in_transaction
             → OnOk result (Putting (Self.put self.now) (state S.Store tx.old.conn.now) (state S.Store tx.new.conn.now)) }
+        ensures before { HasCleanDisk (state S.Store tx.new.conn.now) → IsTrue (state S.Store tx.old.conn.now).in_transaction
+            → OnOk result ((lists : Lists) → Serves schema_of Holds (state S.Store tx.old.conn.now).now (Some lists) → Before self.now lists) }
         ensures kept { HasCleanDisk (state S.Store tx.new.conn.now) → KeepsCommit (state S.Store tx.old.conn.now) (state S.Store tx.new.conn.now) }
         ensures survives { Survives (state S.Store tx.old.conn.now) (state S.Store tx.new.conn.now) (λ _. ⊥) };
 }

@@ -1,5 +1,5 @@
 -- What a plain INSERT of one row makes of a table that keeps items. It goes well only where the key is new, so then it makes what the upsert makes.
-use Rattle.std.proofs.Common.{◌≡◌, inl, inr, ℕ, ℤ, Bool, true, false, not, ◌&&◌, cond, List, [], ◌∷◌, map, fold, length, ◌/◌, slice_get, Option, Some, None, Ok, Err, refl, sym, ap, ◌∙◌, subst, Ordering, Less, Equal, Greater, is_eq, is_lt, int_cmp, true≢false, MatchBool}
+use Rattle.std.proofs.Common.{◌≡◌, inl, inr, ℕ, ℤ, Bool, true, false, not, ◌&&◌, cond, List, [], ◌∷◌, map, fold, find, length, ◌/◌, slice_get, Option, Some, None, Ok, Err, refl, sym, ap, ◌∙◌, subst, Ordering, Less, Equal, Greater, is_eq, is_lt, int_cmp, true≢false, MatchBool}
 use Rattle.std.specs.List.{AllByRecursion}
 use Rattle.std.specs.Cmp.{IsTotalOrder}
 use Rattle.std.specs.Ordering.{is_ne, match_ordering}
@@ -92,6 +92,10 @@ unshared schema table index trees has_table has_index guarded sound n r has_n ha
     anded true b h = h
     anded false b h = refl
 
+none_found : {A : Type 0} (p : A → Bool) (xs : List A) → AllByRecursion (λ x. p x ≡ false) xs → find p xs ≡ None
+none_found p [] none = refl
+none_found p (x ∷ xs) none = rw none.0 (none_found p xs none.1)
+
 -- ---- what the statement does
 
 module _ (t : Task) (at : ℕ) (quiet : IsQuiet t.schema t.table.tree) (uncounted : t.table.is_counted ≡ false) (db : Trees) where
@@ -125,7 +129,7 @@ module _ {X : Type 0} (stored : X → Row) (cmp : X → X → Ordering) (total :
       → (params : Row) (x : X) → value_rows (stamped table params) width (length terms / width) terms ≡ (Null ∷ stored x) ∷ [] → ((v : Value) → cast_row table (v ∷ stored x) ≡ cast Integer v ∷ stored x)
       → ((id i : ℤ) (y : X) → agree index.order index.columns (Int i ∷ stored y) index.columns (Int id ∷ stored x) ≡ is_eq (cmp x y))
       → (old new : State) (count : ℕ) (items : List X) → old.now.schema ≡ schema → Keeps stored cmp (old.now.trees table.tree) items → Executes sql params old new (Ok count)
-      → (new.now.schema ≡ schema) × Keeps stored cmp (new.now.trees table.tree) (put_item cmp x items) × Spares schema table.tree old.now.trees new.now.trees × IsSound schema new.now.trees
+      → (new.now.schema ≡ schema) × Keeps stored cmp (new.now.trees table.tree) (put_item cmp x items) × Spares schema table.tree old.now.trees new.now.trees × IsSound schema new.now.trees × (find (λ y. is_eq (cmp x y)) items ≡ None)
   inserts_kept terms width index is has_index guarded params x one same agrees old new count items has k h =
       let t = task schema at table there sql params old new has plain count in
       let command = Insert at (Values terms width) in
@@ -166,4 +170,4 @@ module _ {X : Type 0} (stored : X → Row) (cmp : X → X → Ordering) (total :
       } in
       let all : drop_item cmp x items ≡ items = filter_all (λ y. not (q y)) items (all_weaker (λ y. q y ≡ false) (λ y. not (q y) ≡ true) (λ y f. ap not f) items none) in
       let ends : Keeps stored cmp (next table.tree) (put_item cmp x items) = subst (λ l. Keeps stored cmp (next table.tree) (insert_sorted cmp x l)) (sym all) (subst (λ rs. Keeps stored cmp rs (insert_sorted cmp x items)) (sym put) kept) in
-      (named, ends, step.tables, sound)
+      (named, ends, step.tables, sound, none_found q items none)

@@ -1,36 +1,13 @@
-use Rattle.std.proofs.Common.{◌≡◌, ◌-◌, ◌∷◌, [], ◌++◌, List, length, sym, subst, ap, ◌∙◌}
-use Rattle.mf_account.specs.declared.entry.Entry.{Entry}
-use Rattle.mf_account.specs.Standing.{entry_at}
+use Rattle.std.proofs.Common.{sym, subst}
 use Rattle.mf_model.specs.Store.{after_commit}
 use Rattle.mf_model.specs.declared.commit.Commit.TheVariants.{AddEntry}
-use Rattle.mf_store_changes.specs.ChangeWrites.{change_writes}
-use Rattle.mf_store_accounts.specs.Flat.{entry_in}
-use Rattle.mf_store_accounts.specs.ReceiptRows.{entry_added}
 use Rattle.mf_store_changes.specs.Becoming.{Becomes}
 use Rattle.mf_store_commits.proofs.EnteringLemmas.{made_by}
-use Rattle.mf_store_changes.proofs.EnteredLemmas.{account_of_loan, entry_last, entry_apart, handed_changed, longer}
-use Rattle.mf_store_changes.proofs.EntryLemmas.{last_entry}
-use Rattle.mf_store_changes.proofs.LoanLemmas.{entry_becomes}
 use Rattle.mf_store_commits.proofs.entering.add_entry.Goals as goal
 
 pub returns-clause-commits : goal.returns-clause-commits
 returns-clause-commits g c =
-    let loan = c.args.loan in
-    let account = c.args.account in
-    let entries = account.loan.entries in
-    let row = c.in_ok-row.row in
-    let added = c.in_ok-put_change.ensures.writes ∙ ap (λ ws. ws ++ change_writes c.get-office.result c.get-loan.result account) c.in_ok-writes.ensures.writes in
-    let writes = c.deref.ensures.value ∙ added ∙ (λ t. entry_added row ++ change_writes (c.get-office.ensures.value t) (c.get-loan.ensures.value t) account) in
-    made_by g.S.Store (AddEntry loan account) c.args.connection.now c.write.new.connection c.deref.result.now c.write.result
-    (λ i s admitted. let handed = admitted.handed in
-    let of = account_of_loan loan handed.before i handed.there in
-    let entry = handed.entries.0 in
-    let one_more : entries ≡ of.ledger.entries ++ entry ∷ [] = handed.entries.1 ∙ ap (λ (es : List Entry). es ++ entry ∷ []) of.entries in
-    let last = entry_last loan account entry of.ledger i admitted.sound of.there one_more in
-    let apart = entry_apart loan account of.ledger i admitted.sound of.there in
-    let changed = handed_changed loan account handed.before i s.sound admitted.sound of handed.others (longer handed.before.entries entries entry handed.entries.1) handed.kept handed.change in
-    let row_is = c.in_ok-row.ensures.row ∙ (λ t. entry_in (c.get-office.ensures.value t) (c.get-loan.ensures.value t) (entry_at entries (c.entry_count.ensures.count t - 1)))
-    ∙ ap (λ (es : List Entry). entry_in loan.office loan.number (entry_at es (length es - 1))) one_more ∙ ap (entry_in loan.office loan.number) (last_entry of.ledger.entries entry)
-    in
-    subst (λ ws. Becomes ws i (after_commit (AddEntry loan account) i)) (sym writes) (entry_becomes loan account of.ledger i s.sound of.there changed entry admitted.sound one_more last apart row row_is))
+    let commit = AddEntry c.args.loan c.args.account in
+    made_by g.S.Store commit c.args.connection.now c.write.new.connection c.deref.result.now c.write.result
+    (λ i s admitted. subst (λ ws. Becomes ws i (after_commit commit i)) (sym c.deref.ensures.value) (c.in_ok-writes.ensures.carries i s.sound admitted).becomes)
     c.write.ensures.premise c.write.ensures.gives_up c.write.ensures.made c.write.ensures.left c.write.ensures.same c.write.ensures.stop

@@ -1,36 +1,13 @@
-use Rattle.std.proofs.Common.{◌≡◌, ◌≤◌, ◌-◌, ◌++◌, ◌∷◌, [], true, List, length, sym, ap, ◌∙◌, subst, arith}
-use Rattle.mf_account.specs.declared.entry.Entry.{Entry}
-use Rattle.mf_account.specs.Standing.{entry_at, with_mark}
+use Rattle.std.proofs.Common.{sym, subst}
 use Rattle.mf_model.specs.Store.{after_commit}
 use Rattle.mf_model.specs.declared.commit.Commit.TheVariants.{ReverseEntry}
-use Rattle.mf_store_records.specs.declared.writes.StoreWrite.TheVariants.{ChangeEntry}
-use Rattle.mf_store_changes.specs.ChangeWrites.{change_writes}
-use Rattle.mf_store_accounts.specs.Flat.{entry_in}
 use Rattle.mf_store_changes.specs.Becoming.{Becomes}
 use Rattle.mf_store_commits.proofs.EnteringLemmas.{made_by}
-use Rattle.mf_store_changes.proofs.EnteredLemmas.{account_of_loan, as_long, handed_changed, loan_numbered, reversal_there}
-use Rattle.mf_store_changes.proofs.EntryLemmas.{marked_entry}
-use Rattle.mf_store_changes.proofs.LoanLemmas.{reversal_becomes}
 use Rattle.mf_store_commits.proofs.entering.reverse_entry.Goals as goal
 
 pub returns-clause-commits : goal.returns-clause-commits
 returns-clause-commits g c =
-    let loan = c.args.loan in
-    let seq = c.args.seq in
-    let account = c.args.account in
-    let row = c.in_ok-row.row in
-    let first_write = c.in_ok-push.ensures.items ∙ ap (λ ws. ws ++ ChangeEntry row ∷ []) c.new-writes.ensures.items in
-    let added = c.in_ok-put_change.ensures.writes ∙ ap (λ ws. ws ++ change_writes c.get-office.result c.get-loan.result account) first_write in
-    let writes = c.deref.ensures.value ∙ added ∙ (λ t. ChangeEntry row ∷ change_writes (c.get-office.ensures.value t) (c.get-loan.ensures.value t) account) in
-    made_by g.S.Store (ReverseEntry loan seq account) c.args.connection.now c.write.new.connection c.deref.result.now c.write.result
-    (λ i s admitted. let handed = admitted.handed in
-    let of = account_of_loan loan handed.before i handed.there in
-    let before = of.ledger.entries in
-    let marked : account.loan.entries ≡ with_mark before (seq - 1) true = handed.entries.marked ∙ ap (λ (es : List Entry). with_mark es (seq - 1) true) of.entries in
-    let there = reversal_there handed.before.entries seq handed.entries.allowed in
-    let first = there.0 in
-    let last : seq ≤ length before = subst (λ (es : List Entry). seq ≤ length es) of.entries there.1 in
-    let changed = handed_changed loan account handed.before i s.sound admitted.sound of handed.others (as_long handed.before.entries account.loan.entries seq handed.entries.marked) handed.kept handed.change in
-    let row_is = c.in_ok-row.ensures.row ∙ (λ t. entry_in (c.get-office.ensures.value t) (c.get-loan.ensures.value t) (entry_at (marked t) (seq - 1))) ∙ ap (entry_in loan.office loan.number) (marked_entry before (seq - 1) (omega (arith, first, last))) in
-    subst (λ ws. Becomes ws i (after_commit (ReverseEntry loan seq account) i)) (sym writes) (reversal_becomes loan account of.ledger i s.sound of.there changed seq admitted.sound (loan_numbered loan of.ledger i s.sound of.there) first last marked row row_is))
+    let commit = ReverseEntry c.args.loan c.args.seq c.args.account in
+    made_by g.S.Store commit c.args.connection.now c.write.new.connection c.deref.result.now c.write.result
+    (λ i s admitted. subst (λ ws. Becomes ws i (after_commit commit i)) (sym c.deref.ensures.value) (c.in_ok-writes.ensures.carries i s.sound admitted).becomes)
     c.write.ensures.premise c.write.ensures.gives_up c.write.ensures.made c.write.ensures.left c.write.ensures.same c.write.ensures.stop

@@ -1,8 +1,13 @@
 use Rattle.std.proofs.lemmas.Result.{on_ok_weaker}
 use Rattle.sqlite.specs.Held.{state}
+use Rattle.mf_store_records.proofs.NewLemmas.{new_product}
 use Rattle.mf_store_records.proofs.PutLemmas.{adding_product}
 use Rattle.mf_store_records.proofs.products.ProductRowPutNew.put_row.Goals as goal
 
 pub returns-clause-ok : goal.returns-clause-ok
 returns-clause-ok g c clean inside =
     on_ok_weaker c.execute.result (adding_product c.args.self.now (state g.S.Store c.args.tx.now.conn.now) (state g.S.Store c.execute.new.tx.conn.now)) (c.execute.ensures.ok clean inside)
+
+pub returns-clause-before : goal.returns-clause-before
+returns-clause-before g c clean inside =
+    on_ok_weaker c.execute.result (new_product c.args.self.now (state g.S.Store c.args.tx.now.conn.now) (state g.S.Store c.execute.new.tx.conn.now)) (c.execute.ensures.ok clean inside)
