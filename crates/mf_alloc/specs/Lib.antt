@@ -4,3 +4,4 @@ pub mod Payment
 pub mod Order
 pub mod OrderLaws
 pub mod PaymentLaw
+pub mod DueFirstLaw

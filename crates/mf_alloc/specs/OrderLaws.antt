@@ -90,10 +90,10 @@ due-here due k here = cond-true (ltb k (4 * due)) _ _ (lt-ltb k (4 * due) here)
 due-later : (due k : ℕ) → 4 * due ≤ k → due_first due k ≡ by_instalment standard k
 due-later due k later = cond-false (ltb k (4 * due)) _ _ (le-ltb k (4 * due) later)
 
-place-here : (due : ℕ) (c : Cell) → c.instalment ≤ due → due_first_place due c ≡ place_among standard c.portion * due + (c.instalment - 1)
+pub place-here : (due : ℕ) (c : Cell) → c.instalment ≤ due → due_first_place due c ≡ place_among standard c.portion * due + (c.instalment - 1)
 place-here due c here = cond-true (leb c.instalment due) _ _ (le-leb c.instalment due here)
 
-place-later : (due : ℕ) (c : Cell) → due < c.instalment → due_first_place due c ≡ place_by_instalment (place_among standard) c
+pub place-later : (due : ℕ) (c : Cell) → due < c.instalment → due_first_place due c ≡ place_by_instalment (place_among standard) c
 place-later due c later = cond-false (leb c.instalment due) _ _ (lt-leb c.instalment due later)
 
 -- the portion of a place among what is due

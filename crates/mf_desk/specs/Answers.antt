@@ -1,5 +1,5 @@
 -- What the desk does with a request, in the words of the institution that its store stands for.
-use Rattle.std.specs.Prelude.{◌≡◌, ℕ, ◌⊎◌, true, false, cond, is_some, List, option_map, Option, Some, None, Result, Ok, Err, IfOk, IfErr, IfSome, OnOk, OnErr}
+use Rattle.std.specs.Prelude.{◌≡◌, ℕ, ◌≤◌, ◌^◌, ◌⊎◌, true, false, cond, is_some, List, sum_by, option_map, Option, Some, None, Result, Ok, Err, IfOk, IfErr, IfSome, OnOk, OnErr}
 use Rattle.mf_base.specs.declared.fault.Fault.{Fault}
 use Rattle.mf_base.specs.declared.fault.Fault.TheVariants.{F2, F4, F9, F20}
 use Rattle.mf_office.specs.declared.account.Account.{Account}
@@ -112,6 +112,10 @@ module _ {S : Type 0} (store : Ghosts S) where
     pub gives : store.clean new → (i : Institution) → store.stands old i → IfOk result (λ r. value i ≡ Ok r)
     pub refuses : store.clean new → (i : Institution) → store.stands old i → IfErr result (λ fault. (fault ≡ F20) ⊎ (value i ≡ Err fault))
     pub stop : store.clean new → (is : List Institution) → store.leaves old is → store.leaves new is
+
+  -- Lines that were read have at most 10^10 loans in all, so that a report can sum them.
+  abbrev pub CanBeSummed : S → S → Result (List Line) Fault → Type 0
+  CanBeSummed old new result = store.clean new → (i : Institution) → store.stands old i → IfOk result (λ lines. sum_by (λ (line : Line). line.loans) lines ≤ 10 ^ 10)
 
   -- What was made of the reply that the institution tells, or its refusal, or the refusal to make something of its reply, or F20.
   pub record Tells {T : Type 0} (shows : Reply → Result T Fault → Type 0) (told : Institution → Result Reply Fault) (old new : S) (result : Result T Fault) : Type 0 where

@@ -1,6 +1,8 @@
 //! Laws of whole runs. Each function does nothing: its contract is the law.
 
-ghost use Rattle.std.specs.Prelude.{◌≡◌, ◌≢◌, ◌≤◌, ℕ, List, [], ◌∷◌, ◌++◌, Some, Err, map, true};
+ghost use Rattle.std.specs.Prelude.{◌≡◌, ◌≢◌, ◌≤◌, ◌^◌, ℕ, List, [], ◌∷◌, ◌++◌, Option, Some, Ok, Err, map, true, sum_by};
+ghost use Rattle.mf_arrears.specs.Line.{Line as ArrearsLine};
+ghost use Rattle.mf_model.specs.Arrears.{arrears_seen};
 ghost use Rattle.mf_office.specs.declared.account.Account.{Account};
 ghost use Rattle.mf_office.specs.declared.caller.Caller.{Caller};
 ghost use Rattle.mf_model.specs.Institution.{Institution, Catalogue, Rows, Staff, Ledger, Change, Catalogue_becomes, Rows_become, Office_added, after, office_at, newly_made};
@@ -19,6 +21,8 @@ ghost use Rattle.mf_model.specs.Run.{Line, ViewIsPlay, RepliesArePlay, OwnReplie
 ghost use Rattle.mf_model.specs.Store.{left_by, left_after, ledger_at, account_of, use_at};
 ghost use Rattle.mf_model.specs.declared.request.Repayment.{Repayment};
 ghost use Rattle.mf_model.specs.declared.request.LoanRequest.TheVariants.{Repay};
+ghost use Rattle.mf_model.specs.declared.request.Request.TheVariants.{SeenArrears};
+ghost use Rattle.mf_model.specs.declared.reply.Reply.TheVariants.{ArrearsShown};
 ghost use Rattle.mf_model.specs.Receipts.{Use, first_use, uses_from, repeated_seq};
 ghost use Rattle.mf_model.specs.Loans.{on_loan, repeat_of};
 ghost use Rattle.mf_catalog.specs.declared.terms.Terms.{Terms};
@@ -202,6 +206,14 @@ pub fn worked_entries()
 pub fn worked_arrears()
     ensures thirty_days { answers (map (λ row. row.0) thirty_days) (newly_made january) ≡ map (λ row. row.1) thirty_days }
     ensures interest_left { answers (map (λ row. row.0) interest_left) (newly_made january) ≡ map (λ row. row.1) interest_left }
+{}
+
+/// The lines of arrears that an office sees of a sound institution, and that a caller is told, have at most 10^10 loans in
+/// all, so that a report can sum them.
+pub fn arrears_can_be_summed()
+    ensures seen { (o : ℕ) (i : Institution) → IsSound i → sum_by (λ (line : ArrearsLine). line.loans) (arrears_seen o i) ≤ 10 ^ 10 }
+    ensures told { (caller : Option Caller) (i : Institution) (lines : List ArrearsLine) → IsSound i →
+        reply (record { caller = caller; request = SeenArrears }) i ≡ Ok (ArrearsShown lines) → sum_by (λ (line : ArrearsLine). line.loans) lines ≤ 10 ^ 10 }
 {}
 
 /// The offices of a sound institution are a tree as the keys of offices know it.

@@ -4,7 +4,7 @@ use Rattle.mf_base.specs.Calendar.{day_of}
 use Rattle.mf_base.specs.declared.day.Freq.TheVariants.{Months}
 use Rattle.mf_catalog.specs.declared.terms.Method.TheVariants.{EqualPrincipal}
 use Rattle.mf_catalog.specs.declared.terms.StrategyName.{StrategyName}
-use Rattle.mf_catalog.specs.declared.terms.StrategyName.TheVariants.{MifosStandard, PrincipalFirst}
+use Rattle.mf_catalog.specs.declared.terms.StrategyName.TheVariants.{MifosStandard, PrincipalFirst, InterestFirst, DueFirst}
 use Rattle.mf_alloc.specs.declared.row.Portion.{Portion}
 use Rattle.mf_alloc.specs.declared.row.Portion.TheVariants.{Penalty as PenaltyPart, Fee as FeePart, Interest, Principal}
 use Rattle.mf_alloc.specs.declared.row.Share.{Share}
@@ -206,3 +206,46 @@ abbrev pub IsRefundTold : Type 0
 IsRefundTold =
     (entries_of (loan (overpayment ∷ refund false ∷ [])) ≡ overpayment_told ∷ line_told (refund false) 8000 [] ∷ [])
     × (entries_of (loan (overpayment ∷ refund true ∷ [])) ≡ overpayment_told ∷ line_told (refund true) 0 [] ∷ [])
+
+-- a penalty of 3433 and a fee of 500 on instalment 1, then the second repayment, interest before principal, penalties and
+-- fees last: of 50000, 1000 + 33333 + 3433 + 500 = 38266 go to instalment 1, 667 and what is left, 11067, to instalment 2
+abbrev pub fee_on : ℕ → Entry
+fee_on number = entry 2 Fee march 500 number FeePart false
+
+abbrev pub IsInterestFirstTold : Type 0
+IsInterestFirstTold =
+    entries_of (loan_by InterestFirst (penalty ∷ fee_on 1 ∷ second 3 ∷ []))
+    ≡ line_told penalty 3433 []
+    ∷ line_told (fee_on 1) 500 []
+    ∷ line_told (second 3) 50000
+    (share 1 Interest 1000 ∷ share 1 Principal 33333 ∷ share 1 PenaltyPart 3433 ∷ share 1 FeePart 500 ∷ share 2 Interest 667 ∷ share 2 Principal 11067 ∷ [])
+    ∷ []
+
+-- due first: on March 31 instalments 1 and 2 are due, a day before instalment 1 alone. Of 50000, interest is 1000 + 667 on
+-- that day, and 33333 + 15000 principal; a day before it is 1000 and 33333, then 667 and 15000
+abbrev pub day_before : Entry
+day_before = repayment 1 8855 50000
+
+abbrev pub AreDueFirstTold : Type 0
+AreDueFirstTold =
+    (entries_of (loan_by DueFirst (second 1 ∷ []))
+    ≡ line_told (second 1) 50000 (share 1 Interest 1000 ∷ share 2 Interest 667 ∷ share 1 Principal 33333 ∷ share 2 Principal 15000 ∷ []) ∷ [])
+    × (entries_of (loan_by DueFirst (day_before ∷ []))
+    ≡ line_told day_before 50000 (share 1 Interest 1000 ∷ share 1 Principal 33333 ∷ share 2 Interest 667 ∷ share 2 Principal 15000 ∷ []) ∷ [])
+
+-- with a penalty of 3433 on instalment 1 and a fee of 500 on instalment 2: of 80000, what is due takes
+-- 3433 + 500 + (1000 + 667) + (33333 + 33333) = 72266, and of the 7734 that are left instalment 3 gets 333 and 7401
+abbrev pub much : Entry
+much = repayment 3 march 80000
+
+abbrev pub IsDueFirstTold : Type 0
+IsDueFirstTold =
+    entries_of (loan_by DueFirst (penalty ∷ fee_on 2 ∷ much ∷ []))
+    ≡ line_told penalty 3433 []
+    ∷ line_told (fee_on 2) 500 []
+    ∷ line_told much 80000
+    (share 1 PenaltyPart 3433 ∷ share 2 FeePart 500 ∷ share 1 Interest 1000 ∷ share 2 Interest 667 ∷ share 1 Principal 33333 ∷ share 2 Principal 33333
+    ∷ share 3 Interest 333
+    ∷ share 3 Principal 7401
+    ∷ [])
+    ∷ []

@@ -1,12 +1,16 @@
 -- The loans of an office of an institution, as the rows of their instalments tell them.
-use Rattle.std.proofs.Common.{◌≡◌, ◌<◌, ◌+◌, ◌++◌, ◌==◌, ℕ, Bool, true, false, cond, List, [], ◌∷◌, map, filter, Option, None, Some, refl, sym, ap, ap₂, ◌∙◌, subst, arith, is_eq, nat_cmp}
+use Rattle.std.proofs.Common.{◌≡◌, ◌<◌, ◌≤◌, ◌+◌, ◌^◌, ◌++◌, ◌==◌, ℕ, suc, get_or, length, Bool, true, false, cond, List, [], ◌∷◌, map, filter, Option, None, Some, refl, sym, ap, ap₂, ◌∙◌, subst, arith, is_eq, nat_cmp}
+use Rattle.std.specs.Prelude.{sum_by}
 use Rattle.std.specs.List.{AllByRecursion}
 use Rattle.std.proofs.lemmas.Bool.Decides.{nat_tests}
 use Rattle.std.proofs.lemmas.List.Elements.{filter-append}
 use Rattle.std.proofs.lemmas.List.{append-nil}
+use Rattle.std.proofs.lemmas.List.Sums.{sum_by-le-sum_by}
 use Rattle.sqlite_keyed.proofs.ListLemmas.{all_weaker, filter_all, filter_none}
-use Rattle.mf_alloc.specs.Sums.{IsWhole}
+use Rattle.mf_alloc.specs.Sums.{Sums, IsWhole, open_at}
+use Rattle.mf_account.specs.Balance.{open_in}
 use Rattle.mf_account.specs.Loan.{Loan as Running, IsSound as IsSoundAccount, state_of_loan}
+use Rattle.mf_account.proofs.ConserveLemmas.{principal-sound}
 use Rattle.mf_account.proofs.SoundLemmas.{good-sound}
 use Rattle.mf_model.specs.Accounts.{account_in, of_account}
 use Rattle.mf_model.specs.Arrears.{active_in}
@@ -18,6 +22,7 @@ use Rattle.mf_model.proofs.AccountLemmas.{account_sound}
 use Rattle.mf_store_records.specs.Rows.{is_instalment_in}
 use Rattle.mf_store_accounts.specs.Flat.{tables_of, instalment_in, instalments_kept, kept_of, rows_of_loans, rows_by_loan}
 use Rattle.mf_store_values.specs.Arrears.{NumberedLoan, AreAbove, AreWholeLoans, rows_of_office, aged_rows, aged_loans}
+use Rattle.mf_store_values.specs.Folding.{principal_of, AreWithinSums}
 use Rattle.mf_store.proofs.ArrearsLemmas.{aged_told}
 use Rattle.mf_store.proofs.InstalmentReadLemmas.{numbered_whole, sums_kept}
 use Rattle.mf_store_changes.proofs.LoanRowLemmas.{all_loans, all_offices}
@@ -89,3 +94,38 @@ whole_from k n (l ∷ ls) all = (whole_kept (account_in k l) all.0, whole_from k
 pub aged_from : (k : Catalogue) (n : ℕ) (ls : List Ledger) → HaveSound k ls → aged_loans k.day (loans_from k n ls) ≡ active_in k ls
 aged_from k n [] all = refl
 aged_from k n (l ∷ ls) all = ap₂ ◌++◌ (ap (aged_rows k.day) (sums_kept (account_in k l)) ∙ aged_told k.day (account_in k l) all.0) (aged_from k (n + 1) ls all.1)
+
+-- none of them is large, and they are few
+open_under : (rows : List Sums) → open_in 3 rows ≤ sum_by (λ (row : Sums). get_or row.owed 3 0) rows
+open_under rows = sum_by-le-sum_by (λ (row : Sums). open_at row 3) (λ (row : Sums). get_or row.owed 3 0) rows (λ row. omega arith)
+
+small_rows : (o : Option Running) → ((a : Running) → o ≡ Some a → IsSoundAccount a) → open_in 3 (of_account [] (λ (a : Running). (state_of_loan a).rows) o) ≤ 10 ^ 12
+small_rows None sound = omega arith
+small_rows (Some a) sound =
+    let is = sound a refl in
+    let less = open_under (state_of_loan a).rows in
+    let owed = (principal-sound a is).owed in
+    let most = is.limits.most_principal in
+    omega (arith, less, owed, most)
+
+small_kept : (n : ℕ) (o : Option Running) → ((a : Running) → o ≡ Some a → IsSoundAccount a) → principal_of (n, of_account [] instalments_kept o) ≤ 10 ^ 12
+small_kept n o sound =
+    let same : principal_of (n, of_account [] instalments_kept o) ≡ open_in 3 (of_account [] (λ (a : Running). (state_of_loan a).rows) o) = ap (open_in 3) (sums_kept o) in
+    let small = small_rows o sound in
+    omega (arith, same, small)
+
+small_from : (k : Catalogue) (n : ℕ) (ls : List Ledger) → HaveSound k ls → AllByRecursion (λ loan. principal_of loan ≤ 10 ^ 12) (loans_from k n ls)
+small_from k n [] all = tt
+small_from k n (l ∷ ls) all = (small_kept n (account_in k l) all.0, small_from k (n + 1) ls all.1)
+
+count_from : (k : Catalogue) (n : ℕ) (ls : List Ledger) → length (loans_from k n ls) ≡ length ls
+count_from k n [] = refl
+count_from k n (l ∷ ls) = ap suc (count_from k (n + 1) ls)
+
+pub within_from : (x : ℕ) (i : Institution) → IsSound i → AreWithinSums (loans_from i.catalogue 1 (rows_at x i).loans)
+within_from x i sound =
+    let k = i.catalogue in
+    let ls = (rows_at x i).loans in
+    let most = (office_sound k (is_staff i.offices) x i.offices sound.each).loan_limit in
+    let count = count_from k 1 ls in
+    record { few = omega (arith, most, count); small = small_from k 1 ls (office_accounts x i sound) }

@@ -17,7 +17,7 @@ ghost use Rattle.mf_store_records.specs.Writes.{schema_of, Holds};
 ghost use Rattle.mf_store.specs.Facts.{nothing_known};
 ghost use Rattle.mf_store.specs.Learning.{Tells};
 ghost use Rattle.mf_store_commits.specs.Tabled.{IsTabled, HasGoodDisk, LeavesTables, IsUnfounded};
-ghost use Rattle.mf_store.specs.Stands.{StandsFor, IsClean, Leaves, IsOpen, FaultsAloneShut, AsksTables, MakesCommit};
+ghost use Rattle.mf_store.specs.Stands.{StandsFor, IsClean, Leaves, IsOpen, FaultsAloneShut, Stays, AsksTables, MakesCommit};
 ghost use Rattle.mf_store_changes.specs.Becoming.{Becomes};
 
 use crate::known::{Known, News};
@@ -34,7 +34,7 @@ use mf_store_records::{
     offices_within,
 };
 use mf_store_tables::apply;
-use mf_store_values::read_line;
+use mf_store_values::{NoLine, line_of_office};
 use sqlite::{Alter, Connection, Row};
 use std::alloc::Global;
 use std::marker::Model;
@@ -108,13 +108,27 @@ impl<S: Alter> Store<S> {
         offices_within(&mut self.connection, low, high)
     }
 
-    /// An office's line on a day, by one query over the instalments of its loans.
+    /// An office's line on a day, by one query over the instalments of its loans. No institution's loans come to too much.
+    fn line_of_office(&mut self, office: OfficeNo, today: Day) -> Result<OfficeLine, NoLine>
+        ensures kept { Stays S.Store self.old self.new }
+        ensures open { IsClean S.Store self.new → OnOk result (IsOpen S.Store self.new) }
+        ensures sums { IsClean S.Store self.new → (i : Institution) → StandsFor S.Store self.old i → IfErr result (λ why. why ≡ NoLine.Unread) }
+        ensures line { IsClean S.Store self.new → (i : Institution) → StandsFor S.Store self.old i → (loans : List NumberedLoan) → AreAbove 0 loans → AreWholeLoans loans
+            → filter (is_instalment_in office) (tables_of i).instalments ≡ rows_of_office office loans → IfOk result (λ line. line ≡ line_of_loans office (aged_loans today loans)) }
+    {
+        line_of_office(&mut self.connection, office, today)
+    }
+
+    /// The same, or F20.
     pub(crate) fn read_line(&mut self, office: OfficeNo, today: Day) -> Result<OfficeLine, Fault>
         ensures asks { AsksTables S.Store self.old self.new result }
         ensures line { IsClean S.Store self.new → (i : Institution) → StandsFor S.Store self.old i → (loans : List NumberedLoan) → AreAbove 0 loans → AreWholeLoans loans
             → filter (is_instalment_in office) (tables_of i).instalments ≡ rows_of_office office loans → IfOk result (λ line. line ≡ line_of_loans office (aged_loans today loans)) }
     {
-        read_line(&mut self.connection, office, today)
+        match self.line_of_office(office, today) {
+            Ok(line) => Ok(line),
+            Err(NoLine::Unread | NoLine::TooGreat) => Err(Fault::F20),
+        }
     }
 
     /// A new institution on this business day where there are no tables yet, made in one commit. The day is at most 2099-12-31. The

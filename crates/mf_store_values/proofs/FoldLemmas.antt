@@ -111,15 +111,15 @@ run_append today p (x ∷ xs) ys = run_append today (step today p (x.0, x.1.1)) 
 abbrev done : ℕ → Progress → List Aged
 done today p = p.counted ++ aged_rows today p.rows
 
-abbrev own : ℕ → List (ℕ × Sums) → List Item
+abbrev pub own : ℕ → List (ℕ × Sums) → List Item
 own n [] = []
 own n (x ∷ xs) = (n, x) ∷ own n xs
 
-abbrev placed : List NumberedLoan → List Item
+abbrev pub placed : List NumberedLoan → List Item
 placed [] = []
 placed (l ∷ ls) = own l.0 l.1 ++ placed ls
 
-abbrev sums_in : List (ℕ × Sums) → List Sums
+abbrev pub sums_in : List (ℕ × Sums) → List Sums
 sums_in xs = map (λ item. item.1) xs
 
 run_own : (today : ℕ) (p : Progress) (n : ℕ) (xs : List (ℕ × Sums)) → n ≡ p.loan → run today p (own n xs) ≡ record p { rows = p.rows ++ sums_in xs }
@@ -129,7 +129,7 @@ run_own today p n (x ∷ xs) e =
     ap (λ b. run today (cond b (record p { rows = p.rows ++ x.1 ∷ [] }) (record { counted = p.counted ++ aged_rows today p.rows; loan = n; rows = x.1 ∷ [] })) (own n xs)) yes
     ∙ run_own today (record p { rows = p.rows ++ x.1 ∷ [] }) n xs e ∙ ap (λ r. record p { rows = r }) (append_assoc p.rows (x.1 ∷ []) (sums_in xs))
 
-lower : (m n : ℕ) (ls : List NumberedLoan) → m < n → AreAbove n ls → AreAbove m ls
+pub lower : (m n : ℕ) (ls : List NumberedLoan) → m < n → AreAbove n ls → AreAbove m ls
 lower m n [] low up = tt
 lower m n (l ∷ ls) low up = (omega (arith, low, up.0), up.1)
 
@@ -155,7 +155,7 @@ own_rows : (office n : ℕ) (xs : List (ℕ × Sums)) → map (item_row office) 
 own_rows office n [] = refl
 own_rows office n (x ∷ xs) = ap (λ l. item_row office (n, x) ∷ l) (own_rows office n xs)
 
-placed_rows : (office : ℕ) (ls : List NumberedLoan) → map (item_row office) (placed ls) ≡ map instalment_stored (rows_of_office office ls)
+pub placed_rows : (office : ℕ) (ls : List NumberedLoan) → map (item_row office) (placed ls) ≡ map instalment_stored (rows_of_office office ls)
 placed_rows office [] = refl
 placed_rows office (l ∷ ls) =
     map-append (item_row office) (own l.0 l.1) (placed ls) ∙ ap₂ ◌++◌ (own_rows office l.0 l.1) (placed_rows office ls) ∙ sym (map-append instalment_stored (rows_of_loan office l) (rows_of_office office ls))
@@ -167,7 +167,7 @@ own_whole : (n : ℕ) (xs : List (ℕ × Sums)) → AllByRecursion (λ item. IsW
 own_whole n [] all = tt
 own_whole n (x ∷ xs) all = (all.0, own_whole n xs all.1)
 
-placed_whole : (ls : List NumberedLoan) → AreWholeLoans ls → AreWholeItems (placed ls)
+pub placed_whole : (ls : List NumberedLoan) → AreWholeLoans ls → AreWholeItems (placed ls)
 placed_whole [] all = tt
 placed_whole (l ∷ ls) all = all-append (λ (x : Item). IsWhole x.1.1) (own l.0 l.1) (placed ls) (own_whole l.0 l.1 all.0) (placed_whole ls all.1)
 

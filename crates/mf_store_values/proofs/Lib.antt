@@ -4,3 +4,4 @@ pub mod ReadLemmas
 pub mod InstalmentLemmas
 pub mod FoldLemmas
 pub mod RowsLemmas
+pub mod SumLemmas

@@ -1,6 +1,7 @@
 -- What rows that are taken one at a time leave of the connection that gives them.
 use Rattle.std.proofs.Common.{◌≡◌, ◌⊎◌, pos, false, map, filter, IsTrue, IfOk, ℕ, Result, IfErr, OnOk, true≢false, inl, inr, List, [], ◌∷◌, None, Ok, Err, refl, sym, ap, subst, ◌∙◌, arith, ◌++◌}
 use Rattle.std.specs.Result.{IsErr, is_err}
+use Rattle.std.proofs.lemmas.Result.{IfErr-weaker}
 use Rattle.sqlite.specs.Order.{Row}
 use Rattle.sqlite.specs.Effect.{Database}
 use Rattle.sqlite.specs.Given.{HasGiven, HasBegun, IsPlain}
@@ -9,7 +10,8 @@ use Rattle.sqlite.specs.Listing.{understood, reads_listing, IsSourceOf}
 use Rattle.sqlite.specs.State.{State, HasCleanDisk, Survives, Shown, Begins, IsUnchanged, IsRolledBack, Fails, IsNotRun, CommitsShowing}
 use Rattle.sqlite.specs.declared.error.Error.{Error}
 use Rattle.sqlite.specs.declared.types.Value.TheVariants.{Int}
-use Rattle.sqlite.proofs.Callers.{given_begin, unchanged_then, begun_plain}
+use Rattle.sqlite.specs.Clock.{timed}
+use Rattle.sqlite.proofs.Callers.{given_begin, unchanged_then, begun_plain, begins_shown, command_of, EndsIn}
 use Rattle.sqlite.proofs.StateLemmas.{survives_weaker}
 use Rattle.mf_arrears.specs.Line.{Line, line_of}
 use Rattle.mf_store_tables.proofs.QueryLemmas.{not_run_same, crash_prepared, answers_prepared}
@@ -18,11 +20,13 @@ use Rattle.mf_store_records.specs.Rows.{Lists, instalment_row as instalment_stor
 use Rattle.mf_store_records.specs.Tables.{schema}
 use Rattle.mf_store_records.proofs.CallLemmas.{unchanged}
 use Rattle.mf_store_records.proofs.ReadLemmas.{instalments_of_office_shows}
-use Rattle.mf_store_records.proofs.Texts.{instalments_of_office, instalments_of_office_plain}
+use Rattle.mf_store_records.proofs.Texts.{instalments_of_office, instalments_of_office_plain, instalments_of_office_is}
 use Rattle.sqlite_trees.specs.declared.store.Store.{Ghosts}
 use Rattle.sqlite.specs.Tree.{Trees}
 use Rattle.mf_store_values.specs.Arrears.{NumberedLoan, AreAbove, AreWholeLoans, rows_of_office, aged_loans, IsLineOf}
-use Rattle.mf_store_values.specs.Folding.{IsKept, Folds, Refuses}
+use Rattle.mf_store_values.specs.Folding.{IsKept, AreWithinSums, IsOver, IsTooGreat, Folds, Refuses}
+use Rattle.mf_store_values.specs.declared.fold.NoLine.{NoLine}
+use Rattle.mf_store_values.specs.declared.fold.NoLine.TheVariants.{Unread, TooGreat}
 
 both_on_ok : {A E : Type 0} (r : Result A E) (P Q O : Type 0) → OnOk r P → OnOk r O → (P → O → Q) → OnOk r Q
 both_on_ok (Ok x) P Q O h o f = f h o
@@ -135,6 +139,17 @@ module _ {S : Type 0} (g : Ghosts S) where
       let began = begun_plain g sql params old mid plain (begun (clean_before (state g mid) (state g new) survives clean)) in
       both_on_ok r (Shown sql params (state g mid) (state g new) folds.taken) _ (IsLineOf today folds.taken empty line) (folds.whole clean sql params began.0) folds.line_is (λ shown is. (folds.taken, given_shown sql params old mid new [] folds.taken began.1 began.0 shown, is))
 
+  -- what could not be read was not too great
+  pub unread_sums : (old new : Held S) (empty : Line) (why : NoLine) → why ≡ Unread → IsTooGreat g old new empty why
+  unread_sums old new empty why is great = absurd (let never : Unread ≡ TooGreat = sym is ∙ great in cc)
+
+  -- what was too great of a plain query
+  pub folded_sums : {A : Type 0} (sql : List ℕ) (params : Row) (old mid new : Held S) (empty : Line) (r : Result A NoLine) → IsPlain (understood old.schema sql) → (HasCleanDisk (state g mid) → HasBegun g sql params old mid) → Survives (state g mid) (state g new) (λ _. ⊥)
+      → IfErr r (IsTooGreat g mid new empty) → HasCleanDisk (state g new) → IfErr r (λ why. why ≡ TooGreat → (taken : List Row) × Begins sql params (state g old) taken × IsOver taken empty)
+  folded_sums sql params old mid new empty r plain begun survives sums clean =
+      let began = begun_plain g sql params old mid plain (begun (clean_before (state g mid) (state g new) survives clean)) in
+      IfErr-weaker r _ _ (λ why over great. (let it = over great clean sql params began.0 in (it.0, begins_same sql params (state g old) (state g mid) it.0 began.1.0.now_is it.1, it.2))) sums
+
 -- ---- a query after an empty statement was prepared
 
 -- it was prepared, or changes nothing
@@ -185,3 +200,15 @@ pub line_read : (today office : ℕ) (lists : Lists) (old mid new : State) (loan
     → empty ≡ line_of office [] → ((taken : List Row) × Shown instalments_of_office (Int (pos office) ∷ []) mid new taken × IsLineOf today taken empty line) → line ≡ line_of office (aged_loans today loans)
 line_read today office lists old mid new loans empty line same keeping above whole are is_new told =
     told.2 office loans above whole (taken_rows office lists old mid new told.0 same keeping told.1 ∙ ap (map instalment_stored) are) is_new
+
+-- an office's loans within the bounds are not too great
+pub never_great : (office : ℕ) (lists : Lists) (old mid : State) (loans : List NumberedLoan) (empty : Line) (why : NoLine) → IsUnchanged old mid → IsKeeping old lists → AreAbove 0 loans → AreWholeLoans loans → AreWithinSums loans → filter (is_instalment_in office) lists.instalments ≡ rows_of_office office loans
+    → empty ≡ line_of office [] → (why ≡ TooGreat → (taken : List Row) × Begins instalments_of_office (Int (pos office) ∷ []) mid taken × IsOver taken empty) → why ≡ Unread
+never_great office lists old mid loans empty Unread same keeping above whole within are is_new over = refl
+never_great office lists old mid loans empty TooGreat same keeping above whole within are is_new over =
+    let it = over refl in
+    let here : IsUnchanged mid mid = (record { was_open = same.0.is_open; is_open = same.0.is_open; now_is = refl; committed_is = refl; mode = refl }, record { changes = refl; last_rowid = refl }, refl) in
+    let schema_is = ap (λ (d : Database). d.schema) same.0.now_is ∙ (keeping same.0.was_open).schema_is in
+    let all = begins_shown instalments_of_office (Int (pos office) ∷ []) mid mid it.0 it.1 here
+    (λ c db is source. subst (λ k. EndsIn k db (timed (Int (pos office) ∷ []) c.formats is.now)) (sym instalments_of_office_is ∙ sym (ap (λ s. command_of (understood s instalments_of_office)) schema_is) ∙ ap command_of is.is) tt) in
+    absurd (it.2 office loans all.0 above whole within (taken_rows office lists old mid mid (it.0 ++ all.0) same keeping all.1 ∙ ap (map instalment_stored) are) is_new)

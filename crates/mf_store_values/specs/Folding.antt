@@ -1,5 +1,6 @@
 -- What is known of rows that a query gives one at a time, and of the line that is made of them.
-use Rattle.std.specs.Prelude.{◌≡◌, ◌⊎◌, ℕ, ◌+◌, cond, ◌==◌, List, [], ◌∷◌, ◌++◌, pos, Option, None, Some, Result, OnOk, IsTrue}
+use Rattle.std.specs.Prelude.{◌≡◌, ◌⊎◌, ℕ, ◌+◌, ◌^◌, ◌≤◌, cond, ◌==◌, List, [], ◌∷◌, ◌++◌, map, length, pos, Option, None, Some, Result, OnOk, IsTrue}
+use Rattle.std.specs.List.{AllByRecursion}
 use Rattle.sqlite.specs.Order.{Row}
 use Rattle.sqlite.specs.Given.{HasGiven, Advances, FailsToAdvance}
 use Rattle.sqlite.specs.Held.{Held, state}
@@ -12,8 +13,10 @@ use Rattle.mf_arrears.specs.Ageing.{earlier, earliest_due, days_since}
 use Rattle.mf_arrears.specs.Line.{Loan as Aged, Line, line_of}
 use Rattle.mf_store_records.specs.Rows.{instalment_row as instalment_stored}
 use Rattle.mf_store_accounts.specs.Flat.{instalment_in}
-use Rattle.mf_store_values.specs.Arrears.{aged_rows, IsLineOf}
+use Rattle.mf_store_values.specs.Arrears.{NumberedLoan, AreAbove, AreWholeLoans, rows_of_office, aged_rows, IsLineOf}
 use Rattle.mf_store_values.specs.declared.fold.LoanSoFar.{LoanSoFar}
+use Rattle.mf_store_values.specs.declared.fold.NoLine.{NoLine}
+use Rattle.mf_store_values.specs.declared.fold.NoLine.TheVariants.{TooGreat}
 
 -- ---- one loan
 
@@ -44,6 +47,26 @@ pub record IsAt (office : ℕ) (p : Progress) (read : LoanSoFar) (line : Line) :
   pub principal : read.principal ≡ open_in 3 p.rows
   pub due : read.due ≡ earliest_due p.rows
   pub line_is : line ≡ line_of office p.counted
+
+-- ---- what a line can sum
+
+-- what is outstanding of a loan's principal, by its instalments
+abbrev pub principal_of : NumberedLoan → ℕ
+principal_of loan = open_in 3 (map (λ item. item.1) loan.1)
+
+-- an office's loans are few, and none is large
+pub record AreWithinSums (loans : List NumberedLoan) : Type 0 where
+  pub few : length loans ≤ 999999
+  pub small : AllByRecursion (λ loan. principal_of loan ≤ 10 ^ 12) loans
+
+-- so far they are
+pub record IsLow (p : Progress) : Type 0 where
+  pub small : open_in 3 p.rows ≤ 10 ^ 12
+  pub few : length p.counted ≤ 999999
+
+-- the rows begin those of no office whose loans are within
+abbrev pub IsOver : List Row → Line → Type 0
+IsOver rows empty = (office : ℕ) (loans : List NumberedLoan) (rest : List Row) → AreAbove 0 loans → AreWholeLoans loans → AreWithinSums loans → rows ++ rest ≡ map instalment_stored (rows_of_office office loans) → empty ≡ line_of office [] → ⊥
 
 -- ---- rows of a query
 
@@ -85,3 +108,8 @@ module _ {S : Type 0} (g : Ghosts S) where
     pub begins : HasCleanDisk (state g new) → (sql : List ℕ) (params : Row) → HasGiven g sql params old [] → Begins sql params (state g old) taken
     pub whole : HasCleanDisk (state g new) → (sql : List ℕ) (params : Row) → HasGiven g sql params old [] → OnOk result (Shown sql params (state g old) (state g new) taken)
     pub line_is : OnOk result (IsLineOf today taken empty line)
+
+  -- where they come to too much, the rows that were taken do, which begin the answer
+  abbrev pub IsTooGreat : Held S → Held S → Line → NoLine → Type 0
+  IsTooGreat old new empty why =
+      why ≡ TooGreat → HasCleanDisk (state g new) → (sql : List ℕ) (params : Row) → HasGiven g sql params old [] → (taken : List Row) × Begins sql params (state g old) taken × IsOver taken empty

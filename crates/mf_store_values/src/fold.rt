@@ -1,21 +1,30 @@
 //! An office's line of arrears from the rows of its loans' instalments, which a query gives by loan and number: one row
 //! is held at a time, and of the loan that is read what is outstanding of its principal and the earliest due day.
 
-ghost use Rattle.std.specs.Prelude.{◌≡◌, false, ℕ, List, ◌++◌, None, IsTrue, OnOk, OnErr, IfOk, IfErr};
+ghost use Rattle.std.specs.Prelude.{◌≡◌, ◌⊎◌, ◌+◌, ◌^◌, ◌<◌, ◌≤◌, false, ℕ, List, ◌++◌, None, IsTrue, OnOk, OnErr, IfOk, IfErr};
 ghost use Rattle.mf_base.specs.declared.fault.Fault.TheVariants.{F20};
+ghost use Rattle.mf_alloc.specs.Sums.{open_at};
 ghost use Rattle.mf_arrears.specs.Line.{Loan as Aged, line_of as line_of_loans};
 ghost use Rattle.sqlite.specs.State.{HasCleanDisk, IsUnchanged, Survives};
 ghost use Rattle.sqlite.specs.Held.{state};
-ghost use Rattle.mf_store_values.specs.Folding.{aged_by, with_row, Progress, step, IsAt, IsReadAs, IsKept, Takes, Refuses, Folds};
+ghost use Rattle.mf_store_values.specs.Folding.{aged_by, with_row, Progress, step, IsLow, IsAt, IsReadAs, IsKept, Takes, Refuses, Folds, IsTooGreat};
 
 use crate::instalments::instalment_from;
-use crate::values::stored;
 use mf_alloc::{Portion, Row as Instalment};
 use mf_arrears::{MOST_LOANS, OfficeLine, days_past, earlier};
 use mf_base::{Day, Fault};
 use mf_catalog::GREATEST_AMOUNT;
 use mf_store_records::{InstalmentRow, read_row};
 use sqlite::{Alter, Row, Rows};
+
+/// Why no line is made of an office's rows.
+#[derive(Clone, Copy)]
+pub enum NoLine {
+    /// They could not be read.
+    Unread,
+    /// They come to more than a line of arrears sums.
+    TooGreat,
+}
 
 /// What is read of a loan: its number, what is outstanding of its principal in cents, and the earliest due day of an
 /// instalment with something outstanding.
@@ -39,14 +48,15 @@ impl LoanSoFar {
     }
 
     /// Takes in an instalment of this loan.
-    fn add(&mut self, row: Instalment) -> Result<(), Fault>
+    fn add(&mut self, row: Instalment) -> Result<(), NoLine>
         ensures value { OnOk result (self.new ≡ with_row self.old row) }
-        ensures gives_up { IfErr result (λ fault. fault ≡ F20) }
+        ensures too_great { IfErr result (λ why. (why ≡ NoLine.TooGreat) × (2 ^ 64 ≤ self.old.principal + open_at row 3)) }
     {
-        self.principal = stored(
-            self.principal
-                .checked_add(row.outstanding(Portion::Principal)),
-        )?;
+        let principal = row.outstanding(Portion::Principal);
+        let Some(sum) = self.principal.checked_add(principal) else {
+            return Err(NoLine::TooGreat);
+        };
+        self.principal = sum;
         if row.is_open() {
             self.due = earlier(self.due, row.due);
         }
@@ -54,15 +64,15 @@ impl LoanSoFar {
     }
 
     /// Adds the loan to its office's line, where something is outstanding.
-    fn count(&self, today: Day, line: &mut OfficeLine) -> Result<(), Fault>
+    fn count(&self, today: Day, line: &mut OfficeLine) -> Result<(), NoLine>
         ensures line { OnOk result ((office : ℕ) (loans : List Aged) → line.old ≡ line_of_loans office loans → line.new ≡ line_of_loans office (loans ++ aged_by today self.now.principal self.now.due)) }
-        ensures gives_up { IfErr result (λ fault. fault ≡ F20) }
+        ensures too_great { IfErr result (λ why. (why ≡ NoLine.TooGreat) × ((10 ^ 12 < self.now.principal) ⊎ (10 ^ 10 ≤ line.old.loans))) }
     {
         let Some(due) = self.due else {
             return Ok(());
         };
         if self.principal > GREATEST_AMOUNT || line.loans >= MOST_LOANS {
-            return Err(Fault::F20);
+            return Err(NoLine::TooGreat);
         }
         line.add(self.principal, days_past(Some(due), today));
         Ok(())
@@ -75,9 +85,9 @@ impl LoanSoFar {
         found: (u32, Instalment),
         today: Day,
         line: &mut OfficeLine,
-    ) -> Result<(), Fault>
+    ) -> Result<(), NoLine>
         ensures value { OnOk result ((office : ℕ) (p : Progress) → IsAt office p self.old line.old → IsAt office (step today p found) self.new line.new) }
-        ensures gives_up { IfErr result (λ fault. fault ≡ F20) }
+        ensures too_great { IfErr result (λ why. (why ≡ NoLine.TooGreat) × ((office : ℕ) (p : Progress) → IsAt office p self.old line.old → IsLow p → IsLow (step today p found) → ⊥)) }
     {
         let (loan, row) = found;
         if loan != self.loan {
@@ -99,37 +109,40 @@ fn placed_in_row(row: &Row) -> Result<(u32, Instalment), Fault>
 }
 
 /// The next instalment with the number of its loan, or none past the last.
-fn next_instalment<S: Alter>(rows: &mut Rows<'_, S>) -> Result<Option<(u32, Instalment)>, Fault>
+fn next_instalment<S: Alter>(rows: &mut Rows<'_, S>) -> Result<Option<(u32, Instalment)>, NoLine>
     ensures same_reference { rows.new.conn.ghost_name ≡ rows.old.conn.ghost_name }
     ensures takes { IfOk result (λ found. Takes S.Store rows.old.conn.now rows.new.conn.now found) }
     ensures refuses { OnErr result (Refuses S.Store rows.old.conn.now rows.new.conn.now) }
     ensures same { HasCleanDisk (state S.Store rows.new.conn.now) → OnOk result (IsUnchanged (state S.Store rows.old.conn.now) (state S.Store rows.new.conn.now)) }
     ensures kept { HasCleanDisk (state S.Store rows.new.conn.now) → IsKept S.Store rows.old.conn.now rows.new.conn.now }
-    ensures gives_up { IfErr result (λ fault. fault ≡ F20) }
+    ensures unread { IfErr result (λ why. why ≡ NoLine.Unread) }
     ensures mode { rows.old.conn.now.in_transaction ≡ false → rows.new.conn.now.in_transaction ≡ false }
     ensures survives { Survives (state S.Store rows.old.conn.now) (state S.Store rows.new.conn.now) (λ _. ⊥) }
 {
     let Ok(()) = rows.advance() else {
-        return Err(Fault::F20);
+        return Err(NoLine::Unread);
     };
-    match rows.get() {
-        None => Ok(None),
-        Some(row) => Ok(Some(placed_in_row(row)?)),
+    let Some(row) = rows.get() else {
+        return Ok(None);
+    };
+    match placed_in_row(row) {
+        Ok(found) => Ok(Some(found)),
+        Err(_) => Err(NoLine::Unread),
     }
 }
 
 /// Makes of a new line the line of an office's loans on a day, from the rows of its instalments by loan and number, none
-/// of which was taken. It takes them one at a time. The error is F20: then it takes no more, and the line says nothing.
+/// of which was taken. It takes them one at a time. At an error it takes no more, and the line says nothing.
 pub fn fold_loans<S: Alter>(
     rows: &mut Rows<'_, S>,
     day: Day,
     line: &mut OfficeLine,
-) -> Result<(), Fault>
+) -> Result<(), NoLine>
     ensures same_reference { rows.new.conn.ghost_name ≡ rows.old.conn.ghost_name }
     ensures folds { Folds S.Store day rows.old.conn.now rows.new.conn.now line.old line.new result }
     ensures kept { HasCleanDisk (state S.Store rows.new.conn.now) → IsKept S.Store rows.old.conn.now rows.new.conn.now }
     ensures open { HasCleanDisk (state S.Store rows.new.conn.now) → OnOk result (IsTrue (state S.Store rows.new.conn.now).is_open) }
-    ensures gives_up { IfErr result (λ fault. fault ≡ F20) }
+    ensures sums { IfErr result (IsTooGreat S.Store rows.old.conn.now rows.new.conn.now line.old) }
     ensures mode { rows.old.conn.now.in_transaction ≡ false → rows.new.conn.now.in_transaction ≡ false }
     ensures survives { Survives (state S.Store rows.old.conn.now) (state S.Store rows.new.conn.now) (λ _. ⊥) }
 {
@@ -140,5 +153,5 @@ pub fn fold_loans<S: Alter>(
             Some(found) => read.take(found, day, line)?,
         }
     }
-    Err(Fault::F20)
+    Err(NoLine::Unread)
 }

@@ -17,10 +17,10 @@ mod values;
 
 pub use catalogue::{charge_from, product_from};
 pub use entries::entries_from;
-pub use fold::fold_loans;
+pub use fold::{NoLine, fold_loans};
 pub use instalments::{instalments_from, is_active};
 pub use loans::{disbursal_day, loan_from, loan_in_row};
-pub use office_line::read_line;
+pub use office_line::line_of_office;
 pub use office_rows::{Ledger, OfficeRows, StaffMember, names_from, staff_from};
 pub use offices::offices_from;
 pub use parts::parts_from;

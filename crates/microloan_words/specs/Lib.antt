@@ -1,2 +1,4 @@
 pub mod Options
 pub mod Asked
+pub mod Owed
+pub mod Wrong

@@ -1,8 +1,9 @@
-ghost use Rattle.std.specs.Prelude.{◌≡◌, ◌≤◌, IfOk};
+ghost use Rattle.std.specs.Prelude.{◌≡◌, ◌≤◌, IfOk, IfErr};
 ghost use Rattle.clap.specs.Words.{found_of, rows_of};
 ghost use Rattle.mf_base.specs.DayText.{last_entered_day};
 ghost use Rattle.microloan_words.specs.Asked.{AreBatchWords, AreServeWords, AreStaffWords, AreFileWords, AreAuditWords, AreScheduleWords, IsWithinLimits};
 ghost use Rattle.microloan_words.specs.Asked.{IsServeWithinLimits};
+ghost use Rattle.microloan_words.specs.Wrong.{IsFirstWrong, IsBatchWrong, serve_options, staff_options, file_options, audit_options, schedule_options};
 ghost use Rattle.mf_office.specs.Texts.{IsCaller};
 ghost use Rattle.microloan_words.specs.declared.asked.BatchWords.{BatchWords};
 ghost use Rattle.microloan_words.specs.declared.asked.ServeWords.{ServeWords};
@@ -45,6 +46,7 @@ pub(crate) fn batch_words<'a>(options: &ArgMatches<'a>) -> Result<BatchWords<'a>
     ensures read { IfOk result (λ asked. AreBatchWords (rows_of (found_of options.now)) asked) }
     ensures limits { IfOk result (λ asked. asked.day ≤ last_entered_day) }
     ensures every { (asked : BatchWords) → AreBatchWords (rows_of (found_of options.now)) asked → result ≡ Ok asked }
+    ensures wrong { IfErr result (IsBatchWrong (rows_of (found_of options.now))) }
 {
     let file = file_at(options);
     let day = day_at(options, "day").ok_or(Wrong::Day)?;
@@ -64,6 +66,7 @@ pub(crate) fn serve_words<'a>(options: &ArgMatches<'a>) -> Result<ServeWords<'a>
     ensures read { IfOk result (λ asked. AreServeWords (rows_of (found_of options.now)) asked) }
     ensures limits { IfOk result IsServeWithinLimits }
     ensures every { (asked : ServeWords) → AreServeWords (rows_of (found_of options.now)) asked → result ≡ Ok asked }
+    ensures wrong { IfErr result (IsFirstWrong (rows_of (found_of options.now)) serve_options) }
 {
     let file = file_at(options).ok_or(Wrong::File)?;
     let port = port_at(options).ok_or(Wrong::Port)?;
@@ -86,6 +89,7 @@ pub(crate) fn staff_words<'a>(options: &ArgMatches<'a>) -> Result<StaffWords<'a>
     ensures read { IfOk result (λ asked. AreStaffWords (rows_of (found_of options.now)) asked) }
     ensures limits { IfOk result (λ asked. IsCaller asked.staff) }
     ensures every { (asked : StaffWords) → AreStaffWords (rows_of (found_of options.now)) asked → result ≡ Ok asked }
+    ensures wrong { IfErr result (IsFirstWrong (rows_of (found_of options.now)) staff_options) }
 {
     let file = file_at(options).ok_or(Wrong::File)?;
     let staff = staff_at(options).ok_or(Wrong::Staff)?;
@@ -101,15 +105,19 @@ pub(crate) fn staff_words<'a>(options: &ArgMatches<'a>) -> Result<StaffWords<'a>
 pub(crate) fn file_words<'a>(options: &ArgMatches<'a>) -> Result<FileWords<'a>, Wrong>
     ensures read { IfOk result (λ asked. AreFileWords (rows_of (found_of options.now)) asked) }
     ensures every { (asked : FileWords) → AreFileWords (rows_of (found_of options.now)) asked → result ≡ Ok asked }
+    ensures wrong { IfErr result (IsFirstWrong (rows_of (found_of options.now)) file_options) }
 {
-    let file = file_at(options).ok_or(Wrong::File)?;
-    Ok(FileWords { file })
+    match file_at(options) {
+        Some(file) => Ok(FileWords { file }),
+        None => Err(Wrong::File),
+    }
 }
 
 /// The options of `audit`, or the first that isn't what it should be.
 pub(crate) fn audit_words<'a>(options: &ArgMatches<'a>) -> Result<AuditWords<'a>, Wrong>
     ensures read { IfOk result (λ asked. AreAuditWords (rows_of (found_of options.now)) asked) }
     ensures every { (asked : AuditWords) → AreAuditWords (rows_of (found_of options.now)) asked → result ≡ Ok asked }
+    ensures wrong { IfErr result (IsFirstWrong (rows_of (found_of options.now)) audit_options) }
 {
     let file = file_at(options).ok_or(Wrong::File)?;
     let all = flag_at(options, "all").ok_or(Wrong::All)?;
@@ -121,6 +129,7 @@ pub(crate) fn schedule_words(options: &ArgMatches<'_>) -> Result<ScheduleWords, 
     ensures read { IfOk result (λ asked. AreScheduleWords (rows_of (found_of options.now)) asked) }
     ensures limits { IfOk result IsWithinLimits }
     ensures every { (asked : ScheduleWords) → AreScheduleWords (rows_of (found_of options.now)) asked → result ≡ Ok asked }
+    ensures wrong { IfErr result (IsFirstWrong (rows_of (found_of options.now)) schedule_options) }
 {
     let method = method_at(options).ok_or(Wrong::Method)?;
     let principal = number_at(options, "principal", 1, GREATEST_AMOUNT).ok_or(Wrong::Principal)?;

@@ -1,6 +1,7 @@
-ghost use Rattle.std.specs.Prelude.{◌≡◌, ◌≢◌};
+ghost use Rattle.std.specs.Prelude.{◌≡◌, ◌≢◌, ◌⊎◌, MatchOption};
 ghost use Rattle.clap.specs.Words.{kind_of};
 ghost use Rattle.microloan_words.specs.Asked.{IsHelp, IsVersion, IsBad};
+ghost use Rattle.microloan_words.specs.Owed.{owed_of, IsToldAs};
 
 use crate::asked::Words;
 use crate::reading::Wrong;
@@ -60,29 +61,74 @@ pub(crate) fn no_command(alloc: Global) -> Words
     bad(format!(in alloc; "microloan: no such command; see 'microloan --help'"))
 }
 
-/// What `clap` says of the words: help or the version where they ask for it, else what is wrong, in one line.
+/// What is owed to words that `clap` refused.
+#[derive(Clone, Copy)]
+enum Owed {
+    /// They ask for help.
+    Help,
+    /// They ask for the version.
+    Version,
+    /// They name no command.
+    NoCommand,
+    /// Something is wrong with them.
+    Wrong,
+}
+
+/// What is owed for an error of `clap`; None where `clap` was out of memory.
+fn owed_for(error: &Error) -> Option<Owed>
+    ensures { result ≡ owed_of (kind_of error.now) }
+{
+    match error.kind() {
+        ErrorKind::OutOfMemory => None,
+        ErrorKind::DisplayHelp => Some(Owed::Help),
+        ErrorKind::DisplayVersion => Some(Owed::Version),
+        ErrorKind::MissingSubcommand => Some(Owed::NoCommand),
+        _ => Some(Owed::Wrong),
+    }
+}
+
+/// A text as what is owed.
+fn told(owed: Owed, text: String) -> Words
+    ensures { IsToldAs owed result }
+{
+    match owed {
+        Owed::Help => Words::Help(text),
+        Owed::Version => Words::Version(text),
+        Owed::NoCommand | Owed::Wrong => Words::Bad(text),
+    }
+}
+
+/// The text that is owed, or out of memory for it.
+fn owed_text(
+    alloc: Global,
+    words: &[String],
+    error: &Error,
+    owed: Owed,
+) -> Result<String, AllocError> {
+    match owed {
+        Owed::Help | Owed::Version => format!(in alloc; "{error}"),
+        Owed::NoCommand => format!(in alloc;
+            "microloan: name a command: batch, serve, collect, report, schedule, why or audit; see 'microloan --help'"
+        ),
+        Owed::Wrong => one_line(alloc, words, error),
+    }
+}
+
+/// What `clap` says of the words: help or the version where they ask for it, else what is wrong, in one line. It is out
+/// of memory where `clap` was, and where there is none for that text.
 pub(crate) fn refused_by_clap(alloc: Global, words: &[String], error: &Error) -> Words
     ensures memory { kind_of error.now ≡ ErrorKind.OutOfMemory → result ≡ Words.Memory }
     ensures help { IsHelp result → kind_of error.now ≡ ErrorKind.DisplayHelp }
     ensures version { IsVersion result → kind_of error.now ≡ ErrorKind.DisplayVersion }
     ensures bad { IsBad result → (kind_of error.now ≢ ErrorKind.DisplayHelp) × (kind_of error.now ≢ ErrorKind.DisplayVersion) }
+    ensures owed { MatchOption (owed_of (kind_of error.now)) (result ≡ Words.Memory) (λ owed. (result ≡ Words.Memory) ⊎ IsToldAs owed result) }
 {
-    match error.kind() {
-        ErrorKind::OutOfMemory => Words::Memory,
-        ErrorKind::DisplayHelp => match format!(in alloc; "{error}") {
-            Ok(text) => Words::Help(text),
-            Err(_) => Words::Memory,
-        },
-        ErrorKind::DisplayVersion => match format!(in alloc; "{error}") {
-            Ok(text) => Words::Version(text),
-            Err(_) => Words::Memory,
-        },
-        ErrorKind::MissingSubcommand => {
-            bad(format!(in alloc;
-                "microloan: name a command: batch, serve, collect, report, schedule, why or audit; see 'microloan --help'"
-            ))
-        }
-        _ => bad(one_line(alloc, words, error)),
+    let Some(owed) = owed_for(error) else {
+        return Words::Memory;
+    };
+    match owed_text(alloc, words, error, owed) {
+        Ok(text) => told(owed, text),
+        Err(_) => Words::Memory,
     }
 }
 

@@ -17,6 +17,17 @@ returns-clause-instalments c = (refl, refl)
 pub returns-clause-principal_first : goal.returns-clause-principal_first
 returns-clause-principal_first c = refl
 
+pub returns-clause-interest_first : goal.returns-clause-interest_first
+returns-clause-interest_first c = refl
+
+pub returns-clause-due_first : goal.returns-clause-due_first
+unfolding day_of date_of
+returns-clause-due_first c = (refl, refl)
+
+pub returns-clause-due_first_with_charges : goal.returns-clause-due_first_with_charges
+unfolding day_of date_of
+returns-clause-due_first_with_charges c = refl
+
 pub returns-clause-reversal : goal.returns-clause-reversal
 returns-clause-reversal c = refl
 

@@ -1,10 +1,12 @@
-use Rattle.std.proofs.Common.{[], ◌∷◌, ◌++◌, refl, inl, inr, ◌∙◌}
-use Rattle.std.proofs.lemmas.Result.{on_ok_weaker}
+use Rattle.std.proofs.Common.{◌≡◌, [], ◌∷◌, ◌++◌, Err, refl, inl, inr, ◌∙◌, rules}
+use Rattle.std.proofs.lemmas.Result.{on_ok_weaker, IfErr-weaker}
 use Rattle.sqlite.specs.Held.{state}
 use Rattle.sqlite.proofs.Callers.{unchanged_then}
 use Rattle.mf_store_records.proofs.CallLemmas.{goes_on}
 use Rattle.mf_store_values.proofs.FoldLemmas.{tells_none, tells_more, tells_line}
-use Rattle.mf_store_values.proofs.RowsLemmas.{no_ok, clean_before, survives_same, kept_same, kept_then, given_begins, given_open, given_shown, folds_refused}
+use Rattle.mf_store_values.proofs.RowsLemmas.{no_ok, clean_before, survives_same, kept_same, kept_then, given_begins, given_open, given_shown, folds_refused, unread_sums}
+use Rattle.mf_store_values.proofs.SumLemmas.{over_at_end, over_at_row}
+use Rattle.mf_store_values.specs.declared.fold.NoLine.TheVariants.{Unread}
 use Rattle.mf_store_values.proofs.fold.fold_loans.Goals as goal
 
 pub rows-init : goal.rows-init
@@ -102,3 +104,36 @@ returns-clause-folds g c =
       whole = λ clean sql params has. tt;
       line_is = tt;
     }
+
+pub returns-in_err-next_instalment-clause-sums : goal.returns-in_err-next_instalment-clause-sums
+returns-in_err-next_instalment-clause-sums g c =
+    let e : c.from_residual.result ≡ Err c.in_err-next_instalment.field-0.0 = search rules in
+    rw e (unread_sums g.S.Store c.args.rows.now.conn.now c.next_instalment.new.rows.conn.now c.args.line.now c.in_err-next_instalment.field-0.0 c.in_err-next_instalment.ensures.unread)
+
+pub returns-in-None-clause-sums : goal.returns-in-None-clause-sums
+returns-in-None-clause-sums g c =
+    let old = c.args.rows.now.conn.now in
+    let mid = c.rows.rows.conn.now in
+    let new = c.next_instalment.new.rows.conn.now in
+    let so_far = c.rows.invariant.given in
+    IfErr-weaker c.count.result _ _ (λ why err great clean sql params has.
+    let before = so_far.1 (clean_before (state g.S.Store mid) (state g.S.Store new) c.next_instalment.ensures.survives clean) sql params has in
+    (so_far.0, given_begins g.S.Store sql params old mid so_far.0 before.1 before.0, over_at_end c.args.day so_far.0 c.args.line.now c.rows.read c.rows.line err.1 so_far.2)) c.count.ensures.too_great
+
+pub returns-in_err-take-in-Some-clause-sums : goal.returns-in_err-take-in-Some-clause-sums
+returns-in_err-take-in-Some-clause-sums g c =
+    let old = c.args.rows.now.conn.now in
+    let mid = c.rows.rows.conn.now in
+    let new = c.next_instalment.new.rows.conn.now in
+    let so_far = c.rows.invariant.given in
+    let takes = rw c.in-Some.is at c.in_ok-next_instalment.ensures.takes in
+    let e : c.from_residual-in_err-take-in-Some.result ≡ Err c.in_err-take-in-Some.field-0.0 = search rules in
+    rw e (λ great clean sql params has.
+    let before = so_far.1 (clean_before (state g.S.Store mid) (state g.S.Store new) c.next_instalment.ensures.survives clean) sql params has in (
+      so_far.0 ++ takes.0 ∷ [],
+      given_begins g.S.Store sql params old new (so_far.0 ++ takes.0 ∷ []) (unchanged_then (state g.S.Store old) (state g.S.Store mid) (state g.S.Store new) before.1 (c.in_ok-next_instalment.ensures.same clean)) (takes.1 clean sql params so_far.0 before.0),
+      over_at_row c.args.day so_far.0 takes.0 c.in-Some.found c.args.line.now c.rows.read c.rows.line takes.2 c.in_err-take-in-Some.ensures.too_great.1 so_far.2,
+    ))
+
+pub returns-clause-sums : goal.returns-clause-sums
+returns-clause-sums g c = unread_sums g.S.Store c.args.rows.now.conn.now c.rows.rows.conn.now c.args.line.now Unread refl

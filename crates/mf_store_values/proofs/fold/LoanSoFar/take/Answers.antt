@@ -1,7 +1,10 @@
-use Rattle.std.proofs.Common.{ap, sym, subst, ◌∙◌}
-use Rattle.std.proofs.lemmas.Result.{on_ok_weaker}
+use Rattle.std.proofs.Common.{◌+◌, ◌^◌, ◌≤◌, ap, sym, subst, ◌∙◌}
+use Rattle.std.proofs.lemmas.Result.{on_ok_weaker, IfErr-weaker}
+use Rattle.mf_alloc.specs.Sums.{open_at}
 use Rattle.mf_store_values.specs.Folding.{IsAt, step, with_row}
+use Rattle.mf_store_values.specs.declared.fold.LoanSoFar.{LoanSoFar}
 use Rattle.mf_store_values.proofs.FoldLemmas.{same_loan, next_loan}
+use Rattle.mf_store_values.proofs.SumLemmas.{same_over, next_over}
 use Rattle.mf_store_values.proofs.fold.LoanSoFar.take.Goals as goal
 use Rattle.mf_store_values.proofs.fold.LoanSoFar.take.Goals.{then-loan-self+in_ok-count, else-loan-self}
 
@@ -14,3 +17,15 @@ returns-clause-value c =
           subst (λ l. IsAt office (step c.args.today p c.args.found) c.add.new.self l) (sym w.line-is)
           (same_loan office c.args.today p c.args.self.now c.add.new.self c.args.line.now c.args.found.0 c.args.found.1 w.if-loan-self.false (added ∙ ap (λ s. with_row s c.args.found.1) w.self-is) at)
     ]) c.add.ensures.value
+
+pub returns-clause-too_great : goal.returns-clause-too_great
+returns-clause-too_great c =
+    IfErr-weaker c.add.result _ _ (λ why err. (
+      err.0,
+      λ office p at small next. elim c.if-loan-self.branch [
+        | then-loan-self+in_ok-count w ↦
+            next_over office c.args.today p c.args.self.now c.if-loan-self.self c.args.line.now c.args.found.0 c.args.found.1 w.if-loan-self.true (ap (λ (r : LoanSoFar). r.principal) (w.self-is ∙ w.new.ensures)) err.1 at next
+        | else-loan-self w ↦
+            same_over office c.args.today p c.args.self.now c.args.line.now c.args.found.0 c.args.found.1 w.if-loan-self.false (subst (λ (s : LoanSoFar). 2 ^ 64 ≤ s.principal + open_at c.args.found.1 3) w.self-is err.1) at next
+      ],
+    )) c.add.ensures.too_great

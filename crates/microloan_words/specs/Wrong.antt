@@ -1,0 +1,69 @@
+-- Which option is told to be wrong: the first that isn't as it should be, in the order in which the command takes them.
+use Rattle.std.specs.Prelude.{◌≡◌, ◌⊎◌, ℕ, Bool, List, [], ◌∷◌, codes, Some}
+use Rattle.clap.specs.Words.{Row, Text, first_of}
+use Rattle.mf_base.specs.Choices.{frequency_name}
+use Rattle.mf_base.specs.declared.day.Freq.{Freq}
+use Rattle.mf_catalog.specs.Limits.{greatest_amount, greatest_rate, most_grace, most_periods, longest_step}
+use Rattle.mf_catalog.specs.Names.{method_name}
+use Rattle.mf_catalog.specs.declared.terms.Method.{Method}
+use Rattle.mf_office.specs.declared.caller.Caller.{Caller}
+use Rattle.microloan_words.specs.Asked.{IsNumberAt, IsDayAt, IsCallerAt, IsCountAt, flag_text, most_patience}
+use Rattle.microloan_words.specs.declared.reading.Wrong.{Wrong}
+use Rattle.microloan_words.specs.declared.reading.Wrong.TheVariants.{File, Existing, All, Port, Count, Patience, Staff, Method as MethodOption, Principal, Rate, Periods, Day, Frequency, Every, PrincipalGrace, InterestGrace}
+
+-- a flag is given or not
+abbrev pub IsFlag : List Row → Text → Type 0
+IsFlag rows id = (given : Bool) × (first_of id rows ≡ Some (flag_text given))
+
+-- a number within its limits is given
+abbrev pub IsNumber : List Row → Text → ℕ → ℕ → Type 0
+IsNumber rows id least greatest = (number : ℕ) × IsNumberAt rows id least greatest number
+
+-- the option is as it should be
+abbrev pub IsRight : List Row → Wrong → Type 0
+IsRight rows File = (path : Text) × (first_of (codes "file") rows ≡ Some path)
+IsRight rows Existing = IsFlag rows (codes "existing")
+IsRight rows All = IsFlag rows (codes "all")
+IsRight rows Port = IsNumber rows (codes "port") 1 65535
+IsRight rows Count = (count : ℕ) × IsCountAt rows (codes "count") count
+IsRight rows Patience = IsNumber rows (codes "patience") 1 most_patience
+IsRight rows Staff = (staff : Caller) × IsCallerAt rows (codes "staff") staff
+IsRight rows MethodOption = (method : Method) × (first_of (codes "method") rows ≡ Some (method_name method))
+IsRight rows Principal = IsNumber rows (codes "principal") 1 greatest_amount
+IsRight rows Rate = IsNumber rows (codes "rate") 0 greatest_rate
+IsRight rows Periods = IsNumber rows (codes "periods") 1 most_periods
+IsRight rows Day = (day : ℕ) × IsDayAt rows (codes "day") day
+IsRight rows Frequency = (frequency : Freq) × (first_of (codes "frequency") rows ≡ Some (frequency_name frequency))
+IsRight rows Every = (frequency : Freq) × (first_of (codes "frequency") rows ≡ Some (frequency_name frequency)) × IsNumber rows (codes "every") 1 (longest_step frequency)
+IsRight rows PrincipalGrace = IsNumber rows (codes "principal-grace") 0 most_grace
+IsRight rows InterestGrace = IsNumber rows (codes "interest-grace") 0 most_grace
+
+-- the first of these options that isn't as it should be
+abbrev pub IsFirstWrong : List Row → List Wrong → Wrong → Type 0
+IsFirstWrong rows [] wrong = ⊥
+IsFirstWrong rows (option ∷ options) wrong = ((wrong ≡ option) × (¬ IsRight rows option)) ⊎ (IsRight rows option × IsFirstWrong rows options wrong)
+
+abbrev pub serve_options : List Wrong
+serve_options = File ∷ Port ∷ Count ∷ Patience ∷ Day ∷ Existing ∷ []
+
+abbrev pub staff_options : List Wrong
+staff_options = File ∷ Staff ∷ Existing ∷ []
+
+abbrev pub file_options : List Wrong
+file_options = File ∷ []
+
+abbrev pub audit_options : List Wrong
+audit_options = File ∷ All ∷ []
+
+abbrev pub schedule_options : List Wrong
+schedule_options = MethodOption ∷ Principal ∷ Rate ∷ Periods ∷ Day ∷ Frequency ∷ Every ∷ PrincipalGrace ∷ InterestGrace ∷ []
+
+-- of `batch`, these; and then the flag that asks for a file, where none is named
+abbrev pub batch_options : List Wrong
+batch_options = Day ∷ Existing ∷ []
+
+abbrev pub WantsFile : List Row → Type 0
+WantsFile rows = (first_of (codes "existing") rows ≡ Some (codes "true")) × (¬ IsRight rows File)
+
+abbrev pub IsBatchWrong : List Row → Wrong → Type 0
+IsBatchWrong rows wrong = IsFirstWrong rows batch_options wrong ⊎ (IsRight rows Day × WantsFile rows × (wrong ≡ Existing))
