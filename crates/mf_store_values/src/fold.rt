@@ -133,7 +133,7 @@ fn next_instalment<S: Alter>(rows: &mut Rows<'_, S>) -> Result<Option<(u32, Inst
 
 /// Makes of a new line the line of an office's loans on a day, from the rows of its instalments by loan and number, none
 /// of which was taken. It takes them one at a time. At an error it takes no more, and the line says nothing.
-pub fn fold_loans<S: Alter>(
+pub(crate) fn fold_instalments<S: Alter>(
     rows: &mut Rows<'_, S>,
     day: Day,
     line: &mut OfficeLine,
@@ -154,4 +154,25 @@ pub fn fold_loans<S: Alter>(
         }
     }
     Err(NoLine::Unread)
+}
+
+/// The same, which answers F20 at either error.
+pub fn fold_loans<S: Alter>(
+    rows: &mut Rows<'_, S>,
+    day: Day,
+    line: &mut OfficeLine,
+) -> Result<(), Fault>
+    ensures same_reference { rows.new.conn.ghost_name ≡ rows.old.conn.ghost_name }
+    ensures folds { Folds S.Store day rows.old.conn.now rows.new.conn.now line.old line.new result }
+    ensures kept { HasCleanDisk (state S.Store rows.new.conn.now) → IsKept S.Store rows.old.conn.now rows.new.conn.now }
+    ensures open { HasCleanDisk (state S.Store rows.new.conn.now)
+        → OnOk result (IsTrue (state S.Store rows.new.conn.now).is_open) }
+    ensures gives_up { IfErr result (λ fault. fault ≡ F20) }
+    ensures mode { rows.old.conn.now.in_transaction ≡ false → rows.new.conn.now.in_transaction ≡ false }
+    ensures survives { Survives (state S.Store rows.old.conn.now) (state S.Store rows.new.conn.now) (λ _. ⊥) }
+{
+    match fold_instalments(rows, day, line) {
+        Ok(()) => Ok(()),
+        Err(NoLine::Unread | NoLine::TooGreat) => Err(Fault::F20),
+    }
 }

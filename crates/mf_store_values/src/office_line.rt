@@ -13,7 +13,7 @@ ghost use Rattle.mf_store_records.specs.Rows.{Lists, is_instalment_in};
 ghost use Rattle.mf_store_values.specs.Arrears.{NumberedLoan, AreAbove, AreWholeLoans, rows_of_office, aged_loans, IsLineOf};
 ghost use Rattle.mf_store_values.specs.Folding.{AreWithinSums, IsOver};
 
-use crate::fold::{NoLine, fold_loans};
+use crate::fold::{NoLine, fold_instalments};
 use mf_arrears::OfficeLine;
 use mf_base::Day;
 use mf_office::OfficeNo;
@@ -39,7 +39,7 @@ fn fold_answer<S: Alter>(
     ensures survives { Survives (state S.Store connection.old) (state S.Store connection.new) (CommitsShowing sql.now (bound params.now) (state S.Store connection.old)) }
 {
     match connection.query(sql, params) {
-        Ok(mut rows) => fold_loans(&mut rows, today, line),
+        Ok(mut rows) => fold_instalments(&mut rows, today, line),
         Err(_) => Err(NoLine::Unread),
     }
 }

@@ -11,10 +11,10 @@ use Rattle.mf_store_values.proofs.office_line.fold_answer.Goals as goal
 
 pub returns-in-Ok-clause-line : goal.returns-in-Ok-clause-line
 returns-in-Ok-clause-line g c clean plain =
-    let new = c.fold_loans.new.rows.conn.now in
+    let new = c.fold_instalments.new.rows.conn.now in
     let late : HasCleanDisk (state g.S.Store new) = search rules in
-    let told : OnOk c.fold_loans.result ((taken : List Row) × Shown c.args.sql.now (bound c.args.params.now) (state g.S.Store c.args.connection.now) (state g.S.Store new) taken × IsLineOf c.args.today taken c.args.line.now c.fold_loans.new.line) =
-    folded_line g.S.Store c.args.today c.args.sql.now (bound c.args.params.now) c.args.connection.now c.in-Ok.rows.conn.now new c.args.line.now c.fold_loans.new.line c.fold_loans.result plain c.in-Ok.ensures.begun c.fold_loans.ensures.survives c.fold_loans.ensures.folds late in
+    let told : OnOk c.fold_instalments.result ((taken : List Row) × Shown c.args.sql.now (bound c.args.params.now) (state g.S.Store c.args.connection.now) (state g.S.Store new) taken × IsLineOf c.args.today taken c.args.line.now c.fold_instalments.new.line) =
+    folded_line g.S.Store c.args.today c.args.sql.now (bound c.args.params.now) c.args.connection.now c.in-Ok.rows.conn.now new c.args.line.now c.fold_instalments.new.line c.fold_instalments.result plain c.in-Ok.ensures.begun c.fold_instalments.ensures.survives c.fold_instalments.ensures.folds late in
     search rules
 
 pub returns-in-Err-clause-same : goal.returns-in-Err-clause-same
@@ -24,9 +24,9 @@ returns-in-Err-clause-same g c clean plain settled live =
 
 pub returns-in-Ok-clause-sums : goal.returns-in-Ok-clause-sums
 returns-in-Ok-clause-sums g c clean plain =
-    let new = c.fold_loans.new.rows.conn.now in
+    let new = c.fold_instalments.new.rows.conn.now in
     let late : HasCleanDisk (state g.S.Store new) = search rules in
-    folded_sums g.S.Store c.args.sql.now (bound c.args.params.now) c.args.connection.now c.in-Ok.rows.conn.now new c.args.line.now c.fold_loans.result plain c.in-Ok.ensures.begun c.fold_loans.ensures.survives c.fold_loans.ensures.sums late
+    folded_sums g.S.Store c.args.sql.now (bound c.args.params.now) c.args.connection.now c.in-Ok.rows.conn.now new c.args.line.now c.fold_instalments.result plain c.in-Ok.ensures.begun c.fold_instalments.ensures.survives c.fold_instalments.ensures.sums late
 
 pub returns-in-Err-clause-sums : goal.returns-in-Err-clause-sums
 returns-in-Err-clause-sums g c clean plain great = absurd (let never : Unread ≡ TooGreat = great in cc)

@@ -5,7 +5,7 @@ use Rattle.sqlite.specs.State.{HasCleanDisk, IsUnchanged, Survives}
 use Rattle.sqlite.specs.Held.{state}
 use Rattle.mf_store_values.specs.Folding.{IsKept}
 use Rattle.mf_store_values.proofs.FoldLemmas.{Tells}
-use Rattle.mf_store_values.proofs.fold.fold_loans.Given as goal
+use Rattle.mf_store_values.proofs.fold.fold_instalments.Given as goal
 
 abbrev pub invariant-rows : goal.invariant-rows
 invariant-rows g l = record {

@@ -7,7 +7,7 @@ use Rattle.mf_store_values.proofs.FoldLemmas.{tells_none, tells_more, tells_line
 use Rattle.mf_store_values.proofs.RowsLemmas.{no_ok, clean_before, survives_same, kept_same, kept_then, given_begins, given_open, given_shown, folds_refused, unread_sums}
 use Rattle.mf_store_values.proofs.SumLemmas.{over_at_end, over_at_row}
 use Rattle.mf_store_values.specs.declared.fold.NoLine.TheVariants.{Unread}
-use Rattle.mf_store_values.proofs.fold.fold_loans.Goals as goal
+use Rattle.mf_store_values.proofs.fold.fold_instalments.Goals as goal
 
 pub rows-init : goal.rows-init
 rows-init g c =
