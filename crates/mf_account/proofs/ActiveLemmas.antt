@@ -1,5 +1,7 @@
 -- A write-off that stands leaves nothing outstanding, so a loan is active exactly where something is.
-use Rattle.std.proofs.Common.{◌≡◌, ◌≤◌, ℕ, ◌+◌, ◌-◌, ◌*◌, ◌<◌, Bool, true, false, true≢false, cond, not, ◌&&◌, ◌||◌, ◌==◌, nat_lt, List, [], ◌∷◌, length, take, drop, get_or, suc, inl, inr, arith, refl, ◌∙◌, ap, subst, sym}
+use Rattle.std.proofs.Common.{◌≡◌, ◌≤◌, ℕ, ◌+◌, ◌-◌, ◌*◌, ◌<◌, Bool, true, false, true≢false, cond, not, ◌&&◌, ◌||◌}
+use Rattle.std.proofs.Common.{◌==◌, nat_lt, List, [], ◌∷◌, length, take, drop, get_or, suc, inl, inr, arith, refl, ◌∙◌}
+use Rattle.std.proofs.Common.{ap, subst, sym}
 use Rattle.std.specs.List.{list_any}
 use Rattle.std.proofs.lemmas.Bool.{cases_lt}
 use Rattle.std.proofs.lemmas.List.{drop_more, drop_all, take-append-drop}
@@ -31,25 +33,36 @@ use Rattle.mf_account.proofs.TailLemmas.{after_all-append, good-before}
 abbrev AreClosed : List Sums → Type 0
 AreClosed rows = (i p : ℕ) → i < length rows → p < 4 → open_at (get_or rows i no_row) p ≡ 0
 
-written_off-closed : (n used : ℕ) (name : StrategyName) (due : ℕ) (entry : Entry) (before : State) → due ≤ n → IsBounded n used before → entry.kind ≡ WriteOff → AreClosed (after (cell_by name due) entry before).rows
+written_off-closed : (n used : ℕ) (name : StrategyName) (due : ℕ) (entry : Entry) (before : State) → due ≤ n
+    → IsBounded n used before → entry.kind ≡ WriteOff → AreClosed (after (cell_by name due) entry before).rows
 written_off-closed n used name due entry before few good is i p within small =
     let order : ℕ → Cell = cell_by name due in
     let place : Cell → ℕ = place_by name due in
     let acted : State = state_acted order entry before in
     let size : length acted.rows ≡ n = length-acted entry.kind order entry before ∙ good.size in
-    let line : IsLine n order place acted.rows = record { size = size; is = lawful name n due few; whole = whole-acted entry.kind order entry before good.whole } in
+    let line : IsLine n order place acted.rows = record {
+      size = size;
+      is = lawful name n due few;
+      whole = whole-acted entry.kind order entry before good.whole;
+    } in
     let cell : Cell = record { instalment = i + 1; portion = standard p } in
     let k : ℕ = place cell in
-    let length_after : length (rows_paid order acted.rows acted.overpaid) ≡ length acted.rows = length-rows_paid order acted.rows acted.overpaid in
+    let length_after : length (rows_paid order acted.rows acted.overpaid) ≡ length acted.rows =
+    length-rows_paid order acted.rows acted.overpaid in
     let there : IsCell n cell = record { first = omega arith; last = omega (arith, within, length_after, size) } in
     let inside : k < 4 * n = in_range-place_by name n due cell few there in
-    let ordered : IsOrder (length before.rows) order place = subst (λ m. IsOrder m order place) (sym good.size) (lawful name n due few) in
+    let ordered : IsOrder (length before.rows) order place =
+    subst (λ m. IsOrder m order place) (sym good.size) (lawful name n due few) in
     let cleared = writes-off_by_cells order place entry before.rows ordered good.whole in
-    let none : outstanding (with_settled before.rows (parts_by WriteOff order entry before.rows)) (order k) ≡ 0 = cleared.none_left k (subst (λ m. k < 4 * m) (sym good.size) inside) in
-    let here : outstanding acted.rows (order k) ≡ 0 = ap (λ kind. outstanding (own_effect kind order entry before).rows (order k)) is ∙ none in
+    let none : outstanding (with_settled before.rows (parts_by WriteOff order entry before.rows)) (order k) ≡ 0 =
+    cleared.none_left k (subst (λ m. k < 4 * m) (sym good.size) inside) in
+    let here : outstanding acted.rows (order k) ≡ 0 =
+    ap (λ kind. outstanding (own_effect kind order entry before).rows (order k)) is ∙ none in
     let paid = outstanding-rows_paid n order place acted.rows acted.overpaid k line inside in
-    let left : outstanding (after order entry before).rows (order k) ≡ 0 = paid ∙ ap (λ x. x - amounts_of order acted.rows acted.overpaid k) here ∙ omega arith in
-    let at : outstanding (after order entry before).rows cell ≡ 0 = ap (outstanding (after order entry before).rows) (sym (forth-place_by name n due cell there)) ∙ left in
+    let left : outstanding (after order entry before).rows (order k) ≡ 0 =
+    paid ∙ ap (λ x. x - amounts_of order acted.rows acted.overpaid k) here ∙ omega arith in
+    let at : outstanding (after order entry before).rows cell ≡ 0 =
+    ap (outstanding (after order entry before).rows) (sym (forth-place_by name n due cell there)) ∙ left in
     let row : i + 1 - 1 ≡ i = omega arith in
     ap (λ x. open_at (get_or (after order entry before).rows x no_row) p) (sym row)
     ∙ ap (λ x. open_at (get_or (after order entry before).rows (i + 1 - 1) no_row) x) (sym (portion-at p small))
@@ -63,14 +76,18 @@ closed-none (row ∷ rows) closed =
     let c = closed 0 2 (omega arith) (omega arith) in
     let d = closed 0 3 (omega arith) (omega arith) in
     let nothing_left : row_outstanding row ≡ 0 = omega (arith, a, b, c, d) in
-    ap (λ x. nat_lt 0 x || list_any is_open rows) nothing_left ∙ closed-none rows (λ i p within small. closed (suc i) p (omega (arith, within)) small)
+    ap (λ x. nat_lt 0 x || list_any is_open rows) nothing_left
+    ∙ closed-none rows (λ i p within small. closed (suc i) p (omega (arith, within)) small)
 
 -- the last standing entry is made on what those before it leave
-last-state : (loan : Loan) (k : ℕ) → k + 1 ≡ length (standing_entries loan.entries) → state_of_loan loan ≡ after (orders_of loan (entry_at (standing_entries loan.entries) k)) (entry_at (standing_entries loan.entries) k) (state_before loan k)
+last-state : (loan : Loan) (k : ℕ) → k + 1 ≡ length (standing_entries loan.entries) → state_of_loan loan
+    ≡ after (orders_of loan (entry_at (standing_entries loan.entries) k)) (entry_at (standing_entries loan.entries) k)
+    (state_before loan k)
 last-state loan k is =
     let all : List Entry = standing_entries loan.entries in
     let first : State = first_state (schedule_of loan) in
-    let end : drop k all ≡ entry_at all k ∷ [] = drop_more all k no_entry (omega (arith, is)) ∙ ap (λ l. entry_at all k ∷ l) (drop_all (k + 1) all (omega (arith, is))) in
+    let end : drop k all ≡ entry_at all k ∷ [] = drop_more all k no_entry (omega (arith, is))
+    ∙ ap (λ l. entry_at all k ∷ l) (drop_all (k + 1) all (omega (arith, is))) in
     ap (λ es. after_all (orders_of loan) es first) (sym (take-append-drop k all))
     ∙ after_all-append (orders_of loan) (take k all) (drop k all) first
     ∙ ap (λ es. after_all (orders_of loan) es (state_before loan k)) end
@@ -87,20 +104,26 @@ write_off-is Refund is = absurd (true≢false (sym is))
 abbrev is_written_off : List Entry → Bool
 is_written_off entries = list_any (λ (e : Entry). not e.reversed && is_write_off e.kind) entries
 
-none_open : (loan : Loan) → IsSound loan → is_written_off loan.entries ≡ true → list_any is_open (state_of_loan loan).rows ≡ false
+none_open : (loan : Loan) → IsSound loan → is_written_off loan.entries ≡ true
+    → list_any is_open (state_of_loan loan).rows ≡ false
 none_open loan sound stands =
     let all : List Entry = standing_entries loan.entries in
     elim (cases_lt 0 (length all)) [
       | inl some ↦
           let k : ℕ = length all - 1 in
           let e : Entry = entry_at all k in
-          let kind : e.kind ≡ WriteOff = write_off-is e.kind (written_off-last loan.periods loan.day loan.entries all e.kind sound.entries refl some refl ∙ stands) in
-          closed-none (state_of_loan loan).rows (subst (λ (s : State). AreClosed s.rows) (sym (last-state loan k (omega (arith, some))))
-          (written_off-closed loan.periods _ loan.terms.strategy (due_at loan e) e (state_before loan k) (due_at-le loan e) (good-before loan k sound) kind))
-      | inr empty ↦ absurd (true≢false (sym stands ∙ sym (written_off-none loan.periods loan.day loan.entries all sound.entries refl (omega (arith, empty)))))
+          let kind : e.kind ≡ WriteOff = write_off-is e.kind (written_off-last loan.periods loan.day loan.entries all
+          e.kind sound.entries refl some refl ∙ stands) in
+          closed-none (state_of_loan loan).rows (subst (λ (s : State). AreClosed s.rows)
+          (sym (last-state loan k (omega (arith, some))))
+          (written_off-closed loan.periods _ loan.terms.strategy (due_at loan e) e (state_before loan k)
+          (due_at-le loan e) (good-before loan k sound) kind))
+      | inr empty ↦ absurd (true≢false (sym stands ∙ sym (written_off-none loan.periods loan.day loan.entries all
+          sound.entries refl (omega (arith, empty)))))
     ]
 
-status-is : (written left over : Bool) → (cond written 601 (cond left 300 (cond over 700 600)) == 300) ≡ (not written && left)
+status-is : (written left over : Bool) → (cond written 601 (cond left 300 (cond over 700 600)) == 300)
+    ≡ (not written && left)
 status-is true left over = refl
 status-is false true over = refl
 status-is false false true = refl
@@ -110,7 +133,8 @@ unless_written : (written left : Bool) → (written ≡ true → left ≡ false)
 unless_written true left none = sym (none refl)
 unless_written false left none = refl
 
-pub active-where_open : (loan : Loan) → IsSound loan → (status_of_loan loan == 300) ≡ list_any is_open (state_of_loan loan).rows
+pub active-where_open : (loan : Loan) → IsSound loan → (status_of_loan loan == 300)
+    ≡ list_any is_open (state_of_loan loan).rows
 active-where_open loan sound =
     let written : Bool = is_written_off loan.entries in
     let left : Bool = list_any is_open (state_of_loan loan).rows in

@@ -1,5 +1,6 @@
 -- Numbers gathered one by one, and the parts of one entry.
-use Rattle.std.proofs.Common.{◌≡◌, ◌≢◌, ℕ, suc, ◌+◌, ◌-◌, ◌<◌, ◌≤◌, ◌↔◌, eqb, List, [], ◌∷◌, ◌++◌, length, get_or, take, drop, arith, refl, ◌∙◌, ap, sym, subst, inl, inr, length-append, drop-cons}
+use Rattle.std.proofs.Common.{◌≡◌, ◌≢◌, ℕ, suc, ◌+◌, ◌-◌, ◌<◌, ◌≤◌, ◌↔◌, eqb, List, [], ◌∷◌, ◌++◌, length, get_or, take}
+use Rattle.std.proofs.Common.{drop, arith, refl, ◌∙◌, ap, sym, subst, inl, inr, length-append, drop-cons}
 use Rattle.std.specs.List.{Contains}
 use Rattle.std.proofs.Math.ListN.{get_or-append}
 use Rattle.std.proofs.Math.Seq.{take-append_seam, drop-append_seam}
@@ -7,7 +8,8 @@ use Rattle.std.proofs.lemmas.Bool.{cases_lt, cases_eq, cond-true, cond-false, eq
 use Rattle.std.proofs.lemmas.List.{get_or-append_right}
 use Rattle.std.specs.List.Sorted.{IsStrictlyIncreasing}
 use Rattle.std.specs.Prelude.{All}
-use Rattle.std.proofs.lemmas.List.Elements.{filter-append, All-nil, All-cons, All-head, All-tail, All-append, All-weaker, Contains-append_left, Contains-push}
+use Rattle.std.proofs.lemmas.List.Elements.{filter-append, All-nil, All-cons, All-head, All-tail, All-append}
+use Rattle.std.proofs.lemmas.List.Elements.{All-weaker, Contains-append_left, Contains-push}
 use Rattle.mf_account.specs.declared.settled.Settled.{Settled}
 use Rattle.mf_account.specs.Effect.{State}
 use Rattle.mf_account.specs.Loan.{Loan, state_of_loan, settled_of_loan}
@@ -21,7 +23,8 @@ those-none P = record {
   all = λ i from to is. absurd (omega arith);
 }
 
-pub those-more : (n : ℕ) (P : ℕ → Type 0) (xs : List ℕ) → AreThose n P xs → P (n + 1) → AreThose (n + 1) P (xs ++ (n + 1) ∷ [])
+pub those-more : (n : ℕ) (P : ℕ → Type 0) (xs : List ℕ) → AreThose n P xs → P (n + 1)
+    → AreThose (n + 1) P (xs ++ (n + 1) ∷ [])
 those-more n P xs those is =
     let size = length-append xs ((n + 1) ∷ []) in
     record {
@@ -43,8 +46,10 @@ those-more n P xs those is =
           ];
       each =
           All-append (λ i. (1 ≤ i) × (i ≤ n + 1) × P i) xs ((n + 1) ∷ [])
-          (All-weaker (λ i. (1 ≤ i) × (i ≤ n) × P i) (λ i. (1 ≤ i) × (i ≤ n + 1) × P i) (λ i h. (h.0, omega (arith, h.1), h.2)) xs those.each)
-          (All-cons (λ i. (1 ≤ i) × (i ≤ n + 1) × P i) (n + 1) [] (omega arith, omega arith, is) (All-nil (λ i. (1 ≤ i) × (i ≤ n + 1) × P i)));
+          (All-weaker (λ i. (1 ≤ i) × (i ≤ n) × P i) (λ i. (1 ≤ i) × (i ≤ n + 1) × P i)
+          (λ i h. (h.0, omega (arith, h.1), h.2)) xs those.each)
+          (All-cons (λ i. (1 ≤ i) × (i ≤ n + 1) × P i) (n + 1) [] (omega arith, omega arith, is)
+          (All-nil (λ i. (1 ≤ i) × (i ≤ n + 1) × P i)));
       all = λ i from to holds.
           elim (cases_eq i (n + 1)) [
             | inl last ↦ subst (λ x. Contains (xs ++ (n + 1) ∷ []) x) (sym last) (Contains-push xs (n + 1))
@@ -55,7 +60,8 @@ those-more n P xs those is =
 pub those-same : (n : ℕ) (P : ℕ → Type 0) (xs : List ℕ) → AreThose n P xs → (P (n + 1) → ⊥) → AreThose (n + 1) P xs
 those-same n P xs those not = record {
   ascend = those.ascend;
-  each = All-weaker (λ i. (1 ≤ i) × (i ≤ n) × P i) (λ i. (1 ≤ i) × (i ≤ n + 1) × P i) (λ i h. (h.0, omega (arith, h.1), h.2)) xs those.each;
+  each = All-weaker (λ i. (1 ≤ i) × (i ≤ n) × P i) (λ i. (1 ≤ i) × (i ≤ n + 1) × P i)
+      (λ i h. (h.0, omega (arith, h.1), h.2)) xs those.each;
   all = λ i from to holds.
       elim (cases_eq i (n + 1)) [
         | inl last ↦ absurd (not (subst P last holds))
@@ -64,52 +70,80 @@ those-same n P xs those not = record {
 }
 
 -- the parts of one entry from a place on: another's is passed over, and its own is first
-pub in-other : (seq : ℕ) (parts : List Settled) (k : ℕ) → k < length parts → (get_or parts k no_settled).seq ≢ seq → settled_in seq (drop k parts) ≡ settled_in seq (drop (k + 1) parts)
+pub in-other : (seq : ℕ) (parts : List Settled) (k : ℕ) → k < length parts → (get_or parts k no_settled).seq ≢ seq
+    → settled_in seq (drop k parts) ≡ settled_in seq (drop (k + 1) parts)
 in-other seq parts k within other =
     ap (settled_in seq) (drop-cons parts k no_settled within)
     ∙ cond-false (eqb (get_or parts k no_settled).seq seq) _ _ (ne_eqb (get_or parts k no_settled).seq seq other)
     ∙ (let next : suc k ≡ k + 1 = omega arith in ap (λ n. settled_in seq (drop n parts)) next)
 
-pub in-own : (seq : ℕ) (parts : List Settled) (k : ℕ) → k < length parts → (get_or parts k no_settled).seq ≡ seq → settled_in seq (drop k parts) ≡ get_or parts k no_settled ∷ settled_in seq (drop (k + 1) parts)
+pub in-own : (seq : ℕ) (parts : List Settled) (k : ℕ) → k < length parts → (get_or parts k no_settled).seq ≡ seq
+    → settled_in seq (drop k parts) ≡ get_or parts k no_settled ∷ settled_in seq (drop (k + 1) parts)
 in-own seq parts k within own =
     ap (settled_in seq) (drop-cons parts k no_settled within)
     ∙ cond-true (eqb (get_or parts k no_settled).seq seq) _ _ (eq-eqb (get_or parts k no_settled).seq seq own)
-    ∙ (let next : suc k ≡ k + 1 = omega arith in ap (λ n. get_or parts k no_settled ∷ settled_in seq (drop n parts)) next)
+    ∙ (let next : suc k ≡ k + 1 = omega arith in ap (λ n. get_or parts k no_settled ∷ settled_in seq (drop n parts))
+    next)
 
 -- two lists whose first own parts are the same are the same on where the rest is
-pub same-step : (seq : ℕ) (before after : List Settled) (i k next_i next_k : ℕ) → i < length before → k < length after → (get_or before i no_settled).seq ≡ seq → (get_or after k no_settled).seq ≡ seq → get_or before i no_settled ≡ get_or after k no_settled → settled_in seq (drop (i + 1) before) ≡ settled_in seq (drop next_i before) → settled_in seq (drop (k + 1) after) ≡ settled_in seq (drop next_k after) → ((settled_in seq before ≡ settled_in seq after) ↔ (settled_in seq (drop i before) ≡ settled_in seq (drop k after))) → (settled_in seq before ≡ settled_in seq after) ↔ (settled_in seq (drop next_i before) ≡ settled_in seq (drop next_k after))
+pub same-step : (seq : ℕ) (before after : List Settled) (i k next_i next_k : ℕ) → i < length before → k < length after
+    → (get_or before i no_settled).seq ≡ seq → (get_or after k no_settled).seq ≡ seq → get_or before i no_settled
+    ≡ get_or after k no_settled → settled_in seq (drop (i + 1) before) ≡ settled_in seq (drop next_i before)
+    → settled_in seq (drop (k + 1) after) ≡ settled_in seq (drop next_k after)
+    → ((settled_in seq before ≡ settled_in seq after)
+    ↔ (settled_in seq (drop i before) ≡ settled_in seq (drop k after))) → (settled_in seq before ≡ settled_in seq after)
+    ↔ (settled_in seq (drop next_i before) ≡ settled_in seq (drop next_k after))
 same-step seq before after i k next_i next_k within_i within_k own_i own_k same skip_i skip_k so_far =
-    let one : settled_in seq (drop i before) ≡ get_or before i no_settled ∷ settled_in seq (drop next_i before) = in-own seq before i within_i own_i ∙ ap (λ x. get_or before i no_settled ∷ x) skip_i in
-    let two : settled_in seq (drop k after) ≡ get_or after k no_settled ∷ settled_in seq (drop next_k after) = in-own seq after k within_k own_k ∙ ap (λ x. get_or after k no_settled ∷ x) skip_k in (
+    let one : settled_in seq (drop i before) ≡ get_or before i no_settled ∷ settled_in seq (drop next_i before) =
+    in-own seq before i within_i own_i ∙ ap (λ x. get_or before i no_settled ∷ x) skip_i in
+    let two : settled_in seq (drop k after) ≡ get_or after k no_settled ∷ settled_in seq (drop next_k after) =
+    in-own seq after k within_k own_k ∙ ap (λ x. get_or after k no_settled ∷ x) skip_k in (
       λ e. ap (drop 1) (sym one ∙ so_far.0 e ∙ two),
-      λ e. so_far.1 (one ∙ ap (λ x. x ∷ settled_in seq (drop next_i before)) same ∙ ap (λ x. get_or after k no_settled ∷ x) e ∙ sym two),
+      λ e. so_far.1 (one ∙ ap (λ x. x ∷ settled_in seq (drop next_i before)) same ∙ ap (λ x. get_or after k no_settled
+          ∷ x) e ∙ sym two),
     )
 
 -- two lists whose first own parts differ differ
-pub other-step : (seq : ℕ) (before after : List Settled) (i k : ℕ) → i < length before → k < length after → (get_or before i no_settled).seq ≡ seq → (get_or after k no_settled).seq ≡ seq → (get_or before i no_settled ≢ get_or after k no_settled) → settled_in seq (drop i before) ≢ settled_in seq (drop k after)
+pub other-step : (seq : ℕ) (before after : List Settled) (i k : ℕ) → i < length before → k < length after
+    → (get_or before i no_settled).seq ≡ seq → (get_or after k no_settled).seq ≡ seq → (get_or before i no_settled
+    ≢ get_or after k no_settled) → settled_in seq (drop i before) ≢ settled_in seq (drop k after)
 other-step seq before after i k within_i within_k own_i own_k other e =
-    other (ap (λ x. get_or x 0 no_settled) (sym (in-own seq before i within_i own_i) ∙ e ∙ in-own seq after k within_k own_k))
+    other (ap (λ x. get_or x 0 no_settled) (sym (in-own seq before i within_i own_i) ∙ e
+    ∙ in-own seq after k within_k own_k))
 
 -- what differs between the books and parts of two loans
-pub change-is : (before after : Loan) (old new : State) (old_parts new_parts : List Settled) (change : ChangedNumbers) → old ≡ state_of_loan before → old_parts ≡ settled_of_loan before → new ≡ state_of_loan after → new_parts ≡ settled_of_loan after → length old.rows ≡ after.periods → AreThose (length old.rows) (HasOtherRow old.rows new.rows) change.rows → AreThose (length after.entries) (HasOtherParts old_parts new_parts) change.seqs → IsChange before after change
-change-is before after old new old_parts new_parts change old_is old_parts_is new_is new_parts_is periods rows seqs = record {
-  rows =
-      subst (λ (n : ℕ). AreThose n (HasOtherRow (state_of_loan before).rows (state_of_loan after).rows) change.rows) periods
-      (subst (λ (x : State). AreThose (length old.rows) (HasOtherRow (state_of_loan before).rows x.rows) change.rows) new_is
-      (subst (λ (x : State). AreThose (length old.rows) (HasOtherRow x.rows new.rows) change.rows) old_is rows));
-  seqs =
-      subst (λ (x : List Settled). AreThose (length after.entries) (HasOtherParts (settled_of_loan before) x) change.seqs) new_parts_is
-      (subst (λ (x : List Settled). AreThose (length after.entries) (HasOtherParts x new_parts) change.seqs) old_parts_is seqs);
-}
+pub change-is : (before after : Loan) (old new : State) (old_parts new_parts : List Settled) (change : ChangedNumbers)
+    → old ≡ state_of_loan before → old_parts ≡ settled_of_loan before → new ≡ state_of_loan after
+    → new_parts ≡ settled_of_loan after → length old.rows ≡ after.periods → AreThose (length old.rows)
+    (HasOtherRow old.rows new.rows) change.rows → AreThose (length after.entries) (HasOtherParts old_parts new_parts)
+    change.seqs → IsChange before after change
+change-is before after old new old_parts new_parts change old_is old_parts_is new_is new_parts_is periods rows seqs =
+    record {
+      rows =
+          subst (λ (n : ℕ). AreThose n (HasOtherRow (state_of_loan before).rows (state_of_loan after).rows) change.rows)
+          periods
+          (subst (λ (x : State). AreThose (length old.rows) (HasOtherRow (state_of_loan before).rows x.rows)
+          change.rows)
+          new_is
+          (subst (λ (x : State). AreThose (length old.rows) (HasOtherRow x.rows new.rows) change.rows) old_is rows));
+      seqs =
+          subst (λ (x : List Settled). AreThose (length after.entries) (HasOtherParts (settled_of_loan before) x)
+          change.seqs) new_parts_is
+          (subst (λ (x : List Settled). AreThose (length after.entries) (HasOtherParts x new_parts) change.seqs)
+          old_parts_is seqs);
+    }
 
 -- the last given up again
-pub popped : {X : Type 0} → (all others rest : List X) (last : X) (n : ℕ) → rest ≡ take (n - 1) all → all ≡ others ++ last ∷ [] → n ≡ length all → rest ≡ others
+pub popped : {X : Type 0} → (all others rest : List X) (last : X) (n : ℕ) → rest ≡ take (n - 1) all → all ≡ others
+    ++ last ∷ [] → n ≡ length all → rest ≡ others
 popped all others rest last n is whole size =
-    let count : n - 1 ≡ length others = let both = ap length whole in let sum = length-append others (last ∷ []) in omega (arith, both, sum, size) in
+    let count : n - 1 ≡ length others = let both = ap length whole in let sum =
+    length-append others (last ∷ []) in omega (arith, both, sum, size) in
     is ∙ ap (λ k. take k all) count ∙ ap (take (length others)) whole ∙ take-append_seam others (last ∷ [])
 
 -- what begins alike differs where the rest does
-pub settled_in-append : (seq : ℕ) (xs ys : List Settled) → settled_in seq (xs ++ ys) ≡ settled_in seq xs ++ settled_in seq ys
+pub settled_in-append : (seq : ℕ) (xs ys : List Settled) → settled_in seq (xs ++ ys) ≡ settled_in seq xs
+    ++ settled_in seq ys
 settled_in-append seq xs ys = filter-append (λ (s : Settled). eqb s.seq seq) xs ys
 
 all-iff : (P Q : ℕ → Type 0) (xs : List ℕ) → ((i : ℕ) → P i → Q i) → ((i : ℕ) → Q i → P i) → AreAll P xs → AreAll Q xs
@@ -119,20 +153,26 @@ all-iff P Q xs to from are = record {
   all = λ i holds. are.all i (from i holds);
 }
 
-pub all-tails : (front before after : List Settled) (xs : List ℕ) → AreAll (HasOtherParts before after) xs → AreAll (HasOtherParts (front ++ before) (front ++ after)) xs
+pub all-tails : (front before after : List Settled) (xs : List ℕ) → AreAll (HasOtherParts before after) xs
+    → AreAll (HasOtherParts (front ++ before) (front ++ after)) xs
 all-tails front before after xs are =
     all-iff (HasOtherParts before after) (HasOtherParts (front ++ before) (front ++ after)) xs
     (λ seq other same.
     let own : List Settled = settled_in seq front in
-    other (sym (drop-append_seam own (settled_in seq before)) ∙ ap (drop (length own)) (sym (settled_in-append seq front before) ∙ same ∙ settled_in-append seq front after) ∙ drop-append_seam own (settled_in seq after)))
-    (λ seq other same. other (settled_in-append seq front before ∙ ap (λ z. settled_in seq front ++ z) same ∙ sym (settled_in-append seq front after)))
+    other (sym (drop-append_seam own (settled_in seq before)) ∙ ap (drop (length own))
+    (sym (settled_in-append seq front before) ∙ same ∙ settled_in-append seq front after)
+    ∙ drop-append_seam own (settled_in seq after)))
+    (λ seq other same. other (settled_in-append seq front before ∙ ap (λ z. settled_in seq front ++ z) same
+    ∙ sym (settled_in-append seq front after)))
     are
 
 -- all of them are those up to a number, where none lies beyond
-pub those-all : (n : ℕ) (P : ℕ → Type 0) (xs : List ℕ) → AreAll P xs → ((i : ℕ) → P i → (1 ≤ i) × (i ≤ n)) → AreThose n P xs
+pub those-all : (n : ℕ) (P : ℕ → Type 0) (xs : List ℕ) → AreAll P xs → ((i : ℕ) → P i → (1 ≤ i) × (i ≤ n))
+    → AreThose n P xs
 those-all n P xs are within = record {
   ascend = are.ascend;
-  each = All-weaker P (λ i. (1 ≤ i) × (i ≤ n) × P i) (λ i holds. let both = within i holds in (both.0, both.1, holds)) xs are.each;
+  each = All-weaker P (λ i. (1 ≤ i) × (i ≤ n) × P i) (λ i holds. let both = within i holds in (both.0, both.1, holds))
+      xs are.each;
   all = λ i from to holds. are.all i holds;
 }
 
@@ -149,7 +189,8 @@ below-none P = record {
   all = λ i below is. absurd (omega arith);
 }
 
-pub below-more : (m q : ℕ) (P : ℕ → Type 0) (xs : List ℕ) → AreBelow m P xs → m ≤ q → ((i : ℕ) → m ≤ i → i < q → P i → ⊥) → P q → AreBelow (q + 1) P (xs ++ q ∷ [])
+pub below-more : (m q : ℕ) (P : ℕ → Type 0) (xs : List ℕ) → AreBelow m P xs → m ≤ q → ((i : ℕ) → m ≤ i → i < q → P i
+    → ⊥) → P q → AreBelow (q + 1) P (xs ++ q ∷ [])
 below-more m q P xs are up none is =
     let size = length-append xs (q ∷ []) in
     record {
@@ -184,7 +225,8 @@ below-more m q P xs are up none is =
           ];
     }
 
-pub below-same : (m q : ℕ) (P : ℕ → Type 0) (xs : List ℕ) → AreBelow m P xs → m ≤ q → ((i : ℕ) → m ≤ i → i < q → P i → ⊥) → (P q → ⊥) → AreBelow (q + 1) P xs
+pub below-same : (m q : ℕ) (P : ℕ → Type 0) (xs : List ℕ) → AreBelow m P xs → m ≤ q → ((i : ℕ) → m ≤ i → i < q → P i
+    → ⊥) → (P q → ⊥) → AreBelow (q + 1) P xs
 below-same m q P xs are up none not = record {
   ascend = are.ascend;
   each = All-weaker (λ i. (i < m) × P i) (λ i. (i < q + 1) × P i) (λ i h. (omega (arith, h.0, up), h.1)) xs are.each;
@@ -210,5 +252,6 @@ below-all m P xs are none = record {
 pub none-in : (seq : ℕ) (parts : List Settled) → All (λ (s : Settled). s.seq ≢ seq) parts → settled_in seq parts ≡ []
 none-in seq [] apart = refl
 none-in seq (s ∷ parts) apart =
-    cond-false (eqb s.seq seq) (s ∷ settled_in seq parts) (settled_in seq parts) (ne_eqb s.seq seq (All-head (λ (x : Settled). x.seq ≢ seq) s parts apart))
+    cond-false (eqb s.seq seq) (s ∷ settled_in seq parts) (settled_in seq parts)
+    (ne_eqb s.seq seq (All-head (λ (x : Settled). x.seq ≢ seq) s parts apart))
     ∙ none-in seq parts (All-tail (λ (x : Settled). x.seq ≢ seq) s parts apart)

@@ -1,7 +1,11 @@
--- What an instalment owes of penalties is what its standing penalties come to, so one stands on it where that is above 0.
-use Rattle.std.proofs.Common.{◌≡◌, ◌≢◌, ℕ, zero, suc, ◌+◌, ◌-◌, ◌^◌, ◌<◌, ◌≤◌, true, not, ◌&&◌, cond, eqb, ltb, true≢false, List, [], ◌∷◌, length, map, get_or, set, inl, inr, arith, refl, ◌∙◌, ap, sym, subst}
+-- What an instalment owes of penalties is what its standing penalties come to, so one stands on it where that is above
+-- 0.
+use Rattle.std.proofs.Common.{◌≡◌, ◌≢◌, ℕ, zero, suc, ◌+◌, ◌-◌, ◌^◌, ◌<◌, ◌≤◌, true, not, ◌&&◌, cond, eqb, ltb}
+use Rattle.std.proofs.Common.{true≢false, List, [], ◌∷◌, length, map, get_or, set, inl, inr, arith, refl, ◌∙◌, ap, sym}
+use Rattle.std.proofs.Common.{subst}
 use Rattle.std.specs.Prelude.{sum_by, All}
-use Rattle.std.proofs.lemmas.Bool.{cases_lt, cases_Bool, cond-true, cond-false, eqb-true, eqb-false, lt-ltb, le-ltb, and_parts}
+use Rattle.std.proofs.lemmas.Bool.{cases_lt, cases_Bool, cond-true, cond-false, eqb-true, eqb-false, lt-ltb, le-ltb}
+use Rattle.std.proofs.lemmas.Bool.{and_parts}
 use Rattle.std.proofs.lemmas.List.{get_or-set_same, get_or-set_other, get_or_default}
 use Rattle.std.proofs.lemmas.List.Elements.{All-head, All-tail}
 use Rattle.std.proofs.lemmas.List.Folds.{list_any_at, Any-from_list_any}
@@ -17,13 +21,15 @@ use Rattle.mf_account.specs.declared.entry.Kind.TheVariants.{Repay, Fee, Penalty
 use Rattle.mf_account.specs.declared.settled.How.{How}
 use Rattle.mf_account.specs.declared.settled.How.TheVariants.{Paid, Waived, WrittenOff}
 use Rattle.mf_account.specs.Kinds.{is_penalty}
-use Rattle.mf_account.specs.Effect.{State, Part, settle, settle_row, owe_row, with_settled, with_charge, after, parts_of}
+use Rattle.mf_account.specs.Effect.{State, Part, settle, settle_row, owe_row, with_settled, with_charge, after}
+use Rattle.mf_account.specs.Effect.{parts_of}
 use Rattle.mf_account.specs.AtOnce.{rows_charged}
 use Rattle.mf_account.specs.Account.{Orders, after_all, first_state, row_of}
 use Rattle.mf_account.specs.Applicable.{HasInstalment}
 use Rattle.mf_account.specs.Standing.{standing_entries, no_entry, entry_at}
 use Rattle.mf_account.specs.StandingLaw.{IsAmong}
-use Rattle.mf_account.specs.Loan.{Loan, HasColumns, IsEntry, IsSound, schedule_of, orders_of, cell_places_of, state_of_loan}
+use Rattle.mf_account.specs.Loan.{Loan, HasColumns, IsEntry, IsSound, schedule_of, orders_of, cell_places_of}
+use Rattle.mf_account.specs.Loan.{state_of_loan}
 use Rattle.mf_account.specs.Refusals.{is_penalty_on, has_penalty}
 use Rattle.mf_account.proofs.OnceLemmas.{rows-after}
 use Rattle.mf_account.specs.Safe.{IsBounded}
@@ -48,7 +54,8 @@ abbrev added : ℕ → List Entry → ℕ
 added instalment entries = sum_by (adds instalment) entries
 
 -- a change that leaves something of a row leaves it of each row
-read-changed : (f : Sums → ℕ) (change : Sums → Sums) (rows : List Sums) (i j : ℕ) → ((row : Sums) → f (change row) ≡ f row) → f (get_or (set rows i (change (get_or rows i no_row))) j no_row) ≡ f (get_or rows j no_row)
+read-changed : (f : Sums → ℕ) (change : Sums → Sums) (rows : List Sums) (i j : ℕ) → ((row : Sums) → f (change row)
+    ≡ f row) → f (get_or (set rows i (change (get_or rows i no_row))) j no_row) ≡ f (get_or rows j no_row)
 read-changed f change [] zero j same = refl
 read-changed f change [] (suc i) j same = refl
 read-changed f change (row ∷ rows) zero zero same = same row
@@ -60,19 +67,25 @@ abbrev penalty_owed : Sums → ℕ
 penalty_owed row = get_or row.owed 0 0
 
 -- what is settled changes nothing that is owed
-settle_row-owes : (how : How) (p amount : ℕ) (row : Sums) → penalty_owed (settle_row how p amount row) ≡ penalty_owed row
+settle_row-owes : (how : How) (p amount : ℕ) (row : Sums) → penalty_owed (settle_row how p amount row)
+    ≡ penalty_owed row
 settle_row-owes Paid p amount row = refl
 settle_row-owes Waived p amount row = refl
 settle_row-owes WrittenOff p amount row = refl
 
-settled-owes : (instalment : ℕ) (rows : List Sums) (parts : List Part) → penalties_owed instalment (with_settled rows parts) ≡ penalties_owed instalment rows
+settled-owes : (instalment : ℕ) (rows : List Sums) (parts : List Part)
+    → penalties_owed instalment (with_settled rows parts) ≡ penalties_owed instalment rows
 settled-owes instalment rows [] = refl
 settled-owes instalment rows (part ∷ parts) =
     settled-owes instalment (settle rows part) parts
-    ∙ read-changed penalty_owed (settle_row part.how (place_in_row part.cell.portion) part.amount) rows (part.cell.instalment - 1) (instalment - 1) (settle_row-owes part.how (place_in_row part.cell.portion) part.amount)
+    ∙ read-changed penalty_owed (settle_row part.how (place_in_row part.cell.portion) part.amount) rows
+    (part.cell.instalment - 1) (instalment - 1) (settle_row-owes part.how (place_in_row part.cell.portion)
+    part.amount)
 
 -- a penalty adds its amount to its own instalment, and nothing else adds to one
-penalty-owes : (instalment : ℕ) (e : Entry) (rows : List Sums) → AreWhole rows → 1 ≤ instalment → 1 ≤ e.instalment → e.instalment ≤ length rows → penalties_owed instalment (with_charge Penalty e rows) ≡ penalties_owed instalment rows + adds_by Penalty instalment e
+penalty-owes : (instalment : ℕ) (e : Entry) (rows : List Sums) → AreWhole rows → 1 ≤ instalment → 1 ≤ e.instalment
+    → e.instalment ≤ length rows → penalties_owed instalment (with_charge Penalty e rows) ≡ penalties_owed instalment
+    rows + adds_by Penalty instalment e
 penalty-owes instalment e rows whole first there last =
     let i : ℕ = e.instalment - 1 in
     let row : Sums = row_at rows e.instalment in
@@ -83,9 +96,12 @@ penalty-owes instalment e rows whole first there last =
           let within : i < length rows = omega (arith, there, last) in
           let size = (whole i no_row within).owed in
           let some : 0 < length row.owed = omega (arith, size) in
-          let adds_is : adds_by Penalty instalment e ≡ e.amount = cond-true (eqb e.instalment instalment) e.amount 0 own in
-          let read : penalties_owed e.instalment (with_charge Penalty e rows) ≡ penalties_owed e.instalment rows + e.amount =
-          ap penalty_owed (get_or-set_same rows i charged no_row within) ∙ get_or-set_same row.owed 0 (get_or row.owed 0 0 + e.amount) 0 some in
+          let adds_is : adds_by Penalty instalment e ≡ e.amount =
+          cond-true (eqb e.instalment instalment) e.amount 0 own in
+          let read : penalties_owed e.instalment (with_charge Penalty e rows) ≡ penalties_owed e.instalment rows
+          + e.amount =
+          ap penalty_owed (get_or-set_same rows i charged no_row within)
+          ∙ get_or-set_same row.owed 0 (get_or row.owed 0 0 + e.amount) 0 some in
           let after_is = ap (λ x. penalties_owed x (with_charge Penalty e rows)) same in
           let before_is = ap (λ x. penalties_owed x rows) same in
           omega (arith, adds_is, read, after_is, before_is)
@@ -93,33 +109,44 @@ penalty-owes instalment e rows whole first there last =
           let differ : e.instalment ≢ instalment = eqb-false e.instalment instalment other in
           let apart : instalment - 1 ≢ i = λ same. differ (omega (arith, same, first, there)) in
           let adds_is : adds_by Penalty instalment e ≡ 0 = cond-false (eqb e.instalment instalment) e.amount 0 other in
-          let read : penalties_owed instalment (with_charge Penalty e rows) ≡ penalties_owed instalment rows = ap penalty_owed (get_or-set_other rows i (instalment - 1) charged no_row apart) in
+          let read : penalties_owed instalment (with_charge Penalty e rows) ≡ penalties_owed instalment rows =
+          ap penalty_owed (get_or-set_other rows i (instalment - 1) charged no_row apart) in
           omega (arith, adds_is, read)
     ]
 
-charge-owes : (kind : Kind) (instalment : ℕ) (e : Entry) (rows : List Sums) → AreWhole rows → 1 ≤ instalment → HasInstalment kind e (length rows) → penalties_owed instalment (with_charge kind e rows) ≡ penalties_owed instalment rows + adds_by kind instalment e
+charge-owes : (kind : Kind) (instalment : ℕ) (e : Entry) (rows : List Sums) → AreWhole rows → 1 ≤ instalment
+    → HasInstalment kind e (length rows) → penalties_owed instalment (with_charge kind e rows)
+    ≡ penalties_owed instalment rows + adds_by kind instalment e
 charge-owes Penalty instalment e rows whole first has = penalty-owes instalment e rows whole first has.0 has.1
 charge-owes Fee instalment e rows whole first has =
     let same : penalties_owed instalment (with_charge Fee e rows) ≡ penalties_owed instalment rows =
-    read-changed penalty_owed (owe_row 1 e.amount) rows (e.instalment - 1) (instalment - 1) (λ row. get_or-set_other row.owed 1 0 (get_or row.owed 1 0 + e.amount) 0 (omega arith)) in
+    read-changed penalty_owed (owe_row 1 e.amount) rows (e.instalment - 1) (instalment - 1)
+    (λ row. get_or-set_other row.owed 1 0 (get_or row.owed 1 0 + e.amount) 0 (omega arith)) in
     omega (arith, same)
 charge-owes Repay instalment e rows whole first has = omega arith
 charge-owes Waive instalment e rows whole first has = omega arith
 charge-owes WriteOff instalment e rows whole first has = omega arith
 charge-owes Refund instalment e rows whole first has = omega arith
 
-after-owes : (n used instalment : ℕ) (order : ℕ → Cell) (e : Entry) (before : State) → 1 ≤ instalment → HasInstalment e.kind e n → IsBounded n used before → penalties_owed instalment (after order e before).rows ≡ penalties_owed instalment before.rows + adds instalment e
+after-owes : (n used instalment : ℕ) (order : ℕ → Cell) (e : Entry) (before : State) → 1 ≤ instalment
+    → HasInstalment e.kind e n → IsBounded n used before → penalties_owed instalment (after order e before).rows
+    ≡ penalties_owed instalment before.rows + adds instalment e
 after-owes n used instalment order e before first has good =
     ap (penalties_owed instalment) (rows-after order e before)
     ∙ settled-owes instalment (rows_charged e before) (parts_of order e before)
     ∙ charge-owes e.kind instalment e before.rows good.whole first (subst (HasInstalment e.kind e) (sym good.size) has)
 
-all-owes : (n used instalment : ℕ) (orders : Orders) (places : Entry → Cell → ℕ) (entries : List Entry) (before : State) → 1 ≤ instalment → ((e : Entry) → IsOrder n (orders e) (places e)) → All (IsReplayable n) entries → IsBounded n used before → penalties_owed instalment (after_all orders entries before).rows ≡ penalties_owed instalment before.rows + added instalment entries
+all-owes : (n used instalment : ℕ) (orders : Orders) (places : Entry → Cell → ℕ) (entries : List Entry) (before : State)
+    → 1 ≤ instalment → ((e : Entry) → IsOrder n (orders e) (places e)) → All (IsReplayable n) entries
+    → IsBounded n used before → penalties_owed instalment (after_all orders entries before).rows
+    ≡ penalties_owed instalment before.rows + added instalment entries
 all-owes n used instalment orders places [] before first is each good = omega arith
 all-owes n used instalment orders places (e ∷ entries) before first is each good =
     let one : IsReplayable n e = All-head (IsReplayable n) e entries each in
     let own = after-owes n used instalment (orders e) e before first one.there good in
-    let rest = all-owes n (used + e.amount) instalment orders places entries (after (orders e) e before) first is (All-tail (IsReplayable n) e entries each) (good-after n used (orders e) (places e) e before (is e) one.there good) in
+    let rest = all-owes n (used + e.amount) instalment orders places entries (after (orders e) e before) first is
+    (All-tail (IsReplayable n) e entries each) (good-after n used (orders e) (places e) e before (is e) one.there
+    good) in
     let all = sum_by-append (adds instalment) (e ∷ []) entries in
     omega (arith, own, rest, all)
 
@@ -130,9 +157,11 @@ first-owes (x ∷ schedule) zero = refl
 first-owes (x ∷ schedule) (suc i) = first-owes schedule i
 
 -- an instalment owes what its standing penalties come to
-loan-owes : (loan : Loan) (instalment : ℕ) → IsSound loan → 1 ≤ instalment → penalties_owed instalment (state_of_loan loan).rows ≡ added instalment (standing_entries loan.entries)
+loan-owes : (loan : Loan) (instalment : ℕ) → IsSound loan → 1 ≤ instalment
+    → penalties_owed instalment (state_of_loan loan).rows ≡ added instalment (standing_entries loan.entries)
 loan-owes loan instalment sound first =
-    let all = all-owes loan.periods (2 ^ 54) instalment (orders_of loan) (cell_places_of loan) (standing_entries loan.entries) (first_state (schedule_of loan)) first
+    let all = all-owes loan.periods (2 ^ 54) instalment (orders_of loan) (cell_places_of loan)
+    (standing_entries loan.entries) (first_state (schedule_of loan)) first
     (lawful-of loan) (each-standing loan sound) (first-good loan sound) in
     let none = first-owes (schedule_of loan) (instalment - 1) in
     omega (arith, all, none)
@@ -149,7 +178,8 @@ one-adds instalment x (y ∷ ys) (inr later) =
     let all = sum_by-append (adds instalment) (y ∷ []) ys in
     omega (arith, rest, all)
 
-some-adds : (instalment : ℕ) (xs : List Entry) → 0 < added instalment xs → (x : Entry) × IsAmong x xs × (0 < adds instalment x)
+some-adds : (instalment : ℕ) (xs : List Entry) → 0 < added instalment xs → (x : Entry) × IsAmong x xs
+    × (0 < adds instalment x)
 some-adds instalment [] some = absurd (omega (arith, some))
 some-adds instalment (x ∷ xs) some =
     elim (cases_lt 0 (adds instalment x)) [
@@ -170,25 +200,31 @@ penalty-some WriteOff n e has is = absurd (true≢false (sym is))
 penalty-some Refund n e has is = absurd (true≢false (sym is))
 
 -- an entry that adds something is a penalty on the instalment
-adds-penalty : (instalment : ℕ) (e : Entry) → 0 < adds instalment e → (is_penalty e.kind && eqb e.instalment instalment) ≡ true
+adds-penalty : (instalment : ℕ) (e : Entry) → 0 < adds instalment e → (is_penalty e.kind && eqb e.instalment instalment)
+    ≡ true
 adds-penalty instalment e some =
     elim (cases_Bool (is_penalty e.kind && eqb e.instalment instalment)) [
       | inl is ↦ is
-      | inr other ↦ let none : adds instalment e ≡ 0 = cond-false (is_penalty e.kind && eqb e.instalment instalment) e.amount 0 other in absurd (omega (arith, some, none))
+      | inr other ↦ let none : adds instalment e ≡ 0 = cond-false (is_penalty e.kind && eqb e.instalment instalment)
+          e.amount 0 other in absurd (omega (arith, some, none))
     ]
 
 -- where an instalment owes penalties one stands on it
-owing-has : (loan : Loan) (instalment : ℕ) → IsSound loan → 0 < added instalment (standing_entries loan.entries) → has_penalty loan.entries instalment ≡ true
+owing-has : (loan : Loan) (instalment : ℕ) → IsSound loan → 0 < added instalment (standing_entries loan.entries)
+    → has_penalty loan.entries instalment ≡ true
 owing-has loan instalment sound some =
     let found = some-adds instalment (standing_entries loan.entries) some in
     let x : Entry = found.0 in
     let own = (standing-is-one loan.periods loan.day loan.entries sound.entries).0.from x found.1 in
     let index = among-index x loan.entries own.0 in
-    let holds : is_penalty_on instalment x ≡ true = ap (λ b. not b && (is_penalty x.kind && eqb x.instalment instalment)) own.1 ∙ adds-penalty instalment x found.2 in
-    list_any_at (is_penalty_on instalment) loan.entries index.0 no_entry index.1 (ap (is_penalty_on instalment) index.2 ∙ holds)
+    let holds : is_penalty_on instalment x ≡ true = ap (λ b. not b && (is_penalty x.kind && eqb x.instalment
+    instalment)) own.1 ∙ adds-penalty instalment x found.2 in
+    list_any_at (is_penalty_on instalment) loan.entries index.0 no_entry index.1 (ap (is_penalty_on instalment) index.2
+    ∙ holds)
 
 -- and where one stands on it, it owes penalties
-having-owes : (loan : Loan) (instalment : ℕ) → IsSound loan → has_penalty loan.entries instalment ≡ true → 0 < added instalment (standing_entries loan.entries)
+having-owes : (loan : Loan) (instalment : ℕ) → IsSound loan → has_penalty loan.entries instalment ≡ true
+    → 0 < added instalment (standing_entries loan.entries)
 having-owes loan instalment sound any =
     let found = Any-from_list_any (is_penalty_on instalment) loan.entries any in
     let k : ℕ = found.0 in
@@ -196,24 +232,31 @@ having-owes loan instalment sound any =
     let read : entry_at loan.entries k ≡ x = get_or_default loan.entries k no_entry x found.2 ∙ found.3 in
     let both = and_parts (not x.reversed) (is_penalty x.kind && eqb x.instalment instalment) found.4 in
     let penalty = and_parts (is_penalty x.kind) (eqb x.instalment instalment) both.1 in
-    let among : IsAmong x loan.entries = subst (λ (y : Entry). IsAmong y loan.entries) read (at-among loan.entries k found.2) in
-    let stands : IsAmong x (standing_entries loan.entries) = (standing-is-one loan.periods loan.day loan.entries sound.entries).0.to x among (not_true x.reversed both.0) in
-    let is : IsEntry loan.periods loan.day x = subst (IsEntry loan.periods loan.day) read (sound.entries.each k no_entry found.2) in
+    let among : IsAmong x loan.entries =
+    subst (λ (y : Entry). IsAmong y loan.entries) read (at-among loan.entries k found.2) in
+    let stands : IsAmong x (standing_entries loan.entries) =
+    (standing-is-one loan.periods loan.day loan.entries sound.entries).0.to x among (not_true x.reversed both.0) in
+    let is : IsEntry loan.periods loan.day x =
+    subst (IsEntry loan.periods loan.day) read (sound.entries.each k no_entry found.2) in
     let amount = penalty-some x.kind loan.periods x is.columns penalty.0 in
-    let own : adds instalment x ≡ x.amount = cond-true (is_penalty x.kind && eqb x.instalment instalment) x.amount 0 both.1 in
+    let own : adds instalment x ≡ x.amount =
+    cond-true (is_penalty x.kind && eqb x.instalment instalment) x.amount 0 both.1 in
     let most = one-adds instalment x (standing_entries loan.entries) stands in
     omega (arith, amount, own, most)
 
 -- so the row alone tells it
-pub owed-tells : (loan : Loan) (instalment : ℕ) (row : Sums) → IsSound loan → 1 ≤ instalment → row ≡ row_at (state_of_loan loan).rows instalment → ltb 0 (get_or row.owed 0 0) ≡ has_penalty loan.entries instalment
+pub owed-tells : (loan : Loan) (instalment : ℕ) (row : Sums) → IsSound loan → 1 ≤ instalment → row
+    ≡ row_at (state_of_loan loan).rows instalment → ltb 0 (get_or row.owed 0 0) ≡ has_penalty loan.entries instalment
 owed-tells loan instalment row sound first is =
     let owes = loan-owes loan instalment sound first in
     let here : penalty_owed row ≡ penalties_owed instalment (state_of_loan loan).rows = ap penalty_owed is in
     elim (cases_Bool (has_penalty loan.entries instalment)) [
-      | inl any ↦ let some = having-owes loan instalment sound any in lt-ltb 0 (penalty_owed row) (omega (arith, owes, here, some)) ∙ sym any
+      | inl any ↦ let some = having-owes loan instalment sound any in lt-ltb 0 (penalty_owed row)
+          (omega (arith, owes, here, some)) ∙ sym any
       | inr without ↦
           elim (cases_lt 0 (penalty_owed row)) [
-            | inl some ↦ absurd (true≢false (sym (owing-has loan instalment sound (omega (arith, owes, here, some))) ∙ without))
+            | inl some ↦ absurd (true≢false (sym (owing-has loan instalment sound (omega (arith, owes, here, some)))
+                ∙ without))
             | inr none ↦ le-ltb 0 (penalty_owed row) none ∙ sym without
           ]
     ]

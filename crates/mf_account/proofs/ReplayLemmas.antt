@@ -9,13 +9,17 @@ use Rattle.mf_account.specs.Account.{Orders}
 use Rattle.mf_account.specs.Standing.{entries_at, no_entry}
 use Rattle.mf_account.proofs.EffectLemmas.{length-with_settled, length-with_charge}
 
-pub length-after : (orders : Orders) (entry : Entry) (now : State) → length (after (orders entry) entry now).rows ≡ length now.rows
+pub length-after : (orders : Orders) (entry : Entry) (now : State) → length (after (orders entry) entry now).rows
+    ≡ length now.rows
 length-after orders entry now =
     ap length (rows-after (orders entry) entry now)
-    ∙ length-with_settled (rows_charged entry now) (parts_of (orders entry) entry now) ∙ length-with_charge entry.kind entry now.rows
+    ∙ length-with_settled (rows_charged entry now) (parts_of (orders entry) entry now)
+    ∙ length-with_charge entry.kind entry now.rows
 
 -- the next entry
-pub rest-cons : (entries : List Entry) (order : List ℕ) (k i : ℕ) (e : Entry) → k < length order → i ≡ get_or order k i → i < length entries → e ≡ get_or entries i e → entries_at entries (drop k order) ≡ e ∷ entries_at entries (drop (k + 1) order)
+pub rest-cons : (entries : List Entry) (order : List ℕ) (k i : ℕ) (e : Entry) → k < length order → i ≡ get_or order k i
+    → i < length entries → e ≡ get_or entries i e → entries_at entries (drop k order) ≡ e
+    ∷ entries_at entries (drop (k + 1) order)
 rest-cons entries order k i e within at there is =
     ap (entries_at entries) (drop-cons order k i within ∙ ap (λ x. x ∷ drop (suc k) order) (sym at))
     ∙ ap (λ x. x ∷ entries_at entries (drop (suc k) order)) (get_or_default entries i no_entry e there ∙ sym is)

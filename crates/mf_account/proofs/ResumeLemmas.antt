@@ -1,5 +1,6 @@
 -- What is overpaid and refunded, from the rows and the entries alone.
-use Rattle.std.proofs.Common.{◌≡◌, ℕ, ◌+◌, ◌-◌, ◌^◌, ◌<◌, ◌≤◌, List, [], ◌∷◌, ◌++◌, length, get_or, take, drop, inl, inr, arith, refl, ◌∙◌, ap, sym, subst}
+use Rattle.std.proofs.Common.{◌≡◌, ℕ, ◌+◌, ◌-◌, ◌^◌, ◌<◌, ◌≤◌, List, [], ◌∷◌, ◌++◌, length, get_or, take, drop, inl}
+use Rattle.std.proofs.Common.{inr, arith, refl, ◌∙◌, ap, sym, subst}
 use Rattle.std.proofs.lemmas.Bool.{cases_lt}
 use Rattle.std.proofs.lemmas.List.{length-map, take-map, take_more, drop_more, drop_all}
 use Rattle.std.proofs.lemmas.List.Sums.{sum_by-append, sum_by-take-le}
@@ -42,23 +43,30 @@ brought-kept loan sound =
     let all = standing-amounts loan sound in
     omega (arith, most, all)
 
-pub brought-step : (entries : List Entry) (order : List ℕ) (k : ℕ) (e : Entry) → k < length order → get_or order k 0 < length entries → e ≡ get_or entries (get_or order k 0) e → brought (entries_at entries (take k order)) + money_in e.kind e.amount ≤ brought (entries_at entries order)
+pub brought-step : (entries : List Entry) (order : List ℕ) (k : ℕ) (e : Entry) → k < length order → get_or order k 0
+    < length entries → e ≡ get_or entries (get_or order k 0) e → brought (entries_at entries (take k order))
+    + money_in e.kind e.amount ≤ brought (entries_at entries order)
 brought-step entries order k e within there is =
     let read : ℕ → Entry = λ i. get_or entries i no_entry in
     let all : List Entry = entries_at entries order in
     let size = length-map order read in
     let here : get_or all k no_entry ≡ e = at_place entries order k e within there is in
-    let own : money_in (get_or all k no_entry).kind (get_or all k no_entry).amount ≡ money_in e.kind e.amount = ap (λ (x : Entry). money_in x.kind x.amount) here in
-    let split : brought (take (k + 1) all) ≡ brought (take k all ++ get_or all k no_entry ∷ []) = ap brought (take_more all k no_entry (omega (arith, size, within))) in
+    let own : money_in (get_or all k no_entry).kind (get_or all k no_entry).amount ≡ money_in e.kind e.amount =
+    ap (λ (x : Entry). money_in x.kind x.amount) here in
+    let split : brought (take (k + 1) all) ≡ brought (take k all ++ get_or all k no_entry ∷ []) =
+    ap brought (take_more all k no_entry (omega (arith, size, within))) in
     let sum = sum_by-append (λ (x : Entry). money_in x.kind x.amount) (take k all) (get_or all k no_entry ∷ []) in
     let most = sum_by-take-le (λ (x : Entry). money_in x.kind x.amount) all (k + 1) in
-    let front : brought (take k all) ≡ brought (entries_at entries (take k order)) = ap brought (take-map read k order) in
+    let front : brought (take k all) ≡ brought (entries_at entries (take k order)) =
+    ap brought (take-map read k order) in
     omega (arith, own, split, sum, most, front)
 
 abbrev pub paid_in_all : List Sums → ℕ
-paid_in_all rows = sum_at (λ (r : Sums). r.paid) 0 rows + sum_at (λ (r : Sums). r.paid) 1 rows + sum_at (λ (r : Sums). r.paid) 2 rows + sum_at (λ (r : Sums). r.paid) 3 rows
+paid_in_all rows = sum_at (λ (r : Sums). r.paid) 0 rows + sum_at (λ (r : Sums). r.paid) 1 rows
+    + sum_at (λ (r : Sums). r.paid) 2 rows + sum_at (λ (r : Sums). r.paid) 3 rows
 
-pub held : (loan : Loan) → IsSound loan → paid_in_all (state_of_loan loan).rows + (state_of_loan loan).overpaid + (state_of_loan loan).refunded ≡ brought (standing_entries loan.entries)
+pub held : (loan : Loan) → IsSound loan → paid_in_all (state_of_loan loan).rows + (state_of_loan loan).overpaid
+    + (state_of_loan loan).refunded ≡ brought (standing_entries loan.entries)
 held loan sound =
     let all = held-sound loan sound in
     let columns = paid-columns (state_of_loan loan).rows (good-sound loan sound).whole in
@@ -68,24 +76,29 @@ abbrev pub EndsInRefund : List Entry → ℕ → Type 0
 EndsInRefund entries n = (0 < n) × ((entry_at entries (n - 1)).kind ≡ Refund)
 
 -- after a refund nothing is overpaid
-none-overpaid : (loan : Loan) → IsSound loan → EndsInRefund (standing_entries loan.entries) (length (standing_entries loan.entries)) → (state_of_loan loan).overpaid ≡ 0
+none-overpaid : (loan : Loan) → IsSound loan → EndsInRefund (standing_entries loan.entries)
+    (length (standing_entries loan.entries)) → (state_of_loan loan).overpaid ≡ 0
 none-overpaid loan sound ends =
     let all : List Entry = standing_entries loan.entries in
     let k : ℕ = length all - 1 in
     let within : k < length all = omega (arith, ends.0) in
     let e : Entry = entry_at all k in
     let past : State = state_before loan k in
-    let only : drop k all ≡ e ∷ [] = drop_more all k no_entry within ∙ ap (λ x. e ∷ x) (drop_all (k + 1) all (omega (arith, ends.0))) in
+    let only : drop k all ≡ e ∷ [] =
+    drop_more all k no_entry within ∙ ap (λ x. e ∷ x) (drop_all (k + 1) all (omega (arith, ends.0))) in
     let state : state_of_loan loan ≡ after (orders_of loan e) e past =
-    (rewindable-from loan k sound (none-before loan k sound within)).state ∙ ap (λ x. after_all (orders_of loan) x past) only in
+    (rewindable-from loan k sound (none-before loan k sound within)).state ∙ ap (λ x. after_all (orders_of loan) x past)
+    only in
     let money = money-after (orders_of loan e) e past in
     let brings : money_in e.kind e.amount ≡ 0 = ap (λ x. money_in x e.amount) ends.1 in
     let gives : money_out e.kind past.overpaid ≡ past.overpaid = ap (λ x. money_out x past.overpaid) ends.1 in
-    let left : (state_of_loan loan).overpaid ≡ (after (orders_of loan e) e past).overpaid = ap (λ (x : State). x.overpaid) state in
+    let left : (state_of_loan loan).overpaid ≡ (after (orders_of loan e) e past).overpaid =
+    ap (λ (x : State). x.overpaid) state in
     omega (arith, money, brings, gives, left)
 
 -- with no refund nothing is refunded
-none-refunded-all : (loan : Loan) → IsSound loan → (EndsInRefund (standing_entries loan.entries) (length (standing_entries loan.entries)) → ⊥) → (state_of_loan loan).refunded ≡ 0
+none-refunded-all : (loan : Loan) → IsSound loan → (EndsInRefund (standing_entries loan.entries)
+    (length (standing_entries loan.entries)) → ⊥) → (state_of_loan loan).refunded ≡ 0
 none-refunded-all loan sound other =
     let all : List Entry = standing_entries loan.entries in
     none-refunded (orders_of loan) all (first_state (schedule_of loan)) refl
@@ -97,26 +110,38 @@ none-refunded-all loan sound other =
           other (omega (arith, less), ap (λ n. (entry_at all n).kind) (sym last) ∙ is)
     ])
 
-pub ends-in : (loan : Loan) (entries : List Entry) (order : List ℕ) → entries_at entries order ≡ standing_entries entries → entries ≡ loan.entries → (P : Type 0 → Type 0) → P (EndsInRefund (entries_at entries order) (length order)) → P (EndsInRefund (standing_entries loan.entries) (length (standing_entries loan.entries)))
+pub ends-in : (loan : Loan) (entries : List Entry) (order : List ℕ) → entries_at entries order
+    ≡ standing_entries entries → entries ≡ loan.entries → (P : Type 0 → Type 0)
+    → P (EndsInRefund (entries_at entries order) (length order)) → P (EndsInRefund (standing_entries loan.entries)
+    (length (standing_entries loan.entries)))
 ends-in loan entries order is same P holds =
     let all : entries_at entries order ≡ standing_entries loan.entries = is ∙ ap standing_entries same in
-    let size : length order ≡ length (standing_entries loan.entries) = sym (length-map order (λ i. get_or entries i no_entry)) ∙ ap length all in
+    let size : length order ≡ length (standing_entries loan.entries) =
+    sym (length-map order (λ i. get_or entries i no_entry)) ∙ ap length all in
     subst (λ (n : ℕ). P (EndsInRefund (standing_entries loan.entries) n)) size
     (subst (λ (x : List Entry). P (EndsInRefund x (length order))) all holds)
 
 abbrev book_at : List Sums → ℕ → ℕ → State
 book_at rows overpaid refunded = record { rows = rows; overpaid = overpaid; refunded = refunded }
 
-pub resumed-refund : (loan : Loan) (rows : List Sums) (total paid : ℕ) → IsSound loan → rows ≡ (state_of_loan loan).rows → total ≡ brought (standing_entries loan.entries) → paid ≡ paid_in_all (state_of_loan loan).rows → EndsInRefund (standing_entries loan.entries) (length (standing_entries loan.entries)) → book_at rows 0 (total - paid) ≡ state_of_loan loan
+pub resumed-refund : (loan : Loan) (rows : List Sums) (total paid : ℕ) → IsSound loan → rows ≡ (state_of_loan loan).rows
+    → total ≡ brought (standing_entries loan.entries) → paid ≡ paid_in_all (state_of_loan loan).rows
+    → EndsInRefund (standing_entries loan.entries) (length (standing_entries loan.entries))
+    → book_at rows 0 (total - paid) ≡ state_of_loan loan
 resumed-refund loan rows total paid sound same total_is paid_is ends =
     let none = none-overpaid loan sound ends in
     let all = held loan sound in
     let rest : total - paid ≡ (state_of_loan loan).refunded = omega (arith, none, all, total_is, paid_is) in
-    ap (λ r. book_at r 0 (total - paid)) same ∙ ap (λ o. book_at (state_of_loan loan).rows o (total - paid)) (sym none) ∙ ap (λ f. book_at (state_of_loan loan).rows (state_of_loan loan).overpaid f) rest
+    ap (λ r. book_at r 0 (total - paid)) same ∙ ap (λ o. book_at (state_of_loan loan).rows o (total - paid)) (sym none)
+    ∙ ap (λ f. book_at (state_of_loan loan).rows (state_of_loan loan).overpaid f) rest
 
-pub resumed-other : (loan : Loan) (rows : List Sums) (total paid : ℕ) → IsSound loan → rows ≡ (state_of_loan loan).rows → total ≡ brought (standing_entries loan.entries) → paid ≡ paid_in_all (state_of_loan loan).rows → (EndsInRefund (standing_entries loan.entries) (length (standing_entries loan.entries)) → ⊥) → book_at rows (total - paid) 0 ≡ state_of_loan loan
+pub resumed-other : (loan : Loan) (rows : List Sums) (total paid : ℕ) → IsSound loan → rows ≡ (state_of_loan loan).rows
+    → total ≡ brought (standing_entries loan.entries) → paid ≡ paid_in_all (state_of_loan loan).rows
+    → (EndsInRefund (standing_entries loan.entries) (length (standing_entries loan.entries)) → ⊥)
+    → book_at rows (total - paid) 0 ≡ state_of_loan loan
 resumed-other loan rows total paid sound same total_is paid_is other =
     let none = none-refunded-all loan sound other in
     let all = held loan sound in
     let rest : total - paid ≡ (state_of_loan loan).overpaid = omega (arith, none, all, total_is, paid_is) in
-    ap (λ r. book_at r (total - paid) 0) same ∙ ap (λ o. book_at (state_of_loan loan).rows o 0) rest ∙ ap (λ f. book_at (state_of_loan loan).rows (state_of_loan loan).overpaid f) (sym none)
+    ap (λ r. book_at r (total - paid) 0) same ∙ ap (λ o. book_at (state_of_loan loan).rows o 0) rest
+    ∙ ap (λ f. book_at (state_of_loan loan).rows (state_of_loan loan).overpaid f) (sym none)

@@ -1,5 +1,7 @@
--- What is redone over a state that comes to no more than is kept: it can be, and what it leaves is safe where that, too, comes to no more.
-use Rattle.std.proofs.Common.{◌≡◌, ℕ, ◌+◌, ◌*◌, ◌^◌, ◌≤◌, List, ◌++◌, length, get_or, take, arith, ◌∙◌, ap, sym, subst, length-append}
+-- What is redone over a state that comes to no more than is kept: it can be, and what it leaves is safe where that,
+-- too, comes to no more.
+use Rattle.std.proofs.Common.{◌≡◌, ℕ, ◌+◌, ◌*◌, ◌^◌, ◌≤◌, List, ◌++◌, length, get_or, take, arith, ◌∙◌, ap, sym, subst}
+use Rattle.std.proofs.Common.{length-append}
 use Rattle.std.specs.Prelude.{All}
 use Rattle.std.proofs.lemmas.List.{get_or-append-add, get_or_default}
 use Rattle.std.proofs.lemmas.List.Elements.{All-append}
@@ -31,7 +33,8 @@ all-behind P xs ys all i d below =
 abbrev places_by : Loan → State → Entry → Cell → ℕ
 places_by loan book e = place_by loan.terms.strategy (due_by e.day book.rows)
 
-lawful-over : (loan : Loan) (book : State) → length book.rows ≡ loan.periods → (e : Entry) → IsOrder loan.periods (orders_by (cells_of loan) book.rows e) (places_by loan book e)
+lawful-over : (loan : Loan) (book : State) → length book.rows ≡ loan.periods → (e : Entry)
+    → IsOrder loan.periods (orders_by (cells_of loan) book.rows e) (places_by loan book e)
 lawful-over loan book size e =
     let most = due_by-le e.day book.rows in
     lawful loan.terms.strategy loan.periods (due_by e.day book.rows) (omega (arith, most, size))
@@ -40,12 +43,16 @@ numbered-standing : (loan : Loan) → IsSound loan → All (IsEntryTo (length lo
 numbered-standing loan sound =
     All-standing (IsEntryTo (length loan.entries)) loan.entries
     (λ k default within.
-    let same : get_or loan.entries k default ≡ entry_at loan.entries k = get_or_default loan.entries k default no_entry within in
+    let same : get_or loan.entries k default ≡ entry_at loan.entries k =
+    get_or_default loan.entries k default no_entry within in
     let is = ap (λ (e : Entry). e.seq) same ∙ sound.entries.numbers k within in
     (omega (arith, is), omega (arith, is, within)))
 
 -- what is applied, where new entries stand as old ones up to a place and then as these
-module _ (old : Loan) (es back applied : List Entry) (k : ℕ) (book : State) (sound : IsSound (record old { entries = es })) (stands : standing_entries es ≡ take k (standing_entries old.entries) ++ back) (is : applied ≡ back) (bounded : IsBounded old.periods (2 * most_kept) book) where
+module _ (old : Loan) (es back applied : List Entry) (k : ℕ) (book : State)
+    (sound : IsSound (record old { entries = es })) (stands : standing_entries es
+    ≡ take k (standing_entries old.entries) ++ back) (is : applied ≡ back)
+    (bounded : IsBounded old.periods (2 * most_kept) book) where
   abbrev new : Loan
   new = record old { entries = es }
 
@@ -55,12 +62,14 @@ module _ (old : Loan) (es back applied : List Entry) (k : ℕ) (book : State) (s
   each : All (IsReplayable old.periods) applied
   each =
       subst (All (IsReplayable old.periods)) (sym is)
-      (all-behind (IsReplayable old.periods) (take k (standing_entries old.entries)) back (subst (All (IsReplayable old.periods)) stands (each-standing new sound)))
+      (all-behind (IsReplayable old.periods) (take k (standing_entries old.entries)) back
+      (subst (All (IsReplayable old.periods)) stands (each-standing new sound)))
 
   number : All (IsEntryTo (length es)) applied
   number =
       subst (All (IsEntryTo (length es))) (sym is)
-      (all-behind (IsEntryTo (length es)) (take k (standing_entries old.entries)) back (subst (All (IsEntryTo (length es))) stands (numbered-standing new sound)))
+      (all-behind (IsEntryTo (length es)) (take k (standing_entries old.entries)) back
+      (subst (All (IsEntryTo (length es))) stands (numbered-standing new sound)))
 
   few : length applied ≤ 9999
   few =
@@ -73,20 +82,26 @@ module _ (old : Loan) (es back applied : List Entry) (k : ℕ) (book : State) (s
   amount = let most = amounts-most old.periods applied each in omega (arith, most, few)
 
   pub fits-safe : AreApplicable orders applied book
-  fits-safe = applicable-all old.periods (2 * most_kept) orders (places_by old book) applied book (lawful-over old book bounded.size) each bounded (omega (arith, amount))
+  fits-safe = applicable-all old.periods (2 * most_kept) orders (places_by old book) applied book
+      (lawful-over old book bounded.size) each bounded (omega (arith, amount))
 
   shaped : IsShaped old.periods (after_all orders applied book)
   shaped =
-      let good = good-all old.periods (2 * most_kept) orders (places_by old book) applied book (lawful-over old book bounded.size) each bounded in
+      let good = good-all old.periods (2 * most_kept) orders (places_by old book) applied book
+      (lawful-over old book bounded.size) each bounded in
       record { size = good.size; whole = good.whole; within = good.within }
 
-  pub safe-redone : (next : State) (front parts : List Settled) → next ≡ after_all orders applied book → parts ≡ settled_by orders applied book → AreInRows old.periods front → AreNumberedTo (length es) front → settled_amount (front ++ parts) ≤ most_kept → ((n : ℕ) → IsShaped n next → IsBounded n most_kept next) → IsSafe old.periods (length es) next (front ++ parts)
+  pub safe-redone : (next : State) (front parts : List Settled) → next ≡ after_all orders applied book
+      → parts ≡ settled_by orders applied book → AreInRows old.periods front → AreNumberedTo (length es) front
+      → settled_amount (front ++ parts) ≤ most_kept → ((n : ℕ) → IsShaped n next → IsBounded n most_kept next)
+      → IsSafe old.periods (length es) next (front ++ parts)
   safe-redone next front parts next_is parts_is cells numbers most bound = record {
     bounded = bound old.periods (subst (IsShaped old.periods) (sym next_is) shaped);
     placed = record {
       cells = All-append (λ (s : Settled). IsCell old.periods s.cell) front parts cells
           (subst (AreInRows old.periods) (sym parts_is)
-          (cells-settled_by old.periods orders (places_by old book) applied book (lawful-over old book bounded.size) (λ j below. (each j no_entry below).there)
+          (cells-settled_by old.periods orders (places_by old book) applied book (lawful-over old book bounded.size)
+          (λ j below. (each j no_entry below).there)
           (record { size = bounded.size; whole = bounded.whole; within = bounded.within })));
       numbers = All-append (IsNumberedTo (length es)) front parts numbers
           (subst (AreNumberedTo (length es)) (sym parts_is) (numbers-settled (length es) orders applied book number));

@@ -1,5 +1,6 @@
 -- A write-off or a refund that stands is the last of the standing entries.
-use Rattle.std.proofs.Common.{◌≡◌, ℕ, ◌+◌, ◌-◌, ◌<◌, Bool, true, false, true≢false, not, ◌&&◌, List, [], ◌∷◌, Option, None, Some, length, inl, inr, arith, refl, ◌∙◌, ap, sym, subst}
+use Rattle.std.proofs.Common.{◌≡◌, ℕ, ◌+◌, ◌-◌, ◌<◌, Bool, true, false, true≢false, not, ◌&&◌, List, [], ◌∷◌, Option}
+use Rattle.std.proofs.Common.{None, Some, length, inl, inr, arith, refl, ◌∙◌, ap, sym, subst}
 use Rattle.std.specs.List.{list_any}
 use Rattle.std.specs.Option.{MatchOption, option_map, option_map_or}
 use Rattle.std.proofs.lemmas.Option.{slice_get-get_or}
@@ -25,7 +26,9 @@ not_true true is = absurd (true≢false (sym is))
 not_true false is = refl
 
 -- where one of the standing entries is of such a kind
-any-standing : (P : Kind → Bool) (n day : ℕ) (entries : List Entry) → AreEntries n day entries → list_any (stands_by P) entries ≡ true → (j : ℕ) × (j < length (standing_entries entries)) × (P (entry_at (standing_entries entries) j).kind ≡ true)
+any-standing : (P : Kind → Bool) (n day : ℕ) (entries : List Entry) → AreEntries n day entries
+    → list_any (stands_by P) entries ≡ true → (j : ℕ) × (j < length (standing_entries entries))
+    × (P (entry_at (standing_entries entries) j).kind ≡ true)
 any-standing P n day entries are any =
     let found = Any-from_list_any (stands_by P) entries any in
     let k : ℕ = found.0 in
@@ -33,11 +36,13 @@ any-standing P n day entries are any =
     let read : entry_at entries k ≡ x = get_or_default entries k no_entry x found.2 ∙ found.3 in
     let both = and_parts (not x.reversed) (P x.kind) found.4 in
     let among : IsAmong x entries = subst (λ (y : Entry). IsAmong y entries) read (at-among entries k found.2) in
-    let index = among-index x (standing_entries entries) ((standing-is-one n day entries are).0.to x among (not_true x.reversed both.0)) in
+    let index = among-index x (standing_entries entries) ((standing-is-one n day entries are).0.to x among
+    (not_true x.reversed both.0)) in
     (index.0, index.1, ap (λ (y : Entry). P y.kind) index.2 ∙ both.1)
 
 -- with none standing there is none
-none-standing : (P : Kind → Bool) (n day : ℕ) (entries : List Entry) → AreEntries n day entries → length (standing_entries entries) ≡ 0 → list_any (stands_by P) entries ≡ false
+none-standing : (P : Kind → Bool) (n day : ℕ) (entries : List Entry) → AreEntries n day entries
+    → length (standing_entries entries) ≡ 0 → list_any (stands_by P) entries ≡ false
 none-standing P n day entries are empty =
     elim (cases_Bool (list_any (stands_by P) entries)) [
       | inl any ↦ let at = any-standing P n day entries are any in absurd (omega (arith, at.1, empty))
@@ -45,7 +50,9 @@ none-standing P n day entries are empty =
     ]
 
 -- with some it is the last, where such kinds are seals
-last-standing : (P : Kind → Bool) (n day : ℕ) (entries : List Entry) → ((k : Kind) → P k ≡ true → is_seal k ≡ true) → AreEntries n day entries → 0 < length (standing_entries entries) → list_any (stands_by P) entries ≡ P (entry_at (standing_entries entries) (length (standing_entries entries) - 1)).kind
+last-standing : (P : Kind → Bool) (n day : ℕ) (entries : List Entry) → ((k : Kind) → P k ≡ true → is_seal k ≡ true)
+    → AreEntries n day entries → 0 < length (standing_entries entries) → list_any (stands_by P) entries
+    ≡ P (entry_at (standing_entries entries) (length (standing_entries entries) - 1)).kind
 last-standing P n day entries seals are some =
     let all : List Entry = standing_entries entries in
     let last : ℕ = length all - 1 in
@@ -79,26 +86,37 @@ write_off-seals Waive is = absurd (true≢false (sym is))
 write_off-seals Refund is = absurd (true≢false (sym is))
 
 -- as the order of the standing entries has them
-pub sealed-none : (n day : ℕ) (entries all : List Entry) → AreEntries n day entries → all ≡ standing_entries entries → length all ≡ 0 → false ≡ list_any (stands_by is_seal) entries
+pub sealed-none : (n day : ℕ) (entries all : List Entry) → AreEntries n day entries → all ≡ standing_entries entries
+    → length all ≡ 0 → false ≡ list_any (stands_by is_seal) entries
 sealed-none n day entries all are is empty = sym (none-standing is_seal n day entries are (sym (ap length is) ∙ empty))
 
-pub sealed-last : (n day : ℕ) (entries all : List Entry) (k : Kind) → AreEntries n day entries → all ≡ standing_entries entries → 0 < length all → (entry_at all (length all - 1)).kind ≡ k → is_seal k ≡ list_any (stands_by is_seal) entries
+pub sealed-last : (n day : ℕ) (entries all : List Entry) (k : Kind) → AreEntries n day entries
+    → all ≡ standing_entries entries → 0 < length all → (entry_at all (length all - 1)).kind ≡ k
+    → is_seal k ≡ list_any (stands_by is_seal) entries
 sealed-last n day entries all k are is some kind =
     ap is_seal (sym kind) ∙ ap (λ (x : List Entry). is_seal (entry_at x (length x - 1)).kind) is
     ∙ sym (last-standing is_seal n day entries (λ _ seal. seal) are (subst (λ (x : List Entry). 0 < length x) is some))
 
-pub written_off-none : (n day : ℕ) (entries all : List Entry) → AreEntries n day entries → all ≡ standing_entries entries → length all ≡ 0 → false ≡ list_any (stands_by is_write_off) entries
-written_off-none n day entries all are is empty = sym (none-standing is_write_off n day entries are (sym (ap length is) ∙ empty))
+pub written_off-none : (n day : ℕ) (entries all : List Entry) → AreEntries n day entries
+    → all ≡ standing_entries entries → length all ≡ 0 → false ≡ list_any (stands_by is_write_off) entries
+written_off-none n day entries all are is empty =
+    sym (none-standing is_write_off n day entries are (sym (ap length is) ∙ empty))
 
-pub written_off-last : (n day : ℕ) (entries all : List Entry) (k : Kind) → AreEntries n day entries → all ≡ standing_entries entries → 0 < length all → (entry_at all (length all - 1)).kind ≡ k → is_write_off k ≡ list_any (stands_by is_write_off) entries
+pub written_off-last : (n day : ℕ) (entries all : List Entry) (k : Kind) → AreEntries n day entries
+    → all ≡ standing_entries entries → 0 < length all → (entry_at all (length all - 1)).kind ≡ k → is_write_off k
+    ≡ list_any (stands_by is_write_off) entries
 written_off-last n day entries all k are is some kind =
     ap is_write_off (sym kind) ∙ ap (λ (x : List Entry). is_write_off (entry_at x (length x - 1)).kind) is
-    ∙ sym (last-standing is_write_off n day entries write_off-seals are (subst (λ (x : List Entry). 0 < length x) is some))
+    ∙ sym (last-standing is_write_off n day entries write_off-seals are (subst (λ (x : List Entry). 0 < length x) is
+    some))
 
 -- what the last of the standing entries says of such kinds
-by-last : (P : Kind → Bool) (n day : ℕ) (entries : List Entry) → ((k : Kind) → P k ≡ true → is_seal k ≡ true) → AreEntries n day entries → option_map_or P (last_kind_of (standing_entries entries)) false ≡ list_any (stands_by P) entries
+by-last : (P : Kind → Bool) (n day : ℕ) (entries : List Entry) → ((k : Kind) → P k ≡ true → is_seal k ≡ true)
+    → AreEntries n day entries → option_map_or P (last_kind_of (standing_entries entries)) false
+    ≡ list_any (stands_by P) entries
 by-last P n day entries seals are = at (standing_entries entries) refl where
-  at : (all : List Entry) → all ≡ standing_entries entries → option_map_or P (last_kind_of all) false ≡ list_any (stands_by P) entries
+  at : (all : List Entry) → all ≡ standing_entries entries → option_map_or P (last_kind_of all) false
+      ≡ list_any (stands_by P) entries
   at [] is = sym (none-standing P n day entries are (sym (ap length is)))
   at (e ∷ es) is =
       let last : ℕ = length (e ∷ es) - 1 in
@@ -108,12 +126,15 @@ by-last P n day entries seals are = at (standing_entries entries) refl where
       ∙ sym (last-standing P n day entries seals are (subst (λ (x : List Entry). 0 < length x) is (omega arith)))
 
 -- an answer that goes by the last kind, if there is one
-pub by-kind : (P : Kind → Bool) (answer : Bool) (last : Option Kind) → MatchOption last (answer ≡ false) (λ kind. answer ≡ P kind) → answer ≡ option_map_or P last false
+pub by-kind : (P : Kind → Bool) (answer : Bool) (last : Option Kind) → MatchOption last (answer ≡ false)
+    (λ kind. answer ≡ P kind) → answer ≡ option_map_or P last false
 by-kind P answer None is = is
 by-kind P answer (Some kind) is = is
 
-pub sealed-by-last : (n day : ℕ) (entries : List Entry) → AreEntries n day entries → option_map_or is_seal (last_kind_of (standing_entries entries)) false ≡ list_any (stands_by is_seal) entries
+pub sealed-by-last : (n day : ℕ) (entries : List Entry) → AreEntries n day entries
+    → option_map_or is_seal (last_kind_of (standing_entries entries)) false ≡ list_any (stands_by is_seal) entries
 sealed-by-last n day entries are = by-last is_seal n day entries (λ _ seal. seal) are
 
-pub written_off-by-last : (n day : ℕ) (entries : List Entry) → AreEntries n day entries → option_map_or is_write_off (last_kind_of (standing_entries entries)) false ≡ list_any (stands_by is_write_off) entries
+pub written_off-by-last : (n day : ℕ) (entries : List Entry) → AreEntries n day entries → option_map_or is_write_off
+    (last_kind_of (standing_entries entries)) false ≡ list_any (stands_by is_write_off) entries
 written_off-by-last n day entries are = by-last is_write_off n day entries write_off-seals are

@@ -1,5 +1,6 @@
 -- That the standing entries are the one ascending list of those not reversed.
-use Rattle.std.proofs.Common.{◌≡◌, ◌≢◌, ℕ, suc, ◌+◌, ◌<◌, ◌⊎◌, Bool, true, false, ◌&&◌, ◌||◌, eqb, ltb, true≢false, List, [], ◌∷◌, length, inl, inr, arith, refl, ◌∙◌, ap, subst, sym}
+use Rattle.std.proofs.Common.{◌≡◌, ◌≢◌, ℕ, suc, ◌+◌, ◌<◌, ◌⊎◌, Bool, true, false, ◌&&◌, ◌||◌, eqb, ltb, true≢false}
+use Rattle.std.proofs.Common.{List, [], ◌∷◌, length, inl, inr, arith, refl, ◌∙◌, ap, subst, sym}
 use Rattle.std.specs.Prelude.{fold}
 use Rattle.std.proofs.lemmas.Bool.{cases_lt, cases_Bool, cond_both, ltb-true, ltb-false, eqb-true, and_parts}
 use Rattle.mf_account.specs.declared.entry.Entry.{Entry}
@@ -22,22 +23,45 @@ before-parts a b is =
     ]
 
 pub before-again : (a b : Entry) → (a.day < b.day) ⊎ ((a.day ≡ b.day) × (a.seq < b.seq)) → is_before a b ≡ true
-before-again a b (inl less) = ap (λ x. x || (eqb a.day b.day && ltb a.seq b.seq)) (Rattle.std.proofs.lemmas.Bool.lt-ltb a.day b.day less)
+before-again a b (inl less) =
+    ap (λ x. x || (eqb a.day b.day && ltb a.seq b.seq)) (Rattle.std.proofs.lemmas.Bool.lt-ltb a.day b.day less)
 before-again a b (inr tie) = before-from a b (omega (arith, tie.0)) tie.1
 
 pub before-asym : (a b : Entry) → is_before a b ≡ true → is_before b a ≡ true → ⊥
 before-asym a b one other =
     elim (before-parts a b one) [
-      | inl less ↦ elim (before-parts b a other) [ inl more ↦ omega (arith, less, more) | inr tie ↦ omega (arith, less, tie.0) ]
-      | inr tie ↦ elim (before-parts b a other) [ inl more ↦ omega (arith, tie.0, more) | inr tie2 ↦ omega (arith, tie.1, tie2.1) ]
+      | inl less ↦ elim (before-parts b a other) [
+        | inl more ↦ omega (arith, less, more)
+        | inr tie ↦ omega (
+          arith,
+          less,
+          tie.0,
+        )
+      ]
+      | inr tie ↦ elim (before-parts b a other) [
+        | inl more ↦ omega (arith, tie.0, more)
+        | inr tie2 ↦ omega (
+          arith,
+          tie.1,
+          tie2.1,
+        )
+      ]
     ]
 
 pub before-trans : (a b c : Entry) → is_before a b ≡ true → is_before b c ≡ true → is_before a c ≡ true
 before-trans a b c one other =
     before-again a c
     (elim (before-parts a b one) [
-      | inl less ↦ elim (before-parts b c other) [ inl more ↦ inl (omega (arith, less, more)) | inr tie ↦ inl (omega (arith, less, tie.0)) ]
-      | inr tie ↦ elim (before-parts b c other) [ inl more ↦ inl (omega (arith, tie.0, more)) | inr tie2 ↦ inr (omega (arith, tie.0, tie2.0), omega (arith, tie.1, tie2.1)) ]
+      | inl less ↦ elim (before-parts b c other) [
+        | inl more ↦ inl (omega (arith, less, more))
+        | inr tie ↦ inl
+            (omega (arith, less, tie.0))
+      ]
+      | inr tie ↦ elim (before-parts b c other) [
+        | inl more ↦ inl (omega (arith, tie.0, more))
+        | inr tie2 ↦ inr
+            (omega (arith, tie.0, tie2.0), omega (arith, tie.1, tie2.1))
+      ]
     ])
 
 -- of two entries with numbers apart one comes before the other
@@ -62,7 +86,8 @@ precedes-among a x (y ∷ ys) before (inl is) = ap (is_before a) is ∙ before.0
 precedes-among a x (y ∷ ys) before (inr later) = precedes-among a x ys before.1 later
 
 -- two ascending lists of the same entries are one
-ascending-unique : (xs ys : List Entry) → Ascends xs → Ascends ys → ((e : Entry) → IsAmong e xs → IsAmong e ys) → ((e : Entry) → IsAmong e ys → IsAmong e xs) → xs ≡ ys
+ascending-unique : (xs ys : List Entry) → Ascends xs → Ascends ys → ((e : Entry) → IsAmong e xs → IsAmong e ys)
+    → ((e : Entry) → IsAmong e ys → IsAmong e xs) → xs ≡ ys
 ascending-unique [] [] up_x up_y to from = refl
 ascending-unique [] (y ∷ ys) up_x up_y to from = absurd (from y (inl refl))
 ascending-unique (x ∷ xs) [] up_x up_y to from = absurd (to x (inl refl))
@@ -73,17 +98,20 @@ ascending-unique (x ∷ xs) (y ∷ ys) up_x up_y to from =
       | inr in_ys ↦
           elim (from y (inl refl)) [
             | inl is ↦ sym is
-            | inr in_xs ↦ absurd (before-asym y x (precedes-among y x ys up_y.0 in_ys) (precedes-among x y xs up_x.0 in_xs))
+            | inr in_xs ↦ absurd (before-asym y x (precedes-among y x ys up_y.0 in_ys)
+                (precedes-among x y xs up_x.0 in_xs))
           ]
     ] in
     let tail : xs ≡ ys =
     ascending-unique xs ys up_x.1 up_y.1
     (λ e among. elim (to e (inr among)) [
-      | inl is ↦ let own : is_before x x ≡ true = ap (is_before x) (head ∙ sym is) ∙ precedes-among x e xs up_x.0 among in absurd (before-asym x x own own)
+      | inl is ↦ let own : is_before x x ≡ true =
+          ap (is_before x) (head ∙ sym is) ∙ precedes-among x e xs up_x.0 among in absurd (before-asym x x own own)
       | inr later ↦ later
     ])
     (λ e among. elim (from e (inr among)) [
-      | inl is ↦ let own : is_before y y ≡ true = ap (is_before y) (sym head ∙ sym is) ∙ precedes-among y e ys up_y.0 among in absurd (before-asym y y own own)
+      | inl is ↦ let own : is_before y y ≡ true =
+          ap (is_before y) (sym head ∙ sym is) ∙ precedes-among y e ys up_y.0 among in absurd (before-asym y y own own)
       | inr later ↦ later
     ]) in
     ap (λ z. z ∷ xs) head ∙ ap (λ zs. y ∷ zs) tail
@@ -119,20 +147,25 @@ precedes-placed a x (y ∷ ys) one all =
     cond_both (is_before x y) (x ∷ y ∷ ys) (y ∷ order_with x ys) (Precedes a)
     (λ _. (one, all)) (λ _. (all.0, precedes-placed a x ys one all.1))
 
-ascends-placed : (x : Entry) (xs : List Entry) → Ascends xs → ((e : Entry) → IsAmong e xs → e.seq < x.seq) → Ascends (order_with x xs)
+ascends-placed : (x : Entry) (xs : List Entry) → Ascends xs → ((e : Entry) → IsAmong e xs → e.seq < x.seq)
+    → Ascends (order_with x xs)
 ascends-placed x [] up earlier = (tt, tt)
 ascends-placed x (y ∷ ys) up earlier =
     let number = earlier y (inl refl) in
     cond_both (is_before x y) (x ∷ y ∷ ys) (y ∷ order_with x ys) Ascends
     (λ first. ((first, precedes-all x y ys first up.0), up))
-    (λ later. (precedes-placed y x ys (before-other x y later (λ same. omega (arith, number, same))) up.0, ascends-placed x ys up.1 (λ e among. earlier e (inr among))))
+    (λ later. (
+      precedes-placed y x ys (before-other x y later (λ same. omega (arith, number, same))) up.0,
+      ascends-placed x ys up.1 (λ e among. earlier e (inr among)),
+    ))
 
 -- numbered from k in order
 abbrev Numbered : ℕ → List Entry → Type 0
 Numbered k [] = Unit {0}
 Numbered k (x ∷ xs) = (x.seq ≡ k) × Numbered (k + 1) xs
 
-numbered-from : (k : ℕ) (entries : List Entry) → ((i : ℕ) → i < length entries → (entry_at entries i).seq ≡ k + i) → Numbered k entries
+numbered-from : (k : ℕ) (entries : List Entry) → ((i : ℕ) → i < length entries → (entry_at entries i).seq ≡ k + i)
+    → Numbered k entries
 numbered-from k [] numbers = tt
 numbered-from k (x ∷ xs) numbers = (
   let first = numbers 0 (omega arith) in omega (arith, first),
@@ -146,7 +179,8 @@ record IsPlaced (order xs done : List Entry) : Type 0 where
   kept : (e : Entry) → IsAmong e order → IsAmong e done
   to : (e : Entry) → IsAmong e xs → e.reversed ≡ false → IsAmong e done
 
-fold-placed : (k : ℕ) (order xs : List Entry) → Ascends order → ((e : Entry) → IsAmong e order → e.seq < k) → Numbered k xs → IsPlaced order xs (fold with_entry order xs)
+fold-placed : (k : ℕ) (order xs : List Entry) → Ascends order → ((e : Entry) → IsAmong e order → e.seq < k)
+    → Numbered k xs → IsPlaced order xs (fold with_entry order xs)
 fold-placed k order [] up earlier numbers = record {
   up = up;
   from = λ e among. inl among;
@@ -156,13 +190,20 @@ fold-placed k order [] up earlier numbers = record {
 fold-placed k order (x ∷ xs) up earlier numbers =
     elim (cases_Bool x.reversed) [
       | inl reversed ↦
-          let same : with_entry order x ≡ order = Rattle.std.proofs.lemmas.Bool.cond-true x.reversed order (order_with x order) reversed in
+          let same : with_entry order x ≡ order =
+          Rattle.std.proofs.lemmas.Bool.cond-true x.reversed order (order_with x order) reversed in
           let rest : IsPlaced order xs (fold with_entry order xs) =
           fold-placed (k + 1) order xs up (λ e among. let less = earlier e among in omega (arith, less)) numbers.1 in
           subst (λ (o : List Entry). IsPlaced order (x ∷ xs) (fold with_entry o xs)) (sym same)
           (record {
             up = rest.up;
-            from = λ e among. elim (rest.from e among) [ inl before ↦ inl before | inr later ↦ inr (inr later.0, later.1) ];
+            from = λ e among. elim (rest.from e among) [
+              | inl before ↦ inl before
+              | inr later ↦ inr (
+                inr later.0,
+                later.1,
+              )
+            ];
             kept = rest.kept;
             to = λ e among stands. elim among [
               | inl is ↦ absurd (true≢false (sym reversed ∙ ap (λ (y : Entry). y.reversed) (sym is) ∙ stands))
@@ -170,9 +211,11 @@ fold-placed k order (x ∷ xs) up earlier numbers =
             ];
           })
       | inr stands_x ↦
-          let same : with_entry order x ≡ order_with x order = Rattle.std.proofs.lemmas.Bool.cond-false x.reversed order (order_with x order) stands_x in
+          let same : with_entry order x ≡ order_with x order =
+          Rattle.std.proofs.lemmas.Bool.cond-false x.reversed order (order_with x order) stands_x in
           let rest : IsPlaced (order_with x order) xs (fold with_entry (order_with x order) xs) =
-          fold-placed (k + 1) (order_with x order) xs (ascends-placed x order up (λ e among. let less = earlier e among in omega (arith, less, numbers.0)))
+          fold-placed (k + 1) (order_with x order) xs (ascends-placed x order up (λ e among. let less = earlier e
+          among in omega (arith, less, numbers.0)))
           (λ e among. elim (among-placed e x order among) [
             | inl is ↦ let own : e.seq ≡ x.seq = ap (λ (y : Entry). y.seq) is in omega (arith, own, numbers.0)
             | inr before ↦ let less = earlier e before in omega (arith, less)
@@ -195,17 +238,20 @@ fold-placed k order (x ∷ xs) up earlier numbers =
           })
     ]
 
-standing-placed : (entries : List Entry) → ((i : ℕ) → i < length entries → (entry_at entries i).seq ≡ i + 1) → IsStandingOf entries (standing_entries entries)
+standing-placed : (entries : List Entry) → ((i : ℕ) → i < length entries → (entry_at entries i).seq ≡ i + 1)
+    → IsStandingOf entries (standing_entries entries)
 standing-placed entries numbers =
     let all : IsPlaced [] entries (standing_entries entries) =
-    fold-placed 1 [] entries tt (λ e among. absurd among) (numbered-from 1 entries (λ i within. let number = numbers i within in omega (arith, number))) in
+    fold-placed 1 [] entries tt (λ e among. absurd among)
+    (numbered-from 1 entries (λ i within. let number = numbers i within in omega (arith, number))) in
     record {
       ascends = all.up;
       from = λ e among. elim (all.from e among) [ inl before ↦ absurd before | inr later ↦ later ];
       to = all.to;
     }
 
-pub standing-alone : (entries : List Entry) → ((i : ℕ) → i < length entries → (entry_at entries i).seq ≡ i + 1) → (others : List Entry) → IsStandingOf entries others → others ≡ standing_entries entries
+pub standing-alone : (entries : List Entry) → ((i : ℕ) → i < length entries → (entry_at entries i).seq ≡ i + 1)
+    → (others : List Entry) → IsStandingOf entries others → others ≡ standing_entries entries
 standing-alone entries numbers others is =
     let own = standing-placed entries numbers in
     ascending-unique others (standing_entries entries) is.ascends own.ascends

@@ -1,4 +1,5 @@
--- Worked accounts, computed from the definitions: 100000 cents at 12 percent for 3 months from 2024-01-31, equal principal.
+-- Worked accounts, computed from the definitions: 100000 cents at 12 percent for 3 months from 2024-01-31, equal
+-- principal.
 use Rattle.std.proofs.Common.{◌≡◌, ℕ, Bool, true, false, List, [], ◌∷◌, refl, None}
 use Rattle.mf_base.specs.Calendar.{day_of, date_of}
 use Rattle.mf_base.specs.declared.day.Freq.TheVariants.{Months}
@@ -86,14 +87,16 @@ abbrev sums : (Sums → List ℕ) → State → List ℕ
 sums of s = sum_at of 0 s.rows ∷ sum_at of 1 s.rows ∷ sum_at of 2 s.rows ∷ sum_at of 3 s.rows ∷ []
 
 abbrev left : State → List ℕ
-left s = sum_by (λ r. open_at r 0) s.rows ∷ sum_by (λ r. open_at r 1) s.rows ∷ sum_by (λ r. open_at r 2) s.rows ∷ sum_by (λ r. open_at r 3) s.rows ∷ []
+left s = sum_by (λ r. open_at r 0) s.rows ∷ sum_by (λ r. open_at r 1) s.rows ∷ sum_by (λ r. open_at r 2) s.rows
+    ∷ sum_by (λ r. open_at r 3) s.rows ∷ []
 
 -- two repayments
 abbrev two_repayments : List Entry
 two_repayments = repay 1 february 20000 ∷ repay 2 march 50000 ∷ []
 
 two_repayments_settled : settled_of usual schedule two_repayments ≡
-    part 1 1 1 Interest Paid 1000 ∷ part 1 2 1 Principal Paid 19000 ∷ part 2 1 1 Principal Paid 14333 ∷ part 2 2 2 Interest Paid 667
+    part 1 1 1 Interest Paid 1000 ∷ part 1 2 1 Principal Paid 19000 ∷ part 2 1 1 Principal Paid 14333
+    ∷ part 2 2 2 Interest Paid 667
     ∷ part 2 3 2 Principal Paid 33333 ∷ part 2 4 3 Interest Paid 333 ∷ part 2 5 3 Principal Paid 1334 ∷ []
 two_repayments_settled = refl
 
@@ -111,7 +114,8 @@ abbrev first_reversed : List Entry
 first_reversed = entry_of 1 Repay february 20000 0 Principal true ∷ repay 2 march 50000 ∷ []
 
 first_reversed_settled : settled_of usual schedule first_reversed ≡
-    part 2 1 1 Interest Paid 1000 ∷ part 2 2 1 Principal Paid 33333 ∷ part 2 3 2 Interest Paid 667 ∷ part 2 4 2 Principal Paid 15000 ∷ []
+    part 2 1 1 Interest Paid 1000 ∷ part 2 2 1 Principal Paid 33333 ∷ part 2 3 2 Interest Paid 667
+    ∷ part 2 4 2 Principal Paid 15000 ∷ []
 first_reversed_settled = refl
 
 first_reversed_left : left (state_of usual schedule first_reversed) ≡ 0 ∷ 0 ∷ 333 ∷ 51667 ∷ []
@@ -157,7 +161,8 @@ fee_then_all_paid : sums (λ r. r.paid) (state_of usual schedule fee_then_all) �
 fee_then_all_paid = refl
 
 fee_then_all_settled : settled_of usual schedule fee_then_all ≡
-    part 2 1 1 Interest Paid 1000 ∷ part 2 2 1 Principal Paid 33333 ∷ part 2 3 2 Interest Paid 667 ∷ part 2 4 2 Principal Paid 33333
+    part 2 1 1 Interest Paid 1000 ∷ part 2 2 1 Principal Paid 33333 ∷ part 2 3 2 Interest Paid 667
+    ∷ part 2 4 2 Principal Paid 33333
     ∷ part 2 5 3 Interest Paid 333 ∷ part 2 6 3 Principal Paid 33334 ∷ part 1 1 2 FeePart Paid 500 ∷ []
 fee_then_all_settled = refl
 
@@ -184,14 +189,16 @@ waiver_waived = refl
 abbrev written_off_after : List Entry
 written_off_after = repay 1 february 20000 ∷ repay 2 march 50000 ∷ entry_of 3 WriteOff march 0 0 Principal false ∷ []
 
-written_off_after_written_off : sums (λ r. r.written_off) (state_of usual schedule written_off_after) ≡ 0 ∷ 0 ∷ 0 ∷ 32000 ∷ []
+written_off_after_written_off : sums (λ r. r.written_off) (state_of usual schedule written_off_after) ≡ 0 ∷ 0 ∷ 0
+    ∷ 32000 ∷ []
 written_off_after_written_off = refl
 
 written_off_after_status : status_of written_off_after (state_of usual schedule written_off_after) ≡ 601
 written_off_after_status = refl
 
 -- the two repayments by another strategy
-other_order : left (state_of (λ _. by_instalment (portion_by PrincipalFirst)) schedule two_repayments) ≡ 0 ∷ 0 ∷ 333 ∷ 31667 ∷ []
+other_order : left (state_of (λ _. by_instalment (portion_by PrincipalFirst)) schedule two_repayments) ≡ 0 ∷ 0 ∷ 333
+    ∷ 31667 ∷ []
 other_order = refl
 
 -- a penalty, then a repayment that covers it in part, by each strategy
@@ -202,7 +209,8 @@ penalty_standard : settled_of usual schedule penalty_then_paid ≡
     part 2 1 1 PenaltyPart Paid 3433 ∷ part 2 2 1 Interest Paid 1000 ∷ part 2 3 1 Principal Paid 567 ∷ []
 penalty_standard = refl
 
-penalty_principal_first : settled_of (λ _. by_instalment (portion_by PrincipalFirst)) schedule penalty_then_paid ≡ part 2 1 1 Principal Paid 5000 ∷ []
+penalty_principal_first : settled_of (λ _. by_instalment (portion_by PrincipalFirst)) schedule penalty_then_paid
+    ≡ part 2 1 1 Principal Paid 5000 ∷ []
 penalty_principal_first = refl
 
 penalty_interest_first : settled_of (λ _. by_instalment (portion_by InterestFirst)) schedule penalty_then_paid ≡
@@ -210,7 +218,8 @@ penalty_interest_first : settled_of (λ _. by_instalment (portion_by InterestFir
 penalty_interest_first = refl
 
 -- the penalty reversed
-penalty_reversed : settled_of usual schedule (entry_of 1 Penalty march 3433 1 PenaltyPart true ∷ repay 2 march 5000 ∷ []) ≡
+penalty_reversed : settled_of usual schedule (entry_of 1 Penalty march 3433 1 PenaltyPart true ∷ repay 2 march 5000
+    ∷ []) ≡
     part 2 1 1 Interest Paid 1000 ∷ part 2 2 1 Principal Paid 4000 ∷ []
 penalty_reversed = refl
 
@@ -260,6 +269,7 @@ earlier_repayment_settled = refl
 abbrev early_repayment : List Entry
 early_repayment = repay 1 8797 20000 ∷ []
 
-early_repayment_settled : settled_of due_orders schedule early_repayment ≡ part 1 1 1 Interest Paid 1000 ∷ part 1 2 1 Principal Paid 19000 ∷ []
+early_repayment_settled : settled_of due_orders schedule early_repayment ≡ part 1 1 1 Interest Paid 1000
+    ∷ part 1 2 1 Principal Paid 19000 ∷ []
 unfolding day_of date_of
 early_repayment_settled = refl

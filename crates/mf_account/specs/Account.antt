@@ -1,5 +1,6 @@
 -- An account: the effects of the standing entries in order, from the fresh schedule with nothing paid.
-use Rattle.std.specs.Prelude.{ℕ, ◌+◌, ◌==◌, nat_lt, ◌&&◌, not, if◌then◌else◌, List, [], ◌∷◌, ◌++◌, map, filter, sum_by, slice_index}
+use Rattle.std.specs.Prelude.{ℕ, ◌+◌, ◌==◌, nat_lt, ◌&&◌, not, if◌then◌else◌, List, [], ◌∷◌, ◌++◌, map, filter, sum_by}
+use Rattle.std.specs.Prelude.{slice_index}
 use Rattle.std.specs.List.{list_any}
 use Rattle.mf_schedule.specs.declared.instalment.Instalment.{Instalment}
 use Rattle.mf_alloc.specs.declared.row.Cell.{Cell}
@@ -32,6 +33,7 @@ parts_numbered seq place (part ∷ parts) =
     record { seq = seq; place = place; cell = part.cell; how = part.how; amount = part.amount }
     ∷ parts_numbered seq (place + 1) parts
 
+-- what was settled, without the entry that settled it
 abbrev pub part_of : Settled → Part
 part_of settled = record { cell = settled.cell; how = settled.how; amount = settled.amount }
 
@@ -46,6 +48,7 @@ settled_by orders (entry ∷ entries) before =
 abbrev pub row_of : Instalment → Sums
 row_of instalment = fresh_row instalment.due (0 ∷ instalment.fees ∷ instalment.interest ∷ instalment.principal ∷ [])
 
+-- a state of the fresh schedule, with nothing paid
 abbrev pub first_state : List Instalment → State
 first_state schedule = record { rows = map row_of schedule; overpaid = 0; refunded = 0 }
 
@@ -53,6 +56,7 @@ first_state schedule = record { rows = map row_of schedule; overpaid = 0; refund
 abbrev pub state_of : Orders → List Instalment → List Entry → State
 state_of orders schedule entries = after_all orders (standing_entries entries) (first_state schedule)
 
+-- what the standing entries settle, entry by entry in their order, from the fresh schedule on
 abbrev pub settled_of : Orders → List Instalment → List Entry → List Settled
 settled_of orders schedule entries = settled_by orders (standing_entries entries) (first_state schedule)
 
@@ -60,9 +64,11 @@ settled_of orders schedule entries = settled_by orders (standing_entries entries
 abbrev pub share_of : Settled → Share
 share_of part = record { cell = part.cell; amount = part.amount }
 
+-- what an entry settled, as shares of cells
 abbrev pub shares_in : ℕ → List Settled → List Share
 shares_in seq settled = map share_of (filter (λ (s : Settled). s.seq == seq) settled)
 
+-- the status of a disbursed loan: 601 written off, 300 active, 700 overpaid, 600 closed
 abbrev pub status_of : List Entry → State → ℕ
 status_of entries state =
     if list_any (λ (e : Entry). not e.reversed && is_write_off e.kind) entries then 601

@@ -14,9 +14,11 @@ use Rattle.mf_account.specs.Account.{Orders}
 -- a fee or penalty has a row with room, and a waiver a row
 abbrev pub HasRow : Kind → Entry → List Sums → Type 0
 HasRow Fee entry rows =
-    (1 ≤ entry.instalment) × (entry.instalment ≤ length rows) × (slice_index (row_at rows entry.instalment).owed 1 + entry.amount < 2 ^ 64)
+    (1 ≤ entry.instalment) × (entry.instalment ≤ length rows) × (slice_index (row_at rows entry.instalment).owed 1
+    + entry.amount < 2 ^ 64)
 HasRow Penalty entry rows =
-    (1 ≤ entry.instalment) × (entry.instalment ≤ length rows) × (slice_index (row_at rows entry.instalment).owed 0 + entry.amount < 2 ^ 64)
+    (1 ≤ entry.instalment) × (entry.instalment ≤ length rows) × (slice_index (row_at rows entry.instalment).owed 0
+    + entry.amount < 2 ^ 64)
 HasRow Waive entry rows = (1 ≤ entry.instalment) × (entry.instalment ≤ length rows)
 HasRow Repay entry rows = Unit {0}
 HasRow WriteOff entry rows = Unit {0}
@@ -31,6 +33,7 @@ HasCell Penalty entry n = Unit {0}
 HasCell WriteOff entry n = Unit {0}
 HasCell Refund entry n = Unit {0}
 
+-- an entry can be applied to a state: its instalment is there, and the sums leave room
 pub record IsApplicable (entry : Entry) (before : State) : Type 0 where
   pub row : HasRow entry.kind entry before.rows
   pub money : entry.amount + before.overpaid < 2 ^ 64
@@ -64,7 +67,13 @@ AreInRows n settled = All (λ (s : Settled). IsCell n s.cell) settled
 
 -- a part for what is not there
 abbrev pub no_settled : Settled
-no_settled = record { seq = 0; place = 0; cell = record { instalment = 0; portion = PenaltyPart }; how = Paid; amount = 0 }
+no_settled = record {
+  seq = 0;
+  place = 0;
+  cell = record { instalment = 0; portion = PenaltyPart };
+  how = Paid;
+  amount = 0;
+}
 
 -- the instalment that an entry names is there, where its kind names one
 abbrev pub HasInstalment : Kind → Entry → ℕ → Type 0

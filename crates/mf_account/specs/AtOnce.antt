@@ -9,6 +9,7 @@ use Rattle.mf_account.specs.declared.settled.How.TheVariants.{Paid}
 use Rattle.mf_account.specs.Kinds.{money_in, money_out}
 use Rattle.mf_account.specs.Effect.{State, Part, with_charge, with_settled, parts_cleared}
 
+-- a share that was paid
 abbrev pub paid_part : Share → Part
 paid_part share = record { cell = share.cell; how = Paid; amount = share.amount }
 
@@ -16,9 +17,11 @@ paid_part share = record { cell = share.cell; how = Paid; amount = share.amount 
 abbrev pub rows_charged : Entry → State → List Sums
 rows_charged entry before = with_charge entry.kind entry before.rows
 
+-- rows with what an entry waives or writes off in them
 abbrev pub with_cleared : (ℕ → Cell) → Entry → List Sums → List Sums
 with_cleared order entry charged = with_settled charged (parts_cleared order entry charged)
 
+-- the rows after an entry's charge and its clearing, before its money is laid on them
 abbrev pub rows_cleared : (ℕ → Cell) → Entry → State → List Sums
 rows_cleared order entry before = with_cleared order entry (rows_charged entry before)
 
@@ -26,13 +29,16 @@ rows_cleared order entry before = with_cleared order entry (rows_charged entry b
 abbrev pub money_to_pay : Entry → State → ℕ
 money_to_pay entry before = money_in entry.kind entry.amount + (before.overpaid - money_out entry.kind before.overpaid)
 
+-- the shares in which an entry's money is paid
 abbrev pub shares_at_once : (ℕ → Cell) → Entry → State → List Share
 shares_at_once order entry before = shares_of order (rows_cleared order entry before) (money_to_pay entry before)
 
+-- what an entry settles: what it clears, then what it pays
 abbrev pub parts_at_once : (ℕ → Cell) → Entry → State → List Part
 parts_at_once order entry before =
     parts_cleared order entry (rows_charged entry before) ++ map paid_part (shares_at_once order entry before)
 
+-- the state after an entry
 abbrev pub after_at_once : (ℕ → Cell) → Entry → State → State
 after_at_once order entry before = record {
   rows = with_settled (rows_charged entry before) (parts_at_once order entry before);

@@ -26,6 +26,7 @@ columns_of of rows = sum_at of 0 rows ∷ sum_at of 1 rows ∷ sum_at of 2 rows 
 abbrev pub open_in : ℕ → List Sums → ℕ
 open_in p rows = sum_by (λ (row : Sums). open_at row p) rows
 
+-- a loan's sums, read off its state and the fee at its disbursement
 abbrev pub balances_by : ℕ → State → Balances
 balances_by fee state = record {
   disbursement_fee = fee;
@@ -38,6 +39,7 @@ balances_by fee state = record {
   refunded = state.refunded;
 }
 
+-- a loan's sums, by the replay of its entries
 abbrev pub balances_of : Loan → Balances
 balances_of loan = balances_by (fee_of_loan loan) (state_of_loan loan)
 
@@ -53,5 +55,6 @@ pub record HasRoomAt (p : ℕ) (rows : List Sums) : Type 0 where
   pub written_off : sum_at (λ row. row.written_off) p rows < 2 ^ 64
   pub outstanding : open_in p rows < 2 ^ 64
 
+-- the sums of rows fit in 64 bits, in each portion
 abbrev pub HasRoom : List Sums → Type 0
 HasRoom rows = (p : ℕ) → p < 4 → HasRoomAt p rows

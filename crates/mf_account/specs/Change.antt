@@ -21,12 +21,18 @@ pub record Account : Type 0 where
   pub settled : List Settled
   pub change : ChangedNumbers
 
+-- no row and no entry
 abbrev pub no_change : ChangedNumbers
 no_change = record { rows = []; seqs = [] }
 
 -- the account of a loan: what replaying its standing entries over its fresh schedule gives, and nothing changed since
 abbrev pub account_by_replay : Loan → Account
-account_by_replay loan = record { loan = loan; state = state_of_loan loan; settled = settled_of_loan loan; change = no_change }
+account_by_replay loan = record {
+  loan = loan;
+  state = state_of_loan loan;
+  settled = settled_of_loan loan;
+  change = no_change;
+}
 
 -- what is kept of an account is what a replay gives
 pub record IsReplayed (a : Account) : Type 0 where
@@ -54,13 +60,16 @@ pub record AreAll (P : ℕ → Type 0) (xs : List ℕ) : Type 0 where
   pub each : All P xs
   pub all : (i : ℕ) → P i → Contains xs i
 
+-- an instalment's row is another one
 abbrev pub HasOtherRow : List Sums → List Sums → ℕ → Type 0
 HasOtherRow before after i = row_at before i ≢ row_at after i
 
+-- what an entry settled is something else
 abbrev pub HasOtherParts : List Settled → List Settled → ℕ → Type 0
 HasOtherParts before after seq = settled_in seq before ≢ settled_in seq after
 
 -- exactly the instalments whose rows differ between two loans, and the entries whose settled parts do
 pub record IsChange (before after : Loan) (change : ChangedNumbers) : Type 0 where
   pub rows : AreThose after.periods (HasOtherRow (state_of_loan before).rows (state_of_loan after).rows) change.rows
-  pub seqs : AreThose (length after.entries) (HasOtherParts (settled_of_loan before) (settled_of_loan after)) change.seqs
+  pub seqs : AreThose (length after.entries) (HasOtherParts (settled_of_loan before) (settled_of_loan after))
+      change.seqs

@@ -1,11 +1,14 @@
--- Charges by request: on which instalment a fee is laid, and what a fee or a penalty comes to. Both go by the fresh schedule.
-use Rattle.std.specs.Prelude.{ℕ, ◌+◌, ◌-◌, Bool, true, false, not, nat_lt, nat_le, if◌then◌else◌, List, slice_get, Option, Some, None}
+-- Charges by request: on which instalment a fee is laid, and what a fee or a penalty comes to. Both go by the fresh
+-- schedule.
+use Rattle.std.specs.Prelude.{ℕ, ◌+◌, ◌-◌, Bool, true, false, not, nat_lt, nat_le, if◌then◌else◌, List, slice_get}
+use Rattle.std.specs.Prelude.{Option, Some, None}
 use Rattle.std.specs.List.{position}
 use Rattle.mf_base.specs.declared.fault.Fault.{Fault}
 use Rattle.mf_base.specs.declared.fault.Fault.TheVariants.{F9, F10, F11}
 use Rattle.mf_catalog.specs.declared.charge.ChargeDef.{ChargeDef}
 use Rattle.mf_catalog.specs.declared.charge.ChargeKind.{ChargeKind}
-use Rattle.mf_catalog.specs.declared.charge.ChargeKind.TheVariants.{Disbursement, Instalment as EachInstalment, Overdue, DueDate}
+use Rattle.mf_catalog.specs.declared.charge.ChargeKind.TheVariants.{Disbursement, Instalment as EachInstalment, Overdue}
+use Rattle.mf_catalog.specs.declared.charge.ChargeKind.TheVariants.{DueDate}
 use Rattle.mf_catalog.specs.Charge.{amount_of, amount_of_any}
 use Rattle.mf_schedule.specs.declared.instalment.Instalment.{Instalment}
 use Rattle.mf_schedule.specs.Fresh.{total_interest}
@@ -39,8 +42,10 @@ is_due_date DueDate = true
 
 -- a due-date charge on the principal and the interest of the whole schedule; no other charge is a fee, and comes to 0
 abbrev pub fee_on : ChargeDef → ℕ → List Instalment → ℕ
-fee_on charge principal schedule = if is_due_date charge.kind then amount_of charge principal (total_interest schedule) else 0
+fee_on charge principal schedule = if is_due_date charge.kind then amount_of charge principal (total_interest schedule)
+    else 0
 
+-- what a charge comes to as a fee on a loan
 abbrev pub fee_amount : Loan → ChargeDef → ℕ
 fee_amount loan charge = fee_on charge loan.principal (schedule_of loan)
 
@@ -49,10 +54,12 @@ abbrev pub penalty_on : Option ChargeDef → Option Instalment → ℕ
 penalty_on charge None = 0
 penalty_on charge (Some i) = amount_of_any charge i.principal i.interest
 
+-- what a loan's overdue charge comes to on an instalment
 abbrev pub penalty_amount : Loan → ℕ → ℕ
 penalty_amount loan instalment = penalty_on loan.terms.overdue (slice_get (schedule_of loan) (instalment - 1))
 
--- a fee is refused before it is worked out: the loan is sealed, its status is another, or the fee falls due before disbursement
+-- a fee is refused before it is worked out: the loan is sealed, its status is another, or the fee falls due before
+-- disbursement
 abbrev pub fee_refused : Loan → ℕ → Option Fault
 fee_refused loan due =
     if is_sealed loan.entries then Some F11

@@ -12,6 +12,7 @@ use Rattle.mf_account.specs.Effect.{with_settled, parts_by}
 abbrev pub written_off_in_cell : List Sums → Cell → ℕ
 written_off_in_cell rows cell = slice_index (row_at rows cell.instalment).written_off (place_in_row cell.portion)
 
+-- what is waived in a cell
 abbrev pub waived_in_cell : List Sums → Cell → ℕ
 waived_in_cell rows cell = slice_index (row_at rows cell.instalment).waived (place_in_row cell.portion)
 
@@ -19,6 +20,7 @@ waived_in_cell rows cell = slice_index (row_at rows cell.instalment).waived (pla
 abbrev pub but_written_off : Sums → Sums
 but_written_off row = record row { written_off = nothing }
 
+-- a row without what is waived in it
 abbrev pub but_waived : Sums → Sums
 but_waived row = record row { waived = nothing }
 
@@ -33,7 +35,8 @@ pub record IsAllWrittenOff (order : ℕ → Cell) (rows after : List Sums) : Typ
 pub record IsCellWaived (cell : Cell) (rows after : List Sums) : Type 0 where
   pub waived : waived_in_cell after cell ≡ waived_in_cell rows cell + outstanding rows cell
   pub none_left : outstanding after cell ≡ 0
-  pub elsewhere : (other : Cell) → IsCell (length rows) other → other ≢ cell → waived_in_cell after other ≡ waived_in_cell rows other
+  pub elsewhere : (other : Cell) → IsCell (length rows) other → other ≢ cell → waived_in_cell after other
+      ≡ waived_in_cell rows other
   pub others : map but_waived after ≡ map but_waived rows
 
 -- the cell that a waiver names
@@ -43,9 +46,11 @@ cell_of entry = record { instalment = entry.instalment; portion = entry.portion 
 -- a write-off by a lawful order, and a waiver of a cell that is there
 abbrev pub WritesOffByCells : Type 0
 WritesOffByCells =
-    (order : ℕ → Cell) (place : Cell → ℕ) (entry : Entry) (rows : List Sums) → IsOrder (length rows) order place → AreWhole rows →
+    (order : ℕ → Cell) (place : Cell → ℕ) (entry : Entry) (rows : List Sums) → IsOrder (length rows) order place
+    → AreWhole rows →
     IsAllWrittenOff order rows (with_settled rows (parts_by WriteOff order entry rows))
 
+-- a waiver clears its cell and changes nothing else
 abbrev pub WaivesOneCell : Type 0
 WaivesOneCell =
     (order : ℕ → Cell) (entry : Entry) (rows : List Sums) → IsCell (length rows) (cell_of entry) → AreWhole rows →

@@ -12,6 +12,7 @@ use Rattle.mf_account.specs.declared.entry.Kind.TheVariants.{Repay, Fee, Penalty
 use Rattle.mf_account.specs.declared.settled.How.{How}
 use Rattle.mf_account.specs.declared.settled.How.TheVariants.{Paid, Waived, WrittenOff}
 
+-- a loan's instalments with their sums, and the money beside them
 pub record State : Type 0 where
   pub rows : List Sums
   pub overpaid : ℕ
@@ -29,11 +30,14 @@ settle_row Paid p amount row = pay_row p amount row
 settle_row Waived p amount row = record row { waived = plus_at row.waived p amount }
 settle_row WrittenOff p amount row = record row { written_off = plus_at row.written_off p amount }
 
+-- a row that owes more of a portion
 abbrev pub owe_row : ℕ → ℕ → Sums → Sums
 owe_row p amount row = record row { owed = plus_at row.owed p amount }
 
+-- rows with a part settled
 abbrev pub settle : List Sums → Part → List Sums
-settle rows part = rows_changed_at rows part.cell.instalment (settle_row part.how (place_in_row part.cell.portion) part.amount)
+settle rows part =
+    rows_changed_at rows part.cell.instalment (settle_row part.how (place_in_row part.cell.portion) part.amount)
 
 -- all parts, first to last
 abbrev pub with_settled : List Sums → List Part → List Sums
@@ -53,9 +57,11 @@ with_charge Refund entry rows = rows
 abbrev pub whole_part : How → List Sums → Cell → Part
 whole_part how rows cell = record { cell = cell; how = how; amount = outstanding rows cell }
 
+-- a part is of more than nothing
 abbrev pub is_some_part : Part → Bool
 is_some_part part = nat_lt 0 part.amount
 
+-- the parts that are of more than nothing
 abbrev pub some_parts : List Part → List Part
 some_parts parts = filter is_some_part parts
 
@@ -70,6 +76,7 @@ parts_by Fee order entry rows = []
 parts_by Penalty order entry rows = []
 parts_by Refund order entry rows = []
 
+-- the parts that an entry waives or writes off
 abbrev pub parts_cleared : (ℕ → Cell) → Entry → List Sums → List Part
 parts_cleared order entry rows = parts_by entry.kind order entry rows
 
@@ -83,10 +90,14 @@ own_effect Repay order entry before = record {
 }
 own_effect Fee order entry before = record before { rows = with_charge Fee entry before.rows }
 own_effect Penalty order entry before = record before { rows = with_charge Penalty entry before.rows }
-own_effect Waive order entry before = record before { rows = with_settled before.rows (parts_by Waive order entry before.rows) }
-own_effect WriteOff order entry before = record before { rows = with_settled before.rows (parts_by WriteOff order entry before.rows) }
-own_effect Refund order entry before = record { rows = before.rows; overpaid = 0; refunded = before.refunded + before.overpaid }
+own_effect Waive order entry before =
+    record before { rows = with_settled before.rows (parts_by Waive order entry before.rows) }
+own_effect WriteOff order entry before =
+    record before { rows = with_settled before.rows (parts_by WriteOff order entry before.rows) }
+own_effect Refund order entry before =
+    record { rows = before.rows; overpaid = 0; refunded = before.refunded + before.overpaid }
 
+-- the state after an entry's own effect
 abbrev pub state_acted : (ℕ → Cell) → Entry → State → State
 state_acted order entry before = own_effect entry.kind order entry before
 
@@ -111,10 +122,12 @@ own_share Waive order entry before k = 0
 own_share WriteOff order entry before k = 0
 own_share Refund order entry before k = 0
 
+-- what of the money overpaid after that falls on the cell at a place
 abbrev pub later_share : (ℕ → Cell) → Entry → State → ℕ → ℕ
 later_share order entry before k =
     let acted = state_acted order entry before in (share_at order acted.rows acted.overpaid k).amount
 
+-- the part that is paid of the cell at a place
 abbrev pub paid_at : (ℕ → Cell) → (ℕ → ℕ) → ℕ → Part
 paid_at order amounts k = record { cell = order k; how = Paid; amount = amounts k }
 

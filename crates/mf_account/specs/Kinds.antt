@@ -3,6 +3,7 @@ use Rattle.std.specs.Prelude.{ℕ, Bool, true, false}
 use Rattle.mf_account.specs.declared.entry.Kind.{Kind}
 use Rattle.mf_account.specs.declared.entry.Kind.TheVariants.{Repay, Fee, Penalty, Waive, WriteOff, Refund}
 
+-- an entry of this kind writes off
 abbrev pub is_write_off : Kind → Bool
 is_write_off WriteOff = true
 is_write_off Repay = false
@@ -38,6 +39,7 @@ money_out Penalty overpaid = 0
 money_out Waive overpaid = 0
 money_out WriteOff overpaid = 0
 
+-- an entry of this kind charges a penalty
 abbrev pub is_penalty : Kind → Bool
 is_penalty Penalty = true
 is_penalty Repay = false

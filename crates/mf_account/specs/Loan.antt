@@ -17,6 +17,7 @@ use Rattle.mf_account.specs.Account.{Orders, orders_by, first_state, state_of, s
 use Rattle.mf_account.specs.Standing.{is_before, standing_entries, entry_at, entries_at}
 use Rattle.mf_account.specs.Safe.{IsSafe}
 
+-- a disbursed loan: its terms, its principal in cents, its day of disbursement and its entries
 pub record Loan : Type 0 where
   pub terms : Terms
   pub principal : ℕ
@@ -27,12 +28,16 @@ pub record Loan : Type 0 where
 -- what a kind of entry holds in its columns, for a loan of n instalments
 abbrev pub HasColumns : Kind → ℕ → Entry → Type 0
 HasColumns Repay n e = (1 ≤ e.amount) × (e.amount ≤ 10 ^ 12) × (e.instalment ≡ 0) × (e.portion ≡ Principal)
-HasColumns Fee n e = (1 ≤ e.amount) × (e.amount ≤ 10 ^ 12) × (1 ≤ e.instalment) × (e.instalment ≤ n) × (e.portion ≡ FeePart) × (e.receipt ≡ None)
-HasColumns Penalty n e = (1 ≤ e.amount) × (e.amount ≤ 10 ^ 12) × (1 ≤ e.instalment) × (e.instalment ≤ n) × (e.portion ≡ PenaltyPart) × (e.receipt ≡ None)
-HasColumns Waive n e = (e.amount ≡ 0) × (1 ≤ e.instalment) × (e.instalment ≤ n) × (e.portion ≢ Principal) × (e.receipt ≡ None)
+HasColumns Fee n e = (1 ≤ e.amount) × (e.amount ≤ 10 ^ 12) × (1 ≤ e.instalment) × (e.instalment ≤ n)
+    × (e.portion ≡ FeePart) × (e.receipt ≡ None)
+HasColumns Penalty n e = (1 ≤ e.amount) × (e.amount ≤ 10 ^ 12) × (1 ≤ e.instalment) × (e.instalment ≤ n)
+    × (e.portion ≡ PenaltyPart) × (e.receipt ≡ None)
+HasColumns Waive n e = (e.amount ≡ 0) × (1 ≤ e.instalment) × (e.instalment ≤ n) × (e.portion ≢ Principal)
+    × (e.receipt ≡ None)
 HasColumns WriteOff n e = (e.amount ≡ 0) × (e.instalment ≡ 0) × (e.portion ≡ Principal) × (e.receipt ≡ None)
 HasColumns Refund n e = (e.amount ≡ 0) × (e.instalment ≡ 0) × (e.portion ≡ Principal) × (e.receipt ≡ None)
 
+-- an entry of a loan of n instalments, disbursed on a day: dated no earlier, with the columns of its kind
 pub record IsEntry (n day : ℕ) (e : Entry) : Type 0 where
   pub from : day ≤ e.day
   pub columns : HasColumns e.kind n e
@@ -41,7 +46,8 @@ pub record IsEntry (n day : ℕ) (e : Entry) : Type 0 where
 abbrev pub SealIsLast : List Entry → Type 0
 SealIsLast entries =
     (i j : ℕ) → i < length entries → j < length entries → i ≢ j → (entry_at entries i).reversed ≡ false
-    → (entry_at entries j).reversed ≡ false → is_seal (entry_at entries i).kind ≡ true → is_before (entry_at entries j) (entry_at entries i) ≡ true
+    → (entry_at entries j).reversed ≡ false → is_seal (entry_at entries i).kind ≡ true → is_before (entry_at entries j)
+    (entry_at entries i) ≡ true
 
 -- the entries of one loan: numbered from 1 in order, within the limit
 pub record AreEntries (n day : ℕ) (entries : List Entry) : Type 0 where
@@ -50,6 +56,7 @@ pub record AreEntries (n day : ℕ) (entries : List Entry) : Type 0 where
   pub each : All (IsEntry n day) entries
   pub seal_last : SealIsLast entries
 
+-- a loan within the limits, with entries that it may have
 pub record IsSound (loan : Loan) : Type 0 where
   pub limits : IsLoanWithinLimits loan.terms loan.principal loan.periods
   pub day : loan.day ≤ last_entered_day
@@ -60,9 +67,11 @@ pub record IsSound (loan : Loan) : Type 0 where
 abbrev pub schedule_of : Loan → List Instalment
 schedule_of loan = fresh_schedule loan.terms loan.principal loan.periods loan.day
 
+-- the order of a loan's cells where so many instalments are due
 abbrev pub cells_of : Loan → ℕ → ℕ → ℕ → Cell
 cells_of loan n due = cell_by loan.terms.strategy due
 
+-- the order in which an entry pays a loan's cells, by what is due on its day
 abbrev pub orders_of : Loan → Orders
 orders_of loan = orders_by (cells_of loan) (first_state (schedule_of loan)).rows
 
@@ -70,21 +79,26 @@ orders_of loan = orders_by (cells_of loan) (first_state (schedule_of loan)).rows
 abbrev pub cell_places_of : Loan → Entry → Cell → ℕ
 cell_places_of loan entry = place_by loan.terms.strategy (due_by entry.day (first_state (schedule_of loan)).rows)
 
+-- the state of a loan: its standing entries replayed on its fresh schedule
 abbrev pub state_of_loan : Loan → State
 state_of_loan loan = state_of (orders_of loan) (schedule_of loan) loan.entries
 
+-- what a loan's standing entries settle
 abbrev pub settled_of_loan : Loan → List Settled
 settled_of_loan loan = settled_of (orders_of loan) (schedule_of loan) loan.entries
 
+-- the fee at a loan's disbursement
 abbrev pub fee_of_loan : Loan → ℕ
 fee_of_loan loan = fee_at_disbursement loan.terms loan.principal (schedule_of loan)
 
+-- the status of a loan
 abbrev pub status_of_loan : Loan → ℕ
 status_of_loan loan = status_of loan.entries (state_of_loan loan)
 
 -- what is kept of a loan beside its entries: where its standing entries are among them, in their order, its fresh
 -- schedule and fee; and a state and parts, of which no more is known than that they are safe
-pub record IsKept (loan : Loan) (order : List ℕ) (schedule : List Instalment) (fee : ℕ) (state : State) (settled : List Settled) : Type 0 where
+pub record IsKept (loan : Loan) (order : List ℕ) (schedule : List Instalment) (fee : ℕ) (state : State)
+    (settled : List Settled) : Type 0 where
   pub sound : IsSound loan
   pub within : All (λ at. at < length loan.entries) order
   pub order_is : entries_at loan.entries order ≡ standing_entries loan.entries

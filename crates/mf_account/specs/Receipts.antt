@@ -10,5 +10,6 @@ is_printable byte = nat_le 33 byte && nat_le byte 126
 abbrev pub is_receipt : List ℕ → Bool
 is_receipt text = nat_le 1 (length text) && nat_le (length text) 40 && list_all is_printable text
 
+-- a text that may be a receipt
 abbrev pub IsReceipt : List ℕ → Type 0
 IsReceipt text = is_receipt text ≡ true

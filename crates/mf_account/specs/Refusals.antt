@@ -1,5 +1,6 @@
 -- When an entry or a reversal is refused, and with which number. The first that holds counts.
-use Rattle.std.specs.Prelude.{◌≡◌, ◌≢◌, ℕ, ◌+◌, ◌-◌, ◌<◌, ◌≤◌, ◌^◌, Bool, false, not, ◌&&◌, ◌||◌, ◌==◌, nat_lt, nat_le, if◌then◌else◌, List, length, Option, Some, None, is_some}
+use Rattle.std.specs.Prelude.{◌≡◌, ◌≢◌, ℕ, ◌+◌, ◌-◌, ◌<◌, ◌≤◌, ◌^◌, Bool, false, not, ◌&&◌, ◌||◌, ◌==◌, nat_lt, nat_le}
+use Rattle.std.specs.Prelude.{if◌then◌else◌, List, length, Option, Some, None, is_some}
 use Rattle.std.specs.List.{list_any}
 use Rattle.mf_base.specs.declared.fault.Fault.{Fault}
 use Rattle.mf_base.specs.declared.fault.Fault.TheVariants.{F8, F9, F10, F11, F12, F13, F14, F18, F20}
@@ -18,6 +19,7 @@ use Rattle.mf_account.specs.Loan.{Loan, state_of_loan, status_of_loan}
 abbrev pub is_standing_seal : Entry → Bool
 is_standing_seal e = not e.reversed && is_seal e.kind
 
+-- a write-off or a refund stands
 abbrev pub is_sealed : List Entry → Bool
 is_sealed entries = list_any is_standing_seal entries
 
@@ -47,6 +49,7 @@ is_there n instalment = nat_le 1 instalment && nat_le instalment n
 abbrev pub is_penalty_on : ℕ → Entry → Bool
 is_penalty_on instalment e = not e.reversed && (is_penalty e.kind && (e.instalment == instalment))
 
+-- a penalty stands on the instalment
 abbrev pub has_penalty : List Entry → ℕ → Bool
 has_penalty entries instalment = list_any (is_penalty_on instalment) entries
 
@@ -79,12 +82,14 @@ is_out_of_limits Waive amount = false
 is_out_of_limits WriteOff amount = false
 is_out_of_limits Refund amount = false
 
+-- why an entry is refused, the first reason that holds
 abbrev pub refusal_of : Loan → Entry → ℕ → Option Fault
 refusal_of loan e business_day =
     if is_sealed loan.entries then Some F11
     else (if not (admits e.kind (status_of_loan loan)) then Some F9
     else (if is_out_of_order e.kind loan.day business_day e.day then Some F10
-    else (if is_forbidden e.kind (is_some loan.terms.overdue) (state_of_loan loan).rows loan.entries e business_day then Some F14
+    else (if is_forbidden e.kind (is_some loan.terms.overdue) (state_of_loan loan).rows loan.entries e business_day
+    then Some F14
     else (if is_out_of_limits e.kind e.amount then Some F8
     else (if nat_le 9999 (length loan.entries) then Some F18
     else None)))))
@@ -104,8 +109,10 @@ HasForm Repay business_day e = (1 ≤ e.amount) × (e.amount ≤ 10 ^ 12) × (e.
 HasForm Fee business_day e = (e.day ≡ business_day) × (e.portion ≡ FeePart) × (e.receipt ≡ None)
 HasForm Penalty business_day e = (e.day ≡ business_day) × (e.portion ≡ PenaltyPart) × (e.receipt ≡ None)
 HasForm Waive business_day e = (e.day ≡ business_day) × (e.amount ≡ 0) × (e.portion ≢ Principal) × (e.receipt ≡ None)
-HasForm WriteOff business_day e = (e.day ≡ business_day) × (e.amount ≡ 0) × (e.instalment ≡ 0) × (e.portion ≡ Principal) × (e.receipt ≡ None)
-HasForm Refund business_day e = (e.day ≡ business_day) × (e.amount ≡ 0) × (e.instalment ≡ 0) × (e.portion ≡ Principal) × (e.receipt ≡ None)
+HasForm WriteOff business_day e = (e.day ≡ business_day) × (e.amount ≡ 0) × (e.instalment ≡ 0) × (e.portion ≡ Principal)
+    × (e.receipt ≡ None)
+HasForm Refund business_day e = (e.day ≡ business_day) × (e.amount ≡ 0) × (e.instalment ≡ 0) × (e.portion ≡ Principal)
+    × (e.receipt ≡ None)
 
 pub record IsOffered (loan : Loan) (e : Entry) (business_day : ℕ) : Type 0 where
   pub next : e.seq ≡ length loan.entries + 1

@@ -1,4 +1,5 @@
--- What an account keeps, whatever its entries say: sums that leave room for more, and parts that have a cell and an entry.
+-- What an account keeps, whatever its entries say: sums that leave room for more, and parts that have a cell and an
+-- entry.
 use Rattle.std.specs.Prelude.{◌≡◌, ℕ, ◌+◌, ◌≤◌, ◌^◌, List, length}
 use Rattle.mf_alloc.specs.Sums.{AreWhole, AreWithin}
 use Rattle.mf_account.specs.declared.settled.Settled.{Settled}

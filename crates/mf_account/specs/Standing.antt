@@ -1,5 +1,7 @@
 -- The standing entries of a loan, in order.
-use Rattle.std.specs.Prelude.{◌≡◌, ◌≢◌, ℕ, ◌<◌, ◌-◌, Option, option_map, slice_get, length, slice_index, Bool, ◌&&◌, ◌||◌, ◌==◌, nat_lt, if◌then◌else◌, List, [], ◌∷◌, fold, map, slice_index_or, slice_set, None, false, ◌+◌}
+use Rattle.std.specs.Prelude.{◌≡◌, ◌≢◌, ℕ, ◌<◌, ◌-◌, Option, option_map, slice_get, length, slice_index, Bool, ◌&&◌}
+use Rattle.std.specs.Prelude.{◌||◌, ◌==◌, nat_lt, if◌then◌else◌, List, [], ◌∷◌, fold, map, slice_index_or, slice_set}
+use Rattle.std.specs.Prelude.{None, false, ◌+◌}
 use Rattle.mf_alloc.specs.declared.row.Portion.TheVariants.{Principal}
 use Rattle.mf_account.specs.declared.entry.Kind.{Kind}
 use Rattle.mf_account.specs.declared.entry.Kind.TheVariants.{Repay}
@@ -20,6 +22,7 @@ order_with entry (first ∷ others) =
 abbrev pub with_entry : List Entry → Entry → List Entry
 with_entry order entry = if entry.reversed then order else order_with entry order
 
+-- the entries that are not reversed, by day and then by number
 abbrev pub standing_entries : List Entry → List Entry
 standing_entries entries = fold with_entry [] entries
 
@@ -41,6 +44,7 @@ no_entry = record {
 abbrev pub entries_at : List Entry → List ℕ → List Entry
 entries_at entries places = map (λ i. slice_index_or entries i no_entry) places
 
+-- the entry at a place, counted from 0
 abbrev pub entry_at : List Entry → ℕ → Entry
 entry_at entries i = slice_index_or entries i no_entry
 
@@ -65,7 +69,8 @@ IsInOrder (x ∷ xs) = NoneBefore x xs × IsInOrder xs
 -- the places of the entries not reversed, in a list whose first has the place k
 abbrev pub places_from : ℕ → List Entry → List Place
 places_from k [] = []
-places_from k (e ∷ es) = if e.reversed then places_from (k + 1) es else record { day = e.day; at = k } ∷ places_from (k + 1) es
+places_from k (e ∷ es) = if e.reversed then places_from (k + 1) es else record { day = e.day; at = k }
+    ∷ places_from (k + 1) es
 
 -- no place stands twice
 abbrev pub AreApart : List ℕ → Type 0

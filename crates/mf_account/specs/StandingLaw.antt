@@ -4,6 +4,7 @@ use Rattle.mf_account.specs.declared.entry.Entry.{Entry}
 use Rattle.mf_account.specs.Standing.{is_before, standing_entries}
 use Rattle.mf_account.specs.Loan.{AreEntries}
 
+-- an entry is one of these
 abbrev pub IsAmong : Entry → List Entry → Type 0
 IsAmong e [] = ⊥
 IsAmong e (x ∷ xs) = (e ≡ x) ⊎ IsAmong e xs
@@ -28,4 +29,5 @@ pub record IsStandingOf (entries others : List Entry) : Type 0 where
 abbrev pub StandingIsOne : Type 0
 StandingIsOne =
     (n day : ℕ) (entries : List Entry) → AreEntries n day entries →
-    IsStandingOf entries (standing_entries entries) × ((others : List Entry) → IsStandingOf entries others → others ≡ standing_entries entries)
+    IsStandingOf entries (standing_entries entries) × ((others : List Entry) → IsStandingOf entries others
+    → others ≡ standing_entries entries)

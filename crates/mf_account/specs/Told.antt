@@ -14,6 +14,7 @@ settled_amount settled = sum_by (λ (s : Settled). s.amount) settled
 abbrev pub IsRowSmall : Sums → Type 0
 IsRowSmall row = row_outstanding row < 2 ^ 64
 
+-- each row's sums are small
 abbrev pub AreRowsSmall : List Sums → Type 0
 AreRowsSmall rows = All IsRowSmall rows
 
@@ -25,5 +26,6 @@ AreNumbered entries = (i : ℕ) → i < length entries → (entry_at entries i).
 abbrev pub IsNumberedTo : ℕ → Settled → Type 0
 IsNumberedTo n s = (1 ≤ s.seq) × (s.seq ≤ n)
 
+-- each part is one of the first n entries'
 abbrev pub AreNumberedTo : ℕ → List Settled → Type 0
 AreNumberedTo n settled = All (IsNumberedTo n) settled

@@ -12,25 +12,31 @@ use Rattle.mf_account.specs.Kinds.{money_in}
 use Rattle.mf_account.specs.Effect.{State, Part, parts_of, after}
 use Rattle.mf_account.specs.Account.{Orders}
 
+-- a row with a sum of a portion settled no more
 abbrev pub unsettle_row : How → ℕ → ℕ → Sums → Sums
 unsettle_row Paid p amount row = unpay_row p amount row
 unsettle_row Waived p amount row = record row { waived = minus_at row.waived p amount }
 unsettle_row WrittenOff p amount row = record row { written_off = minus_at row.written_off p amount }
 
+-- a row that owes less of a portion
 abbrev pub unowe_row : ℕ → ℕ → Sums → Sums
 unowe_row p amount row = record row { owed = minus_at row.owed p amount }
 
+-- rows with a part settled no more
 abbrev pub unsettle : List Sums → Part → List Sums
-unsettle rows part = rows_changed_at rows part.cell.instalment (unsettle_row part.how (place_in_row part.cell.portion) part.amount)
+unsettle rows part =
+    rows_changed_at rows part.cell.instalment (unsettle_row part.how (place_in_row part.cell.portion) part.amount)
 
 -- all parts, last to first
 abbrev pub without_settled : List Sums → List Part → List Sums
 without_settled rows [] = rows
 without_settled rows (part ∷ parts) = unsettle (without_settled rows parts) part
 
+-- rows without the charge that an entry made
 abbrev pub without_charge : Kind → Entry → List Sums → List Sums
 without_charge Fee entry rows = rows_changed_at rows entry.instalment (unowe_row (place_in_row FeePart) entry.amount)
-without_charge Penalty entry rows = rows_changed_at rows entry.instalment (unowe_row (place_in_row PenaltyPart) entry.amount)
+without_charge Penalty entry rows =
+    rows_changed_at rows entry.instalment (unowe_row (place_in_row PenaltyPart) entry.amount)
 without_charge Repay entry rows = rows
 without_charge Waive entry rows = rows
 without_charge WriteOff entry rows = rows
@@ -42,6 +48,7 @@ paid_by Paid amount = amount
 paid_by Waived amount = 0
 paid_by WrittenOff amount = 0
 
+-- the sum of the parts that were paid
 abbrev pub paid_in : List Part → ℕ
 paid_in parts = sum_by (λ (part : Part). paid_by part.how part.amount) parts
 

@@ -1,4 +1,8 @@
-ghost use Rattle.std.specs.Prelude.{◌≡◌, ◌≢◌, ℕ, ◌+◌, ◌-◌, ◌*◌, ◌<◌, ◌≤◌, ◌^◌, ◌∷◌, [], ◌++◌, IfOk, IfErr, IfSome, IsTrue, OnOk, OnErr, IsOkUnless, None, Some, true, false, length, take, insert, sum, slice_index};
+//! A disbursed loan's account: made from its entries or resumed from what is kept, entered into, reversed, and shown.
+
+ghost use Rattle.std.specs.Prelude.{◌≡◌, ◌≢◌, ℕ, ◌+◌, ◌-◌, ◌*◌, ◌<◌, ◌≤◌, ◌^◌, ◌∷◌, [], ◌++◌, IfOk, IfErr, IfSome};
+ghost use Rattle.std.specs.Prelude.{IsTrue, OnOk, OnErr, IsOkUnless, None, Some, true, false, length, take, insert};
+ghost use Rattle.std.specs.Prelude.{sum, slice_index};
 ghost use Rattle.mf_base.specs.declared.fault.Fault.{Fault as FaultNumber};
 ghost use Rattle.mf_base.specs.DayText.{last_entered_day};
 ghost use Rattle.mf_catalog.specs.Limits.{IsChargeWithinLimits};
@@ -6,13 +10,15 @@ ghost use Rattle.mf_schedule.specs.Fresh.{IsLoanWithinLimits};
 ghost use Rattle.mf_account.specs.Standing.{entry_at, standing_entries, order_with, with_mark};
 ghost use Rattle.mf_alloc.specs.Sums.{AreWhole, AreWithin};
 ghost use Rattle.mf_account.specs.Account.{shares_in, status_of};
-ghost use Rattle.mf_account.specs.Charges.{fee_amount as fee_amount_of, fee_instalment as fee_instalment_of, fee_refused, penalty_amount as penalty_amount_of};
+ghost use Rattle.mf_account.specs.Charges.{fee_amount as fee_amount_of, fee_instalment as fee_instalment_of};
+ghost use Rattle.mf_account.specs.Charges.{fee_refused, penalty_amount as penalty_amount_of};
 ghost use Rattle.mf_account.specs.Change.{Account, IsChange, IsReplayed, AreKeptOf, account_by_replay, settled_in};
 ghost use Rattle.mf_account.specs.Loan.{Loan, IsKept, IsSound, AreEntries, settled_of_loan, fee_of_loan};
 ghost use Rattle.mf_account.specs.Rewind.{IsRedone, state_before, settled_upto};
 ghost use Rattle.mf_account.specs.Balance.{balances_by, open_in, sum_repaid};
 ghost use Rattle.mf_account.specs.Safe.{most_kept, IsShaped, IsBounded, IsSafe};
-ghost use Rattle.mf_account.specs.Refusals.{refusal_of, reversal_refused, is_sealed as is_sealed_by, IsOffered, IsAdmitted, IsEntryFault};
+ghost use Rattle.mf_account.specs.Refusals.{refusal_of, reversal_refused, is_sealed as is_sealed_by, IsOffered};
+ghost use Rattle.mf_account.specs.Refusals.{IsAdmitted, IsEntryFault};
 ghost use Rattle.mf_account.specs.Told.{settled_amount, AreRowsSmall, AreNumbered, AreNumberedTo};
 
 use crate::balances::{Balances, book_sums};
@@ -40,10 +46,10 @@ use mf_schedule::{Instalment, disbursement_fee, fresh};
 use std::alloc::Global;
 use std::marker::Model;
 
-/// The account of a disbursed loan: its terms, its day of disbursement and its entries, and beside them the instalments and what
-/// the entries settled, as they are kept. Where these are what a replay gives (`IsReplayed`) they are the effects of the standing
-/// entries, in order of day and number, on the fresh schedule with nothing paid; and so they stay. No call rests on that to be
-/// safe.
+/// The account of a disbursed loan: its terms, its day of disbursement and its entries, and beside them the instalments
+/// and what the entries settled, as they are kept. Where these are what a replay gives (`IsReplayed`) they are the
+/// effects of the standing entries, in order of day and number, on the fresh schedule with nothing paid; and so they
+/// stay. No call rests on that to be safe.
 pub struct LoanAccount {
     terms: Terms,
     principal: u64,
@@ -81,9 +87,27 @@ impl Drop for LoanAccount {
 impl Model for LoanAccount {
     ghost Value = { Account };
 
-    ghost view = { λ a. record { loan = record { terms = a.terms; principal = a.principal; periods = a.periods; day = a.day; entries = a.entries.items }; state = a.book; settled = a.settled.items; change = a.change } };
+    ghost view = { λ a. record {
+      loan = record {
+        terms = a.terms;
+        principal = a.principal;
+        periods = a.periods;
+        day = a.day;
+        entries = a.entries.items;
+      };
+      state = a.book;
+      settled = a.settled.items;
+      change = a.change;
+    } };
 
-    ghost invariant = { λ a. IsKept (record { terms = a.terms; principal = a.principal; periods = a.periods; day = a.day; entries = a.entries.items }) a.order.items a.schedule.items a.disbursement_fee a.book a.settled.items };
+    ghost invariant = { λ a. IsKept (record {
+      terms = a.terms;
+      principal = a.principal;
+      periods = a.periods;
+      day = a.day;
+      entries = a.entries.items;
+    }) a.order.items a.schedule.items a.disbursement_fee a.book
+        a.settled.items };
 }
 
 impl LoanAccount {
@@ -100,7 +124,13 @@ impl LoanAccount {
         requires limits { IsLoanWithinLimits terms principal periods }
         requires day { day ≤ last_entered_day }
         requires entries { AreEntries periods day entries.items }
-        ensures account { IfOk result (λ account. account ≡ account_by_replay (record { terms = terms; principal = principal; periods = periods; day = day; entries = entries.items })) }
+        ensures account { IfOk result (λ account. account ≡ account_by_replay (record {
+          terms = terms;
+          principal = principal;
+          periods = periods;
+          day = day;
+          entries = entries.items;
+        })) }
         ensures only { IsOkUnless result Fault.F20 }
     {
         let schedule = fresh(alloc, &terms, principal, periods, day)?;
@@ -122,8 +152,8 @@ impl LoanAccount {
         })
     }
 
-    /// The account of what was read of a loan, or None where that can be no loan's: terms or sums outside the limits, a day
-    /// that can't be entered, or entries that are not those of one loan. The only error is F20, out of memory.
+    /// The account of what was read of a loan, or None where that can be no loan's: terms or sums outside the limits, a
+    /// day that can't be entered, or entries that are not those of one loan. The only error is F20, out of memory.
     pub fn of_entries(
         alloc: Global,
         terms: Terms,
@@ -132,8 +162,15 @@ impl LoanAccount {
         day: Day,
         entries: Vec<Entry>,
     ) -> Result<Option<LoanAccount>, Fault>
-        ensures account { IfOk result (λ found. IfSome found (λ account. account ≡ account_by_replay (record { terms = terms; principal = principal; periods = periods; day = day; entries = entries.items }))) }
-        ensures none { IfOk result (λ found. IsSound (record { terms = terms; principal = principal; periods = periods; day = day; entries = entries.items }) → found ≢ None) }
+        ensures account { IfOk result (λ found. IfSome found (λ account. account ≡ account_by_replay
+            (record { terms = terms; principal = principal; periods = periods; day = day; entries = entries.items }))) }
+        ensures none { IfOk result (λ found. IsSound (record {
+          terms = terms;
+          principal = principal;
+          periods = periods;
+          day = day;
+          entries = entries.items;
+        }) → found ≢ None) }
         ensures only { IsOkUnless result Fault.F20 }
     {
         if is_loan_within_limits(&terms, principal, periods)
@@ -147,10 +184,10 @@ impl LoanAccount {
         }
     }
 
-    /// The account of what is kept of a loan: its entries, its instalments and what its entries settled, the parts of an entry in
-    /// their order. It is the account of `replay` where the instalments and the parts are what that gives. None where what is kept
-    /// can be no loan's: as in `of_entries`; or more or fewer instalments than periods, a part without an instalment or an entry, or
-    /// sums far above the limits of loans. The only error is F20, out of memory.
+    /// The account of what is kept of a loan: its entries, its instalments and what its entries settled, the parts of
+    /// an entry in their order. It is the account of `replay` where the instalments and the parts are what that gives.
+    /// None where what is kept can be no loan's: as in `of_entries`; or more or fewer instalments than periods, a part
+    /// without an instalment or an entry, or sums far above the limits of loans. The only error is F20, out of memory.
     pub fn resume(
         alloc: Global,
         terms: Terms,
@@ -163,9 +200,27 @@ impl LoanAccount {
     ) -> Result<Option<LoanAccount>, Fault>
         requires whole { AreWhole rows.items }
         requires apart { AreWithin rows.items }
-        ensures account { IsSound (record { terms = terms; principal = principal; periods = periods; day = day; entries = entries.items })
-            → AreKeptOf (record { terms = terms; principal = principal; periods = periods; day = day; entries = entries.items }) rows.items settled.items
-            → IfOk result (λ found. found ≡ Some (account_by_replay (record { terms = terms; principal = principal; periods = periods; day = day; entries = entries.items }))) }
+        ensures account { IsSound (record {
+          terms = terms;
+          principal = principal;
+          periods = periods;
+          day = day;
+          entries = entries.items;
+        })
+            → AreKeptOf (record {
+              terms = terms;
+              principal = principal;
+              periods = periods;
+              day = day;
+              entries = entries.items;
+            }) rows.items settled.items
+            → IfOk result (λ found. found ≡ Some (account_by_replay (record {
+              terms = terms;
+              principal = principal;
+              periods = periods;
+              day = day;
+              entries = entries.items;
+            }))) }
         ensures only { IsOkUnless result Fault.F20 }
     {
         if is_loan_within_limits(&terms, principal, periods)
@@ -196,8 +251,20 @@ impl LoanAccount {
         requires entries { AreEntries periods day entries.items }
         requires whole { AreWhole rows.items }
         requires apart { AreWithin rows.items }
-        ensures account { AreKeptOf (record { terms = terms; principal = principal; periods = periods; day = day; entries = entries.items }) rows.items settled.items
-            → IfOk result (λ found. found ≡ Some (account_by_replay (record { terms = terms; principal = principal; periods = periods; day = day; entries = entries.items }))) }
+        ensures account { AreKeptOf (record {
+          terms = terms;
+          principal = principal;
+          periods = periods;
+          day = day;
+          entries = entries.items;
+        }) rows.items settled.items
+            → IfOk result (λ found. found ≡ Some (account_by_replay (record {
+              terms = terms;
+              principal = principal;
+              periods = periods;
+              day = day;
+              entries = entries.items;
+            }))) }
         ensures only { IsOkUnless result Fault.F20 }
     {
         if rows.len() != periods as usize {
@@ -231,16 +298,21 @@ impl LoanAccount {
     /// Enters one entry more. The refusals are, the first that holds: F11 where a write-off or refund stands; F9 where
     /// the loan is not at status 300, or at 700 for a refund; F10 for a repayment before disbursement or after the
     /// business day; F14 where the instalment does not allow it; F8 for a fee or penalty of 0 or over 10^12 cents; F18
-    /// where the loan has 9,999 entries; and F20 when out of memory. A refused entry is given up, and the account is
-    /// as before. An account that is a replay's is refused with F20 for want of memory alone: the two other causes, that
+    /// where the loan has 9,999 entries; and F20 when out of memory. A refused entry is given up, and the account is as
+    /// before. An account that is a replay's is refused with F20 for want of memory alone: the two other causes, that
     /// more would be taken back than stands and that sums would leave all bounds, never come about (`replayed` of
     /// `rewind_copy` and `is_within_bounds`).
     pub fn enter(&mut self, alloc: Global, entry: Entry, business_day: Day) -> Result<(), Fault>
         requires { IsOffered self.old.loan entry business_day }
-        ensures ok { OnOk result (self.new.loan ≡ record self.old.loan { entries = self.old.loan.entries ++ entry ∷ [] }) }
+        ensures ok { OnOk result (self.new.loan ≡ record self.old.loan {
+          entries = self.old.loan.entries ++ entry
+              ∷ [];
+        }) }
         ensures replayed { IsReplayed self.old → OnOk result (IsReplayed self.new) }
-        ensures refused { IsReplayed self.old → (fault : FaultNumber) → refusal_of self.old.loan entry business_day ≡ Some fault → result ≡ Err fault }
-        ensures accepted { IsReplayed self.old → refusal_of self.old.loan entry business_day ≡ None → IsOkUnless result Fault.F20 }
+        ensures refused { IsReplayed self.old → (fault : FaultNumber) → refusal_of self.old.loan entry business_day
+            ≡ Some fault → result ≡ Err fault }
+        ensures accepted { IsReplayed self.old → refusal_of self.old.loan entry business_day ≡ None
+            → IsOkUnless result Fault.F20 }
         ensures change { IsReplayed self.old → OnOk result (IsChange self.old.loan self.new.loan self.new.change) }
         ensures faults { IfErr result IsEntryFault }
         ensures err { OnErr result (self.new ≡ self.old) }
@@ -255,7 +327,10 @@ impl LoanAccount {
     fn add(&mut self, alloc: Global, entry: Entry) -> Result<(), Fault>
         requires sound { IsSound (record self.old.loan { entries = self.old.loan.entries ++ entry ∷ [] }) }
         requires stands { entry.reversed ≡ false }
-        ensures ok { OnOk result (self.new.loan ≡ record self.old.loan { entries = self.old.loan.entries ++ entry ∷ [] }) }
+        ensures ok { OnOk result (self.new.loan ≡ record self.old.loan {
+          entries = self.old.loan.entries ++ entry
+              ∷ [];
+        }) }
         ensures replayed { IsReplayed self.old → OnOk result (IsReplayed self.new) }
         ensures only { IsOkUnless result Fault.F20 }
         ensures change { IsReplayed self.old → OnOk result (IsChange self.old.loan self.new.loan self.new.change) }
@@ -278,7 +353,8 @@ impl LoanAccount {
     /// Where an entry belongs among the standing ones.
     fn place_of(&self, entry: &Entry) -> usize
         ensures within { result ≤ length (standing_entries self.now.loan.entries) }
-        ensures place { order_with entry.now (standing_entries self.now.loan.entries) ≡ insert (standing_entries self.now.loan.entries) result entry.now }
+        ensures place { order_with entry.now (standing_entries self.now.loan.entries)
+            ≡ insert (standing_entries self.now.loan.entries) result entry.now }
     {
         position(&self.entries, &self.order, entry)
     }
@@ -294,11 +370,16 @@ impl LoanAccount {
         requires sound { IsSound (record self.now.loan { entries = self.now.loan.entries ++ entry.now ∷ [] }) }
         requires stands { entry.now.reversed ≡ false }
         requires within { place ≤ length (standing_entries self.now.loan.entries) }
-        requires place { order_with entry.now (standing_entries self.now.loan.entries) ≡ insert (standing_entries self.now.loan.entries) place entry.now }
+        requires place { order_with entry.now (standing_entries self.now.loan.entries)
+            ≡ insert (standing_entries self.now.loan.entries) place entry.now }
         ensures redone { IsReplayed self.now
-            → IfOk result (λ r. IsRedone self.now.loan (record self.now.loan { entries = self.now.loan.entries ++ entry.now ∷ [] }) r.0 r.1 r.2.items) }
+            → IfOk result (λ r. IsRedone self.now.loan (record self.now.loan {
+              entries = self.now.loan.entries
+                  ++ entry.now ∷ [];
+            }) r.0 r.1 r.2.items) }
         ensures kept { IfOk result (λ r. r.1 ≤ length self.now.settled) }
-        ensures safe { IfOk result (λ r. IsSafe self.now.loan.periods (length self.now.loan.entries + 1) r.0 (take r.1 self.now.settled ++ r.2.items)) }
+        ensures safe { IfOk result (λ r. IsSafe self.now.loan.periods (length self.now.loan.entries + 1) r.0
+            (take r.1 self.now.settled ++ r.2.items)) }
         ensures only { IsOkUnless result Fault.F20 }
     {
         let (mut book, kept) = self.rewound(alloc, place)?;
@@ -351,7 +432,8 @@ impl LoanAccount {
         ensures within { IfOk result (λ both. both.1 ≤ length self.now.settled) }
         ensures bounded { IfOk result (λ both. IsBounded self.now.loan.periods (2 * most_kept) both.0) }
         ensures back { IsReplayed self.now
-            → IfOk result (λ both. (both.0 ≡ state_before self.now.loan place) × (take both.1 (settled_of_loan self.now.loan) ≡ settled_upto self.now.loan place)) }
+            → IfOk result (λ both. (both.0 ≡ state_before self.now.loan place)
+            × (take both.1 (settled_of_loan self.now.loan) ≡ settled_upto self.now.loan place)) }
         ensures only { IsOkUnless result Fault.F20 }
     {
         let mut book = self.book.copied(alloc)?;
@@ -411,9 +493,13 @@ impl LoanAccount {
     /// reversed; F11 where another entry seals the loan; and F20 when out of memory. The account is then as before. An
     /// account that is a replay's is refused with F20 for want of memory alone, as in `enter`.
     pub fn reverse(&mut self, alloc: Global, seq: u32) -> Result<(), Fault>
-        ensures ok { OnOk result (self.new.loan ≡ record self.old.loan { entries = with_mark self.old.loan.entries (seq - 1) true }) }
+        ensures ok { OnOk result (self.new.loan ≡ record self.old.loan {
+          entries = with_mark self.old.loan.entries
+              (seq - 1) true;
+        }) }
         ensures replayed { IsReplayed self.old → OnOk result (IsReplayed self.new) }
-        ensures refused { (fault : FaultNumber) → reversal_refused self.old.loan.entries seq ≡ Some fault → result ≡ Err fault }
+        ensures refused { (fault : FaultNumber) → reversal_refused self.old.loan.entries seq ≡ Some fault
+            → result ≡ Err fault }
         ensures accepted { reversal_refused self.old.loan.entries seq ≡ None → IsOkUnless result Fault.F20 }
         ensures change { IsReplayed self.old → OnOk result (IsChange self.old.loan self.new.loan self.new.change) }
         ensures err { OnErr result (self.new ≡ self.old) }
@@ -429,7 +515,10 @@ impl LoanAccount {
     fn take_out(&mut self, alloc: Global, at: usize) -> Result<(), Fault>
         requires there { at < length self.old.loan.entries }
         requires stands { (entry_at self.old.loan.entries at).reversed ≡ false }
-        ensures ok { OnOk result (self.new.loan ≡ record self.old.loan { entries = with_mark self.old.loan.entries at true }) }
+        ensures ok { OnOk result (self.new.loan ≡ record self.old.loan {
+          entries = with_mark self.old.loan.entries at
+              true;
+        }) }
         ensures replayed { IsReplayed self.old → OnOk result (IsReplayed self.new) }
         ensures only { IsOkUnless result Fault.F20 }
         ensures change { IsReplayed self.old → OnOk result (IsChange self.old.loan self.new.loan self.new.change) }
@@ -466,9 +555,13 @@ impl LoanAccount {
         requires within { place < length (standing_entries self.now.loan.entries) }
         ensures redone { IsReplayed self.now → (at : ℕ) → at < length self.now.loan.entries
             → entry_at (standing_entries self.now.loan.entries) place ≡ entry_at self.now.loan.entries at
-            → IfOk result (λ r. IsRedone self.now.loan (record self.now.loan { entries = with_mark self.now.loan.entries at true }) r.0 r.1 r.2.items) }
+            → IfOk result (λ r. IsRedone self.now.loan (record self.now.loan {
+              entries = with_mark self.now.loan.entries
+                  at true;
+            }) r.0 r.1 r.2.items) }
         ensures kept { IfOk result (λ r. r.1 ≤ length self.now.settled) }
-        ensures safe { IfOk result (λ r. IsSafe self.now.loan.periods (length self.now.loan.entries) r.0 (take r.1 self.now.settled ++ r.2.items)) }
+        ensures safe { IfOk result (λ r. IsSafe self.now.loan.periods (length self.now.loan.entries) r.0
+            (take r.1 self.now.settled ++ r.2.items)) }
         ensures only { IsOkUnless result Fault.F20 }
     {
         let (mut book, kept) = self.rewound(alloc, place)?;
@@ -488,8 +581,8 @@ impl LoanAccount {
         self.entries.len() as u32 + 1
     }
 
-    /// Why a fee that is due on a day is refused before it is worked out, if it is: F11 where the loan is sealed, F9 for a
-    /// status that takes no fee, F10 where the day is before disbursement. It takes no memory.
+    /// Why a fee that is due on a day is refused before it is worked out, if it is: F11 where the loan is sealed, F9
+    /// for a status that takes no fee, F10 where the day is before disbursement. It takes no memory.
     pub fn fee_refusal(&self, due: Day) -> Option<Fault>
         ensures value { IsReplayed self.now → result ≡ fee_refused self.now.loan due }
         ensures faults { IfSome result IsEntryFault }
@@ -505,15 +598,16 @@ impl LoanAccount {
         }
     }
 
-    /// The number of the instalment that a fee due on a day is laid on: the first that is due then or later, else the last.
+    /// The number of the instalment that a fee due on a day is laid on: the first that is due then or later, else the
+    /// last.
     pub fn fee_instalment(&self, due: Day) -> u32
         ensures { result ≡ fee_instalment_of self.now.loan due }
     {
         instalment_due(&self.schedule, due)
     }
 
-    /// What a charge comes to as a fee, in cents: on the principal and on the interest of the fresh schedule; 0 where it is
-    /// no due-date charge. None where its value is outside the limits of charges, as none is that was entered.
+    /// What a charge comes to as a fee, in cents: on the principal and on the interest of the fresh schedule; 0 where
+    /// it is no due-date charge. None where its value is outside the limits of charges, as none is that was entered.
     pub fn fee_amount(&self, charge: &ChargeDef) -> Option<u64>
         ensures value { IfSome result (λ amount. amount ≡ fee_amount_of self.now.loan charge.now) }
         ensures some { IsChargeWithinLimits charge.now → result ≢ None }
@@ -524,8 +618,8 @@ impl LoanAccount {
         Some(fee(charge, self.principal, &self.schedule))
     }
 
-    /// What the product's overdue charge comes to on an instalment as it was scheduled, in cents; 0 where there is no such
-    /// charge or no such instalment.
+    /// What the product's overdue charge comes to on an instalment as it was scheduled, in cents; 0 where there is no
+    /// such charge or no such instalment.
     pub fn penalty_amount(&self, instalment: u32) -> u64
         requires { 1 ≤ instalment }
         ensures { result ≡ penalty_amount_of self.now.loan instalment }
@@ -535,8 +629,10 @@ impl LoanAccount {
 
     /// Whether neither the day of disbursement nor that of any entry is after a day.
     pub fn is_by(&self, day: Day) -> bool
-        ensures not_after { IsTrue result → (self.now.loan.day ≤ day) × ((i : ℕ) → i < length self.now.loan.entries → (entry_at self.now.loan.entries i).day ≤ day) }
-        ensures exact { self.now.loan.day ≤ day → ((i : ℕ) → i < length self.now.loan.entries → (entry_at self.now.loan.entries i).day ≤ day) → IsTrue result }
+        ensures not_after { IsTrue result → (self.now.loan.day ≤ day) × ((i : ℕ) → i < length self.now.loan.entries
+            → (entry_at self.now.loan.entries i).day ≤ day) }
+        ensures exact { self.now.loan.day ≤ day → ((i : ℕ) → i < length self.now.loan.entries
+            → (entry_at self.now.loan.entries i).day ≤ day) → IsTrue result }
     {
         self.day <= day && are_days_by(&self.entries, day)
     }
@@ -557,16 +653,20 @@ impl LoanAccount {
         is_sealed(&self.entries, &self.order)
     }
 
-    /// The loan's sums over all instalments. In each portion what is paid, waived, written off and outstanding is what is owed.
-    /// Where the account is a replay's, the standing repayments add up to all that is paid, overpaid and refunded; the principal
-    /// disbursed is paid, written off or outstanding; and where something is overpaid nothing is outstanding.
+    /// The loan's sums over all instalments. In each portion what is paid, waived, written off and outstanding is what
+    /// is owed. Where the account is a replay's, the standing repayments add up to all that is paid, overpaid and
+    /// refunded; the principal disbursed is paid, written off or outstanding; and where something is overpaid nothing
+    /// is outstanding.
     pub fn balances(&self) -> Balances
         ensures value { result ≡ balances_by (fee_of_loan self.now.loan) self.now.state }
-        ensures repaid { IsReplayed self.now → sum result.paid + result.overpaid + result.refunded ≡ sum_repaid self.now.loan.entries }
-        ensures principal { IsReplayed self.now → slice_index result.paid 3 + slice_index result.written_off 3 + slice_index result.outstanding 3 ≡ self.now.loan.principal }
+        ensures repaid { IsReplayed self.now → sum result.paid + result.overpaid + result.refunded
+            ≡ sum_repaid self.now.loan.entries }
+        ensures principal { IsReplayed self.now → slice_index result.paid 3 + slice_index result.written_off 3
+            + slice_index result.outstanding 3 ≡ self.now.loan.principal }
         ensures apart { IsReplayed self.now → 0 < result.overpaid → sum result.outstanding ≡ 0 }
         ensures whole { (p : ℕ) → p < 4
-            → slice_index result.paid p + slice_index result.waived p + slice_index result.written_off p + slice_index result.outstanding p ≡ slice_index result.owed p }
+            → slice_index result.paid p + slice_index result.waived p + slice_index result.written_off p
+            + slice_index result.outstanding p ≡ slice_index result.owed p }
     {
         self.sums()
     }
@@ -604,8 +704,8 @@ impl LoanAccount {
         self.book.rows.as_slice()
     }
 
-    /// What the last entry or reversal that succeeded changed: exactly the instalments whose rows, and the entries whose
-    /// settled parts, differ from before it. Nothing after a replay.
+    /// What the last entry or reversal that succeeded changed: exactly the instalments whose rows, and the entries
+    /// whose settled parts, differ from before it. Nothing after a replay.
     pub fn change(&self) -> &Change
         ensures { result.now ≡ self.now.change }
     {
@@ -655,8 +755,8 @@ impl LoanAccount {
         entries
     }
 
-    /// What the standing entries settle, entry by entry in their order. In all it is below 2^64 cents, and each part has
-    /// the number of one of the entries.
+    /// What the standing entries settle, entry by entry in their order. In all it is below 2^64 cents, and each part
+    /// has the number of one of the entries.
     pub fn settled_parts(&self) -> &[Settled]
         ensures parts { result.now ≡ self.now.settled }
         ensures small { settled_amount result.now < 2 ^ 64 }

@@ -1,3 +1,5 @@
+//! What one entry does to a loan's instalments and to the money beside them.
+
 ghost use Rattle.std.specs.Prelude.{◌≡◌, ℕ, ◌≤◌, IfOk, OnOk, IsOkUnless, length, vec_len};
 ghost use Rattle.mf_alloc.specs.Order.{order_at};
 ghost use Rattle.mf_account.specs.Effect.{after, parts_of, with_charge, parts_cleared};
@@ -21,9 +23,12 @@ fn charge_and_clear_in<T: Strategy>(
 ) -> Result<Vec<Settled>, Fault>
     requires few { length rows.old.items ≤ 360 }
     requires row { HasRow entry.now.kind entry.now rows.old.items }
-    ensures rows { OnOk result (rows.new.items ≡ with_cleared (order_at (T.cell_at strategy.now) rows.old.items entry.now.day) entry.now (with_charge entry.now.kind entry.now rows.old.items)) }
+    ensures rows { OnOk result (rows.new.items ≡ with_cleared (order_at (T.cell_at strategy.now) rows.old.items
+        entry.now.day) entry.now (with_charge entry.now.kind entry.now rows.old.items)) }
     ensures size { length rows.new.items ≡ length rows.old.items }
-    ensures parts { IfOk result (λ parts. parts.items ≡ parts_numbered entry.now.seq 1 (parts_cleared (order_at (T.cell_at strategy.now) rows.old.items entry.now.day) entry.now (with_charge entry.now.kind entry.now rows.old.items))) }
+    ensures parts { IfOk result (λ parts. parts.items ≡ parts_numbered entry.now.seq 1
+        (parts_cleared (order_at (T.cell_at strategy.now) rows.old.items entry.now.day) entry.now
+        (with_charge entry.now.kind entry.now rows.old.items))) }
     ensures few { IfOk result (λ parts. vec_len parts ≤ 1440) }
     ensures only { IsOkUnless result Fault.F20 }
 {
@@ -39,9 +44,11 @@ pub(crate) fn apply_entry<T: Strategy>(
 ) -> Result<Vec<Settled>, Fault>
     requires few { length book.old.rows ≤ 360 }
     requires fits { IsApplicable entry.now (book.old) }
-    ensures state { OnOk result (book.new ≡ after (order_at (T.cell_at strategy.now) book.old.rows entry.now.day) entry.now (book.old)) }
+    ensures state { OnOk result (book.new ≡ after (order_at (T.cell_at strategy.now) book.old.rows entry.now.day)
+        entry.now (book.old)) }
     ensures only { IsOkUnless result Fault.F20 }
-    ensures parts { IfOk result (λ parts. parts.items ≡ parts_numbered entry.now.seq 1 (parts_of (order_at (T.cell_at strategy.now) book.old.rows entry.now.day) entry.now (book.old))) }
+    ensures parts { IfOk result (λ parts. parts.items ≡ parts_numbered entry.now.seq 1
+        (parts_of (order_at (T.cell_at strategy.now) book.old.rows entry.now.day) entry.now (book.old))) }
 {
     let mut parts = charge_and_clear_in(alloc, strategy, &mut book.rows, entry)?;
     let given = money_out(entry.kind, book.overpaid);

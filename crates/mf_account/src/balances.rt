@@ -1,3 +1,5 @@
+//! A loan's sums by portion, over all its instalments.
+
 ghost use Rattle.std.specs.Prelude.{◌≡◌, ℕ, ◌<◌, ◌^◌, ◌∷◌, []};
 ghost use Rattle.mf_alloc.specs.Rows.{place_in_row};
 ghost use Rattle.mf_account.specs.Account.{sum_at};
@@ -91,7 +93,11 @@ pub(crate) fn book_sums(
     disbursement_fee: u64,
 ) -> Balances
     requires { HasRoom rows.now }
-    ensures { result ≡ balances_by disbursement_fee (record { rows = rows.now; overpaid = overpaid; refunded = refunded }) }
+    ensures { result ≡ balances_by disbursement_fee (record {
+      rows = rows.now;
+      overpaid = overpaid;
+      refunded = refunded;
+    }) }
 {
     Balances {
         disbursement_fee,

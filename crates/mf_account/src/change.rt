@@ -1,4 +1,7 @@
-ghost use Rattle.std.specs.Prelude.{◌≡◌, ◌≢◌, ℕ, ◌<◌, ◌≤◌, ◌↔◌, ◌⊎◌, true, IfOk, IsOkUnless, length, drop, slice_index_or};
+//! Which instalments and which entries one change of an account made other than they were.
+
+ghost use Rattle.std.specs.Prelude.{◌≡◌, ◌≢◌, ℕ, ◌<◌, ◌≤◌, ◌↔◌, ◌⊎◌, true, IfOk, IsOkUnless, length, drop};
+ghost use Rattle.std.specs.Prelude.{slice_index_or};
 ghost use Rattle.std.specs.List.Sorted.{IsNonDecreasingBy};
 ghost use Rattle.mf_account.specs.declared.settled.Settled.{Settled as SettledRecord};
 ghost use Rattle.mf_account.specs.Change.{AreThose, AreAll, HasOtherRow, HasOtherParts, settled_in, no_change};
@@ -142,7 +145,8 @@ fn least_seq(before: &[Settled], i: usize, after: &[Settled], k: usize) -> u32
     requires some { length before.now ≤ i → k < length after.now }
     ensures before { (j : ℕ) → i ≤ j → j < length before.now → result ≤ (slice_index_or before.now j no_settled).seq }
     ensures after { (j : ℕ) → k ≤ j → j < length after.now → result ≤ (slice_index_or after.now j no_settled).seq }
-    ensures one { ((i < length before.now) × ((slice_index_or before.now i no_settled).seq ≡ result)) ⊎ ((k < length after.now) × ((slice_index_or after.now k no_settled).seq ≡ result)) }
+    ensures one { ((i < length before.now) × ((slice_index_or before.now i no_settled).seq ≡ result))
+        ⊎ ((k < length after.now) × ((slice_index_or after.now k no_settled).seq ≡ result)) }
 {
     if i < before.len() {
         if k < after.len() && after[k].seq < before[i].seq {
@@ -215,7 +219,8 @@ pub(crate) fn change_between(
 ) -> Result<Change, Fault>
     requires few { length before.now.rows ≤ 360 }
     requires size { length after.now.rows ≡ length before.now.rows }
-    ensures rows { IfOk result (λ change. AreThose (length before.now.rows) (HasOtherRow before.now.rows after.now.rows) change.rows) }
+    ensures rows { IfOk result (λ change. AreThose (length before.now.rows) (HasOtherRow before.now.rows after.now.rows)
+        change.rows) }
     ensures seqs { IfOk result (λ change. AreAll (HasOtherParts settled_before.now settled_after.now) change.seqs) }
     ensures only { IsOkUnless result Fault.F20 }
 {

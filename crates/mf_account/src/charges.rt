@@ -28,8 +28,8 @@ pub(crate) fn instalment_due(schedule: &[Instalment], day: Day) -> u32
     }
 }
 
-/// What a charge comes to as a fee: on the principal and on the interest of the whole schedule. 0 where the charge is of
-/// another kind than those that fall due on a day of their own.
+/// What a charge comes to as a fee: on the principal and on the interest of the whole schedule. 0 where the charge is
+/// of another kind than those that fall due on a day of their own.
 pub(crate) fn fee(charge: &ChargeDef, principal: u64, schedule: &[Instalment]) -> u64
     requires value { IsChargeWithinLimits charge.now }
     requires principal { principal ≤ greatest_amount }

@@ -1,9 +1,13 @@
-ghost use Rattle.std.specs.Prelude.{◌≡◌, ℕ, ◌+◌, ◌-◌, ◌*◌, ◌<◌, ◌≤◌, ◌^◌, ◌++◌, IfOk, OnOk, IsOkUnless, length, vec_len, map, filter, [], ◌∷◌};
+//! The steps that an entry's effect is made of: charging, settling, clearing, money in and out.
+
+ghost use Rattle.std.specs.Prelude.{◌≡◌, ℕ, ◌+◌, ◌-◌, ◌*◌, ◌<◌, ◌≤◌, ◌^◌, ◌++◌, IfOk, OnOk, IsOkUnless, length};
+ghost use Rattle.std.specs.Prelude.{vec_len, map, filter, [], ◌∷◌};
 ghost use Rattle.std.specs.List.{range_with_len};
 ghost use Rattle.mf_alloc.specs.Order.{order_at};
 ghost use Rattle.mf_alloc.specs.Rows.{IsCell, outstanding as open_in};
 ghost use Rattle.mf_account.specs.Kinds.{money_in as money_of, money_out as money_back};
-ghost use Rattle.mf_account.specs.Effect.{with_charge, settle as settled_rows, with_settled, parts_by, parts_cleared, whole_part, is_some_part};
+ghost use Rattle.mf_account.specs.Effect.{with_charge, settle as settled_rows, with_settled, parts_by, parts_cleared};
+ghost use Rattle.mf_account.specs.Effect.{whole_part, is_some_part};
 ghost use Rattle.mf_account.specs.AtOnce.{with_cleared, paid_part};
 ghost use Rattle.mf_account.specs.Account.{parts_numbered, part_of};
 ghost use Rattle.mf_account.specs.Applicable.{HasRow, HasCell, IsSettleable};
@@ -88,7 +92,8 @@ fn push_whole(
 ) -> Result<(), Fault>
     requires there { IsCell (length rows.now) cell }
     requires few { vec_len parts.old ≤ 1440 }
-    ensures parts { OnOk result (parts.new.items ≡ parts.old.items ++ parts_numbered seq (1 + length parts.old.items) (filter is_some_part (whole_part how rows.now cell ∷ []))) }
+    ensures parts { OnOk result (parts.new.items ≡ parts.old.items ++ parts_numbered seq (1 + length parts.old.items)
+        (filter is_some_part (whole_part how rows.now cell ∷ []))) }
     ensures few { vec_len parts.new ≤ vec_len parts.old + 1 }
     ensures only { IsOkUnless result Fault.F20 }
 {
@@ -117,7 +122,8 @@ fn write_off<T: Strategy>(
     ensures few { IfOk result (λ parts. vec_len parts ≤ 4 * length rows.now) }
     ensures only { IsOkUnless result Fault.F20 }
     ensures settleable { IfOk result (λ parts. IsSettleable rows.now (map part_of parts.items)) }
-    ensures parts { IfOk result (λ parts. parts.items ≡ parts_numbered entry.now.seq 1 (parts_by Kind.WriteOff (order_at (T.cell_at strategy.now) rows.now entry.now.day) entry.now rows.now)) }
+    ensures parts { IfOk result (λ parts. parts.items ≡ parts_numbered entry.now.seq 1
+        (parts_by Kind.WriteOff (order_at (T.cell_at strategy.now) rows.now entry.now.day) entry.now rows.now)) }
 {
     let n = rows.len() as u32;
     let due = due_by(rows, entry.day);
@@ -138,7 +144,8 @@ pub(crate) fn clear<T: Strategy>(
 ) -> Result<Vec<Settled>, Fault>
     requires few { length rows.now ≤ 360 }
     requires row { HasCell entry.now.kind entry.now (length rows.now) }
-    ensures parts { IfOk result (λ parts. parts.items ≡ parts_numbered entry.now.seq 1 (parts_cleared (order_at (T.cell_at strategy.now) rows.now entry.now.day) entry.now rows.now)) }
+    ensures parts { IfOk result (λ parts. parts.items ≡ parts_numbered entry.now.seq 1
+        (parts_cleared (order_at (T.cell_at strategy.now) rows.now entry.now.day) entry.now rows.now)) }
     ensures settleable { IfOk result (λ parts. IsSettleable rows.now (map part_of parts.items)) }
     ensures few { IfOk result (λ parts. vec_len parts ≤ 1440) }
     ensures only { IsOkUnless result Fault.F20 }
@@ -161,7 +168,8 @@ pub(crate) fn clear<T: Strategy>(
 /// Adds the parts of a payment.
 pub(crate) fn add_paid(parts: &mut Vec<Settled>, seq: u32, shares: &[Share]) -> Result<(), Fault>
     requires few { vec_len parts.old + length shares.now < 2 ^ 31 }
-    ensures parts { OnOk result (parts.new.items ≡ parts.old.items ++ parts_numbered seq (1 + length parts.old.items) (map paid_part shares.now)) }
+    ensures parts { OnOk result (parts.new.items ≡ parts.old.items ++ parts_numbered seq (1 + length parts.old.items)
+        (map paid_part shares.now)) }
     ensures only { IsOkUnless result Fault.F20 }
 {
     for share in shares {
@@ -186,8 +194,11 @@ pub(crate) fn charge_and_clear<T: Strategy>(
 ) -> Result<Vec<Settled>, Fault>
     requires few { length rows.old ≤ 360 }
     requires row { HasRow entry.now.kind entry.now rows.old }
-    ensures rows { OnOk result (rows.new ≡ with_cleared (order_at (T.cell_at strategy.now) rows.old entry.now.day) entry.now (with_charge entry.now.kind entry.now rows.old)) }
-    ensures parts { IfOk result (λ parts. parts.items ≡ parts_numbered entry.now.seq 1 (parts_cleared (order_at (T.cell_at strategy.now) rows.old entry.now.day) entry.now (with_charge entry.now.kind entry.now rows.old))) }
+    ensures rows { OnOk result (rows.new ≡ with_cleared (order_at (T.cell_at strategy.now) rows.old entry.now.day)
+        entry.now (with_charge entry.now.kind entry.now rows.old)) }
+    ensures parts { IfOk result (λ parts. parts.items ≡ parts_numbered entry.now.seq 1
+        (parts_cleared (order_at (T.cell_at strategy.now) rows.old entry.now.day) entry.now (with_charge entry.now.kind
+        entry.now rows.old))) }
     ensures few { IfOk result (λ parts. vec_len parts ≤ 1440) }
     ensures only { IsOkUnless result Fault.F20 }
 {

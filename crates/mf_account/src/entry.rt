@@ -1,3 +1,5 @@
+//! The entries of a loan, by kind.
+
 ghost use Rattle.std.specs.Prelude.{◌≡◌};
 
 use crate::receipt::Receipt;

@@ -32,8 +32,8 @@ pub fn clearing_goes_by_cells()
     ensures waiver { WaivesOneCell }
 {}
 
-/// A loan has status 300 exactly where something is outstanding in one of its instalments: a write-off that stands is its
-/// last standing entry, and leaves nothing outstanding.
+/// A loan has status 300 exactly where something is outstanding in one of its instalments: a write-off that stands is
+/// its last standing entry, and leaves nothing outstanding.
 pub fn active_loans_owe()
     ensures { (loan : Loan) → IsSound loan → (status_of_loan loan == 300) ≡ list_any is_open (state_of_loan loan).rows }
 {}

@@ -1,3 +1,5 @@
+//! Which texts a receipt may be.
+
 ghost use Rattle.std.specs.Prelude.{◌≡◌};
 ghost use Rattle.std.specs.List.{list_all};
 ghost use Rattle.mf_account.specs.Receipts.{is_printable as is_printable_byte, is_receipt as is_receipt_text};

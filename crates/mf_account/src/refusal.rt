@@ -1,3 +1,5 @@
+//! Why an entry or a reversal is refused, and the status that an account has.
+
 ghost use Rattle.std.specs.Prelude.{◌≡◌, ℕ, ◌-◌, ◌<◌, ◌≤◌, ◌&&◌, not, false, IsTrue, IfNone, length, is_some, All};
 ghost use Rattle.mf_account.specs.Standing.{entry_at, entries_at, last_kind_of, standing_entries};
 ghost use Rattle.mf_alloc.specs.Rows.{row_at};
@@ -8,7 +10,11 @@ ghost use Rattle.std.specs.List.{list_any};
 ghost use Rattle.mf_alloc.specs.Sums.{is_open};
 ghost use Rattle.mf_account.specs.declared.entry.Entry.{Entry as EntryRecord};
 ghost use Rattle.mf_account.specs.Account.{status_of};
-ghost use Rattle.mf_account.specs.Refusals.{is_sealed as is_sealed_by, admits as admits_kind, is_out_of_order as is_out_of_order_day, is_there as is_there_among, has_penalty as has_penalty_on, is_forbidden as is_forbidden_there, forbids_penalty as forbids_penalty_at, is_out_of_limits as is_out_of_limits_amount, reversal_refused};
+ghost use Rattle.mf_account.specs.Refusals.{is_sealed as is_sealed_by, admits as admits_kind};
+ghost use Rattle.mf_account.specs.Refusals.{is_out_of_order as is_out_of_order_day, is_there as is_there_among};
+ghost use Rattle.mf_account.specs.Refusals.{has_penalty as has_penalty_on, is_forbidden as is_forbidden_there};
+ghost use Rattle.mf_account.specs.Refusals.{forbids_penalty as forbids_penalty_at};
+ghost use Rattle.mf_account.specs.Refusals.{is_out_of_limits as is_out_of_limits_amount, reversal_refused};
 
 use crate::entry::{Entry, Kind};
 use crate::status::{ACTIVE, CLOSED, OVERPAID, WRITTEN_OFF};
@@ -108,10 +114,11 @@ pub(crate) fn is_there(n: usize, number: u32) -> bool
     1 <= number && number as usize <= n
 }
 
-/// Whether a penalty stands on the instalment of a row. The row then owes penalties, and only then: what it owes of them
-/// is what the standing ones come to, each of a cent or more.
+/// Whether a penalty stands on the instalment of a row. The row then owes penalties, and only then: what it owes of
+/// them is what the standing ones come to, each of a cent or more.
 fn has_penalty(row: &Row) -> bool
-    ensures { (loan : Loan) (instalment : ℕ) → IsSound loan → 1 ≤ instalment → row.now ≡ row_at (state_of_loan loan).rows instalment
+    ensures { (loan : Loan) (instalment : ℕ) → IsSound loan → 1 ≤ instalment
+        → row.now ≡ row_at (state_of_loan loan).rows instalment
         → result ≡ has_penalty_on loan.entries instalment }
 {
     row.owed[Portion::Penalty.index()] > 0
@@ -119,7 +126,8 @@ fn has_penalty(row: &Row) -> bool
 
 /// Whether an instalment that is there does not allow a penalty.
 fn forbids_penalty(charged: bool, row: &Row, business_day: Day) -> bool
-    ensures { (loan : Loan) (instalment : ℕ) → IsSound loan → 1 ≤ instalment → row.now ≡ row_at (state_of_loan loan).rows instalment
+    ensures { (loan : Loan) (instalment : ℕ) → IsSound loan → 1 ≤ instalment
+        → row.now ≡ row_at (state_of_loan loan).rows instalment
         → result ≡ forbids_penalty_at charged row.now loan.entries instalment business_day }
 {
     !charged || (business_day <= row.due || (!row.is_open() || has_penalty(row)))
@@ -165,8 +173,8 @@ pub(crate) fn is_out_of_limits(entry: &Entry) -> bool
     }
 }
 
-/// Why a reversal is refused: no such entry, reversed already, or another entry seals the loan. `sealed` says whether one
-/// does.
+/// Why a reversal is refused: no such entry, reversed already, or another entry seals the loan. `sealed` says whether
+/// one does.
 pub(crate) fn reversal(entries: &[Entry], sealed: bool, seq: u32) -> Option<Fault>
     requires { sealed ≡ is_sealed_by entries.now }
     ensures value { result ≡ reversal_refused entries.now seq }

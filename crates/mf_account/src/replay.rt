@@ -1,7 +1,12 @@
-ghost use Rattle.std.specs.Prelude.{◌≡◌, ◌≢◌, ℕ, ◌+◌, ◌-◌, ◌<◌, ◌≤◌, ◌∷◌, [], ◌++◌, None, IfOk, IfSome, OnOk, IsOkUnless, length, map, All, insert, slice_index, true};
+//! The order of the standing entries, and the account as their replay on the fresh schedule.
+
+ghost use Rattle.std.specs.Prelude.{◌≡◌, ◌≢◌, ℕ, ◌+◌, ◌-◌, ◌<◌, ◌≤◌, ◌∷◌, [], ◌++◌, None, IfOk, IfSome, OnOk};
+ghost use Rattle.std.specs.Prelude.{IsOkUnless, length, map, All, insert, slice_index, true};
 ghost use Rattle.std.specs.List.{Contains};
-ghost use Rattle.mf_account.specs.Account.{row_of as first_row, first_state, state_of, settled_of, after_all, settled_by, orders_by};
-ghost use Rattle.mf_account.specs.Standing.{is_before as comes_before, order_with, standing_entries, entry_at, entries_at, with_mark, IsInOrder, places_from, AreApart};
+ghost use Rattle.mf_account.specs.Account.{row_of as first_row, first_state, state_of, settled_of, after_all};
+ghost use Rattle.mf_account.specs.Account.{settled_by, orders_by};
+ghost use Rattle.mf_account.specs.Standing.{is_before as comes_before, order_with, standing_entries, entry_at};
+ghost use Rattle.mf_account.specs.Standing.{entries_at, with_mark, IsInOrder, places_from, AreApart};
 ghost use Rattle.mf_account.specs.Applicable.{AreApplicable};
 ghost use Rattle.mf_account.specs.declared.replay.Place.{Place as PlaceRecord};
 ghost use Rattle.mf_account.specs.declared.replay.Standing.{Standing as StandingRecord};
@@ -32,7 +37,8 @@ pub(crate) fn position(entries: &[Entry], order: &[usize], entry: &Entry) -> usi
     requires within { All (λ i. i < length entries.now) order.now }
     requires ordered { IsInOrder (entries_at entries.now order.now) }
     ensures within { result ≤ length order.now }
-    ensures place { order_with entry.now (entries_at entries.now order.now) ≡ insert (entries_at entries.now order.now) result entry.now }
+    ensures place { order_with entry.now (entries_at entries.now order.now) ≡ insert (entries_at entries.now order.now)
+        result entry.now }
 {
     let mut k = order.len();
     while k > 0 {
@@ -94,7 +100,8 @@ fn all_at(alloc: Global, places: &[Place]) -> Result<Vec<usize>, Fault>
     Ok(order)
 }
 
-/// The places of the standing entries, in their order. It sorts them by day, so that no entry is held against all others.
+/// The places of the standing entries, in their order. It sorts them by day, so that no entry is held against all
+/// others.
 pub(crate) fn standing_order(alloc: Global, entries: &[Entry]) -> Result<Vec<usize>, Fault>
     requires numbers { (i : ℕ) → i < length entries.now → (entry_at entries.now i).seq ≡ i + 1 }
     ensures within { IfOk result (λ order. All (λ i. i < length entries.now) order.items) }
@@ -118,7 +125,8 @@ struct Standing {
 fn places_in(alloc: Global, order: &[usize], entries: usize) -> Result<Vec<usize>, Fault>
     requires within { All (λ at. at < entries) order.now }
     ensures size { IfOk result (λ places. length places.items ≡ entries) }
-    ensures places { AreApart order.now → IfOk result (λ places. (k : ℕ) → k < length order.now → slice_index places.items (slice_index order.now k) ≡ k) }
+    ensures places { AreApart order.now → IfOk result (λ places. (k : ℕ) → k < length order.now
+        → slice_index places.items (slice_index order.now k) ≡ k) }
     ensures only { IsOkUnless result Fault.F20 }
 {
     let mut places = Vec::new(alloc);
@@ -136,7 +144,8 @@ fn parts_placed(
     settled: &[Settled],
 ) -> Result<Vec<Standing>, Fault>
     requires numbers { AreNumberedTo (length places.now) settled.now }
-    ensures placed { IfOk result (λ placed. placed.items ≡ map (λ (s : SettledRecord). record { place = slice_index places.now (s.seq - 1); part = s }) settled.now) }
+    ensures placed { IfOk result (λ placed. placed.items
+        ≡ map (λ (s : SettledRecord). record { place = slice_index places.now (s.seq - 1); part = s }) settled.now) }
     ensures only { IsOkUnless result Fault.F20 }
 {
     let mut placed = Vec::new(alloc);
@@ -167,7 +176,8 @@ fn sorted_parts(
 ) -> Result<Vec<Settled>, Fault>
     requires within { All (λ at. at < entries) order.now }
     requires numbers { AreNumberedTo entries settled.now }
-    ensures loan { (loan : Loan) → IsSound loan → length loan.entries ≡ entries → entries_at loan.entries order.now ≡ standing_entries loan.entries
+    ensures loan { (loan : Loan) → IsSound loan → length loan.entries ≡ entries → entries_at loan.entries order.now
+        ≡ standing_entries loan.entries
         → ((seq : ℕ) → settled_in seq settled.now ≡ settled_in seq (settled_of_loan loan))
         → IfOk result (λ sorted. sorted.items ≡ settled_of_loan loan) }
     ensures only { IsOkUnless result Fault.F20 }
@@ -178,8 +188,8 @@ fn sorted_parts(
     parts_of(alloc, &placed)
 }
 
-/// Parts that are kept, in the order of their entries. None where one is of none of so many instalments or entries, or where
-/// they come to more than is kept.
+/// Parts that are kept, in the order of their entries. None where one is of none of so many instalments or entries, or
+/// where they come to more than is kept.
 pub(crate) fn in_order(
     alloc: Global,
     order: &[usize],
@@ -189,11 +199,13 @@ pub(crate) fn in_order(
 ) -> Result<Option<Vec<Settled>>, Fault>
     requires within { All (λ at. at < entries) order.now }
     ensures placed { IfOk result (λ found. IfSome found (λ parts. ArePlaced instalments entries parts.items)) }
-    ensures loan { (loan : Loan) → IsSound loan → length loan.entries ≡ entries → entries_at loan.entries order.now ≡ standing_entries loan.entries
+    ensures loan { (loan : Loan) → IsSound loan → length loan.entries ≡ entries → entries_at loan.entries order.now
+        ≡ standing_entries loan.entries
         → ((seq : ℕ) → settled_in seq settled.now ≡ settled_in seq (settled_of_loan loan))
         → IfOk result (λ found. IfSome found (λ parts. parts.items ≡ settled_of_loan loan)) }
     ensures some { (loan : Loan) → IsSound loan → length loan.entries ≡ entries → loan.periods ≡ instalments
-        → entries_at loan.entries order.now ≡ standing_entries loan.entries → ((seq : ℕ) → settled_in seq settled.now ≡ settled_in seq (settled_of_loan loan))
+        → entries_at loan.entries order.now ≡ standing_entries loan.entries → ((seq : ℕ) → settled_in seq settled.now
+        ≡ settled_in seq (settled_of_loan loan))
         → IfOk result (λ found. found ≢ None) }
     ensures only { IsOkUnless result Fault.F20 }
 {
@@ -257,9 +269,12 @@ pub(crate) fn apply_all<T: Strategy>(
 ) -> Result<Vec<Settled>, Fault>
     requires few { length book.old.rows ≤ 360 }
     requires within { All (λ i. i < length entries.now) order.now }
-    requires fits { AreApplicable (orders_by (T.cell_at strategy.now) book.old.rows) (entries_at entries.now order.now) book.old }
-    ensures state { OnOk result (book.new ≡ after_all (orders_by (T.cell_at strategy.now) book.old.rows) (entries_at entries.now order.now) book.old) }
-    ensures parts { IfOk result (λ parts. parts.items ≡ settled_by (orders_by (T.cell_at strategy.now) book.old.rows) (entries_at entries.now order.now) book.old) }
+    requires fits { AreApplicable (orders_by (T.cell_at strategy.now) book.old.rows) (entries_at entries.now order.now)
+        book.old }
+    ensures state { OnOk result (book.new ≡ after_all (orders_by (T.cell_at strategy.now) book.old.rows)
+        (entries_at entries.now order.now) book.old) }
+    ensures parts { IfOk result (λ parts. parts.items ≡ settled_by (orders_by (T.cell_at strategy.now) book.old.rows)
+        (entries_at entries.now order.now) book.old) }
     ensures only { IsOkUnless result Fault.F20 }
 {
     let mut settled = Vec::new(alloc);
@@ -281,9 +296,12 @@ pub(crate) fn apply_with<T: Strategy>(
 ) -> Result<Vec<Settled>, Fault>
     requires few { length book.old.rows ≤ 360 }
     requires within { All (λ i. i < length entries.now) later.now }
-    requires fits { AreApplicable (orders_by (T.cell_at strategy.now) book.old.rows) (entry.now ∷ entries_at entries.now later.now) book.old }
-    ensures state { OnOk result (book.new ≡ after_all (orders_by (T.cell_at strategy.now) book.old.rows) (entry.now ∷ entries_at entries.now later.now) book.old) }
-    ensures parts { IfOk result (λ parts. parts.items ≡ settled_by (orders_by (T.cell_at strategy.now) book.old.rows) (entry.now ∷ entries_at entries.now later.now) book.old) }
+    requires fits { AreApplicable (orders_by (T.cell_at strategy.now) book.old.rows)
+        (entry.now ∷ entries_at entries.now later.now) book.old }
+    ensures state { OnOk result (book.new ≡ after_all (orders_by (T.cell_at strategy.now) book.old.rows)
+        (entry.now ∷ entries_at entries.now later.now) book.old) }
+    ensures parts { IfOk result (λ parts. parts.items ≡ settled_by (orders_by (T.cell_at strategy.now) book.old.rows)
+        (entry.now ∷ entries_at entries.now later.now) book.old) }
     ensures only { IsOkUnless result Fault.F20 }
 {
     let mut parts = apply_entry(alloc, strategy, book, entry)?;
@@ -292,8 +310,8 @@ pub(crate) fn apply_with<T: Strategy>(
     Ok(parts)
 }
 
-/// The state and the settled parts of a fresh schedule and entries: the effects of the standing entries, whose places are
-/// given in their order.
+/// The state and the settled parts of a fresh schedule and entries: the effects of the standing entries, whose places
+/// are given in their order.
 pub(crate) fn replayed<T: Strategy>(
     alloc: Global,
     strategy: &T,
@@ -304,9 +322,12 @@ pub(crate) fn replayed<T: Strategy>(
     requires few { length schedule.now ≤ 360 }
     requires within { All (λ i. i < length entries.now) order.now }
     requires order { entries_at entries.now order.now ≡ standing_entries entries.now }
-    requires fits { AreApplicable (orders_by (T.cell_at strategy.now) (first_state schedule.now).rows) (standing_entries entries.now) (first_state schedule.now) }
-    ensures state { IfOk result (λ both. both.0 ≡ state_of (orders_by (T.cell_at strategy.now) (first_state schedule.now).rows) schedule.now entries.now) }
-    ensures settled { IfOk result (λ both. both.1.items ≡ settled_of (orders_by (T.cell_at strategy.now) (first_state schedule.now).rows) schedule.now entries.now) }
+    requires fits { AreApplicable (orders_by (T.cell_at strategy.now) (first_state schedule.now).rows)
+        (standing_entries entries.now) (first_state schedule.now) }
+    ensures state { IfOk result (λ both. both.0 ≡ state_of (orders_by (T.cell_at strategy.now)
+        (first_state schedule.now).rows) schedule.now entries.now) }
+    ensures settled { IfOk result (λ both. both.1.items ≡ settled_of (orders_by (T.cell_at strategy.now)
+        (first_state schedule.now).rows) schedule.now entries.now) }
     ensures only { IsOkUnless result Fault.F20 }
 {
     let mut book = first_book(alloc, schedule)?;

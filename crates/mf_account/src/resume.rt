@@ -1,3 +1,5 @@
+//! An account's state from the instalments that are kept of it, without a replay.
+
 ghost use Rattle.std.specs.Prelude.{◌≡◌, ◌≢◌, ℕ, ◌+◌, ◌-◌, ◌<◌, ◌^◌, ◌↔◌, None, true, IfSome, length, sum_by, All};
 ghost use Rattle.mf_alloc.specs.Sums.{Sums, AreWhole, AreWithin};
 ghost use Rattle.mf_account.specs.declared.entry.Entry.{Entry as EntryRecord};
@@ -33,8 +35,10 @@ fn money_brought(entries: &[Entry], order: &[usize]) -> u64
 /// What is paid in all.
 fn money_paid(rows: &[Row]) -> u64
     requires each { HasRoom rows.now }
-    requires room { sum_at (λ (row : Sums). row.paid) 0 rows.now + sum_at (λ (row : Sums). row.paid) 1 rows.now + sum_at (λ (row : Sums). row.paid) 2 rows.now + sum_at (λ (row : Sums). row.paid) 3 rows.now < 2 ^ 64 }
-    ensures { result ≡ sum_at (λ (row : Sums). row.paid) 0 rows.now + sum_at (λ (row : Sums). row.paid) 1 rows.now + sum_at (λ (row : Sums). row.paid) 2 rows.now + sum_at (λ (row : Sums). row.paid) 3 rows.now }
+    requires room { sum_at (λ (row : Sums). row.paid) 0 rows.now + sum_at (λ (row : Sums). row.paid) 1 rows.now
+        + sum_at (λ (row : Sums). row.paid) 2 rows.now + sum_at (λ (row : Sums). row.paid) 3 rows.now < 2 ^ 64 }
+    ensures { result ≡ sum_at (λ (row : Sums). row.paid) 0 rows.now + sum_at (λ (row : Sums). row.paid) 1 rows.now
+        + sum_at (λ (row : Sums). row.paid) 2 rows.now + sum_at (λ (row : Sums). row.paid) 3 rows.now }
 {
     let paid = sum_by_portion(rows, Column::Paid);
     paid[0] + paid[1] + paid[2] + paid[3]
@@ -43,7 +47,8 @@ fn money_paid(rows: &[Row]) -> u64
 /// Whether the last of entries in order is a refund.
 fn ends_in_refund(entries: &[Entry], order: &[usize]) -> bool
     requires within { All (λ i. i < length entries.now) order.now }
-    ensures { (result ≡ true) ↔ (0 < length order.now) × ((entry_at (entries_at entries.now order.now) (length order.now - 1)).kind ≡ Refund) }
+    ensures { (result ≡ true) ↔ (0 < length order.now)
+        × ((entry_at (entries_at entries.now order.now) (length order.now - 1)).kind ≡ Refund) }
 {
     if order.len() == 0 {
         return false;
@@ -52,8 +57,8 @@ fn ends_in_refund(entries: &[Entry], order: &[usize]) -> bool
     matches!(last.kind, Kind::Refund)
 }
 
-/// The book of a loan whose rows and order are known: what its repayments bring beyond what is paid is overpaid, or refunded
-/// where a refund stands, which is then the last. None where the rows come to more than is kept.
+/// The book of a loan whose rows and order are known: what its repayments bring beyond what is paid is overpaid, or
+/// refunded where a refund stands, which is then the last. None where the rows come to more than is kept.
 pub(crate) fn resumed_book(entries: &[Entry], order: &[usize], rows: Vec<Row>) -> Option<Book>
     requires within { All (λ i. i < length entries.now) order.now }
     requires order { entries_at entries.now order.now ≡ standing_entries entries.now }
@@ -61,7 +66,8 @@ pub(crate) fn resumed_book(entries: &[Entry], order: &[usize], rows: Vec<Row>) -
     requires whole { AreWhole rows.items }
     requires apart { AreWithin rows.items }
     ensures bounded { IfSome result (IsBounded (length rows.items) most_kept) }
-    ensures book { (loan : Loan) → IsSound loan → entries.now ≡ loan.entries → rows.items ≡ (state_of_loan loan).rows → IfSome result (λ book. book ≡ state_of_loan loan) }
+    ensures book { (loan : Loan) → IsSound loan → entries.now ≡ loan.entries → rows.items ≡ (state_of_loan loan).rows
+        → IfSome result (λ book. book ≡ state_of_loan loan) }
     ensures some { (loan : Loan) → IsSound loan → rows.items ≡ (state_of_loan loan).rows → result ≢ None }
 {
     let mut book = Book {

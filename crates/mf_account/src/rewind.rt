@@ -1,9 +1,13 @@
-ghost use Rattle.std.specs.Prelude.{◌≡◌, ◌≢◌, ℕ, ◌+◌, ◌-◌, ◌<◌, ◌≤◌, ◌^◌, ◌↔◌, None, IsTrue, IfSome, length, map, slice_index_or, All};
+//! Entries undone from the last one back to a place in their order.
+
+ghost use Rattle.std.specs.Prelude.{◌≡◌, ◌≢◌, ℕ, ◌+◌, ◌-◌, ◌<◌, ◌≤◌, ◌^◌, ◌↔◌, None, IsTrue, IfSome, length, map};
+ghost use Rattle.std.specs.Prelude.{slice_index_or, All};
 ghost use Rattle.mf_alloc.specs.declared.row.Cell.{Cell as CellRecord};
 ghost use Rattle.mf_alloc.specs.Sums.{IsRowWithin, AreWithin};
 ghost use Rattle.mf_alloc.specs.Rows.{IsCell, place_in_row};
 ghost use Rattle.mf_account.specs.declared.entry.Entry.{Entry as EntryRecord};
-ghost use Rattle.mf_account.specs.Undo.{unowe_row, without_charge, unsettle as unsettled_rows, without_settled, before_entry, paid_by as paid_how, paid_in};
+ghost use Rattle.mf_account.specs.Undo.{unowe_row, without_charge, unsettle as unsettled_rows, without_settled};
+ghost use Rattle.mf_account.specs.Undo.{before_entry, paid_by as paid_how, paid_in};
 ghost use Rattle.mf_account.specs.Account.{part_of, Orders};
 ghost use Rattle.mf_account.specs.Effect.{State};
 ghost use Rattle.mf_account.specs.Rewind.{IsRewindable, IsBack};
@@ -17,8 +21,8 @@ use crate::entry::{Entry, Kind};
 use crate::settled::{Book, How, Settled};
 use mf_alloc::{Portion, Row};
 
-/// Takes a charge back from what a portion of a row owes. False where more is settled of it than would be owed: the row is then
-/// as it was.
+/// Takes a charge back from what a portion of a row owes. False where more is settled of it than would be owed: the row
+/// is then as it was.
 fn lower_owed(row: &mut Row, portion: Portion, amount: u64) -> bool
     ensures whether { IsTrue result ↔ IsRowWithin (unowe_row (place_in_row portion) amount row.old) }
     ensures lowered { IsTrue result → row.new ≡ unowe_row (place_in_row portion) amount row.old }
@@ -100,9 +104,12 @@ fn paid_all(parts: &[Settled]) -> u64
 fn take_back_rows(rows: &mut [Row], entry: &Entry, own: &[Settled]) -> bool
     requires charge { HasCharge entry.now.kind entry.now (length rows.old) }
     requires cells { AreInRows (length rows.old) own.now }
-    ensures whether { AreWithin (without_charge entry.now.kind entry.now (without_settled rows.old (map part_of own.now))) → IsTrue result }
-    ensures back { IsTrue result → rows.new ≡ without_charge entry.now.kind entry.now (without_settled rows.old (map part_of own.now)) }
-    ensures apart { IsTrue result → AreWithin rows.old → AreWithin (without_charge entry.now.kind entry.now (without_settled rows.old (map part_of own.now))) }
+    ensures whether { AreWithin (without_charge entry.now.kind entry.now
+        (without_settled rows.old (map part_of own.now))) → IsTrue result }
+    ensures back { IsTrue result → rows.new ≡ without_charge entry.now.kind entry.now
+        (without_settled rows.old (map part_of own.now)) }
+    ensures apart { IsTrue result → AreWithin rows.old
+        → AreWithin (without_charge entry.now.kind entry.now (without_settled rows.old (map part_of own.now))) }
 {
     unsettle_all(rows, own);
     uncharge(rows, entry)
@@ -113,9 +120,11 @@ fn take_back(book: &mut Book, entry: &Entry, own: &[Settled]) -> bool
     requires charge { HasCharge entry.now.kind entry.now (length book.old.rows) }
     requires cells { AreInRows (length book.old.rows) own.now }
     requires money { book.old.overpaid + paid_in (map part_of own.now) + book.old.refunded < 2 ^ 64 }
-    ensures whether { AreWithin (without_charge entry.now.kind entry.now (without_settled book.old.rows (map part_of own.now))) → IsTrue result }
+    ensures whether { AreWithin (without_charge entry.now.kind entry.now (without_settled book.old.rows
+        (map part_of own.now))) → IsTrue result }
     ensures back { IsTrue result → book.new ≡ before_entry entry.now (map part_of own.now) book.old }
-    ensures apart { IsTrue result → AreWithin book.old.rows → AreWithin (without_charge entry.now.kind entry.now (without_settled book.old.rows (map part_of own.now))) }
+    ensures apart { IsTrue result → AreWithin book.old.rows
+        → AreWithin (without_charge entry.now.kind entry.now (without_settled book.old.rows (map part_of own.now))) }
 {
     let paid = paid_all(own);
     if !take_back_rows(&mut book.rows, entry, own) {
@@ -143,8 +152,10 @@ fn own_start(settled: &[Settled], end: usize, seq: u32) -> usize
 
 /// Takes entries back from a book, the last first, by what they settled. See `Book::rewind`.
 pub(crate) fn rewind_book(book: &mut Book, tail: &[Entry], settled: &[Settled])
-    requires { (orders : Orders) × (places : EntryRecord → CellRecord → ℕ) × (from : State) × IsRewindable orders places from tail.now settled.now book.old }
-    ensures { (orders : Orders) (places : EntryRecord → CellRecord → ℕ) (from : State) → IsRewindable orders places from tail.now settled.now book.old → book.new ≡ from }
+    requires { (orders : Orders) × (places : EntryRecord → CellRecord → ℕ) × (from : State)
+        × IsRewindable orders places from tail.now settled.now book.old }
+    ensures { (orders : Orders) (places : EntryRecord → CellRecord → ℕ) (from : State)
+        → IsRewindable orders places from tail.now settled.now book.old → book.new ≡ from }
 {
     let mut k = settled.len();
     let mut i = tail.len();
@@ -165,9 +176,9 @@ fn entry_in<'a>(entries: &'a [Entry], order: &[usize], i: usize) -> &'a Entry
     &entries[order[i]]
 }
 
-/// Takes back the entries from a place of an order on, the last first, and answers where their parts begin. None where more
-/// is settled of an instalment than would be owed: the book is then given up. Neither the entries before that place nor their
-/// parts are looked at.
+/// Takes back the entries from a place of an order on, the last first, and answers where their parts begin. None where
+/// more is settled of an instalment than would be owed: the book is then given up. Neither the entries before that
+/// place nor their parts are looked at.
 pub(crate) fn rewind_to(
     book: &mut Book,
     entries: &[Entry],
@@ -177,14 +188,17 @@ pub(crate) fn rewind_to(
 ) -> Option<usize>
     requires within { All (λ at. at < length entries.now) order.now }
     requires there { place ≤ length order.now }
-    requires charges { All (λ (e : EntryRecord). HasCharge e.kind e (length book.old.rows)) (entries_at entries.now order.now) }
+    requires charges { All (λ (e : EntryRecord). HasCharge e.kind e (length book.old.rows))
+        (entries_at entries.now order.now) }
     requires cells { AreInRows (length book.old.rows) settled.now }
     requires money { book.old.overpaid + book.old.refunded + settled_amount settled.now < 2 ^ 64 }
     ensures within { IfSome result (λ kept. kept ≤ length settled.now) }
-    ensures bounded { (n most : ℕ) → IsBounded n most book.old → IfSome result (λ kept. IsBounded n (most + settled_amount settled.now) book.new) }
+    ensures bounded { (n most : ℕ) → IsBounded n most book.old
+        → IfSome result (λ kept. IsBounded n (most + settled_amount settled.now) book.new) }
     ensures back { (orders : Orders) (places : EntryRecord → CellRecord → ℕ) (from : State)
         → IsRewindable orders places from (entries_at entries.now order.now) settled.now book.old
-        → IfSome result (λ kept. IsBack orders from (entries_at entries.now order.now) settled.now place kept book.new) }
+        → IfSome result (λ kept. IsBack orders from (entries_at entries.now order.now) settled.now place kept
+        book.new) }
     ensures some { (orders : Orders) (places : EntryRecord → CellRecord → ℕ) (from : State)
         → IsRewindable orders places from (entries_at entries.now order.now) settled.now book.old → result ≢ None }
 {
@@ -206,8 +220,10 @@ impl Book {
     /// Takes entries back, the last first, by what they settled, and with nothing known of the state before them: it
     /// leaves that state, which may be any that a book can hold with nothing refunded. It takes no memory.
     pub fn rewind(&mut self, tail: &[Entry], settled: &[Settled])
-        requires { (orders : Orders) × (places : EntryRecord → CellRecord → ℕ) × (from : State) × IsRewindable orders places from tail.now settled.now self.old }
-        ensures { (orders : Orders) (places : EntryRecord → CellRecord → ℕ) (from : State) → IsRewindable orders places from tail.now settled.now self.old → self.new ≡ from }
+        requires { (orders : Orders) × (places : EntryRecord → CellRecord → ℕ) × (from : State)
+            × IsRewindable orders places from tail.now settled.now self.old }
+        ensures { (orders : Orders) (places : EntryRecord → CellRecord → ℕ) (from : State)
+            → IsRewindable orders places from tail.now settled.now self.old → self.new ≡ from }
     {
         rewind_book(self, tail, settled);
     }

@@ -10,8 +10,8 @@ ghost use Rattle.mf_account.specs.Told.{settled_amount, IsNumberedTo, AreNumbere
 use crate::settled::{Book, Settled};
 use mf_alloc::Row;
 
-/// The most cents that are kept of what all instalments owe of a portion, of what is overpaid and refunded, and of all parts.
-/// A sound loan comes to far less.
+/// The most cents that are kept of what all instalments owe of a portion, of what is overpaid and refunded, and of all
+/// parts. A sound loan comes to far less.
 const MOST_KEPT: u64 = 1_000_000_000_000_000_000;
 
 /// Whether what the instalments owe of a portion, by its place, comes to no more than is kept.
@@ -104,8 +104,8 @@ fn is_placed(part: &Settled, instalments: usize, entries: usize) -> bool
         && is_numbered_to(part, entries)
 }
 
-/// Whether each part is of a cell of so many instalments, and of one of so many entries, and all come to no more than is
-/// kept.
+/// Whether each part is of a cell of so many instalments, and of one of so many entries, and all come to no more than
+/// is kept.
 pub(crate) fn are_placed(parts: &[Settled], instalments: usize, entries: usize) -> bool
     ensures { IsTrue result ↔ ArePlaced instalments entries parts.now }
 {

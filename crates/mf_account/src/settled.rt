@@ -1,3 +1,5 @@
+//! What an entry settles of which cell, and the book that entries change.
+
 ghost use Rattle.std.specs.Prelude.{◌≡◌, ◌+◌, ◌<◌, ◌≤◌, ◌++◌, length, take, insert, vec_len, vec_capacity};
 
 use mf_alloc::{Cell, Row, Share};

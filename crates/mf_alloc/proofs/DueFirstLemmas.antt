@@ -55,10 +55,12 @@ first-less p q i j base small_i small_j less =
     ]
 
 -- the place of a cell that is due, and of one that is not
-due-place : (due : ℕ) (c : Cell) → IsDue due c → place_by DueFirst due c ≡ place_in_row c.portion * due + (c.instalment - 1)
+due-place : (due : ℕ) (c : Cell) → IsDue due c → place_by DueFirst due c ≡ place_in_row c.portion * due
+    + (c.instalment - 1)
 due-place due c is = place-here due c is ∙ ap (λ (x : ℕ). x * due + (c.instalment - 1)) (place-is c.portion)
 
-later-place : (due : ℕ) (c : Cell) → due < c.instalment → place_by DueFirst due c ≡ 4 * (c.instalment - 1) + place_in_row c.portion
+later-place : (due : ℕ) (c : Cell) → due < c.instalment → place_by DueFirst due c ≡ 4 * (c.instalment - 1)
+    + place_in_row c.portion
 later-place due c later = place-later due c later ∙ ap (λ (x : ℕ). 4 * (c.instalment - 1) + x) (place-is c.portion)
 
 -- a cell that is due stands among the first places
@@ -66,38 +68,46 @@ due-low : (due : ℕ) (c : Cell) → 1 ≤ c.instalment → IsDue due c → plac
 due-low due c first is =
     let at = due-place due c is in
     let step : suc (place_in_row c.portion) * due ≤ 4 * due = mul-le-mul_right due (place-small c.portion) in
-    let one : suc (place_in_row c.portion) * due ≡ place_in_row c.portion * due + due = suc-mul (place_in_row c.portion) due in
+    let one : suc (place_in_row c.portion) * due ≡ place_in_row c.portion * due + due =
+    suc-mul (place_in_row c.portion) due in
     omega (arith, at, step, one, first, is)
 
 later-high : (due : ℕ) (c : Cell) → due < c.instalment → 4 * due ≤ place_by DueFirst due c
 later-high due c later = let at = later-place due c later in omega (arith, at, later)
 
 -- both due
-due-forth : (due : ℕ) (a b : Cell) → 1 ≤ a.instalment → 1 ≤ b.instalment → IsDue due a → IsDue due b → place_by DueFirst due a < place_by DueFirst due b → IsBeforeOfDue a b
+due-forth : (due : ℕ) (a b : Cell) → 1 ≤ a.instalment → 1 ≤ b.instalment → IsDue due a → IsDue due b
+    → place_by DueFirst due a < place_by DueFirst due b → IsBeforeOfDue a b
 due-forth due a b first_a first_b due_a due_b less =
     let at_a = due-place due a due_a in
     let at_b = due-place due b due_b in
-    let lower : place_in_row a.portion * due + (a.instalment - 1) < place_in_row b.portion * due + (b.instalment - 1) = omega (arith, at_a, at_b, less) in
-    elim (first-less (place_in_row a.portion) (place_in_row b.portion) (a.instalment - 1) (b.instalment - 1) due (omega arith) (omega arith) lower) [
+    let lower : place_in_row a.portion * due + (a.instalment - 1) < place_in_row b.portion * due + (b.instalment - 1) =
+    omega (arith, at_a, at_b, less) in
+    elim (first-less (place_in_row a.portion) (place_in_row b.portion) (a.instalment - 1) (b.instalment - 1) due
+    (omega arith) (omega arith) lower) [
       | inl portion ↦ inl portion
       | inr both ↦ inr (place-own a.portion b.portion both.0, omega (arith, both.1))
     ]
 
-due-back : (due : ℕ) (a b : Cell) → 1 ≤ a.instalment → 1 ≤ b.instalment → IsDue due a → IsDue due b → IsBeforeOfDue a b → place_by DueFirst due a < place_by DueFirst due b
+due-back : (due : ℕ) (a b : Cell) → 1 ≤ a.instalment → 1 ≤ b.instalment → IsDue due a → IsDue due b → IsBeforeOfDue a b
+    → place_by DueFirst due a < place_by DueFirst due b
 due-back due a b first_a first_b due_a due_b before =
     let at_a = due-place due a due_a in
     let at_b = due-place due b due_b in
     elim before [
       | inl portion ↦
-          let lower = less-first (place_in_row a.portion) (place_in_row b.portion) (a.instalment - 1) (b.instalment - 1) due (omega arith) portion in
+          let lower = less-first (place_in_row a.portion) (place_in_row b.portion) (a.instalment - 1) (b.instalment - 1)
+          due (omega arith) portion in
           omega (arith, at_a, at_b, lower)
       | inr both ↦
-          let same : place_in_row a.portion * due ≡ place_in_row b.portion * due = ap (λ (p : Portion). place_in_row p * due) both.0 in
+          let same : place_in_row a.portion * due ≡ place_in_row b.portion * due =
+          ap (λ (p : Portion). place_in_row p * due) both.0 in
           omega (arith, at_a, at_b, same, both.1, first_a)
     ]
 
 -- neither due
-later-forth : (due : ℕ) (a b : Cell) → due < a.instalment → due < b.instalment → place_by DueFirst due a < place_by DueFirst due b → IsBeforeOfLater a b
+later-forth : (due : ℕ) (a b : Cell) → due < a.instalment → due < b.instalment → place_by DueFirst due a
+    < place_by DueFirst due b → IsBeforeOfLater a b
 later-forth due a b later_a later_b less =
     let at_a = later-place due a later_a in
     let at_b = later-place due b later_b in
@@ -110,7 +120,8 @@ later-forth due a b later_a later_b less =
           inr (same, omega (arith, at_a, at_b, same, less))
     ]
 
-later-back : (due : ℕ) (a b : Cell) → due < a.instalment → due < b.instalment → IsBeforeOfLater a b → place_by DueFirst due a < place_by DueFirst due b
+later-back : (due : ℕ) (a b : Cell) → due < a.instalment → due < b.instalment → IsBeforeOfLater a b
+    → place_by DueFirst due a < place_by DueFirst due b
 later-back due a b later_a later_b before =
     let at_a = later-place due a later_a in
     let at_b = later-place due b later_b in
@@ -120,7 +131,8 @@ later-back due a b later_a later_b before =
       | inr both ↦ omega (arith, at_a, at_b, both.0, both.1)
     ]
 
-forth : (due : ℕ) (a b : Cell) → 1 ≤ a.instalment → 1 ≤ b.instalment → place_by DueFirst due a < place_by DueFirst due b → IsBefore due a b
+forth : (due : ℕ) (a b : Cell) → 1 ≤ a.instalment → 1 ≤ b.instalment → place_by DueFirst due a < place_by DueFirst due b
+    → IsBefore due a b
 forth due a b first_a first_b less =
     elim (cases_lt due a.instalment) [
       | inl later_a ↦
@@ -136,7 +148,8 @@ forth due a b first_a first_b less =
           ]
       | inr due_a ↦
           elim (cases_lt due b.instalment) [
-            | inl later_b ↦ let not_b : ¬ IsDue due b = λ (is : IsDue due b). absurd (omega arith) in inr (inl (due_a, not_b))
+            | inl later_b ↦ let not_b : ¬ IsDue due b =
+                λ (is : IsDue due b). absurd (omega arith) in inr (inl (due_a, not_b))
             | inr due_b ↦ inl (due_a, due_b, due-forth due a b first_a first_b due_a due_b less)
           ]
     ]
@@ -148,7 +161,8 @@ later-not due c not_due =
       | inr is ↦ absurd (not_due is)
     ]
 
-back : (due : ℕ) (a b : Cell) → 1 ≤ a.instalment → 1 ≤ b.instalment → IsBefore due a b → place_by DueFirst due a < place_by DueFirst due b
+back : (due : ℕ) (a b : Cell) → 1 ≤ a.instalment → 1 ≤ b.instalment → IsBefore due a b → place_by DueFirst due a
+    < place_by DueFirst due b
 back due a b first_a first_b before =
     elim before [
       | inl both ↦ due-back due a b first_a first_b both.0 both.1 both.2

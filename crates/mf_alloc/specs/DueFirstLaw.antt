@@ -30,4 +30,5 @@ IsBefore due a b =
 -- the order of the strategy is this one
 abbrev pub DueComesFirst : Type 0
 DueComesFirst =
-    (n due : ℕ) (a b : Cell) → IsCell n a → IsCell n b → (place_by DueFirst due a < place_by DueFirst due b) ↔ IsBefore due a b
+    (n due : ℕ) (a b : Cell) → IsCell n a → IsCell n b → (place_by DueFirst due a < place_by DueFirst due b)
+    ↔ IsBefore due a b

@@ -1,18 +1,21 @@
--- The orders of the named strategies at a day. Three go instalment after instalment, each with its portions in one order;
--- the fourth takes what is due first.
-use Rattle.std.specs.Prelude.{ℕ, Bool, ◌+◌, ◌-◌, ◌*◌, ◌/◌, ◌%◌, ◌==◌, nat_le, nat_lt, if◌then◌else◌, List, length, map, count_by}
+-- The orders of the named strategies at a day. Three go instalment after instalment, each with its portions in one
+-- order; the fourth takes what is due first.
+use Rattle.std.specs.Prelude.{ℕ, Bool, ◌+◌, ◌-◌, ◌*◌, ◌/◌, ◌%◌, ◌==◌, nat_le, nat_lt, if◌then◌else◌, List, length, map}
+use Rattle.std.specs.Prelude.{count_by}
 use Rattle.mf_alloc.specs.declared.row.Portion.{Portion}
 use Rattle.mf_alloc.specs.declared.row.Portion.TheVariants.{Penalty, Fee, Interest, Principal}
 use Rattle.mf_alloc.specs.declared.row.Cell.{Cell}
 use Rattle.mf_alloc.specs.Rows.{place_in_row}
 use Rattle.mf_alloc.specs.Sums.{Sums}
 use Rattle.mf_catalog.specs.declared.terms.StrategyName.{StrategyName}
-use Rattle.mf_catalog.specs.declared.terms.StrategyName.TheVariants.{MifosStandard, PrincipalFirst, InterestFirst, DueFirst}
+use Rattle.mf_catalog.specs.declared.terms.StrategyName.TheVariants.{MifosStandard, PrincipalFirst, InterestFirst}
+use Rattle.mf_catalog.specs.declared.terms.StrategyName.TheVariants.{DueFirst}
 
 -- the first, second, third or last of four portions
 abbrev pub pick : Portion → Portion → Portion → Portion → ℕ → Portion
 pick a b c d k = if k == 0 then a else (if k == 1 then b else (if k == 2 then c else d))
 
+-- penalty, fee, interest, principal
 abbrev pub standard : ℕ → Portion
 standard = pick Penalty Fee Interest Principal
 
@@ -23,13 +26,15 @@ portion_by PrincipalFirst = pick Principal Interest Penalty Fee
 portion_by InterestFirst = pick Interest Principal Penalty Fee
 portion_by DueFirst = standard
 
+-- two portions are one
 abbrev pub is_same : Portion → Portion → Bool
 is_same a b = place_in_row a == place_in_row b
 
 -- the place of a portion in an order: the first at which it stands
 abbrev pub place_among : (ℕ → Portion) → Portion → ℕ
 place_among portions p =
-    if is_same p (portions 0) then 0 else (if is_same p (portions 1) then 1 else (if is_same p (portions 2) then 2 else 3))
+    if is_same p (portions 0) then 0 else (if is_same p (portions 1) then 1 else (if is_same p (portions 2) then 2
+    else 3))
 
 -- instalment after instalment: the cell at place k
 abbrev pub by_instalment : (ℕ → Portion) → ℕ → Cell
@@ -39,12 +44,14 @@ by_instalment portions k = record { instalment = k / 4 + 1; portion = portions (
 abbrev pub place_by_instalment : (Portion → ℕ) → Cell → ℕ
 place_by_instalment place cell = 4 * (cell.instalment - 1) + place cell.portion
 
--- due first: over the instalments from 1 to `due`, their penalties, then their fees, their interest and their principal;
--- then each later instalment with its four portions
+-- due first: over the instalments from 1 to `due`, their penalties, then their fees, their interest and their
+-- principal; then each later instalment with its four portions
 abbrev pub due_first : ℕ → ℕ → Cell
 due_first due k =
-    if nat_lt k (4 * due) then record { instalment = k % due + 1; portion = standard (k / due) } else by_instalment standard k
+    if nat_lt k (4 * due) then record { instalment = k % due + 1; portion = standard (k / due) }
+    else by_instalment standard k
 
+-- the place of a cell where what is due comes first
 abbrev pub due_first_place : ℕ → Cell → ℕ
 due_first_place due cell =
     if nat_le cell.instalment due then place_among standard cell.portion * due + (cell.instalment - 1)
@@ -57,12 +64,14 @@ cell_by PrincipalFirst due = by_instalment (portion_by PrincipalFirst)
 cell_by InterestFirst due = by_instalment (portion_by InterestFirst)
 cell_by DueFirst due = due_first due
 
+-- the place of a cell in a strategy's order
 abbrev pub place_by : StrategyName → ℕ → Cell → ℕ
 place_by MifosStandard due = place_by_instalment (place_among (portion_by MifosStandard))
 place_by PrincipalFirst due = place_by_instalment (place_among (portion_by PrincipalFirst))
 place_by InterestFirst due = place_by_instalment (place_among (portion_by InterestFirst))
 place_by DueFirst due = due_first_place due
 
+-- the due days of rows
 abbrev pub dues_of : List Sums → List ℕ
 dues_of rows = map (λ (row : Sums). row.due) rows
 

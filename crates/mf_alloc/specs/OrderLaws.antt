@@ -1,5 +1,6 @@
 -- An order by instalment is lawful where its four portions have places of their own.
-use Rattle.std.proofs.Common.{◌≡◌, ℕ, ◌+◌, ◌-◌, ◌*◌, ◌/◌, ◌%◌, ◌<◌, ◌≤◌, leb, ltb, arith, ap, ◌∙◌, sym, refl, subst, inl, inr}
+use Rattle.std.proofs.Common.{◌≡◌, ℕ, ◌+◌, ◌-◌, ◌*◌, ◌/◌, ◌%◌, ◌<◌, ◌≤◌, leb, ltb, arith, ap, ◌∙◌, sym, refl, subst}
+use Rattle.std.proofs.Common.{inl, inr}
 use Rattle.std.proofs.Math.Nat.{div-lt_iff_lt-mul}
 use Rattle.std.proofs.lemmas.Bool.{cases_eq, cases_lt, cond-true, cond-false, lt-ltb, le-ltb, le-leb, lt-leb}
 use Rattle.std.proofs.lemmas.Nat.{div-add-mod', div-mul-add, mod-mul-add}
@@ -8,8 +9,10 @@ use Rattle.mf_alloc.specs.declared.row.Portion.{Portion}
 use Rattle.mf_alloc.specs.declared.row.Portion.TheVariants.{Penalty, Fee, Interest, Principal}
 use Rattle.mf_alloc.specs.Rows.{IsCell}
 use Rattle.mf_catalog.specs.declared.terms.StrategyName.{StrategyName}
-use Rattle.mf_catalog.specs.declared.terms.StrategyName.TheVariants.{MifosStandard, PrincipalFirst, InterestFirst, DueFirst}
-use Rattle.mf_alloc.specs.Order.{cell_by, place_by, due_first, due_first_place, by_instalment, place_by_instalment, standard, portion_by, place_among}
+use Rattle.mf_catalog.specs.declared.terms.StrategyName.TheVariants.{MifosStandard, PrincipalFirst, InterestFirst}
+use Rattle.mf_catalog.specs.declared.terms.StrategyName.TheVariants.{DueFirst}
+use Rattle.mf_alloc.specs.Order.{cell_by, place_by, due_first, due_first_place, by_instalment, place_by_instalment}
+use Rattle.mf_alloc.specs.Order.{standard, portion_by, place_among}
 
 -- the portions and their places
 pub record ArePlaces (portions : ℕ → Portion) (place : Portion → ℕ) : Type 0 where
@@ -20,17 +23,20 @@ pub record ArePlaces (portions : ℕ → Portion) (place : Portion → ℕ) : Ty
 pub is_cell-by_instalment : (portions : ℕ → Portion) (n k : ℕ) → k < 4 * n → IsCell n (by_instalment portions k)
 is_cell-by_instalment portions n k within = record { first = omega arith; last = omega arith }
 
-pub back-by_instalment : (portions : ℕ → Portion) (place : Portion → ℕ) (k : ℕ) → ArePlaces portions place → place_by_instalment place (by_instalment portions k) ≡ k
+pub back-by_instalment : (portions : ℕ → Portion) (place : Portion → ℕ) (k : ℕ) → ArePlaces portions place
+    → place_by_instalment place (by_instalment portions k) ≡ k
 back-by_instalment portions place k are =
     let same : place (portions (k % 4)) ≡ k % 4 = are.there (k % 4) (omega arith) in
     omega (arith, same)
 
-pub in_range-by_instalment : (portions : ℕ → Portion) (place : Portion → ℕ) (n : ℕ) (c : Cell) → ArePlaces portions place → IsCell n c → place_by_instalment place c < 4 * n
+pub in_range-by_instalment : (portions : ℕ → Portion) (place : Portion → ℕ) (n : ℕ) (c : Cell)
+    → ArePlaces portions place → IsCell n c → place_by_instalment place c < 4 * n
 in_range-by_instalment portions place n c are is =
     let small : place c.portion < 4 = are.small c.portion in
     omega (arith, small, is.first, is.last)
 
-pub forth-by_instalment : (portions : ℕ → Portion) (place : Portion → ℕ) (n : ℕ) (c : Cell) → ArePlaces portions place → IsCell n c → by_instalment portions (place_by_instalment place c) ≡ c
+pub forth-by_instalment : (portions : ℕ → Portion) (place : Portion → ℕ) (n : ℕ) (c : Cell) → ArePlaces portions place
+    → IsCell n c → by_instalment portions (place_by_instalment place c) ≡ c
 forth-by_instalment portions place n c are is =
     let small : place c.portion < 4 = are.small c.portion in
     let quotient : (4 * (c.instalment - 1) + place c.portion) / 4 + 1 ≡ c.instalment = omega (arith, small, is.first) in
@@ -84,21 +90,27 @@ standard_places : ArePlaces standard (place_among standard)
 standard_places = places_by DueFirst
 
 -- due first, at a place of what is due and at a later one
-due-here : (due k : ℕ) → k < 4 * due → due_first due k ≡ record { instalment = k % due + 1; portion = standard (k / due) }
+due-here : (due k : ℕ) → k < 4 * due → due_first due k ≡ record {
+  instalment = k % due + 1;
+  portion = standard (k / due);
+}
 due-here due k here = cond-true (ltb k (4 * due)) _ _ (lt-ltb k (4 * due) here)
 
 due-later : (due k : ℕ) → 4 * due ≤ k → due_first due k ≡ by_instalment standard k
 due-later due k later = cond-false (ltb k (4 * due)) _ _ (le-ltb k (4 * due) later)
 
-pub place-here : (due : ℕ) (c : Cell) → c.instalment ≤ due → due_first_place due c ≡ place_among standard c.portion * due + (c.instalment - 1)
+pub place-here : (due : ℕ) (c : Cell) → c.instalment ≤ due → due_first_place due c ≡ place_among standard c.portion *
+    due + (c.instalment - 1)
 place-here due c here = cond-true (leb c.instalment due) _ _ (le-leb c.instalment due here)
 
-pub place-later : (due : ℕ) (c : Cell) → due < c.instalment → due_first_place due c ≡ place_by_instalment (place_among standard) c
+pub place-later : (due : ℕ) (c : Cell) → due < c.instalment → due_first_place due c ≡ place_by_instalment
+    (place_among standard) c
 place-later due c later = cond-false (leb c.instalment due) _ _ (lt-leb c.instalment due later)
 
 -- the portion of a place among what is due
 due-portion : (due k : ℕ) → k < 4 * due → k / due < 4
-due-portion due k here = let some : 0 < due = omega (arith, here) in (div-lt_iff_lt-mul {k = due} {x = k} {y = 4} some).1 here
+due-portion due k here = let some : 0 < due =
+    omega (arith, here) in (div-lt_iff_lt-mul {k = due} {x = k} {y = 4} some).1 here
 
 pub is_cell-due_first : (n due k : ℕ) → due ≤ n → k < 4 * n → IsCell n (due_first due k)
 is_cell-due_first n due k few within =
@@ -114,7 +126,8 @@ back-due_first due k =
     elim (cases_lt k (4 * due)) [
       | inl here ↦
           let small : k % due < due = omega arith in
-          let portion : place_among standard (standard (k / due)) ≡ k / due = standard_places.there (k / due) (due-portion due k here) in
+          let portion : place_among standard (standard (k / due)) ≡ k / due =
+          standard_places.there (k / due) (due-portion due k here) in
           let parts = div-add-mod' k due in
           ap (due_first_place due) (due-here due k here)
           ∙ place-here due (record { instalment = k % due + 1; portion = standard (k / due) }) (omega (arith, small))
@@ -158,7 +171,8 @@ forth-due_first n due c is =
           ∙ forth-by_instalment standard (place_among standard) n c standard_places is
       | inr here ↦
           let less : i < due = omega (arith, is.first, here) in
-          let rest : (p * due + i) % due + 1 ≡ c.instalment = let low = mod-mul-add p due i less in omega (arith, low, is.first) in
+          let rest : (p * due + i) % due + 1 ≡ c.instalment = let low =
+          mod-mul-add p due i less in omega (arith, low, is.first) in
           let quotient : (p * due + i) / due ≡ p = div-mul-add p due i less in
           ap (due_first due) (place-here due c here)
           ∙ due-here due (p * due + i) (place-small c.portion due i less)
@@ -180,13 +194,15 @@ back-cell_by PrincipalFirst due k = back-by_instalment _ _ k (places_by Principa
 back-cell_by InterestFirst due k = back-by_instalment _ _ k (places_by InterestFirst)
 back-cell_by DueFirst due k = back-due_first due k
 
-pub in_range-place_by : (name : StrategyName) (n due : ℕ) (c : Cell) → due ≤ n → IsCell n c → place_by name due c < 4 * n
+pub in_range-place_by : (name : StrategyName) (n due : ℕ) (c : Cell) → due ≤ n → IsCell n c → place_by name due c
+    < 4 * n
 in_range-place_by MifosStandard n due c few is = in_range-by_instalment _ _ n c (places_by MifosStandard) is
 in_range-place_by PrincipalFirst n due c few is = in_range-by_instalment _ _ n c (places_by PrincipalFirst) is
 in_range-place_by InterestFirst n due c few is = in_range-by_instalment _ _ n c (places_by InterestFirst) is
 in_range-place_by DueFirst n due c few is = in_range-due_first n due c few is
 
-pub forth-place_by : (name : StrategyName) (n due : ℕ) (c : Cell) → IsCell n c → cell_by name due (place_by name due c) ≡ c
+pub forth-place_by : (name : StrategyName) (n due : ℕ) (c : Cell) → IsCell n c → cell_by name due (place_by name due c)
+    ≡ c
 forth-place_by MifosStandard n due c is = forth-by_instalment _ _ n c (places_by MifosStandard) is
 forth-place_by PrincipalFirst n due c is = forth-by_instalment _ _ n c (places_by PrincipalFirst) is
 forth-place_by InterestFirst n due c is = forth-by_instalment _ _ n c (places_by InterestFirst) is

@@ -17,6 +17,7 @@ share_at order rows amount k = record {
   amount = min (outstanding rows (order k)) (amount - start order rows k);
 }
 
+-- a share is of more than nothing
 abbrev pub is_some_share : Share → Bool
 is_some_share share = nat_lt 0 share.amount
 
@@ -29,8 +30,10 @@ shares_below order rows amount k =
 abbrev pub shares_of : (ℕ → Cell) → List Row → ℕ → List Share
 shares_of order rows amount = shares_below order rows amount (4 * length rows)
 
+-- what of an amount is left past all cells
 abbrev pub rest_of : (ℕ → Cell) → List Row → ℕ → ℕ
 rest_of order rows amount = amount - start order rows (4 * length rows)
 
+-- the sum of shares
 abbrev pub total_of : List Share → ℕ
 total_of shares = sum_by (λ (share : Share). share.amount) shares

@@ -17,11 +17,13 @@ but_paid row = record row { paid = nothing }
 -- in each cell, paid rises by what the cell's stretch of the line gets of the amount; nothing else changes
 pub record IsPaidInto (order : ℕ → Cell) (amount : ℕ) (rows after : List Sums) : Type 0 where
   pub paid : (k : ℕ) → k < 4 * length rows →
-      paid_in_cell after (order k) ≡ paid_in_cell rows (order k) + min (outstanding rows (order k)) (amount - start order rows k)
+      paid_in_cell after (order k) ≡ paid_in_cell rows (order k) + min (outstanding rows (order k))
+      (amount - start order rows k)
   pub others : map but_paid after ≡ map but_paid rows
 
 -- an amount that is paid by a lawful order
 abbrev pub PaidByCells : Type 0
 PaidByCells =
-    (order : ℕ → Cell) (place : Cell → ℕ) (rows : List Sums) (amount : ℕ) → IsOrder (length rows) order place → AreWhole rows →
+    (order : ℕ → Cell) (place : Cell → ℕ) (rows : List Sums) (amount : ℕ) → IsOrder (length rows) order place
+    → AreWhole rows →
     IsPaidInto order amount rows (with_paid rows (shares_of order rows amount))

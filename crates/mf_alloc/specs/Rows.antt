@@ -23,6 +23,7 @@ pub record IsCell (n : ℕ) (cell : Cell) : Type 0 where
 abbrev pub no_row : Row
 no_row = record { due = 0; owed = []; paid = []; waived = []; written_off = [] }
 
+-- the row of an instalment, counted from 1
 abbrev pub row_at : List Row → ℕ → Row
 row_at rows instalment = slice_index_or rows (instalment - 1) no_row
 
@@ -34,6 +35,7 @@ outstanding rows cell = open_at (row_at rows cell.instalment) (place_in_row cell
 abbrev pub plus_at : List ℕ → ℕ → ℕ → List ℕ
 plus_at sums p amount = slice_set sums p (slice_index sums p + amount)
 
+-- sums with less in one portion
 abbrev pub minus_at : List ℕ → ℕ → ℕ → List ℕ
 minus_at sums p amount = slice_set sums p (slice_index sums p - amount)
 
@@ -41,24 +43,30 @@ minus_at sums p amount = slice_set sums p (slice_index sums p - amount)
 abbrev pub rows_changed_at : List Row → ℕ → (Row → Row) → List Row
 rows_changed_at rows instalment change = slice_set rows (instalment - 1) (change (row_at rows instalment))
 
+-- a row with more paid of a portion
 abbrev pub pay_row : ℕ → ℕ → Row → Row
 pay_row p amount row = record row { paid = plus_at row.paid p amount }
 
+-- a row with less paid of a portion
 abbrev pub unpay_row : ℕ → ℕ → Row → Row
 unpay_row p amount row = record row { paid = minus_at row.paid p amount }
 
 -- a share is paid into its cell, or taken out of it
 abbrev pub pay_into : List Row → Share → List Row
-pay_into rows share = rows_changed_at rows share.cell.instalment (pay_row (place_in_row share.cell.portion) share.amount)
+pay_into rows share =
+    rows_changed_at rows share.cell.instalment (pay_row (place_in_row share.cell.portion) share.amount)
 
+-- rows with a share paid no more
 abbrev pub take_out : List Row → Share → List Row
-take_out rows share = rows_changed_at rows share.cell.instalment (unpay_row (place_in_row share.cell.portion) share.amount)
+take_out rows share =
+    rows_changed_at rows share.cell.instalment (unpay_row (place_in_row share.cell.portion) share.amount)
 
 -- all of them, first to last; and back, last to first
 abbrev pub with_paid : List Row → List Share → List Row
 with_paid rows [] = rows
 with_paid rows (share ∷ shares) = with_paid (pay_into rows share) shares
 
+-- rows with shares paid no more
 abbrev pub without_paid : List Row → List Share → List Row
 without_paid rows [] = rows
 without_paid rows (share ∷ shares) = take_out (without_paid rows shares) share
@@ -67,4 +75,5 @@ without_paid rows (share ∷ shares) = take_out (without_paid rows shares) share
 abbrev pub IsPayable : List Row → List Share → Type 0
 IsPayable rows [] = Unit {0}
 IsPayable rows (share ∷ shares) =
-    IsCell (length rows) share.cell × (share.amount ≤ outstanding rows share.cell) × IsPayable (pay_into rows share) shares
+    IsCell (length rows) share.cell × (share.amount ≤ outstanding rows share.cell)
+    × IsPayable (pay_into rows share) shares

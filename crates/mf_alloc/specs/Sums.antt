@@ -1,6 +1,7 @@
 -- An instalment's sums, in the order of the portions.
 use Rattle.std.specs.Prelude.{◌≡◌, ℕ, ◌+◌, ◌-◌, ◌<◌, ◌≤◌, Bool, nat_lt, List, [], ◌∷◌, slice_index, length, All}
 
+-- an instalment with what is owed, paid, waived and written off of it, by portion
 pub record Sums : Type 0 where
   pub due : ℕ
   pub owed : List ℕ
@@ -41,6 +42,7 @@ pub record IsWhole (row : Sums) : Type 0 where
   pub waived : length row.waived ≡ 4
   pub written_off : length row.written_off ≡ 4
 
+-- each row has a sum for each portion
 abbrev pub AreWhole : List Sums → Type 0
 AreWhole rows = All IsWhole rows
 
@@ -48,5 +50,6 @@ AreWhole rows = All IsWhole rows
 abbrev pub IsRowWithin : Sums → Type 0
 IsRowWithin row = IsWithin row.owed row.paid row.waived row.written_off
 
+-- no row has more settled than owed
 abbrev pub AreWithin : List Sums → Type 0
 AreWithin rows = All IsRowWithin rows

@@ -1,5 +1,8 @@
+//! A payment laid on the cells of a loan in a strategy's order, and taken back.
+
 ghost use Rattle.std.specs.Prelude.{◌≡◌, ℕ, ◌+◌, ◌*◌, ◌≤◌, IfOk, OnErr, IsOkUnless, length, vec_len, All};
-ghost use Rattle.mf_alloc.specs.Rows.{IsCell, outstanding as open_in, pay_into, with_paid, without_paid, take_out, IsPayable};
+ghost use Rattle.mf_alloc.specs.Rows.{IsCell, outstanding as open_in, pay_into, with_paid, without_paid, take_out};
+ghost use Rattle.mf_alloc.specs.Rows.{IsPayable};
 ghost use Rattle.mf_alloc.specs.Order.{due_by as due_among, order_at};
 ghost use Rattle.mf_alloc.specs.Payment.{shares_of as line_shares, rest_of as line_rest, total_of};
 
@@ -71,8 +74,10 @@ fn shares_of<T: Strategy>(
 ) -> Result<(Vec<Share>, u64), Fault>
     requires few { length rows.now ≤ 360 }
     requires due { due ≤ length rows.now }
-    ensures shares { IfOk result (λ answer. answer.0.items ≡ line_shares (T.cell_at strategy.now (length rows.now) due) rows.now amount) }
-    ensures rest { IfOk result (λ answer. answer.1 ≡ line_rest (T.cell_at strategy.now (length rows.now) due) rows.now amount) }
+    ensures shares { IfOk result (λ answer. answer.0.items ≡ line_shares (T.cell_at strategy.now (length rows.now) due)
+        rows.now amount) }
+    ensures rest { IfOk result (λ answer. answer.1 ≡ line_rest (T.cell_at strategy.now (length rows.now) due) rows.now
+        amount) }
     ensures whole { IfOk result (λ answer. total_of answer.0.items + answer.1 ≡ amount) }
     ensures payable { IfOk result (λ answer. IsPayable rows.now answer.0.items) }
     ensures cells { IfOk result (λ answer. All (λ share. IsCell (length rows.now) share.cell) answer.0.items) }
@@ -106,8 +111,10 @@ pub fn pay<T: Strategy>(
     day: Day,
 ) -> Result<(Vec<Share>, u64), Fault>
     requires { vec_len rows.old ≤ 360 }
-    ensures shares { IfOk result (λ answer. answer.0.items ≡ line_shares (order_at (T.cell_at strategy.now) rows.old.items day) rows.old.items amount) }
-    ensures rest { IfOk result (λ answer. answer.1 ≡ line_rest (order_at (T.cell_at strategy.now) rows.old.items day) rows.old.items amount) }
+    ensures shares { IfOk result (λ answer. answer.0.items ≡ line_shares (order_at (T.cell_at strategy.now)
+        rows.old.items day) rows.old.items amount) }
+    ensures rest { IfOk result (λ answer. answer.1 ≡ line_rest (order_at (T.cell_at strategy.now) rows.old.items day)
+        rows.old.items amount) }
     ensures whole { IfOk result (λ answer. total_of answer.0.items + answer.1 ≡ amount) }
     ensures few { IfOk result (λ answer. vec_len answer.0 ≤ 4 * vec_len rows.old) }
     ensures cells { IfOk result (λ answer. All (λ share. IsCell (vec_len rows.old) share.cell) answer.0.items) }

@@ -1,3 +1,5 @@
+//! The cells of a loan: its instalments with their sums by portion.
+
 ghost use Rattle.std.specs.Prelude.{◌≡◌, ℕ, ◌+◌, ◌<◌, ◌≤◌};
 ghost use Rattle.mf_alloc.specs.Sums.{Sums, IsWithin, fresh_row, open_at, is_open as is_open_row};
 
@@ -59,11 +61,23 @@ pub struct Row {
 impl Model for Row {
     ghost Value = { Sums };
 
-    ghost view = { λ row. record { due = row.due; owed = row.owed; paid = row.paid; waived = row.waived; written_off = row.written_off } };
+    ghost view = { λ row. record {
+      due = row.due;
+      owed = row.owed;
+      paid = row.paid;
+      waived = row.waived;
+      written_off = row.written_off;
+    } };
 
     ghost invariant = { λ row. IsWithin row.owed row.paid row.waived row.written_off };
 
-    ghost inverse = { λ sums. record { due = sums.due; owed = sums.owed; paid = sums.paid; waived = sums.waived; written_off = sums.written_off } };
+    ghost inverse = { λ sums. record {
+      due = sums.due;
+      owed = sums.owed;
+      paid = sums.paid;
+      waived = sums.waived;
+      written_off = sums.written_off;
+    } };
 }
 
 impl Row {

@@ -16,5 +16,6 @@ abbrev pub days_since : ℕ → Option ℕ → ℕ
 days_since day None = 0
 days_since day (Some due) = day - due
 
+-- how many days ago the earliest instalment fell due of which something is outstanding
 abbrev pub days_overdue : List Sums → ℕ → ℕ
 days_overdue rows day = days_since day (earliest_due rows)

@@ -4,6 +4,7 @@ use Rattle.mf_base.specs.Rounding.{half_even}
 use Rattle.mf_arrears.specs.declared.line.Class.{Class}
 use Rattle.mf_arrears.specs.declared.line.Class.TheVariants.{C0, C1To30, C31To60, C61To90, Over90}
 
+-- the class of a number of days overdue
 abbrev pub class_by : ℕ → Class
 class_by days =
     if days == 0 then C0
@@ -44,6 +45,7 @@ if_1_30 C31To60 amount = 0
 if_1_30 C61To90 amount = 0
 if_1_30 Over90 amount = 0
 
+-- an amount that is 31 to 60 days overdue
 abbrev pub if_31_60 : Class → ℕ → ℕ
 if_31_60 C31To60 amount = amount
 if_31_60 C0 amount = 0
@@ -51,6 +53,7 @@ if_31_60 C1To30 amount = 0
 if_31_60 C61To90 amount = 0
 if_31_60 Over90 amount = 0
 
+-- an amount that is 61 to 90 days overdue
 abbrev pub if_61_90 : Class → ℕ → ℕ
 if_61_90 C61To90 amount = amount
 if_61_90 C0 amount = 0
@@ -58,6 +61,7 @@ if_61_90 C1To30 amount = 0
 if_61_90 C31To60 amount = 0
 if_61_90 Over90 amount = 0
 
+-- an amount that is over 90 days overdue
 abbrev pub if_over_90 : Class → ℕ → ℕ
 if_over_90 Over90 amount = amount
 if_over_90 C0 amount = 0
@@ -65,6 +69,7 @@ if_over_90 C1To30 amount = 0
 if_over_90 C31To60 amount = 0
 if_over_90 C61To90 amount = 0
 
+-- the principal of the loans in a class
 abbrev pub sum_in : (Class → ℕ → ℕ) → List Loan → ℕ
 sum_in chosen loans = sum_by (λ (loan : Loan). chosen (class_of loan.days) loan.principal) loans
 

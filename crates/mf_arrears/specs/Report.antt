@@ -8,12 +8,14 @@ use Rattle.mf_arrears.specs.Line.{Line, par30_of}
 -- the columns after the first: loans in 12, each sum in 24, the portfolio at risk in 8, and the line's end
 abbrev pub columns_of : ℕ → List ℕ → ℕ → List ℕ
 columns_of loans sums par30 =
-    right 12 (decimal loans) ++ flat_map (λ sum. right 24 (money_text sum)) sums ++ right 8 (money_text par30) ++ 10 ∷ []
+    right 12 (decimal loans) ++ flat_map (λ sum. right 24 (money_text sum)) sums ++ right 8 (money_text par30) ++ 10
+    ∷ []
 
 -- the sums: of all, and of each class
 abbrev pub sums_of : Line → List ℕ
 sums_of line = line.outstanding ∷ line.c1_30 ∷ line.c31_60 ∷ line.c61_90 ∷ line.over_90 ∷ []
 
+-- the numbers of a line, in the order of its columns
 abbrev pub columns : Line → List ℕ
 columns line = columns_of line.loans (sums_of line) (par30_of line)
 
@@ -49,5 +51,6 @@ plus a b = record {
 abbrev pub all_text : Line → List ℕ
 all_text total = right 4 (codes "all") ++ columns total
 
+-- the report's bytes: each line, and the line of all
 abbrev pub report_bytes : List Line → List ℕ
 report_bytes lines = flat_map line_text lines ++ all_text (total_of lines)

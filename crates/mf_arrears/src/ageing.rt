@@ -1,5 +1,8 @@
+//! How long a loan is overdue, and the class that it falls into by that.
+
 ghost use Rattle.std.specs.Prelude.{◌≡◌, pos};
-ghost use Rattle.mf_arrears.specs.Ageing.{days_overdue, days_since, earliest_due as earliest_due_of, earlier as earlier_of};
+ghost use Rattle.mf_arrears.specs.Ageing.{days_overdue, days_since, earliest_due as earliest_due_of};
+ghost use Rattle.mf_arrears.specs.Ageing.{earlier as earlier_of};
 ghost use Rattle.mf_arrears.specs.Line.{class_of};
 
 use crate::line::Class;

@@ -1,3 +1,5 @@
+//! An office's line of the report of arrears.
+
 ghost use Rattle.std.specs.Prelude.{◌≡◌, ℕ, ◌+◌, ◌*◌, ◌<◌, ◌≤◌, ◌^◌, List, [], ◌∷◌, ◌++◌};
 ghost use Rattle.mf_arrears.specs.Line.{Line, IsLine, Loan, line_of, with_loan, part_of, par30_of};
 
@@ -37,11 +39,27 @@ pub struct OfficeLine {
 impl Model for OfficeLine {
     ghost Value = { Line };
 
-    ghost view = { λ l. record { office = l.office; loans = l.loans; outstanding = l.outstanding; c1_30 = l.c1_30; c31_60 = l.c31_60; c61_90 = l.c61_90; over_90 = l.over_90 } };
+    ghost view = { λ l. record {
+      office = l.office;
+      loans = l.loans;
+      outstanding = l.outstanding;
+      c1_30 = l.c1_30;
+      c31_60 = l.c31_60;
+      c61_90 = l.c61_90;
+      over_90 = l.over_90;
+    } };
 
     ghost invariant = { λ l. IsLine l.loans l.outstanding l.c1_30 l.c31_60 l.c61_90 l.over_90 };
 
-    ghost inverse = { λ l. record { office = l.office; loans = l.loans; outstanding = l.outstanding; c1_30 = l.c1_30; c31_60 = l.c31_60; c61_90 = l.c61_90; over_90 = l.over_90 } };
+    ghost inverse = { λ l. record {
+      office = l.office;
+      loans = l.loans;
+      outstanding = l.outstanding;
+      c1_30 = l.c1_30;
+      c31_60 = l.c31_60;
+      c61_90 = l.c61_90;
+      over_90 = l.over_90;
+    } };
 }
 
 impl OfficeLine {
@@ -91,7 +109,8 @@ impl OfficeLine {
     }
 }
 
-/// The part of `outstanding` that `risk` is, in hundredths of a percent; 0 where nothing is outstanding. `loans` only bounds the sums.
+/// The part of `outstanding` that `risk` is, in hundredths of a percent; 0 where nothing is outstanding. `loans` only
+/// bounds the sums.
 pub(crate) fn part_at_risk(loans: u64, outstanding: u128, risk: u128) -> u128
     requires most { outstanding ≤ 10 ^ 12 * loans }
     requires part { risk ≤ outstanding }

@@ -1,8 +1,12 @@
-ghost use Rattle.std.specs.Prelude.{◌≡◌, ℕ, ◌+◌, ◌*◌, ◌-◌, ◌≤◌, ◌^◌, ◌++◌, [], OnOk, IfOk, IsOkUnless, IfSome, None, ◌≢◌, string_bytes, sum_by, decimal};
+//! The report of arrears: the sums of its lines, and its text in fixed columns.
+
+ghost use Rattle.std.specs.Prelude.{◌≡◌, ℕ, ◌+◌, ◌*◌, ◌-◌, ◌≤◌, ◌^◌, ◌++◌, [], OnOk, IfOk, IsOkUnless, IfSome, None};
+ghost use Rattle.std.specs.Prelude.{◌≢◌, string_bytes, sum_by, decimal};
 ghost use Rattle.mf_base.specs.Money as spec;
 ghost use Rattle.mf_base.specs.Texts.{right};
 ghost use Rattle.mf_arrears.specs.Line.{Line, IsLine, par30_of};
-ghost use Rattle.mf_arrears.specs.Report.{columns_of, columns, sums_of, line_text, all_text, total_of, plus as plus_line, report_bytes};
+ghost use Rattle.mf_arrears.specs.Report.{columns_of, columns, sums_of, line_text, all_text, total_of};
+ghost use Rattle.mf_arrears.specs.Report.{plus as plus_line, report_bytes};
 
 use crate::line::{OfficeLine, part_at_risk};
 use mf_base::{Fault, money_text, push_right};
@@ -26,7 +30,15 @@ pub struct Totals {
 impl Model for Totals {
     ghost Value = { Line };
 
-    ghost view = { λ t. record { office = 0; loans = t.loans; outstanding = t.outstanding; c1_30 = t.c1_30; c31_60 = t.c31_60; c61_90 = t.c61_90; over_90 = t.over_90 } };
+    ghost view = { λ t. record {
+      office = 0;
+      loans = t.loans;
+      outstanding = t.outstanding;
+      c1_30 = t.c1_30;
+      c31_60 = t.c31_60;
+      c61_90 = t.c61_90;
+      over_90 = t.over_90;
+    } };
 
     ghost invariant = { λ t. IsLine t.loans t.outstanding t.c1_30 t.c31_60 t.c61_90 t.over_90 };
 }

@@ -1,12 +1,15 @@
 -- The library's day count is the calendar's from the year 2000 on.
-use Rattle.std.proofs.Common.{◌≡◌, ℕ, zero, suc, ◌+◌, ◌-◌, ◌<◌, ◌≤◌, ℤ, pos, negsuc, ◌+ℤ◌, ◌≤ℤ◌, unsigned_abs, to_z, of_z, w16, refl, arith, ap, sym, ◌∙◌}
+use Rattle.std.proofs.Common.{◌≡◌, ℕ, zero, suc, ◌+◌, ◌-◌, ◌<◌, ◌≤◌, ℤ, pos, negsuc, ◌+ℤ◌, ◌≤ℤ◌, unsigned_abs, to_z}
+use Rattle.std.proofs.Common.{of_z, w16, refl, arith, ap, sym, ◌∙◌}
 use Rattle.std.proofs.lemmas.Int.{by_lt_z}
 use Rattle.jiff_core.specs.declared.civil.date.Date.{Date as CivilDate}
 use Rattle.jiff_core.specs.Calendar.{day_count, days_of_months, days_in_month}
 use Rattle.jiff_core.specs.Date.{epoch_day}
 use Rattle.jiff_core.proofs.SignedLemmas.{signed_arith, unsigned_abs-parts, one_part, back_small}
 use Rattle.jiff_core.proofs.MarchLemmas.{day_count-early}
-use Rattle.jiff_core.proofs.CalendarLemmas.{day_count-next_year, day_count-day_of_year, day_count-lt_year, days_of_months-zero, days_of_months_more, days_from_civil-day_count, day_count-end}
+use Rattle.jiff_core.proofs.CalendarLemmas.{day_count-next_year, day_count-day_of_year, day_count-lt_year}
+use Rattle.jiff_core.proofs.CalendarLemmas.{days_of_months-zero, days_of_months_more, days_from_civil-day_count}
+use Rattle.jiff_core.proofs.CalendarLemmas.{day_count-end}
 use Rattle.jiff_core.proofs.DateLemmas.{civil}
 use Rattle.mf_base.specs.Calendar.{Date, IsDate, day_of, date_of, years_before, months_before}
 use Rattle.mf_base.specs.CivilDate.{date_from, IsSince2000}
@@ -20,7 +23,13 @@ first_of_year zero = first_of_2000
 first_of_year (suc count) =
     let next : 2000 + suc count ≡ 2000 + count + 1 = omega arith in
     let low : 2000 ≤ 2000 + count = omega arith in
-    rw next (omega (arith, day_count-next_year (pos (2000 + count)) (pos (2000 + count + 1)) (omega (arith, signed_arith)) (omega (arith, signed_arith)), years_before_more (2000 + count) low, first_of_year count))
+    rw next (omega (
+      arith,
+      day_count-next_year (pos (2000 + count)) (pos (2000 + count + 1))
+          (omega (arith, signed_arith)) (omega (arith, signed_arith)),
+      years_before_more (2000 + count) low,
+      first_of_year count,
+    ))
 
 first_of_month : (year count : ℕ) → days_of_months (pos year) count ≡ months_before year (count + 1)
 first_of_month year zero = days_of_months-zero (pos year)
@@ -30,7 +39,8 @@ first_of_month year (suc count) =
     days_of_months_more (pos year) (suc count) (omega arith)
     ∙ rw (back, next) (omega (arith, first_of_month year count, months_before_more year (count + 1) (omega arith)))
 
-pub day_count-day_of : (date : Date) → 2000 ≤ date.year → 1 ≤ date.month → 1 ≤ date.day → day_count (pos date.year) date.month date.day ≡ 4_382_910 + day_of date
+pub day_count-day_of : (date : Date) → 2000 ≤ date.year → 1 ≤ date.month → 1 ≤ date.day
+    → day_count (pos date.year) date.month date.day ≡ 4_382_910 + day_of date
 unfolding day_of
 day_count-day_of date year month day =
     let same : 2000 + (date.year - 2000) ≡ date.year = omega arith in
@@ -46,7 +56,8 @@ absolute (negsuc n) low = absurd (omega (arith, signed_arith))
 year_is : (date : CivilDate) → IsSince2000 date → date.year ≡ pos (unsigned_abs date.year)
 year_is date since = absolute date.year since
 
-pub day_count-since : (date : CivilDate) → IsSince2000 date → day_count date.year date.month date.day ≡ 4_382_910 + day_of (date_from date)
+pub day_count-since : (date : CivilDate) → IsSince2000 date → day_count date.year date.month date.day ≡ 4_382_910
+    + day_of (date_from date)
 day_count-since date since =
     ap (λ y. day_count y date.month date.day) (year_is date since)
     ∙ day_count-day_of (date_from date) (omega (arith, signed_arith)) date.month_in.0 date.day_in.0
@@ -55,21 +66,36 @@ day_count-since date since =
 pub IsDate-since : (date : CivilDate) → IsSince2000 date → IsDate (date_from date)
 IsDate-since date since =
     let same = ap (λ y. days_in_month y date.month) (year_is date since) in
-    record { year = omega (arith, signed_arith); first_month = date.month_in.0; last_month = date.month_in.1; first_day = date.day_in.0; last_day = omega (arith, same, date.day_in.1) }
+    record {
+      year = omega (arith, signed_arith);
+      first_month = date.month_in.0;
+      last_month = date.month_in.1;
+      first_day = date.day_in.0;
+      last_day = omega (arith, same, date.day_in.1);
+    }
 
 -- its number
-pub day_of-since : (date : CivilDate) (days : ℕ) → IsSince2000 date → epoch_day date +ℤ pos 4_371_587 ≡ pos days → days ≡ day_of (date_from date) + 4_382_544
+pub day_of-since : (date : CivilDate) (days : ℕ) → IsSince2000 date → epoch_day date +ℤ pos 4_371_587 ≡ pos days
+    → days ≡ day_of (date_from date) + 4_382_544
 day_of-since date days since is =
     omega (arith, signed_arith, days_from_civil-day_count date.year date.month date.day, day_count-since date since)
 
 -- a number from 2000 on is of a date from 2000 on
-pub since-number : (date : CivilDate) (days : ℕ) → epoch_day date +ℤ pos 4_371_587 ≡ pos days → 4_382_544 ≤ days → IsSince2000 date
+pub since-number : (date : CivilDate) (days : ℕ) → epoch_day date +ℤ pos 4_371_587 ≡ pos days → 4_382_544 ≤ days
+    → IsSince2000 date
 since-number date days is late =
     by_lt_z date.year (pos 2000)
-    (λ lt. absurd (omega (arith, signed_arith, days_from_civil-day_count date.year date.month date.day, day_count-lt_year date.year date.month date.day (pos 2000) 1 1 (civil date) (omega arith) lt, first_of_2000)))
+    (λ lt. absurd (omega (
+      arith,
+      signed_arith,
+      days_from_civil-day_count date.year date.month date.day,
+      day_count-lt_year date.year date.month date.day (pos 2000) 1 1 (civil date) (omega arith) lt,
+      first_of_2000,
+    )))
     (λ since. since)
 
-pub date_of-since : (date : CivilDate) (days : ℕ) → epoch_day date +ℤ pos 4_371_587 ≡ pos (days + 4_382_544) → IsSince2000 date × (date_from date ≡ date_of days)
+pub date_of-since : (date : CivilDate) (days : ℕ) → epoch_day date +ℤ pos 4_371_587 ≡ pos (days + 4_382_544)
+    → IsSince2000 date × (date_from date ≡ date_of days)
 date_of-since date days is =
     let since = since-number date (days + 4_382_544) is (omega arith) in
     let number : days ≡ day_of (date_from date) = omega (arith, day_of-since date (days + 4_382_544) since is) in

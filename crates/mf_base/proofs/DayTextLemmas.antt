@@ -3,7 +3,8 @@ use Rattle.std.proofs.Common.{◌≡◌, ℕ, ◌+◌, ◌/◌, ◌%◌, ◌<◌
 use Rattle.std.proofs.lemmas.Bool.{cases_lt}
 use Rattle.mf_base.specs.Calendar.{Date, IsDate, date_of, day_of, years_before}
 use Rattle.mf_base.specs.DayText.{date_text, day_text, last_day, last_entered_day}
-use Rattle.mf_base.proofs.CalendarLemmas.{month_length_bounds, date_of-day_of, day_of-date_of, IsDate-date_of, day_of-lt_year, years_before-le-day_of}
+use Rattle.mf_base.proofs.CalendarLemmas.{month_length_bounds, date_of-day_of, day_of-date_of, IsDate-date_of}
+use Rattle.mf_base.proofs.CalendarLemmas.{day_of-lt_year, years_before-le-day_of}
 use Rattle.mf_base.proofs.CivilDateLemmas.{years_before-10000}
 
 -- what date_text needs to tell two dates apart
@@ -13,7 +14,11 @@ pub record IsShort (date : Date) : Type 0 where
   pub day : date.day < 100
 
 pub IsShort-date : (date : Date) → IsDate date → date.year < 10_000 → IsShort date
-IsShort-date date is year = record { year = year; month = omega (arith, is.last_month); day = omega (arith, is.last_day, month_length_bounds date.year date.month) }
+IsShort-date date is year = record {
+  year = year;
+  month = omega (arith, is.last_month);
+  day = omega (arith, is.last_day, month_length_bounds date.year date.month);
+}
 
 same_two_digits : (a b : ℕ) → 48 + a / 10 ≡ 48 + b / 10 → 48 + a % 10 ≡ 48 + b % 10 → a ≡ b
 same_two_digits a b tens ones = omega arith
@@ -33,19 +38,26 @@ date_text-injective a b same =
 years_before-2100 : years_before 2100 ≡ 36_525
 years_before-2100 = refl
 
-year_by_number : (date : Date) (year : ℕ) → IsDate date → 2000 ≤ year → (date.year < year → day_of date < years_before year) × (day_of date < years_before year → date.year < year)
+year_by_number : (date : Date) (year : ℕ) → IsDate date → 2000 ≤ year
+    → (date.year < year → day_of date < years_before year) × (day_of date < years_before year → date.year < year)
 year_by_number date year is low = (
   λ lt. day_of-lt_year date year is lt,
-  λ lt. elim (cases_lt date.year year) [ inl under ↦ under | inr over ↦ absurd (omega (arith, lt, years_before-le-day_of date year low over)) ],
+  λ lt. elim (cases_lt date.year year) [
+    | inl under ↦ under
+    | inr over ↦ absurd
+        (omega (arith, lt, years_before-le-day_of date year low over))
+  ],
 )
 
 -- the years of days by their numbers
-pub last_entered_year : (date : Date) → IsDate date → (date.year < 2100 → day_of date ≤ last_entered_day) × (day_of date ≤ last_entered_day → date.year < 2100)
+pub last_entered_year : (date : Date) → IsDate date → (date.year < 2100 → day_of date ≤ last_entered_day)
+    × (day_of date ≤ last_entered_day → date.year < 2100)
 last_entered_year date is =
     let both = year_by_number date 2100 is (omega arith) in
     (λ lt. omega (arith, both.0 lt, years_before-2100), λ le. both.1 (omega (arith, le, years_before-2100)))
 
-pub last_year : (date : Date) → IsDate date → (date.year < 10_000 → day_of date ≤ last_day) × (day_of date ≤ last_day → date.year < 10_000)
+pub last_year : (date : Date) → IsDate date → (date.year < 10_000 → day_of date ≤ last_day)
+    × (day_of date ≤ last_day → date.year < 10_000)
 last_year date is =
     let both = year_by_number date 10_000 is (omega arith) in
     (λ lt. omega (arith, both.0 lt, years_before-10000), λ le. both.1 (omega (arith, le, years_before-10000)))
@@ -63,8 +75,10 @@ unfolding day_text
 date_text-day day = refl
 
 -- a date's text is the text of one number, that of the date
-pub day_text-only : (date : Date) (day : ℕ) (text : List ℕ) → text ≡ date_text date → text ≡ day_text day → day_of date ≡ day
-day_text-only date day text is same = ap day_of (date_text-injective date (date_of day) (sym is ∙ same ∙ date_text-day day)) ∙ day_of-date_of day
+pub day_text-only : (date : Date) (day : ℕ) (text : List ℕ) → text ≡ date_text date → text ≡ day_text day
+    → day_of date ≡ day
+day_text-only date day text is same =
+    ap day_of (date_text-injective date (date_of day) (sym is ∙ same ∙ date_text-day day)) ∙ day_of-date_of day
 
 -- no two days have one text
 pub day_text-injective : (a b : ℕ) → day_text a ≡ day_text b → a ≡ b

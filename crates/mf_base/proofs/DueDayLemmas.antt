@@ -17,19 +17,23 @@ IsDate-months_on date count is =
       last_day = omega arith;
     }
 
-earlier_month : (a b : Date) (m n : ℕ) → m < n → a.year ≡ m / 12 → a.month ≡ m % 12 + 1 → b.year ≡ n / 12 → b.month ≡ n % 12 + 1 → IsEarlier a b
+earlier_month : (a b : Date) (m n : ℕ) → m < n → a.year ≡ m / 12 → a.month ≡ m % 12 + 1 → b.year ≡ n / 12
+    → b.month ≡ n % 12 + 1 → IsEarlier a b
 earlier_month a b m n lt year month later_year later_month =
     elim (cases_lt a.year b.year) [
       | inl before ↦ inl before
       | inr not ↦ inr (omega (arith, not), inl (omega (arith, not)))
     ]
 
-pub months_on-lt : (date : Date) (fewer more : ℕ) → IsDate date → fewer < more → day_of (months_on date fewer) < day_of (months_on date more)
+pub months_on-lt : (date : Date) (fewer more : ℕ) → IsDate date → fewer < more → day_of (months_on date fewer)
+    < day_of (months_on date more)
 months_on-lt date fewer more is lt =
     day_of-lt _ _ (IsDate-months_on date fewer is) (IsDate-months_on date more is)
-    (earlier_month _ _ (12 * date.year + (date.month - 1) + fewer) (12 * date.year + (date.month - 1) + more) (omega arith) refl refl refl refl)
+    (earlier_month _ _ (12 * date.year + (date.month - 1) + fewer) (12 * date.year + (date.month - 1) + more)
+    (omega arith) refl refl refl refl)
 
-pub day_after-lt : (day : ℕ) (freq : Freq) (fewer more : ℕ) → fewer < more → day_after day freq fewer < day_after day freq more
+pub day_after-lt : (day : ℕ) (freq : Freq) (fewer more : ℕ) → fewer < more → day_after day freq fewer
+    < day_after day freq more
 day_after-lt day Weeks fewer more lt = omega arith
 day_after-lt day Months fewer more lt = months_on-lt (date_of day) fewer more (IsDate-date_of day) lt
 
@@ -37,7 +41,8 @@ months_on-none : (date : Date) → IsDate date → months_on date 0 ≡ date
 months_on-none date is =
     let months : 12 * date.year + (date.month - 1) + 0 ≡ 12 * date.year + (date.month - 1) = omega arith in
     let year : (12 * date.year + (date.month - 1) + 0) / 12 ≡ date.year = omega (arith, is.last_month) in
-    let month : (12 * date.year + (date.month - 1) + 0) % 12 + 1 ≡ date.month = omega (arith, is.first_month, is.last_month) in
+    let month : (12 * date.year + (date.month - 1) + 0) % 12 + 1 ≡ date.month =
+    omega (arith, is.first_month, is.last_month) in
     let length = (ap (λ y. month_length y (months_on date 0).month) year) ∙ ap (month_length date.year) month in
     let day : (months_on date 0).day ≡ date.day = omega (arith, length, is.last_day) in
     (λ i. record { year = year i; month = month i; day = day i })

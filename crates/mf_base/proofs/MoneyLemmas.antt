@@ -1,5 +1,6 @@
 -- Money texts: the units are the digits that the text begins with, so a text has one reading.
-use Rattle.std.proofs.Common.{◌≡◌, ℕ, ◌+◌, ◌*◌, ◌/◌, ◌%◌, ◌<◌, ◌≤◌, suc, inl, inr, Bool, true, false, ◌&&◌, cond, List, [], ◌∷◌, ◌++◌, take, drop, length, refl, arith, ap, sym, ◌∙◌}
+use Rattle.std.proofs.Common.{◌≡◌, ℕ, ◌+◌, ◌*◌, ◌/◌, ◌%◌, ◌<◌, ◌≤◌, suc, inl, inr, Bool, true, false, ◌&&◌, cond, List}
+use Rattle.std.proofs.Common.{[], ◌∷◌, ◌++◌, take, drop, length, refl, arith, ap, sym, ◌∙◌}
 use Rattle.std.specs.List.{prefix_len}
 use Rattle.std.specs.Char.{is_ascii_digit}
 use Rattle.std.specs.Fmt.{decimal}
@@ -17,7 +18,8 @@ use Rattle.mf_base.proofs.DigitsLemmas.{own}
 abbrev pub digits_first : List ℕ → ℕ
 digits_first text = prefix_len is_ascii_digit text
 
-taken-by : (b : Bool) (c n : ℕ) (text : List ℕ) → is_ascii_digit c ≡ b → all_ascii_digits (take n text) ≡ true → all_ascii_digits (take (cond b (1 + n) 0) (c ∷ text)) ≡ true
+taken-by : (b : Bool) (c n : ℕ) (text : List ℕ) → is_ascii_digit c ≡ b → all_ascii_digits (take n text) ≡ true
+    → all_ascii_digits (take (cond b (1 + n) 0) (c ∷ text)) ≡ true
 taken-by true c n text is rest = let next : 1 + n ≡ suc n = omega arith in rw (next, is, rest)
 taken-by false c n text is rest = refl
 
@@ -30,9 +32,11 @@ append-by true rest n m both step = omega (arith, step both)
 append-by false rest n m both step = cc
 
 -- digits, and then no digit
-digits_first-append : (front back : List ℕ) → all_ascii_digits front ≡ true → digits_first back ≡ 0 → digits_first (front ++ back) ≡ length front
+digits_first-append : (front back : List ℕ) → all_ascii_digits front ≡ true → digits_first back ≡ 0
+    → digits_first (front ++ back) ≡ length front
 digits_first-append [] back digits none = none
-digits_first-append (c ∷ front) back digits none = append-by (is_ascii_digit c) (all_ascii_digits front) _ _ digits (λ rest. digits_first-append front back rest none)
+digits_first-append (c ∷ front) back digits none =
+    append-by (is_ascii_digit c) (all_ascii_digits front) _ _ digits (λ rest. digits_first-append front back rest none)
 
 no_digit_first : (back : List ℕ) (rest : ℕ) → IsFraction back rest → digits_first back ≡ 0
 no_digit_first back rest (inl (is, _)) = rw is
@@ -48,7 +52,8 @@ pub record IsRead (front back : List ℕ) (n cents : ℕ) : Type 0 where
   pub value : cents ≡ 100 * digits_value 10 front + rest
   pub limit : cents ≤ money_limit
 
-pub IsRead-is : (text front back : List ℕ) (n cents : ℕ) → n ≡ digits_first text → front ≡ take n text → back ≡ drop n text → IsMoneyText text cents → IsRead front back n cents
+pub IsRead-is : (text front back : List ℕ) (n cents : ℕ) → n ≡ digits_first text → front ≡ take n text
+    → back ≡ drop n text → IsMoneyText text cents → IsRead front back n cents
 IsRead-is text front back n cents first front_is back_is m =
     let cut = digits_first-append m.front m.back m.front_is.digits (no_digit_first m.back m.rest m.back_is) in
     let long : n ≡ length m.front = first ∙ ap digits_first m.parts ∙ cut in
@@ -63,7 +68,9 @@ IsRead-is text front back n cents first front_is back_is m =
       limit = m.limit;
     }
 
-pub IsMoneyText-is : (text front back : List ℕ) (n units rest cents : ℕ) → n ≡ digits_first text → front ≡ take n text → back ≡ drop n text → units ≡ digits_value 10 front → 1 ≤ n → n ≤ 11 → IsFraction back rest → cents ≡ 100 * units + rest → cents ≤ money_limit → IsMoneyText text cents
+pub IsMoneyText-is : (text front back : List ℕ) (n units rest cents : ℕ) → n ≡ digits_first text → front ≡ take n text
+    → back ≡ drop n text → units ≡ digits_value 10 front → 1 ≤ n → n ≤ 11 → IsFraction back rest → cents ≡ 100 * units
+    + rest → cents ≤ money_limit → IsMoneyText text cents
 IsMoneyText-is text front back n units rest cents first front_is back_is units_is some at_most fraction value limit =
     let below = prefix_len-le-length is_ascii_digit text in
     let long : length front ≡ n = ap length front_is ∙ length-take-le n text (omega (arith, below, first)) in
@@ -74,7 +81,12 @@ IsMoneyText-is text front back n units rest cents first front_is back_is units_i
       units = units;
       rest = rest;
       parts = rw (front_is, back_is) (sym (take-append-drop n text));
-      front_is = record { digits = digits; some = omega (arith, long, some); at_most = omega (arith, long, at_most); value = units_is };
+      front_is = record {
+        digits = digits;
+        some = omega (arith, long, some);
+        at_most = omega (arith, long, at_most);
+        value = units_is;
+      };
       back_is = fraction;
       value = value;
       limit = limit;

@@ -1,9 +1,11 @@
 -- The calendar. A day is the number of days from 1 January 2000, which is day 0.
-use Rattle.std.specs.Prelude.{ℕ, zero, suc, ◌+◌, ◌-◌, ◌*◌, ◌/◌, ◌%◌, ◌≤◌, Bool, not, ◌&&◌, ◌||◌, ◌==◌, nat_lt, min, sum_by, if◌then◌else◌}
+use Rattle.std.specs.Prelude.{ℕ, zero, suc, ◌+◌, ◌-◌, ◌*◌, ◌/◌, ◌%◌, ◌≤◌, Bool, not, ◌&&◌, ◌||◌, ◌==◌, nat_lt, min}
+use Rattle.std.specs.Prelude.{sum_by, if◌then◌else◌}
 use Rattle.std.specs.List.{range_with_len}
 use Rattle.mf_base.specs.declared.day.Freq.{Freq}
 use Rattle.mf_base.specs.declared.day.Freq.TheVariants.{Weeks, Months}
 
+-- a date of the calendar
 pub record Date : Type 0 where
   pub year : ℕ
   pub month : ℕ
@@ -13,6 +15,7 @@ pub record Date : Type 0 where
 abbrev pub is_leap_year : ℕ → Bool
 is_leap_year year = (year % 4 == 0) && (not (year % 100 == 0) || (year % 400 == 0))
 
+-- the days of a year
 abbrev pub year_length : ℕ → ℕ
 year_length year = if is_leap_year year then 366 else 365
 

@@ -23,5 +23,6 @@ abbrev pub frequency_number : Freq → ℕ
 frequency_number Weeks = 1
 frequency_number Months = 2
 
+-- the frequencies, in the order of their numbers
 abbrev pub frequencies : List Freq
 frequencies = Weeks ∷ Months ∷ []

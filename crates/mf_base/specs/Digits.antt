@@ -6,4 +6,5 @@ use Rattle.std.specs.Str.Parse.{digits_value}
 
 -- the number that 1 to 9 decimal digits write, whether or not they begin with zeros
 abbrev pub number_of_digits : List ℕ → Option ℕ
-number_of_digits text = cond ((nat_le 1 (length text) && nat_le (length text) 9) && list_all is_ascii_digit text) (Some (digits_value 10 text)) None
+number_of_digits text = cond ((nat_le 1 (length text) && nat_le (length text) 9) && list_all is_ascii_digit text)
+    (Some (digits_value 10 text)) None

@@ -23,7 +23,8 @@ pub trait Choice: Copy + 'static {
     fn number(self) -> u32
         ensures { result ≡ number_of self };
 
-    ghost told_apart: { (choice : Self) → (choice_named name_of choices (name_of choice) ≡ Some choice) × (choice_numbered number_of choices (number_of choice) ≡ Some choice) };
+    ghost told_apart: { (choice : Self) → (choice_named name_of choices (name_of choice) ≡ Some choice)
+        × (choice_numbered number_of choices (number_of choice) ≡ Some choice) };
 
     /// The one of this name.
     final fn from_name(text: &str) -> Option<Self>

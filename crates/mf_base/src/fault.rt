@@ -1,3 +1,5 @@
+//! The numbered refusals, and what can fail of a stream.
+
 ghost use Rattle.std.specs.Prelude.{◌≡◌};
 ghost use Rattle.mf_base.specs.declared.fault.Fault.TheVariants.{F20};
 

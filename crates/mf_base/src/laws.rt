@@ -25,7 +25,8 @@ pub fn texts_of_days()
 /// No step leads to the day itself, and more steps lead to a later day: due days ascend.
 pub fn due_days_ascend()
     ensures none { (day : ℕ) (freq : Freq) → day_after day freq 0 ≡ day }
-    ensures more { (day : ℕ) (freq : Freq) (fewer more : ℕ) → fewer < more → day_after day freq fewer < day_after day freq more }
+    ensures more { (day : ℕ) (freq : Freq) (fewer more : ℕ) → fewer < more → day_after day freq fewer
+        < day_after day freq more }
 {}
 
 /// What `money_text` writes, `parse_money` reads: the text of an amount up to 10^12 cents stands for that amount.

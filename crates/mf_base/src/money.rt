@@ -1,3 +1,5 @@
+//! Amounts of money in whole cents, read and written with two digits behind the point.
+
 ghost use Rattle.std.specs.Prelude.{◌≡◌, ℕ, ◌<◌, IfSome, IfOk, IfErr, string_bytes};
 ghost use Rattle.mf_base.specs.declared.fault.Fault.TheVariants.{F20};
 ghost use Rattle.mf_base.specs.Money as spec;

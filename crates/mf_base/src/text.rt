@@ -1,3 +1,5 @@
+//! Texts that are kept, as contracts see them: their bytes.
+
 use std::alloc::AllocError;
 use std::marker::Model;
 

@@ -11,7 +11,8 @@ use Rattle.mf_catalog.specs.Limits.{IsChargeWithinLimits, greatest_value}
 
 -- rounding adds at most one to the quotient
 half_even-le : (a d : ℕ) → half_even a d ≤ a / d + 1
-half_even-le a d = cond_both (ltb d (2 * (a % d) + a / d % 2)) 1 0 (λ x. a / d + x ≤ a / d + 1) (λ _. omega arith) (λ _. omega arith)
+half_even-le a d = cond_both (ltb d (2 * (a % d) + a / d % 2)) 1 0 (λ x. a / d + x ≤ a / d + 1) (λ _. omega arith)
+    (λ _. omega arith)
 
 -- a percentage is at most one cent above its base
 percentage_of-le : (base value : ℕ) → value ≤ 10000 → percentage_of base value ≤ base + 1
@@ -20,13 +21,16 @@ percentage_of-le base value most =
     let quotient : base * value / 10000 ≤ base = div-le_of_le-mul 10000 (omega (arith, grows)) in
     omega (arith, quotient, half_even-le (base * value) 10000)
 
-amount_by-le : (calc : Calc) (value amount interest : ℕ) → value ≤ greatest_value calc → amount_by calc value amount interest ≤ amount + interest + 10 ^ 12
+amount_by-le : (calc : Calc) (value amount interest : ℕ) → value ≤ greatest_value calc
+    → amount_by calc value amount interest ≤ amount + interest + 10 ^ 12
 amount_by-le Flat value amount interest most = omega arith
 amount_by-le OfAmount value amount interest most = omega (arith, percentage_of-le amount value most)
 amount_by-le OfInterest value amount interest most = omega (arith, percentage_of-le interest value most)
 amount_by-le OfBoth value amount interest most = omega (arith, percentage_of-le (amount + interest) value most)
 
 -- a charge is at most its bases and 10^12 cents
-pub amount_of_any-le : (charge : Option ChargeDef) (amount interest : ℕ) → IfSome charge IsChargeWithinLimits → amount_of_any charge amount interest ≤ amount + interest + 10 ^ 12
+pub amount_of_any-le : (charge : Option ChargeDef) (amount interest : ℕ) → IfSome charge IsChargeWithinLimits
+    → amount_of_any charge amount interest ≤ amount + interest + 10 ^ 12
 amount_of_any-le None amount interest limits = omega arith
-amount_of_any-le (Some charge) amount interest limits = amount_by-le charge.calc charge.value amount interest limits.most
+amount_of_any-le (Some charge) amount interest limits =
+    amount_by-le charge.calc charge.value amount interest limits.most

@@ -9,19 +9,23 @@ use Rattle.mf_catalog.specs.declared.product.ProductMembers.{ProductMembers}
 use Rattle.mf_catalog.specs.Limits.{IsChargeWithinLimits, AreTermsWithinLimits}
 use Rattle.mf_catalog.specs.Product.{AreMembersWithinLimits, charge_at, charge_of, limits_agree, allows, terms_of}
 
-found_within : (charges : List ChargeDef) (k : ℕ) → AllByRecursion IsChargeWithinLimits charges → IfSome (charge_at charges k) IsChargeWithinLimits
+found_within : (charges : List ChargeDef) (k : ℕ) → AllByRecursion IsChargeWithinLimits charges
+    → IfSome (charge_at charges k) IsChargeWithinLimits
 found_within [] k a = tt
 found_within (c ∷ cs) k a = either (c.number == k) (found_within cs k a.1)
   where
-    either : (b : Bool) → IfSome (charge_at cs k) IsChargeWithinLimits → IfSome (cond b (Some c) (charge_at cs k)) IsChargeWithinLimits
+    either : (b : Bool) → IfSome (charge_at cs k) IsChargeWithinLimits → IfSome (cond b (Some c) (charge_at cs k))
+        IsChargeWithinLimits
     either true rest = a.0
     either false rest = rest
 
-named_within : (charges : List ChargeDef) (named : Option ℕ) → AllByRecursion IsChargeWithinLimits charges → IfSome (charge_of (charge_at charges) named) IsChargeWithinLimits
+named_within : (charges : List ChargeDef) (named : Option ℕ) → AllByRecursion IsChargeWithinLimits charges
+    → IfSome (charge_of (charge_at charges) named) IsChargeWithinLimits
 named_within charges None a = tt
 named_within charges (Some k) a = found_within charges k a
 
-pub terms_within : (charges : List ChargeDef) (p : ProductMembers) → AreMembersWithinLimits p → AllByRecursion IsChargeWithinLimits charges → AreTermsWithinLimits (terms_of (charge_at charges) p)
+pub terms_within : (charges : List ChargeDef) (p : ProductMembers) → AreMembersWithinLimits p
+    → AllByRecursion IsChargeWithinLimits charges → AreTermsWithinLimits (terms_of (charge_at charges) p)
 terms_within charges p m a = record {
   rate = m.rate;
   some_step = m.some_step;
@@ -39,16 +43,20 @@ and_right : (a b : Bool) → (a && b) ≡ true → b ≡ true
 and_right true b h = h
 and_right false b h = absurd (cc)
 
-pub graces_within : (p : ProductMembers) (principal n : ℕ) → limits_agree p ≡ true → allows p principal n ≡ true → (p.principal_grace < n) × (p.interest_grace < n)
+pub graces_within : (p : ProductMembers) (principal n : ℕ) → limits_agree p ≡ true → allows p principal n ≡ true
+    → (p.principal_grace < n) × (p.interest_grace < n)
 graces_within p principal n agree allow =
     let graces = and_right (nat_le p.min_principal p.max_principal && nat_le p.min_periods p.max_periods) _ agree in
-    let principal_grace : nat_lt p.principal_grace p.min_periods ≡ true = and_left (nat_lt p.principal_grace p.min_periods) _ graces in
-    let interest_grace : nat_lt p.interest_grace p.min_periods ≡ true = and_right (nat_lt p.principal_grace p.min_periods) _ graces in
+    let principal_grace : nat_lt p.principal_grace p.min_periods ≡ true =
+    and_left (nat_lt p.principal_grace p.min_periods) _ graces in
+    let interest_grace : nat_lt p.interest_grace p.min_periods ≡ true =
+    and_right (nat_lt p.principal_grace p.min_periods) _ graces in
     let periods = and_right (nat_le p.min_principal principal && nat_le principal p.max_principal) _ allow in
     let least : nat_le p.min_periods n ≡ true = and_left (nat_le p.min_periods n) _ periods in
     (grind (arith, nat_tests), grind (arith, nat_tests))
 
-pub loan_within : (p : ProductMembers) (principal n : ℕ) → AreMembersWithinLimits p → allows p principal n ≡ true → (1 ≤ principal) × (principal ≤ greatest_amount) × (1 ≤ n) × (n ≤ most_periods)
+pub loan_within : (p : ProductMembers) (principal n : ℕ) → AreMembersWithinLimits p → allows p principal n ≡ true
+    → (1 ≤ principal) × (principal ≤ greatest_amount) × (1 ≤ n) × (n ≤ most_periods)
 loan_within p principal n m allow =
     let amounts = and_left (nat_le p.min_principal principal && nat_le principal p.max_principal) _ allow in
     let least : nat_le p.min_principal principal ≡ true = and_left (nat_le p.min_principal principal) _ amounts in

@@ -23,9 +23,11 @@ greatest_rate = 100000
 abbrev pub most_weeks : ℕ
 most_weeks = 52
 
+-- months from one due day to the next, at most
 abbrev pub most_months : ℕ
 most_months = 12
 
+-- days of a period, at most
 abbrev pub most_days : ℕ
 most_days = 364
 
@@ -33,6 +35,7 @@ most_days = 364
 abbrev pub most_periods : ℕ
 most_periods = 360
 
+-- periods of a grace, at most
 abbrev pub most_grace : ℕ
 most_grace = 359
 
@@ -43,6 +46,7 @@ greatest_value OfAmount = greatest_percentage
 greatest_value OfInterest = greatest_percentage
 greatest_value OfBoth = greatest_percentage
 
+-- a charge whose value is within its limits
 pub record IsChargeWithinLimits (charge : ChargeDef) : Type 0 where
   pub some : 1 ≤ charge.value
   pub most : charge.value ≤ greatest_value charge.calc

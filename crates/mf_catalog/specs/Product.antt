@@ -1,6 +1,8 @@
--- Products: which charges they name, what they lend, and the terms that they give a loan. A catalogue's charges are a function from numbers, which gives None where no charge has the number.
+-- Products: which charges they name, what they lend, and the terms that they give a loan. A catalogue's charges are a
+-- function from numbers, which gives None where no charge has the number.
 use Rattle.std.specs.List.{find}
-use Rattle.std.specs.Prelude.{ℕ, ◌≤◌, Bool, true, false, cond, ◌&&◌, List, ◌==◌, nat_le, nat_lt, is_some, Option, Some, None, Result, Ok, Err}
+use Rattle.std.specs.Prelude.{ℕ, ◌≤◌, Bool, true, false, cond, ◌&&◌, List, ◌==◌, nat_le, nat_lt, is_some, Option, Some}
+use Rattle.std.specs.Prelude.{None, Result, Ok, Err}
 use Rattle.mf_base.specs.declared.fault.Fault.{Fault}
 use Rattle.mf_base.specs.declared.fault.Fault.TheVariants.{F7, F8}
 use Rattle.mf_catalog.specs.declared.charge.ChargeDef.{ChargeDef}
@@ -15,6 +17,7 @@ use Rattle.mf_catalog.specs.Limits.{greatest_amount, greatest_rate, most_grace, 
 abbrev pub charge_at : List ChargeDef → ℕ → Option ChargeDef
 charge_at charges k = find (λ charge. charge.number == k) charges
 
+-- two kinds of charges are one
 abbrev pub same_kind : ChargeKind → ChargeKind → Bool
 same_kind Disbursement Disbursement = true
 same_kind Instalment Instalment = true
@@ -39,15 +42,18 @@ is_of_kind charges kind (Some k) = has_kind kind (charges k)
 
 -- each charge that the product names is there
 abbrev pub charges_there : (ℕ → Option ChargeDef) → ProductMembers → Bool
-charges_there charges p = is_there charges p.disbursement_charge && (is_there charges p.instalment_charge && is_there charges p.overdue_charge)
+charges_there charges p = is_there charges p.disbursement_charge && (is_there charges p.instalment_charge && is_there
+    charges p.overdue_charge)
 
 -- each charge that the product names is there and of the kind that its place asks
 abbrev pub kinds_right : (ℕ → Option ChargeDef) → ProductMembers → Bool
-kinds_right charges p = is_of_kind charges Disbursement p.disbursement_charge && (is_of_kind charges Instalment p.instalment_charge && is_of_kind charges Overdue p.overdue_charge)
+kinds_right charges p = is_of_kind charges Disbursement p.disbursement_charge && (is_of_kind charges Instalment
+    p.instalment_charge && is_of_kind charges Overdue p.overdue_charge)
 
 -- each least limit is at most its greatest, and both graces are below the least number of periods
 abbrev pub limits_agree : ProductMembers → Bool
-limits_agree p = (nat_le p.min_principal p.max_principal && nat_le p.min_periods p.max_periods) && (nat_lt p.principal_grace p.min_periods && nat_lt p.interest_grace p.min_periods)
+limits_agree p = (nat_le p.min_principal p.max_principal && nat_le p.min_periods p.max_periods)
+    && (nat_lt p.principal_grace p.min_periods && nat_lt p.interest_grace p.min_periods)
 
 -- a product whose limits agree and whose charges are of the right kinds
 abbrev pub is_consistent : (ℕ → Option ChargeDef) → ProductMembers → Bool
@@ -55,17 +61,20 @@ is_consistent charges p = limits_agree p && kinds_right charges p
 
 -- a principal and a number of periods that lie within the product's limits
 abbrev pub allows : ProductMembers → ℕ → ℕ → Bool
-allows p principal n = (nat_le p.min_principal principal && nat_le principal p.max_principal) && (nat_le p.min_periods n && nat_le n p.max_periods)
+allows p principal n = (nat_le p.min_principal principal && nat_le principal p.max_principal) && (nat_le p.min_periods n
+    && nat_le n p.max_periods)
 
 -- a retired product lends nothing, and no product outside its limits
 abbrev pub lending : Product → ℕ → ℕ → Result (Unit {0}) Fault
 lending product principal n = cond product.retired (Err F7) (cond (allows product.members principal n) (Ok tt) (Err F8))
 
+-- the charge that a product names, if it names one
 abbrev pub charge_of : (ℕ → Option ChargeDef) → Option ℕ → Option ChargeDef
 charge_of charges None = None
 charge_of charges (Some k) = charges k
 
--- the terms that a product gives a loan, with these charges at disbursement, with each instalment and for an overdue one
+-- the terms that a product gives a loan, with these charges at disbursement, with each instalment and for an overdue
+-- one
 abbrev pub terms_with : ProductMembers → Option ChargeDef → Option ChargeDef → Option ChargeDef → Terms
 terms_with p disbursement instalment overdue = record {
   method = p.method;
@@ -82,7 +91,8 @@ terms_with p disbursement instalment overdue = record {
 
 -- the same with the charges that the product names
 abbrev pub terms_of : (ℕ → Option ChargeDef) → ProductMembers → Terms
-terms_of charges p = terms_with p (charge_of charges p.disbursement_charge) (charge_of charges p.instalment_charge) (charge_of charges p.overdue_charge)
+terms_of charges p = terms_with p (charge_of charges p.disbursement_charge) (charge_of charges p.instalment_charge)
+    (charge_of charges p.overdue_charge)
 
 -- the ranges in which the members of a product are read
 pub record AreMembersWithinLimits (p : ProductMembers) : Type 0 where

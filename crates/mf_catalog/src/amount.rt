@@ -1,3 +1,5 @@
+//! What a charge comes to on a principal and its interest.
+
 ghost use Rattle.std.specs.Prelude.{◌≡◌, ◌*◌, ◌<◌, ◌≤◌, ◌^◌};
 ghost use Rattle.mf_base.specs.Rounding.{half_even as rounded};
 ghost use Rattle.mf_catalog.specs.Charge.{amount_of, base_of};

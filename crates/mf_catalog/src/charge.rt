@@ -1,3 +1,5 @@
+//! Charges: what they are for, and how they are reckoned.
+
 use mf_base::Name;
 use std::alloc::AllocError;
 

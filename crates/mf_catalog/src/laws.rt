@@ -4,7 +4,9 @@ ghost use Rattle.std.specs.Prelude.{◌≡◌, ◌<◌, ◌≤◌, ℕ, List, tr
 ghost use Rattle.std.specs.List.{AllByRecursion};
 ghost use Rattle.mf_catalog.specs.declared.charge.ChargeDef.{ChargeDef};
 ghost use Rattle.mf_catalog.specs.declared.product.ProductMembers.{ProductMembers};
-ghost use Rattle.mf_catalog.specs.Limits.{greatest_amount, greatest_percentage, greatest_rate, most_weeks, most_months, most_days, most_periods, most_grace, IsChargeWithinLimits, AreTermsWithinLimits};
+ghost use Rattle.mf_catalog.specs.Limits.{greatest_amount, greatest_percentage, greatest_rate, most_weeks, most_months};
+ghost use Rattle.mf_catalog.specs.Limits.{most_days, most_periods, most_grace, IsChargeWithinLimits};
+ghost use Rattle.mf_catalog.specs.Limits.{AreTermsWithinLimits};
 ghost use Rattle.mf_catalog.specs.Product.{AreMembersWithinLimits, charge_at, limits_agree, allows, terms_of};
 
 use crate::limits::{
@@ -27,7 +29,8 @@ pub fn limits_are_as_stated()
 /// The terms that a product gives lie within the limits of terms where its members and its charges lie within theirs,
 /// and a loan that it allows has a principal and periods within the limits, and more periods than either grace.
 pub fn terms_within_limits()
-    ensures terms { (charges : List ChargeDef) (p : ProductMembers) → AreMembersWithinLimits p → AllByRecursion IsChargeWithinLimits charges →
+    ensures terms { (charges : List ChargeDef) (p : ProductMembers) → AreMembersWithinLimits p
+        → AllByRecursion IsChargeWithinLimits charges →
         AreTermsWithinLimits (terms_of (charge_at charges) p) }
     ensures graces { (p : ProductMembers) (principal n : ℕ) → limits_agree p ≡ true → allows p principal n ≡ true →
         (p.principal_grace < n) × (p.interest_grace < n) }

@@ -1,7 +1,10 @@
+//! Whether a product may be added, whether it lends so much for so long, and the terms that it gives.
+
 ghost use Rattle.std.specs.Prelude.{◌≡◌, ◌⊎◌, ℕ, cond, option_map, true, Ok, Err, IfOk, IfErr};
 ghost use Rattle.mf_base.specs.declared.fault.Fault.{Fault};
 ghost use Rattle.mf_base.specs.declared.fault.Fault.TheVariants.{F7, F8, F20};
-ghost use Rattle.mf_catalog.specs.Product.{charge_at, charges_there, is_consistent, limits_agree, kinds_right, is_of_kind, lending, charge_of, terms_of as terms_given};
+ghost use Rattle.mf_catalog.specs.Product.{charge_at, charges_there, is_consistent, limits_agree, kinds_right};
+ghost use Rattle.mf_catalog.specs.Product.{is_of_kind, lending, charge_of, terms_of as terms_given};
 
 use crate::charge::{ChargeDef, ChargeKind};
 use crate::product::{Product, ProductMembers};
@@ -39,9 +42,9 @@ fn do_limits_agree(members: &ProductMembers) -> bool
             && members.interest_grace < members.min_periods)
 }
 
-/// Checks that a product is consistent: each least limit is at most its greatest, both graces are below the least number
-/// of periods, and each charge that it names has the kind that its place asks. F8 where it isn't. The charges hold
-/// those that the product names. It takes no memory.
+/// Checks that a product is consistent: each least limit is at most its greatest, both graces are below the least
+/// number of periods, and each charge that it names has the kind that its place asks. F8 where it isn't. The charges
+/// hold those that the product names. It takes no memory.
 pub fn check_product(members: &ProductMembers, charges: &[ChargeDef]) -> Result<(), Fault>
     requires named { charges_there (charge_at charges.now) members.now ≡ true }
     ensures { result ≡ cond (is_consistent (charge_at charges.now) members.now) (Ok tt) (Err F8) }
@@ -116,9 +119,11 @@ pub fn terms_for(
     periods: u32,
 ) -> Result<Terms, Fault>
     requires named { charges_there (charge_at charges.now) product.now.members ≡ true }
-    ensures ok { IfOk result (λ terms. (lending product.now principal periods ≡ Ok tt) × (terms ≡ terms_given (charge_at charges.now) product.now.members)) }
+    ensures ok { IfOk result (λ terms. (lending product.now principal periods ≡ Ok tt)
+        × (terms ≡ terms_given (charge_at charges.now) product.now.members)) }
     ensures refused { (fault : Fault) → lending product.now principal periods ≡ Err fault → result ≡ Err fault }
-    ensures err { IfErr result (λ fault. (lending product.now principal periods ≡ Err fault) ⊎ ((lending product.now principal periods ≡ Ok tt) × (fault ≡ F20))) }
+    ensures err { IfErr result (λ fault. (lending product.now principal periods ≡ Err fault)
+        ⊎ ((lending product.now principal periods ≡ Ok tt) × (fault ≡ F20))) }
 {
     check_loan(product, principal, periods)?;
     terms_of(product, charges)

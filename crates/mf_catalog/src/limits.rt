@@ -1,3 +1,5 @@
+//! The limits of amounts, rates, steps and periods.
+
 ghost use Rattle.std.specs.Prelude.{◌≡◌};
 ghost use Rattle.mf_catalog.specs.Limits as spec;
 

@@ -1,11 +1,13 @@
 //! The choices that charges and products make, with their names and numbers.
 
 ghost use Rattle.std.specs.Prelude.{refl};
-ghost use Rattle.mf_catalog.specs.Names.{kind_name, kind_number, kinds, calc_name, calc_number, calcs, method_name, method_number, methods, strategy_name, strategy_number, strategies};
+ghost use Rattle.mf_catalog.specs.Names.{kind_name, kind_number, kinds, calc_name, calc_number, calcs, method_name};
+ghost use Rattle.mf_catalog.specs.Names.{method_number, methods, strategy_name, strategy_number, strategies};
 ghost use Rattle.mf_catalog.specs.declared.charge.ChargeKind.TheVariants.{Disbursement, Instalment, Overdue, DueDate};
 ghost use Rattle.mf_catalog.specs.declared.charge.Calc.TheVariants as calc;
 ghost use Rattle.mf_catalog.specs.declared.terms.Method.TheVariants as method;
-ghost use Rattle.mf_catalog.specs.declared.terms.StrategyName.TheVariants.{MifosStandard, PrincipalFirst, InterestFirst, DueFirst};
+ghost use Rattle.mf_catalog.specs.declared.terms.StrategyName.TheVariants.{MifosStandard, PrincipalFirst};
+ghost use Rattle.mf_catalog.specs.declared.terms.StrategyName.TheVariants.{InterestFirst, DueFirst};
 
 use crate::charge::{Calc, ChargeKind};
 use crate::terms::{Method, StrategyName};
@@ -40,7 +42,12 @@ impl Choice for ChargeKind {
         self as u32
     }
 
-    ghost told_apart = { elim [ Disbursement ↦ (refl, refl) | Instalment ↦ (refl, refl) | Overdue ↦ (refl, refl) | DueDate ↦ (refl, refl) ] };
+    ghost told_apart = { elim [
+      | Disbursement ↦ (refl, refl)
+      | Instalment ↦ (refl, refl)
+      | Overdue ↦ (refl, refl)
+      | DueDate ↦ (refl, refl)
+    ] };
 }
 
 impl Choice for Calc {
@@ -67,7 +74,12 @@ impl Choice for Calc {
         self as u32
     }
 
-    ghost told_apart = { elim [ calc.Flat ↦ (refl, refl) | calc.OfAmount ↦ (refl, refl) | calc.OfInterest ↦ (refl, refl) | calc.OfBoth ↦ (refl, refl) ] };
+    ghost told_apart = { elim [
+      | calc.Flat ↦ (refl, refl)
+      | calc.OfAmount ↦ (refl, refl)
+      | calc.OfInterest ↦ (refl, refl)
+      | calc.OfBoth ↦ (refl, refl)
+    ] };
 }
 
 impl Choice for Method {
@@ -125,5 +137,13 @@ impl Choice for StrategyName {
         self as u32
     }
 
-    ghost told_apart = { elim [ MifosStandard ↦ (refl, refl) | PrincipalFirst ↦ (refl, refl) | InterestFirst ↦ (refl, refl) | DueFirst ↦ (refl, refl) ] };
+    ghost told_apart = { elim [
+      | MifosStandard ↦ (refl, refl)
+      | PrincipalFirst ↦ (refl, refl)
+      | InterestFirst ↦ (
+        refl,
+        refl,
+      )
+      | DueFirst ↦ (refl, refl)
+    ] };
 }

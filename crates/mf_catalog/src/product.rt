@@ -1,3 +1,5 @@
+//! Products: what they lend, and by which charges and strategy.
+
 use crate::charge::ChargeDef;
 use crate::terms::{Method, StrategyName, Terms};
 use mf_base::{Freq, Name};

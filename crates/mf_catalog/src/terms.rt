@@ -1,3 +1,5 @@
+//! The terms of a loan, as they are once a product and its charges are known.
+
 use crate::charge::ChargeDef;
 use mf_base::Freq;
 

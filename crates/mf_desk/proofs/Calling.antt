@@ -17,13 +17,22 @@ refused_keeps (Ok p) f h = absurd (cc)
 
 module _ {S : Type 0} (store : Ghosts S) where
   -- The answer of the desk, told of a line. What shows a reply refuses it only where it is out of memory.
-  pub told_of_answer : {T : Type 0} (shows : Reply → Result T Fault → Type 0) (told : Result Reply Fault → Type 0) (call : Call) (old new : S) (result : Result T Fault)
-      → ((t : T) (r : Reply) → result ≡ Ok t → shows r (Ok t) → told (Ok r)) → ((f : Fault) → result ≡ Err f → told (Err f)) → ((r : Reply) (f : Fault) → shows r (Err f) → f ≡ F20)
-      → Tells store shows (reply call) old new result → Changes store {T = T} call old new result → Calls store told call old new
+  pub told_of_answer : {T : Type 0} (shows : Reply → Result T Fault → Type 0) (told : Result Reply Fault → Type 0)
+      (call : Call) (old new : S) (result : Result T Fault)
+      → ((t : T) (r : Reply) → result ≡ Ok t → shows r (Ok t) → told (Ok r)) → ((f : Fault) → result ≡ Err f
+      → told (Err f)) → ((r : Reply) (f : Fault) → shows r (Err f) → f ≡ F20)
+      → Tells store shows (reply call) old new result → Changes store {T = T} call old new result
+      → Calls store told call old new
   told_of_answer {T = T} shows told call old new (Ok t) ok err f20 s a = record {
     premise = a.premise;
-    answered = λ c i h. let w = s.shown c i h in
-        (false, record { replied = subst told (sym w.1) (ok t w.0 refl w.2); follows = a.made c i h; stop = λ is l. a.stop c i is h l });
+    answered = λ c i h. let w = s.shown c i h in (
+      false,
+      record {
+        replied = subst told (sym w.1) (ok t w.0 refl w.2);
+        follows = a.made c i h;
+        stop = λ is l. a.stop c i is h l;
+      },
+    );
   }
   told_of_answer {T = T} shows told call old new (Err f) ok err f20 s a = record {
     premise = a.premise;
@@ -36,16 +45,27 @@ module _ {S : Type 0} (store : Ghosts S) where
     ];
   }
     where
-      given : (c : store.clean new) (i : Institution) (h : store.stands old i) → f ≡ F20 → (given_up : Bool) × AnswersLine store told (record { call = call; given_up = given_up }) i old new
-      given c i h e = (true, record { replied = subst (λ (x : Fault). told (Err x)) e (err f refl); follows = a.same c i h; stop = λ is l. a.stop_refused c i is h l })
+      given : (c : store.clean new) (i : Institution) (h : store.stands old i) → f ≡ F20 → (given_up : Bool)
+          × AnswersLine store told (record { call = call; given_up = given_up }) i old new
+      given c i h e = (
+        true,
+        record {
+          replied = subst (λ (x : Fault). told (Err x)) e (err f refl);
+          follows = a.same c i h;
+          stop = λ is l. a.stop_refused c i is h l;
+        },
+      )
 
-      refused : (c : store.clean new) (i : Institution) (h : store.stands old i) → reply call i ≡ Err f → (given_up : Bool) × AnswersLine store told (record { call = call; given_up = given_up }) i old new
+      refused : (c : store.clean new) (i : Institution) (h : store.stands old i) → reply call i ≡ Err f
+          → (given_up : Bool) × AnswersLine store told (record { call = call; given_up = given_up }) i old new
       refused c i h r =
           let none : change_in (outcome call i) ≡ None = refused_keeps (outcome call i) f r in (
             false,
             record {
               replied = subst told (sym r) (err f refl);
               follows = subst (λ (k : Option Change). store.stands new (after_maybe k i)) (sym none) (a.same c i h);
-              stop = λ is l. subst (λ (k : Option Change). store.leaves new (left_by k false i is)) (sym none) (subst (λ (k : Option Change). store.leaves new (left_by k true i is)) none (a.stop_refused c i is h l));
+              stop = λ is l. subst (λ (k : Option Change). store.leaves new (left_by k false i is)) (sym none)
+                  (subst (λ (k : Option Change). store.leaves new (left_by k true i is)) none
+                  (a.stop_refused c i is h l));
             },
           )

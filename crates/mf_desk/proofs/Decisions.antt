@@ -22,18 +22,25 @@ none_there (Some x) never = absurd (never x refl)
 
 module _ {S : Type 0} (store : Ghosts S) where
   -- what is decided after a reading, where the value that was read leads from the one outcome to the other
-  pub then_decides : {R : Type 0} (value : Institution → R) (told then_told : Institution → Outcome) (old mid new : S) (r : R) (result : Result Decision Fault) → Reads store.stands store.clean store.leaves value old mid (Ok r) → ((i : Institution) → r ≡ value i → told i ≡ then_told i) → Decides store then_told mid new result → Decides store told old new result
+  pub then_decides : {R : Type 0} (value : Institution → R) (told then_told : Institution → Outcome) (old mid new : S)
+      (r : R) (result : Result Decision Fault) → Reads store.stands store.clean store.leaves value old mid (Ok r)
+      → ((i : Institution) → r ≡ value i → told i ≡ then_told i) → Decides store then_told mid new result
+      → Decides store told old new result
   then_decides value told then_told old mid new r result read leads d = record {
     premise = λ k. read.premise (d.premise k);
     same = λ k i s. d.same k i (read.same (d.premise k) i s);
-    decides = λ k i s. subst (λ (o : Outcome). IfOk result (λ x. o ≡ decision_outcome x i)) (sym (leads i (read.value_is (d.premise k) i s))) (d.decides k i (read.same (d.premise k) i s));
-    refuses = λ k i s. subst (λ (o : Outcome). IfErr result (λ fault. (fault ≡ F20) ⊎ (o ≡ Err fault))) (sym (leads i (read.value_is (d.premise k) i s))) (d.refuses k i (read.same (d.premise k) i s));
+    decides = λ k i s. subst (λ (o : Outcome). IfOk result (λ x. o ≡ decision_outcome x i))
+        (sym (leads i (read.value_is (d.premise k) i s))) (d.decides k i (read.same (d.premise k) i s));
+    refuses = λ k i s. subst (λ (o : Outcome). IfErr result (λ fault. (fault ≡ F20) ⊎ (o ≡ Err fault)))
+        (sym (leads i (read.value_is (d.premise k) i s))) (d.refuses k i (read.same (d.premise k) i s));
     handed = λ k i s. d.handed k i (read.same (d.premise k) i s);
     stop = λ k is l. d.stop k is (read.stop (d.premise k) is l);
   }
 
   -- a refusal after a reading
-  pub then_refuses : {R : Type 0} (value : Institution → R) (told : Institution → Outcome) (old new : S) (r : R) (fault : Fault) → Reads store.stands store.clean store.leaves value old new (Ok r) → ((i : Institution) → r ≡ value i → told i ≡ Err fault) → Decides store told old new (Err fault)
+  pub then_refuses : {R : Type 0} (value : Institution → R) (told : Institution → Outcome) (old new : S) (r : R)
+      (fault : Fault) → Reads store.stands store.clean store.leaves value old new (Ok r)
+      → ((i : Institution) → r ≡ value i → told i ≡ Err fault) → Decides store told old new (Err fault)
   then_refuses value told old new r fault read leads = record {
     premise = read.premise;
     same = read.same;
@@ -50,10 +57,12 @@ module _ {S : Type 0} (store : Ghosts S) where
     pub holds : store.clean new → (i : Institution) → store.stands old i → Holds i
     pub stop : store.clean new → (is : List Institution) → store.leaves old is → store.leaves new is
 
-  pub learns : {R : Type 0} (value : Institution → Result R Fault) (old new : S) (r : R) → Asks store value old new (Ok r) → Learns (λ i. value i ≡ Ok r) old new
+  pub learns : {R : Type 0} (value : Institution → Result R Fault) (old new : S) (r : R)
+      → Asks store value old new (Ok r) → Learns (λ i. value i ≡ Ok r) old new
   learns value old new r ask = record { premise = ask.premise; same = ask.same; holds = ask.gives; stop = ask.stop }
 
-  pub learns_both : (P Q : Institution → Type 0) (old mid new : S) → Learns P old mid → Learns Q mid new → Learns (λ i. P i × Q i) old new
+  pub learns_both : (P Q : Institution → Type 0) (old mid new : S) → Learns P old mid → Learns Q mid new
+      → Learns (λ i. P i × Q i) old new
   learns_both P Q old mid new p q = record {
     premise = λ k. p.premise (q.premise k);
     same = λ k i s. q.same k i (p.same (q.premise k) i s);
@@ -62,18 +71,24 @@ module _ {S : Type 0} (store : Ghosts S) where
   }
 
   -- what is decided after that
-  pub learned_decides : (Holds : Institution → Type 0) (told then_told : Institution → Outcome) (old mid new : S) (result : Result Decision Fault) → Learns Holds old mid → ((i : Institution) → Holds i → told i ≡ then_told i) → Decides store then_told mid new result → Decides store told old new result
+  pub learned_decides : (Holds : Institution → Type 0) (told then_told : Institution → Outcome) (old mid new : S)
+      (result : Result Decision Fault) → Learns Holds old mid → ((i : Institution) → Holds i → told i ≡ then_told i)
+      → Decides store then_told mid new result → Decides store told old new result
   learned_decides Holds told then_told old mid new result l leads d = record {
     premise = λ k. l.premise (d.premise k);
     same = λ k i s. d.same k i (l.same (d.premise k) i s);
-    decides = λ k i s. subst (λ (o : Outcome). IfOk result (λ x. o ≡ decision_outcome x i)) (sym (leads i (l.holds (d.premise k) i s))) (d.decides k i (l.same (d.premise k) i s));
-    refuses = λ k i s. subst (λ (o : Outcome). IfErr result (λ fault. (fault ≡ F20) ⊎ (o ≡ Err fault))) (sym (leads i (l.holds (d.premise k) i s))) (d.refuses k i (l.same (d.premise k) i s));
+    decides = λ k i s. subst (λ (o : Outcome). IfOk result (λ x. o ≡ decision_outcome x i))
+        (sym (leads i (l.holds (d.premise k) i s))) (d.decides k i (l.same (d.premise k) i s));
+    refuses = λ k i s. subst (λ (o : Outcome). IfErr result (λ fault. (fault ≡ F20) ⊎ (o ≡ Err fault)))
+        (sym (leads i (l.holds (d.premise k) i s))) (d.refuses k i (l.same (d.premise k) i s));
     handed = λ k i s. d.handed k i (l.same (d.premise k) i s);
     stop = λ k is x. d.stop k is (l.stop (d.premise k) is x);
   }
 
   -- a refusal after that
-  pub learned_refuses : (Holds : Institution → Type 0) (told : Institution → Outcome) (old new : S) (fault : Fault) → Learns Holds old new → ((i : Institution) → Holds i → (fault ≡ F20) ⊎ (told i ≡ Err fault)) → Decides store told old new (Err fault)
+  pub learned_refuses : (Holds : Institution → Type 0) (told : Institution → Outcome) (old new : S) (fault : Fault)
+      → Learns Holds old new → ((i : Institution) → Holds i → (fault ≡ F20) ⊎ (told i ≡ Err fault))
+      → Decides store told old new (Err fault)
   learned_refuses Holds told old new fault l leads = record {
     premise = l.premise;
     same = l.same;
@@ -90,22 +105,29 @@ planned : (request : Request) → IsRequest request → (p : Plan) × (plan requ
 planned (Unreadable flaw) h = absurd (h flaw refl)
 planned _ h = (_, refl)
 
-permitted_none : (c : Caller) (request : Request) (p : Plan) (s : Option Staff) (i : Institution) → None ≡ option_map (λ (t : Staff). t.role) s → where_permitted c request p s i ≡ Err F2
+permitted_none : (c : Caller) (request : Request) (p : Plan) (s : Option Staff) (i : Institution)
+    → None ≡ option_map (λ (t : Staff). t.role) s → where_permitted c request p s i ≡ Err F2
 permitted_none c request p None i h = refl
 permitted_none c request p (Some s) i h = absurd (cc)
 
-permitted_some : (c : Caller) (request : Request) (p : Plan) (s : Option Staff) (role : Role) (i : Institution) → Some role ≡ option_map (λ (t : Staff). t.role) s → where_permitted c request p s i ≡ cond (meets (need request) role c.office) (plan_outcome (Ok p) c i) (Err F3)
+permitted_some : (c : Caller) (request : Request) (p : Plan) (s : Option Staff) (role : Role) (i : Institution)
+    → Some role ≡ option_map (λ (t : Staff). t.role) s → where_permitted c request p s i
+    ≡ cond (meets (need request) role c.office) (plan_outcome (Ok p) c i) (Err F3)
 permitted_some c request p None role i h = absurd (cc)
-permitted_some c request p (Some s) role i h = let e : s.role ≡ role = cc in ap (λ r. cond (meets (need request) r c.office) (plan_outcome (Ok p) c i) (Err F3)) e
+permitted_some c request p (Some s) role i h = let e : s.role ≡ role =
+    cc in ap (λ r. cond (meets (need request) r c.office) (plan_outcome (Ok p) c i) (Err F3)) e
 
 -- an unknown caller
-pub sent_unknown : (c : Caller) (request : Request) (i : Institution) → IsRequest request → None ≡ role_of c i → outcome (call_of c request) i ≡ Err F2
+pub sent_unknown : (c : Caller) (request : Request) (i : Institution) → IsRequest request → None ≡ role_of c i
+    → outcome (call_of c request) i ≡ Err F2
 sent_unknown c request i h s =
     let w = planned request h in
     ap (λ p. sent_by (Some c) request p i) w.1 ∙ permitted_none c request w.0 (staff_at i c) i s
 
 -- a known one
-pub sent_known : (c : Caller) (request : Request) (role : Role) (i : Institution) → IsRequest request → Some role ≡ role_of c i → outcome (call_of c request) i ≡ cond (meets (need request) role c.office) (request_outcome c request i) (Err F3)
+pub sent_known : (c : Caller) (request : Request) (role : Role) (i : Institution) → IsRequest request
+    → Some role ≡ role_of c i → outcome (call_of c request) i ≡ cond (meets (need request) role c.office)
+    (request_outcome c request i) (Err F3)
 sent_known c request role i h s =
     let w = planned request h in
     ap (λ p. sent_by (Some c) request p i) w.1 ∙ permitted_some c request w.0 (staff_at i c) role i s

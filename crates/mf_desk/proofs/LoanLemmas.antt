@@ -1,5 +1,6 @@
 -- What was found of a loan, and what is decided of it.
-use Rattle.std.proofs.Common.{◌≡◌, ℕ, ◌-◌, Bool, true, false, cond, List, [], ◌∷◌, ◌++◌, Option, Some, None, Ok, Err, inl, inr, refl, sym, ap, ◌∙◌, subst}
+use Rattle.std.proofs.Common.{◌≡◌, ℕ, ◌-◌, Bool, true, false, cond, List, [], ◌∷◌, ◌++◌, Option, Some, None, Ok, Err}
+use Rattle.std.proofs.Common.{inl, inr, refl, sym, ap, ◌∙◌, subst}
 use Rattle.std.specs.Prelude.{Result, ◌⊎◌, is_some, option_map, IfSome}
 use Rattle.mf_base.specs.declared.fault.Fault.{Fault}
 use Rattle.mf_base.specs.declared.fault.Fault.TheVariants.{F4, F20}
@@ -24,7 +25,8 @@ use Rattle.mf_model.specs.declared.reply.LoanReply.{LoanReply}
 use Rattle.mf_model.specs.declared.reply.LoanReply.TheVariants.{Shown, Entered, Reversed}
 use Rattle.mf_model.specs.declared.reply.LoanReply.TheVariants as told
 use Rattle.mf_model.specs.declared.reply.Reply.TheVariants as reply
-use Rattle.mf_model.specs.Institution.{Institution, Catalogue, Office, Rows, Ledger, Rows_become, office_at, item_numbered}
+use Rattle.mf_model.specs.Institution.{Institution, Catalogue, Office, Rows, Ledger, Rows_become, office_at}
+use Rattle.mf_model.specs.Institution.{item_numbered}
 use Rattle.mf_model.specs.Tree.{parent_of}
 use Rattle.mf_model.specs.Outcomes.{where_found}
 use Rattle.mf_model.specs.Accounts.{account_in, of_account, no_balances, statement}
@@ -33,14 +35,18 @@ use Rattle.mf_model.specs.Receipts.{Use, uses_from, used_before, repeated_seq}
 use Rattle.mf_model.specs.declared.loan.ReceiptUse.{ReceiptUse}
 use Rattle.mf_model.specs.declared.request.Repayment.{Repayment}
 use Rattle.mf_model.specs.declared.request.LoanRequest.TheVariants.{Repay}
-use Rattle.mf_model.specs.Loans.{LedgerChange, with_new_entry, with_reversal, with_entries, unless_fault, fault_or, none_first, enter, reverse, on_loan, loan_changed, loan_entered, of_loan, in_loan, repayment, repeat_of, unless_known}
+use Rattle.mf_model.specs.Loans.{LedgerChange, with_new_entry, with_reversal, with_entries, unless_fault, fault_or}
+use Rattle.mf_model.specs.Loans.{none_first, enter, reverse, on_loan, loan_changed, loan_entered, of_loan, in_loan}
+use Rattle.mf_model.specs.Loans.{repayment, repeat_of, unless_known}
 use Rattle.mf_model.specs.Desk.{Outcome, of_office, in_office}
-use Rattle.mf_model.specs.Store.{Reads, rows_of, rows_at, ledger_at, account_of, account_at, IsHanded, IsHandedOn, OneMore, OneReversed}
+use Rattle.mf_model.specs.Store.{Reads, rows_of, rows_at, ledger_at, account_of, account_at, IsHanded, IsHandedOn}
+use Rattle.mf_model.specs.Store.{OneMore, OneReversed}
 use Rattle.mf_model.specs.declared.store.InstitutionStore.{Ghosts}
 use Rattle.mf_model.proofs.Growing.{with_same_at}
 use Rattle.mf_model.proofs.AccountLemmas.{account_is}
 use Rattle.mf_desk.specs.declared.decision.Decision.{Decision}
-use Rattle.mf_desk.specs.Answers.{Asks, Decides, decision_outcome, request_outcome, sight, if_there, if_disbursed, loan_there, account_there, use_named, loan_outcome, in_ledger}
+use Rattle.mf_desk.specs.Answers.{Asks, Decides, decision_outcome, request_outcome, sight, if_there, if_disbursed}
+use Rattle.mf_desk.specs.Answers.{loan_there, account_there, use_named, loan_outcome, in_ledger}
 use Rattle.mf_desk.specs.Statements.{of_kept, statement_by, asked_for, told_by}
 use Rattle.mf_desk.specs.declared.statements.Part.{Part}
 use Rattle.mf_desk.specs.declared.statements.Part.TheVariants.{Sums, Instalments, Entries}
@@ -53,10 +59,15 @@ abbrev allowed : Result (Unit {0}) Fault
 allowed = Ok tt
 
 -- a loan that the caller sees
-pub loan_seen : (c : Caller) (loan : Account) (asked : LoanRequest) (i : Institution) → sight c.office loan.office i ≡ Ok tt → request_outcome c (request.Loan loan asked) i ≡ loan_outcome loan asked c i
-loan_seen c loan asked i h = seen (is_at_or_below (parent_of i.offices) loan.office c.office) (office_at loan.office i.offices) h
+pub loan_seen : (c : Caller) (loan : Account) (asked : LoanRequest) (i : Institution) → sight c.office loan.office i
+    ≡ Ok tt → request_outcome c (request.Loan loan asked) i ≡ loan_outcome loan asked c i
+loan_seen c loan asked i h =
+    seen (is_at_or_below (parent_of i.offices) loan.office c.office) (office_at loan.office i.offices) h
   where
-    seen : (b : Bool) (office : Option Office) → where_seen (cond b office None) ≡ allowed → in_office loan.office (λ k f. in_loan loan (on_loan asked c k f.rows loan.number) f.rows) i.catalogue (cond b office None) ≡ of_office loan.office (in_loan loan (on_loan asked c i.catalogue (rows_of office) loan.number) (rows_of office))
+    seen : (b : Bool) (office : Option Office) → where_seen (cond b office None) ≡ allowed
+        → in_office loan.office (λ k f. in_loan loan (on_loan asked c k f.rows loan.number) f.rows) i.catalogue
+        (cond b office None) ≡ of_office loan.office (in_loan loan (on_loan asked c i.catalogue (rows_of office)
+        loan.number) (rows_of office))
     seen false office h = absurd (cc)
     seen true None h = absurd (cc)
     seen true (Some f) h = refl
@@ -70,27 +81,39 @@ pub record IsFound (loan : Account) (found : Loan) (i : Institution) : Type 0 wh
 pub is_found : (loan : Account) (found : Loan) (i : Institution) → loan_there loan i ≡ Ok found → IsFound loan found i
 is_found loan found i h = at (ledger_at loan i) refl h
   where
-    at : (o : Option Ledger) → ledger_at loan i ≡ o → if_there (option_map (λ (l : Ledger). l.loan) o) ≡ Ok found → IsFound loan found i
+    at : (o : Option Ledger) → ledger_at loan i ≡ o → if_there (option_map (λ (l : Ledger). l.loan) o) ≡ Ok found
+        → IsFound loan found i
     at None e h = absurd (cc)
     at (Some l) e h = record { ledger = l; ledger_is = e; loan_is = cc }
 
 -- what is done with it
-pub in_found : (loan : Account) (found : Loan) (act : Catalogue → Ledger → Result (LoanReply × Option LedgerChange) Fault) (i : Institution) (f : IsFound loan found i) → in_ledger loan act i ≡ of_office loan.office (of_loan loan (rows_at loan.office i) (act i.catalogue f.ledger))
-in_found loan found act i f = ap (λ (o : Option Ledger). of_office loan.office (where_found o (λ l. of_loan loan (rows_at loan.office i) (act i.catalogue l)))) f.ledger_is
+pub in_found : (loan : Account) (found : Loan) (act : Catalogue → Ledger → Result (LoanReply × Option LedgerChange)
+    Fault) (i : Institution) (f : IsFound loan found i) → in_ledger loan act i ≡ of_office loan.office
+    (of_loan loan (rows_at loan.office i) (act i.catalogue f.ledger))
+in_found loan found act i f = ap (λ (o : Option Ledger). of_office loan.office
+    (where_found o (λ l. of_loan loan (rows_at loan.office i) (act i.catalogue l)))) f.ledger_is
 
 -- its account
-pub account_found : (loan : Account) (found : Loan) (r : Option Kept) (i : Institution) (f : IsFound loan found i) → r ≡ account_at loan i → r ≡ option_map account_by_replay (account_in i.catalogue f.ledger)
-account_found loan found r i f h = h ∙ ap (λ (o : Option Ledger). option_map account_by_replay (account_of i.catalogue o)) f.ledger_is
+pub account_found : (loan : Account) (found : Loan) (r : Option Kept) (i : Institution) (f : IsFound loan found i)
+    → r ≡ account_at loan i → r ≡ option_map account_by_replay (account_in i.catalogue f.ledger)
+account_found loan found r i f h =
+    h ∙ ap (λ (o : Option Ledger). option_map account_by_replay (account_of i.catalogue o)) f.ledger_is
 
 -- what is told of a loan's account is told of what is kept of it
-pub told_of_kept : {A : Type 0} (none : A) (told : Kept → A) (o : Option Running) → of_account none (λ a. told (account_by_replay a)) o ≡ of_kept none told (option_map account_by_replay o)
+pub told_of_kept : {A : Type 0} (none : A) (told : Kept → A) (o : Option Running)
+    → of_account none (λ a. told (account_by_replay a)) o ≡ of_kept none told (option_map account_by_replay o)
 told_of_kept none told None = refl
 told_of_kept none told (Some a) = refl
 
-pub statement_is : (k : Catalogue) (l : Ledger) → statement k l ≡ statement_by l.loan (option_map account_by_replay (account_in k l))
+pub statement_is : (k : Catalogue) (l : Ledger) → statement k l ≡ statement_by l.loan (option_map account_by_replay
+    (account_in k l))
 statement_is k l = go (account_in k l)
   where
-    go : (o : Option Running) → record (statement k l) { status = of_account (stage_number l.loan.stage) status_of_loan o; balances = of_account no_balances balances_of o } ≡ statement_by l.loan (option_map account_by_replay o)
+    go : (o : Option Running) → record (statement k l) {
+      status = of_account (stage_number l.loan.stage) status_of_loan
+          o;
+      balances = of_account no_balances balances_of o;
+    } ≡ statement_by l.loan (option_map account_by_replay o)
     go None = refl
     go (Some a) = refl
 
@@ -98,18 +121,24 @@ statement_is k l = go (account_in k l)
 abbrev pub shown : Part → Catalogue → Ledger → Result (LoanReply × Option LedgerChange) Fault
 shown part k l = Ok (told_by part l.loan (option_map account_by_replay (account_in k l)), None)
 
-is_shown : (part : Part) (c : Caller) (k : Catalogue) (rows : Rows) (n : ℕ) (l : Ledger) → on_loan (asked_for part) c k rows n l ≡ shown part k l
+is_shown : (part : Part) (c : Caller) (k : Catalogue) (rows : Rows) (n : ℕ) (l : Ledger)
+    → on_loan (asked_for part) c k rows n l ≡ shown part k l
 is_shown Sums c k rows n l = ap (λ (x : Statement). Ok (Shown x, None)) (statement_is k l)
-is_shown Instalments c k rows n l = ap (λ (x : List InstalmentLine). Ok (told.Instalments x, None)) (told_of_kept [] (λ a. instalments_from 1 a.state.rows) (account_in k l))
-is_shown Entries c k rows n l = ap (λ (x : List EntryLine). Ok (told.Entries x, None)) (told_of_kept [] entries_kept (account_in k l))
+is_shown Instalments c k rows n l = ap (λ (x : List InstalmentLine). Ok (told.Instalments x, None))
+    (told_of_kept [] (λ a. instalments_from 1 a.state.rows) (account_in k l))
+is_shown Entries c k rows n l =
+    ap (λ (x : List EntryLine). Ok (told.Entries x, None)) (told_of_kept [] entries_kept (account_in k l))
 
-part_shown : (part : Part) (c : Caller) (loan : Account) (i : Institution) → loan_outcome loan (asked_for part) c i ≡ in_ledger loan (shown part) i
+part_shown : (part : Part) (c : Caller) (loan : Account) (i : Institution) → loan_outcome loan (asked_for part) c i
+    ≡ in_ledger loan (shown part) i
 part_shown part c loan i = at (item_numbered (rows_at loan.office i).loans loan.number)
   where
-    at : (o : Option Ledger) → of_office loan.office (where_found o (λ l. of_loan loan (rows_at loan.office i) (on_loan (asked_for part) c i.catalogue (rows_at loan.office i) loan.number l)))
+    at : (o : Option Ledger) → of_office loan.office (where_found o (λ l. of_loan loan (rows_at loan.office i)
+        (on_loan (asked_for part) c i.catalogue (rows_at loan.office i) loan.number l)))
         ≡ of_office loan.office (where_found o (λ l. of_loan loan (rows_at loan.office i) (shown part i.catalogue l)))
     at None = refl
-    at (Some l) = ap (λ x. of_office loan.office (of_loan loan (rows_at loan.office i) x)) (is_shown part c i.catalogue (rows_at loan.office i) loan.number l)
+    at (Some l) = ap (λ x. of_office loan.office (of_loan loan (rows_at loan.office i) x))
+        (is_shown part c i.catalogue (rows_at loan.office i) loan.number l)
 
 -- what is told of a loan, and no change
 abbrev pub tells : Account → LoanReply → Decision
@@ -127,20 +156,26 @@ is_replayed loan a i h = at (ledger_at loan i) h
   where
     running : (o : Option Running) → if_disbursed (option_map account_by_replay o) ≡ Ok a → IsReplayed a
     running None h = absurd (cc)
-    running (Some r) h = let same : account_by_replay r ≡ a = cc in subst IsReplayed same (record { state = refl; settled = refl })
+    running (Some r) h = let same : account_by_replay r ≡ a =
+        cc in subst IsReplayed same (record { state = refl; settled = refl })
 
-    at : (o : Option Ledger) → where_found (option_map (λ (l : Ledger). l.loan) o) (λ found. if_disbursed (option_map account_by_replay (account_of i.catalogue o))) ≡ Ok a → IsReplayed a
+    at : (o : Option Ledger) → where_found (option_map (λ (l : Ledger). l.loan) o)
+        (λ found. if_disbursed (option_map account_by_replay (account_of i.catalogue o))) ≡ Ok a → IsReplayed a
     at None h = absurd (cc)
     at (Some l) h = running (account_in i.catalogue l) h
 
-pub is_account_of : (loan : Account) (a : Kept) (i : Institution) → account_there loan i ≡ Ok a → IsAccountOf loan a.loan i
+pub is_account_of : (loan : Account) (a : Kept) (i : Institution) → account_there loan i ≡ Ok a
+    → IsAccountOf loan a.loan i
 is_account_of loan a i h = at (ledger_at loan i) refl h
   where
-    running : (l : Ledger) (o : Option Running) → account_in i.catalogue l ≡ o → ledger_at loan i ≡ Some l → if_disbursed (option_map account_by_replay o) ≡ Ok a → IsAccountOf loan a.loan i
+    running : (l : Ledger) (o : Option Running) → account_in i.catalogue l ≡ o → ledger_at loan i ≡ Some l
+        → if_disbursed (option_map account_by_replay o) ≡ Ok a → IsAccountOf loan a.loan i
     running l None is e h = absurd (cc)
-    running l (Some r) is e h = let same : account_by_replay r ≡ a = cc in record { ledger = l; ledger_is = e; account_is = is ∙ ap (λ (x : Kept). Some x.loan) same }
+    running l (Some r) is e h = let same : account_by_replay r ≡ a =
+        cc in record { ledger = l; ledger_is = e; account_is = is ∙ ap (λ (x : Kept). Some x.loan) same }
 
-    at : (o : Option Ledger) → ledger_at loan i ≡ o → where_found (option_map (λ (l : Ledger). l.loan) o) (λ found. if_disbursed (option_map account_by_replay (account_of i.catalogue o))) ≡ Ok a → IsAccountOf loan a.loan i
+    at : (o : Option Ledger) → ledger_at loan i ≡ o → where_found (option_map (λ (l : Ledger). l.loan) o) (λ found.
+        if_disbursed (option_map account_by_replay (account_of i.catalogue o))) ≡ Ok a → IsAccountOf loan a.loan i
     at None e h = absurd (cc)
     at (Some l) e h = running l (account_in i.catalogue l) refl e h
 
@@ -153,52 +188,86 @@ abbrev pub refuses : (Running → Option Fault) → (ℕ → Running → Entry) 
 refuses first make a today = fault_or (first a) (refusal_of a (make today a) today)
 
 -- what is done with a loan that was found, with its account
-abbrev on_account : Account → (Catalogue → Option Running → Result (LoanReply × Option LedgerChange) Fault) → Institution → Outcome
+abbrev on_account : Account → (Catalogue → Option Running → Result (LoanReply × Option LedgerChange) Fault)
+    → Institution → Outcome
 on_account loan act i = in_ledger loan (λ k l. act k (account_in k l)) i
 
-pub account_acted : (loan : Account) (act : Catalogue → Option Running → Result (LoanReply × Option LedgerChange) Fault) (a : Running) (i : Institution) → IsAccountOf loan a i → on_account loan act i ≡ of_office loan.office (of_loan loan (rows_at loan.office i) (act i.catalogue (Some a)))
+pub account_acted : (loan : Account) (act : Catalogue → Option Running → Result (LoanReply × Option LedgerChange) Fault)
+    (a : Running) (i : Institution) → IsAccountOf loan a i → on_account loan act i ≡ of_office loan.office
+    (of_loan loan (rows_at loan.office i) (act i.catalogue (Some a)))
 account_acted loan act a i f =
-    ap (λ (o : Option Ledger). of_office loan.office (where_found o (λ l. of_loan loan (rows_at loan.office i) (act i.catalogue (account_in i.catalogue l))))) f.ledger_is
-    ∙ ap (λ (o : Option Running). of_office loan.office (of_loan loan (rows_at loan.office i) (act i.catalogue o))) f.account_is
+    ap (λ (o : Option Ledger). of_office loan.office (where_found o (λ l. of_loan loan (rows_at loan.office i)
+    (act i.catalogue (account_in i.catalogue l))))) f.ledger_is
+    ∙ ap (λ (o : Option Running). of_office loan.office (of_loan loan (rows_at loan.office i) (act i.catalogue o)))
+    f.account_is
 
 -- its account refuses the entry
-pub entering_refused : (loan : Account) (first : Running → Option Fault) (make : ℕ → Running → Entry) (a : Kept) (today : ℕ) (fault : Fault) (i : Institution) → account_there loan i ≡ Ok a → today ≡ i.catalogue.day → refuses first make a.loan today ≡ Some fault → entering loan first make i ≡ Err fault
+pub entering_refused : (loan : Account) (first : Running → Option Fault) (make : ℕ → Running → Entry) (a : Kept)
+    (today : ℕ) (fault : Fault) (i : Institution) → account_there loan i ≡ Ok a → today ≡ i.catalogue.day
+    → refuses first make a.loan today ≡ Some fault → entering loan first make i ≡ Err fault
 entering_refused loan first make a today fault i h day refused =
     account_acted loan (enter first make) a.loan i (is_account_of loan a i h)
-    ∙ ap (λ (n : ℕ). of_office loan.office (of_loan loan (rows_at loan.office i) (unless_fault (refuses first make a.loan n) (Entered (make n a.loan).seq) (with_new_entry (make n a.loan))))) (sym day)
-    ∙ ap (λ (o : Option Fault). of_office loan.office (of_loan loan (rows_at loan.office i) (unless_fault o (Entered (make today a.loan).seq) (with_new_entry (make today a.loan))))) refused
+    ∙ ap (λ (n : ℕ). of_office loan.office (of_loan loan (rows_at loan.office i)
+    (unless_fault (refuses first make a.loan n) (Entered (make n a.loan).seq) (with_new_entry (make n a.loan)))))
+    (sym day)
+    ∙ ap (λ (o : Option Fault). of_office loan.office (of_loan loan (rows_at loan.office i)
+    (unless_fault o (Entered (make today a.loan).seq) (with_new_entry (make today a.loan))))) refused
 
 -- what becomes of a loan is committed as the entries that it has then
-commit_is : (loan : Account) (a : Running) (change : LedgerChange) (after : List Entry) (i : Institution) (f : IsAccountOf loan a i) → ((l : Ledger) → l.entries ≡ a.entries → change l ≡ with_entries after l) → loan_changed loan.number change (rows_at loan.office i) ≡ loan_entered loan.number after (rows_at loan.office i)
+commit_is : (loan : Account) (a : Running) (change : LedgerChange) (after : List Entry) (i : Institution)
+    (f : IsAccountOf loan a i) → ((l : Ledger) → l.entries ≡ a.entries → change l ≡ with_entries after l)
+    → loan_changed loan.number change (rows_at loan.office i) ≡ loan_entered loan.number after (rows_at loan.office i)
 commit_is loan a change after i f same =
-    let is : f.ledger.entries ≡ a.entries = ap (λ (x : Running). x.entries) (account_is i.catalogue f.ledger a f.account_is).account_is in
+    let is : f.ledger.entries ≡ a.entries =
+    ap (λ (x : Running). x.entries) (account_is i.catalogue f.ledger a f.account_is).account_is in
     ap (λ (ls : List Ledger). record (rows_at loan.office i) { loans = ls })
-    (with_same_at loan.number change (with_entries after) (rows_at loan.office i).loans f.ledger f.ledger_is (same f.ledger is))
+    (with_same_at loan.number change (with_entries after) (rows_at loan.office i).loans f.ledger f.ledger_is
+    (same f.ledger is))
 
 -- its account takes the entry
-pub entering_accepted : (loan : Account) (first : Running → Option Fault) (make : ℕ → Running → Entry) (a new : Kept) (today : ℕ) (i : Institution) → account_there loan i ≡ Ok a → today ≡ i.catalogue.day → refuses first make a.loan today ≡ None → new.loan.entries ≡ a.loan.entries ++ make today a.loan ∷ []
-    → entering loan first make i ≡ decision_outcome (record { reply = reply.Loan loan (Entered (make today a.loan).seq); commit = Some (AddEntry loan new) }) i
+pub entering_accepted : (loan : Account) (first : Running → Option Fault) (make : ℕ → Running → Entry) (a new : Kept)
+    (today : ℕ) (i : Institution) → account_there loan i ≡ Ok a → today ≡ i.catalogue.day
+    → refuses first make a.loan today ≡ None → new.loan.entries ≡ a.loan.entries ++ make today a.loan ∷ []
+    → entering loan first make i ≡ decision_outcome (record {
+      reply = reply.Loan loan (Entered (make today a.loan).seq);
+      commit = Some (AddEntry loan new);
+    }) i
 entering_accepted loan first make a new today i h day accepted entries =
     let f = is_account_of loan a i h in
     let e = make today a.loan in
-    let one_more : (l : Ledger) → l.entries ≡ a.loan.entries → with_new_entry e l ≡ with_entries new.loan.entries l = λ l is. ap (λ es. with_entries (es ++ e ∷ []) l) is ∙ ap (λ es. with_entries es l) (sym entries) in
+    let one_more : (l : Ledger) → l.entries ≡ a.loan.entries → with_new_entry e l ≡ with_entries new.loan.entries l =
+    λ l is. ap (λ es. with_entries (es ++ e ∷ []) l) is ∙ ap (λ es. with_entries es l) (sym entries) in
     account_acted loan (enter first make) a.loan i f
-    ∙ ap (λ (n : ℕ). of_office loan.office (of_loan loan (rows_at loan.office i) (unless_fault (refuses first make a.loan n) (Entered (make n a.loan).seq) (with_new_entry (make n a.loan))))) (sym day)
-    ∙ ap (λ (o : Option Fault). of_office loan.office (of_loan loan (rows_at loan.office i) (unless_fault o (Entered e.seq) (with_new_entry e)))) accepted
-    ∙ ap (λ (rows : Rows). Ok (reply.Loan loan (Entered e.seq), Some (Rows_become loan.office rows))) (commit_is loan a.loan (with_new_entry e) new.loan.entries i f one_more)
+    ∙ ap (λ (n : ℕ). of_office loan.office (of_loan loan (rows_at loan.office i)
+    (unless_fault (refuses first make a.loan n) (Entered (make n a.loan).seq) (with_new_entry (make n a.loan)))))
+    (sym day)
+    ∙ ap (λ (o : Option Fault). of_office loan.office (of_loan loan (rows_at loan.office i)
+    (unless_fault o (Entered e.seq) (with_new_entry e)))) accepted
+    ∙ ap (λ (rows : Rows). Ok (reply.Loan loan (Entered e.seq), Some (Rows_become loan.office rows)))
+    (commit_is loan a.loan (with_new_entry e) new.loan.entries i f one_more)
 
 -- its account lets the entry go
-pub reversing_accepted : (loan : Account) (seq : ℕ) (a new : Kept) (i : Institution) → account_there loan i ≡ Ok a → reversal_refused a.loan.entries seq ≡ None → new.loan.entries ≡ with_mark a.loan.entries (seq - 1) true
-    → on_account loan (λ k. reverse seq) i ≡ decision_outcome (record { reply = reply.Loan loan (Reversed seq); commit = Some (ReverseEntry loan seq new) }) i
+pub reversing_accepted : (loan : Account) (seq : ℕ) (a new : Kept) (i : Institution) → account_there loan i ≡ Ok a
+    → reversal_refused a.loan.entries seq ≡ None → new.loan.entries ≡ with_mark a.loan.entries (seq - 1) true
+    → on_account loan (λ k. reverse seq) i ≡ decision_outcome (record {
+      reply = reply.Loan loan (Reversed seq);
+      commit = Some (ReverseEntry loan seq new);
+    }) i
 reversing_accepted loan seq a new i h accepted entries =
     let f = is_account_of loan a i h in
-    let marked : (l : Ledger) → l.entries ≡ a.loan.entries → with_reversal seq l ≡ with_entries new.loan.entries l = λ l is. ap (λ es. with_entries (with_mark es (seq - 1) true) l) is ∙ ap (λ es. with_entries es l) (sym entries) in
+    let marked : (l : Ledger) → l.entries ≡ a.loan.entries → with_reversal seq l ≡ with_entries new.loan.entries l = λ l
+    is. ap (λ es. with_entries (with_mark es (seq - 1) true) l) is ∙ ap (λ es. with_entries es l) (sym entries) in
     account_acted loan (λ k. reverse seq) a.loan i f
-    ∙ ap (λ (o : Option Fault). of_office loan.office (of_loan loan (rows_at loan.office i) (unless_fault o (Reversed seq) (with_reversal seq)))) accepted
-    ∙ ap (λ (rows : Rows). Ok (reply.Loan loan (Reversed seq), Some (Rows_become loan.office rows))) (commit_is loan a.loan (with_reversal seq) new.loan.entries i f marked)
+    ∙ ap (λ (o : Option Fault). of_office loan.office (of_loan loan (rows_at loan.office i)
+    (unless_fault o (Reversed seq) (with_reversal seq)))) accepted
+    ∙ ap (λ (rows : Rows). Ok (reply.Loan loan (Reversed seq), Some (Rows_become loan.office rows)))
+    (commit_is loan a.loan (with_reversal seq) new.loan.entries i f marked)
 
 -- the account is handed on with other entries
-handed_on : (loan : Account) (becomes : List Entry → List Entry → Type 0) (a new : Kept) (entries : List Entry) (i : Institution) → account_there loan i ≡ Ok a → new.loan ≡ record a.loan { entries = entries } → becomes a.loan.entries new.loan.entries → IsReplayed new → IsChange a.loan new.loan new.change → IsHandedOn loan becomes new i
+handed_on : (loan : Account) (becomes : List Entry → List Entry → Type 0) (a new : Kept) (entries : List Entry)
+    (i : Institution) → account_there loan i ≡ Ok a → new.loan ≡ record a.loan { entries = entries }
+    → becomes a.loan.entries new.loan.entries → IsReplayed new → IsChange a.loan new.loan new.change
+    → IsHandedOn loan becomes new i
 handed_on loan becomes a new entries i h is became kept change =
     let f = is_account_of loan a i h in
     record {
@@ -211,25 +280,36 @@ handed_on loan becomes a new entries i h is became kept change =
     }
 
 -- a repayment whose receipt is known, or not
-abbrev pub when_used : ℕ → Repayment → Option ReceiptUse → Result (LoanReply × Option LedgerChange) Fault → Result (LoanReply × Option LedgerChange) Fault
+abbrev pub when_used : ℕ → Repayment → Option ReceiptUse → Result (LoanReply × Option LedgerChange) Fault
+    → Result (LoanReply × Option LedgerChange) Fault
 when_used n asked None next = next
 when_used n asked (Some used) next = repeat_of (repeated_seq n asked.amount asked.day used)
 
-known_is : (n : ℕ) (asked : Repayment) (o : Option Use) (r : Option ReceiptUse) (next : Result (LoanReply × Option LedgerChange) Fault) → option_map (λ (u : Use). u.by) o ≡ r → unless_known n asked o next ≡ when_used n asked r next
+known_is : (n : ℕ) (asked : Repayment) (o : Option Use) (r : Option ReceiptUse)
+    (next : Result (LoanReply × Option LedgerChange) Fault) → option_map (λ (u : Use). u.by) o ≡ r
+    → unless_known n asked o next ≡ when_used n asked r next
 known_is n asked None r next h = ap (λ x. when_used n asked x next) h
 known_is n asked (Some u) r next h = ap (λ x. when_used n asked x next) h
 
-named_is : (x : ℕ) (receipt : Option (List ℕ)) (r : Option ReceiptUse) (i : Institution) → use_named x receipt i ≡ Ok r → option_map (λ (u : Use). u.by) (used_before receipt (uses_from 1 (rows_at x i).loans)) ≡ r
+named_is : (x : ℕ) (receipt : Option (List ℕ)) (r : Option ReceiptUse) (i : Institution) → use_named x receipt i ≡ Ok r
+    → option_map (λ (u : Use). u.by) (used_before receipt (uses_from 1 (rows_at x i).loans)) ≡ r
 named_is x None r i h = cc
 named_is x (Some receipt) r i h = cc
 
-pub repay_is : (c : Caller) (loan : Account) (asked : Repayment) (r : Option ReceiptUse) (i : Institution) → use_named loan.office asked.receipt i ≡ Ok r → loan_outcome loan (Repay asked) c i ≡ in_ledger loan (λ k l. when_used loan.number asked r (enter none_first (λ today. repayment asked c) k (account_in k l))) i
+pub repay_is : (c : Caller) (loan : Account) (asked : Repayment) (r : Option ReceiptUse) (i : Institution)
+    → use_named loan.office asked.receipt i ≡ Ok r → loan_outcome loan (Repay asked) c i ≡ in_ledger loan
+    (λ k l. when_used loan.number asked r (enter none_first (λ today. repayment asked c) k (account_in k l))) i
 repay_is c loan asked r i h = at (item_numbered (rows_at loan.office i).loans loan.number)
   where
-    at : (o : Option Ledger) → of_office loan.office (where_found o (λ l. of_loan loan (rows_at loan.office i) (on_loan (Repay asked) c i.catalogue (rows_at loan.office i) loan.number l)))
-        ≡ of_office loan.office (where_found o (λ l. of_loan loan (rows_at loan.office i) (when_used loan.number asked r (enter none_first (λ today. repayment asked c) i.catalogue (account_in i.catalogue l)))))
+    at : (o : Option Ledger) → of_office loan.office (where_found o (λ l. of_loan loan (rows_at loan.office i)
+        (on_loan (Repay asked) c i.catalogue (rows_at loan.office i) loan.number l)))
+        ≡ of_office loan.office (where_found o (λ l. of_loan loan (rows_at loan.office i) (when_used loan.number asked r
+        (enter none_first (λ today. repayment asked c) i.catalogue (account_in i.catalogue l)))))
     at None = refl
-    at (Some l) = ap (λ x. of_office loan.office (of_loan loan (rows_at loan.office i) x)) (known_is loan.number asked (used_before asked.receipt (uses_from 1 (rows_at loan.office i).loans)) r (enter none_first (λ today. repayment asked c) i.catalogue (account_in i.catalogue l)) (named_is loan.office asked.receipt r i h))
+    at (Some l) = ap (λ x. of_office loan.office (of_loan loan (rows_at loan.office i) x))
+        (known_is loan.number asked (used_before asked.receipt (uses_from 1 (rows_at loan.office i).loans)) r
+        (enter none_first (λ today. repayment asked c) i.catalogue (account_in i.catalogue l))
+        (named_is loan.office asked.receipt r i h))
 
 -- what is known of the refusal of a call on an account by what came of it
 pub taken : {A : Type 0} (x : A) (o : Option Fault) → ((fault : Fault) → o ≡ Some fault → Ok x ≡ Err fault) → o ≡ None
@@ -239,16 +319,25 @@ taken x (Some fault) h = let never : Ok x ≡ Err fault = h fault refl in absurd
 abbrev refusal : (A : Type 0) → Fault → Result A Fault
 refusal A fault = Err fault
 
-pub refused : {A : Type 0} (f : Fault) (o : Option Fault) → ((fault : Fault) → o ≡ Some fault → refusal A f ≡ refusal A fault) → (o ≡ None → f ≡ F20) → (f ≡ F20) ⊎ (o ≡ Some f)
+pub refused : {A : Type 0} (f : Fault) (o : Option Fault) → ((fault : Fault) → o ≡ Some fault
+    → refusal A f ≡ refusal A fault) → (o ≡ None → f ≡ F20) → (f ≡ F20) ⊎ (o ≡ Some f)
 refused f None h k = inl (k refl)
 refused {A = A} f (Some fault) h k = let same : refusal A f ≡ refusal A fault = h fault refl in inr (cc)
 
 module _ {S : Type 0} (store : Ghosts S) where
-  pub learns_value : {R : Type 0} (value : Institution → R) (old new : S) (r : R) → Reads store.stands store.clean store.leaves value old new (Ok r) → Learns store (λ i. r ≡ value i) old new
-  learns_value value old new r read = record { premise = read.premise; same = read.same; holds = read.value_is; stop = read.stop }
+  pub learns_value : {R : Type 0} (value : Institution → R) (old new : S) (r : R)
+      → Reads store.stands store.clean store.leaves value old new (Ok r) → Learns store (λ i. r ≡ value i) old new
+  learns_value value old new r read = record {
+    premise = read.premise;
+    same = read.same;
+    holds = read.value_is;
+    stop = read.stop;
+  }
 
   -- what is decided after some readings
-  pub learned_tells : (Holds : Institution → Type 0) (told : Institution → Outcome) (old new : S) (d : Decision) → Learns store Holds old new → ((i : Institution) → Holds i → told i ≡ decision_outcome d i) → ((i : Institution) → Holds i → IfSome d.commit (λ c. IsHanded c i))
+  pub learned_tells : (Holds : Institution → Type 0) (told : Institution → Outcome) (old new : S) (d : Decision)
+      → Learns store Holds old new → ((i : Institution) → Holds i → told i ≡ decision_outcome d i)
+      → ((i : Institution) → Holds i → IfSome d.commit (λ c. IsHanded c i))
       → Decides store told old new (Ok d)
   learned_tells Holds told old new d l leads handed = record {
     premise = l.premise;
@@ -260,17 +349,22 @@ module _ {S : Type 0} (store : Ghosts S) where
   }
 
   -- a part of a loan that was found, with its account
-  pub told_of_found : (loan : Account) (part : Part) (c : Caller) (found : Loan) (r : Option Kept) (old mid new : S) (d : Decision) → Asks store (loan_there loan) old mid (Ok found) → Reads store.stands store.clean store.leaves (account_at loan) mid new (Ok r)
+  pub told_of_found : (loan : Account) (part : Part) (c : Caller) (found : Loan) (r : Option Kept) (old mid new : S)
+      (d : Decision) → Asks store (loan_there loan) old mid (Ok found) → Reads store.stands store.clean store.leaves
+      (account_at loan) mid new (Ok r)
       → d ≡ tells loan (told_by part found r) → Decides store (loan_outcome loan (asked_for part) c) old new (Ok d)
   told_of_found loan part c found r old mid new d ask read is =
-      learned_tells (λ i. (loan_there loan i ≡ Ok found) × (r ≡ account_at loan i)) (loan_outcome loan (asked_for part) c) old new d
+      learned_tells (λ i. (loan_there loan i ≡ Ok found) × (r ≡ account_at loan i))
+      (loan_outcome loan (asked_for part) c) old new d
       (learns_both store (λ i. loan_there loan i ≡ Ok found) (λ i. r ≡ account_at loan i) old mid new
       (learns store (loan_there loan) old mid found ask) (learns_value (account_at loan) mid new r read))
       (λ i h.
       let f = is_found loan found i h.0 in
       part_shown part c loan i ∙ in_found loan found (shown part) i f
-      ∙ ap (λ (x : Loan). decision_outcome (tells loan (told_by part x (option_map account_by_replay (account_in i.catalogue f.ledger)))) i) f.loan_is
-      ∙ ap (λ (o : Option Kept). decision_outcome (tells loan (told_by part found o)) i) (sym (account_found loan found r i f h.1))
+      ∙ ap (λ (x : Loan). decision_outcome
+      (tells loan (told_by part x (option_map account_by_replay (account_in i.catalogue f.ledger)))) i) f.loan_is
+      ∙ ap (λ (o : Option Kept). decision_outcome (tells loan (told_by part found o)) i)
+      (sym (account_found loan found r i f h.1))
       ∙ ap (λ (x : Decision). decision_outcome x i) (sym is))
       (λ i h. subst (λ (x : Decision). IfSome x.commit (λ c. IsHanded c i)) (sym is) tt)
 
@@ -278,31 +372,61 @@ module _ {S : Type 0} (store : Ghosts S) where
   abbrev Known : Account → Kept → ℕ → Institution → Type 0
   Known loan a today i = (account_there loan i ≡ Ok a) × (today ≡ i.catalogue.day)
 
-  known : (loan : Account) (a : Kept) (today : ℕ) (old mid new : S) → Asks store (account_there loan) old mid (Ok a) → Reads store.stands store.clean store.leaves (λ i. i.catalogue.day) mid new (Ok today) → Learns store (Known loan a today) old new
+  known : (loan : Account) (a : Kept) (today : ℕ) (old mid new : S) → Asks store (account_there loan) old mid (Ok a)
+      → Reads store.stands store.clean store.leaves (λ i. i.catalogue.day) mid new (Ok today)
+      → Learns store (Known loan a today) old new
   known loan a today old mid new ask read =
       learns_both store (λ i. account_there loan i ≡ Ok a) (λ i. today ≡ i.catalogue.day) old mid new
       (learns store (account_there loan) old mid a ask) (learns_value (λ i. i.catalogue.day) mid new today read)
 
-  pub then_entered : (loan : Account) (first : Running → Option Fault) (make : ℕ → Running → Entry) (a after : Kept) (today : ℕ) (old mid new : S) → Asks store (account_there loan) old mid (Ok a) → Reads store.stands store.clean store.leaves (λ i. i.catalogue.day) mid new (Ok today)
-      → (IsReplayed a → refuses first make a.loan today ≡ None) → after.loan ≡ record a.loan { entries = a.loan.entries ++ make today a.loan ∷ [] } → (IsReplayed a → IsReplayed after) → (IsReplayed a → IsChange a.loan after.loan after.change)
-      → Decides store (in_ledger loan (λ k l. enter first make k (account_in k l))) old new (Ok (record { reply = reply.Loan loan (Entered (make today a.loan).seq); commit = Some (AddEntry loan after) }))
+  pub then_entered : (loan : Account) (first : Running → Option Fault) (make : ℕ → Running → Entry) (a after : Kept)
+      (today : ℕ) (old mid new : S) → Asks store (account_there loan) old mid (Ok a)
+      → Reads store.stands store.clean store.leaves (λ i. i.catalogue.day) mid new (Ok today)
+      → (IsReplayed a → refuses first make a.loan today ≡ None) → after.loan ≡ record a.loan {
+        entries = a.loan.entries
+            ++ make today a.loan ∷ [];
+      } → (IsReplayed a → IsReplayed after)
+      → (IsReplayed a → IsChange a.loan after.loan after.change)
+      → Decides store (in_ledger loan (λ k l. enter first make k (account_in k l))) old new
+      (Ok (record {
+        reply = reply.Loan loan (Entered (make today a.loan).seq);
+        commit = Some (AddEntry loan after);
+      }))
   then_entered loan first make a after today old mid new ask read accepted is kept change =
       let entries = ap (λ (x : Running). x.entries) is in
-      learned_tells (Known loan a today) (entering loan first make) old new _ (known loan a today old mid new ask read) (λ i h. entering_accepted loan first make a after today i h.0 h.1 (accepted (is_replayed loan a i h.0)) entries)
-      (λ i h. let true_to = is_replayed loan a i h.0 in handed_on loan OneMore a after (a.loan.entries ++ make today a.loan ∷ []) i h.0 is (make today a.loan, entries) (kept true_to) (change true_to))
+      learned_tells (Known loan a today) (entering loan first make) old new _ (known loan a today old mid new ask read)
+      (λ i h. entering_accepted loan first make a after today i h.0 h.1 (accepted (is_replayed loan a i h.0))
+      entries)
+      (λ i h. let true_to = is_replayed loan a i h.0 in handed_on loan OneMore a after (a.loan.entries
+      ++ make today a.loan ∷ []) i h.0 is (make today a.loan, entries) (kept true_to) (change true_to))
 
-  pub then_refused : (loan : Account) (first : Running → Option Fault) (make : ℕ → Running → Entry) (a : Kept) (today : ℕ) (fault : Fault) (old mid new : S) → Asks store (account_there loan) old mid (Ok a) → Reads store.stands store.clean store.leaves (λ i. i.catalogue.day) mid new (Ok today)
+  pub then_refused : (loan : Account) (first : Running → Option Fault) (make : ℕ → Running → Entry) (a : Kept)
+      (today : ℕ) (fault : Fault) (old mid new : S) → Asks store (account_there loan) old mid (Ok a)
+      → Reads store.stands store.clean store.leaves (λ i. i.catalogue.day) mid new (Ok today)
       → (IsReplayed a → (fault ≡ F20) ⊎ (refuses first make a.loan today ≡ Some fault))
       → Decides store (in_ledger loan (λ k l. enter first make k (account_in k l))) old new (Err fault)
   then_refused loan first make a today fault old mid new ask read refused =
-      learned_refuses store (Known loan a today) (entering loan first make) old new fault (known loan a today old mid new ask read)
-      (λ i h. elim (refused (is_replayed loan a i h.0)) [ inl given_up ↦ inl given_up | inr is ↦ inr (entering_refused loan first make a today fault i h.0 h.1 is) ])
+      learned_refuses store (Known loan a today) (entering loan first make) old new fault (known loan a today old mid
+      new ask read)
+      (λ i h. elim (refused (is_replayed loan a i h.0)) [
+        | inl given_up ↦ inl given_up
+        | inr is ↦ inr
+            (entering_refused loan first make a today fault i h.0 h.1 is)
+      ])
 
   -- what is reversed in the account of a loan
-  pub then_reversed : (loan : Account) (seq : ℕ) (a after : Kept) (old new : S) → Asks store (account_there loan) old new (Ok a)
-      → reversal_refused a.loan.entries seq ≡ None → after.loan ≡ record a.loan { entries = with_mark a.loan.entries (seq - 1) true } → (IsReplayed a → IsReplayed after) → (IsReplayed a → IsChange a.loan after.loan after.change)
-      → Decides store (in_ledger loan (λ k l. reverse seq (account_in k l))) old new (Ok (record { reply = reply.Loan loan (Reversed seq); commit = Some (ReverseEntry loan seq after) }))
+  pub then_reversed : (loan : Account) (seq : ℕ) (a after : Kept) (old new : S) → Asks store (account_there loan) old
+      new (Ok a)
+      → reversal_refused a.loan.entries seq ≡ None → after.loan ≡ record a.loan {
+        entries = with_mark a.loan.entries
+            (seq - 1) true;
+      } → (IsReplayed a → IsReplayed after)
+      → (IsReplayed a → IsChange a.loan after.loan after.change)
+      → Decides store (in_ledger loan (λ k l. reverse seq (account_in k l))) old new
+      (Ok (record { reply = reply.Loan loan (Reversed seq); commit = Some (ReverseEntry loan seq after) }))
   then_reversed loan seq a after old new ask accepted is kept change =
       let entries = ap (λ (x : Running). x.entries) is in
-      learned_tells (λ i. account_there loan i ≡ Ok a) (on_account loan (λ k. reverse seq)) old new _ (learns store (account_there loan) old new a ask) (λ i h. reversing_accepted loan seq a after i h accepted entries)
-      (λ i h. let true_to = is_replayed loan a i h in handed_on loan (OneReversed seq) a after (with_mark a.loan.entries (seq - 1) true) i h is (record { allowed = accepted; marked = entries }) (kept true_to) (change true_to))
+      learned_tells (λ i. account_there loan i ≡ Ok a) (on_account loan (λ k. reverse seq)) old new _ (learns store
+      (account_there loan) old new a ask) (λ i h. reversing_accepted loan seq a after i h accepted entries)
+      (λ i h. let true_to = is_replayed loan a i h in handed_on loan (OneReversed seq) a after (with_mark a.loan.entries
+      (seq - 1) true) i h is (record { allowed = accepted; marked = entries }) (kept true_to) (change true_to))

@@ -1,5 +1,6 @@
 -- What the desk does with a request, in the words of the institution that its store stands for.
-use Rattle.std.specs.Prelude.{◌≡◌, ℕ, ◌≤◌, ◌^◌, ◌⊎◌, true, false, cond, is_some, List, sum_by, option_map, Option, Some, None, Result, Ok, Err, IfOk, IfErr, IfSome, OnOk, OnErr}
+use Rattle.std.specs.Prelude.{◌≡◌, ℕ, ◌≤◌, ◌^◌, ◌⊎◌, true, false, cond, is_some, List, sum_by, option_map, Option, Some}
+use Rattle.std.specs.Prelude.{None, Result, Ok, Err, IfOk, IfErr, IfSome, OnOk, OnErr}
 use Rattle.mf_base.specs.declared.fault.Fault.{Fault}
 use Rattle.mf_base.specs.declared.fault.Fault.TheVariants.{F2, F4, F9, F20}
 use Rattle.mf_office.specs.declared.account.Account.{Account}
@@ -88,7 +89,8 @@ use_named x None i = Ok None
 use_named x (Some receipt) i = Ok (receipt_at x receipt i)
 
 -- what becomes of a loan and of the rows of its office
-abbrev pub in_ledger : Account → (Catalogue → Ledger → Result (LoanReply × Option LedgerChange) Fault) → Institution → Outcome
+abbrev pub in_ledger : Account → (Catalogue → Ledger → Result (LoanReply × Option LedgerChange) Fault) → Institution
+    → Outcome
 in_ledger loan act i = in_rows loan.office (λ k rows. in_loan loan (act k) rows) i
 
 -- the arrears that a caller sees; F2 where there is no such member of staff
@@ -96,36 +98,52 @@ abbrev pub arrears_told : Caller → Institution → Result (List Line) Fault
 arrears_told c i = cond (is_some (staff_at i c)) (Ok (arrears_seen c.office i)) (Err F2)
 
 module _ {S : Type 0} (store : Ghosts S) where
-  -- A decision reads the store and changes nothing. It is the outcome, its refusal the outcome's, and it may give up. What its commit hands on is as a store asks.
+  -- A decision reads the store and changes nothing. It is the outcome, its refusal the outcome's, and it may give up.
+  -- What its commit hands on is as a store asks.
   pub record Decides (told : Institution → Outcome) (old new : S) (result : Result Decision Fault) : Type 0 where
     pub premise : store.clean new → store.clean old
     pub same : store.clean new → (i : Institution) → store.stands old i → store.stands new i
-    pub decides : store.clean new → (i : Institution) → store.stands old i → IfOk result (λ d. told i ≡ decision_outcome d i)
-    pub refuses : store.clean new → (i : Institution) → store.stands old i → IfErr result (λ fault. (fault ≡ F20) ⊎ (told i ≡ Err fault))
-    pub handed : store.clean new → (i : Institution) → store.stands old i → IfOk result (λ d. IfSome d.commit (λ c. IsHanded c i))
+    pub decides : store.clean new → (i : Institution) → store.stands old i
+        → IfOk result (λ d. told i ≡ decision_outcome d i)
+    pub refuses : store.clean new → (i : Institution) → store.stands old i → IfErr result (λ fault. (fault ≡ F20)
+        ⊎ (told i ≡ Err fault))
+    pub handed : store.clean new → (i : Institution) → store.stands old i
+        → IfOk result (λ d. IfSome d.commit (λ c. IsHanded c i))
     pub stop : store.clean new → (is : List Institution) → store.leaves old is → store.leaves new is
 
-  -- What is worked out of a reading of the store, which changes nothing. It is what the institution gives, its refusal the institution's, and it may give up.
-  pub record Asks {R : Type 0} (value : Institution → Result R Fault) (old new : S) (result : Result R Fault) : Type 0 where
+  -- What is worked out of a reading of the store, which changes nothing. It is what the institution gives, its refusal
+  -- the institution's, and it may give up.
+  pub record Asks {R : Type 0} (value : Institution → Result R Fault) (old new : S) (result : Result R Fault) : Type
+      0 where
     pub premise : store.clean new → store.clean old
     pub same : store.clean new → (i : Institution) → store.stands old i → store.stands new i
     pub gives : store.clean new → (i : Institution) → store.stands old i → IfOk result (λ r. value i ≡ Ok r)
-    pub refuses : store.clean new → (i : Institution) → store.stands old i → IfErr result (λ fault. (fault ≡ F20) ⊎ (value i ≡ Err fault))
+    pub refuses : store.clean new → (i : Institution) → store.stands old i → IfErr result (λ fault. (fault ≡ F20)
+        ⊎ (value i ≡ Err fault))
     pub stop : store.clean new → (is : List Institution) → store.leaves old is → store.leaves new is
 
   -- Lines that were read have at most 10^10 loans in all, so that a report can sum them.
   abbrev pub CanBeSummed : S → S → Result (List Line) Fault → Type 0
-  CanBeSummed old new result = store.clean new → (i : Institution) → store.stands old i → IfOk result (λ lines. sum_by (λ (line : Line). line.loans) lines ≤ 10 ^ 10)
+  CanBeSummed old new result = store.clean new → (i : Institution) → store.stands old i
+      → IfOk result (λ lines. sum_by (λ (line : Line). line.loans) lines ≤ 10 ^ 10)
 
-  -- What was made of the reply that the institution tells, or its refusal, or the refusal to make something of its reply, or F20.
-  pub record Tells {T : Type 0} (shows : Reply → Result T Fault → Type 0) (told : Institution → Result Reply Fault) (old new : S) (result : Result T Fault) : Type 0 where
-    pub shown : store.clean new → (i : Institution) → store.stands old i → IfOk result (λ t. (r : Reply) × (told i ≡ Ok r) × shows r (Ok t))
-    pub refused : store.clean new → (i : Institution) → store.stands old i → IfErr result (λ fault. (fault ≡ F20) ⊎ ((told i ≡ Err fault) ⊎ ((r : Reply) × (told i ≡ Ok r) × shows r (Err fault))))
+  -- What was made of the reply that the institution tells, or its refusal, or the refusal to make something of its
+  -- reply, or F20.
+  pub record Tells {T : Type 0} (shows : Reply → Result T Fault → Type 0) (told : Institution → Result Reply Fault)
+      (old new : S) (result : Result T Fault) : Type 0 where
+    pub shown : store.clean new → (i : Institution) → store.stands old i → IfOk result (λ t. (r : Reply)
+        × (told i ≡ Ok r) × shows r (Ok t))
+    pub refused : store.clean new → (i : Institution) → store.stands old i → IfErr result (λ fault. (fault ≡ F20)
+        ⊎ ((told i ≡ Err fault) ⊎ ((r : Reply) × (told i ≡ Ok r) × shows r (Err fault))))
 
-  -- At Ok the call's change is made whole, if it makes one; at Err nothing is changed. A stop leaves what it left before, or the change.
+  -- At Ok the call's change is made whole, if it makes one; at Err nothing is changed. A stop leaves what it left
+  -- before, or the change.
   pub record Changes {T : Type 0} (call : Call) (old new : S) (result : Result T Fault) : Type 0 where
     pub premise : store.clean new → store.clean old
-    pub made : store.clean new → (i : Institution) → store.stands old i → OnOk result (store.stands new (after_maybe (change_in (outcome call i)) i))
+    pub made : store.clean new → (i : Institution) → store.stands old i
+        → OnOk result (store.stands new (after_maybe (change_in (outcome call i)) i))
     pub same : store.clean new → (i : Institution) → store.stands old i → OnErr result (store.stands new i)
-    pub stop : store.clean new → (i : Institution) (is : List Institution) → store.stands old i → store.leaves old is → OnOk result (store.leaves new (left_by (change_in (outcome call i)) false i is))
-    pub stop_refused : store.clean new → (i : Institution) (is : List Institution) → store.stands old i → store.leaves old is → OnErr result (store.leaves new (left_by (change_in (outcome call i)) true i is))
+    pub stop : store.clean new → (i : Institution) (is : List Institution) → store.stands old i → store.leaves old is
+        → OnOk result (store.leaves new (left_by (change_in (outcome call i)) false i is))
+    pub stop_refused : store.clean new → (i : Institution) (is : List Institution) → store.stands old i
+        → store.leaves old is → OnErr result (store.leaves new (left_by (change_in (outcome call i)) true i is))

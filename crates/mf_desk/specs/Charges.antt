@@ -21,4 +21,5 @@ charge_before (Some charge) charges = charge ∷ charges
 
 -- those of three charges that there are
 abbrev pub list_of : Option ChargeDef → Option ChargeDef → Option ChargeDef → List ChargeDef
-list_of disbursement instalment overdue = charge_before disbursement (charge_before instalment (charge_before overdue []))
+list_of disbursement instalment overdue =
+    charge_before disbursement (charge_before instalment (charge_before overdue []))

@@ -14,9 +14,11 @@ module _ {S : Type 0} (store : Ghosts S) where
   pub record AnswersLine (told : Result Reply Fault → Type 0) (l : Line) (i : Institution) (old new : S) : Type 0 where
     pub replied : told (answer l i)
     pub follows : store.stands new (next l i)
-    pub stop : (is : List Institution) → store.leaves old is → store.leaves new (left_by (change_in (outcome l.call i)) l.given_up i is)
+    pub stop : (is : List Institution) → store.leaves old is
+        → store.leaves new (left_by (change_in (outcome l.call i)) l.given_up i is)
 
   -- A call was answered. Whether it was given up is known afterwards.
   pub record Calls (told : Result Reply Fault → Type 0) (call : Call) (old new : S) : Type 0 where
     pub premise : store.clean new → store.clean old
-    pub answered : store.clean new → (i : Institution) → store.stands old i → (given_up : Bool) × AnswersLine told (record { call = call; given_up = given_up }) i old new
+    pub answered : store.clean new → (i : Institution) → store.stands old i → (given_up : Bool)
+        × AnswersLine told (record { call = call; given_up = given_up }) i old new

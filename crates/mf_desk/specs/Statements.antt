@@ -42,5 +42,6 @@ asked_for Entries = ShowEntries
 -- what it tells of a loan with its account
 abbrev pub told_by : Part → Loan → Option Kept → LoanReply
 told_by Sums loan account = reply.Shown (statement_by loan account)
-told_by Instalments loan account = reply.Instalments (of_kept [] (λ (a : Kept). instalments_from 1 a.state.rows) account)
+told_by Instalments loan account =
+    reply.Instalments (of_kept [] (λ (a : Kept). instalments_from 1 a.state.rows) account)
 told_by Entries loan account = reply.Entries (of_kept [] entries_kept account)

@@ -1,3 +1,5 @@
+//! A request answered: decided by what a store shows, and committed where it changes something.
+
 ghost use Rattle.std.specs.Prelude.{◌≢◌, ◌⊎◌, Err, IfErr};
 ghost use Rattle.std.specs.Fn.{FnOnceReturnsAt};
 ghost use Rattle.mf_model.specs.declared.reply.Reply.{Reply};
@@ -38,8 +40,9 @@ fn decide<S: InstitutionStore>(
 }
 
 /// Answers a request. What `show` makes of the reply is the answer. It is made before the change, so that no allocation
-/// can fail once the change stands. At Err nothing is changed: it is the refusal, or what `show` refused, or F20 where it
-/// is out of memory or the store failed. It is F19, which is reported of a file that is opened, only where `show` refused so.
+/// can fail once the change stands. At Err nothing is changed: it is the refusal, or what `show` refused, or F20 where
+/// it is out of memory or the store failed. It is F19, which is reported of a file that is opened, only where `show`
+/// refused so.
 ///
 /// What is answered is also what the caller would be answered by an institution that has only what the caller's
 /// office sees.
@@ -52,10 +55,13 @@ pub fn answer<S: InstitutionStore, T: Drop, F: FnOnce(&Reply) -> Result<T, Fault
 ) -> Result<T, Fault>
     requires show { F.IsAlwaysCallable show }
     requires in_range { IsInRange request }
-    ensures told { Tells S.InstitutionStore (FnOnceReturnsAt F.FnOnce show) (reply (call_of caller request)) store.old store.new result }
+    ensures told { Tells S.InstitutionStore (FnOnceReturnsAt F.FnOnce show) (reply (call_of caller request)) store.old
+        store.new result }
     ensures changes { Changes S.InstitutionStore (call_of caller request) store.old store.new result }
-    ensures own_view { Tells S.InstitutionStore (FnOnceReturnsAt F.FnOnce show) (λ i. reply (call_of caller request) (view caller.office i)) store.old store.new result }
-    ensures refusal { IfErr result (λ f. (f ≢ Fault.F19) ⊎ ((reply : Reply) × FnOnceReturnsAt F.FnOnce show reply (Err f))) }
+    ensures own_view { Tells S.InstitutionStore (FnOnceReturnsAt F.FnOnce show) (λ i. reply (call_of caller request)
+        (view caller.office i)) store.old store.new result }
+    ensures refusal { IfErr result (λ f. (f ≢ Fault.F19)
+        ⊎ ((reply : Reply) × FnOnceReturnsAt F.FnOnce show reply (Err f))) }
 {
     laws::answered_by_view();
     laws::soundness();

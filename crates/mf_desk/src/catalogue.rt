@@ -65,7 +65,12 @@ fn add_charge<S: InstitutionStore>(
     calc: Calc,
     value: u64,
 ) -> Result<Decision, Fault>
-    ensures decides { Decides S.InstitutionStore (in_catalogue (add_charge (record { name = name; kind = kind; calc = calc; value = value }))) store.old store.new result }
+    ensures decides { Decides S.InstitutionStore (in_catalogue (add_charge (record {
+      name = name;
+      kind = kind;
+      calc = calc;
+      value = value;
+    }))) store.old store.new result }
     ensures refusal { IfErr result (λ f. f ≢ Fault.F19) }
 {
     let counts = store.catalogue_counts(alloc)?;

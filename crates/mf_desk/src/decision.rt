@@ -1,3 +1,5 @@
+//! What is decided of a request: a commit or none, and the reply.
+
 ghost use Rattle.std.specs.Prelude.{◌≡◌, Some, None};
 ghost use Rattle.mf_model.specs.declared.reply.Reply.TheVariants as reply;
 

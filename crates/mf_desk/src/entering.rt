@@ -31,8 +31,8 @@ pub fn find_account<S: InstitutionStore>(
     store.account(alloc, *loan)?.ok_or(Fault::F9)
 }
 
-/// The account with one more entry. The refusals are those of `LoanAccount::enter`; F20 also where the account has a day
-/// after the business day, which no correct store returns.
+/// The account with one more entry. The refusals are those of `LoanAccount::enter`; F20 also where the account has a
+/// day after the business day, which no correct store returns.
 fn entered(
     alloc: Global,
     mut account: LoanAccount,
@@ -43,10 +43,14 @@ fn entered(
     requires stands { entry.reversed ≡ false }
     requires form { HasForm entry.kind today entry }
     ensures accepted { IsReplayed account → IfOk result (λ after. refusal_of account.loan entry today ≡ None) }
-    ensures loan { IfOk result (λ after. after.loan ≡ record account.loan { entries = account.loan.entries ++ entry ∷ [] }) }
+    ensures loan { IfOk result (λ after. after.loan ≡ record account.loan {
+      entries = account.loan.entries ++ entry
+          ∷ [];
+    }) }
     ensures kept { IsReplayed account → IfOk result IsReplayed }
     ensures change { IsReplayed account → IfOk result (λ after. IsChange account.loan after.loan after.change) }
-    ensures refused { IsReplayed account → IfErr result (λ f. (f ≡ F20) ⊎ (refusal_of account.loan entry today ≡ Some f)) }
+    ensures refused { IsReplayed account → IfErr result (λ f. (f ≡ F20)
+        ⊎ (refusal_of account.loan entry today ≡ Some f)) }
     ensures refusal { IfErr result (λ f. f ≢ Fault.F19) }
 {
     if !account.is_by(today) {
@@ -56,7 +60,8 @@ fn entered(
     Ok(account)
 }
 
-/// Enters what is asked as the next entry of a loan's account. F4 where the loan isn't there, F9 where it isn't disbursed.
+/// Enters what is asked as the next entry of a loan's account. F4 where the loan isn't there, F9 where it isn't
+/// disbursed.
 pub fn enter<S: InstitutionStore>(
     alloc: Global,
     store: &mut S,
@@ -65,7 +70,8 @@ pub fn enter<S: InstitutionStore>(
     asked: Asked,
 ) -> Result<Decision, Fault>
     requires in_range { IsAskedInRange asked }
-    ensures decides { Decides S.InstitutionStore (in_ledger loan (λ k l. enter (first_of asked) (entry_of asked caller) k (account_in k l))) store.old store.new result }
+    ensures decides { Decides S.InstitutionStore (in_ledger loan (λ k l. enter (first_of asked) (entry_of asked caller)
+        k (account_in k l))) store.old store.new result }
     ensures refusal { IfErr result (λ f. f ≢ Fault.F19) }
 {
     let account = find_account(alloc, store, &loan)?;

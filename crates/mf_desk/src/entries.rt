@@ -83,8 +83,8 @@ fn posting(asked: Posting, staff: Caller, today: Day, account: &LoanAccount) -> 
     }
 }
 
-/// A fee by a charge that falls due on a day. None where the charge's value is outside the limits; no correct store returns
-/// such a charge.
+/// A fee by a charge that falls due on a day. None where the charge's value is outside the limits; no correct store
+/// returns such a charge.
 fn fee(
     charge: &ChargeDef,
     due: Day,
@@ -103,8 +103,8 @@ fn fee(
     })
 }
 
-/// The next entry of an account, as it is asked for. Only a fee is refused here: where its due day or the account's status
-/// forbids it, and with F20 where its charge's value is outside the limits.
+/// The next entry of an account, as it is asked for. Only a fee is refused here: where its due day or the account's
+/// status forbids it, and with F20 where its charge's value is outside the limits.
 pub fn make_entry(
     asked: Asked,
     staff: Caller,
@@ -114,7 +114,8 @@ pub fn make_entry(
     requires in_range { IsAskedInRange asked }
     ensures made { IfOk result (λ entry. entry ≡ entry_of asked staff today account.now.loan) }
     ensures first { IsReplayed account.now → IfOk result (λ entry. first_of asked account.now.loan ≡ None) }
-    ensures refused { IsReplayed account.now → IfErr result (λ f. (f ≡ F20) ⊎ (first_of asked account.now.loan ≡ Some f)) }
+    ensures refused { IsReplayed account.now → IfErr result (λ f. (f ≡ F20)
+        ⊎ (first_of asked account.now.loan ≡ Some f)) }
     ensures refusal { IfErr result (λ f. f ≢ Fault.F19) }
 {
     match asked {

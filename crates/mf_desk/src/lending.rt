@@ -12,8 +12,8 @@ use mf_model::{Application, Commit, InstitutionStore, Loan, Reply, Stage};
 use mf_office::{Account, OfficeNo};
 use std::alloc::Global;
 
-/// Checks that a client is there; F4 where it isn't. An office's clients are numbered from 1 without gaps, so their count
-/// decides it.
+/// Checks that a client is there; F4 where it isn't. An office's clients are numbered from 1 without gaps, so their
+/// count decides it.
 fn check_client<S: InstitutionStore>(
     alloc: Global,
     store: &mut S,
@@ -37,7 +37,8 @@ pub fn submit_loan<S: InstitutionStore>(
     office: OfficeNo,
     asked: &Application,
 ) -> Result<Decision, Fault>
-    ensures decides { Decides S.InstitutionStore (in_rows office (λ k rows. submit office asked.now k rows)) store.old store.new result }
+    ensures decides { Decides S.InstitutionStore (in_rows office (λ k rows. submit office asked.now k rows)) store.old
+        store.new result }
     ensures refusal { IfErr result (λ f. f ≢ Fault.F19) }
 {
     let number = asked.client;

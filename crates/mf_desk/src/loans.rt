@@ -37,7 +37,8 @@ fn take_step<S: InstitutionStore>(
     loan: Account,
     step: LoanStep,
 ) -> Result<Decision, Fault>
-    ensures decides { (c : AnyCaller) → Decides S.InstitutionStore (loan_outcome loan (Take step) c) store.old store.new result }
+    ensures decides { (c : AnyCaller) → Decides S.InstitutionStore (loan_outcome loan (Take step) c) store.old store.new
+        result }
     ensures refusal { IfErr result (λ f. f ≢ Fault.F19) }
 {
     let found = find_loan(alloc, store, &loan)?;

@@ -22,7 +22,8 @@ pub fn add_office<S: InstitutionStore>(
     parent: OfficeNo,
     name: Name,
 ) -> Result<Decision, Fault>
-    ensures decides { Decides S.InstitutionStore (request_outcome caller (NewOffice number parent name)) store.old store.new result }
+    ensures decides { Decides S.InstitutionStore (request_outcome caller (NewOffice number parent name)) store.old
+        store.new result }
     ensures refusal { IfErr result (λ f. f ≢ Fault.F19) }
 {
     check_sight(alloc, store, caller.office, parent)?;
@@ -50,7 +51,8 @@ pub fn in_office<S: InstitutionStore>(
     office: u32,
     asked: OfficeRequest,
 ) -> Result<Decision, Fault>
-    ensures decides { Decides S.InstitutionStore (request_outcome caller (Office office asked)) store.old store.new result }
+    ensures decides { Decides S.InstitutionStore (request_outcome caller (Office office asked)) store.old store.new
+        result }
     ensures refusal { IfErr result (λ f. f ≢ Fault.F19) }
 {
     let office = find_office(alloc, store, caller.office, office)?;
@@ -77,7 +79,8 @@ fn add_staff<S: InstitutionStore>(
     name: Name,
     role: Role,
 ) -> Result<Decision, Fault>
-    ensures decides { Decides S.InstitutionStore (in_rows office (λ k rows. add_staff office name role rows)) store.old store.new result }
+    ensures decides { Decides S.InstitutionStore (in_rows office (λ k rows. add_staff office name role rows)) store.old
+        store.new result }
     ensures refusal { IfErr result (λ f. f ≢ Fault.F19) }
 {
     let counts = store.next_numbers(alloc, office)?;
@@ -94,7 +97,8 @@ fn add_client<S: InstitutionStore>(
     office: OfficeNo,
     name: Name,
 ) -> Result<Decision, Fault>
-    ensures decides { Decides S.InstitutionStore (in_rows office (λ k rows. add_client office name rows)) store.old store.new result }
+    ensures decides { Decides S.InstitutionStore (in_rows office (λ k rows. add_client office name rows)) store.old
+        store.new result }
     ensures refusal { IfErr result (λ f. f ≢ Fault.F19) }
 {
     let counts = store.next_numbers(alloc, office)?;

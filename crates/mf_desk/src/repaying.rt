@@ -33,7 +33,8 @@ fn find_use<S: InstitutionStore>(
     }
 }
 
-/// The number of the entry that carries a receipt, where a repayment of this loan names the same amount and day; else F15.
+/// The number of the entry that carries a receipt, where a repayment of this loan names the same amount and day; else
+/// F15.
 fn repeated(asked: &Repayment, number: AccountNo, used: ReceiptUse) -> Result<u32, Fault>
     ensures { result ≡ repeated_seq number asked.now.amount asked.now.day used }
 {
@@ -52,7 +53,8 @@ fn repeat<S: InstitutionStore>(
     asked: &Repayment,
     used: ReceiptUse,
 ) -> Result<Decision, Fault>
-    ensures decides { Decides S.InstitutionStore (in_ledger loan (λ k l. repeat_of (repeated_seq loan.number asked.now.amount asked.now.day used))) store.old store.new result }
+    ensures decides { Decides S.InstitutionStore (in_ledger loan
+        (λ k l. repeat_of (repeated_seq loan.number asked.now.amount asked.now.day used))) store.old store.new result }
     ensures refusal { IfErr result (λ f. f ≢ Fault.F19) }
 {
     find_loan(alloc, store, &loan)?;

@@ -20,7 +20,10 @@ use std::alloc::Global;
 /// The account with an entry reversed. The refusals are those of `LoanAccount::reverse`.
 fn reversed(alloc: Global, mut account: LoanAccount, seq: u32) -> Result<LoanAccount, Fault>
     ensures accepted { IfOk result (λ after. reversal_refused account.loan.entries seq ≡ None) }
-    ensures loan { IfOk result (λ after. after.loan ≡ record account.loan { entries = with_mark account.loan.entries (seq - 1) true }) }
+    ensures loan { IfOk result (λ after. after.loan ≡ record account.loan {
+      entries = with_mark account.loan.entries
+          (seq - 1) true;
+    }) }
     ensures kept { IsReplayed account → IfOk result IsReplayed }
     ensures change { IsReplayed account → IfOk result (λ after. IsChange account.loan after.loan after.change) }
     ensures refused { IfErr result (λ f. (f ≡ F20) ⊎ (reversal_refused account.loan.entries seq ≡ Some f)) }
@@ -36,7 +39,8 @@ pub fn reverse<S: InstitutionStore>(
     loan: Account,
     seq: u32,
 ) -> Result<Decision, Fault>
-    ensures decides { (c : AnyCaller) → Decides S.InstitutionStore (loan_outcome loan (Reverse seq) c) store.old store.new result }
+    ensures decides { (c : AnyCaller) → Decides S.InstitutionStore (loan_outcome loan (Reverse seq) c) store.old
+        store.new result }
     ensures refusal { IfErr result (λ f. f ≢ Fault.F19) }
 {
     let account = find_account(alloc, store, &loan)?;

@@ -1,3 +1,5 @@
+//! Which role may send which request.
+
 ghost use Rattle.std.specs.Prelude.{◌≡◌};
 ghost use Rattle.mf_model.specs.Desk.{need, meets, is_officer, is_manager};
 

@@ -1,3 +1,5 @@
+//! Which offices a caller sees.
+
 ghost use Rattle.std.specs.Prelude.{◌≢◌, IfErr};
 ghost use Rattle.mf_desk.specs.Answers.{Asks, sight, seen_number};
 

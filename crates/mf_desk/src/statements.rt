@@ -109,7 +109,8 @@ pub fn show_part<S: InstitutionStore>(
     loan: Account,
     part: Part,
 ) -> Result<Decision, Fault>
-    ensures decides { (c : Caller) → Decides S.InstitutionStore (loan_outcome loan (asked_for part) c) store.old store.new result }
+    ensures decides { (c : Caller) → Decides S.InstitutionStore (loan_outcome loan (asked_for part) c) store.old
+        store.new result }
     ensures refusal { IfErr result (λ f. f ≢ Fault.F19) }
 {
     let found = find_loan(alloc, store, &loan)?;

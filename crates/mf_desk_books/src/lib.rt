@@ -1,5 +1,5 @@
-//! What tests share: an institution in vectors in place of a store, streams of request lines with their replies, a sheet with its
-//! results, and readers and writers that fail.
+//! What tests share: an institution in vectors in place of a store, streams of request lines with their replies, a
+//! sheet with its results, and readers and writers that fail.
 #![tactic(auto)]
 
 mod devices;

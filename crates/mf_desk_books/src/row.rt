@@ -164,7 +164,8 @@ impl Row {
         }
     }
 
-    /// Adds it to its office's line where its account is active; F20 where the line has as many as an office has at most.
+    /// Adds it to its office's line where its account is active; F20 where the line has as many as an office has at
+    /// most.
     pub(crate) fn age(
         &self,
         alloc: Global,

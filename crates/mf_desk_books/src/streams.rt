@@ -68,8 +68,10 @@ R-3,0001-000009,2024-03-31,1.5,F4\n";
 
 /// A message that adds a client.
 pub const CLIENT: &str =
-    "POST /clients HTTP/1.1\r\nHost: localhost\r\nX-Staff: 1/1\r\nContent-Length: 27\r\n\r\n{\"office\":1,\"name\":\"Amina\"}";
+    "POST /clients HTTP/1.1\r\nHost: localhost\r\nX-Staff: 1/1\r\nContent-Length: 27\r\n\r\n\
+     {\"office\":1,\"name\":\"Amina\"}";
 
 /// The response to it, where the client is the first of the head office.
 pub const CREATED: &str =
-    "HTTP/1.1 201 Created\r\nContent-Type: application/json\r\nContent-Length: 24\r\nConnection: close\r\n\r\n{\"client\":\"0001-000001\"}";
+    "HTTP/1.1 201 Created\r\nContent-Type: application/json\r\nContent-Length: 24\r\nConnection: close\r\n\r\n\
+     {\"client\":\"0001-000001\"}";

@@ -46,7 +46,8 @@ entry_by (ChargeFee charge due) c k a = option_map (λ d. fee d due c k.day a) (
 entry_by (Post asked) c k a = Some (posting asked c k.day a)
 entry_by _ c k a = None
 
--- a request that was told that it entered something added that entry, and one told that it reversed an entry marked that one
+-- a request that was told that it entered something added that entry, and one told that it reversed an entry marked
+-- that one
 abbrev pub deed_told : LoanRequest → Caller → Catalogue → Option Running → LoanReply → Option Deed
 deed_told asked c k account (Entered seq) = option_map Adds (option_and_then (entry_by asked c k) account)
 deed_told asked c k account (Reversed seq) = Some (Marks seq)
@@ -59,8 +60,10 @@ deed_of _ _ k account told = None
 
 -- what a line does to the entries of a loan
 abbrev pub deed_by : Account → Line → Institution → Option Deed
-deed_by a l i = deed_of l.call.caller (asked_of a l.call.request) i.catalogue (account_of i.catalogue (ledger_at a i)) (told_in (answer l i))
+deed_by a l i = deed_of l.call.caller (asked_of a l.call.request) i.catalogue (account_of i.catalogue (ledger_at a i))
+    (told_in (answer l i))
 
+-- deeds with one before them, if there is one
 abbrev pub with_deed : Option Deed → List Deed → List Deed
 with_deed None ds = ds
 with_deed (Some d) ds = d ∷ ds
@@ -87,6 +90,7 @@ abbrev pub with_marks : List ℕ → List Entry → List Entry
 with_marks [] es = es
 with_marks (seq ∷ seqs) es = with_marks seqs (with_mark es (seq - 1) true)
 
+-- the entries of a loan, none where it is not there
 abbrev pub entries_of : Option Ledger → List Entry
 entries_of None = []
 entries_of (Some l) = l.entries

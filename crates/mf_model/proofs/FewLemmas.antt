@@ -1,5 +1,6 @@
 -- The lines of a sound institution have no more loans than its offices may have.
-use Rattle.std.proofs.Common.{◌≡◌, ◌+◌, ◌*◌, ◌^◌, ◌≤◌, ◌==◌, ℕ, suc, Bool, true, false, cond, List, [], ◌∷◌, map, length, Option, Some, None, Result, Ok, Err, subst, arith, length-append}
+use Rattle.std.proofs.Common.{◌≡◌, ◌+◌, ◌*◌, ◌^◌, ◌≤◌, ◌==◌, ℕ, suc, Bool, true, false, cond, List, [], ◌∷◌, map}
+use Rattle.std.proofs.Common.{length, Option, Some, None, Result, Ok, Err, subst, arith, length-append}
 use Rattle.std.specs.Prelude.{sum_by}
 use Rattle.std.specs.List.{AllByRecursion}
 use Rattle.std.proofs.lemmas.List.Sums.{sum_by-cons}
@@ -44,18 +45,21 @@ module _ (k : Catalogue) (staffed : Caller → Bool) where
       omega (arith, most, limit)
 
   -- the lines of some of the offices
-  lines_few : (p : ℕ → Bool) (fs : List Office) → AllByRecursion (IsSoundOffice k staffed) fs → sum_by (λ (l : Line). l.loans) (map (arrears_line k) (offices_where p fs)) ≤ length fs * 999999
+  lines_few : (p : ℕ → Bool) (fs : List Office) → AllByRecursion (IsSoundOffice k staffed) fs
+      → sum_by (λ (l : Line). l.loans) (map (arrears_line k) (offices_where p fs)) ≤ length fs * 999999
   lines_few p [] all = omega arith
   lines_few p (o ∷ fs) all =
       let first = line_few o all.0 in
       let rest = lines_few p fs all.1 in
       let whole = sum_by-cons (λ (l : Line). l.loans) (arrears_line k o) (map (arrears_line k) (offices_where p fs)) in
-      elim (p o.number) as (λ (b : Bool). sum_by (λ (l : Line). l.loans) (map (arrears_line k) (cond b (o ∷ offices_where p fs) (offices_where p fs))) ≤ suc (length fs) * 999999) [
+      elim (p o.number) as (λ (b : Bool). sum_by (λ (l : Line). l.loans)
+      (map (arrears_line k) (cond b (o ∷ offices_where p fs) (offices_where p fs))) ≤ suc (length fs) * 999999) [
         | true ↦ omega (arith, first, rest, whole)
         | false ↦ omega (arith, rest)
       ]
 
-  offices_above : (n : ℕ) (fs : List Office) → Above n fs → Ascending fs → AllByRecursion (IsSoundOffice k staffed) fs → n ≤ 9999 → n + length fs ≤ 9999
+  offices_above : (n : ℕ) (fs : List Office) → Above n fs → Ascending fs → AllByRecursion (IsSoundOffice k staffed) fs
+      → n ≤ 9999 → n + length fs ≤ 9999
   offices_above n [] above up all low = omega (arith, low)
   offices_above n (o ∷ fs) above up all low =
       let first = above.0 in
@@ -71,7 +75,8 @@ module _ (k : Catalogue) (staffed : Caller → Bool) where
 
 pub arrears_few : (o : ℕ) (i : Institution) → IsSound i → sum_by (λ (l : Line). l.loans) (arrears_seen o i) ≤ 10 ^ 10
 arrears_few o i sound =
-    let lines = lines_few i.catalogue (is_staff i.offices) (λ (x : ℕ). is_at_or_below (parent_of i.offices) x o) i.offices sound.each in
+    let lines = lines_few i.catalogue (is_staff i.offices) (λ (x : ℕ). is_at_or_below (parent_of i.offices) x o)
+    i.offices sound.each in
     let offices = offices_few i.catalogue (is_staff i.offices) i.offices sound.tree.ascending sound.each in
     omega (arith, lines, offices)
 
@@ -79,17 +84,22 @@ arrears_few o i sound =
 abbrev shown : List Line → Result Reply Fault
 shown lines = Ok (ArrearsShown lines)
 
-few_permitted : (c : Caller) (i : Institution) (lines : List Line) (staff : Option Staff) → IsSound i → reply_in (where_permitted c SeenArrears (On_all_seen list_arrears) staff i) ≡ Ok (ArrearsShown lines) → sum_by (λ (l : Line). l.loans) lines ≤ 10 ^ 10
+few_permitted : (c : Caller) (i : Institution) (lines : List Line) (staff : Option Staff) → IsSound i
+    → reply_in (where_permitted c SeenArrears (On_all_seen list_arrears) staff i) ≡ Ok (ArrearsShown lines)
+    → sum_by (λ (l : Line). l.loans) lines ≤ 10 ^ 10
 few_permitted c i lines None sound e = absurd (let never : reply_in (Err F2) ≡ Ok (ArrearsShown lines) = e in cc)
 few_permitted c i lines (Some staff) sound e = go (meets (need SeenArrears) staff.role c.office) e
   where
-    go : (b : Bool) → reply_in (cond b (carried_out c (On_all_seen list_arrears) i) (Err F3)) ≡ Ok (ArrearsShown lines) → sum_by (λ (l : Line). l.loans) lines ≤ 10 ^ 10
+    go : (b : Bool) → reply_in (cond b (carried_out c (On_all_seen list_arrears) i) (Err F3)) ≡ Ok (ArrearsShown lines)
+        → sum_by (λ (l : Line). l.loans) lines ≤ 10 ^ 10
     go true told =
         let both : shown (arrears_seen c.office i) ≡ shown lines = told in
         let same : arrears_seen c.office i ≡ lines = cc in
         subst (λ (ls : List Line). sum_by (λ (l : Line). l.loans) ls ≤ 10 ^ 10) same (arrears_few c.office i sound)
     go false told = absurd (let never : reply_in (Err F3) ≡ Ok (ArrearsShown lines) = told in cc)
 
-pub told_few : (caller : Option Caller) (i : Institution) (lines : List Line) → IsSound i → reply (record { caller = caller; request = SeenArrears }) i ≡ Ok (ArrearsShown lines) → sum_by (λ (l : Line). l.loans) lines ≤ 10 ^ 10
+pub told_few : (caller : Option Caller) (i : Institution) (lines : List Line) → IsSound i
+    → reply (record { caller = caller; request = SeenArrears }) i ≡ Ok (ArrearsShown lines)
+    → sum_by (λ (l : Line). l.loans) lines ≤ 10 ^ 10
 told_few None i lines sound e = absurd (let never : reply_in (Err F2) ≡ Ok (ArrearsShown lines) = e in cc)
 told_few (Some c) i lines sound e = few_permitted c i lines (staff_at i c) sound e

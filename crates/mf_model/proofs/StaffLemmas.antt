@@ -1,5 +1,6 @@
 -- Who is there stays there.
-use Rattle.std.proofs.Common.{◌≡◌, ◌<◌, ◌≤◌, ◌-◌, ℕ, zero, suc, Bool, true, false, cond, List, [], ◌∷◌, length, slice_get, Option, Some, None, inl, inr, refl, sym, ap, ◌∙◌, subst, arith, true≢false}
+use Rattle.std.proofs.Common.{◌≡◌, ◌<◌, ◌≤◌, ◌-◌, ℕ, zero, suc, Bool, true, false, cond, List, [], ◌∷◌, length}
+use Rattle.std.proofs.Common.{slice_get, Option, Some, None, inl, inr, refl, sym, ap, ◌∙◌, subst, arith, true≢false}
 use Rattle.std.specs.Prelude.{◌==◌, is_some, option_map}
 use Rattle.std.specs.List.{AllByRecursion}
 use Rattle.std.proofs.lemmas.Bool.{cases_eq}
@@ -23,31 +24,40 @@ KeepsStaffOf x rows fs = (f : Office) → office_at x fs ≡ Some f → KeepsSta
 abbrev in_office : ℕ → Option Office → Bool
 in_office n o = is_some (elim o [ None ↦ None | Some f ↦ item_numbered f.rows.staff n ])
 
-pub rows_found : (x : ℕ) (rows : Rows) (fs : List Office) → office_at x (with_rows x rows fs) ≡ option_map (λ (f : Office). record f { rows = rows }) (office_at x fs)
+pub rows_found : (x : ℕ) (rows : Rows) (fs : List Office) → office_at x (with_rows x rows fs)
+    ≡ option_map (λ (f : Office). record f { rows = rows }) (office_at x fs)
 rows_found x rows [] = refl
 rows_found x rows (f ∷ fs) = either (f.number == x) (rows_found x rows fs)
   where
-    either : (b : Bool) → office_at x (with_rows x rows fs) ≡ option_map (λ (g : Office). record g { rows = rows }) (office_at x fs) → cond b (Some (record f { rows = cond b rows f.rows })) (office_at x (with_rows x rows fs)) ≡ option_map (λ (g : Office). record g { rows = rows }) (cond b (Some f) (office_at x fs))
+    either : (b : Bool) → office_at x (with_rows x rows fs) ≡ option_map (λ (g : Office). record g { rows = rows })
+        (office_at x fs) → cond b (Some (record f { rows = cond b rows f.rows })) (office_at x (with_rows x rows fs))
+        ≡ option_map (λ (g : Office). record g { rows = rows }) (cond b (Some f) (office_at x fs))
     either true rest = refl
     either false rest = rest
 
-pub staff_with_rows : (x : ℕ) (rows : Rows) (fs : List Office) → KeepsStaffOf x rows fs → StaffGrows (is_staff fs) (is_staff (with_rows x rows fs))
+pub staff_with_rows : (x : ℕ) (rows : Rows) (fs : List Office) → KeepsStaffOf x rows fs → StaffGrows (is_staff fs)
+    (is_staff (with_rows x rows fs))
 staff_with_rows x rows fs keeps c h =
     elim (cases_eq c.office x) [
       | inl is ↦
-          let here : in_office c.staff (office_at x fs) ≡ true = ap (λ y. in_office c.staff (office_at y fs)) (sym is) ∙ h in
-          ap (λ y. in_office c.staff (office_at y (with_rows x rows fs))) is ∙ ap (in_office c.staff) (rows_found x rows fs) ∙ at (office_at x fs) refl here
+          let here : in_office c.staff (office_at x fs) ≡ true = ap (λ y. in_office c.staff (office_at y fs)) (sym is)
+          ∙ h in
+          ap (λ y. in_office c.staff (office_at y (with_rows x rows fs))) is ∙ ap (in_office c.staff)
+          (rows_found x rows fs) ∙ at (office_at x fs) refl here
       | inr other ↦ ap (in_office c.staff) (others_stay x c.office rows fs other) ∙ h
     ]
   where
-    at : (o : Option Office) → office_at x fs ≡ o → in_office c.staff o ≡ true → in_office c.staff (option_map (λ (f : Office). record f { rows = rows }) o) ≡ true
+    at : (o : Option Office) → office_at x fs ≡ o → in_office c.staff o ≡ true
+        → in_office c.staff (option_map (λ (f : Office). record f { rows = rows }) o) ≡ true
     at None e h = absurd (cc)
     at (Some f) e h = keeps f e c.staff h
 
-pub staff_with_office : (new : Office) (fs : List Office) → is_there fs new.number ≡ false → StaffGrows (is_staff fs) (is_staff (with_office new fs))
+pub staff_with_office : (new : Office) (fs : List Office) → is_there fs new.number ≡ false → StaffGrows (is_staff fs)
+    (is_staff (with_office new fs))
 staff_with_office new fs free c h =
     elim (cases_eq c.office new.number) [
-      | inl is ↦ absurd (none (office_at new.number fs) free (ap (λ y. in_office c.staff (office_at y fs)) (sym is) ∙ h))
+      | inl is ↦ absurd (none (office_at new.number fs) free (ap (λ y. in_office c.staff (office_at y fs)) (sym is)
+          ∙ h))
       | inr other ↦ ap (in_office c.staff) (old_stay new c.office fs other) ∙ h
     ]
   where
@@ -61,7 +71,8 @@ placed [] d h = absurd (true≢false (sym h))
 placed (x ∷ xs) zero h = omega arith
 placed (x ∷ xs) (suc d) h = let more : d < length xs = placed xs d h in omega (arith, more)
 
-has_number : {A : Type 0} (xs : List A) (n limit : ℕ) → length xs ≤ limit → is_some (item_numbered xs n) ≡ true → IsNumberUpTo limit n
+has_number : {A : Type 0} (xs : List A) (n limit : ℕ) → length xs ≤ limit → is_some (item_numbered xs n) ≡ true
+    → IsNumberUpTo limit n
 has_number xs n limit few h = go (n == 0) refl h
   where
     go : (b : Bool) → (n == 0) ≡ b → is_some (cond b None (slice_get xs (n - 1))) ≡ true → IsNumberUpTo limit n
@@ -71,11 +82,15 @@ has_number xs n limit few h = go (n == 0) refl h
         let low : n - 1 < length xs = placed xs (n - 1) h in
         (some, omega (arith, some, low, few))
 
-pub staff_are_callers : (k : Catalogue) (s : Caller → Bool) (fs : List Office) → AllByRecursion (IsSoundOffice k s) fs → (c : Caller) → is_staff fs c ≡ true → IsCaller c
+pub staff_are_callers : (k : Catalogue) (s : Caller → Bool) (fs : List Office) → AllByRecursion (IsSoundOffice k s) fs
+    → (c : Caller) → is_staff fs c ≡ true → IsCaller c
 staff_are_callers k s [] all c there = absurd (true≢false (sym there))
 staff_are_callers k s (f ∷ fs) all c there = go (f.number == c.office) refl there (staff_are_callers k s fs all.1 c)
   where
-    go : (b : Bool) → (f.number == c.office) ≡ b → is_some (elim (cond b (Some f) (office_at c.office fs)) [ None ↦ None | Some g ↦ item_numbered g.rows.staff c.staff ]) ≡ true → (is_staff fs c ≡ true → IsCaller c) → IsCaller c
+    go : (b : Bool) → (f.number == c.office) ≡ b → is_some (elim (cond b (Some f) (office_at c.office fs)) [
+      | None ↦ None
+      | Some g ↦ item_numbered g.rows.staff c.staff
+    ]) ≡ true → (is_staff fs c ≡ true → IsCaller c) → IsCaller c
     go true e there more =
         let same : f.number ≡ c.office = grind (arith, nat_tests) in
         (subst (IsNumberUpTo 9999) same all.0.number, has_number f.rows.staff c.staff 9999 all.0.rows.staff_limit there)

@@ -23,10 +23,12 @@ abbrev pub IsResultFrom : ℕ → Stage → Result Stage Fault → Type 0
 IsResultFrom today from (Err fault) = IsRuled fault
 IsResultFrom today from (Ok to) = IsStageBy today to × (disbursed_on from ≡ None)
 
-disbursed_keeps : (approved day today : ℕ) → IsResultFrom today (Approved approved) (stage_of_disbursal approved day today)
+disbursed_keeps : (approved day today : ℕ) → IsResultFrom today (Approved approved)
+    (stage_of_disbursal approved day today)
 disbursed_keeps approved day today = either (nat_le approved day && nat_le day today) refl
   where
-    either : (b : Bool) → (nat_le approved day && nat_le day today) ≡ b → IsResultFrom today (Approved approved) (cond b (Ok (Disbursed approved day)) (Err F10))
+    either : (b : Bool) → (nat_le approved day && nat_le day today) ≡ b → IsResultFrom today (Approved approved)
+        (cond b (Ok (Disbursed approved day)) (Err F10))
     either false h = tt
     either true h =
         let first : nat_le approved day ≡ true = and_left (nat_le approved day) (nat_le day today) h in

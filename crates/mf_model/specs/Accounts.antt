@@ -1,4 +1,5 @@
--- The account of a loan: one function of the catalogue, the loan and its entries. All that is told of a loan is read off it.
+-- The account of a loan: one function of the catalogue, the loan and its entries. All that is told of a loan is read
+-- off it.
 use Rattle.std.specs.Prelude.{ℕ, List, [], ◌∷◌, option_map, Option, Some, None}
 use Rattle.mf_catalog.specs.declared.product.Product.{Product}
 use Rattle.mf_catalog.specs.declared.terms.Terms.{Terms}
@@ -21,8 +22,15 @@ terms_in k product = option_map (λ (p : Product). terms_of (charge_in k) p.memb
 
 -- a disbursed loan, with what its account is worked out from
 abbrev pub running_loan : Loan → List Entry → ℕ → Terms → Running
-running_loan loan entries day terms = record { terms = terms; principal = loan.principal; periods = loan.periods; day = day; entries = entries }
+running_loan loan entries day terms = record {
+  terms = terms;
+  principal = loan.principal;
+  periods = loan.periods;
+  day = day;
+  entries = entries;
+}
 
+-- a loan's account, where it is disbursed and its terms are there
 abbrev pub running_from : Loan → List Entry → Option ℕ → Option Terms → Option Running
 running_from loan entries None terms = None
 running_from loan entries (Some day) terms = option_map (running_loan loan entries day) terms
@@ -40,12 +48,22 @@ of_account none read (Some a) = read a
 abbrev pub status_in : Catalogue → Ledger → ℕ
 status_in k l = of_account (stage_number l.loan.stage) status_of_loan (account_in k l)
 
+-- nothing of each portion
 abbrev pub no_sums : List ℕ
 no_sums = 0 ∷ 0 ∷ 0 ∷ 0 ∷ []
 
 -- before disbursement all sums are 0
 abbrev pub no_balances : Balances
-no_balances = record { disbursement_fee = 0; owed = no_sums; paid = no_sums; waived = no_sums; written_off = no_sums; outstanding = no_sums; overpaid = 0; refunded = 0 }
+no_balances = record {
+  disbursement_fee = 0;
+  owed = no_sums;
+  paid = no_sums;
+  waived = no_sums;
+  written_off = no_sums;
+  outstanding = no_sums;
+  overpaid = 0;
+  refunded = 0;
+}
 
 -- the sums of a loan
 abbrev pub balances_in : Catalogue → Ledger → Balances

@@ -7,7 +7,8 @@ use Rattle.mf_catalog.specs.Product.{charges_there, is_consistent}
 use Rattle.mf_model.specs.declared.request.CatalogueRequest.{CatalogueRequest}
 use Rattle.mf_model.specs.declared.request.CatalogueRequest.TheVariants as asked
 use Rattle.mf_model.specs.declared.reply.Reply.{Reply}
-use Rattle.mf_model.specs.declared.reply.Reply.TheVariants.{DayShown, DaySet, ChargeMade, ChargeShown, ProductMade, ProductShown, ProductRetired}
+use Rattle.mf_model.specs.declared.reply.Reply.TheVariants.{DayShown, DaySet, ChargeMade, ChargeShown, ProductMade}
+use Rattle.mf_model.specs.declared.reply.Reply.TheVariants.{ProductShown, ProductRetired}
 use Rattle.mf_model.specs.Institution.{Catalogue, Charge, with_numbered, charge_in, product_in}
 use Rattle.mf_model.specs.Outcomes.{next_of, with_value, with_found, where_found}
 
@@ -41,7 +42,8 @@ product_added members k = record k { products = k.products ++ record { members =
 
 -- a new product, of at most 999, of members that are consistent
 abbrev pub make_product : ProductMembers → Catalogue → Result (Reply × Option Catalogue) Fault
-make_product members k = with_value (next_of (length k.products) 999) (λ n. (ProductMade n, Some (product_added members k)))
+make_product members k =
+    with_value (next_of (length k.products) 999) (λ n. (ProductMade n, Some (product_added members k)))
 
 -- A new product. Each charge that it names must be there, it must be consistent, and then there must be room.
 abbrev pub add_product : ProductMembers → Catalogue → Result (Reply × Option Catalogue) Fault
@@ -60,13 +62,15 @@ product_retired n k = record k { products = with_numbered n (λ p. record p { re
 
 -- a product lends no more; F7 where it doesn't already
 abbrev pub retire_product : ℕ → Catalogue → Result (Reply × Option Catalogue) Fault
-retire_product n k = where_found (product_in k n) (λ product. cond product.retired (Err F7) (Ok (ProductRetired n, Some (product_retired n k))))
+retire_product n k = where_found (product_in k n) (λ product. cond product.retired (Err F7)
+    (Ok (ProductRetired n, Some (product_retired n k))))
 
 -- what is done with the catalogue
 abbrev pub on_catalogue : CatalogueRequest → Catalogue → Result (Reply × Option Catalogue) Fault
 on_catalogue asked.ShowDay k = show_day k
 on_catalogue (asked.SetDay day) k = set_day day k
-on_catalogue (asked.AddCharge name kind calc value) k = add_charge (record { name = name; kind = kind; calc = calc; value = value }) k
+on_catalogue (asked.AddCharge name kind calc value) k =
+    add_charge (record { name = name; kind = kind; calc = calc; value = value }) k
 on_catalogue (asked.ShowCharge charge) k = show_charge charge k
 on_catalogue (asked.AddProduct members) k = add_product members k
 on_catalogue (asked.ShowProduct product) k = show_product product k

@@ -10,17 +10,21 @@ use Rattle.mf_model.specs.declared.request.Call.{Call}
 use Rattle.mf_model.specs.declared.request.Flaw.{Flaw}
 use Rattle.mf_model.specs.declared.request.Flaw.TheVariants.{Malformed, NoRoute, NoMethod}
 use Rattle.mf_model.specs.declared.request.CatalogueRequest.{CatalogueRequest}
-use Rattle.mf_model.specs.declared.request.CatalogueRequest.TheVariants.{ShowDay, SetDay, AddCharge, ShowCharge, AddProduct, ShowProduct, RetireProduct}
+use Rattle.mf_model.specs.declared.request.CatalogueRequest.TheVariants.{ShowDay, SetDay, AddCharge, ShowCharge}
+use Rattle.mf_model.specs.declared.request.CatalogueRequest.TheVariants.{AddProduct, ShowProduct, RetireProduct}
 use Rattle.mf_model.specs.declared.request.OfficeRequest.{OfficeRequest}
-use Rattle.mf_model.specs.declared.request.OfficeRequest.TheVariants.{AddStaff, AddClient, ShowClient, SubmitLoan, ListLoans}
+use Rattle.mf_model.specs.declared.request.OfficeRequest.TheVariants.{AddStaff, AddClient, ShowClient, SubmitLoan}
+use Rattle.mf_model.specs.declared.request.OfficeRequest.TheVariants.{ListLoans}
 use Rattle.mf_model.specs.declared.request.LoanRequest.{LoanRequest}
-use Rattle.mf_model.specs.declared.request.LoanRequest.TheVariants.{Show, ShowInstalments, ShowEntries, Take, Repay, ChargeFee, Post, Reverse}
+use Rattle.mf_model.specs.declared.request.LoanRequest.TheVariants.{Show, ShowInstalments, ShowEntries, Take, Repay}
+use Rattle.mf_model.specs.declared.request.LoanRequest.TheVariants.{ChargeFee, Post, Reverse}
 use Rattle.mf_model.specs.declared.request.Posting.TheVariants.{Penalty, Waiver, WriteOff, Refund}
 use Rattle.mf_model.specs.declared.request.Request.{Request}
 use Rattle.mf_model.specs.declared.request.Request.TheVariants as request
 use Rattle.mf_model.specs.declared.reply.Reply.{Reply}
 use Rattle.mf_model.specs.declared.reply.Reply.TheVariants.{OfficeMade}
-use Rattle.mf_model.specs.Institution.{Institution, Catalogue, Office, Rows, Staff, Change, Catalogue_becomes, Rows_become, Office_added, office_at, staff_in}
+use Rattle.mf_model.specs.Institution.{Institution, Catalogue, Office, Rows, Staff, Change, Catalogue_becomes}
+use Rattle.mf_model.specs.Institution.{Rows_become, Office_added, office_at, staff_in}
 use Rattle.mf_model.specs.Tree.{parent_of, seen_office, seen_by, is_there}
 use Rattle.mf_model.specs.Stages.{step_need}
 use Rattle.mf_model.specs.Catalogue.{on_catalogue}
@@ -31,7 +35,8 @@ pub use Rattle.mf_model.specs.Needs.{Need, A_teller, An_officer, A_manager, The_
 pub use Rattle.mf_model.specs.Offices.{line_of, staff_added, client_added}
 pub use Rattle.mf_model.specs.Loans.{loan_added, loan_staged, loan_entered}
 
--- what a request looks at and changes, once its caller may send it: the catalogue; one office, and the catalogue beside it; the offices that the caller sees; or a place for a new office
+-- what a request looks at and changes, once its caller may send it: the catalogue; one office, and the catalogue beside
+-- it; the offices that the caller sees; or a place for a new office
 pub data Plan : Type 0 where
   On_catalogue : (Catalogue → Result (Reply × Option Catalogue) Fault) → Plan
   On_office : ℕ → (Caller → Catalogue → Office → Result (Reply × Option Rows) Fault) → Plan
@@ -56,8 +61,10 @@ on_office (ListLoans after) office k rows = list_loans office after k rows
 abbrev pub plan : Request → Result Plan Fault
 plan (request.Unreadable flaw) = Err (flaw_fault flaw)
 plan (request.Catalogue asked) = Ok (On_catalogue (on_catalogue asked))
-plan (request.Office office asked) = Ok (On_office office (λ caller catalogue f. on_office asked office catalogue f.rows))
-plan (request.Loan loan asked) = Ok (On_office loan.office (λ caller catalogue f. in_loan loan (on_loan asked caller catalogue f.rows loan.number) f.rows))
+plan (request.Office office asked) =
+    Ok (On_office office (λ caller catalogue f. on_office asked office catalogue f.rows))
+plan (request.Loan loan asked) = Ok (On_office loan.office (λ caller catalogue f.
+    in_loan loan (on_loan asked caller catalogue f.rows loan.number) f.rows))
 plan request.SeenOffices = Ok (On_all_seen list_offices)
 plan request.SeenArrears = Ok (On_all_seen list_arrears)
 plan (request.NewOffice number parent name) = Ok (On_new_office number parent name)
@@ -104,6 +111,7 @@ need request.SeenOffices = A_teller
 need request.SeenArrears = A_teller
 need (request.NewOffice number parent name) = The_head
 
+-- the role is a manager's
 abbrev pub is_manager : Role → Bool
 is_manager Manager = true
 is_manager _ = false
@@ -124,22 +132,26 @@ meets The_head role office = is_manager role && (office == 1)
 abbrev pub Outcome : Type 0
 Outcome = Result (Reply × Option Change) Fault
 
+-- an outcome that changes the catalogue or nothing
 abbrev pub of_catalogue : Result (Reply × Option Catalogue) Fault → Outcome
 of_catalogue (Err e) = Err e
 of_catalogue (Ok (reply, None)) = Ok (reply, None)
 of_catalogue (Ok (reply, Some catalogue)) = Ok (reply, Some (Catalogue_becomes catalogue))
 
+-- an outcome that changes an office's rows or nothing
 abbrev pub of_office : ℕ → Result (Reply × Option Rows) Fault → Outcome
 of_office x (Err e) = Err e
 of_office x (Ok (reply, None)) = Ok (reply, None)
 of_office x (Ok (reply, Some rows)) = Ok (reply, Some (Rows_become x rows))
 
+-- an outcome that changes nothing
 abbrev pub of_reading : Result Reply Fault → Outcome
 of_reading (Err e) = Err e
 of_reading (Ok reply) = Ok (reply, None)
 
 -- what is done in office x, where it is seen
-abbrev pub in_office : ℕ → (Catalogue → Office → Result (Reply × Option Rows) Fault) → Catalogue → Option Office → Outcome
+abbrev pub in_office : ℕ → (Catalogue → Office → Result (Reply × Option Rows) Fault) → Catalogue → Option Office
+    → Outcome
 in_office x act catalogue None = Err F4
 in_office x act catalogue (Some f) = of_office x (act catalogue f)
 
@@ -148,7 +160,8 @@ abbrev pub add_office : ℕ → ℕ → ℕ → List ℕ → List Office → Out
 add_office o number parent name fs =
     cond (not (is_there fs parent && is_at_or_below (parent_of fs) parent o)) (Err F4)
     (cond (is_there fs number) (Err F16)
-    (cond (is_within 4 (parent_of fs) parent 1) (Ok (OfficeMade number, Some (Office_added number parent name))) (Err F18)))
+    (cond (is_within 4 (parent_of fs) parent 1) (Ok (OfficeMade number, Some (Office_added number parent name)))
+    (Err F18)))
 
 -- what becomes of a plan that the caller may send. A named office is there only where it is at or below the caller's
 abbrev pub carried_out : Caller → Plan → Institution → Outcome
@@ -164,7 +177,8 @@ staff_at i c = staff_in i.offices c
 -- what comes of a request where its caller is known and may send it
 abbrev pub where_permitted : Caller → Request → Plan → Option Staff → Institution → Outcome
 where_permitted c request p None i = Err F2
-where_permitted c request p (Some staff) i = cond (meets (need request) staff.role c.office) (carried_out c p i) (Err F3)
+where_permitted c request p (Some staff) i = cond (meets (need request) staff.role c.office) (carried_out c p i)
+    (Err F3)
 
 -- what comes of what was read of a request
 abbrev pub sent_by : Option Caller → Request → Result Plan Fault → Institution → Outcome
@@ -176,10 +190,12 @@ sent_by (Some c) request (Ok p) i = where_permitted c request p (staff_at i c) i
 abbrev pub outcome : Call → Institution → Outcome
 outcome call i = sent_by call.caller call.request (plan call.request) i
 
+-- the reply of an outcome
 abbrev pub reply_in : Outcome → Result Reply Fault
 reply_in (Err e) = Err e
 reply_in (Ok r) = Ok r.0
 
+-- the change of an outcome, if it has one
 abbrev pub change_in : Outcome → Option Change
 change_in (Err e) = None
 change_in (Ok r) = r.1
@@ -195,6 +211,7 @@ plan_effect c (On_office x act) i = change_in (in_office x (act c) i.catalogue (
 plan_effect c (On_all_seen read) i = None
 plan_effect c (On_new_office number parent name) i = Some (Office_added number parent name)
 
+-- what a plan changes, where somebody sent it
 abbrev pub sender_effect : Option Caller → Result Plan Fault → Institution → Option Change
 sender_effect caller (Err e) i = None
 sender_effect None (Ok p) i = None

@@ -1,5 +1,7 @@
--- An institution: what all offices share, and for each office its own rows. Within an office things are numbered by their places, from 1. Texts are lists of bytes, days are numbers of days.
-use Rattle.std.specs.Prelude.{ℕ, ◌-◌, Bool, cond, List, [], ◌∷◌, ◌==◌, nat_lt, slice_get, option_map, Option, Some, None, codes}
+-- An institution: what all offices share, and for each office its own rows. Within an office things are numbered by
+-- their places, from 1. Texts are lists of bytes, days are numbers of days.
+use Rattle.std.specs.Prelude.{ℕ, ◌-◌, Bool, cond, List, [], ◌∷◌, ◌==◌, nat_lt, slice_get, option_map, Option, Some}
+use Rattle.std.specs.Prelude.{None, codes}
 use Rattle.mf_catalog.specs.declared.charge.ChargeDef.{ChargeDef}
 use Rattle.mf_catalog.specs.declared.charge.ChargeKind.{ChargeKind}
 use Rattle.mf_catalog.specs.declared.charge.Calc.{Calc}

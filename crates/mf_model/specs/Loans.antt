@@ -1,5 +1,6 @@
 -- What is asked of loans: how they are submitted and listed, what becomes of one loan, and what is told of it.
-use Rattle.std.specs.Prelude.{ℕ, ◌+◌, ◌-◌, true, List, [], ◌∷◌, ◌++◌, length, take, drop, Option, Some, None, Result, Ok, Err}
+use Rattle.std.specs.Prelude.{ℕ, ◌+◌, ◌-◌, true, List, [], ◌∷◌, ◌++◌, length, take, drop, Option, Some, None, Result}
+use Rattle.std.specs.Prelude.{Ok, Err}
 use Rattle.mf_base.specs.declared.fault.Fault.{Fault}
 use Rattle.mf_base.specs.declared.fault.Fault.TheVariants.{F9}
 use Rattle.mf_catalog.specs.declared.product.Product.{Product}
@@ -18,9 +19,11 @@ use Rattle.mf_model.specs.declared.loan.LoanLine.{LoanLine}
 use Rattle.mf_model.specs.declared.request.Application.{Application}
 use Rattle.mf_model.specs.declared.request.Repayment.{Repayment}
 use Rattle.mf_model.specs.declared.request.LoanRequest.{LoanRequest}
-use Rattle.mf_model.specs.declared.request.LoanRequest.TheVariants.{Show, ShowInstalments, ShowEntries, Take, Repay, ChargeFee, Post, Reverse}
+use Rattle.mf_model.specs.declared.request.LoanRequest.TheVariants.{Show, ShowInstalments, ShowEntries, Take, Repay}
+use Rattle.mf_model.specs.declared.request.LoanRequest.TheVariants.{ChargeFee, Post, Reverse}
 use Rattle.mf_model.specs.declared.reply.LoanReply.{LoanReply}
-use Rattle.mf_model.specs.declared.reply.LoanReply.TheVariants.{Shown, Instalments, Entries, Status, Entered, Repeated, Reversed}
+use Rattle.mf_model.specs.declared.reply.LoanReply.TheVariants.{Shown, Instalments, Entries, Status, Entered, Repeated}
+use Rattle.mf_model.specs.declared.reply.LoanReply.TheVariants.{Reversed}
 use Rattle.mf_model.specs.declared.reply.Reply.{Reply}
 use Rattle.mf_model.specs.declared.reply.Reply.TheVariants as reply
 use Rattle.mf_model.specs.Institution.{Catalogue, Rows, Ledger, item_numbered, with_numbered, charge_in, product_in}
@@ -60,10 +63,13 @@ abbrev pub fault_or : Option Fault → Option Fault → Option Fault
 fault_or (Some fault) next = Some fault
 fault_or None next = next
 
--- One entry more, made on the business day for the account that there is. F9 where the loan is not disbursed, then what refuses it beforehand, then what its account refuses.
-abbrev pub enter : (Running → Option Fault) → (ℕ → Running → Entry) → Catalogue → Option Running → Result (LoanReply × Option LedgerChange) Fault
+-- One entry more, made on the business day for the account that there is. F9 where the loan is not disbursed, then what
+-- refuses it beforehand, then what its account refuses.
+abbrev pub enter : (Running → Option Fault) → (ℕ → Running → Entry) → Catalogue → Option Running
+    → Result (LoanReply × Option LedgerChange) Fault
 enter first make k None = Err F9
-enter first make k (Some a) = let e = make k.day a in unless_fault (fault_or (first a) (refusal_of a e k.day)) (Entered e.seq) (with_new_entry e)
+enter first make k (Some a) = let e = make k.day a in unless_fault (fault_or (first a) (refusal_of a e k.day))
+    (Entered e.seq) (with_new_entry e)
 
 -- nothing refuses an entry before its account does
 abbrev pub none_first : Running → Option Fault
@@ -84,22 +90,28 @@ repeat_of (Err e) = Err e
 repeat_of (Ok seq) = Ok (Repeated seq, None)
 
 -- a receipt that is known is answered as it was, or refused
-abbrev pub unless_known : ℕ → Repayment → Option Use → Result (LoanReply × Option LedgerChange) Fault → Result (LoanReply × Option LedgerChange) Fault
+abbrev pub unless_known : ℕ → Repayment → Option Use → Result (LoanReply × Option LedgerChange) Fault
+    → Result (LoanReply × Option LedgerChange) Fault
 unless_known n asked None next = next
 unless_known n asked (Some u) next = repeat_of (repeated_seq n asked.amount asked.day u.by)
 
--- A repayment of loan n of an office with these rows. A receipt that the office knows comes first, whatever the loan's stage.
+-- A repayment of loan n of an office with these rows. A receipt that the office knows comes first, whatever the loan's
+-- stage.
 abbrev pub repay : Repayment → Caller → Catalogue → Rows → ℕ → Ledger → Result (LoanReply × Option LedgerChange) Fault
-repay asked caller k rows n l = unless_known n asked (used_before asked.receipt (uses_from 1 rows.loans)) (enter none_first (λ today. repayment asked caller) k (account_in k l))
+repay asked caller k rows n l = unless_known n asked (used_before asked.receipt (uses_from 1 rows.loans))
+    (enter none_first (λ today. repayment asked caller) k (account_in k l))
 
 -- what a request on loan n of an office with these rows is told, and what becomes of the loan
-abbrev pub on_loan : LoanRequest → Caller → Catalogue → Rows → ℕ → Ledger → Result (LoanReply × Option LedgerChange) Fault
+abbrev pub on_loan : LoanRequest → Caller → Catalogue → Rows → ℕ → Ledger → Result (LoanReply × Option LedgerChange)
+    Fault
 on_loan Show caller k rows n l = Ok (Shown (statement k l), None)
 on_loan ShowInstalments caller k rows n l = Ok (Instalments (instalments_in k l), None)
 on_loan ShowEntries caller k rows n l = Ok (Entries (entries_in k l), None)
-on_loan (Take step) caller k rows n l = with_value (next_stage step k.day l.loan.stage) (λ stage. (Status (stage_number stage), Some (with_stage stage)))
+on_loan (Take step) caller k rows n l =
+    with_value (next_stage step k.day l.loan.stage) (λ stage. (Status (stage_number stage), Some (with_stage stage)))
 on_loan (Repay asked) caller k rows n l = repay asked caller k rows n l
-on_loan (ChargeFee charge due) caller k rows n l = where_found (charge_in k charge) (λ c. enter (fee_first due) (fee c due caller) k (account_in k l))
+on_loan (ChargeFee charge due) caller k rows n l =
+    where_found (charge_in k charge) (λ c. enter (fee_first due) (fee c due caller) k (account_in k l))
 on_loan (Post asked) caller k rows n l = enter none_first (posting asked caller) k (account_in k l)
 on_loan (Reverse seq) caller k rows n l = reverse seq (account_in k l)
 
@@ -116,13 +128,16 @@ abbrev pub loan_entered : ℕ → List Entry → Rows → Rows
 loan_entered n entries rows = loan_changed n (with_entries entries) rows
 
 -- the reply to a request on a loan, and what becomes of the rows of its office
-abbrev pub of_loan : Account → Rows → Result (LoanReply × Option LedgerChange) Fault → Result (Reply × Option Rows) Fault
+abbrev pub of_loan : Account → Rows → Result (LoanReply × Option LedgerChange) Fault
+    → Result (Reply × Option Rows) Fault
 of_loan account rows (Err e) = Err e
 of_loan account rows (Ok (told, None)) = Ok (reply.Loan account told, None)
-of_loan account rows (Ok (told, Some change)) = Ok (reply.Loan account told, Some (loan_changed account.number change rows))
+of_loan account rows (Ok (told, Some change)) =
+    Ok (reply.Loan account told, Some (loan_changed account.number change rows))
 
 -- what is done with a loan of an office; F4 where the loan isn't there
-abbrev pub in_loan : Account → (Ledger → Result (LoanReply × Option LedgerChange) Fault) → Rows → Result (Reply × Option Rows) Fault
+abbrev pub in_loan : Account → (Ledger → Result (LoanReply × Option LedgerChange) Fault) → Rows
+    → Result (Reply × Option Rows) Fault
 in_loan account act rows = where_found (item_numbered rows.loans account.number) (λ l. of_loan account rows (act l))
 
 -- the rows with one more loan, which has no entries yet
@@ -131,24 +146,34 @@ loan_added loan rows = record rows { loans = rows.loans ++ record { loan = loan;
 
 -- a loan as it is submitted
 abbrev pub new_loan : Application → Loan
-new_loan asked = record { client = asked.client; product = asked.product; principal = asked.principal; periods = asked.periods; stage = Submitted }
+new_loan asked = record {
+  client = asked.client;
+  product = asked.product;
+  principal = asked.principal;
+  periods = asked.periods;
+  stage = Submitted;
+}
 
 -- a new loan, of at most 999,999 in an office
 abbrev pub make_loan : ℕ → Application → Rows → Result (Reply × Option Rows) Fault
-make_loan office asked rows = with_value (next_of (length rows.loans) 999999) (λ n. (reply.LoanMade (record { office = office; number = n }), Some (loan_added (new_loan asked) rows)))
+make_loan office asked rows = with_value (next_of (length rows.loans) 999999)
+    (λ n. (reply.LoanMade (record { office = office; number = n }), Some (loan_added (new_loan asked) rows)))
 
 -- a new loan of a product that must be there and lend so
 abbrev pub lend : ℕ → Application → Option Product → Rows → Result (Reply × Option Rows) Fault
-lend office asked product rows = where_found product (λ p. unless_refused (lending p asked.principal asked.periods) (make_loan office asked rows))
+lend office asked product rows =
+    where_found product (λ p. unless_refused (lending p asked.principal asked.periods) (make_loan office asked rows))
 
 -- A new loan. Its client and its product must be there, the product must lend so, and then there must be room.
 abbrev pub submit : ℕ → Application → Catalogue → Rows → Result (Reply × Option Rows) Fault
-submit office asked k rows = where_found (item_numbered rows.clients asked.client) (λ name. lend office asked (product_in k asked.product) rows)
+submit office asked k rows =
+    where_found (item_numbered rows.clients asked.client) (λ name. lend office asked (product_in k asked.product) rows)
 
 -- the loans of an office, numbered from n on, each with its status of the moment
 abbrev pub lines_from : Catalogue → ℕ → ℕ → List Ledger → List LoanLine
 lines_from k office n [] = []
-lines_from k office n (l ∷ ls) = record { loan = record { office = office; number = n }; status = status_in k l } ∷ lines_from k office (n + 1) ls
+lines_from k office n (l ∷ ls) = record { loan = record { office = office; number = n }; status = status_in k l }
+    ∷ lines_from k office (n + 1) ls
 
 -- the first 100 of them with a number above this one
 abbrev pub lines_above : Catalogue → ℕ → ℕ → List Ledger → List LoanLine

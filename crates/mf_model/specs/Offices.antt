@@ -22,7 +22,8 @@ staff_added name role rows = record rows { staff = rows.staff ++ record { name =
 
 -- a new member of staff, of at most 9,999 in an office
 abbrev pub add_staff : ℕ → List ℕ → Role → Rows → Result (Reply × Option Rows) Fault
-add_staff office name role rows = with_value (next_of (length rows.staff) 9999) (λ n. (StaffMade (record { office = office; staff = n }), Some (staff_added name role rows)))
+add_staff office name role rows = with_value (next_of (length rows.staff) 9999)
+    (λ n. (StaffMade (record { office = office; staff = n }), Some (staff_added name role rows)))
 
 -- the rows with one more client
 abbrev pub client_added : List ℕ → Rows → Rows
@@ -30,8 +31,10 @@ client_added name rows = record rows { clients = rows.clients ++ name ∷ [] }
 
 -- a new client, of at most 999,999 in an office
 abbrev pub add_client : ℕ → List ℕ → Rows → Result (Reply × Option Rows) Fault
-add_client office name rows = with_value (next_of (length rows.clients) 999999) (λ n. (ClientMade (record { office = office; number = n }), Some (client_added name rows)))
+add_client office name rows = with_value (next_of (length rows.clients) 999999)
+    (λ n. (ClientMade (record { office = office; number = n }), Some (client_added name rows)))
 
 -- a client's name
 abbrev pub show_client : ℕ → ℕ → Rows → Result (Reply × Option Rows) Fault
-show_client office n rows = with_found (item_numbered rows.clients n) (λ name. (ClientShown (record { office = office; number = n }) name, None))
+show_client office n rows = with_found (item_numbered rows.clients n)
+    (λ name. (ClientShown (record { office = office; number = n }) name, None))

@@ -44,11 +44,14 @@ entry_of_today kind amount instalment portion staff today a = record {
 
 -- a fee by a charge, which falls due on a day
 abbrev pub fee : ChargeDef → ℕ → Caller → ℕ → Running → Entry
-fee charge due staff today a = entry_of_today kind.Fee (fee_amount a charge) (fee_instalment a due) FeePart staff today a
+fee charge due staff today a = entry_of_today kind.Fee (fee_amount a charge) (fee_instalment a due) FeePart staff today
+    a
 
 -- a penalty, a waiver, a write-off or a refund; what the last three clear is read off the account
 abbrev pub posting : Posting → Caller → ℕ → Running → Entry
-posting (Penalty instalment) staff today a = entry_of_today kind.Penalty (penalty_amount a instalment) instalment PenaltyPart staff today a
-posting (Waiver instalment portion) staff today a = entry_of_today kind.Waive 0 instalment (portion_of portion) staff today a
+posting (Penalty instalment) staff today a =
+    entry_of_today kind.Penalty (penalty_amount a instalment) instalment PenaltyPart staff today a
+posting (Waiver instalment portion) staff today a =
+    entry_of_today kind.Waive 0 instalment (portion_of portion) staff today a
 posting WriteOff staff today a = entry_of_today kind.WriteOff 0 0 Principal staff today a
 posting Refund staff today a = entry_of_today kind.Refund 0 0 Principal staff today a

@@ -13,9 +13,11 @@ pub record Use : Type 0 where
   pub receipt : List ℕ
   pub by : ReceiptUse
 
+-- an entry's use of a receipt
 abbrev pub use_by : ℕ → Entry → ReceiptUse
 use_by loan e = record { loan = loan; seq = e.seq; day = e.day; amount = e.amount }
 
+-- the receipt of an entry, if it has one, and its use
 abbrev pub use_of : Option (List ℕ) → ℕ → Entry → List Use
 use_of None loan entry = []
 use_of (Some receipt) loan entry = record { receipt = receipt; by = use_by loan entry } ∷ []
@@ -41,7 +43,8 @@ used_before (Some receipt) us = first_use receipt us
 
 -- the number of the entry that carries a used receipt, where the loan, the amount and the day are the same; else F15
 abbrev pub repeated_seq : ℕ → ℕ → ℕ → ReceiptUse → Result ℕ Fault
-repeated_seq loan amount day by = cond ((by.loan == loan) && ((by.amount == amount) && (by.day == day))) (Ok by.seq) (Err F15)
+repeated_seq loan amount day by = cond ((by.loan == loan) && ((by.amount == amount) && (by.day == day))) (Ok by.seq)
+    (Err F15)
 
 -- no receipt stands twice
 abbrev pub AreApart : List Use → Type 0

@@ -1,5 +1,6 @@
 -- Whole runs, and what of a run concerns one office.
-use Rattle.std.specs.Prelude.{◌≡◌, ℕ, Bool, false, cond, ◌&&◌, ◌||◌, List, [], ◌∷◌, is_some, ◌==◌, Option, Some, None, Result, Err}
+use Rattle.std.specs.Prelude.{◌≡◌, ℕ, Bool, false, cond, ◌&&◌, ◌||◌, List, [], ◌∷◌, is_some, ◌==◌, Option, Some, None}
+use Rattle.std.specs.Prelude.{Result, Err}
 use Rattle.mf_base.specs.declared.fault.Fault.{Fault}
 use Rattle.mf_base.specs.declared.fault.Fault.TheVariants.{F20}
 use Rattle.mf_office.specs.declared.caller.Caller.{Caller}
@@ -36,10 +37,12 @@ abbrev pub last : List Line → Institution → Institution
 last [] i = i
 last (l ∷ ls) i = last ls (next l i)
 
+-- the caller is of this office
 abbrev pub is_of : ℕ → Option Caller → Bool
 is_of o None = false
 is_of o (Some c) = c.office == o
 
+-- the caller is this one
 abbrev pub is_by : Caller → Option Caller → Bool
 is_by c None = false
 is_by c (Some d) = (d.office == c.office) && (d.staff == c.staff)
@@ -58,6 +61,7 @@ replies_to meant [] rs = []
 replies_to meant (l ∷ ls) [] = []
 replies_to meant (l ∷ ls) (r ∷ rs) = cond (meant l.call) (r ∷ replies_to meant ls rs) (replies_to meant ls rs)
 
+-- a change touches what this office sees
 abbrev pub is_touched : ℕ → Institution → Option Change → Bool
 is_touched o i None = false
 is_touched o i (Some change) = touches o i change
@@ -113,12 +117,14 @@ ViewIsPlay i ls = (o : ℕ) → view o (last ls i) ≡ play (touching_list o ls 
 -- what an office's callers are told is what that play answers them, but where a line is given up
 abbrev pub RepliesArePlay : Institution → List Line → Type 0
 RepliesArePlay i ls = (o : ℕ) →
-    replies_to (from_office o) ls (answers ls i) ≡ but_given_up (given_up (from_office o) ls) (play_replies (from_office o) (touching_list o ls i) (view o i))
+    replies_to (from_office o) ls (answers ls i) ≡ but_given_up (given_up (from_office o) ls)
+    (play_replies (from_office o) (touching_list o ls i) (view o i))
 
 -- the same of one member of staff
 abbrev pub OwnRepliesArePlay : Institution → List Line → Type 0
 OwnRepliesArePlay i ls = (c : Caller) →
-    replies_to (from_caller c) ls (answers ls i) ≡ but_given_up (given_up (from_caller c) ls) (play_replies (from_caller c) (touching_list c.office ls i) (view c.office i))
+    replies_to (from_caller c) ls (answers ls i) ≡ but_given_up (given_up (from_caller c) ls)
+    (play_replies (from_caller c) (touching_list c.office ls i) (view c.office i))
 
 -- two runs that begin with the same view of office o and touch it alike
 pub record Alike (o : ℕ) (i j : Institution) (ls ks : List Line) : Type 0 where

@@ -1,5 +1,6 @@
 -- What every institution that comes about keeps true, and what is asked of the requests that keep it so.
-use Rattle.std.specs.Prelude.{◌≡◌, ℕ, ◌≤◌, Bool, true, false, not, ◌&&◌, List, [], length, is_some, Option, Some, None, ◌==◌, nat_le, IfSome}
+use Rattle.std.specs.Prelude.{◌≡◌, ℕ, ◌≤◌, Bool, true, false, not, ◌&&◌, List, [], length, is_some, Option, Some, None}
+use Rattle.std.specs.Prelude.{◌==◌, nat_le, IfSome}
 use Rattle.std.specs.List.{AllByRecursion, list_all}
 use Rattle.std.specs.Str.{IsUtf8, chars}
 use Rattle.mf_base.specs.DayText.{last_entered_day}
@@ -19,16 +20,20 @@ use Rattle.mf_model.specs.declared.loan.Stage.{Stage}
 use Rattle.mf_model.specs.declared.loan.Stage.TheVariants.{Submitted, Approved, Disbursed, Withdrawn, Rejected}
 use Rattle.mf_model.specs.declared.request.Request.TheVariants as request
 use Rattle.mf_model.specs.declared.request.CatalogueRequest.{CatalogueRequest}
-use Rattle.mf_model.specs.declared.request.CatalogueRequest.TheVariants.{ShowDay, SetDay, AddCharge, ShowCharge, AddProduct, ShowProduct, RetireProduct}
+use Rattle.mf_model.specs.declared.request.CatalogueRequest.TheVariants.{ShowDay, SetDay, AddCharge, ShowCharge}
+use Rattle.mf_model.specs.declared.request.CatalogueRequest.TheVariants.{AddProduct, ShowProduct, RetireProduct}
 use Rattle.mf_model.specs.declared.request.OfficeRequest.{OfficeRequest}
-use Rattle.mf_model.specs.declared.request.OfficeRequest.TheVariants.{AddStaff, AddClient, ShowClient, SubmitLoan, ListLoans}
+use Rattle.mf_model.specs.declared.request.OfficeRequest.TheVariants.{AddStaff, AddClient, ShowClient, SubmitLoan}
+use Rattle.mf_model.specs.declared.request.OfficeRequest.TheVariants.{ListLoans}
 use Rattle.mf_model.specs.declared.request.Application.{Application}
 use Rattle.mf_model.specs.declared.request.Repayment.{Repayment}
 use Rattle.mf_model.specs.declared.request.LoanRequest.{LoanRequest}
-use Rattle.mf_model.specs.declared.request.LoanRequest.TheVariants.{Show, ShowInstalments, ShowEntries, Take, Repay, ChargeFee, Post, Reverse}
+use Rattle.mf_model.specs.declared.request.LoanRequest.TheVariants.{Show, ShowInstalments, ShowEntries, Take, Repay}
+use Rattle.mf_model.specs.declared.request.LoanRequest.TheVariants.{ChargeFee, Post, Reverse}
 use Rattle.mf_model.specs.declared.request.Posting.{Posting}
 use Rattle.mf_model.specs.declared.request.Posting.TheVariants.{Penalty, Waiver, WriteOff, Refund}
-use Rattle.mf_model.specs.Institution.{Institution, Catalogue, Charge, Offer, Staff, Rows, Office, Ledger, staff_in, item_numbered, charge_in, product_in}
+use Rattle.mf_model.specs.Institution.{Institution, Catalogue, Charge, Offer, Staff, Rows, Office, Ledger, staff_in}
+use Rattle.mf_model.specs.Institution.{item_numbered, charge_in, product_in}
 use Rattle.mf_model.specs.Stages.{disbursed_on, IsStepInRange}
 use Rattle.mf_account.specs.Receipts.{IsReceipt}
 use Rattle.mf_model.specs.Receipts.{uses_from, AreApart}
@@ -51,6 +56,7 @@ pub record IsValue (calc : Calc) (value : ℕ) : Type 0 where
   pub some : 1 ≤ value
   pub most : value ≤ greatest_value calc
 
+-- a charge with a name, within the limits
 pub record IsSoundCharge (c : Charge) : Type 0 where
   pub name : IsName c.name
   pub value : IsValue c.calc c.value
@@ -106,7 +112,8 @@ abbrev pub AreEntriesBy : ℕ → (Caller → Bool) → ℕ → Option ℕ → L
 AreEntriesBy today staffed periods None entries = entries ≡ []
 AreEntriesBy today staffed periods (Some day) entries = AreEntered today staffed periods day entries
 
--- a loan's client is there, its product is there and allows its principal and periods, retired or not, its days are in order, and so are its entries
+-- a loan's client is there, its product is there and allows its principal and periods, retired or not, its days are in
+-- order, and so are its entries
 pub record IsSoundLoan (k : Catalogue) (staffed : Caller → Bool) (clients : List (List ℕ)) (l : Ledger) : Type 0 where
   pub client : is_some (item_numbered clients l.loan.client) ≡ true
   pub product : lends (product_in k l.loan.product) l.loan.principal l.loan.periods ≡ true
@@ -123,6 +130,7 @@ pub record IsSoundRows (k : Catalogue) (staffed : Caller → Bool) (rows : Rows)
   pub loans : AllByRecursion (IsSoundLoan k staffed rows.clients) rows.loans
   pub receipts : AreApart (uses_from 1 rows.loans)
 
+-- an office whose rows are in range and name what is there
 pub record IsSoundOffice (k : Catalogue) (staffed : Caller → Bool) (f : Office) : Type 0 where
   pub number : IsNumberUpTo 9999 f.number
   pub name : IsName f.name
@@ -144,9 +152,12 @@ IsCatalogueInRange (AddProduct members) = AreMembers members
 IsCatalogueInRange (ShowProduct product) = product ≤ 999999999
 IsCatalogueInRange (RetireProduct product) = product ≤ 999999999
 
+-- the members of an application, in range
 abbrev pub IsApplication : Application → Type 0
-IsApplication asked = IsNumberUpTo 999999 asked.client × (asked.product ≤ 999999999) × ((1 ≤ asked.principal) × (asked.principal ≤ greatest_amount)) × ((1 ≤ asked.periods) × (asked.periods ≤ most_periods))
+IsApplication asked = IsNumberUpTo 999999 asked.client × (asked.product ≤ 999999999) × ((1 ≤ asked.principal)
+    × (asked.principal ≤ greatest_amount)) × ((1 ≤ asked.periods) × (asked.periods ≤ most_periods))
 
+-- the members of a request for an office, in range
 abbrev pub IsOfficeInRange : ℕ → OfficeRequest → Type 0
 IsOfficeInRange office (AddStaff name role) = IsNumberUpTo 9999 office × IsName name
 IsOfficeInRange office (AddClient name) = IsNumberUpTo 9999 office × IsName name
@@ -154,8 +165,10 @@ IsOfficeInRange office (ShowClient client) = IsNumberUpTo 9999 office × IsNumbe
 IsOfficeInRange office (SubmitLoan asked) = IsNumberUpTo 9999 office × IsApplication asked
 IsOfficeInRange office (ListLoans after) = (office ≤ 999999999) × (after ≤ 999999)
 
+-- the members of a repayment, in range
 abbrev pub IsRepayment : Repayment → Type 0
-IsRepayment asked = ((1 ≤ asked.amount) × (asked.amount ≤ greatest_amount)) × (asked.day ≤ last_entered_day) × IfSome asked.receipt IsReceipt
+IsRepayment asked = ((1 ≤ asked.amount) × (asked.amount ≤ greatest_amount)) × (asked.day ≤ last_entered_day)
+    × IfSome asked.receipt IsReceipt
 
 -- an instalment is named by a number from 1 on
 abbrev pub IsPostingInRange : Posting → Type 0
@@ -164,6 +177,7 @@ IsPostingInRange (Waiver instalment portion) = (1 ≤ instalment) × (instalment
 IsPostingInRange WriteOff = Unit {0}
 IsPostingInRange Refund = Unit {0}
 
+-- the members of a request for a loan, in range
 abbrev pub IsLoanInRange : LoanRequest → Type 0
 IsLoanInRange Show = Unit {0}
 IsLoanInRange ShowInstalments = Unit {0}
@@ -174,6 +188,7 @@ IsLoanInRange (ChargeFee charge due) = (charge ≤ 999999999) × (due ≤ last_e
 IsLoanInRange (Post asked) = IsPostingInRange asked
 IsLoanInRange (Reverse entry) = entry ≤ 999999999
 
+-- the members of a request, in range
 abbrev pub IsInRange : Request → Type 0
 IsInRange (request.Unreadable flaw) = Unit {0}
 IsInRange (request.Catalogue asked) = IsCatalogueInRange asked
@@ -183,5 +198,6 @@ IsInRange request.SeenOffices = Unit {0}
 IsInRange request.SeenArrears = Unit {0}
 IsInRange (request.NewOffice number parent name) = IsNumberUpTo 9999 number × IsNumberUpTo 9999 parent × IsName name
 
+-- the members of each line's request, in range
 abbrev pub AreInRange : List Line → Type 0
 AreInRange ls = AllByRecursion (λ (l : Line). IsInRange l.call.request) ls

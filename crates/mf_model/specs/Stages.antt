@@ -25,9 +25,11 @@ disbursed_on _ = None
 
 -- disbursed on a day from that of approval to the business day, both included; else F10
 abbrev pub stage_of_disbursal : ℕ → ℕ → ℕ → Result Stage Fault
-stage_of_disbursal approved day today = cond (nat_le approved day && nat_le day today) (Ok (Disbursed approved day)) (Err F10)
+stage_of_disbursal approved day today = cond (nat_le approved day && nat_le day today) (Ok (Disbursed approved day))
+    (Err F10)
 
--- The stage after a step on a business day. An approval keeps its day, and undoing it forgets the day. F9 where the stage doesn't allow the step.
+-- The stage after a step on a business day. An approval keeps its day, and undoing it forgets the day. F9 where the
+-- stage doesn't allow the step.
 abbrev pub next_stage : LoanStep → ℕ → Stage → Result Stage Fault
 next_stage (Plain Approve) today Submitted = Ok (Approved today)
 next_stage (Plain Reject) today Submitted = Ok Rejected

@@ -1,12 +1,15 @@
 -- What the calls of a store say, in the words of the institution that it stands for.
-use Rattle.std.specs.Prelude.{◌≡◌, ℕ, ◌-◌, Bool, true, cond, List, [], ◌∷◌, ◌++◌, length, option_map, Option, Some, None, Result, IfOk, OnOk, OnErr, IfErr}
+use Rattle.std.specs.Prelude.{◌≡◌, ℕ, ◌-◌, Bool, true, cond, List, [], ◌∷◌, ◌++◌, length, option_map, Option, Some}
+use Rattle.std.specs.Prelude.{None, Result, IfOk, OnOk, OnErr, IfErr}
 use Rattle.mf_base.specs.declared.fault.Fault.{Fault}
 use Rattle.mf_base.specs.declared.fault.Fault.TheVariants.{F20}
 use Rattle.mf_office.specs.declared.staff.Role.{Role}
 use Rattle.mf_office.specs.declared.caller.Caller.{Caller}
 use Rattle.mf_office.specs.declared.account.Account.{Account}
 use Rattle.mf_model.specs.declared.commit.Commit.{Commit}
-use Rattle.mf_model.specs.declared.commit.Commit.TheVariants.{AddOffice, AddStaff, AddClient, SetDay, AddCharge, AddProduct, RetireProduct, AddLoan, SetStage, AddEntry, ReverseEntry}
+use Rattle.mf_model.specs.declared.commit.Commit.TheVariants.{AddOffice, AddStaff, AddClient, SetDay, AddCharge}
+use Rattle.mf_model.specs.declared.commit.Commit.TheVariants.{AddProduct, RetireProduct, AddLoan, SetStage, AddEntry}
+use Rattle.mf_model.specs.declared.commit.Commit.TheVariants.{ReverseEntry}
 use Rattle.mf_model.specs.declared.loan.Loan.{Loan}
 use Rattle.mf_model.specs.declared.loan.LoanLine.{LoanLine}
 use Rattle.mf_model.specs.declared.store.CatalogueCounts.{CatalogueCounts}
@@ -16,7 +19,8 @@ use Rattle.mf_account.specs.Change.{Account as Kept, IsChange, IsReplayed, accou
 use Rattle.mf_account.specs.Loan.{Loan as Running}
 use Rattle.mf_account.specs.Refusals.{reversal_refused}
 use Rattle.mf_account.specs.Standing.{with_mark}
-use Rattle.mf_model.specs.Institution.{Institution, Catalogue, Office, Rows, Staff, Ledger, Change, Catalogue_becomes, Rows_become, Office_added, after, office_at, no_rows, item_numbered}
+use Rattle.mf_model.specs.Institution.{Institution, Catalogue, Office, Rows, Staff, Ledger, Change, Catalogue_becomes}
+use Rattle.mf_model.specs.Institution.{Rows_become, Office_added, after, office_at, no_rows, item_numbered}
 use Rattle.mf_model.specs.Catalogue.{day_set, charge_added, product_added, product_retired}
 use Rattle.mf_model.specs.Offices.{staff_added, client_added}
 use Rattle.mf_model.specs.declared.loan.ReceiptUse.{ReceiptUse}
@@ -27,6 +31,7 @@ use Rattle.mf_model.specs.Desk.{staff_at, outcome, change_in}
 use Rattle.mf_model.specs.Run.{Line, next}
 use Rattle.mf_model.specs.Sound.{IsSound}
 
+-- the rows of an office, none where it is not there
 abbrev pub rows_of : Option Office → Rows
 rows_of None = no_rows
 rows_of (Some f) = f.rows
@@ -41,7 +46,11 @@ role_of c i = option_map (λ (s : Staff). s.role) (staff_at i c)
 
 -- how many staff, clients and loans an office has
 abbrev pub counts_at : ℕ → Institution → Counts
-counts_at x i = record { staff = length (rows_at x i).staff; clients = length (rows_at x i).clients; loans = length (rows_at x i).loans }
+counts_at x i = record {
+  staff = length (rows_at x i).staff;
+  clients = length (rows_at x i).clients;
+  loans = length (rows_at x i).loans;
+}
 
 -- how many charges and products there are
 abbrev pub catalogue_counts : Institution → CatalogueCounts
@@ -86,13 +95,16 @@ change_of (AddOffice number parent name) i = Office_added number parent name
 change_of (AddStaff office name role) i = Rows_become office (staff_added name role (rows_at office i))
 change_of (AddClient office name) i = Rows_become office (client_added name (rows_at office i))
 change_of (SetDay day) i = Catalogue_becomes (day_set day i.catalogue)
-change_of (AddCharge name kind calc value) i = Catalogue_becomes (charge_added (record { name = name; kind = kind; calc = calc; value = value }) i.catalogue)
+change_of (AddCharge name kind calc value) i =
+    Catalogue_becomes (charge_added (record { name = name; kind = kind; calc = calc; value = value }) i.catalogue)
 change_of (AddProduct members) i = Catalogue_becomes (product_added members i.catalogue)
 change_of (RetireProduct product) i = Catalogue_becomes (product_retired product i.catalogue)
 change_of (AddLoan office loan) i = Rows_become office (loan_added loan (rows_at office i))
 change_of (SetStage loan stage) i = Rows_become loan.office (loan_staged loan.number stage (rows_at loan.office i))
-change_of (AddEntry loan account) i = Rows_become loan.office (loan_entered loan.number account.loan.entries (rows_at loan.office i))
-change_of (ReverseEntry loan seq account) i = Rows_become loan.office (loan_entered loan.number account.loan.entries (rows_at loan.office i))
+change_of (AddEntry loan account) i =
+    Rows_become loan.office (loan_entered loan.number account.loan.entries (rows_at loan.office i))
+change_of (ReverseEntry loan seq account) i =
+    Rows_become loan.office (loan_entered loan.number account.loan.entries (rows_at loan.office i))
 
 -- the institution after a commit
 abbrev pub after_commit : Commit → Institution → Institution
@@ -107,8 +119,10 @@ pub record OneReversed (seq : ℕ) (entries after : List Entry) : Type 0 where
   pub allowed : reversal_refused entries seq ≡ None
   pub marked : after ≡ with_mark entries (seq - 1) true
 
--- An account that a commit hands on is that of the loan before it but for its entries, which become these; what it keeps is what a replay gives, and it tells what changed.
-pub record IsHandedOn (loan : Account) (becomes : List Entry → List Entry → Type 0) (account : Kept) (i : Institution) : Type 0 where
+-- An account that a commit hands on is that of the loan before it but for its entries, which become these; what it
+-- keeps is what a replay gives, and it tells what changed.
+pub record IsHandedOn (loan : Account) (becomes : List Entry → List Entry → Type 0) (account : Kept)
+    (i : Institution) : Type 0 where
   pub before : Running
   pub there : account_of i.catalogue (ledger_at loan i) ≡ Some before
   pub entries : becomes before.entries account.loan.entries
@@ -127,7 +141,8 @@ pub record IsAdmitted (commit : Commit) (i : Institution) : Type 0 where
   pub sound : IsSound (after_commit commit i)
   pub handed : IsHanded commit i
 
--- What a stop after a call may leave, where before it left one of these: a change that was made; and where the call gave up, its change or what was there.
+-- What a stop after a call may leave, where before it left one of these: a change that was made; and where the call
+-- gave up, its change or what was there.
 abbrev pub left_by : Option Change → Bool → Institution → List Institution → List Institution
 left_by None given_up i is = is
 left_by (Some change) given_up i is = after change i ∷ cond given_up is []
@@ -137,8 +152,10 @@ abbrev pub left_after : List Line → Institution → List Institution → List 
 left_after [] i is = is
 left_after (l ∷ ls) i is = left_after ls (next l i) (left_by (change_in (outcome l.call i)) l.given_up i is)
 
--- A store, as its calls see it: which institution it stands for, whether the disk has so far returned what was written, and whether a stop at this moment leaves one of these institutions, whole.
-module _ {S : Type 0} (stands : S → Institution → Type 0) (clean : S → Type 0) (leaves : S → List Institution → Type 0) where
+-- A store, as its calls see it: which institution it stands for, whether the disk has so far returned what was written,
+-- and whether a stop at this moment leaves one of these institutions, whole.
+module _ {S : Type 0} (stands : S → Institution → Type 0) (clean : S → Type 0) (leaves : S → List Institution
+    → Type 0) where
   -- a call that reads a value of the institution and changes nothing; it may give up
   pub record Reads {R : Type 0} (value : Institution → R) (old new : S) (result : Result R Fault) : Type 0 where
     pub premise : clean new → clean old
@@ -147,11 +164,15 @@ module _ {S : Type 0} (stands : S → Institution → Type 0) (clean : S → Typ
     pub gives_up : IfErr result (λ fault. fault ≡ F20)
     pub stop : clean new → (is : List Institution) → leaves old is → leaves new is
 
-  -- A call that makes a change whole or, giving up, not at all. Once it is made a stop leaves it; where the call gave up a stop may leave it or not.
+  -- A call that makes a change whole or, giving up, not at all. Once it is made a stop leaves it; where the call gave
+  -- up a stop may leave it or not.
   pub record Commits (commit : Commit) (old new : S) (result : Result (Unit {0}) Fault) : Type 0 where
     pub premise : clean new → clean old
-    pub made : clean new → (i : Institution) → stands old i → IsAdmitted commit i → OnOk result (stands new (after_commit commit i))
-    pub kept : clean new → (i : Institution) → stands old i → IsAdmitted commit i → OnOk result (leaves new (after_commit commit i ∷ []))
+    pub made : clean new → (i : Institution) → stands old i → IsAdmitted commit i
+        → OnOk result (stands new (after_commit commit i))
+    pub kept : clean new → (i : Institution) → stands old i → IsAdmitted commit i
+        → OnOk result (leaves new (after_commit commit i ∷ []))
     pub same : clean new → (i : Institution) → stands old i → OnErr result (stands new i)
     pub gives_up : IfErr result (λ fault. fault ≡ F20)
-    pub stop : clean new → (i : Institution) (is : List Institution) → stands old i → IsAdmitted commit i → leaves old is → leaves new (after_commit commit i ∷ is)
+    pub stop : clean new → (i : Institution) (is : List Institution) → stands old i → IsAdmitted commit i
+        → leaves old is → leaves new (after_commit commit i ∷ is)

@@ -1,7 +1,9 @@
 -- The tree of offices by its parents, and what an office sees.
-use Rattle.std.specs.Prelude.{◌≡◌, ℕ, ◌<◌, Bool, true, false, cond, List, [], ◌∷◌, filter, is_some, ◌==◌, Option, Some, None}
+use Rattle.std.specs.Prelude.{◌≡◌, ℕ, ◌<◌, Bool, true, false, cond, List, [], ◌∷◌, filter, is_some, ◌==◌, Option, Some}
+use Rattle.std.specs.Prelude.{None}
 use Rattle.mf_office.specs.Tree.{is_within, is_at_or_below}
-use Rattle.mf_model.specs.Institution.{Institution, Office, office_at, Change, Catalogue_becomes, Rows_become, Office_added, after}
+use Rattle.mf_model.specs.Institution.{Institution, Office, office_at, Change, Catalogue_becomes, Rows_become}
+use Rattle.mf_model.specs.Institution.{Office_added, after}
 
 -- the parent of office x, if x is there and has one
 abbrev pub parent_of : List Office → ℕ → Option ℕ
@@ -32,7 +34,8 @@ seen_office o x i = cond (is_at_or_below (parent_of i.offices) x o) (office_at x
 abbrev pub touches : ℕ → Institution → Change → Bool
 touches o i (Catalogue_becomes catalogue) = true
 touches o i (Rows_become x rows) = is_at_or_below (parent_of (after (Rows_become x rows) i).offices) x o
-touches o i (Office_added number parent name) = is_at_or_below (parent_of (after (Office_added number parent name) i).offices) number o
+touches o i (Office_added number parent name) =
+    is_at_or_below (parent_of (after (Office_added number parent name) i).offices) number o
 
 -- each number is above n
 abbrev pub Above : ℕ → List Office → Type 0

@@ -12,7 +12,8 @@ use Rattle.mf_model.specs.Institution.{Institution}
 use Rattle.mf_model.specs.Tree.{parent_of}
 use Rattle.mf_model.specs.Store.{client_at, ledger_at}
 
--- what is asked of an account: something of a loan; a client's name; or a loan to a client, of so much of a product for so many periods
+-- what is asked of an account: something of a loan; a client's name; or a loan to a client, of so much of a product for
+-- so many periods
 pub data Asked : Type 0 where
   Of_loan : LoanRequest → Asked
   Of_client : Asked
@@ -23,7 +24,12 @@ abbrev pub asked_of : Asked → Account → Request
 asked_of (Of_loan asked) account = Loan account asked
 asked_of Of_client account = Office account.office (ShowClient account.number)
 asked_of (Loan_to_client product principal periods) account =
-    Office account.office (SubmitLoan (record { client = account.number; product = product; principal = principal; periods = periods }))
+    Office account.office (SubmitLoan (record {
+      client = account.number;
+      product = product;
+      principal = principal;
+      periods = periods;
+    }))
 
 -- the account is there: a loan where a loan is asked for, else a client
 abbrev pub is_account_there : Asked → Account → Institution → Bool
@@ -33,7 +39,8 @@ is_account_there (Loan_to_client product principal periods) account i = is_some 
 
 -- the account's office isn't at or below the caller's, or the account isn't there
 abbrev pub IsUnseen : Caller → Asked → Account → Institution → Type 0
-IsUnseen c asked account i = (is_at_or_below (parent_of i.offices) account.office c.office ≡ false) ⊎ (is_account_there asked account i ≡ false)
+IsUnseen c asked account i = (is_at_or_below (parent_of i.offices) account.office c.office ≡ false)
+    ⊎ (is_account_there asked account i ≡ false)
 
 -- this caller sends a request
 abbrev pub call_from : Caller → Request → Call

@@ -1,4 +1,5 @@
--- Days of a disbursed loan, line by line, with what each line is answered: 100000 cents at 12 percent for three months, by equal principal, disbursed on 2024-01-31.
+-- Days of a disbursed loan, line by line, with what each line is answered: 100000 cents at 12 percent for three months,
+-- by equal principal, disbursed on 2024-01-31.
 use Rattle.std.specs.Prelude.{ℕ, ◌+◌, ◌-◌, false, List, [], ◌∷◌, ◌++◌, codes, Option, Some, None, Result, Ok, Err}
 use Rattle.mf_base.specs.declared.fault.Fault.{Fault}
 use Rattle.mf_base.specs.declared.fault.Fault.TheVariants.{F9, F10, F15}
@@ -12,7 +13,8 @@ use Rattle.mf_statement.specs.declared.lines.EntryLine.{EntryLine}
 use Rattle.mf_statement.specs.declared.lines.InstalmentLine.{InstalmentLine}
 use Rattle.mf_model.specs.declared.loan.Statement.{Statement}
 use Rattle.mf_model.specs.declared.reply.Reply.{Reply}
-use Rattle.mf_model.specs.declared.reply.Reply.TheVariants.{OfficeMade, ClientMade, ProductMade, ProductRetired, LoanMade, DaySet, Loan as LoanTold, LoansShown}
+use Rattle.mf_model.specs.declared.reply.Reply.TheVariants.{OfficeMade, ClientMade, ProductMade, ProductRetired}
+use Rattle.mf_model.specs.declared.reply.Reply.TheVariants.{LoanMade, DaySet, Loan as LoanTold, LoansShown}
 use Rattle.mf_model.specs.declared.reply.LoanReply.{LoanReply}
 use Rattle.mf_model.specs.declared.reply.LoanReply.TheVariants.{Shown, Instalments, Entries, Status, Entered, Repeated}
 use Rattle.mf_model.specs.declared.request.CatalogueRequest.TheVariants.{SetDay, AddProduct, RetireProduct}
@@ -25,18 +27,22 @@ use Rattle.mf_model.specs.declared.request.Request.{Request}
 use Rattle.mf_model.specs.declared.request.Request.TheVariants.{Catalogue, Office, Loan, NewOffice}
 use Rattle.mf_model.specs.Accounts.{no_sums}
 use Rattle.mf_model.specs.Run.{Line}
-use Rattle.mf_model.specs.WorkedRows.{staff, account, add_client, submit, take_step, status_reply, loan_at_status, row, usual}
+use Rattle.mf_model.specs.WorkedRows.{staff, account, add_client, submit, take_step, status_reply, loan_at_status, row}
+use Rattle.mf_model.specs.WorkedRows.{usual}
 
 -- 2024-01-31, 2024-02-29, 2024-03-31 and 2024-04-30
 abbrev pub january : ℕ
 january = 8796
 
+-- 29 February 2024
 abbrev pub february : ℕ
 february = 8825
 
+-- 31 March 2024
 abbrev pub march : ℕ
 march = 8856
 
+-- 30 April 2024
 abbrev pub april : ℕ
 april = 8886
 
@@ -61,6 +67,7 @@ start_by product = approved_by product ++ (
     ∷ []
     )
 
+-- the common start, by a product without a charge
 abbrev pub common_start : List (Line × Result Reply Fault)
 common_start = start_by (usual None)
 
@@ -82,7 +89,8 @@ show_row asked told = row (staff 1 1) (Loan (account 1 1) asked) (Ok (LoanTold (
 
 -- the loans of the office: the one, with its status
 abbrev pub listed_at : ℕ → Line × Result Reply Fault
-listed_at status = row (staff 1 1) (Office 1 (ListLoans 0)) (Ok (LoansShown (record { loan = account 1 1; status = status } ∷ [])))
+listed_at status =
+    row (staff 1 1) (Office 1 (ListLoans 0)) (Ok (LoansShown (record { loan = account 1 1; status = status } ∷ [])))
 
 -- penalties, fees, interest and principal
 abbrev pub sums : ℕ → ℕ → List ℕ
@@ -109,12 +117,19 @@ stands_at status paid outstanding overpaid = record {
   };
 }
 
+-- the line of an instalment of which nothing else was settled
 abbrev pub instalment : ℕ → ℕ → ℕ → ℕ → ℕ → InstalmentLine
-instalment number due interest principal outstanding = record { number = number; due = due; owed = sums interest principal; outstanding = outstanding }
+instalment number due interest principal outstanding =
+    record { number = number; due = due; owed = sums interest principal; outstanding = outstanding }
 
+-- a share of a cell
 abbrev pub share : ℕ → Portion → ℕ → Share
-share instalment portion amount = record { cell = record { instalment = instalment; portion = portion }; amount = amount }
+share instalment portion amount = record {
+  cell = record { instalment = instalment; portion = portion };
+  amount = amount;
+}
 
+-- the line of a repayment with its shares
 abbrev pub repayment_line : ℕ → ℕ → ℕ → List Share → EntryLine
 repayment_line seq day amount shares = record {
   entry = record {
@@ -132,11 +147,14 @@ repayment_line seq day amount shares = record {
   shares = shares;
 }
 
+-- the first repayment's line
 abbrev pub first_line : EntryLine
 first_line = repayment_line 1 february 20000 (share 1 Interest 1000 ∷ share 1 Principal 19000 ∷ [])
 
+-- the second repayment's line
 abbrev pub second_line : EntryLine
-second_line = repayment_line 2 march 50000 (share 1 Principal 14333 ∷ share 2 Interest 667 ∷ share 2 Principal 33333 ∷ share 3 Interest 333 ∷ share 3 Principal 1334 ∷ [])
+second_line = repayment_line 2 march 50000 (share 1 Principal 14333 ∷ share 2 Interest 667 ∷ share 2 Principal 33333
+    ∷ share 3 Interest 333 ∷ share 3 Principal 1334 ∷ [])
 
 -- two repayments, with what each settles and what is left
 abbrev pub repaying : List (Line × Result Reply Fault)
@@ -153,7 +171,8 @@ abbrev pub schedule_shown : List (Line × Result Reply Fault)
 schedule_shown = common_start ++ (
     repayment_row 20000 february 1
     ∷ repayment_row 50000 march 2
-    ∷ show_row ShowInstalments (Instalments (instalment 1 february 1000 33333 0 ∷ instalment 2 march 667 33333 0 ∷ instalment 3 april 333 33334 32000 ∷ []))
+    ∷ show_row ShowInstalments (Instalments (instalment 1 february 1000 33333 0 ∷ instalment 2 march 667 33333 0
+    ∷ instalment 3 april 333 33334 32000 ∷ []))
     ∷ []
     )
 
@@ -185,7 +204,8 @@ principal_first = start_by (record (usual None) { strategy = PrincipalFirst }) +
     ∷ show_row Show (Shown (stands_at 300 (sums 1667 68333) (sums 333 31667) 0))
     ∷ show_row ShowEntries (Entries (
     repayment_line 1 february 20000 (share 1 Principal 20000 ∷ [])
-    ∷ repayment_line 2 march 50000 (share 1 Principal 13333 ∷ share 1 Interest 1000 ∷ share 2 Principal 33333 ∷ share 2 Interest 667 ∷ share 3 Principal 1667 ∷ [])
+    ∷ repayment_line 2 march 50000 (share 1 Principal 13333 ∷ share 1 Interest 1000 ∷ share 2 Principal 33333
+    ∷ share 2 Interest 667 ∷ share 3 Principal 1667 ∷ [])
     ∷ []
     ))
     ∷ []
@@ -221,10 +241,12 @@ disbursing = approved_by (usual None) ++ (
 abbrev pub sent_with : List ℕ → ℕ → ℕ → ℕ → ℕ → Result Reply Fault → Line × Result Reply Fault
 sent_with receipt x n amount day reply = row (staff 1 1) (repay x n amount day (Some receipt)) reply
 
+-- a reply on a loan
 abbrev pub loan_reply : ℕ → ℕ → LoanReply → Result Reply Fault
 loan_reply x n what = Ok (LoanTold (account x n) what)
 
--- a receipt that is known is answered as it was, where the loan, the day and the amount are the same; it is one of its office
+-- a receipt that is known is answered as it was, where the loan, the day and the amount are the same; it is one of its
+-- office
 abbrev pub receipts : List (Line × Result Reply Fault)
 receipts = common_start ++ (
     sent_with (codes "R-1") 1 1 20000 february (loan_reply 1 1 (Entered 1))
@@ -239,7 +261,8 @@ receipts = common_start ++ (
     ∷ row (staff 1 1) (repay 1 2 20000 february None) (Err F9)
     ∷ row (staff 1 1) (NewOffice 2 1 (codes "North")) (Ok (OfficeMade 2))
     ∷ row (staff 1 1) (add_client 2 (codes "Ben")) (Ok (ClientMade (account 2 1)))
-    ∷ row (staff 1 1) (Office 2 (SubmitLoan (record { client = 1; product = 1; principal = 100000; periods = 3 }))) (Ok (LoanMade (account 2 1)))
+    ∷ row (staff 1 1) (Office 2 (SubmitLoan (record { client = 1; product = 1; principal = 100000; periods = 3 })))
+    (Ok (LoanMade (account 2 1)))
     ∷ row (staff 1 1) (Loan (account 2 1) (Take (Plain Approve))) (loan_reply 2 1 (Status 200))
     ∷ row (staff 1 1) (Loan (account 2 1) (Take (Disburse march))) (loan_reply 2 1 (Status 300))
     ∷ sent_with (codes "R-1") 2 1 20000 march (loan_reply 2 1 (Entered 1))

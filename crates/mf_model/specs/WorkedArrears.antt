@@ -19,13 +19,22 @@ report_row office number lines = row (staff office number) SeenArrears (Ok (Arre
 
 -- the line of office 1 with one loan: its outstanding principal, and that of 1 to 30 and of 31 to 60 days
 abbrev pub one_loan : ℕ → ℕ → ℕ → Arrears
-one_loan outstanding to_thirty to_sixty = record { office = 1; loans = 1; outstanding = outstanding; c1_30 = to_thirty; c31_60 = to_sixty; c61_90 = 0; over_90 = 0 }
+one_loan outstanding to_thirty to_sixty = record {
+  office = 1;
+  loans = 1;
+  outstanding = outstanding;
+  c1_30 = to_thirty;
+  c31_60 = to_sixty;
+  c61_90 = 0;
+  over_90 = 0;
+}
 
 -- a later business day
 abbrev pub day_comes : ℕ → Line × Result Reply Fault
 day_comes day = row (staff 1 1) (Catalogue (SetDay day)) (Ok (DaySet day))
 
--- the first instalment is paid, and the second falls due on 2024-03-31: 30 and 31 days later, and then beside an office without loans
+-- the first instalment is paid, and the second falls due on 2024-03-31: 30 and 31 days later, and then beside an office
+-- without loans
 abbrev pub thirty_days : List (Line × Result Reply Fault)
 thirty_days = common_start ++ (
     repayment_row 34333 february 1

@@ -1,4 +1,5 @@
--- Days of a disbursed loan with fees, penalties, waivers, a write-off, a refund and reversals, line by line, with what each line is answered.
+-- Days of a disbursed loan with fees, penalties, waivers, a write-off, a refund and reversals, line by line, with what
+-- each line is answered.
 use Rattle.std.specs.Prelude.{ℕ, ◌+◌, ◌-◌, true, false, List, [], ◌∷◌, ◌++◌, codes, Some, None, Result, Ok, Err}
 use Rattle.mf_base.specs.declared.fault.Fault.{Fault}
 use Rattle.mf_base.specs.declared.fault.Fault.TheVariants.{F4, F8, F9, F10, F11, F12, F13, F14}
@@ -27,7 +28,8 @@ use Rattle.mf_model.specs.declared.waivable.Waivable.TheVariants.{Interest}
 use Rattle.mf_model.specs.Accounts.{no_sums}
 use Rattle.mf_model.specs.Run.{Line}
 use Rattle.mf_model.specs.WorkedRows.{staff, account, row, usual}
-use Rattle.mf_model.specs.WorkedAccounts.{january, february, march, start_by, common_start, repayment_row, not_repaid, show_row, stands_at, sums, share, repayment_line, sent_with, loan_reply}
+use Rattle.mf_model.specs.WorkedAccounts.{january, february, march, start_by, common_start, repayment_row, not_repaid}
+use Rattle.mf_model.specs.WorkedAccounts.{show_row, stands_at, sums, share, repayment_line, sent_with, loan_reply}
 
 -- something asked of the first loan, and what it is answered
 abbrev pub first_loan_row : LoanRequest → Result Reply Fault → Line × Result Reply Fault
@@ -37,6 +39,7 @@ first_loan_row what reply = row (staff 1 1) (Loan (account 1 1) what) reply
 abbrev pub posting_row : Posting → ℕ → Line × Result Reply Fault
 posting_row what seq = first_loan_row (Post what) (loan_reply 1 1 (Entered seq))
 
+-- an entry of the first loan that is refused
 abbrev pub not_posted : Posting → Fault → Line × Result Reply Fault
 not_posted what fault = first_loan_row (Post what) (Err fault)
 
@@ -44,6 +47,7 @@ not_posted what fault = first_loan_row (Post what) (Err fault)
 abbrev pub fee_row : ℕ → ℕ → Line × Result Reply Fault
 fee_row due seq = first_loan_row (ChargeFee 1 due) (loan_reply 1 1 (Entered seq))
 
+-- a fee of the first loan that is refused
 abbrev pub not_charged : ℕ → ℕ → Fault → Line × Result Reply Fault
 not_charged charge due fault = first_loan_row (ChargeFee charge due) (Err fault)
 
@@ -51,6 +55,7 @@ not_charged charge due fault = first_loan_row (ChargeFee charge due) (Err fault)
 abbrev pub taken_back : ℕ → Line × Result Reply Fault
 taken_back seq = first_loan_row (Reverse seq) (loan_reply 1 1 (Reversed seq))
 
+-- a reversal of the first loan that is refused
 abbrev pub not_taken_back : ℕ → Fault → Line × Result Reply Fault
 not_taken_back seq fault = first_loan_row (Reverse seq) (Err fault)
 
@@ -89,7 +94,8 @@ with_fees owed paid s = record s {
   };
 }
 
--- a fee that is settled by what a payment of an earlier day left over: the share stands with the fee; without the fee it is left over again
+-- a fee that is settled by what a payment of an earlier day left over: the share stands with the fee; without the fee
+-- it is left over again
 abbrev pub fee_paid_before : List (Line × Result Reply Fault)
 fee_paid_before = common_start ++ (
     visit
@@ -133,14 +139,16 @@ fees_by_day = common_start ++ (
 abbrev pub waiving : List (Line × Result Reply Fault)
 waiving = common_start ++ (
     posting_row (Waiver 2 Interest) 1
-    ∷ show_row ShowEntries (Entries (line_told (entry_now kind.Waive 1 2 portion.Interest 0) 667 (share 2 portion.Interest 667 ∷ []) ∷ []))
+    ∷ show_row ShowEntries (Entries (line_told (entry_now kind.Waive 1 2 portion.Interest 0) 667
+    (share 2 portion.Interest 667 ∷ []) ∷ []))
     ∷ not_posted (Waiver 2 Interest) F14
     ∷ not_posted (Waiver 4 Interest) F14
     ∷ repayment_row 40000 february 2
     ∷ show_row Show (Shown (stands_at 300 (sums 1667 38333) (sums 333 61667) 0))
     ∷ show_row ShowEntries (Entries (
     line_told (entry_now kind.Waive 1 2 portion.Interest 0) 0 []
-    ∷ repayment_line 2 february 40000 (share 1 portion.Interest 1000 ∷ share 1 portion.Principal 33333 ∷ share 2 portion.Interest 667 ∷ share 2 portion.Principal 5000 ∷ [])
+    ∷ repayment_line 2 february 40000 (share 1 portion.Interest 1000 ∷ share 1 portion.Principal 33333
+    ∷ share 2 portion.Interest 667 ∷ share 2 portion.Principal 5000 ∷ [])
     ∷ []
     ))
     ∷ []
@@ -168,12 +176,16 @@ penalty_by strategy shares = overdue_start strategy ++ (
     ∷ []
     )
 
+-- a penalty, and what is paid by the standard strategy
 abbrev pub penalties_first : List (Line × Result Reply Fault)
-penalties_first = penalty_by MifosStandard (share 1 portion.Penalty 3433 ∷ share 1 portion.Interest 1000 ∷ share 1 portion.Principal 567 ∷ [])
+penalties_first = penalty_by MifosStandard (share 1 portion.Penalty 3433 ∷ share 1 portion.Interest 1000
+    ∷ share 1 portion.Principal 567 ∷ [])
 
+-- the same where principal comes first
 abbrev pub principal_before : List (Line × Result Reply Fault)
 principal_before = penalty_by PrincipalFirst (share 1 portion.Principal 5000 ∷ [])
 
+-- the same where interest comes first
 abbrev pub interest_before : List (Line × Result Reply Fault)
 interest_before = penalty_by InterestFirst (share 1 portion.Interest 1000 ∷ share 1 portion.Principal 4000 ∷ [])
 

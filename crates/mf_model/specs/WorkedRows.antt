@@ -7,18 +7,24 @@ use Rattle.mf_office.specs.declared.caller.Caller.{Caller}
 use Rattle.mf_office.specs.declared.account.Account.{Account}
 use Rattle.mf_model.specs.declared.request.Request.{Request}
 use Rattle.mf_model.specs.declared.request.Flaw.TheVariants.{Malformed, NoRoute, NoMethod}
-use Rattle.mf_model.specs.declared.request.CatalogueRequest.TheVariants.{ShowDay, SetDay, AddCharge, ShowCharge, AddProduct, ShowProduct, RetireProduct}
-use Rattle.mf_model.specs.declared.request.OfficeRequest.TheVariants.{AddStaff, AddClient, ShowClient, SubmitLoan, ListLoans}
+use Rattle.mf_model.specs.declared.request.CatalogueRequest.TheVariants.{ShowDay, SetDay, AddCharge, ShowCharge}
+use Rattle.mf_model.specs.declared.request.CatalogueRequest.TheVariants.{AddProduct, ShowProduct, RetireProduct}
+use Rattle.mf_model.specs.declared.request.OfficeRequest.TheVariants.{AddStaff, AddClient, ShowClient, SubmitLoan}
+use Rattle.mf_model.specs.declared.request.OfficeRequest.TheVariants.{ListLoans}
 use Rattle.mf_model.specs.declared.request.LoanRequest.TheVariants.{Show, Take}
 use Rattle.mf_model.specs.declared.request.LoanStep.TheVariants.{Plain}
 use Rattle.mf_model.specs.declared.request.PlainStep.{PlainStep}
 use Rattle.mf_model.specs.declared.request.PlainStep.TheVariants.{Approve, Reject, Withdraw, UndoApproval}
-use Rattle.mf_model.specs.declared.request.Request.TheVariants.{Unreadable, Catalogue, Office, Loan, SeenOffices, NewOffice}
+use Rattle.mf_model.specs.declared.request.Request.TheVariants.{Unreadable, Catalogue, Office, Loan, SeenOffices}
+use Rattle.mf_model.specs.declared.request.Request.TheVariants.{NewOffice}
 use Rattle.mf_office.specs.declared.office.Office.{Office as OfficeLine}
 use Rattle.mf_model.specs.declared.loan.Statement.{Statement}
 use Rattle.mf_model.specs.Accounts.{no_balances}
 use Rattle.mf_model.specs.declared.reply.Reply.{Reply}
-use Rattle.mf_model.specs.declared.reply.Reply.TheVariants.{OfficeMade, Offices, StaffMade, ClientMade, ClientShown, DayShown, DaySet, ChargeMade, ChargeShown, ProductMade, ProductShown, ProductRetired, LoanMade, Loan as LoanTold, LoansShown}
+use Rattle.mf_model.specs.declared.reply.Reply.TheVariants.{OfficeMade, Offices, StaffMade, ClientMade, ClientShown}
+use Rattle.mf_model.specs.declared.reply.Reply.TheVariants.{DayShown, DaySet, ChargeMade, ChargeShown, ProductMade}
+use Rattle.mf_model.specs.declared.reply.Reply.TheVariants.{ProductShown, ProductRetired, LoanMade, Loan as LoanTold}
+use Rattle.mf_model.specs.declared.reply.Reply.TheVariants.{LoansShown}
 use Rattle.mf_model.specs.declared.reply.LoanReply.TheVariants.{Shown, Status}
 use Rattle.mf_base.specs.declared.day.Freq.TheVariants.{Months}
 use Rattle.mf_catalog.specs.declared.charge.ChargeKind.TheVariants.{DueDate}
@@ -28,9 +34,11 @@ use Rattle.mf_catalog.specs.declared.terms.Method.TheVariants.{EqualPrincipal}
 use Rattle.mf_catalog.specs.declared.terms.StrategyName.TheVariants.{MifosStandard}
 use Rattle.mf_model.specs.Run.{Line}
 
+-- a member of staff as a caller
 abbrev pub staff : ℕ → ℕ → Option Caller
 staff office number = Some (record { office = office; staff = number })
 
+-- the number of a client or a loan of an office
 abbrev pub account : ℕ → ℕ → Account
 account office number = record { office = office; number = number }
 
@@ -38,15 +46,20 @@ account office number = record { office = office; number = number }
 abbrev pub add_client : ℕ → List ℕ → Request
 add_client x name = Office x (AddClient name)
 
+-- a client is asked for
 abbrev pub show_client : ℕ → ℕ → Request
 show_client x n = Office x (ShowClient n)
 
+-- the first client of the head office applies for a loan
 abbrev pub submit : ℕ → ℕ → ℕ → Request
-submit product principal periods = Office 1 (SubmitLoan (record { client = 1; product = product; principal = principal; periods = periods }))
+submit product principal periods =
+    Office 1 (SubmitLoan (record { client = 1; product = product; principal = principal; periods = periods }))
 
+-- a step of the first loan
 abbrev pub take_step : PlainStep → Request
 take_step step = Loan (account 1 1) (Take (Plain step))
 
+-- the first loan's status is told
 abbrev pub status_reply : ℕ → Result Reply Fault
 status_reply status = Ok (LoanTold (account 1 1) (Status status))
 
@@ -67,6 +80,7 @@ first_day =
     ∷ row (staff 2 1) (show_client 1 1) (Err F2)
     ∷ []
 
+-- the line of an office below another
 abbrev pub office_line : ℕ → ℕ → List ℕ → OfficeLine
 office_line number parent name = record { number = number; parent = Some parent; name = name }
 
@@ -96,7 +110,8 @@ chain =
     ∷ row (staff 1 1) (NewOffice 7 6 (codes "Seven")) (Err F18)
     ∷ []
 
--- 12 percent, equal principal, monthly, up to 1000000 cents and 12 periods, with an instalment charge where one is named
+-- 12 percent, equal principal, monthly, up to 1000000 cents and 12 periods, with an instalment charge where one is
+-- named
 abbrev pub usual : Option ℕ → ProductMembers
 usual charge = record {
   name = codes "P";
@@ -151,20 +166,31 @@ catalogue_day =
     ∷ row (staff 1 1) (Catalogue ShowDay) (Ok (DayShown 8767))
     ∷ row (staff 1 1) (Catalogue (ShowCharge 1)) (Err F4)
     ∷ row (staff 1 1) (Catalogue (AddCharge (codes "Visit") DueDate Flat 500)) (Ok (ChargeMade 1))
-    ∷ row (staff 1 1) (Catalogue (ShowCharge 1)) (Ok (ChargeShown (record { number = 1; name = codes "Visit"; kind = DueDate; calc = Flat; value = 500 })))
+    ∷ row (staff 1 1) (Catalogue (ShowCharge 1))
+    (Ok (ChargeShown (record { number = 1; name = codes "Visit"; kind = DueDate; calc = Flat; value = 500 })))
     ∷ row (staff 1 1) (Catalogue (ShowCharge 0)) (Err F4)
     ∷ row (staff 1 1) (Catalogue (AddProduct (usual None))) (Ok (ProductMade 1))
-    ∷ row (staff 1 1) (Catalogue (ShowProduct 1)) (Ok (ProductShown (record { number = 1; members = usual None; retired = false })))
+    ∷ row (staff 1 1) (Catalogue (ShowProduct 1))
+    (Ok (ProductShown (record { number = 1; members = usual None; retired = false })))
     ∷ row (staff 1 1) (Catalogue (ShowProduct 2)) (Err F4)
     ∷ row (staff 1 1) (Catalogue (RetireProduct 2)) (Err F4)
     ∷ row (staff 1 1) (Catalogue (RetireProduct 1)) (Ok (ProductRetired 1))
-    ∷ row (staff 1 1) (Catalogue (ShowProduct 1)) (Ok (ProductShown (record { number = 1; members = usual None; retired = true })))
+    ∷ row (staff 1 1) (Catalogue (ShowProduct 1))
+    (Ok (ProductShown (record { number = 1; members = usual None; retired = true })))
     ∷ row (staff 1 1) (Unreadable NoRoute) (Err F5)
     ∷ []
 
 -- a loan of 1000.00 over three periods to client 1, before it is disbursed
 abbrev pub loan_at_status : ℕ → Statement
-loan_at_status status = record { client = 1; product = 1; principal = 100000; periods = 3; day = None; status = status; balances = no_balances }
+loan_at_status status = record {
+  client = 1;
+  product = 1;
+  principal = 100000;
+  periods = 3;
+  day = None;
+  status = status;
+  balances = no_balances;
+}
 
 -- an application for such a loan, in office 2
 abbrev pub submit_in_two : Request
@@ -174,7 +200,8 @@ submit_in_two = Office 2 (SubmitLoan (record { client = 1; product = 1; principa
 abbrev pub of_loan : ℕ → ℕ → PlainStep → Request
 of_loan office n step = Loan (account office n) (Take (Plain step))
 
--- Loans are withdrawn, rejected and approved in office 2. Its officer may not decide, and of a manager of office 20 each of them is hidden: the reply is that of a loan that isn't there.
+-- Loans are withdrawn, rejected and approved in office 2. Its officer may not decide, and of a manager of office 20
+-- each of them is hidden: the reply is that of a loan that isn't there.
 abbrev pub deciding : List (Line × Result Reply Fault)
 deciding =
     row (staff 1 1) (NewOffice 2 1 (codes "North")) (Ok (OfficeMade 2))
@@ -205,7 +232,8 @@ deciding =
     ∷ row (staff 20 1) (show_client 2 1) (Err F4)
     ∷ row (staff 20 1) (show_client 2 2) (Err F4)
     ∷ row (staff 20 1) submit_in_two (Err F4)
-    ∷ row (staff 2 1) (Office 2 (ListLoans 1)) (Ok (LoansShown (record { loan = account 2 2; status = 500 } ∷ record { loan = account 2 3; status = 200 } ∷ [])))
+    ∷ row (staff 2 1) (Office 2 (ListLoans 1)) (Ok (LoansShown (record { loan = account 2 2; status = 500 }
+    ∷ record { loan = account 2 3; status = 200 } ∷ [])))
     ∷ row (staff 20 1) (Office 2 (ListLoans 0)) (Err F4)
     ∷ row (staff 2 1) (show_client 2 1) (Ok (ClientShown (account 2 1) (codes "Amina")))
     ∷ []

@@ -1,3 +1,5 @@
+//! The changes of an institution, each made whole or not at all.
+
 use crate::loan::{Loan, Stage};
 use mf_account::LoanAccount;
 use mf_base::Day;

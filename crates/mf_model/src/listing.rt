@@ -1,3 +1,5 @@
+//! The lists of items that statements and replies carry.
+
 use crate::loan::LoanLine;
 use mf_arrears::OfficeLine;
 use mf_office::Office;

@@ -1,3 +1,5 @@
+//! Loans as an institution keeps them: their stage, their members and what is shown of them.
+
 ghost use Rattle.std.specs.Prelude.{◌≡◌};
 ghost use Rattle.mf_model.specs.Stages.{stage_number};
 

@@ -1,3 +1,5 @@
+//! The replies to requests that are accepted.
+
 use crate::listing::{ArrearsList, LoanList, OfficeList};
 use crate::loan::Statement;
 use mf_base::Day;

@@ -1,3 +1,5 @@
+//! The trait between store and desk: what is read of an institution, and its commits.
+
 use crate::commit::Commit;
 use crate::listing::{ArrearsList, LoanList, OfficeList};
 use crate::loan::{Loan, ReceiptUse};
@@ -27,8 +29,8 @@ pub struct CatalogueCounts {
 
 /// A store of one institution. Each call answers what the institution says, or gives up with F20 and has changed
 /// nothing. What is said of values holds as long as the disk has returned what was written (`clean`). A store whose
-/// disk has failed may be shut: then it stands for whatever it stood for before, and gives up at every call but a reading
-/// of what it knows beside its tables.
+/// disk has failed may be shut: then it stands for whatever it stood for before, and gives up at every call but a
+/// reading of what it knows beside its tables.
 pub trait InstitutionStore {
     ghost use Rattle.std.specs.Prelude.{◌≡◌, ℕ, List, ◌∷◌, map, is_some, true};
     ghost use Rattle.mf_office.specs.Tree.{is_within};
@@ -37,7 +39,8 @@ pub trait InstitutionStore {
     ghost use Rattle.mf_model.specs.Desk.{line_of};
     ghost use Rattle.mf_model.specs.Arrears.{arrears_seen};
     ghost use Rattle.mf_model.specs.Sound.{IsSound};
-    ghost use Rattle.mf_model.specs.Store.{Reads, Commits, role_of, counts_at, client_at, catalogue_counts, loan_at, account_at, receipt_at, loans_at};
+    ghost use Rattle.mf_model.specs.Store.{Reads, Commits, role_of, counts_at, client_at, catalogue_counts, loan_at};
+    ghost use Rattle.mf_model.specs.Store.{account_at, receipt_at, loans_at};
 
     /// The store stands for this institution.
     ghost stands: { Self → Institution → Type 0 };
@@ -62,7 +65,8 @@ pub trait InstitutionStore {
 
     /// Whether an office that is there has room below it: it is less than six deep, the head being one.
     fn has_room_below(&mut self, alloc: Global, office: OfficeNo) -> Result<bool, Fault>
-        ensures { Reads stands clean leaves (λ i. is_within 4 (parent_of i.offices) office 1) self.old self.new result };
+        ensures { Reads stands clean leaves (λ i. is_within 4 (parent_of i.offices) office 1) self.old self.new
+            result };
 
     /// How many rows an office has; 0 where it isn't there.
     fn next_numbers(&mut self, alloc: Global, office: OfficeNo) -> Result<Counts, Fault>
@@ -117,7 +121,8 @@ pub trait InstitutionStore {
     fn office_lines(&mut self, alloc: Global, to: OfficeNo) -> Result<ArrearsList, Fault>
         ensures { Reads stands clean leaves (arrears_seen to) self.old self.new result };
 
-    /// Makes a change that leaves the institution sound. Where it hands on an account, that is the loan's after the change.
+    /// Makes a change that leaves the institution sound. Where it hands on an account, that is the loan's after the
+    /// change.
     fn commit(&mut self, alloc: Global, commit: Commit) -> Result<(), Fault>
         ensures { Commits stands clean leaves commit self.old self.new result };
 

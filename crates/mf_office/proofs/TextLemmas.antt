@@ -1,5 +1,7 @@
 -- Texts that end with a dot: ranges, prefixes, and the number that stands last.
-use Rattle.std.proofs.Common.{◌≡◌, ◌≢◌, ℕ, zero, suc, ◌+◌, ◌-◌, ◌*◌, ◌/◌, ◌%◌, ◌^◌, ◌<◌, ◌≤◌, Bool, true, false, cond, not, Ordering, List, [], ◌∷◌, ◌++◌, length, get_or, take, refl, sym, ap, ◌∙◌, arith, append_assoc}
+use Rattle.std.proofs.Common.{◌≡◌, ◌≢◌, ℕ, zero, suc, ◌+◌, ◌-◌, ◌*◌, ◌/◌, ◌%◌, ◌^◌, ◌<◌, ◌≤◌, Bool, true, false, cond}
+use Rattle.std.proofs.Common.{not, Ordering, List, [], ◌∷◌, ◌++◌, length, get_or, take, refl, sym, ap, ◌∙◌, arith}
+use Rattle.std.proofs.Common.{append_assoc}
 use Rattle.std.specs.Prelude.{◌==◌, ◌&&◌, ◌||◌, decimal}
 use Rattle.std.proofs.lemmas.Bool.Decides.{nat_tests}
 use Rattle.std.proofs.lemmas.Fmt.{decimal_by_steps}
@@ -53,15 +55,18 @@ dot_alone [] [] = refl
 dot_alone [] (d ∷ ds) = refl
 dot_alone (c ∷ a) ds = refl
 
-pub last_part : (q ds : List ℕ) → NoDot ds → starts_with (q ++ 46 ∷ []) (ds ++ 46 ∷ []) ≡ same_text (q ++ 46 ∷ []) (ds ++ 46 ∷ [])
+pub last_part : (q ds : List ℕ) → NoDot ds → starts_with (q ++ 46 ∷ []) (ds ++ 46 ∷ []) ≡ same_text (q ++ 46 ∷ [])
+    (ds ++ 46 ∷ [])
 last_part [] [] h = refl
 last_part (c ∷ q) [] h = grind (arith, nat_tests, nothing_in_nothing q, not_nothing q)
 last_part [] (d ∷ ds) h = grind (arith, nat_tests)
 last_part (c ∷ q) (d ∷ ds) h = ap (λ b. (c == d) && b) (last_part q ds h.1)
 
 -- what ends with a dot and begins a text a, ds and a dot, begins a or is the whole
-pub parts : (q a ds : List ℕ) → NoDot ds → starts_with (q ++ 46 ∷ []) (a ++ (ds ++ 46 ∷ [])) ≡ (starts_with (q ++ 46 ∷ []) a || same_text (q ++ 46 ∷ []) (a ++ (ds ++ 46 ∷ [])))
-parts q [] ds h = last_part q ds h ∙ ap (λ b. b || same_text (q ++ 46 ∷ []) (ds ++ 46 ∷ [])) (sym (nothing_in_nothing q))
+pub parts : (q a ds : List ℕ) → NoDot ds → starts_with (q ++ 46 ∷ []) (a ++ (ds ++ 46 ∷ []))
+    ≡ (starts_with (q ++ 46 ∷ []) a || same_text (q ++ 46 ∷ []) (a ++ (ds ++ 46 ∷ [])))
+parts q [] ds h = last_part q ds h ∙ ap (λ b. b || same_text (q ++ 46 ∷ []) (ds ++ 46 ∷ []))
+    (sym (nothing_in_nothing q))
 parts [] (c ∷ a) ds h = grind (arith, nat_tests, dot_alone a ds)
 parts (b ∷ q) (c ∷ a) ds h = grind (arith, nat_tests, parts q a ds h)
 
@@ -88,11 +93,16 @@ abbrev pub last_number : ℕ → ℕ → List ℕ → ℕ
 last_number now before [] = before
 last_number now before (c ∷ cs) = cond (c == 46) (last_number 0 now cs) (last_number (10 * now + (c - 48)) before cs)
 
-pub after_dot : (q text : List ℕ) (now before : ℕ) → (z : ℕ) × (last_number now before (q ++ 46 ∷ text) ≡ last_number 0 z text)
+pub after_dot : (q text : List ℕ) (now before : ℕ) → (z : ℕ) × (last_number now before (q ++ 46 ∷ text)
+    ≡ last_number 0 z text)
 after_dot [] text now before = (now, refl)
-after_dot (c ∷ q) text now before = step (c == 46) (after_dot q text 0 now) (after_dot q text (10 * now + (c - 48)) before)
+after_dot (c ∷ q) text now before =
+    step (c == 46) (after_dot q text 0 now) (after_dot q text (10 * now + (c - 48)) before)
   where
-    step : (b : Bool) → ((z : ℕ) × (last_number 0 now (q ++ 46 ∷ text) ≡ last_number 0 z text)) → ((z : ℕ) × (last_number (10 * now + (c - 48)) before (q ++ 46 ∷ text) ≡ last_number 0 z text)) → (z : ℕ) × (cond b (last_number 0 now (q ++ 46 ∷ text)) (last_number (10 * now + (c - 48)) before (q ++ 46 ∷ text)) ≡ last_number 0 z text)
+    step : (b : Bool) → ((z : ℕ) × (last_number 0 now (q ++ 46 ∷ text) ≡ last_number 0 z text))
+        → ((z : ℕ) × (last_number (10 * now + (c - 48)) before (q ++ 46 ∷ text) ≡ last_number 0 z text)) → (z : ℕ)
+        × (cond b (last_number 0 now (q ++ 46 ∷ text)) (last_number (10 * now + (c - 48)) before (q ++ 46 ∷ text))
+        ≡ last_number 0 z text)
     step true h k = h
     step false h k = k
 
@@ -119,24 +129,32 @@ decimal_is n h = decimal_by_steps Numeral one more n h
     one n lt = record { no_dot = ((omega arith), tt); value_is = omega arith }
 
     more : (n : ℕ) (ds : List ℕ) → 10 ≤ n → Numeral (n / 10) ds → Numeral n (ds ++ ((48 + n % 10) ∷ []))
-    more n ds ge h = record { no_dot = NoDot_push ds (48 + n % 10) h.no_dot (omega arith); value_is = value_push 0 ds (48 + n % 10) ∙ ap (λ k. 10 * k + ((48 + n % 10) - 48)) h.value_is ∙ omega arith }
+    more n ds ge h = record {
+      no_dot = NoDot_push ds (48 + n % 10) h.no_dot (omega arith);
+      value_is = value_push 0 ds (48 + n % 10) ∙ ap (λ k. 10 * k + ((48 + n % 10) - 48)) h.value_is ∙ omega arith;
+    }
 
 -- the order of bytes, as the code's `<` and `<=` answer it
 pub before_is : (a b : List ℕ) (o : Ordering) → o ≡ slice_cmp nat_cmp a b → is_lt o ≡ is_before a b
-before_is = same_from_slice_cmp nat_cmp is_lt is_before refl (λ _ _. refl) (λ _ _. refl) (λ x y xs ys o h. grind (arith, nat_tests))
+before_is = same_from_slice_cmp nat_cmp is_lt is_before refl (λ _ _. refl) (λ _ _. refl)
+    (λ x y xs ys o h. grind (arith, nat_tests))
 
 pub not_after_is : (a b : List ℕ) (o : Ordering) → o ≡ slice_cmp nat_cmp a b → is_le o ≡ not (is_before b a)
-not_after_is = same_from_slice_cmp nat_cmp is_le (λ a b. not (is_before b a)) refl (λ _ _. refl) (λ _ _. refl) (λ x y xs ys o h. grind (arith, nat_tests))
+not_after_is = same_from_slice_cmp nat_cmp is_le (λ a b. not (is_before b a)) refl (λ _ _. refl) (λ _ _. refl)
+    (λ x y xs ys o h. grind (arith, nat_tests))
 
-pub in_range_is : (low high text : List ℕ) (from below : Bool) → from ≡ is_le (slice_cmp nat_cmp low text) → below ≡ is_lt (slice_cmp nat_cmp text high) → (from && below) ≡ is_in_range low high text
+pub in_range_is : (low high text : List ℕ) (from below : Bool) → from ≡ is_le (slice_cmp nat_cmp low text)
+    → below ≡ is_lt (slice_cmp nat_cmp text high) → (from && below) ≡ is_in_range low high text
 in_range_is low high text from below f b =
     let f' : from ≡ not (is_before text low) = f ∙ not_after_is low text (slice_cmp nat_cmp low text) refl in
     let b' : below ≡ is_before text high = b ∙ before_is text high (slice_cmp nat_cmp text high) refl in
     cc
 
-pub not_from : (low high text : List ℕ) (from : Bool) → from ≡ is_le (slice_cmp nat_cmp low text) → from ≡ false → from ≡ is_in_range low high text
+pub not_from : (low high text : List ℕ) (from : Bool) → from ≡ is_le (slice_cmp nat_cmp low text) → from ≡ false
+    → from ≡ is_in_range low high text
 not_from low high text from f off =
-    let same : from ≡ (from && is_lt (slice_cmp nat_cmp text high)) = off ∙ ap (λ b. b && is_lt (slice_cmp nat_cmp text high)) (sym off) in
+    let same : from ≡ (from && is_lt (slice_cmp nat_cmp text high)) =
+    off ∙ ap (λ b. b && is_lt (slice_cmp nat_cmp text high)) (sym off) in
     same ∙ in_range_is low high text from (is_lt (slice_cmp nat_cmp text high)) f refl
 
 -- the last byte of a key
@@ -161,7 +179,8 @@ pub child_ends : (text parent number : List ℕ) → text ≡ parent ++ (number 
 child_ends text parent number e = rw (e, ← append_assoc) (ends_with_dot (parent ++ number))
 
 -- the code takes the last character off, and puts a slash there
-pub raised-popped : (text rest : List ℕ) (n : ℕ) → EndsWithDot text → n ≡ length text → (0 < n → get_or text (n - 1) 0 < 128 → rest ≡ take (n - 1) text) → rest ++ 47 ∷ [] ≡ with_last_raised text
+pub raised-popped : (text rest : List ℕ) (n : ℕ) → EndsWithDot text → n ≡ length text
+    → (0 < n → get_or text (n - 1) 0 < 128 → rest ≡ take (n - 1) text) → rest ++ 47 ∷ [] ≡ with_last_raised text
 raised-popped text rest n dot len popped =
     let some : 0 < length text = dot_not_empty text dot in
     let byte : get_or text (n - 1) 0 ≡ 46 = ap (λ k. get_or text (k - 1) 0) len ∙ dot in

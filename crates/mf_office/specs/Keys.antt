@@ -1,5 +1,6 @@
 -- Hierarchy texts, called keys, and the range of texts that an office selects.
-use Rattle.std.specs.Prelude.{◌≡◌, ℕ, zero, suc, ◌-◌, ◌≤◌, Bool, true, false, not, ◌&&◌, ◌||◌, List, [], ◌∷◌, ◌++◌, length, slice_index, count_by, nat_lt, ◌==◌, Option, Some, None, decimal, codes}
+use Rattle.std.specs.Prelude.{◌≡◌, ℕ, zero, suc, ◌-◌, ◌≤◌, Bool, true, false, not, ◌&&◌, ◌||◌, List, [], ◌∷◌, ◌++◌}
+use Rattle.std.specs.Prelude.{length, slice_index, count_by, nat_lt, ◌==◌, Option, Some, None, decimal, codes}
 use Rattle.mf_office.specs.Numbers.{IsNumberUpTo}
 
 -- the key of the head

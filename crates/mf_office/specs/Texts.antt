@@ -14,7 +14,8 @@ IsCaller caller = IsNumberUpTo 9999 caller.office × IsNumberUpTo 9999 caller.st
 -- the caller that a text names, by the numbers round its first slash
 unfoldable pub caller_of : List ℕ → Option Caller
 caller_of text = option_and_then
-    (λ office. option_map (λ staff. record { office = office; staff = staff }) (number_written decimal 9999 (after_first (λ b. b == 47) text)))
+    (λ office. option_map (λ staff. record { office = office; staff = staff })
+    (number_written decimal 9999 (after_first (λ b. b == 47) text)))
     (number_written decimal 9999 (before_first (λ b. b == 47) text))
 
 -- a client or a loan of an office
@@ -24,5 +25,6 @@ IsAccount account = IsNumberUpTo 9999 account.office × IsNumberUpTo 999999 acco
 -- the account that a text names, by the numbers round its first dash
 unfoldable pub account_of : List ℕ → Option Account
 account_of text = option_and_then
-    (λ office. option_map (λ number. record { office = office; number = number }) (number_written (zero_padded 6) 999999 (after_first (λ b. b == 45) text)))
+    (λ office. option_map (λ number. record { office = office; number = number })
+    (number_written (zero_padded 6) 999999 (after_first (λ b. b == 45) text)))
     (number_written (zero_padded 4) 9999 (before_first (λ b. b == 45) text))

@@ -1,5 +1,7 @@
--- Who is at or below whom. An office's parent is all that counts, so each definition stands over the function of parents.
-use Rattle.std.specs.Prelude.{◌≡◌, ◌≢◌, ℕ, zero, suc, Bool, true, false, cond, ◌||◌, List, [], ◌∷◌, ◌==◌, Option, Some, None}
+-- Who is at or below whom. An office's parent is all that counts, so each definition stands over the function of
+-- parents.
+use Rattle.std.specs.Prelude.{◌≡◌, ◌≢◌, ℕ, zero, suc, Bool, true, false, cond, ◌||◌, List, [], ◌∷◌, ◌==◌, Option, Some}
+use Rattle.std.specs.Prelude.{None}
 use Rattle.mf_office.specs.Numbers.{IsNumberUpTo}
 
 -- there is a number, and it passes
@@ -30,7 +32,8 @@ pub record IsTreeOf (there : ℕ → Bool) (parents : ℕ → Option ℕ) : Type
   pub all_below : (x : ℕ) → there x ≡ true → is_at_or_below parents x 1 ≡ true
 
 -- an office that is not there yet is put under office p, which is at most five deep
-pub record AddsOffice (there : ℕ → Bool) (parents : ℕ → Option ℕ) (number p : ℕ) (there_after : ℕ → Bool) (parents_after : ℕ → Option ℕ) : Type 0 where
+pub record AddsOffice (there : ℕ → Bool) (parents : ℕ → Option ℕ) (number p : ℕ) (there_after : ℕ → Bool)
+    (parents_after : ℕ → Option ℕ) : Type 0 where
   pub in_range : IsNumberUpTo 9999 number
   pub unused : there number ≡ false
   pub parent_there : there p ≡ true
@@ -49,6 +52,7 @@ abbrev pub parent_of : List Place → ℕ → Option ℕ
 parent_of [] x = None
 parent_of (place ∷ places) x = cond (place.number == x) place.parent (parent_of places x)
 
+-- an office with this number is among the places
 abbrev pub is_there : List Place → ℕ → Bool
 is_there [] x = false
 is_there (place ∷ places) x = (place.number == x) || is_there places x
@@ -65,4 +69,7 @@ pub record IsTree (places : List Place) : Type 0 where
 
 -- the head, 2 and 20 under it, and 5 under 2
 abbrev pub small_tree : List Place
-small_tree = record { number = 1; parent = None } ∷ record { number = 2; parent = Some 1 } ∷ record { number = 20; parent = Some 1 } ∷ record { number = 5; parent = Some 2 } ∷ []
+small_tree = record { number = 1; parent = None } ∷ record { number = 2; parent = Some 1 } ∷ record {
+  number = 20;
+  parent = Some 1;
+} ∷ record { number = 5; parent = Some 2 } ∷ []

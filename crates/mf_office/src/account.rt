@@ -1,3 +1,5 @@
+//! The numbers of clients and loans, and their texts with the office's number.
+
 ghost use Rattle.std.specs.Prelude.{◌≡◌, ◌↔◌, ℕ, Some, string_bytes, IfOk, IfSome, IsOkUnless};
 ghost use Rattle.mf_office.specs.Numbers.{IsNumberUpTo, number_up_to};
 
@@ -66,7 +68,8 @@ impl Account {
     pub fn parse(text: &[u8]) -> Option<Account>
         ensures value { result ≡ account_of text.now }
         ensures in_range { IfSome result IsAccount }
-        ensures exact { (account : Account) → IsAccount account → (result ≡ Some account) ↔ (text.now ≡ account_text account.office account.number) }
+        ensures exact { (account : Account) → IsAccount account → (result ≡ Some account)
+            ↔ (text.now ≡ account_text account.office account.number) }
     {
         let (office, number) = split_once(text, b'-')?;
         let office = OfficeNo::new(padded_number(office, 4)?)?;

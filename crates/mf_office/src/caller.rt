@@ -1,3 +1,5 @@
+//! Who sends a request: a member of an office's staff.
+
 ghost use Rattle.std.specs.Prelude.{◌≡◌, ◌↔◌, Some, string_bytes, IfOk, IfSome, IsOkUnless};
 
 use crate::digits::plain_number;
@@ -25,7 +27,8 @@ impl Caller {
     pub fn parse(text: &[u8]) -> Option<Caller>
         ensures value { result ≡ caller_of text.now }
         ensures in_range { IfSome result IsCaller }
-        ensures exact { (caller : Caller) → IsCaller caller → (result ≡ Some caller) ↔ (text.now ≡ caller_text caller.office caller.staff) }
+        ensures exact { (caller : Caller) → IsCaller caller → (result ≡ Some caller)
+            ↔ (text.now ≡ caller_text caller.office caller.staff) }
     {
         let (office, staff) = split_once(text, b'/')?;
         let office = OfficeNo::new(plain_number(office)?)?;

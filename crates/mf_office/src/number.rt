@@ -1,3 +1,5 @@
+//! The number that comes next where things are numbered from 1.
+
 ghost use Rattle.std.specs.Prelude.{◌≡◌, ◌+◌, ◌<◌, ◌≤◌, Ok};
 
 use mf_base::Fault;

@@ -1,3 +1,5 @@
+//! Offices and their numbers.
+
 ghost use Rattle.std.specs.Prelude.{◌≡◌, ℕ};
 ghost use Rattle.mf_office.specs.Numbers.{IsNumberUpTo, number_up_to};
 

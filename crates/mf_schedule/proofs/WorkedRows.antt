@@ -10,7 +10,8 @@ use Rattle.mf_catalog.specs.declared.charge.ChargeDef.{ChargeDef}
 use Rattle.mf_catalog.specs.declared.charge.Calc.{Calc}
 use Rattle.mf_catalog.specs.declared.charge.Calc.TheVariants.{OfAmount, OfBoth}
 use Rattle.mf_catalog.specs.declared.charge.ChargeKind.{ChargeKind}
-use Rattle.mf_catalog.specs.declared.charge.ChargeKind.TheVariants.{Disbursement as At_disbursement, Instalment as With_instalment}
+use Rattle.mf_catalog.specs.declared.charge.ChargeKind.TheVariants.{Disbursement as At_disbursement}
+use Rattle.mf_catalog.specs.declared.charge.ChargeKind.TheVariants.{Instalment as With_instalment}
 use Rattle.mf_catalog.specs.declared.terms.Terms.{Terms}
 use Rattle.mf_catalog.specs.declared.terms.Method.{Method}
 use Rattle.mf_catalog.specs.declared.terms.Method.TheVariants.{Flat, EqualPrincipal, Fixed}
@@ -65,10 +66,12 @@ unfolding date_of
 january_back = refl
 
 -- flat, 120000 cents over 12 months: 10000 and 1200 each
-flat_principals : principals (fresh_schedule (monthly Flat 0 0) 120000 12 8796) ≡ 10000 ∷ 10000 ∷ 10000 ∷ 10000 ∷ 10000 ∷ 10000 ∷ 10000 ∷ 10000 ∷ 10000 ∷ 10000 ∷ 10000 ∷ 10000 ∷ []
+flat_principals : principals (fresh_schedule (monthly Flat 0 0) 120000 12 8796) ≡ 10000 ∷ 10000 ∷ 10000 ∷ 10000 ∷ 10000
+    ∷ 10000 ∷ 10000 ∷ 10000 ∷ 10000 ∷ 10000 ∷ 10000 ∷ 10000 ∷ []
 flat_principals = refl
 
-flat_interests : interests (fresh_schedule (monthly Flat 0 0) 120000 12 8796) ≡ 1200 ∷ 1200 ∷ 1200 ∷ 1200 ∷ 1200 ∷ 1200 ∷ 1200 ∷ 1200 ∷ 1200 ∷ 1200 ∷ 1200 ∷ 1200 ∷ []
+flat_interests : interests (fresh_schedule (monthly Flat 0 0) 120000 12 8796) ≡ 1200 ∷ 1200 ∷ 1200 ∷ 1200 ∷ 1200 ∷ 1200
+    ∷ 1200 ∷ 1200 ∷ 1200 ∷ 1200 ∷ 1200 ∷ 1200 ∷ []
 flat_interests = refl
 
 flat_total : total_interest (fresh_schedule (monthly Flat 0 0) 120000 12 8796) ≡ 14400
@@ -117,15 +120,18 @@ graced_interests : interests (fresh_schedule (monthly Fixed 1 0) 100000 3 8796) 
 graced_interests = rw graced_is refl
 
 -- due days go by the day of disbursement, so that March has its 31st
-due_days : map (due_day_of (monthly Fixed 0 0) 8796) (range_with_len 1 3) ≡ date 2024 2 29 ∷ date 2024 3 31 ∷ date 2024 4 30 ∷ []
+due_days : map (due_day_of (monthly Fixed 0 0) 8796) (range_with_len 1 3) ≡ date 2024 2 29 ∷ date 2024 3 31
+    ∷ date 2024 4 30 ∷ []
 unfolding day_of date_of
 due_days = refl
 
 -- every two weeks
-fortnight_interests : interests (fresh_schedule (plain_terms EqualPrincipal Weeks 2 0 0) 100000 3 8796) ≡ 467 ∷ 311 ∷ 156 ∷ []
+fortnight_interests : interests (fresh_schedule (plain_terms EqualPrincipal Weeks 2 0 0) 100000 3 8796) ≡ 467 ∷ 311
+    ∷ 156 ∷ []
 fortnight_interests = refl
 
-fortnight_days : map (due_day_of (plain_terms EqualPrincipal Weeks 2 0 0) 8796) (range_with_len 1 3) ≡ date 2024 2 14 ∷ date 2024 2 28 ∷ date 2024 3 13 ∷ []
+fortnight_days : map (due_day_of (plain_terms EqualPrincipal Weeks 2 0 0) 8796) (range_with_len 1 3) ≡ date 2024 2 14
+    ∷ date 2024 2 28 ∷ date 2024 3 13 ∷ []
 unfolding day_of
 fortnight_days = refl
 
@@ -150,7 +156,8 @@ greatest_interest = refl
 greatest_interests : map (interest_of greatest (10 ^ 12) 120) (1 ∷ 2 ∷ 120 ∷ []) ≡ 10 ^ 13 ∷ 10 ^ 13 ∷ 10 ^ 13 ∷ []
 greatest_interests = refl
 
-greatest_principals : map (principal_of greatest (10 ^ 12) 120) (1 ∷ 2 ∷ 3 ∷ 120 ∷ []) ≡ 8333333333 ∷ 8333333333 ∷ 8333333334 ∷ 8333333334 ∷ []
+greatest_principals : map (principal_of greatest (10 ^ 12) 120) (1 ∷ 2 ∷ 3 ∷ 120 ∷ []) ≡ 8333333333 ∷ 8333333333
+    ∷ 8333333334 ∷ 8333333334 ∷ []
 greatest_principals = refl
 
 greatest_last : due_day_of greatest 8796 120 ≡ date 2144 1 31
@@ -164,7 +171,8 @@ longest_interest = refl
 longest_interests : map (interest_of greatest (10 ^ 12) 360) (1 ∷ 2 ∷ 360 ∷ []) ≡ 10 ^ 13 ∷ 10 ^ 13 ∷ 10 ^ 13 ∷ []
 longest_interests = refl
 
-longest_principals : map (principal_of greatest (10 ^ 12) 360) (1 ∷ 2 ∷ 360 ∷ []) ≡ 2777777777 ∷ 2777777778 ∷ 2777777778 ∷ []
+longest_principals : map (principal_of greatest (10 ^ 12) 360) (1 ∷ 2 ∷ 360 ∷ []) ≡ 2777777777 ∷ 2777777778 ∷ 2777777778
+    ∷ []
 longest_principals = refl
 
 longest_last : due_day_of greatest 8796 360 ≡ date 2384 1 31
@@ -172,7 +180,8 @@ unfolding day_of date_of
 longest_last = refl
 
 -- one percent of principal and interest with each instalment
-fees : all_fees (fresh_schedule (record (monthly EqualPrincipal 0 0) { instalment = Some (charge_of With_instalment OfBoth 100) }) 100000 3 8796) ≡ 343 ∷ 340 ∷ 337 ∷ []
+fees : all_fees (fresh_schedule (record (monthly EqualPrincipal 0 0)
+    { instalment = Some (charge_of With_instalment OfBoth 100) }) 100000 3 8796) ≡ 343 ∷ 340 ∷ 337 ∷ []
 fees = refl
 
 -- one and a half percent at disbursement, of the amount and of both

@@ -32,9 +32,11 @@ instalment_of terms principal n day i =
 abbrev pub fresh_schedule : Terms → ℕ → ℕ → ℕ → List Instalment
 fresh_schedule terms principal n day = map (instalment_of terms principal n day) (range_with_len 1 n)
 
+-- the principal of all instalments
 abbrev pub total_principal : List Instalment → ℕ
 total_principal rows = sum_by (λ row. row.principal) rows
 
+-- the interest of all instalments
 abbrev pub total_interest : List Instalment → ℕ
 total_interest rows = sum_by (λ row. row.interest) rows
 

@@ -14,6 +14,7 @@ abbrev pub days_by : Freq → ℕ → ℕ
 days_by Weeks every = 7 * every
 days_by Months every = 30 * every
 
+-- the days of a period, by the terms
 abbrev pub days_of : Terms → ℕ
 days_of terms = days_by terms.freq terms.every
 
@@ -60,6 +61,7 @@ principal_by Flat terms principal n i = equal_principal terms principal n i
 principal_by EqualPrincipal terms principal n i = equal_principal terms principal n i
 principal_by Fixed terms principal n i = fixed_principal terms principal n i
 
+-- the principal of an instalment, by the method of the terms
 abbrev pub principal_of : Terms → ℕ → ℕ → ℕ → ℕ
 principal_of terms principal n i = principal_by terms.method terms principal n i
 
@@ -69,6 +71,7 @@ balance_by Flat terms principal n i = equal_balance terms principal n i
 balance_by EqualPrincipal terms principal n i = equal_balance terms principal n i
 balance_by Fixed terms principal n i = fixed_balance terms principal n i
 
+-- the balance of an instalment, by the method of the terms
 abbrev pub balance_of : Terms → ℕ → ℕ → ℕ → ℕ
 balance_of terms principal n i = balance_by terms.method terms principal n i
 
@@ -78,6 +81,7 @@ interest_by Flat terms principal n i = split (flat_interest terms principal n) n
 interest_by EqualPrincipal terms principal n i = period_interest terms (equal_balance terms principal n i)
 interest_by Fixed terms principal n i = period_interest terms (fixed_balance terms principal n i)
 
+-- the interest of an instalment, by the method of the terms
 abbrev pub interest_of : Terms → ℕ → ℕ → ℕ → ℕ
 interest_of terms principal n i = interest_by terms.method terms principal n i
 

@@ -1,11 +1,13 @@
+//! The least fixed instalment that pays a loan back in its periods.
+
 ghost use Rattle.std.specs.Prelude.{◌≡◌, ℕ, ◌*◌, ◌<◌, ◌≤◌, ◌^◌, ◌↔◌, IsTrue};
 ghost use Rattle.mf_catalog.specs.Limits.{greatest_amount, greatest_rate, most_days};
 ghost use Rattle.mf_schedule.specs.Fixed.{interest_on, balance_after, least_amount};
 
 use mf_base::half_even;
 
-/// The interest of a period, in cents: that of `days` days of a year of 360 on a balance in cents, at a rate in hundredths of a
-/// percent a year. Half a cent goes to the even one.
+/// The interest of a period, in cents: that of `days` days of a year of 360 on a balance in cents, at a rate in
+/// hundredths of a percent a year. Half a cent goes to the even one.
 pub(crate) fn interest(balance: u64, rate: u32, days: u32) -> u64
     requires balance { balance ≤ greatest_amount }
     requires rate { rate ≤ greatest_rate }

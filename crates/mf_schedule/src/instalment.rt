@@ -1,3 +1,5 @@
+//! An instalment as it is scheduled.
+
 use mf_base::Day;
 
 /// One row of a fresh schedule. All amounts are whole cents.

@@ -1,3 +1,5 @@
+//! The three methods by which principal and interest fall on periods.
+
 ghost use Rattle.std.specs.Prelude.{◌≡◌, ◌+◌, ◌*◌, ◌<◌, ◌≤◌, ◌^◌};
 ghost use Rattle.mf_catalog.specs.Limits.{most_weeks};
 ghost use Rattle.mf_schedule.specs.Fresh.{IsLoanWithinLimits};

@@ -1,9 +1,13 @@
+//! The fresh schedule of a loan, and the fee at its disbursement.
+
 ghost use Rattle.std.specs.Prelude.{◌≡◌, ◌<◌, ◌≤◌, ◌^◌, IfOk, IfSome, IsOkUnless, map, sum, vec_len};
 ghost use Rattle.std.specs.List.{range_with_len};
 ghost use Rattle.mf_base.specs.DayText.{last_entered_day};
-ghost use Rattle.mf_schedule.specs.Fresh.{IsLoanWithinLimits, due_day_of, fee_at_disbursement, fresh_schedule, total_interest, total_owed, total_principal};
+ghost use Rattle.mf_schedule.specs.Fresh.{IsLoanWithinLimits, due_day_of, fee_at_disbursement, fresh_schedule};
+ghost use Rattle.mf_schedule.specs.Fresh.{total_interest, total_owed, total_principal};
 ghost use Rattle.mf_schedule.specs.Plan.{interest_of};
-ghost use Rattle.mf_catalog.specs.Limits.{greatest_amount, most_periods, most_weeks, AreTermsWithinLimits, IsChargeWithinLimits};
+ghost use Rattle.mf_catalog.specs.Limits.{greatest_amount, most_periods, most_weeks, AreTermsWithinLimits};
+ghost use Rattle.mf_catalog.specs.Limits.{IsChargeWithinLimits};
 ghost use Rattle.mf_catalog.specs.Charge.{amount_of_any};
 
 use crate::instalment::Instalment;
@@ -53,7 +57,8 @@ pub fn fresh(
     ensures rows { IfOk result (λ rows. rows.items ≡ fresh_schedule terms.now principal n day) }
     ensures count { IfOk result (λ rows. vec_len rows ≡ n) }
     ensures all_principal { IfOk result (λ rows. total_principal rows.items ≡ principal) }
-    ensures all_interest { IfOk result (λ rows. total_interest rows.items ≡ sum (map (interest_of terms.now principal n) (range_with_len 1 n))) }
+    ensures all_interest { IfOk result (λ rows. total_interest rows.items ≡ sum (map (interest_of terms.now principal n)
+        (range_with_len 1 n))) }
     ensures little_interest { IfOk result (λ rows. total_interest rows.items < 2 ^ 53) }
     ensures little_owed { IfOk result (λ rows. total_owed rows.items < 2 ^ 54) }
     ensures memory { IsOkUnless result Fault.F20 }

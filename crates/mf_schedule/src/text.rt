@@ -1,3 +1,5 @@
+//! A schedule as text, in fixed columns.
+
 ghost use Rattle.std.specs.Prelude.{◌≡◌, ◌+◌, ◌<◌, ◌^◌, ◌++◌, IfOk, IsOkUnless, OnOk};
 ghost use Rattle.std.specs.String.{string_bytes};
 ghost use Rattle.mf_schedule.specs.ScheduleText.{amounts_text, row_line, schedule_text as text_of_schedule};

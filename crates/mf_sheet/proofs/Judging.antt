@@ -10,11 +10,14 @@ use Rattle.mf_model.specs.declared.request.Repayment.{Repayment}
 use Rattle.mf_model.specs.declared.request.LoanRequest.TheVariants as asks
 use Rattle.mf_model.specs.declared.reply.Reply.TheVariants as reply
 use Rattle.mf_model.specs.declared.reply.LoanReply.TheVariants as told
-use Rattle.mf_model.specs.Institution.{Institution, Catalogue, Office, Ledger, Staff, Change, Rows_become, item_numbered}
+use Rattle.mf_model.specs.Institution.{Institution, Catalogue, Office, Ledger, Staff, Change, Rows_become}
+use Rattle.mf_model.specs.Institution.{item_numbered}
 use Rattle.mf_model.specs.Tree.{seen_office}
 use Rattle.mf_model.specs.Accounts.{account_in}
-use Rattle.mf_model.specs.Desk.{Plan, On_office, Outcome, outcome, reply_in, change_in, of_office, in_office, where_permitted, staff_at}
-use Rattle.mf_model.specs.Loans.{on_loan, in_loan, of_loan, repay, repeat_of, unless_known, unless_fault, fault_or, enter, with_new_entry, none_first, loan_changed, repayment}
+use Rattle.mf_model.specs.Desk.{Plan, On_office, Outcome, outcome, reply_in, change_in, of_office, in_office}
+use Rattle.mf_model.specs.Desk.{where_permitted, staff_at}
+use Rattle.mf_model.specs.Loans.{on_loan, in_loan, of_loan, repay, repeat_of, unless_known, unless_fault, fault_or}
+use Rattle.mf_model.specs.Loans.{enter, with_new_entry, none_first, loan_changed, repayment}
 use Rattle.mf_model.specs.Outcomes.{where_found}
 use Rattle.mf_model.specs.Receipts.{Use, uses_from, first_use, repeated_seq}
 use Rattle.mf_sheet_lines.specs.declared.line.SheetRepayment.{SheetRepayment}
@@ -31,7 +34,8 @@ asked r = record { amount = r.amount; day = r.day; receipt = Some r.receipt }
 abbrev pub entry_of : Caller → SheetRepayment → Running → Entry
 entry_of c r a = repayment (asked r) c a
 
--- what a repayment is told by the account, by the receipts and the loans of its office, by the office and by whoever sends it
+-- what a repayment is told by the account, by the receipts and the loans of its office, by the office and by whoever
+-- sends it
 abbrev pub account_fault : Caller → SheetRepayment → ℕ → Option Running → Option Fault
 account_fault c r day None = Some F9
 account_fault c r day (Some a) = refusal_of a (entry_of c r a) day
@@ -54,7 +58,8 @@ by_ledger c r k u (Some l) = by_use c r k u l
 
 abbrev pub by_office : Caller → SheetRepayment → Catalogue → Option Office → SheetResult
 by_office c r k None = Refused F4
-by_office c r k (Some f) = by_ledger c r k (first_use r.receipt (uses_from 1 f.rows.loans)) (item_numbered f.rows.loans r.loan.number)
+by_office c r k (Some f) =
+    by_ledger c r k (first_use r.receipt (uses_from 1 f.rows.loans)) (item_numbered f.rows.loans r.loan.number)
 
 abbrev pub by_staff : Caller → SheetRepayment → Catalogue → Option Staff → Option Office → SheetResult
 by_staff c r k None f = Refused F2
@@ -78,7 +83,8 @@ pub record Entering (c : Caller) (r : SheetRepayment) (i : Institution) : Type 0
 
 -- what it changes
 abbrev pub entered_change : (c : Caller) (r : SheetRepayment) (i : Institution) → Entering c r i → Change
-entered_change c r i w = Rows_become r.loan.office (loan_changed r.loan.number (with_new_entry (entry_of c r w.account)) w.office.rows)
+entered_change c r i w =
+    Rows_become r.loan.office (loan_changed r.loan.number (with_new_entry (entry_of c r w.account)) w.office.rows)
 
 -- a repayment whose receipt is known, as that of the entry of this number
 pub record Repeating (c : Caller) (r : SheetRepayment) (i : Institution) (seq : ℕ) : Type 0 where
@@ -94,15 +100,22 @@ pub record Repeating (c : Caller) (r : SheetRepayment) (i : Institution) (seq : 
 module _ (c : Caller) (r : SheetRepayment) (i : Institution) (P : Outcome → SheetResult → Type 0)
     (refused : (fault : Fault) → P (Err fault) (Refused fault))
     (again : (seq : ℕ) → Repeating c r i seq → P (Ok (reply.Loan r.loan (told.Repeated seq), None)) Repeated)
-    (enters : (w : Entering c r i) → P (Ok (reply.Loan r.loan (told.Entered (entry_of c r w.account).seq), Some (entered_change c r i w))) Entered) where
-  module _ (s : Staff) (known : staff_at i c ≡ Some s) (f : Office) (seen : seen_office c.office r.loan.office i ≡ Some f) where
-    at_account : (l : Ledger) → item_numbered f.rows.loans r.loan.number ≡ Some l → first_use r.receipt (uses_from 1 f.rows.loans) ≡ None → (o : Option Running) → account_in i.catalogue l ≡ o
-        → P (of_office r.loan.office (of_loan r.loan f.rows (enter none_first (λ today. repayment (asked r) c) i.catalogue o))) (as_entry (account_fault c r i.catalogue.day o))
+    (enters : (w : Entering c r i) → P (Ok (
+      reply.Loan r.loan (told.Entered (entry_of c r w.account).seq),
+      Some (entered_change c r i w),
+    )) Entered) where
+  module _ (s : Staff) (known : staff_at i c ≡ Some s) (f : Office) (seen : seen_office c.office r.loan.office i
+      ≡ Some f) where
+    at_account : (l : Ledger) → item_numbered f.rows.loans r.loan.number ≡ Some l
+        → first_use r.receipt (uses_from 1 f.rows.loans) ≡ None → (o : Option Running) → account_in i.catalogue l ≡ o
+        → P (of_office r.loan.office (of_loan r.loan f.rows (enter none_first (λ today. repayment (asked r) c)
+        i.catalogue o))) (as_entry (account_fault c r i.catalogue.day o))
     at_account l there free None e = refused F9
     at_account l there free (Some a) e = at_fault (refusal_of a (entry_of c r a) i.catalogue.day) refl
       where
         at_fault : (o : Option Fault) → refusal_of a (entry_of c r a) i.catalogue.day ≡ o
-            → P (of_office r.loan.office (of_loan r.loan f.rows (unless_fault (fault_or None o) (told.Entered (entry_of c r a).seq) (with_new_entry (entry_of c r a))))) (as_entry o)
+            → P (of_office r.loan.office (of_loan r.loan f.rows (unless_fault (fault_or None o)
+            (told.Entered (entry_of c r a).seq) (with_new_entry (entry_of c r a))))) (as_entry o)
         at_fault None allowed = enters (record {
           staff = s;
           office = f;
@@ -117,30 +130,38 @@ module _ (c : Caller) (r : SheetRepayment) (i : Institution) (P : Outcome → Sh
         })
         at_fault (Some fault) e = refused fault
 
-    at_repeat : (u : Use) → first_use r.receipt (uses_from 1 f.rows.loans) ≡ Some u → (o : Result ℕ Fault) → repeated_seq r.loan.number r.amount r.day u.by ≡ o
+    at_repeat : (u : Use) → first_use r.receipt (uses_from 1 f.rows.loans) ≡ Some u → (o : Result ℕ Fault)
+        → repeated_seq r.loan.number r.amount r.day u.by ≡ o
         → P (of_office r.loan.office (of_loan r.loan f.rows (repeat_of o))) (as_repeat o)
-    at_repeat u e (Ok seq) same = again seq (record { staff = s; office = f; was = u; known = known; seen = seen; used_is = e; same = same })
+    at_repeat u e (Ok seq) same =
+        again seq (record { staff = s; office = f; was = u; known = known; seen = seen; used_is = e; same = same })
     at_repeat u e (Err fault) same = refused fault
 
-    at_use : (l : Ledger) → item_numbered f.rows.loans r.loan.number ≡ Some l → (u : Option Use) → first_use r.receipt (uses_from 1 f.rows.loans) ≡ u
-        → P (of_office r.loan.office (of_loan r.loan f.rows (unless_known r.loan.number (asked r) u (enter none_first (λ today. repayment (asked r) c) i.catalogue (account_in i.catalogue l))))) (by_use c r i.catalogue u l)
+    at_use : (l : Ledger) → item_numbered f.rows.loans r.loan.number ≡ Some l → (u : Option Use)
+        → first_use r.receipt (uses_from 1 f.rows.loans) ≡ u
+        → P (of_office r.loan.office (of_loan r.loan f.rows (unless_known r.loan.number (asked r) u (enter none_first
+        (λ today. repayment (asked r) c) i.catalogue (account_in i.catalogue l))))) (by_use c r i.catalogue u l)
     at_use l there None free = at_account l there free (account_in i.catalogue l) refl
     at_use l there (Some u) e = at_repeat u e (repeated_seq r.loan.number r.amount r.day u.by) refl
 
     at_ledger : (o : Option Ledger) → item_numbered f.rows.loans r.loan.number ≡ o
-        → P (of_office r.loan.office (where_found o (λ l. of_loan r.loan f.rows (repay (asked r) c i.catalogue f.rows r.loan.number l)))) (by_ledger c r i.catalogue (first_use r.receipt (uses_from 1 f.rows.loans)) o)
+        → P (of_office r.loan.office (where_found o (λ l. of_loan r.loan f.rows (repay (asked r) c i.catalogue f.rows
+        r.loan.number l)))) (by_ledger c r i.catalogue (first_use r.receipt (uses_from 1 f.rows.loans)) o)
     at_ledger None e = refused F4
     at_ledger (Some l) e = at_use l e (first_use r.receipt (uses_from 1 f.rows.loans)) refl
 
   at_office : (s : Staff) → staff_at i c ≡ Some s → (o : Option Office) → seen_office c.office r.loan.office i ≡ o
-      → P (in_office r.loan.office (λ catalogue f. in_loan r.loan (on_loan (asks.Repay (asked r)) c catalogue f.rows r.loan.number) f.rows) i.catalogue o) (by_office c r i.catalogue o)
+      → P (in_office r.loan.office (λ catalogue f. in_loan r.loan (on_loan (asks.Repay (asked r)) c catalogue f.rows
+      r.loan.number) f.rows) i.catalogue o) (by_office c r i.catalogue o)
   at_office s known None e = refused F4
   at_office s known (Some f) e = at_ledger s known f e (item_numbered f.rows.loans r.loan.number) refl
 
   looked_at : Plan
-  looked_at = On_office r.loan.office (λ caller catalogue f. in_loan r.loan (on_loan (asks.Repay (asked r)) caller catalogue f.rows r.loan.number) f.rows)
+  looked_at = On_office r.loan.office (λ caller catalogue f. in_loan r.loan (on_loan (asks.Repay (asked r)) caller
+      catalogue f.rows r.loan.number) f.rows)
 
-  at_staff : (o : Option Staff) → staff_at i c ≡ o → P (where_permitted c (asked_by (Repay r)) looked_at o i) (by_staff c r i.catalogue o (seen_office c.office r.loan.office i))
+  at_staff : (o : Option Staff) → staff_at i c ≡ o → P (where_permitted c (asked_by (Repay r)) looked_at o i)
+      (by_staff c r i.catalogue o (seen_office c.office r.loan.office i))
   unfolding looked_at
   at_staff None e = refused F2
   at_staff (Some s) known = at_office s known (seen_office c.office r.loan.office i) refl
@@ -154,12 +175,17 @@ module _ (c : Caller) (r : SheetRepayment) (i : Institution) where
   judged_is = every_repayment c r i (λ o t. result_of (reply_in o) ≡ t) (λ fault. refl) (λ seq w. refl) (λ w. refl)
 
   pub unless_entered : judged c r i ≢ Entered → change_in (outcome (call_of c (Repay r)) i) ≡ None
-  unless_entered = every_repayment c r i (λ o t. t ≢ Entered → change_in o ≡ None) (λ fault n. refl) (λ seq w n. refl) (λ w n. absurd (n refl))
+  unless_entered = every_repayment c r i (λ o t. t ≢ Entered → change_in o ≡ None) (λ fault n. refl) (λ seq w n. refl)
+      (λ w n. absurd (n refl))
 
-  pub entered_so : judged c r i ≡ Entered → (w : Entering c r i) × (change_in (outcome (call_of c (Repay r)) i) ≡ Some (entered_change c r i w))
-  entered_so = every_repayment c r i (λ o t. t ≡ Entered → (w : Entering c r i) × (change_in o ≡ Some (entered_change c r i w)))
+  pub entered_so : judged c r i ≡ Entered → (w : Entering c r i) × (change_in (outcome (call_of c (Repay r)) i)
+      ≡ Some (entered_change c r i w))
+  entered_so =
+      every_repayment c r i (λ o t. t ≡ Entered → (w : Entering c r i) × (change_in o ≡ Some (entered_change c r i w)))
       (λ fault e. absurd (cc)) (λ seq w e. absurd (cc)) (λ w e. (w, refl))
 
-  pub repeated_so : judged c r i ≡ Repeated → (seq : ℕ) × Repeating c r i seq × (outcome (call_of c (Repay r)) i ≡ Ok (reply.Loan r.loan (told.Repeated seq), None))
-  repeated_so = every_repayment c r i (λ o t. t ≡ Repeated → (seq : ℕ) × Repeating c r i seq × (o ≡ Ok (reply.Loan r.loan (told.Repeated seq), None)))
+  pub repeated_so : judged c r i ≡ Repeated → (seq : ℕ) × Repeating c r i seq
+      × (outcome (call_of c (Repay r)) i ≡ Ok (reply.Loan r.loan (told.Repeated seq), None))
+  repeated_so = every_repayment c r i (λ o t. t ≡ Repeated → (seq : ℕ) × Repeating c r i seq
+      × (o ≡ Ok (reply.Loan r.loan (told.Repeated seq), None)))
       (λ fault e. absurd (cc)) (λ seq w e. (seq, w, refl)) (λ w e. absurd (cc))

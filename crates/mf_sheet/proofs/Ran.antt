@@ -1,5 +1,6 @@
 -- From lines answered one after another to a run on the institution.
-use Rattle.std.proofs.Common.{◌≡◌, ◌≢◌, inl, inr, ℕ, Bool, true, false, cond, List, [], ◌∷◌, map, Option, Result, Ok, Err, refl, sym, ap, ◌∙◌, subst}
+use Rattle.std.proofs.Common.{◌≡◌, ◌≢◌, inl, inr, ℕ, Bool, true, false, cond, List, [], ◌∷◌, map, Option, Result, Ok}
+use Rattle.std.proofs.Common.{Err, refl, sym, ap, ◌∙◌, subst}
 use Rattle.mf_base.specs.declared.fault.Cause.{Cause}
 use Rattle.mf_base.specs.declared.fault.Cause.TheVariants.{Read, Write, Memory}
 use Rattle.mf_base.specs.declared.fault.Fault.{Fault}
@@ -20,7 +21,8 @@ use Rattle.mf_sheet.specs.Ends.{SheetStreams, EndsWhole, NeverBegins, EndsBefore
 use Rattle.mf_sheet.proofs.InRange.{row_in_range}
 use Rattle.mf_sheet.proofs.Rows.{Rows}
 
-not_given_up : (given_up : Bool) (reply : Result Reply Fault) → result_of (cond given_up (Err F20) reply) ≢ Refused F20 → given_up ≡ false
+not_given_up : (given_up : Bool) (reply : Result Reply Fault) → result_of (cond given_up (Err F20) reply) ≢ Refused F20
+    → given_up ≡ false
 not_given_up true reply n = absurd (n refl)
 not_given_up false reply n = refl
 
@@ -33,14 +35,17 @@ only_F20 [] i = tt
 only_F20 (l ∷ ls) i = (λ n. not_given_up l.given_up _ n, only_F20 ls (next l i))
 
 module _ {S : Type 0} (store : Ghosts S) (caller : Caller) where
-  one_more : (old mid new : S) (f : List (List ℕ)) (r : SheetResult) (rows : Rows) (results : List SheetResult) → AnswersFields store caller old f r mid → RunsRows store caller mid rows results new → RunsRows store caller old (f ∷ rows) (r ∷ results) new
+  one_more : (old mid new : S) (f : List (List ℕ)) (r : SheetResult) (rows : Rows) (results : List SheetResult)
+      → AnswersFields store caller old f r mid → RunsRows store caller mid rows results new
+      → RunsRows store caller old (f ∷ rows) (r ∷ results) new
   one_more old mid new f r rows results one rest = record {
     premise = λ c. one.premise (rest.premise c);
     ran = λ c i s.
         let w = one.answered (rest.premise c) i s in
         let l : Line = record { call = call_by caller f; given_up = w.0 } in
         let more = rest.ran c (next l i) w.1.follows in
-        let replied : r ∷ results ≡ map result_of (answers (l ∷ more.run) i) = ap (λ x. x ∷ results) w.1.replied ∙ ap (λ rs. result_of (answer l i) ∷ rs) more.replied in
+        let replied : r ∷ results ≡ map result_of (answers (l ∷ more.run) i) =
+        ap (λ x. x ∷ results) w.1.replied ∙ ap (λ rs. result_of (answer l i) ∷ rs) more.replied in
         record {
           run = l ∷ more.run;
           calls = ap (λ cs. call_by caller f ∷ cs) more.calls;
@@ -53,19 +58,42 @@ module _ {S : Type 0} (store : Ghosts S) (caller : Caller) where
         };
   }
 
-  pub runs_rows : (old : S) (rows : Rows) (results : List SheetResult) (new : S) → Steps (AnswersFields store caller) old rows results new → RunsRows store caller old rows results new
+  pub runs_rows : (old : S) (rows : Rows) (results : List SheetResult) (new : S) → Steps (AnswersFields store caller)
+      old rows results new → RunsRows store caller old rows results new
   runs_rows old [] [] new h = subst (λ n. RunsRows store caller old [] [] n) (sym h) (record {
     premise = λ c. c;
-    ran = λ c i s. record { run = []; calls = refl; in_range = tt; replied = refl; follows = s; given_up = tt; with_memory = λ none. tt; stop = λ is l. l };
+    ran = λ c i s. record {
+      run = [];
+      calls = refl;
+      in_range = tt;
+      replied = refl;
+      follows = s;
+      given_up = tt;
+      with_memory = λ none. tt;
+      stop = λ is l. l;
+    };
   })
   runs_rows old [] (r ∷ results) new h = absurd h
   runs_rows old (f ∷ rows) [] new h = absurd h
-  runs_rows old (f ∷ rows) (r ∷ results) new h = one_more old h.0 new f r rows results h.1 (runs_rows h.0 rows results new h.2)
+  runs_rows old (f ∷ rows) (r ∷ results) new h =
+      one_more old h.0 new f r rows results h.1 (runs_rows h.0 rows results new h.2)
 
 -- what is said of one relation of runs is said of a weaker one
-module _ {S : Type 0} (P Q : S → List (List (List ℕ)) → List SheetResult → S → Type 0) (weaker : (old : S) (rows : Rows) (results : List SheetResult) (new : S) → P old rows results new → Q old rows results new) (old new : S) (s : SheetStreams) where
+module _ {S : Type 0} (P Q : S → List (List (List ℕ)) → List SheetResult → S → Type 0) (weaker : (old : S) (rows : Rows)
+    (results : List SheetResult) (new : S) → P old rows results new → Q old rows results new) (old new : S)
+    (s : SheetStreams) where
   whole : EndsWhole P old new s → EndsWhole Q old new s
-  whole e = record { done = e.done; rest = e.rest; among = e.among; results = e.results; each = e.each; ran = weaker old e.done e.results new e.ran; all = e.all; written = e.written; sink = e.sink }
+  whole e = record {
+    done = e.done;
+    rest = e.rest;
+    among = e.among;
+    results = e.results;
+    each = e.each;
+    ran = weaker old e.done e.results new e.ran;
+    all = e.all;
+    written = e.written;
+    sink = e.sink;
+  }
 
   never : (n : ℕ) → NeverBegins P old new s n → NeverBegins Q old new s n
   never n e = record { none = e.none; same = e.same; unwritten = e.unwritten }
@@ -113,13 +141,46 @@ module _ {S : Type 0} (P Q : S → List (List (List ℕ)) → List SheetResult �
   ends (Ok done) e = whole e
   ends (Err f) e = by f.cause f.answered e
 
-module _ {S : Type 0} (store : Ghosts S) (caller : Caller) (old new : S) (rows others : Rows) (held holds : Option (List ℕ)) (faults now count : ℕ) (r : Result (Unit {0}) StreamFault) where
+module _ {S : Type 0} (store : Ghosts S) (caller : Caller) (old new : S) (rows others : Rows)
+    (held holds : Option (List ℕ)) (faults now count : ℕ) (r : Result (Unit {0}) StreamFault) where
   -- How a whole sheet ends, of how its rows end. The heading was written without a fault.
   pub sheet_ends : others ≡ rows → now ≡ faults
-      → Ends (Steps (AnswersFields store caller)) old new (record { rows = others; sink = record { before = held; after = holds; faults_before = now; faults_after = count } }) r
-      → Ends (RunsRows store caller) old new (record { rows = rows; sink = record { before = held; after = holds; faults_before = faults; faults_after = count } }) r
+      → Ends (Steps (AnswersFields store caller)) old new (record {
+        rows = others;
+        sink = record {
+          before = held;
+          after = holds;
+          faults_before = now;
+          faults_after = count;
+        };
+      }) r
+      → Ends (RunsRows store caller) old new (record {
+        rows = rows;
+        sink = record {
+          before = held;
+          after = holds;
+          faults_before = faults;
+          faults_after = count;
+        };
+      }) r
   sheet_ends same sound e =
-      subst (λ xs. Ends (RunsRows store caller) old new (record { rows = xs; sink = record { before = held; after = holds; faults_before = faults; faults_after = count } }) r) same (
-      subst (λ n. Ends (RunsRows store caller) old new (record { rows = others; sink = record { before = held; after = holds; faults_before = n; faults_after = count } }) r) sound
+      subst (λ xs. Ends (RunsRows store caller) old new (record {
+        rows = xs;
+        sink = record {
+          before = held;
+          after = holds;
+          faults_before = faults;
+          faults_after = count;
+        };
+      }) r) same (
+      subst (λ n. Ends (RunsRows store caller) old new (record {
+        rows = others;
+        sink = record {
+          before = held;
+          after = holds;
+          faults_before = n;
+          faults_after = count;
+        };
+      }) r) sound
       (ends (Steps (AnswersFields store caller)) (RunsRows store caller) (runs_rows store caller) old new _ r e)
       )

@@ -26,7 +26,8 @@ results_on c rows i = map result_of (answers (sheet_lines c rows) i)
 abbrev pub after_sheet : Caller → List (List (List ℕ)) → Institution → Institution
 after_sheet c rows i = last (sheet_lines c rows) i
 
--- A refusal keeps its number, unless a later line of the sheet was entered with the receipt, which is F15, or paid the loan off, so that a day out of order is not looked at.
+-- A refusal keeps its number, unless a later line of the sheet was entered with the receipt, which is F15, or paid the
+-- loan off, so that a day out of order is not looked at.
 abbrev pub IsRefusedAgain : Fault → Fault → Type 0
 IsRefusedAgain fault again = (again ≡ fault) ⊎ ((again ≡ F15) ⊎ ((fault ≡ F10) × (again ≡ F9)))
 
@@ -45,4 +46,5 @@ AreToldAgain (result ∷ results) [] = ⊥
 
 -- a repayment was entered under this number, or had been
 abbrev pub IsTaken : Account → ℕ → Result Reply Fault → Type 0
-IsTaken loan seq answer = (answer ≡ Ok (reply.Loan loan (told.Entered seq))) ⊎ (answer ≡ Ok (reply.Loan loan (told.Repeated seq)))
+IsTaken loan seq answer = (answer ≡ Ok (reply.Loan loan (told.Entered seq)))
+    ⊎ (answer ≡ Ok (reply.Loan loan (told.Repeated seq)))

@@ -28,7 +28,8 @@ AreAll rest results = ((rest ≡ []) × NoneIsF20 results) ⊎ EndInF20 results
 abbrev pub sheet_text : List (List (List ℕ)) → List SheetResult → List ℕ
 sheet_text rows results = heading ++ records_text rows results
 
-module _ {S : Type 0} (runs : S → List (List (List ℕ)) → List SheetResult → S → Type 0) (old new : S) (streams : SheetStreams) where
+module _ {S : Type 0} (runs : S → List (List (List ℕ)) → List SheetResult → S → Type 0) (old new : S)
+    (streams : SheetStreams) where
   -- the lines were answered up to the end of the sheet or the first F20, and the result of each was written
   pub record EndsWhole : Type 0 where
     pub done : List (List (List ℕ))
@@ -81,14 +82,16 @@ module _ {S : Type 0} (runs : S → List (List (List ℕ)) → List SheetResult 
     pub without_F20 : NoneIsF20 results
     pub part : ℕ
     pub short : part < length (record_text fields result)
-    pub written : Appends streams.sink.before streams.sink.after (sheet_text streams.rows results ++ take part (record_text fields result))
+    pub written : Appends streams.sink.before streams.sink.after (sheet_text streams.rows results
+        ++ take part (record_text fields result))
     pub counted : count ≡ length results
 
   -- by the cause of a fault, and how many results were written whole; nothing is read that could fail
   abbrev pub EndsBy : Cause → ℕ → Type 0
   EndsBy Read count = ⊥
   EndsBy Write count = (streams.sink.faults_after ≢ streams.sink.faults_before) × (CutsHeading count ⊎ CutsRecord count)
-  EndsBy Memory count = (streams.sink.faults_after ≡ streams.sink.faults_before) × (NeverBegins count ⊎ EndsBefore count)
+  EndsBy Memory count = (streams.sink.faults_after ≡ streams.sink.faults_before)
+      × (NeverBegins count ⊎ EndsBefore count)
 
   -- what a sheet leaves, by what it answers
   abbrev pub Ends : Result (Unit {0}) StreamFault → Type 0

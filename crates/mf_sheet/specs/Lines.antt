@@ -19,7 +19,8 @@ use Rattle.mf_sheet_lines.specs.Lines.{line_of}
 -- a line asks for a repayment; a bad one reads as no request
 abbrev pub asked_by : SheetLine → Request
 asked_by Bad = request.Unreadable Malformed
-asked_by (Repay r) = request.Loan r.loan (asks.Repay (record { amount = r.amount; day = r.day; receipt = Some r.receipt }))
+asked_by (Repay r) =
+    request.Loan r.loan (asks.Repay (record { amount = r.amount; day = r.day; receipt = Some r.receipt }))
 
 -- the call of a line that somebody sends
 abbrev pub call_of : Caller → SheetLine → Call

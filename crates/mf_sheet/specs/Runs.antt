@@ -28,8 +28,11 @@ module _ {S : Type 0} (store : Ghosts S) where
   abbrev pub AnswersFields : Caller → S → List (List ℕ) → SheetResult → S → Type 0
   AnswersFields c old fields result new = Calls store (λ r. result ≡ result_of r) (call_by c fields) old new
 
-  -- The results are those of a run over the lines on the institution, and the store stands for what follows. Each call has its members in range, also that of a line which was given up. A line is given up only where its result is F20, so where none is, no line is.
-  pub record RunsOn (c : Caller) (i : Institution) (rows : List (List (List ℕ))) (old : S) (results : List SheetResult) (new : S) : Type 0 where
+  -- The results are those of a run over the lines on the institution, and the store stands for what follows. Each call
+  -- has its members in range, also that of a line which was given up. A line is given up only where its result is F20,
+  -- so where none is, no line is.
+  pub record RunsOn (c : Caller) (i : Institution) (rows : List (List (List ℕ))) (old : S) (results : List SheetResult)
+      (new : S) : Type 0 where
     pub run : List Line
     pub calls : map (λ l. l.call) run ≡ map (call_by c) rows
     pub in_range : AreInRange run
@@ -39,14 +42,18 @@ module _ {S : Type 0} (store : Ghosts S) where
     pub with_memory : NoneIsF20 results → NoneGivenUp run
     pub stop : (is : List Institution) → store.leaves old is → store.leaves new (left_after run i is)
 
-  -- The same of each institution that the store stood for. That the disk returned what was written holds only as long as it does so to the end.
-  pub record RunsRows (c : Caller) (old : S) (rows : List (List (List ℕ))) (results : List SheetResult) (new : S) : Type 0 where
+  -- The same of each institution that the store stood for. That the disk returned what was written holds only as long
+  -- as it does so to the end.
+  pub record RunsRows (c : Caller) (old : S) (rows : List (List (List ℕ))) (results : List SheetResult)
+      (new : S) : Type 0 where
     pub premise : store.clean new → store.clean old
     pub ran : store.clean new → (i : Institution) → store.stands old i → RunsOn c i rows old results new
 
 -- lines answered one after another, whatever answers each
-abbrev pub Steps : {S : Type 0} → (S → List (List ℕ) → SheetResult → S → Type 0) → S → List (List (List ℕ)) → List SheetResult → S → Type 0
+abbrev pub Steps : {S : Type 0} → (S → List (List ℕ) → SheetResult → S → Type 0) → S → List (List (List ℕ))
+    → List SheetResult → S → Type 0
 Steps step old [] [] new = new ≡ old
-Steps {S = S} step old (fields ∷ rows) (result ∷ results) new = (mid : S) × step old fields result mid × Steps step mid rows results new
+Steps {S = S} step old (fields ∷ rows) (result ∷ results) new =
+    (mid : S) × step old fields result mid × Steps step mid rows results new
 Steps step old [] (result ∷ results) new = ⊥
 Steps step old (fields ∷ rows) [] new = ⊥

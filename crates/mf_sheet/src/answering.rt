@@ -52,7 +52,8 @@ fn answered<S: InstitutionStore>(
     line: SheetLine,
 ) -> Result<SheetResult, Fault>
     requires { IsLineInRange line }
-    ensures { Calls S.InstitutionStore (λ r. outcome_of result ≡ result_of r) (call_of caller line) store.old store.new }
+    ensures { Calls S.InstitutionStore (λ r. outcome_of result ≡ result_of r) (call_of caller line) store.old
+        store.new }
 {
     let request = request_of(line);
     answer(

@@ -29,8 +29,10 @@ fn collect_row<S: InstitutionStore, W: Sink>(
     ensures written { IfOk result (λ r. Appends (W.written sink.old) (W.written sink.new) (record_text row r)) }
     ensures sound { OnOk result (W.faults sink.new ≡ W.faults sink.old) }
     ensures memory { IfErr result (λ c. c ≡ cause.Memory → (store.new ≡ store.old) × (sink.new ≡ sink.old)) }
-    ensures write { IfErr result (λ c. c ≡ cause.Write → (r : SheetResult) × AnswersFields S.InstitutionStore caller.now store.old row r store.new
-        × ((n : ℕ) × (n < length (record_text row r)) × Appends (W.written sink.old) (W.written sink.new) (take n (record_text row r)))) }
+    ensures write { IfErr result (λ c. c ≡ cause.Write → (r : SheetResult) × AnswersFields S.InstitutionStore caller.now
+        store.old row r store.new
+        × ((n : ℕ) × (n < length (record_text row r)) × Appends (W.written sink.old) (W.written sink.new)
+        (take n (record_text row r)))) }
     ensures fault { IfErr result (λ c. c ≡ cause.Write → W.faults sink.new ≢ W.faults sink.old) }
     ensures read { IfErr result (λ c. c ≢ cause.Read) }
 {

@@ -1,5 +1,6 @@
 -- A text is the amount that its digits and cents write.
-use Rattle.std.proofs.Common.{◌≡◌, ℕ, ◌+◌, ◌-◌, ◌*◌, ◌/◌, ◌%◌, ◌<◌, ◌≤◌, true, List, [], ◌∷◌, take, drop, Option, Some, None, inl, inr, refl, sym, ap, ◌∙◌, arith}
+use Rattle.std.proofs.Common.{◌≡◌, ℕ, ◌+◌, ◌-◌, ◌*◌, ◌/◌, ◌%◌, ◌<◌, ◌≤◌, true, List, [], ◌∷◌, take, drop, Option, Some}
+use Rattle.std.proofs.Common.{None, inl, inr, refl, sym, ap, ◌∙◌, arith}
 use Rattle.std.specs.Prelude.{◌==◌, nat_le, IfSome}
 use Rattle.std.specs.List.{prefix_len}
 use Rattle.std.specs.Char.{is_ascii_digit}
@@ -42,7 +43,11 @@ fraction_is (p ∷ t ∷ o ∷ []) rest is =
     let value : 10 * (t - 48) + (o - 48) ≡ rest = cc in
     let first : t ≡ 48 + rest / 10 = omega arith in
     let second : o ≡ 48 + rest % 10 = omega arith in
-    inr (inr (omega arith, ap (λ (a : ℕ). a ∷ t ∷ o ∷ []) point ∙ ap (λ (a : ℕ). 46 ∷ a ∷ o ∷ []) first ∙ ap (λ (a : ℕ). 46 ∷ (48 + rest / 10) ∷ a ∷ []) second))
+    inr (inr (
+      omega arith,
+      ap (λ (a : ℕ). a ∷ t ∷ o ∷ []) point ∙ ap (λ (a : ℕ). 46 ∷ a ∷ o ∷ []) first
+          ∙ ap (λ (a : ℕ). 46 ∷ (48 + rest / 10) ∷ a ∷ []) second,
+    ))
 fraction_is (p ∷ t ∷ o ∷ m ∷ more) rest is = absurd (cc)
 
 -- and cents of the text are read
@@ -68,14 +73,23 @@ read_is text n c first is =
     let tests = and_parts _ _ read.0 in
     let sum = after_two _ (cents_after (drop n text)) c read.1 in
     let limit = in_limit _ c sum.2 in
-    IsMoneyText-is text (take n text) (drop n text) n (digits_value 10 (take n text)) sum.0 c first refl refl refl (leb-true 1 n tests.0) (leb-true n 11 tests.1) (fraction_is (drop n text) sum.0 sum.1) limit.1 (omega (arith, limit.0, limit.1))
+    IsMoneyText-is text (take n text) (drop n text) n (digits_value 10 (take n text)) sum.0 c first refl refl refl
+    (leb-true 1 n tests.0) (leb-true n 11 tests.1) (fraction_is (drop n text) sum.0 sum.1) limit.1
+    (omega (arith, limit.0, limit.1))
 
 is_read : (text : List ℕ) (n c : ℕ) → n ≡ prefix_len is_ascii_digit text → IsMoneyText text c → cents_by n text ≡ Some c
 is_read text n c first m =
     let read = IsRead-is text (take n text) (drop n text) n c first refl refl m in
-    rw (le-leb 1 n read.some, le-leb n 11 read.at_most, is_fraction (drop n text) read.rest read.back_is, ← read.value, le-leb c money_limit read.limit) refl
+    rw (
+      le-leb 1 n read.some,
+      le-leb n 11 read.at_most,
+      is_fraction (drop n text) read.rest read.back_is,
+      ← read.value,
+      le-leb c money_limit read.limit,
+    ) refl
 
-pub cents_written_is : (text : List ℕ) (r : Option ℕ) → IfSome r (IsMoneyText text) → ((cents : ℕ) → IsMoneyText text cents → r ≡ Some cents) → r ≡ cents_written text
+pub cents_written_is : (text : List ℕ) (r : Option ℕ) → IfSome r (IsMoneyText text)
+    → ((cents : ℕ) → IsMoneyText text cents → r ≡ Some cents) → r ≡ cents_written text
 unfolding cents_written
 cents_written_is text (Some c) some every = sym (is_read text _ c refl some)
 cents_written_is text None some every = sym (nothing _ (λ c is. let no = every c (read_is text _ c refl is) in cc))
@@ -87,4 +101,6 @@ cents_range text = step (cents_by (prefix_len is_ascii_digit text) text) refl
   where
     step : (o : Option ℕ) → cents_by (prefix_len is_ascii_digit text) text ≡ o → IfSome o (λ cents. cents ≤ money_limit)
     step None e = tt
-    step (Some c) e = (IsRead-is text (take (prefix_len is_ascii_digit text) text) (drop (prefix_len is_ascii_digit text) text) (prefix_len is_ascii_digit text) c refl refl refl (read_is text (prefix_len is_ascii_digit text) c refl e)).limit
+    step (Some c) e = (IsRead-is text (take (prefix_len is_ascii_digit text) text)
+        (drop (prefix_len is_ascii_digit text) text) (prefix_len is_ascii_digit text) c refl refl refl
+        (read_is text (prefix_len is_ascii_digit text) c refl e)).limit

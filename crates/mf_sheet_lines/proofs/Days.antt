@@ -1,5 +1,6 @@
 -- A text is the day of the date that its digits write.
-use Rattle.std.proofs.Common.{◌≡◌, ℕ, ◌+◌, ◌/◌, ◌%◌, ◌<◌, ◌≤◌, true, List, ◌++◌, Option, Some, None, refl, sym, ap, subst, ◌∙◌, arith}
+use Rattle.std.proofs.Common.{◌≡◌, ℕ, ◌+◌, ◌/◌, ◌%◌, ◌<◌, ◌≤◌, true, List, ◌++◌, Option, Some, None, refl, sym, ap}
+use Rattle.std.proofs.Common.{subst, ◌∙◌, arith}
 use Rattle.std.specs.Prelude.{◌&&◌, cond, IfSome}
 use Rattle.std.specs.Str.{bytes_eq}
 use Rattle.std.specs.Str.Parse.{digits_value}
@@ -16,14 +17,20 @@ use Rattle.mf_sheet_lines.specs.Fields.{date_in, is_entered, day_written}
 use Rattle.mf_sheet_lines.proofs.Tests.{passed, nothing}
 
 digit : (n : ℕ) → n < 10 → digit_value (48 + n) ≡ n
-digit n small = let range : IsInRange 48 57 (48 + n) = (omega arith, omega arith) in omega (arith, digit_value_digit (48 + n) range)
+digit n small = let range : IsInRange 48 57 (48 + n) =
+    (omega arith, omega arith) in omega (arith, digit_value_digit (48 + n) range)
 
 two : (n : ℕ) → n < 100 → digits_value 10 (two_digits n) ≡ n
 two n small = rw (digit (n / 10) (omega arith), digit (n % 10) (omega arith)) (omega arith)
 
 four : (n : ℕ) → n < 10_000 → digits_value 10 (two_digits (n / 100) ++ two_digits (n % 100)) ≡ n
 four n small =
-    rw (digit (n / 100 / 10) (omega arith), digit (n / 100 % 10) (omega arith), digit (n % 100 / 10) (omega arith), digit (n % 100 % 10) (omega arith)) (omega arith)
+    rw (
+      digit (n / 100 / 10) (omega arith),
+      digit (n / 100 % 10) (omega arith),
+      digit (n % 100 / 10) (omega arith),
+      digit (n % 100 % 10) (omega arith),
+    ) (omega arith)
 
 date_same : (a b : Date) → a.year ≡ b.year → a.month ≡ b.month → a.day ≡ b.day → a ≡ b
 date_same a b year month day = (λ i. record { year = year i; month = month i; day = day i })
@@ -34,7 +41,14 @@ date_in-text date year month day = date_same _ date (four date.year year) (two d
 
 entered : (date : Date) → IsDate date → date.year < 2100 → is_entered date ≡ true
 entered date is year =
-    rw (le-leb 2000 date.year is.year, le-leb date.year 2099 (omega arith), le-leb 1 date.month is.first_month, le-leb date.month 12 is.last_month, le-leb 1 date.day is.first_day, le-leb date.day (month_length date.year date.month) is.last_day) refl
+    rw (
+      le-leb 2000 date.year is.year,
+      le-leb date.year 2099 (omega arith),
+      le-leb 1 date.month is.first_month,
+      le-leb date.month 12 is.last_month,
+      le-leb 1 date.day is.first_day,
+      le-leb date.day (month_length date.year date.month) is.last_day,
+    ) refl
 
 is_entered_date : (date : Date) → is_entered date ≡ true → IsDate date × (date.year < 2100)
 is_entered_date date is =
@@ -62,9 +76,11 @@ is_read text day last is =
     let year = entered_year-date_of day last in
     let written : text ≡ date_text date = is ∙ date_text-day day in
     let bounds = month_length_bounds date.year date.month in
-    let same : date_in text ≡ date = ap date_in written ∙ date_in-text date (omega arith) (omega (arith, there.last_month)) (omega (arith, there.last_day, bounds)) in
+    let same : date_in text ≡ date = ap date_in written ∙ date_in-text date (omega arith)
+    (omega (arith, there.last_month)) (omega (arith, there.last_day, bounds)) in
     let equal : bytes_eq text (date_text date) ≡ true = (bytes_eq-Decides text (date_text date)).1 written in
-    let family : Date → Type 0 = λ d. cond (is_entered d && bytes_eq text (date_text d)) (Some (day_of d)) None ≡ Some day in
+    let family : Date → Type 0 = λ d. cond (is_entered d && bytes_eq text (date_text d)) (Some (day_of d)) None
+    ≡ Some day in
     subst family (sym same) (rw (entered date there year, equal) (ap Some (day_of-date_of day)))
 
 -- what is read is the day whose text it is
@@ -83,7 +99,8 @@ read_is text day is =
 pub day_written_is : (text : List ℕ) (r : Option ℕ) → IfSome r (λ day. (day ≤ last_entered_day) × (text ≡ day_text day))
     → ((day : ℕ) → day ≤ last_entered_day → text ≡ day_text day → r ≡ Some day) → r ≡ day_written text
 day_written_is text (Some day) some every = sym (is_read text day some.0 some.1)
-day_written_is text None some every = sym (nothing _ (λ day is. let read = read_is text day is in let no = every day read.0 read.1 in cc))
+day_written_is text None some every =
+    sym (nothing _ (λ day is. let read = read_is text day is in let no = every day read.0 read.1 in cc))
 
 -- so a day that is read may be entered
 pub day_range : (text : List ℕ) → IfSome (day_written text) (λ day. day ≤ last_entered_day)

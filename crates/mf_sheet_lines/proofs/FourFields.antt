@@ -11,7 +11,8 @@ is_there [] place missing below = omega arith
 is_there (f ∷ fs) zero missing below = cc missing
 is_there (f ∷ fs) (suc place) missing below = is_there fs place missing (omega arith)
 
-pub columns_are : (fields : List (List ℕ)) (a b c d : List ℕ) → length fields ≡ 4 → Some a ≡ field_at fields 0 → Some b ≡ field_at fields 1 → Some c ≡ field_at fields 2 → Some d ≡ field_at fields 3
+pub columns_are : (fields : List (List ℕ)) (a b c d : List ℕ) → length fields ≡ 4 → Some a ≡ field_at fields 0
+    → Some b ≡ field_at fields 1 → Some c ≡ field_at fields 2 → Some d ≡ field_at fields 3
     → Some (record { receipt = a; loan = b; date = c; amount = d }) ≡ columns_of fields
 unfolding field_at
 columns_are [] a b c d four e f g h = absurd (omega arith)

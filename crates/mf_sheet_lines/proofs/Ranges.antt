@@ -14,7 +14,8 @@ use Rattle.mf_office.specs.declared.account.Account.{Account}
 use Rattle.mf_office.proofs.WrittenLemmas.{written_is}
 use Rattle.mf_sheet_lines.specs.declared.line.SheetRepayment.{SheetRepayment}
 use Rattle.mf_sheet_lines.specs.Fields.{without_blanks, receipt_of, day_written, cents_written, at_least_one, amount_of}
-use Rattle.mf_sheet_lines.specs.Lines.{Columns, columns_of, repayment_of, repayment_in, repay_or_bad, line_of, IsRepaymentInRange, IsLineInRange}
+use Rattle.mf_sheet_lines.specs.Lines.{Columns, columns_of, repayment_of, repayment_in, repay_or_bad, line_of}
+use Rattle.mf_sheet_lines.specs.Lines.{IsRepaymentInRange, IsLineInRange}
 use Rattle.mf_sheet_lines.proofs.Amounts.{cents_range}
 use Rattle.mf_sheet_lines.proofs.Days.{day_range}
 
@@ -26,7 +27,8 @@ passes P false a h = tt
 receipt_range : (text : List ℕ) → IfSome (receipt_of text) IsReceipt
 receipt_range text = passes IsReceipt (is_receipt text) text (λ h. h)
 
-written_range : (text_of : ℕ → List ℕ) (limit : ℕ) (text : List ℕ) → IfSome (number_written text_of limit text) (IsNumberUpTo limit)
+written_range : (text_of : ℕ → List ℕ) (limit : ℕ) (text : List ℕ) → IfSome (number_written text_of limit text)
+    (IsNumberUpTo limit)
 written_range text_of limit text = step (number_written text_of limit text) refl
   where
     step : (o : Option ℕ) → number_written text_of limit text ≡ o → IfSome o (IsNumberUpTo limit)
@@ -36,11 +38,16 @@ written_range text_of limit text = step (number_written text_of limit text) refl
 account_range : (text : List ℕ) → IfSome (account_of text) IsAccount
 unfolding account_of
 account_range text =
-    step (number_written (zero_padded 4) 9999 (before_first (λ b. b == 45) text)) (number_written (zero_padded 6) 999999 (after_first (λ b. b == 45) text))
-    (written_range (zero_padded 4) 9999 (before_first (λ b. b == 45) text)) (written_range (zero_padded 6) 999999 (after_first (λ b. b == 45) text))
+    step (number_written (zero_padded 4) 9999 (before_first (λ b. b == 45) text))
+    (number_written (zero_padded 6) 999999 (after_first (λ b. b == 45) text))
+    (written_range (zero_padded 4) 9999 (before_first (λ b. b == 45) text))
+    (written_range (zero_padded 6) 999999 (after_first (λ b. b == 45) text))
   where
     step : (office number : Option ℕ) → IfSome office (IsNumberUpTo 9999) → IfSome number (IsNumberUpTo 999999)
-        → IfSome (option_and_then (λ (o : ℕ). option_map (λ (n : ℕ). let account : Account = record { office = o; number = n } in account) number) office) IsAccount
+        → IfSome (option_and_then (λ (o : ℕ). option_map (λ (n : ℕ). let account : Account = record {
+          office = o;
+          number = n;
+        } in account) number) office) IsAccount
     step None number h k = tt
     step (Some o) None h k = tt
     step (Some o) (Some n) h k = (h, k)
@@ -56,18 +63,23 @@ amount_range text = step (cents_written text) (cents_range text)
     step None h = tt
     step (Some cents) h = passes IsAmount (nat_le 1 cents) cents (λ some. (leb-true 1 cents some, h))
 
-repayment_range : (receipt loan date amount : List ℕ) → IfSome (repayment_of receipt loan date amount) IsRepaymentInRange
+repayment_range : (receipt loan date amount : List ℕ) → IfSome (repayment_of receipt loan date amount)
+    IsRepaymentInRange
 repayment_range receipt loan date amount =
-    step (receipt_of receipt) (account_of loan) (day_written date) (amount_of amount) (receipt_range receipt) (account_range loan) (day_range date) (amount_range amount)
+    step (receipt_of receipt) (account_of loan) (day_written date) (amount_of amount) (receipt_range receipt)
+    (account_range loan) (day_range date) (amount_range amount)
   where
-    step : (r : Option (List ℕ)) (l : Option Account) (d a : Option ℕ) → IfSome r IsReceipt → IfSome l IsAccount → IfSome d (λ day. day ≤ last_entered_day) → IfSome a IsAmount
+    step : (r : Option (List ℕ)) (l : Option Account) (d a : Option ℕ) → IfSome r IsReceipt → IfSome l IsAccount
+        → IfSome d (λ day. day ≤ last_entered_day) → IfSome a IsAmount
         → IfSome (option_and_then (λ x. option_and_then (λ y. option_and_then (λ z. option_map
-        (λ w. let it : SheetRepayment = record { receipt = x; loan = y; day = z; amount = w } in it) a) d) l) r) IsRepaymentInRange
+        (λ w. let it : SheetRepayment = record { receipt = x; loan = y; day = z; amount = w } in it) a) d) l) r)
+        IsRepaymentInRange
     step None l d a h k m n = tt
     step (Some x) None d a h k m n = tt
     step (Some x) (Some y) None a h k m n = tt
     step (Some x) (Some y) (Some z) None h k m n = tt
-    step (Some x) (Some y) (Some z) (Some w) h k m n = record { receipt = h; loan = k; day = m; least = n.0; most = n.1 }
+    step (Some x) (Some y) (Some z) (Some w) h k m n =
+        record { receipt = h; loan = k; day = m; least = n.0; most = n.1 }
 
 pub line_in_range : (fields : List (List ℕ)) → IsLineInRange (line_of fields)
 line_in_range fields = among (columns_of fields)
@@ -79,4 +91,5 @@ line_in_range fields = among (columns_of fields)
     among : (o : Option Columns) → IsLineInRange (repay_or_bad (option_and_then repayment_in o))
     among None = tt
     among (Some c) =
-        told (repayment_in c) (repayment_range (without_blanks c.receipt) (without_blanks c.loan) (without_blanks c.date) (without_blanks c.amount))
+        told (repayment_in c) (repayment_range (without_blanks c.receipt) (without_blanks c.loan)
+        (without_blanks c.date) (without_blanks c.amount))

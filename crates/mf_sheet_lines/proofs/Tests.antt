@@ -12,6 +12,7 @@ pub nothing : {A : Type 0} (o : Option A) → ((c : A) → o ≡ Some c → ⊥)
 nothing None never = refl
 nothing (Some c) never = absurd (never c refl)
 
-pub after_two : {A B : Type 0} (f : A → Option B) (o : Option A) (c : B) → option_and_then f o ≡ Some c → (a : A) × (o ≡ Some a) × (f a ≡ Some c)
+pub after_two : {A B : Type 0} (f : A → Option B) (o : Option A) (c : B) → option_and_then f o ≡ Some c → (a : A)
+    × (o ≡ Some a) × (f a ≡ Some c)
 after_two f (Some a) c is = (a, refl, is)
 after_two f None c is = absurd (cc)

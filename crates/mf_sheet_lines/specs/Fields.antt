@@ -1,5 +1,6 @@
 -- What the fields of a sheet's line say.
-use Rattle.std.specs.Prelude.{ℕ, ◌+◌, ◌-◌, ◌*◌, ◌==◌, ◌&&◌, ◌||◌, Bool, cond, List, [], ◌∷◌, length, nat_le, take, drop, Option, Some, None, option_and_then}
+use Rattle.std.specs.Prelude.{ℕ, ◌+◌, ◌-◌, ◌*◌, ◌==◌, ◌&&◌, ◌||◌, Bool, cond, List, [], ◌∷◌, length, nat_le, take, drop}
+use Rattle.std.specs.Prelude.{Option, Some, None, option_and_then}
 use Rattle.std.specs.Char.{is_ascii_digit}
 use Rattle.std.specs.List.{prefix_len, suffix_len}
 use Rattle.std.specs.Str.{bytes_eq}
@@ -41,14 +42,16 @@ is_entered date =
 
 -- the day from 2000-01-01 to 2099-12-31 of which this is the text
 unfoldable pub day_written : List ℕ → Option ℕ
-day_written text = cond (is_entered (date_in text) && bytes_eq text (date_text (date_in text))) (Some (day_of (date_in text))) None
+day_written text = cond (is_entered (date_in text) && bytes_eq text (date_text (date_in text)))
+    (Some (day_of (date_in text))) None
 
 -- the cents that stand after the units: nothing, a point and one digit, or a point and two
 abbrev pub cents_after : List ℕ → Option ℕ
 cents_after [] = Some 0
 cents_after (point ∷ []) = None
 cents_after (point ∷ tenths ∷ []) = cond ((point == 46) && is_ascii_digit tenths) (Some (10 * (tenths - 48))) None
-cents_after (point ∷ tenths ∷ ones ∷ []) = cond ((point == 46) && is_ascii_digit tenths && is_ascii_digit ones) (Some (10 * (tenths - 48) + (ones - 48))) None
+cents_after (point ∷ tenths ∷ ones ∷ []) = cond ((point == 46) && is_ascii_digit tenths && is_ascii_digit ones)
+    (Some (10 * (tenths - 48) + (ones - 48))) None
 cents_after (point ∷ tenths ∷ ones ∷ more ∷ rest) = None
 
 -- the amount, where it is at most what may be entered
@@ -58,7 +61,8 @@ up_to_limit cents = cond (nat_le cents money_limit) (Some cents) None
 -- the cents of a text that begins with so many digits
 abbrev pub cents_by : ℕ → List ℕ → Option ℕ
 cents_by count text = cond (nat_le 1 count && nat_le count 11)
-    (option_and_then (λ cents. up_to_limit (100 * digits_value 10 (take count text) + cents)) (cents_after (drop count text))) None
+    (option_and_then (λ cents. up_to_limit (100 * digits_value 10 (take count text) + cents))
+    (cents_after (drop count text))) None
 
 -- the cents that a money text stands for, up to 10^12
 unfoldable pub cents_written : List ℕ → Option ℕ

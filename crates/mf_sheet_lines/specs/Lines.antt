@@ -20,7 +20,8 @@ pub record Columns : Type 0 where
 
 -- the fields of a record that has four
 abbrev pub columns_of : List (List ℕ) → Option Columns
-columns_of (receipt ∷ loan ∷ date ∷ amount ∷ []) = Some (record { receipt = receipt; loan = loan; date = date; amount = amount })
+columns_of (receipt ∷ loan ∷ date ∷ amount ∷ []) =
+    Some (record { receipt = receipt; loan = loan; date = date; amount = amount })
 columns_of _ = None
 
 -- the repayment that four texts write
@@ -32,13 +33,15 @@ repayment_of receipt loan date amount =
 
 -- the repayment that four fields write; spaces and tabs round a field don't count
 abbrev pub repayment_in : Columns → Option SheetRepayment
-repayment_in c = repayment_of (without_blanks c.receipt) (without_blanks c.loan) (without_blanks c.date) (without_blanks c.amount)
+repayment_in c = repayment_of (without_blanks c.receipt) (without_blanks c.loan) (without_blanks c.date)
+    (without_blanks c.amount)
 
 -- what a line asks for: a repayment, where there are four fields and each is as it should be
 abbrev pub repay_or_bad : Option SheetRepayment → SheetLine
 repay_or_bad None = Bad
 repay_or_bad (Some repayment) = Repay repayment
 
+-- the line that a record's fields are
 abbrev pub line_of : List (List ℕ) → SheetLine
 line_of fields = repay_or_bad (option_and_then repayment_in (columns_of fields))
 
@@ -50,6 +53,7 @@ pub record IsRepaymentInRange (r : SheetRepayment) : Type 0 where
   pub least : 1 ≤ r.amount
   pub most : r.amount ≤ money_limit
 
+-- the members of a line, in range
 abbrev pub IsLineInRange : SheetLine → Type 0
 IsLineInRange Bad = Unit {0}
 IsLineInRange (Repay r) = IsRepaymentInRange r
@@ -58,8 +62,10 @@ IsLineInRange (Repay r) = IsRepaymentInRange r
 abbrev pub is_name : List ℕ → List ℕ → Bool
 is_name name field = str_eq_ignore_ascii_case (without_blanks field) name
 
+-- a record of the names of the columns
 abbrev pub are_names : Columns → Bool
-are_names c = is_name (codes "receipt") c.receipt && is_name (codes "loan") c.loan && is_name (codes "date") c.date && is_name (codes "amount") c.amount
+are_names c = is_name (codes "receipt") c.receipt && is_name (codes "loan") c.loan && is_name (codes "date") c.date
+    && is_name (codes "amount") c.amount
 
 -- the fields are the names of the columns
 abbrev pub names_columns : List (List ℕ) → Bool

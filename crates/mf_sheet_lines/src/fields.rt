@@ -5,7 +5,8 @@ ghost use Rattle.std.specs.List.{prefix_len, suffix_len};
 ghost use Rattle.mf_account.specs.Receipts.{IsReceipt};
 ghost use Rattle.mf_base.specs.DayText.{last_entered_day};
 ghost use Rattle.mf_base.specs.Money.{money_limit};
-ghost use Rattle.mf_sheet_lines.specs.Fields.{is_blank as is_blank_byte, without_blanks as trimmed_field, receipt_of, day_written, cents_written, amount_of};
+ghost use Rattle.mf_sheet_lines.specs.Fields.{is_blank as is_blank_byte, without_blanks as trimmed_field, receipt_of};
+ghost use Rattle.mf_sheet_lines.specs.Fields.{day_written, cents_written, amount_of};
 
 use mf_account::is_receipt;
 use mf_base::{Day, parse_money};

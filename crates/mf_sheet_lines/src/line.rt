@@ -1,8 +1,10 @@
 //! A line of a sheet, and what it asks for.
 
-ghost use Rattle.std.specs.Prelude.{◌≡◌, ◌==◌, ◌≤◌, ℕ, List, Some, None, IfOk, IfErr, IfSome, codes, cond, length, map, option_map};
+ghost use Rattle.std.specs.Prelude.{◌≡◌, ◌==◌, ◌≤◌, ℕ, List, Some, None, IfOk, IfErr, IfSome, codes, cond, length, map};
+ghost use Rattle.std.specs.Prelude.{option_map};
 ghost use Rattle.csv.specs.Records.{fields_of};
-ghost use Rattle.mf_sheet_lines.specs.Lines.{columns_of, line_of, IsLineInRange, is_name as is_name_of, names_columns as names_the_columns};
+ghost use Rattle.mf_sheet_lines.specs.Lines.{columns_of, line_of, IsLineInRange, is_name as is_name_of};
+ghost use Rattle.mf_sheet_lines.specs.Lines.{names_columns as names_the_columns};
 
 use crate::fields::{amount, day, receipt, trimmed};
 use csv::ByteRecord;
@@ -44,7 +46,12 @@ struct Fields<'a> {
 
 /// The fields of a record that has four.
 fn four_fields(row: &ByteRecord) -> Option<Fields<'_>>
-    ensures { option_map (λ f. record { receipt = f.receipt.now; loan = f.loan.now; date = f.date.now; amount = f.amount.now }) result ≡ columns_of (fields_of row.now) }
+    ensures { option_map (λ f. record {
+      receipt = f.receipt.now;
+      loan = f.loan.now;
+      date = f.date.now;
+      amount = f.amount.now;
+    }) result ≡ columns_of (fields_of row.now) }
 {
     if row.len() != 4 {
         return None;

@@ -148,7 +148,8 @@ impl BegunRecord {
     /// The whole record, with this result. It takes no memory.
     pub fn ended(self, outcome: SheetResult) -> Vec<u8>
         ensures text { result.items ≡ self ++ (result_name outcome ++ 10 ∷ []) }
-        ensures whole { (fields : List (List ℕ)) → self ≡ begun_text fields → result.items ≡ record_text fields outcome }
+        ensures whole { (fields : List (List ℕ)) → self ≡ begun_text fields → result.items
+            ≡ record_text fields outcome }
     {
         let BegunRecord { text: begun } = self;
         let mut text = begun;
@@ -192,7 +193,8 @@ pub fn result_sheet(alloc: Global, bytes: &[u8], results: &[SheetResult]) -> Res
     requires { length results.now ≤ length (rows_of bytes.now) }
     ensures long { longest < length bytes.now → result ≡ Err Fault.F1 }
     ensures ok { IfOk result (λ text. text.items ≡ result_text bytes.now results.now) }
-    ensures refusal { IfErr result (λ fault. (fault ≡ Fault.F20) ⊎ ((fault ≡ Fault.F1) × (longest < length bytes.now))) }
+    ensures refusal { IfErr result (λ fault. (fault ≡ Fault.F20)
+        ⊎ ((fault ≡ Fault.F1) × (longest < length bytes.now))) }
 {
     let rows = sheet_rows(alloc, bytes)?;
     text_of_records(alloc, rows.as_slice(), results)

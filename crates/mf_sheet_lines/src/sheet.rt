@@ -121,7 +121,8 @@ fn below_names(rows: Vec<ByteRecord>) -> Vec<ByteRecord>
 pub fn sheet_rows(alloc: Global, bytes: &[u8]) -> Result<Vec<ByteRecord>, Fault>
     ensures long { longest < length bytes.now → result ≡ Err Fault.F1 }
     ensures rows { IfOk result (λ rows. map fields_of rows.items ≡ rows_of bytes.now) }
-    ensures refusal { IfErr result (λ fault. (fault ≡ Fault.F20) ⊎ ((fault ≡ Fault.F1) × (longest < length bytes.now))) }
+    ensures refusal { IfErr result (λ fault. (fault ≡ Fault.F20)
+        ⊎ ((fault ≡ Fault.F1) × (longest < length bytes.now))) }
 {
     if bytes.len() > LONGEST {
         return Err(Fault::F1);
@@ -149,7 +150,8 @@ fn read_rows(alloc: Global, rows: Vec<ByteRecord>) -> Result<Vec<SheetRow>, Faul
 pub fn read_sheet(alloc: Global, bytes: &[u8]) -> Result<Sheet, Fault>
     ensures long { longest < length bytes.now → result ≡ Err Fault.F1 }
     ensures rows { IfOk result (λ sheet. sheet ≡ rows_of bytes.now) }
-    ensures refusal { IfErr result (λ fault. (fault ≡ Fault.F20) ⊎ ((fault ≡ Fault.F1) × (longest < length bytes.now))) }
+    ensures refusal { IfErr result (λ fault. (fault ≡ Fault.F20)
+        ⊎ ((fault ≡ Fault.F1) × (longest < length bytes.now))) }
 {
     let rows = sheet_rows(alloc, bytes)?;
     let rows = read_rows(alloc, rows)?;

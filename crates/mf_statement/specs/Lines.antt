@@ -26,6 +26,7 @@ instalments_from n (row ∷ rows) = instalment_line n row ∷ instalments_from (
 abbrev pub instalments_of : Loan → List InstalmentLine
 instalments_of a = instalments_from 1 (state_of_loan a).rows
 
+-- what of a part is waived or written off
 abbrev pub cleared_by : How → ℕ → ℕ
 cleared_by Paid amount = 0
 cleared_by Waived amount = amount

@@ -8,6 +8,7 @@ use Rattle.mf_statement.specs.declared.entries.EntryParts.{EntryParts}
 use Rattle.mf_statement.specs.declared.lines.EntryLine.{EntryLine}
 use Rattle.mf_statement.specs.Lines.{cleared_by_part, cleared_in, amount_told}
 
+-- an entry that settled nothing
 abbrev pub no_parts : EntryParts
 no_parts = record { cleared = 0; shares = [] }
 

@@ -4,7 +4,8 @@ use Rattle.mf_base.specs.Calendar.{day_of}
 use Rattle.mf_base.specs.declared.day.Freq.TheVariants.{Months}
 use Rattle.mf_catalog.specs.declared.terms.Method.TheVariants.{EqualPrincipal}
 use Rattle.mf_catalog.specs.declared.terms.StrategyName.{StrategyName}
-use Rattle.mf_catalog.specs.declared.terms.StrategyName.TheVariants.{MifosStandard, PrincipalFirst, InterestFirst, DueFirst}
+use Rattle.mf_catalog.specs.declared.terms.StrategyName.TheVariants.{MifosStandard, PrincipalFirst, InterestFirst}
+use Rattle.mf_catalog.specs.declared.terms.StrategyName.TheVariants.{DueFirst}
 use Rattle.mf_alloc.specs.declared.row.Portion.{Portion}
 use Rattle.mf_alloc.specs.declared.row.Portion.TheVariants.{Penalty as PenaltyPart, Fee as FeePart, Interest, Principal}
 use Rattle.mf_alloc.specs.declared.row.Share.{Share}
@@ -20,15 +21,19 @@ use Rattle.mf_statement.specs.Lines.{instalments_of, entries_of}
 abbrev pub january : ℕ
 january = 8796
 
+-- 29 February 2024
 abbrev pub february : ℕ
 february = 8825
 
+-- 31 March 2024
 abbrev pub march : ℕ
 march = 8856
 
+-- 30 April 2024
 abbrev pub april : ℕ
 april = 8886
 
+-- these numbers are these days
 abbrev pub AreDays : Type 0
 AreDays =
     (day_of (record { year = 2024; month = 1; day = 31 }) ≡ january)
@@ -60,6 +65,7 @@ loan_by strategy entries = record {
 abbrev pub loan : List Entry → Loan
 loan entries = loan_by MifosStandard entries
 
+-- an entry with its columns
 abbrev pub entry : ℕ → Kind → ℕ → ℕ → ℕ → Portion → Bool → Entry
 entry seq kind day amount instalment portion reversed = record {
   seq = seq;
@@ -73,14 +79,20 @@ entry seq kind day amount instalment portion reversed = record {
   reversed = reversed;
 }
 
+-- a repayment that stands
 abbrev pub repayment : ℕ → ℕ → ℕ → Entry
 repayment seq day amount = entry seq Repay day amount 0 Principal false
 
+-- the line of an entry
 abbrev pub line_told : Entry → ℕ → List Share → EntryLine
 line_told e amount shares = record { entry = e; amount = amount; shares = shares }
 
+-- a share of a cell
 abbrev pub share : ℕ → Portion → ℕ → Share
-share instalment portion amount = record { cell = record { instalment = instalment; portion = portion }; amount = amount }
+share instalment portion amount = record {
+  cell = record { instalment = instalment; portion = portion };
+  amount = amount;
+}
 
 -- an instalment with its penalties, fees, interest and principal
 abbrev pub instalment : ℕ → ℕ → ℕ → ℕ → ℕ → ℕ → ℕ → InstalmentLine
@@ -95,96 +107,118 @@ instalment number due penalties fees interest principal outstanding = record {
 abbrev pub first : ℕ → Entry
 first seq = repayment seq february 20000
 
+-- the second repayment, by its number
 abbrev pub second : ℕ → Entry
 second seq = repayment seq march 50000
 
+-- the first repayment's line
 abbrev pub first_told : ℕ → EntryLine
 first_told seq = line_told (first seq) 20000 (share 1 Interest 1000 ∷ share 1 Principal 19000 ∷ [])
 
+-- the second repayment's line
 abbrev pub second_told : ℕ → EntryLine
 second_told seq =
     line_told (second seq) 50000
-    (share 1 Principal 14333 ∷ share 2 Interest 667 ∷ share 2 Principal 33333 ∷ share 3 Interest 333 ∷ share 3 Principal 1334 ∷ [])
+    (share 1 Principal 14333 ∷ share 2 Interest 667 ∷ share 2 Principal 33333 ∷ share 3 Interest 333
+    ∷ share 3 Principal 1334 ∷ [])
 
+-- two repayments, as they are shown
 abbrev pub AreRepaymentsTold : Type 0
 AreRepaymentsTold =
     (entries_of (loan (first 1 ∷ [])) ≡ first_told 1 ∷ [])
     × (entries_of (loan (first 1 ∷ second 2 ∷ [])) ≡ first_told 1 ∷ second_told 2 ∷ [])
     × (entries_of (loan (second 1 ∷ first 2 ∷ [])) ≡ second_told 1 ∷ first_told 2 ∷ [])
 
+-- the instalments after them
 abbrev pub AreInstalmentsTold : Type 0
 AreInstalmentsTold =
-    (instalments_of (loan []) ≡ instalment 1 february 0 0 1000 33333 34333 ∷ instalment 2 march 0 0 667 33333 34000 ∷ instalment 3 april 0 0 333 33334 33667 ∷ [])
-    × (instalments_of (loan (first 1 ∷ second 2 ∷ [])) ≡ instalment 1 february 0 0 1000 33333 0 ∷ instalment 2 march 0 0 667 33333 0 ∷ instalment 3 april 0 0 333 33334 32000 ∷ [])
+    (instalments_of (loan []) ≡ instalment 1 february 0 0 1000 33333 34333 ∷ instalment 2 march 0 0 667 33333 34000
+    ∷ instalment 3 april 0 0 333 33334 33667 ∷ [])
+    × (instalments_of (loan (first 1 ∷ second 2 ∷ [])) ≡ instalment 1 february 0 0 1000 33333 0
+    ∷ instalment 2 march 0 0 667 33333 0 ∷ instalment 3 april 0 0 333 33334 32000 ∷ [])
 
 -- the same two, principal before interest
 abbrev pub IsPrincipalFirstTold : Type 0
 IsPrincipalFirstTold =
     entries_of (loan_by PrincipalFirst (first 1 ∷ second 2 ∷ []))
     ≡ line_told (first 1) 20000 (share 1 Principal 20000 ∷ [])
-    ∷ line_told (second 2) 50000 (share 1 Principal 13333 ∷ share 1 Interest 1000 ∷ share 2 Principal 33333 ∷ share 2 Interest 667 ∷ share 3 Principal 1667 ∷ [])
+    ∷ line_told (second 2) 50000 (share 1 Principal 13333 ∷ share 1 Interest 1000 ∷ share 2 Principal 33333
+    ∷ share 2 Interest 667 ∷ share 3 Principal 1667 ∷ [])
     ∷ []
 
 -- the first of them reversed
 abbrev pub first_reversed : Entry
 first_reversed = entry 1 Repay february 20000 0 Principal true
 
+-- the first of them reversed, as it is shown
 abbrev pub IsReversalTold : Type 0
 IsReversalTold =
     entries_of (loan (first_reversed ∷ second 2 ∷ []))
     ≡ line_told first_reversed 20000 []
-    ∷ line_told (second 2) 50000 (share 1 Interest 1000 ∷ share 1 Principal 33333 ∷ share 2 Interest 667 ∷ share 2 Principal 15000 ∷ [])
+    ∷ line_told (second 2) 50000 (share 1 Interest 1000 ∷ share 1 Principal 33333 ∷ share 2 Interest 667
+    ∷ share 2 Principal 15000 ∷ [])
     ∷ []
 
 -- a fee of 500 on instalment 2, then a repayment of all with an earlier day
 abbrev pub fee : Entry
 fee = entry 1 Fee march 500 2 FeePart false
 
+-- a repayment of more than all that is owed
 abbrev pub all : Entry
 all = repayment 2 february 102500
 
+-- a fee, as it is shown
 abbrev pub IsFeeTold : Type 0
 IsFeeTold =
     (entries_of (loan (fee ∷ all ∷ []))
     ≡ line_told fee 500 (share 2 FeePart 500 ∷ [])
-    ∷ line_told all 102500 (share 1 Interest 1000 ∷ share 1 Principal 33333 ∷ share 2 Interest 667 ∷ share 2 Principal 33333 ∷ share 3 Interest 333 ∷ share 3 Principal 33334 ∷ [])
+    ∷ line_told all 102500 (share 1 Interest 1000 ∷ share 1 Principal 33333 ∷ share 2 Interest 667
+    ∷ share 2 Principal 33333 ∷ share 3 Interest 333 ∷ share 3 Principal 33334 ∷ [])
     ∷ [])
-    × (instalments_of (loan (fee ∷ [])) ≡ instalment 1 february 0 0 1000 33333 34333 ∷ instalment 2 march 0 500 667 33333 34500 ∷ instalment 3 april 0 0 333 33334 33667 ∷ [])
+    × (instalments_of (loan (fee ∷ [])) ≡ instalment 1 february 0 0 1000 33333 34333 ∷ instalment 2 march 0 500 667
+    33333 34500 ∷ instalment 3 april 0 0 333 33334 33667 ∷ [])
 
 -- a penalty of 3433 on instalment 1, then a repayment
 abbrev pub penalty : Entry
 penalty = entry 1 Penalty march 3433 1 PenaltyPart false
 
+-- a repayment of less than an instalment
 abbrev pub little : Entry
 little = repayment 2 march 5000
 
+-- a penalty, as it is shown
 abbrev pub IsPenaltyTold : Type 0
 IsPenaltyTold =
     (entries_of (loan (penalty ∷ little ∷ []))
     ≡ line_told penalty 3433 []
     ∷ line_told little 5000 (share 1 PenaltyPart 3433 ∷ share 1 Interest 1000 ∷ share 1 Principal 567 ∷ [])
     ∷ [])
-    × (instalments_of (loan (penalty ∷ little ∷ [])) ≡ instalment 1 february 3433 0 1000 33333 32766 ∷ instalment 2 march 0 0 667 33333 34000 ∷ instalment 3 april 0 0 333 33334 33667 ∷ [])
+    × (instalments_of (loan (penalty ∷ little ∷ [])) ≡ instalment 1 february 3433 0 1000 33333 32766
+    ∷ instalment 2 march 0 0 667 33333 34000 ∷ instalment 3 april 0 0 333 33334 33667 ∷ [])
 
 -- the interest of instalment 2 waived; then it is paid with an earlier day, and the waiver clears nothing
 abbrev pub waiver : Entry
 waiver = entry 1 Waive march 0 2 Interest false
 
+-- a repayment on a day before
 abbrev pub earlier : Entry
 earlier = repayment 2 february 40000
 
+-- a waiver, as it is shown
 abbrev pub IsWaiverTold : Type 0
 IsWaiverTold =
     (entries_of (loan (waiver ∷ [])) ≡ line_told waiver 667 (share 2 Interest 667 ∷ []) ∷ [])
     × (entries_of (loan (waiver ∷ earlier ∷ []))
     ≡ line_told waiver 0 []
-    ∷ line_told earlier 40000 (share 1 Interest 1000 ∷ share 1 Principal 33333 ∷ share 2 Interest 667 ∷ share 2 Principal 5000 ∷ [])
+    ∷ line_told earlier 40000 (share 1 Interest 1000 ∷ share 1 Principal 33333 ∷ share 2 Interest 667
+    ∷ share 2 Principal 5000 ∷ [])
     ∷ [])
 
 -- what is left after the two repayments written off
 abbrev pub write_off : Entry
 write_off = entry 3 WriteOff march 0 0 Principal false
 
+-- a write-off, as it is shown
 abbrev pub IsWriteOffTold : Type 0
 IsWriteOffTold =
     entries_of (loan (first 1 ∷ second 2 ∷ write_off ∷ []))
@@ -194,21 +228,26 @@ IsWriteOffTold =
 abbrev pub overpayment : Entry
 overpayment = repayment 1 march 110000
 
+-- the line of a repayment of more than all that is owed
 abbrev pub overpayment_told : EntryLine
 overpayment_told =
     line_told overpayment 110000
-    (share 1 Interest 1000 ∷ share 1 Principal 33333 ∷ share 2 Interest 667 ∷ share 2 Principal 33333 ∷ share 3 Interest 333 ∷ share 3 Principal 33334 ∷ [])
+    (share 1 Interest 1000 ∷ share 1 Principal 33333 ∷ share 2 Interest 667 ∷ share 2 Principal 33333
+    ∷ share 3 Interest 333 ∷ share 3 Principal 33334 ∷ [])
 
+-- a refund, reversed or standing
 abbrev pub refund : Bool → Entry
 refund reversed = entry 2 Refund march 0 0 Principal reversed
 
+-- a refund, as it is shown
 abbrev pub IsRefundTold : Type 0
 IsRefundTold =
     (entries_of (loan (overpayment ∷ refund false ∷ [])) ≡ overpayment_told ∷ line_told (refund false) 8000 [] ∷ [])
     × (entries_of (loan (overpayment ∷ refund true ∷ [])) ≡ overpayment_told ∷ line_told (refund true) 0 [] ∷ [])
 
--- a penalty of 3433 and a fee of 500 on instalment 1, then the second repayment, interest before principal, penalties and
--- fees last: of 50000, 1000 + 33333 + 3433 + 500 = 38266 go to instalment 1, 667 and what is left, 11067, to instalment 2
+-- a penalty of 3433 and a fee of 500 on instalment 1, then the second repayment, interest before principal, penalties
+-- and fees last: of 50000, 1000 + 33333 + 3433 + 500 = 38266 go to instalment 1, 667 and what is left, 11067, to
+-- instalment 2
 abbrev pub fee_on : ℕ → Entry
 fee_on number = entry 2 Fee march 500 number FeePart false
 
@@ -218,20 +257,23 @@ IsInterestFirstTold =
     ≡ line_told penalty 3433 []
     ∷ line_told (fee_on 1) 500 []
     ∷ line_told (second 3) 50000
-    (share 1 Interest 1000 ∷ share 1 Principal 33333 ∷ share 1 PenaltyPart 3433 ∷ share 1 FeePart 500 ∷ share 2 Interest 667 ∷ share 2 Principal 11067 ∷ [])
+    (share 1 Interest 1000 ∷ share 1 Principal 33333 ∷ share 1 PenaltyPart 3433 ∷ share 1 FeePart 500
+    ∷ share 2 Interest 667 ∷ share 2 Principal 11067 ∷ [])
     ∷ []
 
--- due first: on March 31 instalments 1 and 2 are due, a day before instalment 1 alone. Of 50000, interest is 1000 + 667 on
--- that day, and 33333 + 15000 principal; a day before it is 1000 and 33333, then 667 and 15000
+-- due first: on March 31 instalments 1 and 2 are due, a day before instalment 1 alone. Of 50000, interest is 1000 + 667
+-- on that day, and 33333 + 15000 principal; a day before it is 1000 and 33333, then 667 and 15000
 abbrev pub day_before : Entry
 day_before = repayment 1 8855 50000
 
 abbrev pub AreDueFirstTold : Type 0
 AreDueFirstTold =
     (entries_of (loan_by DueFirst (second 1 ∷ []))
-    ≡ line_told (second 1) 50000 (share 1 Interest 1000 ∷ share 2 Interest 667 ∷ share 1 Principal 33333 ∷ share 2 Principal 15000 ∷ []) ∷ [])
+    ≡ line_told (second 1) 50000 (share 1 Interest 1000 ∷ share 2 Interest 667 ∷ share 1 Principal 33333
+    ∷ share 2 Principal 15000 ∷ []) ∷ [])
     × (entries_of (loan_by DueFirst (day_before ∷ []))
-    ≡ line_told day_before 50000 (share 1 Interest 1000 ∷ share 1 Principal 33333 ∷ share 2 Interest 667 ∷ share 2 Principal 15000 ∷ []) ∷ [])
+    ≡ line_told day_before 50000 (share 1 Interest 1000 ∷ share 1 Principal 33333 ∷ share 2 Interest 667
+    ∷ share 2 Principal 15000 ∷ []) ∷ [])
 
 -- with a penalty of 3433 on instalment 1 and a fee of 500 on instalment 2: of 80000, what is due takes
 -- 3433 + 500 + (1000 + 667) + (33333 + 33333) = 72266, and of the 7734 that are left instalment 3 gets 333 and 7401
@@ -244,7 +286,8 @@ IsDueFirstTold =
     ≡ line_told penalty 3433 []
     ∷ line_told (fee_on 2) 500 []
     ∷ line_told much 80000
-    (share 1 PenaltyPart 3433 ∷ share 2 FeePart 500 ∷ share 1 Interest 1000 ∷ share 2 Interest 667 ∷ share 1 Principal 33333 ∷ share 2 Principal 33333
+    (share 1 PenaltyPart 3433 ∷ share 2 FeePart 500 ∷ share 1 Interest 1000 ∷ share 2 Interest 667
+    ∷ share 1 Principal 33333 ∷ share 2 Principal 33333
     ∷ share 3 Interest 333
     ∷ share 3 Principal 7401
     ∷ [])

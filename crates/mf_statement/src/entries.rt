@@ -1,4 +1,7 @@
-ghost use Rattle.std.specs.Prelude.{◌≡◌, ◌+◌, ◌-◌, ◌<◌, ◌^◌, [], length, map, slice_set, slice_index_or, IfOk, OnOk, IsOkUnless};
+//! What is shown of a loan's entries: amounts, and the shares that they settled.
+
+ghost use Rattle.std.specs.Prelude.{◌≡◌, ◌+◌, ◌-◌, ◌<◌, ◌^◌, [], length, map, slice_set, slice_index_or, IfOk, OnOk};
+ghost use Rattle.std.specs.Prelude.{IsOkUnless};
 ghost use Rattle.std.specs.List.{zip};
 ghost use Rattle.mf_account.specs.Told.{settled_amount, IsNumberedTo, AreNumberedTo};
 ghost use Rattle.mf_statement.specs.Lines.{cleared_by_part as cleared_part, amount_told, entries_kept};
@@ -71,7 +74,8 @@ fn without_parts(alloc: Global, count: u32) -> Result<Vec<EntryParts>, Fault>
 fn add_part(all: &mut [EntryParts], part: &Settled) -> Result<(), Fault>
     requires number { IsNumberedTo (length all.old) part.now }
     requires small { (slice_index_or all.old (part.now.seq - 1) no_parts).cleared + part.now.amount < 2 ^ 64 }
-    ensures added { OnOk result (all.new ≡ slice_set all.old (part.now.seq - 1) (with_part (slice_index_or all.old (part.now.seq - 1) no_parts) part.now)) }
+    ensures added { OnOk result (all.new ≡ slice_set all.old (part.now.seq - 1)
+        (with_part (slice_index_or all.old (part.now.seq - 1) no_parts) part.now)) }
     ensures only { IsOkUnless result Fault.F20 }
 {
     let own = &mut all[(part.seq - 1) as usize];
@@ -112,7 +116,8 @@ fn lines_with(
     parts: Vec<EntryParts>,
     refunded: u64,
 ) -> Result<Vec<EntryLine>, Fault>
-    ensures lines { IfOk result (λ lines. lines.items ≡ map (λ both. line_with refunded both.0 both.1) (zip entries.items parts.items)) }
+    ensures lines { IfOk result (λ lines. lines.items ≡ map (λ both. line_with refunded both.0 both.1)
+        (zip entries.items parts.items)) }
     ensures only { IsOkUnless result Fault.F20 }
 {
     let lines = entries

@@ -1,3 +1,5 @@
+//! What is shown of a loan's instalments, with what is outstanding of each.
+
 ghost use Rattle.std.specs.Prelude.{◌≡◌, ◌≤◌, ◌<◌, ◌^◌, length, IfOk, IsOkUnless};
 ghost use Rattle.mf_alloc.specs.Sums.{row_outstanding};
 ghost use Rattle.mf_account.specs.Told.{IsRowSmall, AreRowsSmall};

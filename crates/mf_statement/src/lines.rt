@@ -1,3 +1,5 @@
+//! The lines of a statement.
+
 use crate::listing::Listing;
 use mf_account::Entry;
 use mf_alloc::Share;

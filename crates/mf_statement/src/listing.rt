@@ -1,3 +1,5 @@
+//! Things by number, as statements and replies list them.
+
 use mf_base::Fault;
 use std::marker::Model;
 

@@ -15,13 +15,21 @@ use Rattle.mf_store_commits.specs.Tabled.{IsTabled, IsUnfounded}
 use Rattle.mf_store_changes.specs.Becoming.{Begins}
 
 module _ {S : Type 0} (g : Ghosts S) (old new : Held S) (writes : List StoreWrite) (day : ℕ) where
-  pub founded_stands : Begins writes day → IsSound (newly_made day) → Turns (Serves schema_of Holds) (AllFit after Fits writes) (after_all after writes) (state g old).now (state g new).now → Serves schema_of Holds (state g old).now None → IsTabled g new (newly_made day)
-  founded_stands b sound turns none = record { sound = sound; serves = λ live. subst (λ lists. Serves schema_of Holds (state g new).now lists) b.is (turns None none b.fits) }
+  pub founded_stands : Begins writes day → IsSound (newly_made day) → Turns (Serves schema_of Holds)
+      (AllFit after Fits writes) (after_all after writes) (state g old).now (state g new).now
+      → Serves schema_of Holds (state g old).now None → IsTabled g new (newly_made day)
+  founded_stands b sound turns none = record {
+    sound = sound;
+    serves = λ live. subst (λ lists. Serves schema_of Holds (state g new).now lists) b.is (turns None none b.fits);
+  }
 
 -- the writes that failed may have been committed, all of them
 module _ {S : Type 0} (g : Ghosts S) (old new : Held S) (writes : List StoreWrite) (day : ℕ) where
-  pub unfounded : Begins writes day → (HasCleanDisk (state g new) → IsTrue (state g new).is_open → IsTrue (state g old).is_open) → (HasCleanDisk (state g new) → IsTrue (state g new).is_open → (state g new).now ≡ (state g old).now)
-      → Survives (state g old) (state g new) (MayHold (Serves schema_of Holds) Holds (AllFit after Fits writes) (after_all after writes) (state g old)) → IsUnfounded g day old new
+  pub unfounded : Begins writes day → (HasCleanDisk (state g new) → IsTrue (state g new).is_open
+      → IsTrue (state g old).is_open) → (HasCleanDisk (state g new) → IsTrue (state g new).is_open → (state g new).now
+      ≡ (state g old).now)
+      → Survives (state g old) (state g new) (MayHold (Serves schema_of Holds) Holds (AllFit after Fits writes)
+      (after_all after writes) (state g old)) → IsUnfounded g day old new
   unfounded b was_open same survives = record {
     premise = λ clean. omega (arith, survives.clean, clean);
     was_open = was_open;

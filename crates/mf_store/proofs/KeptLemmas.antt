@@ -1,5 +1,7 @@
 -- What a store stands for, with what it knows, after a query and after a commit.
-use Rattle.std.proofs.Common.{◌≡◌, ◌≢◌, ◌⊎◌, inl, inr, ◌-◌, ◌∷◌, ℕ, zero, suc, Bool, true, false, true≢false, cond, List, [], take, Option, None, Some, Result, Ok, Err, OnOk, OnErr, IsSome, IsTrue, IfErr, IsOk, refl, sym, ap, ap₂, ◌∙◌, subst, arith, nat_eq, ◌==◌}
+use Rattle.std.proofs.Common.{◌≡◌, ◌≢◌, ◌⊎◌, inl, inr, ◌-◌, ◌∷◌, ℕ, zero, suc, Bool, true, false, true≢false, cond}
+use Rattle.std.proofs.Common.{List, [], take, Option, None, Some, Result, Ok, Err, OnOk, OnErr, IsSome, IsTrue, IfErr}
+use Rattle.std.proofs.Common.{IsOk, refl, sym, ap, ap₂, ◌∙◌, subst, arith, nat_eq, ◌==◌}
 use Rattle.std.specs.Option.{option_map_or}
 use Rattle.std.specs.Map.{lookup, lookup_entry, remove_entry}
 use Rattle.std.proofs.lemmas.Bool.{false_from_ne_true}
@@ -50,40 +52,51 @@ module _ {K V : Type 0} (eq : K → K → Bool) (exact : (a b : K) → eq a b �
   other_kept x y [] ne = refl
   other_kept x y (e ∷ es) ne = go (eq x e.0) refl (other_kept x y es ne)
     where
-      go : (b : Bool) → eq x e.0 ≡ b → lookup (eq y) (remove_entry (eq x) es) ≡ lookup (eq y) es → lookup (eq y) (cond b es (e ∷ remove_entry (eq x) es)) ≡ lookup (eq y) (e ∷ es)
-      go true is rest = sym (ap (λ b. cond b (Some e.1) (lookup (eq y) es)) (false_from_ne_true (eq y e.0) (λ also. ne (exact x e.0 is ∙ sym (exact y e.0 also)))))
+      go : (b : Bool) → eq x e.0 ≡ b → lookup (eq y) (remove_entry (eq x) es) ≡ lookup (eq y) es
+          → lookup (eq y) (cond b es (e ∷ remove_entry (eq x) es)) ≡ lookup (eq y) (e ∷ es)
+      go true is rest = sym (ap (λ b. cond b (Some e.1) (lookup (eq y) es)) (false_from_ne_true (eq y e.0)
+          (λ also. ne (exact x e.0 is ∙ sym (exact y e.0 also)))))
       go false is rest = ap (λ o. cond (eq y e.0) (Some e.1) o) rest
 
-  taken_there : (n : ℕ) (y : K) (es : List (K × V)) (v : V) → lookup (eq y) (take n es) ≡ Some v → lookup (eq y) es ≡ Some v
+  taken_there : (n : ℕ) (y : K) (es : List (K × V)) (v : V) → lookup (eq y) (take n es) ≡ Some v → lookup (eq y) es
+      ≡ Some v
   taken_there zero y es v h = absurd (let k : None ≡ Some v = h in cc)
   taken_there (suc n) y [] v h = h
   taken_there (suc n) y (e ∷ es) v h = go (eq y e.0) h (λ k. taken_there n y es v k)
     where
-      go : (b : Bool) → cond b (Some e.1) (lookup (eq y) (take n es)) ≡ Some v → (lookup (eq y) (take n es) ≡ Some v → lookup (eq y) es ≡ Some v) → cond b (Some e.1) (lookup (eq y) es) ≡ Some v
+      go : (b : Bool) → cond b (Some e.1) (lookup (eq y) (take n es)) ≡ Some v → (lookup (eq y) (take n es) ≡ Some v
+          → lookup (eq y) es ≡ Some v) → cond b (Some e.1) (lookup (eq y) es) ≡ Some v
       go true h more = h
       go false h more = more h
 
   -- what is found of another key was found before
-  put_other : (c : LruCache K V) (x : K) (v : V) (y : K) (w : V) → x ≢ y → lookup (eq y) (put_entries eq c x v) ≡ Some w → lookup (eq y) c.entries ≡ Some w
+  put_other : (c : LruCache K V) (x : K) (v : V) (y : K) (w : V) → x ≢ y → lookup (eq y) (put_entries eq c x v) ≡ Some w
+      → lookup (eq y) c.entries ≡ Some w
   put_other c x v y w ne = go (lookup_entry (eq x) c.entries) refl
     where
       apart : eq y x ≡ false
       apart = false_from_ne_true (eq y x) (λ also. ne (sym (exact y x also)))
 
-      go : (o : Option (K × V)) → lookup_entry (eq x) c.entries ≡ o → lookup (eq y) (option_map_or (λ e. (e.0, v) ∷ remove_entry (eq x) c.entries) o ((x, v) ∷ take (c.cap - 1) c.entries)) ≡ Some w → lookup (eq y) c.entries ≡ Some w
+      go : (o : Option (K × V)) → lookup_entry (eq x) c.entries ≡ o
+          → lookup (eq y) (option_map_or (λ e. (e.0, v) ∷ remove_entry (eq x) c.entries) o ((x, v)
+          ∷ take (c.cap - 1) c.entries)) ≡ Some w → lookup (eq y) c.entries ≡ Some w
       go None e h = taken_there (c.cap - 1) y c.entries w (rw apart at h)
       go (Some f) e h =
           let key : eq x f.0 ≡ true = (Contains-lookup_entry (eq x) c.entries f e).1 in
-          let other : eq y f.0 ≡ false = false_from_ne_true (eq y f.0) (λ also. ne (exact x f.0 key ∙ sym (exact y f.0 also))) in
+          let other : eq y f.0 ≡ false =
+          false_from_ne_true (eq y f.0) (λ also. ne (exact x f.0 key ∙ sym (exact y f.0 also))) in
           sym (other_kept x y c.entries ne) ∙ (rw other at h)
 
 nat_exact : (a b : ℕ) → nat_eq a b ≡ true → a ≡ b
 nat_exact a b is = grind (arith, nat_tests)
 
 -- what is known of the offices' rows, once one office's were kept, or could not be
-pub counts_learnt : {E : Type 0} (old new : LruCache ℕ Counts) (x : ℕ) (v : Counts) (r : Result (Option Counts) E) (i j : Institution)
-    → OnOk r (new ≡ lru_cache (put_entries nat_eq old x v) old.cap) → OnErr r (new ≡ old) → (IsSome (lookup (nat_eq x) old.entries) → IsOk r)
-    → ((y : ℕ) (c : Counts) → lookup (nat_eq y) old.entries ≡ Some c → c ≡ counts_at y i) → ((y : ℕ) → counts_at y j ≡ cond (x == y) v (counts_at y i))
+pub counts_learnt : {E : Type 0} (old new : LruCache ℕ Counts) (x : ℕ) (v : Counts) (r : Result (Option Counts) E)
+    (i j : Institution)
+    → OnOk r (new ≡ lru_cache (put_entries nat_eq old x v) old.cap) → OnErr r (new ≡ old)
+    → (IsSome (lookup (nat_eq x) old.entries) → IsOk r)
+    → ((y : ℕ) (c : Counts) → lookup (nat_eq y) old.entries ≡ Some c → c ≡ counts_at y i)
+    → ((y : ℕ) → counts_at y j ≡ cond (x == y) v (counts_at y i))
     → (y : ℕ) (c : Counts) → lookup (nat_eq y) new.entries ≡ Some c → c ≡ counts_at y j
 counts_learnt old new x v (Ok o) i j ok err there known told y c h = go (x == y) refl (told y)
   where
@@ -93,10 +106,12 @@ counts_learnt old new x v (Ok o) i j ok err there known told y c h = go (x == y)
     go : (b : Bool) → (x == y) ≡ b → counts_at y j ≡ cond b v (counts_at y i) → c ≡ counts_at y j
     go true e t =
         let same : x ≡ y = grind (arith, nat_tests) in
-        let is : Some v ≡ Some c = sym (lookup-put_entries nat_eq old x v nat_eq_equiv) ∙ (λ k. lookup (nat_eq (same k)) (put_entries nat_eq old x v)) ∙ found in
+        let is : Some v ≡ Some c = sym (lookup-put_entries nat_eq old x v nat_eq_equiv)
+        ∙ (λ k. lookup (nat_eq (same k)) (put_entries nat_eq old x v)) ∙ found in
         let value : v ≡ c = cc in
         sym value ∙ sym t
-    go false e t = let ne : x ≢ y = grind (arith, nat_tests) in known y c (put_other nat_eq nat_exact old x v y c ne found) ∙ sym t
+    go false e t = let ne : x ≢ y =
+        grind (arith, nat_tests) in known y c (put_other nat_eq nat_exact old x v y c ne found) ∙ sym t
 counts_learnt old new x v (Err e) i j ok err there known told y c h = go (x == y) refl (told y)
   where
     found : lookup (nat_eq y) old.entries ≡ Some c
@@ -105,7 +120,8 @@ counts_learnt old new x v (Err e) i j ok err there known told y c h = go (x == y
     go : (b : Bool) → (x == y) ≡ b → counts_at y j ≡ cond b v (counts_at y i) → c ≡ counts_at y j
     go true e t =
         let same : x ≡ y = grind (arith, nat_tests) in
-        absurd (true≢false (sym (there (subst (λ o. IsSome o) (sym ((λ k. lookup (nat_eq (same k)) old.entries) ∙ found)) refl))))
+        absurd (true≢false
+        (sym (there (subst (λ o. IsSome o) (sym ((λ k. lookup (nat_eq (same k)) old.entries) ∙ found)) refl))))
     go false e t = known y c found ∙ sym t
 
 -- what was kept is what is found
@@ -113,7 +129,8 @@ pub some_is : {A : Type 0} {a b : A} → Some a ≡ Some b → b ≡ a
 some_is h = cc
 
 -- what is found once something was kept, or could not be
-pub put_found : {K V E : Type 0} (eq : K → K → Bool) (exact : (a b : K) → eq a b ≡ true → a ≡ b) (laws : IsEquivalence eq) (old new : LruCache K V) (x : K) (v : V) (r : Result (Option V) E)
+pub put_found : {K V E : Type 0} (eq : K → K → Bool) (exact : (a b : K) → eq a b ≡ true → a ≡ b)
+    (laws : IsEquivalence eq) (old new : LruCache K V) (x : K) (v : V) (r : Result (Option V) E)
     → OnOk r (new ≡ lru_cache (put_entries eq old x v) old.cap) → OnErr r (new ≡ old)
     → (y : K) (w : V) → lookup (eq y) new.entries ≡ Some w → ((x ≡ y) × (w ≡ v)) ⊎ (lookup (eq y) old.entries ≡ Some w)
 put_found {K} {V} eq exact laws old new x v (Ok o) ok err y w h = go (eq x y) refl
@@ -124,9 +141,15 @@ put_found {K} {V} eq exact laws old new x v (Ok o) ok err y w h = go (eq x y) re
     go : (b : Bool) → eq x y ≡ b → ((x ≡ y) × (w ≡ v)) ⊎ (lookup (eq y) old.entries ≡ Some w)
     go true e =
         let same : x ≡ y = exact x y e in
-        inl (same, some_is (sym (lookup-put_entries eq old x v laws) ∙ (λ k. lookup (eq (same k)) (put_entries eq old x v)) ∙ found))
-    go false e = let ne : x ≢ y = (λ same. true≢false (sym (laws.refl x) ∙ ap (eq x) same ∙ e)) in inr (put_other eq exact old x v y w ne found)
-put_found {K} {V} eq exact laws old new x v (Err e) ok err y w h = inr (sym (ap (λ (n : LruCache K V). lookup (eq y) n.entries) err) ∙ h)
+        inl (
+          same,
+          some_is (sym (lookup-put_entries eq old x v laws)
+              ∙ (λ k. lookup (eq (same k)) (put_entries eq old x v)) ∙ found),
+        )
+    go false e = let ne : x ≢ y =
+        (λ same. true≢false (sym (laws.refl x) ∙ ap (eq x) same ∙ e)) in inr (put_other eq exact old x v y w ne found)
+put_found {K} {V} eq exact laws old new x v (Err e) ok err y w h =
+    inr (sym (ap (λ (n : LruCache K V). lookup (eq y) n.entries) err) ∙ h)
 
 -- ---- the keys of callers
 
@@ -143,36 +166,47 @@ key_laws = record {
   congr = λ x y z is. ap (λ k. same_key k z) (key_exact x y is);
 }
 
-pub roles_learnt : {E : Type 0} (old new : LruCache (ℕ × ℕ) Role) (caller : Caller) (role : Role) (r : Result (Option Role) E) (i : Institution)
-    → OnOk r (new ≡ lru_cache (put_entries same_key old (caller_key caller) role) old.cap) → OnErr r (new ≡ old) → role_of caller i ≡ Some role
+pub roles_learnt : {E : Type 0} (old new : LruCache (ℕ × ℕ) Role) (caller : Caller) (role : Role)
+    (r : Result (Option Role) E) (i : Institution)
+    → OnOk r (new ≡ lru_cache (put_entries same_key old (caller_key caller) role) old.cap) → OnErr r (new ≡ old)
+    → role_of caller i ≡ Some role
     → ((c : Caller) (w : Role) → lookup (same_key (caller_key c)) old.entries ≡ Some w → role_of c i ≡ Some w)
     → (c : Caller) (w : Role) → lookup (same_key (caller_key c)) new.entries ≡ Some w → role_of c i ≡ Some w
-roles_learnt old new caller role r i ok err so known c w h = elim (put_found same_key key_exact key_laws old new (caller_key caller) role r ok err (caller_key c) w h) [
-  | inl same ↦ sym (λ k. role_of (record { office = (same.0 k).0; staff = (same.0 k).1 }) i) ∙ so ∙ ap Some (sym same.1)
-  | inr before ↦ known c w before
-]
+roles_learnt old new caller role r i ok err so known c w h =
+    elim (put_found same_key key_exact key_laws old new (caller_key caller) role r ok err (caller_key c) w h) [
+      | inl same ↦ sym (λ k. role_of (record { office = (same.0 k).0; staff = (same.0 k).1 }) i) ∙ so
+          ∙ ap Some (sym same.1)
+      | inr before ↦ known c w before
+    ]
 
-pub keys_learnt : {E : Type 0} (old new : LruCache ℕ (List ℕ)) (x : ℕ) (key : List ℕ) (r : Result (Option (List ℕ)) E) (i : Institution)
+pub keys_learnt : {E : Type 0} (old new : LruCache ℕ (List ℕ)) (x : ℕ) (key : List ℕ) (r : Result (Option (List ℕ)) E)
+    (i : Institution)
     → OnOk r (new ≡ lru_cache (put_entries nat_eq old x key) old.cap) → OnErr r (new ≡ old) → key_at x i ≡ Some key
     → ((y : ℕ) (w : List ℕ) → lookup (nat_eq y) old.entries ≡ Some w → key_at y i ≡ Some w)
     → (y : ℕ) (w : List ℕ) → lookup (nat_eq y) new.entries ≡ Some w → key_at y i ≡ Some w
-keys_learnt old new x key r i ok err so known y w h = elim (put_found nat_eq nat_exact nat_eq_equiv old new x key r ok err y w h) [
-  | inl same ↦ sym (ap (λ z. key_at z i) same.0) ∙ so ∙ ap Some (sym same.1)
-  | inr before ↦ known y w before
-]
+keys_learnt old new x key r i ok err so known y w h =
+    elim (put_found nat_eq nat_exact nat_eq_equiv old new x key r ok err y w h) [
+      | inl same ↦ sym (ap (λ z. key_at z i) same.0) ∙ so ∙ ap Some (sym same.1)
+      | inr before ↦ known y w before
+    ]
 
-pub products_learnt : {E : Type 0} (old new : LruCache ℕ Product) (x : ℕ) (product : Product) (r : Result (Option Product) E) (i : Institution)
-    → OnOk r (new ≡ lru_cache (put_entries nat_eq old x product) old.cap) → OnErr r (new ≡ old) → product_in i.catalogue x ≡ Some product
+pub products_learnt : {E : Type 0} (old new : LruCache ℕ Product) (x : ℕ) (product : Product)
+    (r : Result (Option Product) E) (i : Institution)
+    → OnOk r (new ≡ lru_cache (put_entries nat_eq old x product) old.cap) → OnErr r (new ≡ old)
+    → product_in i.catalogue x ≡ Some product
     → ((n : ℕ) (p : Product) → lookup (nat_eq n) old.entries ≡ Some p → product_in i.catalogue n ≡ Some p)
     → (n : ℕ) (p : Product) → lookup (nat_eq n) new.entries ≡ Some p → product_in i.catalogue n ≡ Some p
-products_learnt old new x product r i ok err so known n p h = elim (put_found nat_eq nat_exact nat_eq_equiv old new x product r ok err n p h) [
-  | inl same ↦ sym (ap (λ z. product_in i.catalogue z) same.0) ∙ so ∙ ap Some (sym same.1)
-  | inr before ↦ known n p before
-]
+products_learnt old new x product r i ok err so known n p h =
+    elim (put_found nat_eq nat_exact nat_eq_equiv old new x product r ok err n p h) [
+      | inl same ↦ sym (ap (λ z. product_in i.catalogue z) same.0) ∙ so ∙ ap Some (sym same.1)
+      | inr before ↦ known n p before
+    ]
 
 -- nothing is found once all is forgotten
-pub forgotten : {V : Type 0} (new : LruCache ℕ V) (cap n : ℕ) (v : V) (P : Type 0) → new ≡ lru_cache [] cap → lookup (nat_eq n) new.entries ≡ Some v → P
-forgotten {V} new cap n v P e h = absurd (let never : None ≡ Some v = sym (ap (λ (c : LruCache ℕ V). lookup (nat_eq n) c.entries) e) ∙ h in cc)
+pub forgotten : {V : Type 0} (new : LruCache ℕ V) (cap n : ℕ) (v : V) (P : Type 0) → new ≡ lru_cache [] cap
+    → lookup (nat_eq n) new.entries ≡ Some v → P
+forgotten {V} new cap n v P e h =
+    absurd (let never : None ≡ Some v = sym (ap (λ (c : LruCache ℕ V). lookup (nat_eq n) c.entries) e) ∙ h in cc)
 
 -- ---- the store's calls
 
@@ -192,43 +226,62 @@ any_err (Ok x) P p = tt
 any_err (Err e) P p = p
 
 module _ {S : Type 0} (g : Ghosts S) where
-  pub shuts_alike : (old new : Held S) → OnlyFaultsShut (state g old) (state g new) → (n : ℕ) → IsOpenUntil g n old → IsOpenUntil g n new
+  pub shuts_alike : (old new : Held S) → OnlyFaultsShut (state g old) (state g new) → (n : ℕ) → IsOpenUntil g n old
+      → IsOpenUntil g n new
   unfolding IsOpenUntil
   shuts_alike old new h n o = (o.0, h n o.0 o.1)
 
   -- the tables stay, and what is known
-  pub known_stays : (old new : Held S) (f : Facts) → StayTabled g old new → Stays g (record { connection = old; known = f }) (record { connection = new; known = f })
+  pub known_stays : (old new : Held S) (f : Facts) → StayTabled g old new
+      → Stays g (record { connection = old; known = f }) (record { connection = new; known = f })
   known_stays old new f t = record {
     premise = t.premise;
     shuts = shuts_alike old new t.shuts;
-    same = λ clean i s. let k = t.same clean i (tabled g (record { connection = old; known = f }) i s) in record { sound = k.sound; serves = k.serves; knows = s.knows };
+    same = λ clean i s. let k = t.same clean i (tabled g (record { connection = old; known = f }) i s) in
+        record { sound = k.sound; serves = k.serves; knows = s.knows };
     stop = t.stop;
   }
 
-  pub known_asks : {R : Type 0} (old new : Held S) (f : Facts) (r : Result R Fault) → StayTabled g old new → IfErr r (λ fault. fault ≡ F20) → (HasGoodDisk g new → OnOk r (IsTrue (state g new).is_open))
+  pub known_asks : {R : Type 0} (old new : Held S) (f : Facts) (r : Result R Fault) → StayTabled g old new
+      → IfErr r (λ fault. fault ≡ F20) → (HasGoodDisk g new → OnOk r (IsTrue (state g new).is_open))
       → AsksTables g (record { connection = old; known = f }) (record { connection = new; known = f }) r
-  known_asks old new f r t gives_up is_open = record { kept = known_stays old new f t; gives_up = gives_up; stays_open = is_open }
+  known_asks old new f r t gives_up is_open =
+      record { kept = known_stays old new f t; gives_up = gives_up; stays_open = is_open }
 
-  pub known_made : (old new : Held S) (f e : Facts) (i j : Institution) → StandsFor g (record { connection = old; known = f }) i → IsTabled g new j → AreTrueOf e j → StandsFor g (record { connection = new; known = e }) j
+  pub known_made : (old new : Held S) (f e : Facts) (i j : Institution) → StandsFor g (record {
+    connection = old;
+    known = f;
+  }) i → IsTabled g new j → AreTrueOf e j → StandsFor g (record { connection = new; known = e }) j
   known_made old new f e i j s t k = record { sound = t.sound; serves = t.serves; knows = k }
 
-  pub known_unmade : (old new : Held S) (f : Facts) → ((i : Institution) → IsTabled g old i → IsTabled g new i) → (i : Institution) → StandsFor g (record { connection = old; known = f }) i → StandsFor g (record { connection = new; known = f }) i
-  known_unmade old new f same i s = let t = same i (tabled g (record { connection = old; known = f }) i s) in record { sound = t.sound; serves = t.serves; knows = s.knows }
+  pub known_unmade : (old new : Held S) (f : Facts) → ((i : Institution) → IsTabled g old i → IsTabled g new i)
+      → (i : Institution) → StandsFor g (record { connection = old; known = f }) i
+      → StandsFor g (record { connection = new; known = f }) i
+  known_unmade old new f same i s = let t = same i (tabled g (record { connection = old; known = f }) i s) in
+      record { sound = t.sound; serves = t.serves; knows = s.knows }
 
   -- a commit over the tables, of which there is nothing new to know
-  pub known_commits : (commit : Commit) (old new : Held S) (f : Facts) (r : Result (Unit {0}) Fault) → ((i : Institution) → Tells Nothing i (after_commit commit i)) → Commits (IsTabled g) (HasGoodDisk g) (LeavesTables g) commit old new r
-      → Commits (StandsFor g) (IsClean g) (Leaves g) commit (record { connection = old; known = f }) (record { connection = new; known = f }) r
+  pub known_commits : (commit : Commit) (old new : Held S) (f : Facts) (r : Result (Unit {0}) Fault)
+      → ((i : Institution) → Tells Nothing i (after_commit commit i)) → Commits (IsTabled g) (HasGoodDisk g)
+      (LeavesTables g) commit old new r
+      → Commits (StandsFor g) (IsClean g) (Leaves g) commit (record { connection = old; known = f })
+      (record { connection = new; known = f }) r
   known_commits commit old new f r tells c = record {
     premise = c.premise;
-    made = λ clean i s admitted. on_ok_weaker r (λ t. known_made old new f f i (after_commit commit i) s t (known_still f i (after_commit commit i) (tells i) s.knows)) (c.made clean i (tabled g (record { connection = old; known = f }) i s) admitted);
+    made = λ clean i s admitted. on_ok_weaker r (λ t. known_made old new f f i (after_commit commit i) s t
+        (known_still f i (after_commit commit i) (tells i) s.knows))
+        (c.made clean i (tabled g (record { connection = old; known = f }) i s) admitted);
     kept = λ clean i s admitted. c.kept clean i (tabled g (record { connection = old; known = f }) i s) admitted;
-    same = λ clean i s. on_err_weaker r (λ t. known_made old new f f i i s t s.knows) (c.same clean i (tabled g (record { connection = old; known = f }) i s));
+    same = λ clean i s. on_err_weaker r (λ t. known_made old new f f i i s t s.knows)
+        (c.same clean i (tabled g (record { connection = old; known = f }) i s));
     gives_up = c.gives_up;
-    stop = λ clean i is s admitted l. c.stop clean i is (tabled g (record { connection = old; known = f }) i s) admitted l;
+    stop = λ clean i is s admitted l. c.stop clean i is (tabled g (record { connection = old; known = f }) i s) admitted
+        l;
   }
 
   -- nothing is known at first
-  pub first_known : (h : Held S) (f : Facts) (i : Institution) → f ≡ nothing_known → IsTabled g h i → StandsFor g (record { connection = h; known = f }) i
+  pub first_known : (h : Held S) (f : Facts) (i : Institution) → f ≡ nothing_known → IsTabled g h i
+      → StandsFor g (record { connection = h; known = f }) i
   first_known h f i is t = record {
     sound = t.sound;
     serves = t.serves;
@@ -243,7 +296,8 @@ module _ {S : Type 0} (g : Ghosts S) where
   }
 
   -- it stays, and takes in what was read
-  pub learnt_stays : (old mid new : KnownStore S) (IsSo : Institution → Type 0) → Stays g old mid → ((i : Institution) → StandsFor g mid i → IsSo i → StandsFor g new i) → new.connection ≡ mid.connection
+  pub learnt_stays : (old mid new : KnownStore S) (IsSo : Institution → Type 0) → Stays g old mid
+      → ((i : Institution) → StandsFor g mid i → IsSo i → StandsFor g new i) → new.connection ≡ mid.connection
       → (IsClean g mid → (i : Institution) → StandsFor g old i → IsSo i) → Stays g old new
   learnt_stays old mid new IsSo kept learns tables told = record {
     premise = λ clean. kept.premise (now clean);
@@ -256,12 +310,16 @@ module _ {S : Type 0} (g : Ghosts S) where
       now clean = subst (λ h. HasGoodDisk g h) tables clean
 
   -- so does a call that answers with it
-  pub learnt_asks : {R : Type 0} {x : R} (old mid new : KnownStore S) (IsSo : Institution → Type 0) → Stays g old mid → (IsClean g mid → IsOpen g old → IsOpen g mid) → ((i : Institution) → StandsFor g mid i → IsSo i → StandsFor g new i)
-      → new.connection ≡ mid.connection → (IsClean g mid → (i : Institution) → StandsFor g old i → IsSo i) → MayAskTables g old new (Ok x)
+  pub learnt_asks : {R : Type 0} {x : R} (old mid new : KnownStore S) (IsSo : Institution → Type 0) → Stays g old mid
+      → (IsClean g mid → IsOpen g old → IsOpen g mid) → ((i : Institution) → StandsFor g mid i → IsSo i
+      → StandsFor g new i)
+      → new.connection ≡ mid.connection → (IsClean g mid → (i : Institution) → StandsFor g old i → IsSo i)
+      → MayAskTables g old new (Ok x)
   learnt_asks old mid new IsSo kept is_open learns tables told = record {
     kept = learnt_stays old mid new IsSo kept learns tables told;
     gives_up = tt;
-    stays_open = λ clean up. subst (λ h. IsTrue (state g h).is_open) (sym tables) (is_open (subst (λ h. HasGoodDisk g h) tables clean) up);
+    stays_open = λ clean up. subst (λ h. IsTrue (state g h).is_open) (sym tables)
+        (is_open (subst (λ h. HasGoodDisk g h) tables clean) up);
   }
 
   pub clean_before : (mid new : KnownStore S) → new.connection ≡ mid.connection → IsClean g new → IsClean g mid
@@ -270,11 +328,25 @@ module _ {S : Type 0} (g : Ghosts S) where
 -- ---- what is read is so
 
 pub tells_counts : (x : ℕ) (c : Counts) (i : Institution) → c ≡ counts_at x i → Tells (OfficeCounts x c) i i
-tells_counts x c i is = record { counts = λ y. go y (x == y) refl; catalogue = refl; day = refl; roles = λ c r h. h; keys = λ x k h. h; products = λ t n p h. h }
+tells_counts x c i is = record {
+  counts = λ y. go y (x == y) refl;
+  catalogue = refl;
+  day = refl;
+  roles = λ c r h. h;
+  keys = λ x k h. h;
+  products = λ t n p h. h;
+}
   where
     go : (y : ℕ) (b : Bool) → (x == y) ≡ b → counts_at y i ≡ cond b c (counts_at y i)
     go y true e = let same : x ≡ y = grind (arith, nat_tests) in sym (is ∙ ap (λ z. counts_at z i) same)
     go y false e = refl
 
 pub tells_day : (d : ℕ) (i : Institution) → d ≡ i.catalogue.day → Tells (BusinessDay d) i i
-tells_day d i is = record { counts = λ y. refl; catalogue = refl; day = sym is; roles = λ c r h. h; keys = λ x k h. h; products = λ t n p h. h }
+tells_day d i is = record {
+  counts = λ y. refl;
+  catalogue = refl;
+  day = sym is;
+  roles = λ c r h. h;
+  keys = λ x k h. h;
+  products = λ t n p h. h;
+}

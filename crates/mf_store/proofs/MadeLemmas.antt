@@ -16,13 +16,17 @@ use Rattle.mf_store_changes.specs.Becoming.{Becomes}
 
 module _ {S : Type 0} (g : Ghosts S) (commit : Commit) where
   -- the call made its writes after look-ups
-  pub made_by : (old mid new : KnownStore S) (writes : List StoreWrite) (news : News) (r : Result (Unit {0}) Fault) → Stays g old mid
-      → (IsClean g mid → (i : Institution) → StandsFor g old i → IsAdmitted commit i → Becomes writes i (after_commit commit i) × Tells news i (after_commit commit i))
+  pub made_by : (old mid new : KnownStore S) (writes : List StoreWrite) (news : News) (r : Result (Unit {0}) Fault)
+      → Stays g old mid
+      → (IsClean g mid → (i : Institution) → StandsFor g old i → IsAdmitted commit i
+      → Becomes writes i (after_commit commit i) × Tells news i (after_commit commit i))
       → (IsClean g new → IsClean g mid) → IfErr r (λ fault. fault ≡ F20)
-      → (IsClean g new → OnOk r ((i j : Institution) → StandsFor g mid i → Becomes writes i j → Tells news i j → StandsFor g new j))
+      → (IsClean g new → OnOk r ((i j : Institution) → StandsFor g mid i → Becomes writes i j → Tells news i j
+      → StandsFor g new j))
       → (IsClean g new → OnOk r ((i j : Institution) → StandsFor g mid i → Becomes writes i j → Leaves g new (j ∷ [])))
       → (IsClean g new → OnErr r ((i : Institution) → StandsFor g mid i → StandsFor g new i))
-      → (IsClean g new → (i j : Institution) (is : List Institution) → StandsFor g mid i → Becomes writes i j → Leaves g mid is → Leaves g new (j ∷ is))
+      → (IsClean g new → (i j : Institution) (is : List Institution) → StandsFor g mid i → Becomes writes i j
+      → Leaves g mid is → Leaves g new (j ∷ is))
       → FaultsAloneShut g mid new → (IsClean g new → OnOk r (IsOpen g new))
       → MakesCommit g commit old new r
   made_by old mid new writes news r kept becomes premise gives_up made left same stop shuts is_open = record {
@@ -34,9 +38,12 @@ module _ {S : Type 0} (g : Ghosts S) (commit : Commit) where
       made_commits : Commits (StandsFor g) (IsClean g) (Leaves g) commit old new r
       made_commits = record {
         premise = λ clean. kept.premise (premise clean);
-        made = λ clean i s admitted. let now = premise clean in on_ok_weaker r (λ m. let b = becomes now i s admitted in m i (after_commit commit i) (kept.same now i s) b.0 b.1) (made clean);
-        kept = λ clean i s admitted. let now = premise clean in on_ok_weaker r (λ m. m i (after_commit commit i) (kept.same now i s) (becomes now i s admitted).0) (left clean);
+        made = λ clean i s admitted. let now = premise clean in on_ok_weaker r (λ m. let b = becomes now i s admitted in
+            m i (after_commit commit i) (kept.same now i s) b.0 b.1) (made clean);
+        kept = λ clean i s admitted. let now = premise clean in on_ok_weaker r (λ m. m i (after_commit commit i)
+            (kept.same now i s) (becomes now i s admitted).0) (left clean);
         same = λ clean i s. on_err_weaker r (λ m. m i (kept.same (premise clean) i s)) (same clean);
         gives_up = gives_up;
-        stop = λ clean i is s admitted l. let now = premise clean in stop clean i (after_commit commit i) is (kept.same now i s) (becomes now i s admitted).0 (kept.stop now is l);
+        stop = λ clean i is s admitted l. let now = premise clean in stop clean i (after_commit commit i) is
+            (kept.same now i s) (becomes now i s admitted).0 (kept.stop now is l);
       }

@@ -1,5 +1,7 @@
 -- What each commit tells of what may be known.
-use Rattle.std.proofs.Common.{◌≡◌, ◌≢◌, ◌⊎◌, inl, inr, ◌+◌, ◌-◌, ℕ, map, find, slice_get, Bool, true, false, cond, List, [], ◌∷◌, ◌++◌, length, length-append, Option, None, Some, refl, sym, ap, ◌∙◌, arith, ◌==◌, true≢false}
+use Rattle.std.proofs.Common.{◌≡◌, ◌≢◌, ◌⊎◌, inl, inr, ◌+◌, ◌-◌, ℕ, map, find, slice_get, Bool, true, false, cond, List}
+use Rattle.std.proofs.Common.{[], ◌∷◌, ◌++◌, length, length-append, Option, None, Some, refl, sym, ap, ◌∙◌, arith, ◌==◌}
+use Rattle.std.proofs.Common.{true≢false}
 use Rattle.std.specs.Option.{is_some, option_map}
 use Rattle.std.proofs.lemmas.Bool.Decides.{nat_tests}
 use Rattle.mf_office.specs.declared.staff.Role.{Role}
@@ -12,8 +14,11 @@ use Rattle.mf_model.specs.declared.loan.Loan.{Loan}
 use Rattle.mf_model.specs.declared.loan.Stage.{Stage}
 use Rattle.mf_model.specs.declared.store.Counts.{Counts}
 use Rattle.mf_model.specs.declared.store.CatalogueCounts.{CatalogueCounts}
-use Rattle.mf_model.specs.declared.commit.Commit.TheVariants.{AddOffice, AddStaff, AddClient, SetDay, AddCharge, AddProduct, RetireProduct, AddLoan, SetStage, AddEntry, ReverseEntry}
-use Rattle.mf_model.specs.Institution.{Institution, Charge, Offer, Office, Rows, Staff, item_numbered, product_of, office_at, with_rows, with_office, new_office, after, Rows_become}
+use Rattle.mf_model.specs.declared.commit.Commit.TheVariants.{AddOffice, AddStaff, AddClient, SetDay, AddCharge}
+use Rattle.mf_model.specs.declared.commit.Commit.TheVariants.{AddProduct, RetireProduct, AddLoan, SetStage, AddEntry}
+use Rattle.mf_model.specs.declared.commit.Commit.TheVariants.{ReverseEntry}
+use Rattle.mf_model.specs.Institution.{Institution, Charge, Offer, Office, Rows, Staff, item_numbered, product_of}
+use Rattle.mf_model.specs.Institution.{office_at, with_rows, with_office, new_office, after, Rows_become}
 use Rattle.mf_model.specs.Desk.{staff_added, client_added, loan_added, loan_staged, loan_entered}
 use Rattle.mf_account.specs.Change.{Account as Kept}
 use Rattle.mf_model.specs.Loans.{with_stage, with_entries}
@@ -39,7 +44,8 @@ one_more : {A : Type 0} (xs : List A) (x : A) → length xs + 1 ≡ length (xs +
 one_more xs x = grind (arith, length-append xs (x ∷ []))
 
 -- the rows of an office after one office's became others
-rows_after : (x : ℕ) (new : Rows) (i : Institution) (y : ℕ) → (rows_at y (after (Rows_become x new) i) ≡ rows_at y i) ⊎ ((x ≡ y) × (rows_at y (after (Rows_become x new) i) ≡ new))
+rows_after : (x : ℕ) (new : Rows) (i : Institution) (y : ℕ) → (rows_at y (after (Rows_become x new) i) ≡ rows_at y i)
+    ⊎ ((x ≡ y) × (rows_at y (after (Rows_become x new) i) ≡ new))
 rows_after x new i y = go (x == y) refl
   where
     at : Institution
@@ -48,7 +54,8 @@ rows_after x new i y = go (x == y) refl
     own : (b : Bool) → is_there i.offices x ≡ b → (rows_at x at ≡ rows_at x i) ⊎ (rows_at x at ≡ new)
     own true there = inr (own_rows x new i.offices there)
     own false there =
-        inl (ap rows_of (none_there (office_at x (with_rows x new i.offices)) (is_there_with_rows x new i.offices x ∙ there)) ∙ sym (ap rows_of (none_there (office_at x i.offices) there)))
+        inl (ap rows_of (none_there (office_at x (with_rows x new i.offices)) (is_there_with_rows x new i.offices x
+        ∙ there)) ∙ sym (ap rows_of (none_there (office_at x i.offices) there)))
 
     go : (b : Bool) → (x == y) ≡ b → (rows_at y at ≡ rows_at y i) ⊎ ((x ≡ y) × (rows_at y at ≡ new))
     go true h =
@@ -74,20 +81,29 @@ role_numbered : (c : Caller) (i : Institution) → role_of c i ≡ role_in (rows
 unfolding role_in
 role_numbered c i = go (office_at c.office i.offices)
   where
-    go : (o : Option Office) → option_map (λ (s : Staff). s.role) (elim o [ None ↦ None | Some f ↦ item_numbered f.rows.staff c.staff ]) ≡ option_map (λ (s : Staff). s.role) (item_numbered (rows_of o).staff c.staff)
+    go : (o : Option Office) → option_map (λ (s : Staff). s.role)
+        (elim o [ None ↦ None | Some f ↦ item_numbered f.rows.staff c.staff ]) ≡ option_map (λ (s : Staff). s.role)
+        (item_numbered (rows_of o).staff c.staff)
     go None = sym (ap (option_map (λ (s : Staff). s.role)) (none_numbered c.staff))
     go (Some f) = refl
 
-roles_kept : (x : ℕ) (new : Rows) (i : Institution) → ((n : ℕ) (s : Staff) → item_numbered (rows_at x i).staff n ≡ Some s → item_numbered new.staff n ≡ Some s) → (c : Caller) (r : Role) → role_of c i ≡ Some r → role_of c (after (Rows_become x new) i) ≡ Some r
+roles_kept : (x : ℕ) (new : Rows) (i : Institution) → ((n : ℕ) (s : Staff) → item_numbered (rows_at x i).staff n
+    ≡ Some s → item_numbered new.staff n ≡ Some s) → (c : Caller) (r : Role) → role_of c i ≡ Some r
+    → role_of c (after (Rows_become x new) i) ≡ Some r
 unfolding role_in
 roles_kept x new i keeps c r h = elim (rows_after x new i c.office) [
-  | inl e ↦ role_numbered c (after (Rows_become x new) i) ∙ ap (λ rows. role_in rows c.staff) e ∙ sym (role_numbered c i) ∙ h
-  | inr e ↦ role_numbered c (after (Rows_become x new) i) ∙ ap (λ rows. role_in rows c.staff) e.1 ∙ found (item_numbered (rows_at x i).staff c.staff) refl (ap (λ z. role_in (rows_at z i) c.staff) e.0 ∙ sym (role_numbered c i) ∙ h)
+  | inl e ↦ role_numbered c (after (Rows_become x new) i) ∙ ap (λ rows. role_in rows c.staff) e
+      ∙ sym (role_numbered c i) ∙ h
+  | inr e ↦ role_numbered c (after (Rows_become x new) i) ∙ ap (λ rows. role_in rows c.staff) e.1
+      ∙ found (item_numbered (rows_at x i).staff c.staff) refl (ap (λ z. role_in (rows_at z i) c.staff) e.0
+      ∙ sym (role_numbered c i) ∙ h)
 ]
   where
-    found : (o : Option Staff) → item_numbered (rows_at x i).staff c.staff ≡ o → role_in (rows_at x i) c.staff ≡ Some r → role_in new c.staff ≡ Some r
+    found : (o : Option Staff) → item_numbered (rows_at x i).staff c.staff ≡ o → role_in (rows_at x i) c.staff ≡ Some r
+        → role_in new c.staff ≡ Some r
     found None e k = absurd (let never : None ≡ Some r = sym (ap (option_map (λ (s : Staff). s.role)) e) ∙ k in cc)
-    found (Some s) e k = ap (option_map (λ (s : Staff). s.role)) (keeps c.staff s e) ∙ sym (ap (option_map (λ (s : Staff). s.role)) e) ∙ k
+    found (Some s) e k = ap (option_map (λ (s : Staff). s.role)) (keeps c.staff s e)
+        ∙ sym (ap (option_map (λ (s : Staff). s.role)) e) ∙ k
 
 -- an office's key, by the rows of the offices
 key_in : ℕ → List OfficeRow → Option (List ℕ)
@@ -95,29 +111,54 @@ key_in x rows = option_map (λ (r : OfficeRow). r.hkey) (find (is_office x) rows
 
 key_by_rows : (x : ℕ) (i : Institution) → key_at x i ≡ key_in x (map (office_under (parent_of i.offices)) i.offices)
 unfolding key_in
-key_by_rows x i = go (office_at x i.offices) ∙ sym (ap (option_map (λ (r : OfficeRow). r.hkey)) (office_by_number x (parent_of i.offices) i.offices))
+key_by_rows x i = go (office_at x i.offices) ∙ sym (ap (option_map (λ (r : OfficeRow). r.hkey))
+    (office_by_number x (parent_of i.offices) i.offices))
   where
-    go : (o : Option Office) → option_map (λ (f : Office). key_of (parent_of i.offices) f.number) o ≡ option_map (λ (r : OfficeRow). r.hkey) (option_map (office_under (parent_of i.offices)) o)
+    go : (o : Option Office) → option_map (λ (f : Office). key_of (parent_of i.offices) f.number) o
+        ≡ option_map (λ (r : OfficeRow). r.hkey) (option_map (office_under (parent_of i.offices)) o)
     go None = refl
     go (Some f) = refl
 
-keys_kept : (x : ℕ) (new : Rows) (i : Institution) (y : ℕ) (k : List ℕ) → key_at y i ≡ Some k → key_at y (after (Rows_become x new) i) ≡ Some k
-keys_kept x new i y k h = key_by_rows y (after (Rows_become x new) i) ∙ sym (ap (key_in y) (offices-with_rows x new i.offices)) ∙ sym (key_by_rows y i) ∙ h
+keys_kept : (x : ℕ) (new : Rows) (i : Institution) (y : ℕ) (k : List ℕ) → key_at y i ≡ Some k
+    → key_at y (after (Rows_become x new) i) ≡ Some k
+keys_kept x new i y k h = key_by_rows y (after (Rows_become x new) i)
+    ∙ sym (ap (key_in y) (offices-with_rows x new i.offices)) ∙ sym (key_by_rows y i) ∙ h
 
 -- the rows of an office that is there become others
-rows_tell : (a x : ℕ) (new : Rows) (k : Counts) (i : Institution) → a ≡ x → is_there i.offices x ≡ true → k ≡ counts_in new → ((n : ℕ) (s : Staff) → item_numbered (rows_at x i).staff n ≡ Some s → item_numbered new.staff n ≡ Some s)
+rows_tell : (a x : ℕ) (new : Rows) (k : Counts) (i : Institution) → a ≡ x → is_there i.offices x ≡ true
+    → k ≡ counts_in new → ((n : ℕ) (s : Staff) → item_numbered (rows_at x i).staff n ≡ Some s
+    → item_numbered new.staff n ≡ Some s)
     → Tells (OfficeCounts a k) i (after (Rows_become x new) i)
-rows_tell a x new k i e there is keeps = record { counts = λ y. go y (a == y) refl; catalogue = refl; day = refl; roles = roles_kept x new i keeps; keys = keys_kept x new i; products = λ t n p h. h }
+rows_tell a x new k i e there is keeps = record {
+  counts = λ y. go y (a == y) refl;
+  catalogue = refl;
+  day = refl;
+  roles = roles_kept x new i keeps;
+  keys = keys_kept x new i;
+  products = λ t n p h. h;
+}
   where
-    go : (y : ℕ) (b : Bool) → (a == y) ≡ b → counts_in (rows_of (office_at y (with_rows x new i.offices))) ≡ cond b k (counts_at y i)
+    go : (y : ℕ) (b : Bool) → (a == y) ≡ b → counts_in (rows_of (office_at y (with_rows x new i.offices)))
+        ≡ cond b k (counts_at y i)
     go y true h =
         let same : x ≡ y = grind (arith, nat_tests) in
-        ap (λ z. counts_in (rows_of (office_at z (with_rows x new i.offices)))) (sym same) ∙ ap counts_in (own_rows x new i.offices there) ∙ sym is
-    go y false h = let ne : y ≢ x = grind (arith, nat_tests) in ap (λ o. counts_in (rows_of o)) (others_stay x y new i.offices ne)
+        ap (λ z. counts_in (rows_of (office_at z (with_rows x new i.offices)))) (sym same)
+        ∙ ap counts_in (own_rows x new i.offices there) ∙ sym is
+    go y false h = let ne : y ≢ x =
+        grind (arith, nat_tests) in ap (λ o. counts_in (rows_of o)) (others_stay x y new i.offices ne)
 
 -- the rows of an office become others, as many of each kind
-rows_tell_nothing : (x : ℕ) (new : Rows) (i : Institution) → counts_in new ≡ counts_at x i → ((n : ℕ) (s : Staff) → item_numbered (rows_at x i).staff n ≡ Some s → item_numbered new.staff n ≡ Some s) → Tells Nothing i (after (Rows_become x new) i)
-rows_tell_nothing x new i is keeps = record { counts = counts; catalogue = refl; day = refl; roles = roles_kept x new i keeps; keys = keys_kept x new i; products = λ t n p h. h }
+rows_tell_nothing : (x : ℕ) (new : Rows) (i : Institution) → counts_in new ≡ counts_at x i
+    → ((n : ℕ) (s : Staff) → item_numbered (rows_at x i).staff n ≡ Some s → item_numbered new.staff n ≡ Some s)
+    → Tells Nothing i (after (Rows_become x new) i)
+rows_tell_nothing x new i is keeps = record {
+  counts = counts;
+  catalogue = refl;
+  day = refl;
+  roles = roles_kept x new i keeps;
+  keys = keys_kept x new i;
+  products = λ t n p h. h;
+}
   where
     counts : (y : ℕ) → counts_at y (after (Rows_become x new) i) ≡ counts_at y i
     counts y = elim (rows_after x new i y) [
@@ -125,57 +166,95 @@ rows_tell_nothing x new i is keeps = record { counts = counts; catalogue = refl;
       | inr e ↦ ap counts_in e.1 ∙ is ∙ ap (λ z. counts_at z i) e.0
     ]
 
-pub staff_tells : (a x : ℕ) (name : List ℕ) (role : Role) (i : Institution) (k : Counts) → a ≡ x → is_there i.offices x ≡ true → k ≡ counts_at a i
-    → Tells (OfficeCounts a (record { staff = k.staff + 1; clients = k.clients; loans = k.loans })) i (after_commit (AddStaff x name role) i)
+pub staff_tells : (a x : ℕ) (name : List ℕ) (role : Role) (i : Institution) (k : Counts) → a ≡ x → is_there i.offices x
+    ≡ true → k ≡ counts_at a i
+    → Tells (OfficeCounts a (record { staff = k.staff + 1; clients = k.clients; loans = k.loans })) i
+    (after_commit (AddStaff x name role) i)
 staff_tells a x name role i k e there is =
     let was = is ∙ ap (λ y. counts_at y i) e in
     rows_tell a x (staff_added name role (rows_at x i)) _ i e there
     ((λ t. record { staff = (was t).staff + 1; clients = (was t).clients; loans = (was t).loans })
-    ∙ (λ t. record { staff = one_more (rows_at x i).staff (record { name = name; role = role }) t; clients = length (rows_at x i).clients; loans = length (rows_at x i).loans }))
+    ∙ (λ t. record {
+      staff = one_more (rows_at x i).staff (record { name = name; role = role }) t;
+      clients = length (rows_at x i).clients;
+      loans = length (rows_at x i).loans;
+    }))
     (λ n s h. numbered_push (rows_at x i).staff (record { name = name; role = role }) n s h)
 
-pub client_tells : (a x : ℕ) (name : List ℕ) (i : Institution) (k : Counts) → a ≡ x → is_there i.offices x ≡ true → k ≡ counts_at a i
-    → Tells (OfficeCounts a (record { staff = k.staff; clients = k.clients + 1; loans = k.loans })) i (after_commit (AddClient x name) i)
+pub client_tells : (a x : ℕ) (name : List ℕ) (i : Institution) (k : Counts) → a ≡ x → is_there i.offices x ≡ true
+    → k ≡ counts_at a i
+    → Tells (OfficeCounts a (record { staff = k.staff; clients = k.clients + 1; loans = k.loans })) i
+    (after_commit (AddClient x name) i)
 client_tells a x name i k e there is =
     let was = is ∙ ap (λ y. counts_at y i) e in
     rows_tell a x (client_added name (rows_at x i)) _ i e there
     ((λ t. record { staff = (was t).staff; clients = (was t).clients + 1; loans = (was t).loans })
-    ∙ (λ t. record { staff = length (rows_at x i).staff; clients = one_more (rows_at x i).clients name t; loans = length (rows_at x i).loans }))
+    ∙ (λ t. record {
+      staff = length (rows_at x i).staff;
+      clients = one_more (rows_at x i).clients name t;
+      loans = length (rows_at x i).loans;
+    }))
     (λ n s h. h)
 
-pub loan_tells : (a x : ℕ) (l : Loan) (i : Institution) (k : Counts) → a ≡ x → is_there i.offices x ≡ true → k ≡ counts_at a i
-    → Tells (OfficeCounts a (record { staff = k.staff; clients = k.clients; loans = k.loans + 1 })) i (after_commit (AddLoan x l) i)
+pub loan_tells : (a x : ℕ) (l : Loan) (i : Institution) (k : Counts) → a ≡ x → is_there i.offices x ≡ true
+    → k ≡ counts_at a i
+    → Tells (OfficeCounts a (record { staff = k.staff; clients = k.clients; loans = k.loans + 1 })) i
+    (after_commit (AddLoan x l) i)
 loan_tells a x l i k e there is =
     let was = is ∙ ap (λ y. counts_at y i) e in
     rows_tell a x (loan_added l (rows_at x i)) _ i e there
     ((λ t. record { staff = (was t).staff; clients = (was t).clients; loans = (was t).loans + 1 })
-    ∙ (λ t. record { staff = length (rows_at x i).staff; clients = length (rows_at x i).clients; loans = one_more (rows_at x i).loans (record { loan = l; entries = [] }) t }))
+    ∙ (λ t. record {
+      staff = length (rows_at x i).staff;
+      clients = length (rows_at x i).clients;
+      loans = one_more (rows_at x i).loans (record { loan = l; entries = [] }) t;
+    }))
     (λ n s h. h)
 
-pub stage_tells : (account : Account) (stage : Stage) (i : Institution) → Tells Nothing i (after_commit (SetStage account stage) i)
+pub stage_tells : (account : Account) (stage : Stage) (i : Institution)
+    → Tells Nothing i (after_commit (SetStage account stage) i)
 stage_tells account stage i =
     let rows = rows_at account.office i in
     rows_tell_nothing account.office (loan_staged account.number stage rows) i
-    (λ t. record { staff = length rows.staff; clients = length rows.clients; loans = length_with account.number (with_stage stage) rows.loans t })
+    (λ t. record {
+      staff = length rows.staff;
+      clients = length rows.clients;
+      loans = length_with account.number (with_stage stage) rows.loans t;
+    })
     (λ n s h. h)
 
-pub entry_tells : (loan : Account) (account : Kept) (i : Institution) → Tells Nothing i (after_commit (AddEntry loan account) i)
+pub entry_tells : (loan : Account) (account : Kept) (i : Institution)
+    → Tells Nothing i (after_commit (AddEntry loan account) i)
 entry_tells loan account i =
     let rows = rows_at loan.office i in
     rows_tell_nothing loan.office (loan_entered loan.number account.loan.entries rows) i
-    (λ t. record { staff = length rows.staff; clients = length rows.clients; loans = length_with loan.number (with_entries account.loan.entries) rows.loans t })
+    (λ t. record {
+      staff = length rows.staff;
+      clients = length rows.clients;
+      loans = length_with loan.number (with_entries account.loan.entries) rows.loans t;
+    })
     (λ n s h. h)
 
 -- a reversal changes the same rows
-pub reversal_tells : (loan : Account) (seq : ℕ) (account : Kept) (i : Institution) → Tells Nothing i (after_commit (ReverseEntry loan seq account) i)
+pub reversal_tells : (loan : Account) (seq : ℕ) (account : Kept) (i : Institution)
+    → Tells Nothing i (after_commit (ReverseEntry loan seq account) i)
 reversal_tells loan seq account i = entry_tells loan account i
 
-new_rows : (new : Office) (fs : List Office) → office_at new.number fs ≡ None → rows_of (office_at new.number (with_office new fs)) ≡ new.rows
+new_rows : (new : Office) (fs : List Office) → office_at new.number fs ≡ None
+    → rows_of (office_at new.number (with_office new fs)) ≡ new.rows
 new_rows new [] none = grind (arith, nat_tests)
 new_rows new (f ∷ fs) none = grind (arith, nat_tests, new_rows new fs)
 
-pub office_tells : (x parent : ℕ) (name : List ℕ) (i : Institution) → IsSound i → office_at x i.offices ≡ None → Tells Nothing i (after_commit (AddOffice x parent name) i)
-office_tells x parent name i sound none = record { counts = λ y. ap counts_in (rows y); catalogue = refl; day = refl; roles = λ c r h. role_numbered c at ∙ ap (λ rs. role_in rs c.staff) (rows c.office) ∙ sym (role_numbered c i) ∙ h; keys = keys; products = λ t n p h. h }
+pub office_tells : (x parent : ℕ) (name : List ℕ) (i : Institution) → IsSound i → office_at x i.offices ≡ None
+    → Tells Nothing i (after_commit (AddOffice x parent name) i)
+office_tells x parent name i sound none = record {
+  counts = λ y. ap counts_in (rows y);
+  catalogue = refl;
+  day = refl;
+  roles = λ c r h. role_numbered c at ∙ ap (λ rs. role_in rs c.staff) (rows c.office) ∙ sym (role_numbered c i) ∙ h;
+  keys = keys;
+  products = λ t n p h. h;
+}
   where
     new : Office
     new = new_office x parent name
@@ -189,7 +268,8 @@ office_tells x parent name i sound none = record { counts = λ y. ap counts_in (
         go : (b : Bool) → (x == y) ≡ b → rows_at y at ≡ rows_at y i
         go true h =
             let same : x ≡ y = grind (arith, nat_tests) in
-            ap (λ z. rows_of (office_at z (with_office new i.offices))) (sym same) ∙ new_rows new i.offices none ∙ sym (ap rows_of none) ∙ ap (λ z. rows_at z i) same
+            ap (λ z. rows_of (office_at z (with_office new i.offices))) (sym same) ∙ new_rows new i.offices none
+            ∙ sym (ap rows_of none) ∙ ap (λ z. rows_at z i) same
         go false h = let ne : y ≢ x = grind (arith, nat_tests) in ap rows_of (old_stay new y i.offices ne)
 
     keys : (y : ℕ) (k : List ℕ) → key_at y i ≡ Some k → key_at y at ≡ Some k
@@ -201,35 +281,50 @@ office_tells x parent name i sound none = record { counts = λ y. ap counts_in (
         qs : ℕ → Option ℕ
         qs = parent_of (with_office new i.offices)
 
-        go : (o : Option Office) → office_at y i.offices ≡ o → option_map (λ (f : Office). key_of ps f.number) o ≡ Some k → option_map (λ (f : Office). key_of qs f.number) (office_at y (with_office new i.offices)) ≡ Some k
+        go : (o : Option Office) → office_at y i.offices ≡ o → option_map (λ (f : Office). key_of ps f.number) o ≡ Some
+            k → option_map (λ (f : Office). key_of qs f.number) (office_at y (with_office new i.offices)) ≡ Some k
         go None e g = absurd (let never : None ≡ Some k = g in cc)
         go (Some f) e g =
             let number : f.number ≡ y = number_at y i.offices f e in
             let there : is_there i.offices y ≡ true = ap is_some e in
-            let ne : y ≢ x = λ same. true≢false (sym there ∙ ap (λ z. is_some (office_at z i.offices)) same ∙ ap is_some none) in
-            ap (option_map (λ (f : Office). key_of qs f.number)) (old_stay new y i.offices ne ∙ e) ∙ ap (λ z. Some (key_of qs z)) number ∙ ap Some (office_key_kept x parent name i sound none y there) ∙ ap (λ z. Some (key_of ps z)) (sym number) ∙ g
+            let ne : y ≢ x = λ same. true≢false (sym there ∙ ap (λ z. is_some (office_at z i.offices)) same
+            ∙ ap is_some none) in
+            ap (option_map (λ (f : Office). key_of qs f.number)) (old_stay new y i.offices ne ∙ e)
+            ∙ ap (λ z. Some (key_of qs z)) number ∙ ap Some (office_key_kept x parent name i sound none y there)
+            ∙ ap (λ z. Some (key_of ps z)) (sym number) ∙ g
 
-pub charge_tells : (c : Charge) (i : Institution) (k : CatalogueCounts) → k ≡ catalogue_counts i → Tells (Catalogue (record { charges = k.charges + 1; products = k.products })) i (after_commit (AddCharge c.name c.kind c.calc c.value) i)
+pub charge_tells : (c : Charge) (i : Institution) (k : CatalogueCounts) → k ≡ catalogue_counts i
+    → Tells (Catalogue (record { charges = k.charges + 1; products = k.products })) i
+    (after_commit (AddCharge c.name c.kind c.calc c.value) i)
 charge_tells c i k is = record {
   counts = λ y. refl;
-  catalogue = sym ((λ t. record { charges = (is t).charges + 1; products = (is t).products }) ∙ (λ t. record { charges = one_more i.catalogue.charges c t; products = length i.catalogue.products }));
+  catalogue = sym ((λ t. record { charges = (is t).charges + 1; products = (is t).products })
+      ∙ (λ t. record { charges = one_more i.catalogue.charges c t; products = length i.catalogue.products }));
   day = refl;
   roles = λ c r h. h;
   keys = λ x k h. h;
   products = λ t n p h. h;
 }
 
-product_stays : (products : List Offer) (new : Offer) (n : ℕ) (p : Product) → option_map (product_of n) (item_numbered products n) ≡ Some p → option_map (product_of n) (item_numbered (products ++ new ∷ []) n) ≡ Some p
+product_stays : (products : List Offer) (new : Offer) (n : ℕ) (p : Product) → option_map (product_of n)
+    (item_numbered products n) ≡ Some p → option_map (product_of n) (item_numbered (products ++ new ∷ []) n) ≡ Some p
 product_stays products new n p h = go (item_numbered products n) refl h
   where
-    go : (o : Option Offer) → item_numbered products n ≡ o → option_map (product_of n) o ≡ Some p → option_map (product_of n) (item_numbered (products ++ new ∷ []) n) ≡ Some p
+    go : (o : Option Offer) → item_numbered products n ≡ o → option_map (product_of n) o ≡ Some p
+        → option_map (product_of n) (item_numbered (products ++ new ∷ []) n) ≡ Some p
     go None e k = absurd (let never : None ≡ Some p = k in cc)
     go (Some x) e k = ap (option_map (product_of n)) (numbered_push products new n x e) ∙ k
 
-pub product_tells : (members : ProductMembers) (i : Institution) (k : CatalogueCounts) → k ≡ catalogue_counts i → Tells (Catalogue (record { charges = k.charges; products = k.products + 1 })) i (after_commit (AddProduct members) i)
+pub product_tells : (members : ProductMembers) (i : Institution) (k : CatalogueCounts) → k ≡ catalogue_counts i
+    → Tells (Catalogue (record { charges = k.charges; products = k.products + 1 })) i (after_commit (AddProduct members)
+    i)
 product_tells members i k is = record {
   counts = λ y. refl;
-  catalogue = sym ((λ t. record { charges = (is t).charges; products = (is t).products + 1 }) ∙ (λ t. record { charges = length i.catalogue.charges; products = one_more i.catalogue.products (record { members = members; retired = false }) t }));
+  catalogue = sym ((λ t. record { charges = (is t).charges; products = (is t).products + 1 })
+      ∙ (λ t. record {
+        charges = length i.catalogue.charges;
+        products = one_more i.catalogue.products (record { members = members; retired = false }) t;
+      }));
   day = refl;
   roles = λ c r h. h;
   keys = λ x k h. h;
@@ -239,7 +334,10 @@ product_tells members i k is = record {
 pub retired_tells : (n : ℕ) (i : Institution) → Tells Retirement i (after_commit (RetireProduct n) i)
 retired_tells n i = record {
   counts = λ y. refl;
-  catalogue = λ t. record { charges = length i.catalogue.charges; products = length_with n (λ (p : Offer). record p { retired = true }) i.catalogue.products t };
+  catalogue = λ t. record {
+    charges = length i.catalogue.charges;
+    products = length_with n (λ (p : Offer). record p { retired = true }) i.catalogue.products t;
+  };
   day = refl;
   roles = λ c r h. h;
   keys = λ x k h. h;
@@ -247,4 +345,11 @@ retired_tells n i = record {
 }
 
 pub day_tells : (day : ℕ) (i : Institution) → Tells (BusinessDay day) i (after_commit (SetDay day) i)
-day_tells day i = record { counts = λ y. refl; catalogue = refl; day = refl; roles = λ c r h. h; keys = λ x k h. h; products = λ t n p h. h }
+day_tells day i = record {
+  counts = λ y. refl;
+  catalogue = refl;
+  day = refl;
+  roles = λ c r h. h;
+  keys = λ x k h. h;
+  products = λ t n p h. h;
+}

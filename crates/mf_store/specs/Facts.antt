@@ -24,7 +24,8 @@ caller_key c = (c.office, c.staff)
 abbrev pub same_key : ℕ × ℕ → ℕ × ℕ → Bool
 same_key a b = nat_eq a.0 b.0 && nat_eq a.1 b.1
 
--- how many rows some of the offices have, by number; how many charges and products there are; the business day; the roles of some callers; the hierarchy texts of some offices; some products, by number
+-- how many rows some of the offices have, by number; how many charges and products there are; the business day; the
+-- roles of some callers; the hierarchy texts of some offices; some products, by number
 pub record Facts : Type 0 where
   pub counts : List (ℕ × Counts)
   pub catalogue : Option CatalogueCounts
@@ -37,19 +38,33 @@ pub record Facts : Type 0 where
 abbrev pub nothing_known : Facts
 nothing_known = record { counts = []; catalogue = None; day = None; roles = []; keys = []; products = [] }
 
+-- the facts, coded
 abbrev pub facts_code : Coded Facts
 facts_code =
-    code_by (List (ℕ × Counts) × (Option CatalogueCounts × (Option ℕ × (List ((ℕ × ℕ) × Role) × (List (ℕ × List ℕ) × List (ℕ × Product))))))
-    (coded× (coded_list (coded× coded_ℕ counts_row.the_row.coded)) (coded× (coded_option catalogue_row.the_row.coded) (coded× (coded_option coded_ℕ) (coded× (coded_list (coded× (coded× coded_ℕ coded_ℕ) role_row.the_row.coded)) (coded× (coded_list (coded× coded_ℕ (coded_list coded_ℕ))) (coded_list (coded× coded_ℕ product_row.the_row.coded)))))))
-    (λ f. (f.counts, (f.catalogue, (f.day, (f.roles, (f.keys, f.products)))))) (λ p. record { counts = p.0; catalogue = p.1.0; day = p.1.1.0; roles = p.1.1.1.0; keys = p.1.1.1.1.0; products = p.1.1.1.1.1 }) (λ _. refl)
+    code_by (List (ℕ × Counts)
+    × (Option CatalogueCounts × (Option ℕ × (List ((ℕ × ℕ) × Role) × (List (ℕ × List ℕ) × List (ℕ × Product))))))
+    (coded× (coded_list (coded× coded_ℕ counts_row.the_row.coded)) (coded× (coded_option catalogue_row.the_row.coded)
+    (coded× (coded_option coded_ℕ) (coded× (coded_list (coded× (coded× coded_ℕ coded_ℕ) role_row.the_row.coded))
+    (coded× (coded_list (coded× coded_ℕ (coded_list coded_ℕ)))
+    (coded_list (coded× coded_ℕ product_row.the_row.coded)))))))
+    (λ f. (f.counts, (f.catalogue, (f.day, (f.roles, (f.keys, f.products)))))) (λ p. record {
+      counts = p.0;
+      catalogue = p.1.0;
+      day = p.1.1.0;
+      roles = p.1.1.1.0;
+      keys = p.1.1.1.1.0;
+      products = p.1.1.1.1.1;
+    }) (λ _. refl)
 
 -- a connection, and what is known beside it
 pub record KnownStore (S : Type 0) : Type 0 where
   pub connection : Held S
   pub known : Facts
 
+-- a store with its facts, coded
 abbrev pub kept_code : {S : Type 0} → Coded S → Coded (KnownStore S)
-kept_code {S} store = code_by (Held S × Facts) (coded× (held_code store) facts_code) (λ k. (k.connection, k.known)) (λ p. record { connection = p.0; known = p.1 }) (λ _. refl)
+kept_code {S} store = code_by (Held S × Facts) (coded× (held_code store) facts_code) (λ k. (k.connection, k.known))
+    (λ p. record { connection = p.0; known = p.1 }) (λ _. refl)
 
 -- what is known is so in this institution
 pub record AreTrueOf (f : Facts) (i : Institution) : Type 0 where

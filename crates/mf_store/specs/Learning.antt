@@ -16,10 +16,12 @@ abbrev pub counts_told : News → ℕ → Counts → Counts
 counts_told (OfficeCounts office counts) x old = cond (office == x) counts old
 counts_told _ x old = old
 
+-- the counts of the catalogue after news
 abbrev pub catalogue_told : News → CatalogueCounts → CatalogueCounts
 catalogue_told (Catalogue counts) old = counts
 catalogue_told _ old = old
 
+-- the business day after news
 abbrev pub day_told : News → ℕ → ℕ
 day_told (BusinessDay day) old = day
 day_told _ old = old
@@ -29,11 +31,13 @@ abbrev pub products_stay : News → Bool
 products_stay Retirement = false
 products_stay _ = true
 
--- Of what may be known, the news alone tells i and j apart. A member of staff keeps their role, and an office its hierarchy text.
+-- Of what may be known, the news alone tells i and j apart. A member of staff keeps their role, and an office its
+-- hierarchy text.
 pub record Tells (news : News) (i j : Institution) : Type 0 where
   pub counts : (x : ℕ) → counts_at x j ≡ counts_told news x (counts_at x i)
   pub catalogue : catalogue_counts j ≡ catalogue_told news (catalogue_counts i)
   pub day : j.catalogue.day ≡ day_told news i.catalogue.day
   pub roles : (c : Caller) (r : Role) → role_of c i ≡ Some r → role_of c j ≡ Some r
   pub keys : (x : ℕ) (k : List ℕ) → key_at x i ≡ Some k → key_at x j ≡ Some k
-  pub products : products_stay news ≡ true → (n : ℕ) (p : Product) → product_in i.catalogue n ≡ Some p → product_in j.catalogue n ≡ Some p
+  pub products : products_stay news ≡ true → (n : ℕ) (p : Product) → product_in i.catalogue n ≡ Some p
+      → product_in j.catalogue n ≡ Some p

@@ -16,10 +16,12 @@ use Rattle.mf_store_records.specs.Writes.{schema_of, Holds}
 use Rattle.mf_store_commits.specs.Tabled.{HasGoodDisk, LeavesTables}
 
 module _ {S : Type 0} (g : Ghosts S) where
-  -- The tables hold the institution's rows and nothing else, and it is sound; and what is known beside them is so in it.
+  -- The tables hold the institution's rows and nothing else, and it is sound; and what is known beside them is so in
+  -- it.
   pub record StandsFor (k : KnownStore S) (i : Institution) : Type 0 where
     pub sound : IsSound i
-    pub serves : IsTrue (state g k.connection).is_open → Serves schema_of Holds (state g k.connection).now (Some (tables_of i))
+    pub serves : IsTrue (state g k.connection).is_open → Serves schema_of Holds (state g k.connection).now
+        (Some (tables_of i))
     pub knows : AreTrueOf k.known i
 
   -- so far the disk has returned what was written
@@ -34,7 +36,8 @@ module _ {S : Type 0} (g : Ghosts S) where
   abbrev pub IsOpen : KnownStore S → Type 0
   IsOpen k = IsTrue (state g k.connection).is_open
 
-  -- The disk has failed so often by now, or more often; and if no more often, it is open. The count of faults, of 64 bits, is not at its greatest.
+  -- The disk has failed so often by now, or more often; and if no more often, it is open. The count of faults, of 64
+  -- bits, is not at its greatest.
   unfoldable pub IsOpenUntil : ℕ → Held S → Type 0
   IsOpenUntil faults h = (faults < 2 ^ 64 - 1) × IsOpenUpTo faults (state g h)
 
@@ -61,7 +64,8 @@ module _ {S : Type 0} (g : Ghosts S) where
     pub gives_up : IfErr result (λ fault. fault ≡ F20)
     pub stays_open : IsClean new → IsOpen old → OnOk result (IsOpen new)
 
-  -- A commit that is made whole or, giving up, not at all: where it is made the store is open, and only a fault of the disk shuts it.
+  -- A commit that is made whole or, giving up, not at all: where it is made the store is open, and only a fault of the
+  -- disk shuts it.
   pub record MakesCommit (commit : Commit) (old new : KnownStore S) (result : Result (Unit {0}) Fault) : Type 0 where
     pub commits : Commits StandsFor IsClean Leaves commit old new result
     pub shuts : FaultsAloneShut old new

@@ -1,5 +1,5 @@
-//! The accounts of loans: each is resumed from the loan's row, its product's terms, its entries, and the instalments and
-//! shares that are kept of it. In a list of loans none is.
+//! The accounts of loans: each is resumed from the loan's row, its product's terms, its entries, and the instalments
+//! and shares that are kept of it. In a list of loans none is.
 
 ghost use Rattle.std.specs.Prelude.{◌≡◌, ◌≤◌, ◌-◌, ◌++◌, ℕ, List, [], length, map, option_map, Some, OnOk, IfOk, IfErr};
 ghost use Rattle.std.specs.List.{AllByRecursion};
@@ -35,7 +35,8 @@ impl<S: Alter> Store<S> {
     /// The entries of a loan, by number; none where it isn't there.
     pub(crate) fn entries_at(&mut self, alloc: Global, loan: Account) -> Result<Vec<Entry>, Fault>
         ensures asks { AsksTables S.Store self.old self.new result }
-        ensures value { IsClean S.Store self.new → (i : Institution) → StandsFor S.Store self.old i → IfOk result (λ list. list.items ≡ entries_of (ledger_at loan i)) }
+        ensures value { IsClean S.Store self.new → (i : Institution) → StandsFor S.Store self.old i
+            → IfOk result (λ list. list.items ≡ entries_of (ledger_at loan i)) }
     {
         let rows = self.list::<EntryRow>((loan.office.get(), loan.number.get()))?;
         entries_from(alloc, &rows)
@@ -44,7 +45,8 @@ impl<S: Alter> Store<S> {
     /// The charge that a product names, if it names one.
     fn named_charge(&mut self, number: Option<u32>) -> Result<Option<ChargeDef>, Fault>
         ensures asks { MayAskTables S.Store self.old self.new result }
-        ensures value { IsClean S.Store self.new → (i : Institution) → StandsFor S.Store self.old i → IfOk result (λ charge. charge ≡ charge_of (charge_in i.catalogue) number) }
+        ensures value { IsClean S.Store self.new → (i : Institution) → StandsFor S.Store self.old i
+            → IfOk result (λ charge. charge ≡ charge_of (charge_in i.catalogue) number) }
     {
         match number {
             None => Ok(None),
@@ -55,7 +57,8 @@ impl<S: Alter> Store<S> {
     /// The terms that a product gives its loans, or None where there is no such product.
     fn terms_of(&mut self, product: u32) -> Result<Option<Terms>, Fault>
         ensures asks { MayAskTables S.Store self.old self.new result }
-        ensures value { IsClean S.Store self.new → (i : Institution) → StandsFor S.Store self.old i → IfOk result (λ terms. terms ≡ terms_in i.catalogue product) }
+        ensures value { IsClean S.Store self.new → (i : Institution) → StandsFor S.Store self.old i
+            → IfOk result (λ terms. terms ≡ terms_in i.catalogue product) }
     {
         let Some(product) = self.product(product)? else {
             return Ok(None);
@@ -67,7 +70,8 @@ impl<S: Alter> Store<S> {
         Ok(Some(members.terms_with(disbursement, instalment, overdue)))
     }
 
-    /// The account of a loan that was disbursed on a day and has these entries. Where it can have none, the call gives up.
+    /// The account of a loan that was disbursed on a day and has these entries. Where it can have none, the call gives
+    /// up.
     fn account_with(
         &mut self,
         alloc: Global,
@@ -77,7 +81,8 @@ impl<S: Alter> Store<S> {
     ) -> Result<LoanAccount, Fault>
         ensures asks { MayAskTables S.Store self.old self.new result }
         ensures value { IsClean S.Store self.new → (i : Institution) → StandsFor S.Store self.old i
-            → IfOk result (λ account. option_map account_by_replay (running_from loan.now entries.items (Some day) (terms_in i.catalogue loan.now.product)) ≡ Some account) }
+            → IfOk result (λ account. option_map account_by_replay (running_from loan.now entries.items (Some day)
+            (terms_in i.catalogue loan.now.product)) ≡ Some account) }
     {
         let named = self.terms_of(loan.product)?;
         let terms = stored(named)?;
@@ -102,7 +107,8 @@ impl<S: Alter> Store<S> {
         day: Day,
     ) -> Result<LoanAccount, Fault>
         ensures asks { AsksTables S.Store self.old self.new result }
-        ensures value { IsClean S.Store self.new → (i : Institution) → StandsFor S.Store self.old i → loan_at account i ≡ Some loan.now
+        ensures value { IsClean S.Store self.new → (i : Institution) → StandsFor S.Store self.old i → loan_at account i
+            ≡ Some loan.now
             → disbursed_on loan.now.stage ≡ Some day → IfOk result (λ resumed. account_at account i ≡ Some resumed) }
     {
         let Account { office, number } = account;
@@ -136,7 +142,8 @@ impl<S: Alter> Store<S> {
         ensures kept { Stays S.Store self.old self.new }
         ensures gives_up { IfErr result (λ fault. fault ≡ F20) }
         ensures writes { IsClean S.Store self.new → (i : Institution) → StandsFor S.Store self.old i
-            → OnOk result (writes.new.items ≡ writes.old.items ++ schedule_put office number (kept_of instalments_kept i.catalogue (record { loan = loan.now; entries = [] }))) }
+            → OnOk result (writes.new.items ≡ writes.old.items ++ schedule_put office number
+            (kept_of instalments_kept i.catalogue (record { loan = loan.now; entries = [] }))) }
         ensures more { OnOk result (length writes.old.items ≤ length writes.new.items) }
     {
         let Some(day) = disbursal_day(loan) else {
@@ -149,7 +156,8 @@ impl<S: Alter> Store<S> {
     /// The account of a loan, or None where there is no such loan or it is not disbursed.
     pub fn account(&mut self, alloc: Global, account: Account) -> Result<Option<LoanAccount>, Fault>
         ensures asks { AsksTables S.Store self.old self.new result }
-        ensures value { IsClean S.Store self.new → (i : Institution) → StandsFor S.Store self.old i → IfOk result (λ found. found ≡ account_at account i) }
+        ensures value { IsClean S.Store self.new → (i : Institution) → StandsFor S.Store self.old i
+            → IfOk result (λ found. found ≡ account_at account i) }
     {
         let Account { office, number } = account;
         let Some(loan) = self.loan(Account { office, number })? else {
@@ -162,12 +170,14 @@ impl<S: Alter> Store<S> {
         Ok(Some(resumed))
     }
 
-    /// The status of a loan that is there and was disbursed. Its entries are asked for only where nothing is outstanding in the
-    /// instalments that are kept, and they are not replayed.
+    /// The status of a loan that is there and was disbursed. Its entries are asked for only where nothing is
+    /// outstanding in the instalments that are kept, and they are not replayed.
     fn disbursed_status(&mut self, alloc: Global, account: Account) -> Result<u16, Fault>
         ensures asks { AsksTables S.Store self.old self.new result }
-        ensures value { IsClean S.Store self.new → (i : Institution) → StandsFor S.Store self.old i → (l : ModelLedger) → ledger_at account i ≡ Some l
-            → (day : ℕ) → disbursed_on l.loan.stage ≡ Some day → IfOk result (λ status. status ≡ status_in i.catalogue l) }
+        ensures value { IsClean S.Store self.new → (i : Institution) → StandsFor S.Store self.old i → (l : ModelLedger)
+            → ledger_at account i ≡ Some l
+            → (day : ℕ) → disbursed_on l.loan.stage ≡ Some day
+            → IfOk result (λ status. status ≡ status_in i.catalogue l) }
     {
         let Account { office, number } = account;
         let rows = self.instalments_at(alloc, Account { office, number })?;
@@ -181,7 +191,8 @@ impl<S: Alter> Store<S> {
     /// The status of a loan that is there: its stage's number, or what its account says.
     fn status_of(&mut self, alloc: Global, account: Account, loan: &Loan) -> Result<u16, Fault>
         ensures asks { MayAskTables S.Store self.old self.new result }
-        ensures value { IsClean S.Store self.new → (i : Institution) → StandsFor S.Store self.old i → (l : ModelLedger) → ledger_at account i ≡ Some l
+        ensures value { IsClean S.Store self.new → (i : Institution) → StandsFor S.Store self.old i → (l : ModelLedger)
+            → ledger_at account i ≡ Some l
             → l.loan ≡ loan.now → IfOk result (λ status. status ≡ status_in i.catalogue l) }
     {
         match disbursal_day(loan) {
@@ -193,8 +204,10 @@ impl<S: Alter> Store<S> {
     /// The line of a loan's row, in a list of loans.
     fn line_of(&mut self, alloc: Global, row: &Row) -> Result<LoanLine, Fault>
         ensures asks { MayAskTables S.Store self.old self.new result }
-        ensures value { IsClean S.Store self.new → (i : Institution) → StandsFor S.Store self.old i → (office number : ℕ) (l : ModelLedger)
-            → row.now ≡ loan_stored (loan_in office number l.loan) → ledger_at (record { office = office; number = number }) i ≡ Some l
+        ensures value { IsClean S.Store self.new → (i : Institution) → StandsFor S.Store self.old i
+            → (office number : ℕ) (l : ModelLedger)
+            → row.now ≡ loan_stored (loan_in office number l.loan)
+            → ledger_at (record { office = office; number = number }) i ≡ Some l
             → IfOk result (λ line. line ≡ line_in i.catalogue office number l) }
     {
         let (account, loan) = loan_in_row(row)?;
@@ -209,8 +222,11 @@ impl<S: Alter> Store<S> {
     /// The lines of rows of loans, in order.
     fn lines_of(&mut self, alloc: Global, rows: &[Row]) -> Result<LoanList, Fault>
         ensures asks { MayAskTables S.Store self.old self.new result }
-        ensures value { IsClean S.Store self.new → (i : Institution) → StandsFor S.Store self.old i → (office : ℕ) (ls : List (ℕ × ModelLedger)) → AllByRecursion (λ l. ledger_at (record { office = office; number = l.0 }) i ≡ Some l.1) ls
-            → rows.now ≡ map (λ l. loan_stored (loan_in office l.0 l.1.loan)) ls → IfOk result (λ list. list ≡ map (λ l. line_in i.catalogue office l.0 l.1) ls) }
+        ensures value { IsClean S.Store self.new → (i : Institution) → StandsFor S.Store self.old i
+            → (office : ℕ) (ls : List (ℕ × ModelLedger))
+            → AllByRecursion (λ l. ledger_at (record { office = office; number = l.0 }) i ≡ Some l.1) ls
+            → rows.now ≡ map (λ l. loan_stored (loan_in office l.0 l.1.loan)) ls
+            → IfOk result (λ list. list ≡ map (λ l. line_in i.catalogue office l.0 l.1) ls) }
     {
         let mut lines = Vec::new(alloc);
         for row in rows {
@@ -224,7 +240,8 @@ impl<S: Alter> Store<S> {
     /// and for each disbursed one that of its instalments, and of its entries where none of these is open.
     pub fn loans(&mut self, alloc: Global, office: OfficeNo, after: u32) -> Result<LoanList, Fault>
         ensures asks { AsksTables S.Store self.old self.new result }
-        ensures value { IsClean S.Store self.new → (i : Institution) → StandsFor S.Store self.old i → IfOk result (λ list. list ≡ loans_at office after i) }
+        ensures value { IsClean S.Store self.new → (i : Institution) → StandsFor S.Store self.old i
+            → IfOk result (λ list. list ≡ loans_at office after i) }
     {
         let rows = self.rows_above(office.get(), after)?;
         self.lines_of(alloc, &rows)

@@ -1,5 +1,5 @@
-//! The active loans of offices, by days overdue, from the instalments that are kept: one query an office, one row held at
-//! a time.
+//! The active loans of offices, by days overdue, from the instalments that are kept: one query an office, one row held
+//! at a time.
 
 ghost use Rattle.std.specs.Prelude.{◌≡◌, map, IfOk};
 ghost use Rattle.mf_arrears.specs.Line.{line_of as line_of_loans};
@@ -22,7 +22,8 @@ impl<S: Alter> Store<S> {
     /// An office's line on a day.
     fn office_line(&mut self, office: OfficeNo, today: Day) -> Result<OfficeLine, Fault>
         ensures asks { MayAskTables S.Store self.old self.new result }
-        ensures value { IsClean S.Store self.new → (i : Institution) → StandsFor S.Store self.old i → today ≡ i.catalogue.day
+        ensures value { IsClean S.Store self.new → (i : Institution) → StandsFor S.Store self.old i
+            → today ≡ i.catalogue.day
             → IfOk result (λ line. line ≡ line_of_loans office (active_in i.catalogue (rows_at office i).loans)) }
     {
         self.read_line(office, today)
@@ -36,7 +37,8 @@ impl<S: Alter> Store<S> {
         today: Day,
     ) -> Result<ArrearsList, Fault>
         ensures asks { MayAskTables S.Store self.old self.new result }
-        ensures value { IsClean S.Store self.new → (i : Institution) → StandsFor S.Store self.old i → today ≡ i.catalogue.day
+        ensures value { IsClean S.Store self.new → (i : Institution) → StandsFor S.Store self.old i
+            → today ≡ i.catalogue.day
             → IfOk result (λ list. list ≡ map (line_at i) offices.now) }
     {
         let mut lines = Vec::new(alloc);
@@ -50,7 +52,8 @@ impl<S: Alter> Store<S> {
     /// The lines of the offices at or below one, by number, on the business day.
     pub fn office_lines(&mut self, alloc: Global, to: OfficeNo) -> Result<ArrearsList, Fault>
         ensures asks { MayAskTables S.Store self.old self.new result }
-        ensures value { IsClean S.Store self.new → (i : Institution) → StandsFor S.Store self.old i → IfOk result (λ list. list ≡ arrears_seen to i) }
+        ensures value { IsClean S.Store self.new → (i : Institution) → StandsFor S.Store self.old i
+            → IfOk result (λ list. list ≡ arrears_seen to i) }
     {
         let offices = self.offices(alloc, to)?;
         let today = self.business_day()?;

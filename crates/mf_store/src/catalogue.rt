@@ -36,7 +36,8 @@ impl<S: Alter> Store<S> {
     /// How many charges and products the catalogue has: one less than their next numbers.
     pub fn catalogue_counts(&mut self) -> Result<CatalogueCounts, Fault>
         ensures asks { MayAskTables S.Store self.old self.new result }
-        ensures value { IsClean S.Store self.new → (i : Institution) → StandsFor S.Store self.old i → IfOk result (λ counts. counts ≡ catalogue_counts i) }
+        ensures value { IsClean S.Store self.new → (i : Institution) → StandsFor S.Store self.old i
+            → IfOk result (λ counts. counts ≡ catalogue_counts i) }
     {
         if let Some(counts) = self.known_catalogue() {
             return Ok(counts);
@@ -51,7 +52,8 @@ impl<S: Alter> Store<S> {
     /// A charge, or None where there is none with this number.
     pub fn charge(&mut self, number: u32) -> Result<Option<ChargeDef>, Fault>
         ensures asks { AsksTables S.Store self.old self.new result }
-        ensures value { IsClean S.Store self.new → (i : Institution) → StandsFor S.Store self.old i → IfOk result (λ charge. charge ≡ charge_in i.catalogue number) }
+        ensures value { IsClean S.Store self.new → (i : Institution) → StandsFor S.Store self.old i
+            → IfOk result (λ charge. charge ≡ charge_in i.catalogue number) }
     {
         let Some(row) = self.find_charge(number)? else {
             return Ok(None);
@@ -63,7 +65,8 @@ impl<S: Alter> Store<S> {
     /// A product as the tables keep it, or None where none has this number.
     fn read_product(&mut self, number: u32) -> Result<Option<Product>, Fault>
         ensures asks { AsksTables S.Store self.old self.new result }
-        ensures value { IsClean S.Store self.new → (i : Institution) → StandsFor S.Store self.old i → IfOk result (λ product. product ≡ product_in i.catalogue number) }
+        ensures value { IsClean S.Store self.new → (i : Institution) → StandsFor S.Store self.old i
+            → IfOk result (λ product. product ≡ product_in i.catalogue number) }
     {
         let Some(row) = self.find_product(number)? else {
             return Ok(None);
@@ -75,7 +78,8 @@ impl<S: Alter> Store<S> {
     /// A product, or None where there is none with this number.
     pub fn product(&mut self, number: u32) -> Result<Option<Product>, Fault>
         ensures asks { MayAskTables S.Store self.old self.new result }
-        ensures value { IsClean S.Store self.new → (i : Institution) → StandsFor S.Store self.old i → IfOk result (λ product. product ≡ product_in i.catalogue number) }
+        ensures value { IsClean S.Store self.new → (i : Institution) → StandsFor S.Store self.old i
+            → IfOk result (λ product. product ≡ product_in i.catalogue number) }
     {
         if let Some(product) = self.known_product(number) {
             return Ok(Some(product));
@@ -146,7 +150,8 @@ impl<S: Alter> Store<S> {
     fn retirement(&mut self, product: u32) -> Result<StoreWrite, Fault>
         ensures asks { AsksTables S.Store self.old self.new result }
         ensures carries { IsClean S.Store self.new → (i : Institution) → StandsFor S.Store self.old i
-            → IsAdmitted (RetireProduct product) i → IfOk result (λ write. Carries (RetireProduct product) (write ∷ []) i) }
+            → IsAdmitted (RetireProduct product) i → IfOk result (λ write. Carries (RetireProduct product)
+            (write ∷ []) i) }
     {
         let Some(found) = self.find_product(product)? else {
             return Err(Fault::F20);

@@ -22,7 +22,8 @@ impl<S: Alter> Store<S> {
     /// Whether an office is there.
     pub(crate) fn has_office(&mut self, number: u32) -> Result<bool, Fault>
         ensures asks { MayAskTables S.Store self.old self.new result }
-        ensures value { IsClean S.Store self.new → (i : Institution) → StandsFor S.Store self.old i → IfOk result (λ there. there ≡ is_there i.offices number) }
+        ensures value { IsClean S.Store self.new → (i : Institution) → StandsFor S.Store self.old i
+            → IfOk result (λ there. there ≡ is_there i.offices number) }
     {
         if self.knows_office(number) {
             return Ok(true);

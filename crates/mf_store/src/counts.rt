@@ -49,7 +49,8 @@ impl<S: Alter> Store<S> {
     fn above_last(&mut self, kind: Kind) -> Result<u32, Fault>
         ensures asks { MayAskTables S.Store self.old self.new result }
         ensures bound { IfOk result (λ high. (0 < high) × (high ≤ 2_000_000)) }
-        ensures value { IsClean S.Store self.new → (i : Institution) → StandsFor S.Store self.old i → IfOk result (λ high. count_of kind i < high) }
+        ensures value { IsClean S.Store self.new → (i : Institution) → StandsFor S.Store self.old i
+            → IfOk result (λ high. count_of kind i < high) }
     {
         let mut high = 1u32;
         while high <= MOST {
@@ -66,7 +67,8 @@ impl<S: Alter> Store<S> {
         requires { 0 < bound }
         ensures asks { MayAskTables S.Store self.old self.new result }
         ensures below { IfOk result (λ last. last < bound) }
-        ensures value { IsClean S.Store self.new → (i : Institution) → StandsFor S.Store self.old i → count_of kind i < bound → IfOk result (λ last. last ≡ count_of kind i) }
+        ensures value { IsClean S.Store self.new → (i : Institution) → StandsFor S.Store self.old i → count_of kind i
+            < bound → IfOk result (λ last. last ≡ count_of kind i) }
     {
         let mut low = 0u32;
         let mut high = bound;
@@ -86,7 +88,8 @@ impl<S: Alter> Store<S> {
     pub(crate) fn last_number(&mut self, kind: Kind) -> Result<u32, Fault>
         ensures asks { MayAskTables S.Store self.old self.new result }
         ensures bound { IfOk result (λ last. last < 2_000_000) }
-        ensures value { IsClean S.Store self.new → (i : Institution) → StandsFor S.Store self.old i → IfOk result (λ last. last ≡ count_of kind i) }
+        ensures value { IsClean S.Store self.new → (i : Institution) → StandsFor S.Store self.old i
+            → IfOk result (λ last. last ≡ count_of kind i) }
     {
         let bound = self.above_last(kind)?;
         self.last_below(kind, bound)
@@ -95,7 +98,8 @@ impl<S: Alter> Store<S> {
     /// How many rows an office has, as the tables tell.
     fn search_counts(&mut self, office: u32) -> Result<Counts, Fault>
         ensures asks { MayAskTables S.Store self.old self.new result }
-        ensures value { IsClean S.Store self.new → (i : Institution) → StandsFor S.Store self.old i → IfOk result (λ counts. counts ≡ counts_at office i) }
+        ensures value { IsClean S.Store self.new → (i : Institution) → StandsFor S.Store self.old i
+            → IfOk result (λ counts. counts ≡ counts_at office i) }
     {
         let staff = self.last_number(Kind::Staff(office))?;
         let clients = self.last_number(Kind::Clients(office))?;
@@ -110,7 +114,8 @@ impl<S: Alter> Store<S> {
     /// How many rows an office has: the tables are asked at most once.
     pub(crate) fn counts_of(&mut self, office: u32) -> Result<Counts, Fault>
         ensures asks { MayAskTables S.Store self.old self.new result }
-        ensures value { IsClean S.Store self.new → (i : Institution) → StandsFor S.Store self.old i → IfOk result (λ counts. counts ≡ counts_at office i) }
+        ensures value { IsClean S.Store self.new → (i : Institution) → StandsFor S.Store self.old i
+            → IfOk result (λ counts. counts ≡ counts_at office i) }
     {
         if let Some(counts) = self.known_counts(office) {
             self.learn(News::OfficeCounts(office, counts));

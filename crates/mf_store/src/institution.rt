@@ -23,7 +23,8 @@ impl<S: Alter> Store<S> {
     /// The role of a caller as the tables keep it, or None where there is no such member of staff.
     fn find_role(&mut self, caller: Caller) -> Result<Option<Role>, Fault>
         ensures asks { AsksTables S.Store self.old self.new result }
-        ensures value { IsClean S.Store self.new → (i : Institution) → StandsFor S.Store self.old i → IfOk result (λ role. role ≡ role_of caller i) }
+        ensures value { IsClean S.Store self.new → (i : Institution) → StandsFor S.Store self.old i
+            → IfOk result (λ role. role ≡ role_of caller i) }
     {
         match self.find_staff(caller.office.get(), caller.staff.get())? {
             None => Ok(None),
@@ -34,7 +35,8 @@ impl<S: Alter> Store<S> {
     /// The role of a caller, or None where there is no such member of staff.
     pub fn caller(&mut self, caller: Caller) -> Result<Option<Role>, Fault>
         ensures asks { MayAskTables S.Store self.old self.new result }
-        ensures value { IsClean S.Store self.new → (i : Institution) → StandsFor S.Store self.old i → IfOk result (λ role. role ≡ role_of caller i) }
+        ensures value { IsClean S.Store self.new → (i : Institution) → StandsFor S.Store self.old i
+            → IfOk result (λ role. role ≡ role_of caller i) }
     {
         let Caller { office, staff } = caller;
         if let Some(role) = self.known_role(Caller { office, staff }) {
@@ -53,7 +55,8 @@ impl<S: Alter> Store<S> {
     /// How many staff, clients and loans an office has: one less than their next numbers.
     pub fn next_numbers(&mut self, office: OfficeNo) -> Result<Counts, Fault>
         ensures asks { MayAskTables S.Store self.old self.new result }
-        ensures value { IsClean S.Store self.new → (i : Institution) → StandsFor S.Store self.old i → IfOk result (λ counts. counts ≡ counts_at office i) }
+        ensures value { IsClean S.Store self.new → (i : Institution) → StandsFor S.Store self.old i
+            → IfOk result (λ counts. counts ≡ counts_at office i) }
     {
         self.counts_of(office.get())
     }
@@ -61,7 +64,8 @@ impl<S: Alter> Store<S> {
     /// The name of a client, or None where there is no such client.
     pub fn client(&mut self, client: Account) -> Result<Option<Name>, Fault>
         ensures asks { AsksTables S.Store self.old self.new result }
-        ensures value { IsClean S.Store self.new → (i : Institution) → StandsFor S.Store self.old i → IfOk result (λ name. name ≡ client_at client i) }
+        ensures value { IsClean S.Store self.new → (i : Institution) → StandsFor S.Store self.old i
+            → IfOk result (λ name. name ≡ client_at client i) }
     {
         match self.find_client(client.office.get(), client.number.get())? {
             None => Ok(None),

@@ -19,7 +19,8 @@ use std::alloc::Global;
 impl<S: Alter> Store<S> {
     ghost use Rattle.mf_store.specs.Stands.{StandsFor, IsClean, AsksTables};
 
-    /// The instalments of a loan that is there, as the replay of its entries leaves them; none where it is not disbursed.
+    /// The instalments of a loan that is there, as the replay of its entries leaves them; none where it is not
+    /// disbursed.
     pub(crate) fn instalments_at(
         &mut self,
         alloc: Global,
@@ -28,8 +29,10 @@ impl<S: Alter> Store<S> {
         ensures asks { AsksTables S.Store self.old self.new result }
         ensures whole { IfOk result (λ rows. AreWhole rows.items) }
         ensures within { IfOk result (λ rows. AreWithin rows.items) }
-        ensures value { IsClean S.Store self.new → (i : Institution) → StandsFor S.Store self.old i → (l : ModelLedger) → ledger_at loan i ≡ Some l
-            → IfOk result (λ rows. rows.items ≡ of_account [] (λ a. (state_of_loan a).rows) (account_in i.catalogue l)) }
+        ensures value { IsClean S.Store self.new → (i : Institution) → StandsFor S.Store self.old i → (l : ModelLedger)
+            → ledger_at loan i ≡ Some l
+            → IfOk result (λ rows. rows.items ≡ of_account [] (λ a. (state_of_loan a).rows)
+            (account_in i.catalogue l)) }
     {
         let rows = self.list::<InstalmentRow>((loan.office.get(), loan.number.get()))?;
         instalments_from(alloc, &rows)

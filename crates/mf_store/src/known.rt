@@ -1,4 +1,5 @@
-//! What a store knows beside its tables, so that it need not ask them again. A fact for which there is no memory isn't kept.
+//! What a store knows beside its tables, so that it need not ask them again. A fact for which there is no memory isn't
+//! kept.
 
 ghost use Rattle.std.specs.Prelude.{◌≡◌, nat_eq, is_some, Some, None, [], IfOk, IfErr, IfSome};
 ghost use Rattle.std.specs.Map.{lookup};
@@ -48,7 +49,14 @@ impl Model for Known {
 
     ghost coded = { facts_code };
 
-    ghost view = { λ k. record { counts = k.counts.entries; catalogue = k.catalogue; day = k.day; roles = k.roles.entries; keys = k.keys.entries; products = k.products.entries } };
+    ghost view = { λ k. record {
+      counts = k.counts.entries;
+      catalogue = k.catalogue;
+      day = k.day;
+      roles = k.roles.entries;
+      keys = k.keys.entries;
+      products = k.products.entries;
+    } };
 }
 
 /// So many offices' counts and keys are kept at most.
@@ -189,7 +197,8 @@ impl Known {
 
     /// Takes in a product.
     pub(crate) fn learn_product(&mut self, number: u32, product: &Product)
-        ensures { (i : Institution) → AreTrueOf self.old i → product_in i.catalogue number ≡ Some product.now → AreTrueOf self.new i }
+        ensures { (i : Institution) → AreTrueOf self.old i → product_in i.catalogue number ≡ Some product.now
+            → AreTrueOf self.new i }
     {
         let Some(copy) = copied_product(product) else {
             return;

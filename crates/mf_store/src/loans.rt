@@ -39,7 +39,8 @@ impl<S: Alter> Store<S> {
     /// A loan, or None where there is no such loan.
     pub fn loan(&mut self, loan: Account) -> Result<Option<Loan>, Fault>
         ensures asks { AsksTables S.Store self.old self.new result }
-        ensures value { IsClean S.Store self.new → (i : Institution) → StandsFor S.Store self.old i → IfOk result (λ found. found ≡ loan_at loan i) }
+        ensures value { IsClean S.Store self.new → (i : Institution) → StandsFor S.Store self.old i
+            → IfOk result (λ found. found ≡ loan_at loan i) }
     {
         let Some(row) = self.find_loan(loan.office.get(), loan.number.get())? else {
             return Ok(None);
@@ -48,7 +49,8 @@ impl<S: Alter> Store<S> {
         Ok(Some(found))
     }
 
-    /// Adds a loan of an office that is there, under the next number. It is not disbursed; where it is, the call gives up.
+    /// Adds a loan of an office that is there, under the next number. It is not disbursed; where it is, the call gives
+    /// up.
     pub fn add_loan(&mut self, alloc: Global, office: OfficeNo, loan: Loan) -> Result<(), Fault>
         ensures { MakesCommit S.Store (AddLoan office loan) self.old self.new result }
     {
@@ -78,7 +80,8 @@ impl<S: Alter> Store<S> {
         ensures gives_up { IfErr result (λ fault. fault ≡ F20) }
         ensures some { IfOk result (λ writes. 0 < length writes.items) }
         ensures carries { IsClean S.Store self.new → (i : Institution) → StandsFor S.Store self.old i
-            → IsAdmitted (SetStage loan stage) i → IfOk result (λ writes. Carries (SetStage loan stage) writes.items i) }
+            → IsAdmitted (SetStage loan stage) i → IfOk result (λ writes. Carries (SetStage loan stage) writes.items
+            i) }
     {
         let Account { office, number } = loan;
         let Some(before) = self.loan(Account { office, number })? else {
@@ -97,8 +100,8 @@ impl<S: Alter> Store<S> {
         Ok(writes)
     }
 
-    /// Brings a loan that is there to a stage, and writes its instalments where that disburses it. Where it was disbursed
-    /// before, the call gives up.
+    /// Brings a loan that is there to a stage, and writes its instalments where that disburses it. Where it was
+    /// disbursed before, the call gives up.
     pub fn set_stage(&mut self, alloc: Global, loan: Account, stage: Stage) -> Result<(), Fault>
         ensures { MakesCommit S.Store (SetStage loan stage) self.old self.new result }
     {

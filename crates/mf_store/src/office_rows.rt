@@ -22,7 +22,8 @@ impl<S: Alter> Store<S> {
     /// The staff of an office, by number.
     fn staff_at(&mut self, alloc: Global, office: u32) -> Result<Vec<StaffMember>, Fault>
         ensures asks { AsksTables S.Store self.old self.new result }
-        ensures value { IsClean S.Store self.new → (i : Institution) → StandsFor S.Store self.old i → IfOk result (λ list. list.items ≡ (rows_at office i).staff) }
+        ensures value { IsClean S.Store self.new → (i : Institution) → StandsFor S.Store self.old i
+            → IfOk result (λ list. list.items ≡ (rows_at office i).staff) }
     {
         let rows = self.list::<StaffRow>(office)?;
         staff_from(alloc, &rows)
@@ -31,7 +32,8 @@ impl<S: Alter> Store<S> {
     /// The names of an office's clients, by number.
     fn clients_at(&mut self, alloc: Global, office: u32) -> Result<Vec<Name>, Fault>
         ensures asks { AsksTables S.Store self.old self.new result }
-        ensures value { IsClean S.Store self.new → (i : Institution) → StandsFor S.Store self.old i → IfOk result (λ list. list.items ≡ (rows_at office i).clients) }
+        ensures value { IsClean S.Store self.new → (i : Institution) → StandsFor S.Store self.old i
+            → IfOk result (λ list. list.items ≡ (rows_at office i).clients) }
     {
         let rows = self.list::<ClientRow>(office)?;
         names_from(alloc, &rows)
@@ -40,8 +42,10 @@ impl<S: Alter> Store<S> {
     /// The loan of a row, with its entries.
     fn ledger_of(&mut self, alloc: Global, row: &Row) -> Result<Ledger, Fault>
         ensures asks { MayAskTables S.Store self.old self.new result }
-        ensures value { IsClean S.Store self.new → (i : Institution) → StandsFor S.Store self.old i → (office number : ℕ) (l : ModelLedger)
-            → row.now ≡ loan_row (loan_in office number l.loan) → ledger_at (record { office = office; number = number }) i ≡ Some l
+        ensures value { IsClean S.Store self.new → (i : Institution) → StandsFor S.Store self.old i
+            → (office number : ℕ) (l : ModelLedger)
+            → row.now ≡ loan_row (loan_in office number l.loan)
+            → ledger_at (record { office = office; number = number }) i ≡ Some l
             → IfOk result (λ ledger. ledger ≡ l) }
     {
         let (account, loan) = loan_in_row(row)?;
@@ -52,8 +56,11 @@ impl<S: Alter> Store<S> {
     /// The loans of rows, with their entries, in order.
     fn ledgers_of(&mut self, alloc: Global, rows: &[Row]) -> Result<Vec<Ledger>, Fault>
         ensures asks { MayAskTables S.Store self.old self.new result }
-        ensures value { IsClean S.Store self.new → (i : Institution) → StandsFor S.Store self.old i → (office : ℕ) (ls : List (ℕ × ModelLedger)) → AllByRecursion (λ l. ledger_at (record { office = office; number = l.0 }) i ≡ Some l.1) ls
-            → rows.now ≡ map (λ l. loan_row (loan_in office l.0 l.1.loan)) ls → IfOk result (λ list. list.items ≡ map (λ l. l.1) ls) }
+        ensures value { IsClean S.Store self.new → (i : Institution) → StandsFor S.Store self.old i
+            → (office : ℕ) (ls : List (ℕ × ModelLedger))
+            → AllByRecursion (λ l. ledger_at (record { office = office; number = l.0 }) i ≡ Some l.1) ls
+            → rows.now ≡ map (λ l. loan_row (loan_in office l.0 l.1.loan)) ls
+            → IfOk result (λ list. list.items ≡ map (λ l. l.1) ls) }
     {
         let mut ledgers = Vec::new(alloc);
         for row in rows {
@@ -66,7 +73,8 @@ impl<S: Alter> Store<S> {
     /// The loans of an office, with their entries, by number.
     fn ledgers_at(&mut self, alloc: Global, office: u32) -> Result<Vec<Ledger>, Fault>
         ensures asks { AsksTables S.Store self.old self.new result }
-        ensures value { IsClean S.Store self.new → (i : Institution) → StandsFor S.Store self.old i → IfOk result (λ list. list.items ≡ (rows_at office i).loans) }
+        ensures value { IsClean S.Store self.new → (i : Institution) → StandsFor S.Store self.old i
+            → IfOk result (λ list. list.items ≡ (rows_at office i).loans) }
     {
         let rows = self.list::<LoanRow>(office)?;
         self.ledgers_of(alloc, &rows)
@@ -75,7 +83,8 @@ impl<S: Alter> Store<S> {
     /// The rows of an office, none where it isn't there.
     pub fn office_rows(&mut self, alloc: Global, office: OfficeNo) -> Result<OfficeRows, Fault>
         ensures asks { AsksTables S.Store self.old self.new result }
-        ensures value { IsClean S.Store self.new → (i : Institution) → StandsFor S.Store self.old i → IfOk result (λ rows. rows ≡ rows_at office i) }
+        ensures value { IsClean S.Store self.new → (i : Institution) → StandsFor S.Store self.old i
+            → IfOk result (λ rows. rows ≡ rows_at office i) }
     {
         let office = office.get();
         let staff = self.staff_at(alloc, office)?;

@@ -21,7 +21,8 @@ impl<S: Alter> Store<S> {
     /// What the entries of a loan that is there settled, by entry and place; nothing where it is not disbursed.
     pub(crate) fn parts_at(&mut self, alloc: Global, loan: Account) -> Result<Vec<Settled>, Fault>
         ensures asks { AsksTables S.Store self.old self.new result }
-        ensures value { IsClean S.Store self.new → (i : Institution) → StandsFor S.Store self.old i → (l : ModelLedger) → ledger_at loan i ≡ Some l
+        ensures value { IsClean S.Store self.new → (i : Institution) → StandsFor S.Store self.old i → (l : ModelLedger)
+            → ledger_at loan i ≡ Some l
             → IfOk result (λ parts. parts.items ≡ map part_told (kept_of shares_kept i.catalogue l)) }
     {
         let rows = self.list::<ShareRow>((loan.office.get(), loan.number.get()))?;

@@ -20,7 +20,8 @@ impl<S: Alter> Store<S> {
 
     fn find_entry(&mut self, office: u32, loan: u32, seq: u32) -> Result<Option<EntryRow>, Fault>
         ensures asks { AsksTables S.Store self.old self.new result }
-        ensures value { IsClean S.Store self.new → (i : Institution) → StandsFor S.Store self.old i → IfOk result (λ x. x ≡ find (is_entry office loan seq) (tables_of i).entries) }
+        ensures value { IsClean S.Store self.new → (i : Institution) → StandsFor S.Store self.old i
+            → IfOk result (λ x. x ≡ find (is_entry office loan seq) (tables_of i).entries) }
     {
         self.find((office, loan, seq))
     }
@@ -33,7 +34,8 @@ impl<S: Alter> Store<S> {
         receipt: &Receipt,
     ) -> Result<Option<ReceiptUse>, Fault>
         ensures asks { MayAskTables S.Store self.old self.new result }
-        ensures value { IsClean S.Store self.new → (i : Institution) → StandsFor S.Store self.old i → IfOk result (λ found. found ≡ receipt_at office receipt.now i) }
+        ensures value { IsClean S.Store self.new → (i : Institution) → StandsFor S.Store self.old i
+            → IfOk result (λ found. found ≡ receipt_at office receipt.now i) }
     {
         let office = office.get();
         let Some(row) = self.find_receipt(office, receipt.as_str())? else {

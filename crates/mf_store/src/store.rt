@@ -1,4 +1,7 @@
-ghost use Rattle.std.specs.Prelude.{◌≡◌, ◌<◌, ◌≤◌, List, [], ◌∷◌, length, true, false, Some, None, IsTrue, OnOk, OnErr, IfOk, IfErr, IfSome, map, filter, find, option_map, take};
+//! The store: what it reads of its tables and knows beside them, how it is made and given back.
+
+ghost use Rattle.std.specs.Prelude.{◌≡◌, ◌<◌, ◌≤◌, List, [], ◌∷◌, length, true, false, Some, None, IsTrue, OnOk, OnErr};
+ghost use Rattle.std.specs.Prelude.{IfOk, IfErr, IfSome, map, filter, find, option_map, take};
 ghost use Rattle.mf_base.specs.declared.fault.Fault.TheVariants.{F20};
 ghost use Rattle.mf_base.specs.DayText.{last_entered_day};
 ghost use Rattle.sqlite.specs.Held.{state};
@@ -17,7 +20,8 @@ ghost use Rattle.mf_store_records.specs.Writes.{schema_of, Holds};
 ghost use Rattle.mf_store.specs.Facts.{nothing_known};
 ghost use Rattle.mf_store.specs.Learning.{Tells};
 ghost use Rattle.mf_store_commits.specs.Tabled.{IsTabled, HasGoodDisk, LeavesTables, IsUnfounded};
-ghost use Rattle.mf_store.specs.Stands.{StandsFor, IsClean, Leaves, IsOpen, FaultsAloneShut, Stays, AsksTables, MakesCommit};
+ghost use Rattle.mf_store.specs.Stands.{StandsFor, IsClean, Leaves, IsOpen, FaultsAloneShut, Stays, AsksTables};
+ghost use Rattle.mf_store.specs.Stands.{MakesCommit};
 ghost use Rattle.mf_store_changes.specs.Becoming.{Becomes};
 
 use crate::known::{Known, News};
@@ -63,7 +67,8 @@ impl<S: Alter> Store<S> {
     /// The row under a key, if there is one.
     pub(crate) fn find<T: Table>(&mut self, key: T::Key) -> Result<Option<T>, Fault>
         ensures asks { AsksTables S.Store self.old self.new result }
-        ensures row { IsClean S.Store self.new → (i : Institution) → StandsFor S.Store self.old i → IfOk result (λ x. x ≡ find (T.is_at key) (T.list (tables_of i))) }
+        ensures row { IsClean S.Store self.new → (i : Institution) → StandsFor S.Store self.old i
+            → IfOk result (λ x. x ≡ find (T.is_at key) (T.list (tables_of i))) }
     {
         find_row(&mut self.connection, key)
     }
@@ -85,7 +90,8 @@ impl<S: Alter> Store<S> {
     pub(crate) fn list<T: Listed>(&mut self, part: T::Part) -> Result<Vec<Row>, Fault>
         ensures asks { AsksTables S.Store self.old self.new result }
         ensures rows { IsClean S.Store self.new → (i : Institution) → StandsFor S.Store self.old i
-            → IfOk result (λ rows. rows.items ≡ map T.Table.stored (filter (T.is_in part) (T.Table.list (tables_of i)))) }
+            → IfOk result (λ rows. rows.items ≡ map T.Table.stored (filter (T.is_in part)
+            (T.Table.list (tables_of i)))) }
     {
         list_rows::<T, S>(&mut self.connection, part)
     }
@@ -94,7 +100,8 @@ impl<S: Alter> Store<S> {
     pub(crate) fn rows_above(&mut self, office: u32, after: u32) -> Result<Vec<Row>, Fault>
         ensures asks { AsksTables S.Store self.old self.new result }
         ensures rows { IsClean S.Store self.new → (i : Institution) → StandsFor S.Store self.old i
-            → IfOk result (λ rows. rows.items ≡ take 100 (map loan_row (filter (is_loan_above office after) (tables_of i).loans))) }
+            → IfOk result (λ rows. rows.items ≡ take 100 (map loan_row (filter (is_loan_above office after)
+            (tables_of i).loans))) }
     {
         loans_above(&mut self.connection, office, after)
     }
@@ -103,18 +110,23 @@ impl<S: Alter> Store<S> {
     pub(crate) fn rows_within(&mut self, low: &str, high: &str) -> Result<Vec<Row>, Fault>
         ensures asks { AsksTables S.Store self.old self.new result }
         ensures rows { IsClean S.Store self.new → (i : Institution) → StandsFor S.Store self.old i
-            → IfOk result (λ rows. rows.items ≡ map office_row (filter (is_in_range low.now high.now) (tables_of i).offices)) }
+            → IfOk result (λ rows. rows.items ≡ map office_row (filter (is_in_range low.now high.now)
+            (tables_of i).offices)) }
     {
         offices_within(&mut self.connection, low, high)
     }
 
-    /// An office's line on a day, by one query over the instalments of its loans. No institution's loans come to too much.
+    /// An office's line on a day, by one query over the instalments of its loans. No institution's loans come to too
+    /// much.
     fn line_of_office(&mut self, office: OfficeNo, today: Day) -> Result<OfficeLine, NoLine>
         ensures kept { Stays S.Store self.old self.new }
         ensures open { IsClean S.Store self.new → OnOk result (IsOpen S.Store self.new) }
-        ensures sums { IsClean S.Store self.new → (i : Institution) → StandsFor S.Store self.old i → IfErr result (λ why. why ≡ NoLine.Unread) }
-        ensures line { IsClean S.Store self.new → (i : Institution) → StandsFor S.Store self.old i → (loans : List NumberedLoan) → AreAbove 0 loans → AreWholeLoans loans
-            → filter (is_instalment_in office) (tables_of i).instalments ≡ rows_of_office office loans → IfOk result (λ line. line ≡ line_of_loans office (aged_loans today loans)) }
+        ensures sums { IsClean S.Store self.new → (i : Institution) → StandsFor S.Store self.old i
+            → IfErr result (λ why. why ≡ NoLine.Unread) }
+        ensures line { IsClean S.Store self.new → (i : Institution) → StandsFor S.Store self.old i
+            → (loans : List NumberedLoan) → AreAbove 0 loans → AreWholeLoans loans
+            → filter (is_instalment_in office) (tables_of i).instalments ≡ rows_of_office office loans
+            → IfOk result (λ line. line ≡ line_of_loans office (aged_loans today loans)) }
     {
         line_of_office(&mut self.connection, office, today)
     }
@@ -122,8 +134,10 @@ impl<S: Alter> Store<S> {
     /// The same, or F20.
     pub(crate) fn read_line(&mut self, office: OfficeNo, today: Day) -> Result<OfficeLine, Fault>
         ensures asks { AsksTables S.Store self.old self.new result }
-        ensures line { IsClean S.Store self.new → (i : Institution) → StandsFor S.Store self.old i → (loans : List NumberedLoan) → AreAbove 0 loans → AreWholeLoans loans
-            → filter (is_instalment_in office) (tables_of i).instalments ≡ rows_of_office office loans → IfOk result (λ line. line ≡ line_of_loans office (aged_loans today loans)) }
+        ensures line { IsClean S.Store self.new → (i : Institution) → StandsFor S.Store self.old i
+            → (loans : List NumberedLoan) → AreAbove 0 loans → AreWholeLoans loans
+            → filter (is_instalment_in office) (tables_of i).instalments ≡ rows_of_office office loans
+            → IfOk result (λ line. line ≡ line_of_loans office (aged_loans today loans)) }
     {
         match self.line_of_office(office, today) {
             Ok(line) => Ok(line),
@@ -131,8 +145,8 @@ impl<S: Alter> Store<S> {
         }
     }
 
-    /// A new institution on this business day where there are no tables yet, made in one commit. The day is at most 2099-12-31. The
-    /// error is F20, and the connection comes back.
+    /// A new institution on this business day where there are no tables yet, made in one commit. The day is at most
+    /// 2099-12-31. The error is F20, and the connection comes back.
     pub fn found(
         alloc: Global,
         mut connection: Connection<S>,
@@ -141,8 +155,10 @@ impl<S: Alter> Store<S> {
         requires alone { connection.in_transaction ≡ false }
         requires day { day ≤ last_entered_day }
         ensures premise { IfOk result (λ store. IsClean S.Store store → HasGoodDisk S.Store connection) }
-        ensures stands { IfOk result (λ store. IsClean S.Store store → Serves schema_of Holds (state S.Store connection).now None → StandsFor S.Store store (newly_made day)) }
-        ensures leaves { IfOk result (λ store. IsClean S.Store store → Serves schema_of Holds (state S.Store connection).now None → Leaves S.Store store (newly_made day ∷ [])) }
+        ensures stands { IfOk result (λ store. IsClean S.Store store
+            → Serves schema_of Holds (state S.Store connection).now None → StandsFor S.Store store (newly_made day)) }
+        ensures leaves { IfOk result (λ store. IsClean S.Store store
+            → Serves schema_of Holds (state S.Store connection).now None → Leaves S.Store store (newly_made day ∷ [])) }
         ensures open { IfOk result (λ store. IsClean S.Store store → IsOpen S.Store store) }
         ensures was_open { IfOk result (λ store. IsClean S.Store store → IsTrue (state S.Store connection).is_open) }
         ensures gives_up { IfErr result (λ e. e.0 ≡ F20) }
@@ -164,13 +180,15 @@ impl<S: Alter> Store<S> {
         }
     }
 
-    /// A store over tables that hold an institution, which it doesn't ask for anything, with room for what it comes to know of it.
+    /// A store over tables that hold an institution, which it doesn't ask for anything, with room for what it comes to
+    /// know of it.
     pub fn over(connection: Connection<S>, known: Known) -> Store<S>
         requires alone { connection.in_transaction ≡ false }
         requires nothing { known ≡ nothing_known }
         ensures same { result.connection ≡ connection }
         ensures stands { (i : Institution) → IsTabled S.Store connection i → StandsFor S.Store result i }
-        ensures leaves { IsOpen S.Store result → (i : Institution) → IsTabled S.Store connection i → Leaves S.Store result (i ∷ []) }
+        ensures leaves { IsOpen S.Store result → (i : Institution) → IsTabled S.Store connection i
+            → Leaves S.Store result (i ∷ []) }
     {
         // With nothing to commit a stop leaves just the tables as they are; the call brings that into the proof.
         let _settled = connection.is_autocommit();
@@ -192,14 +210,16 @@ impl<S: Alter> Store<S> {
 
     /// How many rows an office has, where that is known.
     pub(crate) fn known_counts(&self, office: u32) -> Option<Counts>
-        ensures { (i : Institution) → StandsFor S.Store self.now i → IfSome result (λ counts. counts ≡ counts_at office i) }
+        ensures { (i : Institution) → StandsFor S.Store self.now i
+            → IfSome result (λ counts. counts ≡ counts_at office i) }
     {
         self.known.counts(office)
     }
 
     /// How many charges and products there are, where that is known.
     pub(crate) fn known_catalogue(&self) -> Option<CatalogueCounts>
-        ensures { (i : Institution) → StandsFor S.Store self.now i → IfSome result (λ counts. counts ≡ catalogue_counts i) }
+        ensures { (i : Institution) → StandsFor S.Store self.now i
+            → IfSome result (λ counts. counts ≡ catalogue_counts i) }
     {
         self.known.catalogue()
     }
@@ -213,7 +233,8 @@ impl<S: Alter> Store<S> {
 
     /// The role of a caller, where that is known.
     pub(crate) fn known_role(&self, caller: Caller) -> Option<Role>
-        ensures { (i : Institution) → StandsFor S.Store self.now i → IfSome result (λ role. role_of caller i ≡ Some role) }
+        ensures { (i : Institution) → StandsFor S.Store self.now i → IfSome result (λ role. role_of caller i
+            ≡ Some role) }
     {
         self.known.role(caller)
     }
@@ -234,14 +255,16 @@ impl<S: Alter> Store<S> {
 
     /// A product, where that is known and there is memory for it.
     pub(crate) fn known_product(&self, number: u32) -> Option<Product>
-        ensures { (i : Institution) → StandsFor S.Store self.now i → IfSome result (λ product. product_in i.catalogue number ≡ Some product) }
+        ensures { (i : Institution) → StandsFor S.Store self.now i
+            → IfSome result (λ product. product_in i.catalogue number ≡ Some product) }
     {
         self.known.product(number)
     }
 
     /// Takes in a caller's role.
     pub(crate) fn learn_role(&mut self, caller: Caller, role: Role)
-        ensures same { (i : Institution) → StandsFor S.Store self.old i → role_of caller i ≡ Some role → StandsFor S.Store self.new i }
+        ensures same { (i : Institution) → StandsFor S.Store self.old i → role_of caller i ≡ Some role
+            → StandsFor S.Store self.new i }
         ensures tables { self.new.connection ≡ self.old.connection }
     {
         self.known.learn_role(caller, role);
@@ -249,7 +272,8 @@ impl<S: Alter> Store<S> {
 
     /// Takes in an office's key.
     pub(crate) fn learn_key(&mut self, alloc: Global, office: u32, key: &Key)
-        ensures same { (i : Institution) → StandsFor S.Store self.old i → key_at office i ≡ Some key.now → StandsFor S.Store self.new i }
+        ensures same { (i : Institution) → StandsFor S.Store self.old i → key_at office i ≡ Some key.now
+            → StandsFor S.Store self.new i }
         ensures tables { self.new.connection ≡ self.old.connection }
     {
         self.known.learn_key(alloc, office, key);
@@ -257,7 +281,8 @@ impl<S: Alter> Store<S> {
 
     /// Takes in a product.
     pub(crate) fn learn_product(&mut self, number: u32, product: &Product)
-        ensures same { (i : Institution) → StandsFor S.Store self.old i → product_in i.catalogue number ≡ Some product.now → StandsFor S.Store self.new i }
+        ensures same { (i : Institution) → StandsFor S.Store self.old i → product_in i.catalogue number
+            ≡ Some product.now → StandsFor S.Store self.new i }
         ensures tables { self.new.connection ≡ self.old.connection }
     {
         self.known.learn_product(number, product);
@@ -265,7 +290,8 @@ impl<S: Alter> Store<S> {
 
     /// Takes in what was read.
     pub(crate) fn learn(&mut self, news: News)
-        ensures same { (i : Institution) → StandsFor S.Store self.old i → Tells news i i → StandsFor S.Store self.new i }
+        ensures same { (i : Institution) → StandsFor S.Store self.old i → Tells news i i
+            → StandsFor S.Store self.new i }
         ensures tables { self.new.connection ≡ self.old.connection }
     {
         self.known.learn(news);
@@ -279,10 +305,14 @@ impl<S: Alter> Store<S> {
         ensures shuts { FaultsAloneShut S.Store self.old self.new }
         ensures open { IsClean S.Store self.new → OnOk result (IsOpen S.Store self.new) }
         ensures made { IsClean S.Store self.new
-            → OnOk result ((i j : Institution) → StandsFor S.Store self.old i → Becomes writes.now i j → Tells news i j → StandsFor S.Store self.new j) }
-        ensures left { IsClean S.Store self.new → OnOk result ((i j : Institution) → StandsFor S.Store self.old i → Becomes writes.now i j → Leaves S.Store self.new (j ∷ [])) }
-        ensures same { IsClean S.Store self.new → OnErr result ((i : Institution) → StandsFor S.Store self.old i → StandsFor S.Store self.new i) }
-        ensures stop { IsClean S.Store self.new → (i j : Institution) (is : List Institution) → StandsFor S.Store self.old i → Becomes writes.now i j
+            → OnOk result ((i j : Institution) → StandsFor S.Store self.old i → Becomes writes.now i j → Tells news i j
+            → StandsFor S.Store self.new j) }
+        ensures left { IsClean S.Store self.new → OnOk result ((i j : Institution) → StandsFor S.Store self.old i
+            → Becomes writes.now i j → Leaves S.Store self.new (j ∷ [])) }
+        ensures same { IsClean S.Store self.new → OnErr result ((i : Institution) → StandsFor S.Store self.old i
+            → StandsFor S.Store self.new i) }
+        ensures stop { IsClean S.Store self.new → (i j : Institution) (is : List Institution)
+            → StandsFor S.Store self.old i → Becomes writes.now i j
             → Leaves S.Store self.old is → Leaves S.Store self.new (j ∷ is) }
     {
         write(&mut self.connection, writes)?;
@@ -303,8 +333,8 @@ impl<S: Alter> Store<S> {
         add_entry(alloc, &mut self.connection, loan, account)
     }
 
-    /// Writes an entry of a loan that is reversed in the loan's account, and what that changed of the loan's instalments
-    /// and shares. All other entries are the same in both. The row of the entry's receipt stays as it is.
+    /// Writes an entry of a loan that is reversed in the loan's account, and what that changed of the loan's
+    /// instalments and shares. All other entries are the same in both. The row of the entry's receipt stays as it is.
     pub fn reverse_entry(
         &mut self,
         alloc: Global,

@@ -47,7 +47,8 @@ impl<S: Alter> Store<S> {
     /// The key of an office that is there.
     pub(crate) fn key(&mut self, number: u32) -> Result<Option<Key>, Fault>
         ensures asks { AsksTables S.Store self.old self.new result }
-        ensures value { IsClean S.Store self.new → (i : Institution) → StandsFor S.Store self.old i → IfOk result (λ key. key ≡ key_at number i) }
+        ensures value { IsClean S.Store self.new → (i : Institution) → StandsFor S.Store self.old i
+            → IfOk result (λ key. key ≡ key_at number i) }
     {
         let Some(office) = self.find_office(number)? else {
             return Ok(None);
@@ -61,7 +62,8 @@ impl<S: Alter> Store<S> {
     /// The same, where the tables are asked at most once.
     fn kept_key(&mut self, alloc: Global, number: u32) -> Result<Option<Key>, Fault>
         ensures asks { MayAskTables S.Store self.old self.new result }
-        ensures value { IsClean S.Store self.new → (i : Institution) → StandsFor S.Store self.old i → IfOk result (λ key. key ≡ key_at number i) }
+        ensures value { IsClean S.Store self.new → (i : Institution) → StandsFor S.Store self.old i
+            → IfOk result (λ key. key ≡ key_at number i) }
     {
         if let Some(key) = self.known_key(alloc, number) {
             self.learn_key(alloc, number, &key);
@@ -79,7 +81,8 @@ impl<S: Alter> Store<S> {
     /// Whether an office is there and at or below another, by the range of the other's key.
     pub fn visible(&mut self, alloc: Global, to: OfficeNo, office: OfficeNo) -> Result<bool, Fault>
         ensures asks { MayAskTables S.Store self.old self.new result }
-        ensures value { IsClean S.Store self.new → (i : Institution) → StandsFor S.Store self.old i → IfOk result (λ seen. seen ≡ is_some (seen_office to office i)) }
+        ensures value { IsClean S.Store self.new → (i : Institution) → StandsFor S.Store self.old i
+            → IfOk result (λ seen. seen ≡ is_some (seen_office to office i)) }
     {
         laws::tree_of_offices();
         let above = self.kept_key(alloc, to.get())?;
@@ -90,7 +93,8 @@ impl<S: Alter> Store<S> {
     /// Whether an office has room below it: it is there and less than six deep, the head being one.
     pub fn has_room_below(&mut self, office: OfficeNo) -> Result<bool, Fault>
         ensures asks { AsksTables S.Store self.old self.new result }
-        ensures value { IsClean S.Store self.new → (i : Institution) → StandsFor S.Store self.old i → IfOk result (λ room. room ≡ is_within 4 (parent_of i.offices) office 1) }
+        ensures value { IsClean S.Store self.new → (i : Institution) → StandsFor S.Store self.old i
+            → IfOk result (λ room. room ≡ is_within 4 (parent_of i.offices) office 1) }
     {
         laws::tree_of_offices();
         mf_office::laws::depth_by_key();
@@ -101,7 +105,8 @@ impl<S: Alter> Store<S> {
     /// The offices at or below one, by number: one query over the range of its key.
     pub fn offices(&mut self, alloc: Global, to: OfficeNo) -> Result<OfficeList, Fault>
         ensures asks { MayAskTables S.Store self.old self.new result }
-        ensures value { IsClean S.Store self.new → (i : Institution) → StandsFor S.Store self.old i → IfOk result (λ list. list ≡ map line_of (seen_by to i.offices)) }
+        ensures value { IsClean S.Store self.new → (i : Institution) → StandsFor S.Store self.old i
+            → IfOk result (λ list. list ≡ map line_of (seen_by to i.offices)) }
     {
         laws::tree_of_offices();
         let found = self.kept_key(alloc, to.get())?;

@@ -12,6 +12,7 @@ no_answer h = (λ t. absurd (true≢false (sym t)), λ p. absurd (h p))
 pub yes_answer : {P : Type 0} → P → IsTrue true ↔ P
 yes_answer p = (λ t. p, λ q. refl)
 
-pub both_if_ok : {A : Type 0} (r : Result A Fault) (P Q R : A → Type 0) → IfOk r P → IfOk r Q → ((a : A) → P a → Q a → R a) → IfOk r R
+pub both_if_ok : {A : Type 0} (r : Result A Fault) (P Q R : A → Type 0) → IfOk r P → IfOk r Q
+    → ((a : A) → P a → Q a → R a) → IfOk r R
 both_if_ok (Ok a) P Q R p q h = h a p q
 both_if_ok (Err e) P Q R p q h = tt

@@ -1,5 +1,6 @@
 -- The keys of receipts: which rows have another, and that in no office one comes twice.
-use Rattle.std.proofs.Common.{◌≡◌, ◌≢◌, ◌<◌, ℕ, Bool, true, false, List, [], ◌∷◌, map, refl, sym, ap, ◌∙◌, arith, Ordering, is_eq, nat_cmp, ◌==◌}
+use Rattle.std.proofs.Common.{◌≡◌, ◌≢◌, ◌<◌, ℕ, Bool, true, false, List, [], ◌∷◌, map, refl, sym, ap, ◌∙◌, arith}
+use Rattle.std.proofs.Common.{Ordering, is_eq, nat_cmp, ◌==◌}
 use Rattle.std.specs.List.{AllByRecursion}
 use Rattle.std.specs.Cmp.Lexicographic.{slice_cmp}
 use Rattle.std.specs.Ordering.{ordering_then}
@@ -33,7 +34,8 @@ turned xs ys = go (bytes_eq xs ys) (bytes_eq ys xs) refl refl
 
 -- within its office a receipt is found by its bytes
 pub own_key : (x : ℕ) (r : List ℕ) (u : Use) → is_receipt x r (receipt_in x u) ≡ bytes_eq u.receipt r
-own_key x r u = ap is_eq (same_office x (slice_cmp nat_cmp r u.receipt)) ∙ is_eq-slice_cmp r u.receipt ∙ turned r u.receipt
+own_key x r u = ap is_eq (same_office x (slice_cmp nat_cmp r u.receipt)) ∙ is_eq-slice_cmp r u.receipt
+    ∙ turned r u.receipt
 
 pub other_key : (x y : ℕ) (r : List ℕ) (u : Use) → (y == x) ≡ false → is_receipt x r (receipt_in y u) ≡ false
 other_key x y r u h = apart_office x y (slice_cmp nat_cmp r u.receipt) h
@@ -51,7 +53,8 @@ others_above x r [] up = tt
 others_above x r (f ∷ fs) up =
     let low : x < f.number = up.0 in
     let apart : (f.number == x) ≡ false = grind (arith, nat_tests) in
-    all-append (λ (row : ReceiptRow). is_receipt x r row ≡ false) (map (receipt_in f.number) (uses_from 1 f.rows.loans)) (receipts_carried fs) (others_in x f.number r (uses_from 1 f.rows.loans) apart) (others_above x r fs up.1)
+    all-append (λ (row : ReceiptRow). is_receipt x r row ≡ false) (map (receipt_in f.number) (uses_from 1 f.rows.loans))
+    (receipts_carried fs) (others_in x f.number r (uses_from 1 f.rows.loans) apart) (others_above x r fs up.1)
 
 pub apart_bytes : (xs ys : List ℕ) → xs ≢ ys → bytes_eq xs ys ≡ false
 apart_bytes xs ys h = go (bytes_eq xs ys) refl
@@ -60,13 +63,16 @@ apart_bytes xs ys h = go (bytes_eq xs ys) refl
     go true e = absurd (h ((bytes_eq-Decides xs ys).0 e))
     go false e = refl
 
-pub others_of : (x : ℕ) (r : List ℕ) (u : Use) (us : List Use) → u.receipt ≡ r → AllByRecursion (λ (v : Use). u.receipt ≢ v.receipt) us → AreOthers x r (map (receipt_in x) us)
+pub others_of : (x : ℕ) (r : List ℕ) (u : Use) (us : List Use) → u.receipt ≡ r → AllByRecursion (λ (v : Use). u.receipt
+    ≢ v.receipt) us → AreOthers x r (map (receipt_in x) us)
 others_of x r u [] is a = tt
-others_of x r u (v ∷ us) is a = (own_key x r v ∙ apart_bytes v.receipt r (λ same. a.0 (is ∙ sym same)), others_of x r u us is a.1)
+others_of x r u (v ∷ us) is a =
+    (own_key x r v ∙ apart_bytes v.receipt r (λ same. a.0 (is ∙ sym same)), others_of x r u us is a.1)
 
 -- the receipts of each office are apart
 abbrev pub AreAllApart : List Office → Type 0
 AreAllApart fs = AllByRecursion (λ (f : Office). AreApart (uses_from 1 f.rows.loans)) fs
 
 pub receipts_apart : (i : Institution) → IsSound i → AreAllApart i.offices
-receipts_apart i sound = all_weaker (IsSoundOffice i.catalogue (is_staff i.offices)) (λ (f : Office). AreApart (uses_from 1 f.rows.loans)) (λ f is. is.rows.receipts) i.offices sound.each
+receipts_apart i sound = all_weaker (IsSoundOffice i.catalogue (is_staff i.offices))
+    (λ (f : Office). AreApart (uses_from 1 f.rows.loans)) (λ f is. is.rows.receipts) i.offices sound.each

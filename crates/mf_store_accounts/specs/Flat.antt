@@ -1,5 +1,6 @@
 -- The rows of an institution: one list a table, each in the order of its key.
-use Rattle.std.specs.Prelude.{ℕ, zero, suc, pos, Bool, true, false, ◌+◌, length, slice_index, List, [], ◌∷◌, ◌++◌, map, option_map, Option, Some, None, nat_le}
+use Rattle.std.specs.Prelude.{ℕ, zero, suc, pos, Bool, true, false, ◌+◌, length, slice_index, List, [], ◌∷◌, ◌++◌, map}
+use Rattle.std.specs.Prelude.{option_map, Option, Some, None, nat_le}
 use Rattle.mf_account.specs.declared.entry.Entry.{Entry}
 use Rattle.mf_account.specs.declared.settled.How.{How}
 use Rattle.mf_account.specs.declared.settled.How.TheVariants.{Paid, Waived, WrittenOff}
@@ -18,7 +19,8 @@ use Rattle.mf_office.specs.Keys.{key_of, key_depth, with_last_raised, is_in_rang
 use Rattle.mf_office.specs.Roles.{role_number}
 use Rattle.mf_office.specs.Written.{caller_text}
 use Rattle.mf_model.specs.Accounts.{account_in, of_account, status_in}
-use Rattle.mf_model.specs.Institution.{Institution, Catalogue, Charge, Ledger, Offer, Office, Rows, Staff, office_at, item_numbered}
+use Rattle.mf_model.specs.Institution.{Institution, Catalogue, Charge, Ledger, Offer, Office, Rows, Staff, office_at}
+use Rattle.mf_model.specs.Institution.{item_numbered}
 use Rattle.mf_model.specs.Stages.{stage_number, disbursed_on}
 use Rattle.mf_model.specs.declared.loan.Loan.{Loan}
 use Rattle.mf_model.specs.declared.loan.LoanLine.{LoanLine}
@@ -76,6 +78,7 @@ portion_number portion.Fee = 2
 portion_number portion.Interest = 3
 portion_number portion.Principal = 4
 
+-- the row of meta of a business day
 abbrev pub meta_on : ℕ → MetaRow
 meta_on day = record { one = 1; schema = schema_number; day = day_text day }
 
@@ -93,7 +96,13 @@ client_in office number name = record { office = office; number = number; name =
 
 -- the row of a charge under its number
 abbrev pub charge_as : ℕ → Charge → ChargeRow
-charge_as number c = record { number = number; name = c.name; kind = kind_number c.kind; calc = calc_number c.calc; value = pos c.value }
+charge_as number c = record {
+  number = number;
+  name = c.name;
+  kind = kind_number c.kind;
+  calc = calc_number c.calc;
+  value = pos c.value;
+}
 
 -- the row of a product under its number
 abbrev pub product_as : ℕ → Offer → ProductRow
@@ -119,7 +128,18 @@ product_as number p = record {
 
 -- the row of a loan: office, number
 abbrev pub loan_in : ℕ → ℕ → Loan → LoanRow
-loan_in office number l = record { office = office; number = number; client = l.client; product = l.product; principal = pos l.principal; periods = l.periods; stage = stage_number l.stage; approved = approval_text l.stage; disbursed = disbursal_text l.stage }
+loan_in office number l = record {
+  office = office;
+  number = number;
+  client = l.client;
+  product = l.product;
+  principal = pos l.principal;
+  periods = l.periods;
+  stage = stage_number l.stage;
+  approved =
+      approval_text l.stage;
+  disbursed = disbursal_text l.stage;
+}
 
 -- the row of an entry: office, loan
 abbrev pub entry_in : ℕ → ℕ → Entry → EntryRow

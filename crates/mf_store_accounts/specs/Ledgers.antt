@@ -15,7 +15,8 @@ use Rattle.mf_model.specs.declared.loan.Loan.{Loan}
 abbrev pub IsReadable : Entry → Type 0
 IsReadable e = (e.day ≤ last_entered_day) × IsCaller e.staff
 
--- what an entry keeps beside its own columns: its day can be entered and is not after today, its caller is in range, and its receipt is one
+-- what an entry keeps beside its own columns: its day can be entered and is not after today, its caller is in range,
+-- and its receipt is one
 pub record IsEnteredBy (today : ℕ) (e : Entry) : Type 0 where
   pub readable : IsReadable e
   pub entered : e.day ≤ today
@@ -30,7 +31,8 @@ pub record IsOwnLoan (k : Catalogue) (clients : List (List ℕ)) (l : Loan) : Ty
 -- the entries of a loan of so many periods, none before it is disbursed; who entered them is left open
 abbrev pub AreEntriesIn : ℕ → ℕ → Option ℕ → List Entry → Type 0
 AreEntriesIn today periods None entries = entries ≡ []
-AreEntriesIn today periods (Some day) entries = AreEntries periods day entries × AllByRecursion (IsEnteredBy today) entries
+AreEntriesIn today periods (Some day) entries =
+    AreEntries periods day entries × AllByRecursion (IsEnteredBy today) entries
 
 -- a sound loan, but for who entered its entries
 pub record IsPlainLoan (k : Catalogue) (clients : List (List ℕ)) (l : Ledger) : Type 0 where

@@ -8,9 +8,11 @@ use Rattle.mf_store_records.specs.declared.offices.OfficeRow.{OfficeRow}
 abbrev pub own_count : {R : Type 0} → (R → ℕ) → ℕ → List R → ℕ
 own_count owner_of x rows = prefix_len (λ r. owner_of r == x) rows
 
+-- the first rows, which are an owner's
 abbrev pub own : {R : Type 0} → (R → ℕ) → ℕ → List R → List R
 own owner_of x rows = take (own_count owner_of x rows) rows
 
+-- the rows behind these
 abbrev pub later : {R : Type 0} → (R → ℕ) → ℕ → List R → List R
 later owner_of x rows = drop (own_count owner_of x rows) rows
 

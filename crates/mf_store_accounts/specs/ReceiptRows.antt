@@ -25,7 +25,8 @@ receipt_rows fs = sort_by by_receipt (receipts_carried fs)
 -- the write of its receipt's row, if it carries one
 abbrev pub receipt_added : EntryRow → Option (List ℕ) → List StoreWrite
 receipt_added entry None = []
-receipt_added entry (Some receipt) = AddReceipt (record { office = entry.office; receipt = receipt; loan = entry.loan; seq = entry.seq }) ∷ []
+receipt_added entry (Some receipt) =
+    AddReceipt (record { office = entry.office; receipt = receipt; loan = entry.loan; seq = entry.seq }) ∷ []
 
 -- the writes that add an entry: its row, and that of its receipt
 abbrev pub entry_added : EntryRow → List StoreWrite
@@ -34,7 +35,12 @@ entry_added entry = AddEntry entry ∷ receipt_added entry entry.receipt
 -- the row of the receipt that an entry's row carries
 abbrev pub receipt_of : EntryRow → Option (List ℕ) → List ReceiptRow
 receipt_of entry None = []
-receipt_of entry (Some receipt) = record { office = entry.office; receipt = receipt; loan = entry.loan; seq = entry.seq } ∷ []
+receipt_of entry (Some receipt) = record {
+  office = entry.office;
+  receipt = receipt;
+  loan = entry.loan;
+  seq = entry.seq;
+} ∷ []
 
 -- the rows of the receipts that rows of entries carry
 abbrev pub carried_by : List EntryRow → List ReceiptRow

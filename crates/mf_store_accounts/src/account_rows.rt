@@ -5,9 +5,11 @@ ghost use Rattle.std.specs.List.{prefix_len};
 ghost use Rattle.mf_base.specs.declared.fault.Fault.TheVariants.{F20};
 ghost use Rattle.mf_model.specs.Institution.{Catalogue, Ledger};
 ghost use Rattle.mf_model.specs.Sound.{IsSoundCatalogue};
-ghost use Rattle.mf_store_accounts.specs.Accounts.{is_of_loan, first_rows, later_rows, PlacedLoan, AreLoansOf, AreAccounts};
+ghost use Rattle.mf_store_accounts.specs.Accounts.{is_of_loan, first_rows, later_rows, PlacedLoan, AreLoansOf};
+ghost use Rattle.mf_store_accounts.specs.Accounts.{AreAccounts};
 ghost use Rattle.mf_store_accounts.specs.Accounts.{instalments_of, shares_of};
-ghost use Rattle.mf_store_accounts.specs.Flat.{charge_as, product_as, loan_in, entry_in, instalment_in, share_in, numbered_from};
+ghost use Rattle.mf_store_accounts.specs.Flat.{charge_as, product_as, loan_in, entry_in, instalment_in, share_in};
+ghost use Rattle.mf_store_accounts.specs.Flat.{numbered_from};
 ghost use Rattle.mf_store_accounts.specs.Ledgers.{IsPlainLoan};
 
 use crate::accounts::account_of;
@@ -76,8 +78,10 @@ fn count_of<T: OfLoan>(rows: &[T], office: u32, loan: u32) -> usize
 
 /// The rows of a loan, which come first, and the later ones.
 fn split<'a, T: OfLoan>(rows: &'a [T], loan: &LoanRow) -> (&'a [T], &'a [T])
-    ensures first { result.0.now ≡ first_rows (is_of_loan T.office_of T.loan_of loan.now.office loan.now.number) rows.now }
-    ensures later { result.1.now ≡ later_rows (is_of_loan T.office_of T.loan_of loan.now.office loan.now.number) rows.now }
+    ensures first { result.0.now ≡ first_rows (is_of_loan T.office_of T.loan_of loan.now.office loan.now.number)
+        rows.now }
+    ensures later { result.1.now ≡ later_rows (is_of_loan T.office_of T.loan_of loan.now.office loan.now.number)
+        rows.now }
 {
     let count = count_of(rows, loan.office, loan.number);
     rows.split_at(count)
@@ -98,7 +102,8 @@ fn add_account(
         (names : List (List ℕ)) (l : Ledger) → IsPlainLoan k names l →
         loan_in row.now.office row.now.number l.loan ≡ row.now →
         map (entry_in row.now.office row.now.number) l.entries ≡ entries.now →
-        (instalments.new.items ≡ instalments.old.items ++ map (instalment_in row.now.office row.now.number) (instalments_of k l))
+        (instalments.new.items ≡ instalments.old.items ++ map (instalment_in row.now.office row.now.number)
+        (instalments_of k l))
         × (shares.new.items ≡ shares.old.items ++ map (share_in row.now.office row.now.number) (shares_of k l))) }
     ensures gives_up { IfErr result (λ fault. fault ≡ F20) }
 {
@@ -154,8 +159,8 @@ fn is_nothing_left(instalments: &[InstalmentRow], shares: &[ShareRow]) -> bool
     instalments.is_empty() && shares.is_empty()
 }
 
-/// Whether the rows are those of the accounts of all loans, loan by loan, and nothing is left over. The rows of one loan at
-/// a time are made. The only error is F20, out of memory.
+/// Whether the rows are those of the accounts of all loans, loan by loan, and nothing is left over. The rows of one
+/// loan at a time are made. The only error is F20, out of memory.
 pub fn are_accounts(
     alloc: Global,
     charges: &[ChargeRow],
@@ -197,7 +202,8 @@ pub fn are_accounts(
     Ok(nothing)
 }
 
-/// The rows of instalments and of shares of the accounts of all loans, loan by loan. The only error is F20, out of memory.
+/// The rows of instalments and of shares of the accounts of all loans, loan by loan. The only error is F20, out of
+/// memory.
 pub fn rows_of_accounts(
     alloc: Global,
     charges: &[ChargeRow],

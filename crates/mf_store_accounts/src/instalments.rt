@@ -60,7 +60,8 @@ pub(crate) fn add_instalments(
     rows: &[Row],
     made: &mut Vec<InstalmentRow>,
 ) -> Result<(), Fault>
-    ensures added { OnOk result (made.new.items ≡ made.old.items ++ map (instalment_in office loan) (numbered_from (λ number row. (number, row)) 1 rows.now)) }
+    ensures added { OnOk result (made.new.items ≡ made.old.items ++ map (instalment_in office loan)
+        (numbered_from (λ number row. (number, row)) 1 rows.now)) }
     ensures gives_up { IfErr result (λ fault. fault ≡ F20) }
 {
     let mut number = 0;

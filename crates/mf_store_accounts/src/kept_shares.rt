@@ -12,7 +12,8 @@ use mf_store_records::ShareRow;
 
 /// The part of a cell whose row this is, or None where it is that of none.
 pub fn part_of(row: &ShareRow) -> Option<Settled>
-    ensures part { (office loan : ℕ) (placed : ℕ × (ℕ × Part)) → share_in office loan placed ≡ row.now → result ≡ Some (part_told placed) }
+    ensures part { (office loan : ℕ) (placed : ℕ × (ℕ × Part)) → share_in office loan placed ≡ row.now
+        → result ≡ Some (part_told placed) }
 {
     match (
         portion_from(row.portion),

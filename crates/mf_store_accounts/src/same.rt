@@ -36,7 +36,8 @@ fn is_same_instalment(row: &InstalmentRow, other: &InstalmentRow) -> bool
 fn are_same_charges(row: &InstalmentRow, other: &InstalmentRow) -> bool
     ensures { IsTrue result ↔
         ((row.now.owed_penalty ≡ other.now.owed_penalty) × (row.now.paid_penalty ≡ other.now.paid_penalty)
-        × (row.now.waived_penalty ≡ other.now.waived_penalty) × (row.now.written_off_penalty ≡ other.now.written_off_penalty)
+        × (row.now.waived_penalty ≡ other.now.waived_penalty)
+        × (row.now.written_off_penalty ≡ other.now.written_off_penalty)
         × (row.now.owed_fee ≡ other.now.owed_fee) × (row.now.paid_fee ≡ other.now.paid_fee)
         × (row.now.waived_fee ≡ other.now.waived_fee) × (row.now.written_off_fee ≡ other.now.written_off_fee)) }
 {
@@ -54,9 +55,11 @@ fn are_same_charges(row: &InstalmentRow, other: &InstalmentRow) -> bool
 fn are_same_dues(row: &InstalmentRow, other: &InstalmentRow) -> bool
     ensures { IsTrue result ↔
         ((row.now.owed_interest ≡ other.now.owed_interest) × (row.now.paid_interest ≡ other.now.paid_interest)
-        × (row.now.waived_interest ≡ other.now.waived_interest) × (row.now.written_off_interest ≡ other.now.written_off_interest)
+        × (row.now.waived_interest ≡ other.now.waived_interest)
+        × (row.now.written_off_interest ≡ other.now.written_off_interest)
         × (row.now.owed_principal ≡ other.now.owed_principal) × (row.now.paid_principal ≡ other.now.paid_principal)
-        × (row.now.waived_principal ≡ other.now.waived_principal) × (row.now.written_off_principal ≡ other.now.written_off_principal)) }
+        × (row.now.waived_principal ≡ other.now.waived_principal)
+        × (row.now.written_off_principal ≡ other.now.written_off_principal)) }
 {
     row.owed_interest == other.owed_interest
         && row.paid_interest == other.paid_interest

@@ -39,8 +39,8 @@ pub fn share_row(
     })
 }
 
-/// The place of a part within its entry, after a part with this entry's number and place. One that 32 bits don't hold is
-/// F20.
+/// The place of a part within its entry, after a part with this entry's number and place. One that 32 bits don't hold
+/// is F20.
 fn next_place(seq: u32, place: u32, part: &Settled) -> Result<u32, Fault>
     ensures place { IfOk result (λ next. next ≡ place_after seq place part.now) }
     ensures gives_up { IfErr result (λ fault. fault ≡ F20) }
@@ -61,7 +61,8 @@ fn add_placed(
     parts: &[Settled],
     made: &mut Vec<ShareRow>,
 ) -> Result<(), Fault>
-    ensures added { OnOk result (made.new.items ≡ made.old.items ++ map (share_in office loan) (placed_from 0 0 parts.now)) }
+    ensures added { OnOk result (made.new.items ≡ made.old.items ++ map (share_in office loan)
+        (placed_from 0 0 parts.now)) }
     ensures gives_up { IfErr result (λ fault. fault ≡ F20) }
 {
     let mut seq = 0;
@@ -95,7 +96,8 @@ pub(crate) fn add_shares(
     account: &LoanAccount,
     made: &mut Vec<ShareRow>,
 ) -> Result<(), Fault>
-    ensures added { OnOk result (made.new.items ≡ made.old.items ++ map (share_in office loan) (parts_from (λ seq. settled_in seq account.now.settled) 1 (length account.now.loan.entries))) }
+    ensures added { OnOk result (made.new.items ≡ made.old.items ++ map (share_in office loan)
+        (parts_from (λ seq. settled_in seq account.now.settled) 1 (length account.now.loan.entries))) }
     ensures gives_up { IfErr result (λ fault. fault ≡ F20) }
 {
     let parts = by_entry(alloc, account.settled_parts())?;

@@ -16,7 +16,8 @@ use std::alloc::Global;
 
 /// The charge of a row under its number, or None where it is that of none.
 fn charge_def(alloc: Global, number: u32, row: &ChargeRow) -> Result<Option<ChargeDef>, Fault>
-    ensures charge { IfOk result (λ found. (c : Charge) → charge_as number c ≡ row.now → found ≡ Some (charge_with number c)) }
+    ensures charge { IfOk result (λ found. (c : Charge) → charge_as number c ≡ row.now
+        → found ≡ Some (charge_with number c)) }
     ensures gives_up { IfErr result (λ fault. fault ≡ F20) }
 {
     let name = Name::new(String::from_str(alloc, row.name.as_str())?);

@@ -16,7 +16,8 @@ use Rattle.mf_store_audit.specs.Audits.{IsAuditOf, IsAuditOfFile}
 use Rattle.mf_store_audit.specs.declared.audits.Audit.{Audit}
 use Rattle.mf_store_audit.specs.declared.audits.Audit.TheVariants.{NoTables, OtherTables, Sound, Unsound, Unreadable}
 
-module _ (image : Image) (s : State) (shows : ShowsFile image s) (trees : Trees) (k : Schema) (holds : HoldsDatabase image trees) (sound : IsSound k trees) where
+module _ (image : Image) (s : State) (shows : ShowsFile image s) (trees : Trees) (k : Schema)
+    (holds : HoldsDatabase image trees) (sound : IsSound k trees) where
   abbrev held : Database
   held = record { schema = k; trees = trees }
 
@@ -27,7 +28,8 @@ module _ (image : Image) (s : State) (shows : ShowsFile image s) (trees : Trees)
       λ t. record { schema = sym same t; trees = shows.holds trees holds t }
 
   was_seen : (own : Schema) → own.views ≡ [] → k ≡ own → s.now.schema ≡ own
-  was_seen own bare is = ap (λ (db : Database). db.schema) (under image s shows k (ap (λ (x : Schema). x.views) is ∙ bare) trees holds sound) ∙ is
+  was_seen own bare is = ap (λ (db : Database). db.schema) (under image s shows k (ap (λ (x : Schema). x.views) is
+      ∙ bare) trees holds sound) ∙ is
 
   as_known : IsKnown k → IsKnown s.now.schema
   as_known (inl present) = inl (was_seen schema refl present)
@@ -40,10 +42,13 @@ module _ (image : Image) (s : State) (shows : ShowsFile image s) (trees : Trees)
   told_of : (audit : Audit) → IsAuditOf s.now audit → IsAuditOf held audit
   told_of NoTables told = subst (λ db. IsAuditOf db NoTables) (is_held no_schema refl told) told
   told_of OtherTables told = (λ none. told.0 (was_seen no_schema refl none), λ known. told.1 (as_known known))
-  told_of (Sound n sums) told = subst (λ db. IsAuditOf db (Sound n sums)) (known_is_held (elim told.has [ inl present ↦ inl present.1 | inr first ↦ inr first.1 ])) told
-  told_of (Unsound n rows findings) told = subst (λ db. IsAuditOf db (Unsound n rows findings)) (known_is_held (elim told.1 [ inl present ↦ inl present.1 | inr first ↦ inr first.1 ])) told
+  told_of (Sound n sums) told = subst (λ db. IsAuditOf db (Sound n sums))
+      (known_is_held (elim told.has [ inl present ↦ inl present.1 | inr first ↦ inr first.1 ])) told
+  told_of (Unsound n rows findings) told = subst (λ db. IsAuditOf db (Unsound n rows findings))
+      (known_is_held (elim told.1 [ inl present ↦ inl present.1 | inr first ↦ inr first.1 ])) told
   told_of (Unreadable n unread) told = subst (λ db. IsAuditOf db (Unreadable n unread)) (known_is_held told.0) told
 
 module _ (image : Image) (s : State) (shows : ShowsFile image s) where
   pub audit_of_file : (audit : Audit) → IsAuditOf s.now audit → IsAuditOfFile image audit
-  audit_of_file audit told = record { tables = λ trees k holds sound. told_of image s shows trees k holds sound audit told }
+  audit_of_file audit told =
+      record { tables = λ trees k holds sound. told_of image s shows trees k holds sound audit told }

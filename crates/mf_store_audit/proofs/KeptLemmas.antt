@@ -9,13 +9,22 @@ use Rattle.mf_store_files.specs.Told.{IsAny}
 use Rattle.mf_store_files.proofs.TableLemmas.{unchanged_fewer}
 
 pub as_present : (old new : State) → IsUnchanged old new → IsUnchangedUnder IsPresent old new
-as_present old new u = record { premise = u.premise; was_open = u.was_open; same = u.same; shuts = u.shuts; stop = u.stop }
+as_present old new u = record {
+  premise = u.premise;
+  was_open = u.was_open;
+  same = u.same;
+  shuts = u.shuts;
+  stop = u.stop;
+}
 
-pub then_under : (P Q : Schema → Type 0) (a b c : State) → ((k : Schema) → P k → Q k) → IsUnchangedUnder P a b → IsUnchangedUnder Q b c → IsUnchangedUnder P a c
+pub then_under : (P Q : Schema → Type 0) (a b c : State) → ((k : Schema) → P k → Q k) → IsUnchangedUnder P a b
+    → IsUnchangedUnder Q b c → IsUnchangedUnder P a c
 then_under P Q a b c has first second =
-    unchanged_fewer (λ k. P k × P k) P a c (λ k is. (is, is)) (unchanged_then P P a b c first (unchanged_fewer Q P b c has second))
+    unchanged_fewer (λ k. P k × P k) P a c (λ k is. (is, is))
+    (unchanged_then P P a b c first (unchanged_fewer Q P b c has second))
 
-pub under_any : (P : Schema → Type 0) (old new : State) → P old.now.schema → IsUnchangedUnder P old new → IsUnchangedUnder IsAny old new
+pub under_any : (P : Schema → Type 0) (old new : State) → P old.now.schema → IsUnchangedUnder P old new
+    → IsUnchangedUnder IsAny old new
 under_any P old new ours u = record {
   premise = u.premise;
   was_open = u.was_open;

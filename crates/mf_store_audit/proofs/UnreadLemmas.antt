@@ -1,5 +1,6 @@
 -- The value for which no record can hold a row.
-use Rattle.std.proofs.Common.{◌≡◌, ◌↔◌, ◌⊎◌, ◌<◌, ◌≤◌, ◌+◌, ◌^◌, ℕ, ℤ, pos, negsuc, Bool, true, false, List, [], ◌∷◌, length, IsTrue, inl, inr, sym, subst, ap, refl, ◌∙◌, true≢false, arith}
+use Rattle.std.proofs.Common.{◌≡◌, ◌↔◌, ◌⊎◌, ◌<◌, ◌≤◌, ◌+◌, ◌^◌, ℕ, ℤ, pos, negsuc, Bool, true, false, List, [], ◌∷◌}
+use Rattle.std.proofs.Common.{length, IsTrue, inl, inr, sym, subst, ap, refl, ◌∙◌, true≢false, arith}
 use Rattle.std.specs.Str.{is_utf8, IsUtf8}
 use Rattle.std.proofs.lemmas.Str.{IsUtf8-from_is_utf8, is_utf8-from_IsUtf8}
 use Rattle.std.proofs.lemmas.Bool.{ltb-true, ltb-false}
@@ -7,9 +8,11 @@ use Rattle.std.proofs.Math.Dec.{ltb}
 use Rattle.sqlite.specs.declared.types.Value.{Value}
 use Rattle.sqlite.specs.declared.types.Value.TheVariants.{Null, Int, Text as Words}
 use Rattle.sqlite.specs.Order.{Row, column}
-use Rattle.mf_store_records.specs.Fields.{Field, Number, Amount, Text, MaybeNumber, MaybeText, IsNumber, IsText, CanHold, CanHoldFrom, HasFields}
+use Rattle.mf_store_records.specs.Fields.{Field, Number, Amount, Text, MaybeNumber, MaybeText, IsNumber, IsText}
+use Rattle.mf_store_records.specs.Fields.{CanHold, CanHoldFrom, HasFields}
 use Rattle.mf_store_rows.proofs.TreeLemmas.{past_end}
-use Rattle.mf_store_audit.specs.Unread.{IsBadText, HasBadText, IsOfType, AreOfTypesFrom, IsTyped, IsBadNumber, IsBadIn, HasBadNumberFrom}
+use Rattle.mf_store_audit.specs.Unread.{IsBadText, HasBadText, IsOfType, AreOfTypesFrom, IsTyped, IsBadNumber, IsBadIn}
+use Rattle.mf_store_audit.specs.Unread.{HasBadNumberFrom}
 
 number_or_bad : (v : Value) (n : ℤ) → v ≡ Int n → IsNumber v ⊎ IsBadNumber v
 number_or_bad v (negsuc n) is = inr (inl (n, is))
@@ -39,18 +42,22 @@ field_held MaybeNumber v (inr of) good = go (number_or_bad v of.0 of.1)
 field_held MaybeText v (inl is) good = inl (inl is)
 field_held MaybeText v (inr of) good = inl (inr (text_held v of.0 of.1 good))
 
-fields_held : (at : ℕ) (fs : List Field) (row : Row) → AreOfTypesFrom at fs row → ¬ HasBadText row → CanHoldFrom at fs row ⊎ HasBadNumberFrom at fs row
+fields_held : (at : ℕ) (fs : List Field) (row : Row) → AreOfTypesFrom at fs row → ¬ HasBadText row
+    → CanHoldFrom at fs row ⊎ HasBadNumberFrom at fs row
 fields_held at [] row of good = inl tt
-fields_held at (f ∷ fs) row of good = go (field_held f (column row at) of.0 (λ bad. good (at, bad))) (fields_held (at + 1) fs row of.1 good)
+fields_held at (f ∷ fs) row of good =
+    go (field_held f (column row at) of.0 (λ bad. good (at, bad))) (fields_held (at + 1) fs row of.1 good)
   where
-    go : CanHold f (column row at) ⊎ IsBadIn f (column row at) → CanHoldFrom (at + 1) fs row ⊎ HasBadNumberFrom (at + 1) fs row
+    go : CanHold f (column row at) ⊎ IsBadIn f (column row at) → CanHoldFrom (at + 1) fs row
+        ⊎ HasBadNumberFrom (at + 1) fs row
         → CanHoldFrom at (f ∷ fs) row ⊎ HasBadNumberFrom at (f ∷ fs) row
     go (inl here) (inl later) = inl (here, later)
     go (inl here) (inr later) = inr (inr later)
     go (inr here) later = inr (inl here)
 
 -- where each text is UTF-8 and each value of its column's type, a number is out of range
-pub out_of_range : (fs : List Field) (row : Row) → ¬ HasFields fs row → ¬ HasBadText row → IsTyped fs row → HasBadNumberFrom 0 fs row
+pub out_of_range : (fs : List Field) (row : Row) → ¬ HasFields fs row → ¬ HasBadText row → IsTyped fs row
+    → HasBadNumberFrom 0 fs row
 out_of_range fs row unread good typed = go (fields_held 0 fs row typed.types good)
   where
     go : CanHoldFrom 0 fs row ⊎ HasBadNumberFrom 0 fs row → HasBadNumberFrom 0 fs row
@@ -73,7 +80,8 @@ pub is_bad : (v : Value) (t : List ℕ) → v ≡ Words t → ¬ IsUtf8 t → Is
 is_bad v t is bad = (λ yes. (t, is, bad), λ has. refl)
 
 pub is_good : (v : Value) (t : List ℕ) → v ≡ Words t → IsUtf8 t → IsTrue false ↔ IsBadText v
-is_good v t is good = (λ no. absurd (true≢false (sym no)), λ has. absurd (has.2 (subst IsUtf8 (words_one (sym is ∙ has.1)) good)))
+is_good v t is good =
+    (λ no. absurd (true≢false (sym no)), λ has. absurd (has.2 (subst IsUtf8 (words_one (sym is ∙ has.1)) good)))
 
 pub below_more : (row : Row) (n : ℕ) → ((k : ℕ) → k < n → ¬ IsBadText (column row k)) → ¬ IsBadText (column row n)
     → (k : ℕ) → k < n + 1 → ¬ IsBadText (column row k)

@@ -1,17 +1,24 @@
 -- Rows that no record can hold.
-use Rattle.std.specs.Prelude.{◌≡◌, ◌⊎◌, ◌+◌, ◌^◌, ◌≤◌, ℕ, ℤ, pos, negsuc, List, [], ◌∷◌, length, Some, slice_get, IsUtf8}
+use Rattle.std.specs.Prelude.{◌≡◌, ◌⊎◌, ◌+◌, ◌^◌, ◌≤◌, ℕ, ℤ, pos, negsuc, List, [], ◌∷◌, length, Some, slice_get}
+use Rattle.std.specs.Prelude.{IsUtf8}
 use Rattle.std.specs.declared.cmp.Ordering.{Ordering}
 use Rattle.sqlite.specs.declared.types.Value.{Value}
 use Rattle.sqlite.specs.declared.types.Value.TheVariants.{Null, Int, Text as Words}
 use Rattle.sqlite.specs.Order.{Row, column}
 use Rattle.sqlite.specs.Tree.{Trees}
 use Rattle.mf_store_records.specs.Fields.{Field, Number, Amount, Text, MaybeNumber, MaybeText, HasFields}
-use Rattle.mf_store_records.specs.Rows.{meta_row, office_row, staff_row, client_row, charge_row, product_row, loan_row, entry_row, receipt_row, instalment_row, share_row, by_meta, by_office, by_staff, by_client, by_charge, by_product, by_loan, by_entry, by_receipt, by_instalment, by_share, meta_fields, office_fields, staff_fields, client_fields, charge_fields, product_fields, loan_fields, entry_fields, receipt_fields, instalment_fields, share_fields}
+use Rattle.mf_store_records.specs.Rows.{meta_row, office_row, staff_row, client_row, charge_row, product_row, loan_row}
+use Rattle.mf_store_records.specs.Rows.{entry_row, receipt_row, instalment_row, share_row, by_meta, by_office, by_staff}
+use Rattle.mf_store_records.specs.Rows.{by_client, by_charge, by_product, by_loan, by_entry, by_receipt, by_instalment}
+use Rattle.mf_store_records.specs.Rows.{by_share, meta_fields, office_fields, staff_fields, client_fields}
+use Rattle.mf_store_records.specs.Rows.{charge_fields, product_fields, loan_fields, entry_fields, receipt_fields}
+use Rattle.mf_store_records.specs.Rows.{instalment_fields, share_fields}
 use Rattle.mf_store_rows.specs.Whole.{ShowsTable}
 use Rattle.mf_store_audit.specs.declared.unread.UnreadValue.{UnreadValue}
 use Rattle.mf_store_audit.specs.declared.unread.UnreadValue.TheVariants.{NotUtf8, OutOfRange}
 use Rattle.mf_store_audit.specs.declared.unread.TableName.{TableName}
-use Rattle.mf_store_audit.specs.declared.unread.TableName.TheVariants.{Meta, Offices, Staff, Clients, Charges, Products, Loans, Entries, Receipts, Instalments, Shares}
+use Rattle.mf_store_audit.specs.declared.unread.TableName.TheVariants.{Meta, Offices, Staff, Clients, Charges, Products}
+use Rattle.mf_store_audit.specs.declared.unread.TableName.TheVariants.{Loans, Entries, Receipts, Instalments, Shares}
 
 -- a text that is not UTF-8
 abbrev pub IsBadText : Value → Type 0
@@ -56,8 +63,8 @@ abbrev pub HasBadNumberFrom : ℕ → List Field → Row → Type 0
 HasBadNumberFrom at [] row = ⊥
 HasBadNumberFrom at (f ∷ fs) row = IsBadIn f (column row at) ⊎ HasBadNumberFrom (at + 1) fs row
 
--- the value for which no record of these fields can hold a row: a text that is not UTF-8; or, where no text is such a one and the
--- values are of the types of their columns, a number that is not 0 to 4294967295
+-- the value for which no record of these fields can hold a row: a text that is not UTF-8; or, where no text is such a
+-- one and the values are of the types of their columns, a number that is not 0 to 4294967295
 abbrev pub IsUnreadFor : UnreadValue → List Field → Row → Type 0
 IsUnreadFor NotUtf8 fields row = HasBadText row
 IsUnreadFor OutOfRange fields row = (¬ HasBadText row) × (IsTyped fields row → HasBadNumberFrom 0 fields row)
@@ -87,5 +94,6 @@ IsUnread Products value place trees = IsUnreadIn product_fields product_row by_p
 IsUnread Loans value place trees = IsUnreadIn loan_fields loan_row by_loan (trees 13) value place
 IsUnread Entries value place trees = IsUnreadIn entry_fields entry_row by_entry (trees 15) value place
 IsUnread Receipts value place trees = IsUnreadIn receipt_fields receipt_row by_receipt (trees 17) value place
-IsUnread Instalments value place trees = IsUnreadIn instalment_fields instalment_row by_instalment (trees 19) value place
+IsUnread Instalments value place trees =
+    IsUnreadIn instalment_fields instalment_row by_instalment (trees 19) value place
 IsUnread Shares value place trees = IsUnreadIn share_fields share_row by_share (trees 21) value place

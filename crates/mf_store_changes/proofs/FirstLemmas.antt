@@ -12,24 +12,27 @@ use Rattle.mf_store_changes.specs.Becoming.{Begins}
 first_list : MetaRow → OfficeRow → StaffRow → List StoreWrite
 first_list m o s = MakeTables ∷ PutMeta m ∷ PutOffice o ∷ PutStaff s ∷ []
 
-pub begins : (writes : List StoreWrite) (day : ℕ) (m : MetaRow) (o : OfficeRow) (s : StaffRow) → writes ≡ MakeTables ∷ PutMeta m ∷ PutOffice o ∷ PutStaff s ∷ []
-    → m.one ≡ 1 → m.schema ≡ 2 → m.day ≡ day_text day → o.number ≡ 1 → o.parent ≡ None → o.hkey ≡ codes "." → o.name ≡ codes "Head Office"
+pub begins : (writes : List StoreWrite) (day : ℕ) (m : MetaRow) (o : OfficeRow) (s : StaffRow) → writes ≡ MakeTables
+    ∷ PutMeta m ∷ PutOffice o ∷ PutStaff s ∷ []
+    → m.one ≡ 1 → m.schema ≡ 2 → m.day ≡ day_text day → o.number ≡ 1 → o.parent ≡ None → o.hkey ≡ codes "."
+    → o.name ≡ codes "Head Office"
     → s.office ≡ 1 → s.number ≡ 1 → s.name ≡ codes "Head Manager" → s.role ≡ 3 → Begins writes day
 unfolding key_of key_within
-begins writes day m o s is one schema text number parent key head office staff manager role = subst (λ ws. Begins ws day) (sym is) (record {
-  some = omega arith;
-  fits = (refl, (refl, (refl, (refl, tt))));
-  is = λ k. Some (record {
-    meta = record { one = one k; schema = schema k; day = text k } ∷ [];
-    offices = record { number = number k; parent = parent k; hkey = key k; name = head k } ∷ [];
-    staff = record { office = office k; number = staff k; name = manager k; role = role k } ∷ [];
-    clients = [];
-    charges = [];
-    products = [];
-    loans = [];
-    entries = [];
-    receipts = [];
-    instalments = [];
-    shares = [];
-  });
-})
+begins writes day m o s is one schema text number parent key head office staff manager role =
+    subst (λ ws. Begins ws day) (sym is) (record {
+      some = omega arith;
+      fits = (refl, (refl, (refl, (refl, tt))));
+      is = λ k. Some (record {
+        meta = record { one = one k; schema = schema k; day = text k } ∷ [];
+        offices = record { number = number k; parent = parent k; hkey = key k; name = head k } ∷ [];
+        staff = record { office = office k; number = staff k; name = manager k; role = role k } ∷ [];
+        clients = [];
+        charges = [];
+        products = [];
+        loans = [];
+        entries = [];
+        receipts = [];
+        instalments = [];
+        shares = [];
+      });
+    })

@@ -14,18 +14,22 @@ schedule_put office loan numbered = map (λ item. PutInstalment (instalment_in o
 
 -- the rows of the instalments with these numbers are put
 abbrev pub instalments_put : ℕ → ℕ → List Sums → List ℕ → List StoreWrite
-instalments_put office loan rows numbers = map (λ n. PutInstalment (instalment_in office loan (n, row_at rows n))) numbers
+instalments_put office loan rows numbers =
+    map (λ n. PutInstalment (instalment_in office loan (n, row_at rows n))) numbers
 
 -- the rows of what an entry settles are removed, and put
 abbrev pub shares_replaced : ℕ → ℕ → List Settled → ℕ → List StoreWrite
 shares_replaced office loan settled seq =
-    RemoveShares (record { office = office; loan = loan; seq = seq }) ∷ map (λ placed. PutShare (share_in office loan placed)) (placed_parts seq (settled_in seq settled))
+    RemoveShares (record { office = office; loan = loan; seq = seq })
+    ∷ map (λ placed. PutShare (share_in office loan placed)) (placed_parts seq (settled_in seq settled))
 
 -- the same of each entry with one of these numbers
 abbrev pub shares_put : ℕ → ℕ → List Settled → List ℕ → List StoreWrite
 shares_put office loan settled [] = []
-shares_put office loan settled (seq ∷ seqs) = shares_replaced office loan settled seq ++ shares_put office loan settled seqs
+shares_put office loan settled (seq ∷ seqs) =
+    shares_replaced office loan settled seq ++ shares_put office loan settled seqs
 
 -- what a change names is written: the instalments whose rows differ, and the entries that settle otherwise
 abbrev pub change_writes : ℕ → ℕ → Kept → List StoreWrite
-change_writes office loan a = instalments_put office loan a.state.rows a.change.rows ++ shares_put office loan a.settled a.change.seqs
+change_writes office loan a = instalments_put office loan a.state.rows a.change.rows ++ shares_put office loan a.settled
+    a.change.seqs

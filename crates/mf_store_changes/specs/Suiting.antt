@@ -5,13 +5,17 @@ use Rattle.mf_model.specs.Institution.{Institution}
 use Rattle.mf_model.specs.Store.{after_commit}
 use Rattle.mf_model.specs.declared.commit.Commit.{Commit}
 use Rattle.mf_store_accounts.specs.Flat.{tables_of}
-use Rattle.mf_store_records.specs.Rows.{Lists, IsNew, IsThere, by_office, by_staff, by_client, by_charge, by_product, by_loan, by_entry, by_receipt}
+use Rattle.mf_store_records.specs.Rows.{Lists, IsNew, IsThere, by_office, by_staff, by_client, by_charge, by_product}
+use Rattle.mf_store_records.specs.Rows.{by_loan, by_entry, by_receipt}
 use Rattle.mf_store_records.specs.Writes.{after}
 use Rattle.mf_store_records.specs.declared.writes.StoreWrite.{StoreWrite}
-use Rattle.mf_store_records.specs.declared.writes.StoreWrite.TheVariants.{PutOffice, PutStaff, PutClient, PutCharge, AddProduct, PutProduct, AddLoan, PutLoan, AddEntry, ChangeEntry, AddReceipt}
+use Rattle.mf_store_records.specs.declared.writes.StoreWrite.TheVariants.{PutOffice, PutStaff, PutClient, PutCharge}
+use Rattle.mf_store_records.specs.declared.writes.StoreWrite.TheVariants.{AddProduct, PutProduct, AddLoan, PutLoan}
+use Rattle.mf_store_records.specs.declared.writes.StoreWrite.TheVariants.{AddEntry, ChangeEntry, AddReceipt}
 use Rattle.mf_store_changes.specs.Becoming.{Becomes}
 
--- a write that adds a row adds a new one, and one that changes a product, a loan or an entry changes one that is there; the others put or remove rows, there or not
+-- a write that adds a row adds a new one, and one that changes a product, a loan or an entry changes one that is there;
+-- the others put or remove rows, there or not
 abbrev pub SuitsRows : Lists → StoreWrite → Type 0
 SuitsRows lists (PutOffice x) = IsNew by_office x lists.offices
 SuitsRows lists (PutStaff x) = IsNew by_staff x lists.staff

@@ -17,7 +17,12 @@ pub fn charge_row(
     calc: Calc,
     value: u64,
 ) -> Result<ChargeRow, Fault>
-    ensures row { IfOk result (λ row. row ≡ charge_as number (record { name = name; kind = kind; calc = calc; value = value })) }
+    ensures row { IfOk result (λ row. row ≡ charge_as number (record {
+      name = name;
+      kind = kind;
+      calc = calc;
+      value = value;
+    })) }
     ensures gives_up { IfErr result (λ fault. fault ≡ F20) }
 {
     let cents = signed(value)?;

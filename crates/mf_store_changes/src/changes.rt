@@ -5,7 +5,8 @@ ghost use Rattle.mf_base.specs.declared.fault.Fault.TheVariants.{F20};
 ghost use Rattle.mf_alloc.specs.Rows.{row_at};
 ghost use Rattle.mf_store_records.specs.declared.writes.StoreWrite.TheVariants.{PutShare};
 ghost use Rattle.mf_store_accounts.specs.Flat.{instalment_in, numbered_from, share_in, placed_parts};
-ghost use Rattle.mf_store_changes.specs.ChangeWrites.{schedule_put, instalments_put, shares_replaced, shares_put, change_writes};
+ghost use Rattle.mf_store_changes.specs.ChangeWrites.{schedule_put, instalments_put, shares_replaced, shares_put};
+ghost use Rattle.mf_store_changes.specs.ChangeWrites.{change_writes};
 
 use mf_account::{LoanAccount, Settled};
 use mf_alloc::Row;
@@ -22,7 +23,8 @@ pub fn put_schedule(
     rows: &[Row],
     writes: &mut Vec<StoreWrite>,
 ) -> Result<(), Fault>
-    ensures writes { OnOk result (writes.new.items ≡ writes.old.items ++ schedule_put office loan (numbered_from (λ n row. (n, row)) 1 rows.now)) }
+    ensures writes { OnOk result (writes.new.items ≡ writes.old.items
+        ++ schedule_put office loan (numbered_from (λ n row. (n, row)) 1 rows.now)) }
     ensures gives_up { IfErr result (λ fault. fault ≡ F20) }
 {
     let mut number = 0;
@@ -64,7 +66,8 @@ fn put_instalments(
     numbers: &[u32],
     writes: &mut Vec<StoreWrite>,
 ) -> Result<(), Fault>
-    ensures writes { OnOk result (writes.new.items ≡ writes.old.items ++ instalments_put office loan rows.now numbers.now) }
+    ensures writes { OnOk result (writes.new.items ≡ writes.old.items ++ instalments_put office loan rows.now
+        numbers.now) }
     ensures gives_up { IfErr result (λ fault. fault ≡ F20) }
 {
     for number in numbers {
@@ -82,7 +85,8 @@ fn put_parts(
     parts: &[Settled],
     writes: &mut Vec<StoreWrite>,
 ) -> Result<(), Fault>
-    ensures writes { OnOk result (writes.new.items ≡ writes.old.items ++ map (λ placed. PutShare (share_in office loan placed)) (placed_parts seq parts.now)) }
+    ensures writes { OnOk result (writes.new.items ≡ writes.old.items
+        ++ map (λ placed. PutShare (share_in office loan placed)) (placed_parts seq parts.now)) }
     ensures gives_up { IfErr result (λ fault. fault ≡ F20) }
 {
     let mut place = 0;
@@ -106,7 +110,8 @@ fn replace_shares(
     seq: u32,
     writes: &mut Vec<StoreWrite>,
 ) -> Result<(), Fault>
-    ensures writes { OnOk result (writes.new.items ≡ writes.old.items ++ shares_replaced office loan account.now.settled seq) }
+    ensures writes { OnOk result (writes.new.items ≡ writes.old.items ++ shares_replaced office loan account.now.settled
+        seq) }
     ensures gives_up { IfErr result (λ fault. fault ≡ F20) }
 {
     let parts = account.settled(alloc, seq)?;
@@ -123,7 +128,8 @@ fn put_shares(
     seqs: &[u32],
     writes: &mut Vec<StoreWrite>,
 ) -> Result<(), Fault>
-    ensures writes { OnOk result (writes.new.items ≡ writes.old.items ++ shares_put office loan account.now.settled seqs.now) }
+    ensures writes { OnOk result (writes.new.items ≡ writes.old.items ++ shares_put office loan account.now.settled
+        seqs.now) }
     ensures gives_up { IfErr result (λ fault. fault ≡ F20) }
 {
     for seq in seqs {

@@ -1,5 +1,5 @@
-//! The rows by which the tables keep what a change brings, and the writes that make it: of the rows of the institution before,
-//! those of the institution after.
+//! The rows by which the tables keep what a change brings, and the writes that make it: of the rows of the institution
+//! before, those of the institution after.
 #![tactic(auto)]
 
 mod catalogue;

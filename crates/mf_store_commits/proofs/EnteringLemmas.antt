@@ -13,13 +13,16 @@ use Rattle.mf_store_changes.specs.Becoming.{Becomes}
 use Rattle.mf_store_commits.specs.Tabled.{IsTabled, HasGoodDisk, LeavesTables}
 
 -- writes that make the change of each institution that admits it commit it
-pub made_by : {S : Type 0} (g : Ghosts S) (commit : Commit) (old new : Held S) (writes : List StoreWrite) (r : Result (Unit {0}) Fault)
+pub made_by : {S : Type 0} (g : Ghosts S) (commit : Commit) (old new : Held S) (writes : List StoreWrite)
+    (r : Result (Unit {0}) Fault)
     → ((i : Institution) → IsTabled g old i → IsAdmitted commit i → Becomes writes i (after_commit commit i))
     → (HasGoodDisk g new → HasGoodDisk g old) → IfErr r (λ fault. fault ≡ F20)
     → (HasGoodDisk g new → OnOk r ((i j : Institution) → IsTabled g old i → Becomes writes i j → IsTabled g new j))
-    → (HasGoodDisk g new → OnOk r ((i j : Institution) → IsTabled g old i → Becomes writes i j → LeavesTables g new (j ∷ [])))
+    → (HasGoodDisk g new → OnOk r ((i j : Institution) → IsTabled g old i → Becomes writes i j
+    → LeavesTables g new (j ∷ [])))
     → (HasGoodDisk g new → OnErr r ((i : Institution) → IsTabled g old i → IsTabled g new i))
-    → (HasGoodDisk g new → (i j : Institution) (is : List Institution) → IsTabled g old i → Becomes writes i j → LeavesTables g old is → LeavesTables g new (j ∷ is))
+    → (HasGoodDisk g new → (i j : Institution) (is : List Institution) → IsTabled g old i → Becomes writes i j
+    → LeavesTables g old is → LeavesTables g new (j ∷ is))
     → Commits (IsTabled g) (HasGoodDisk g) (LeavesTables g) commit old new r
 made_by g commit old new writes r becomes premise gives_up made left same stop = record {
   premise = premise;

@@ -1,5 +1,6 @@
 -- What tables stand for after a query and after a commit.
-use Rattle.std.proofs.Common.{◌≡◌, inl, inr, List, [], ◌∷◌, Some, Result, Ok, Err, IfOk, OnOk, IfErr, OnErr, IsTrue, refl, sym, ap, ◌∙◌, subst, arith}
+use Rattle.std.proofs.Common.{◌≡◌, inl, inr, List, [], ◌∷◌, Some, Result, Ok, Err, IfOk, OnOk, IfErr, OnErr, IsTrue}
+use Rattle.std.proofs.Common.{refl, sym, ap, ◌∙◌, subst, arith}
 use Rattle.sqlite.specs.Tree.{Trees}
 use Rattle.sqlite.specs.Effect.{Database}
 use Rattle.sqlite.specs.State.{State, HasCleanDisk, Survives}
@@ -21,7 +22,8 @@ use Rattle.mf_store_changes.specs.Becoming.{Becomes}
 -- ---- F20 in place of the store's own error
 
 module _ {A : Type 0} (answer : Result A Error) (r : Result A Fault) where
-  cases : {P : Type 0} → IfOk answer (λ x. r ≡ Ok x) → OnErr answer (r ≡ Err F20) → ((x : A) → answer ≡ Ok x → r ≡ Ok x → P) → ((e : Error) → answer ≡ Err e → r ≡ Err F20 → P) → P
+  cases : {P : Type 0} → IfOk answer (λ x. r ≡ Ok x) → OnErr answer (r ≡ Err F20) → ((x : A) → answer ≡ Ok x → r ≡ Ok x
+      → P) → ((e : Error) → answer ≡ Err e → r ≡ Err F20 → P) → P
   cases {P} ok err on_ok on_err = go answer refl ok err
     where
       go : (a : Result A Error) → answer ≡ a → IfOk a (λ x. r ≡ Ok x) → OnErr a (r ≡ Err F20) → P
@@ -29,16 +31,20 @@ module _ {A : Type 0} (answer : Result A Error) (r : Result A Fault) where
       go (Err e) is ok err = on_err e is err
 
   pub gives_up : IfOk answer (λ x. r ≡ Ok x) → OnErr answer (r ≡ Err F20) → IfErr r (λ fault. fault ≡ F20)
-  gives_up ok err = cases ok err (λ x a b. subst (λ o. IfErr o (λ fault. fault ≡ F20)) (sym b) tt) (λ e a b. subst (λ o. IfErr o (λ fault. fault ≡ F20)) (sym b) refl)
+  gives_up ok err = cases ok err (λ x a b. subst (λ o. IfErr o (λ fault. fault ≡ F20)) (sym b) tt)
+      (λ e a b. subst (λ o. IfErr o (λ fault. fault ≡ F20)) (sym b) refl)
 
   pub if_ok : (P : A → Type 0) → IfOk answer (λ x. r ≡ Ok x) → OnErr answer (r ≡ Err F20) → IfOk answer P → IfOk r P
-  if_ok P ok err h = cases ok err (λ x a b. subst (λ o. IfOk o P) (sym b) (subst (λ o. IfOk o P) a h)) (λ e a b. subst (λ o. IfOk o P) (sym b) tt)
+  if_ok P ok err h = cases ok err (λ x a b. subst (λ o. IfOk o P) (sym b) (subst (λ o. IfOk o P) a h))
+      (λ e a b. subst (λ o. IfOk o P) (sym b) tt)
 
   pub on_ok : (P : Type 0) → IfOk answer (λ x. r ≡ Ok x) → OnErr answer (r ≡ Err F20) → OnOk answer P → OnOk r P
-  on_ok P ok err h = cases ok err (λ x a b. subst (λ o. OnOk o P) (sym b) (subst (λ o. OnOk o P) a h)) (λ e a b. subst (λ o. OnOk o P) (sym b) tt)
+  on_ok P ok err h = cases ok err (λ x a b. subst (λ o. OnOk o P) (sym b) (subst (λ o. OnOk o P) a h))
+      (λ e a b. subst (λ o. OnOk o P) (sym b) tt)
 
   pub on_err : (P : Type 0) → IfOk answer (λ x. r ≡ Ok x) → OnErr answer (r ≡ Err F20) → OnErr answer P → OnErr r P
-  on_err P ok err h = cases ok err (λ x a b. subst (λ o. OnErr o P) (sym b) tt) (λ e a b. subst (λ o. OnErr o P) (sym b) (subst (λ o. OnErr o P) a h))
+  on_err P ok err h = cases ok err (λ x a b. subst (λ o. OnErr o P) (sym b) tt) (λ e a b. subst (λ o. OnErr o P) (sym b)
+      (subst (λ o. OnErr o P) a h))
 
 module _ {S : Type 0} (g : Ghosts S) where
   module _ (old new : Held S) where
@@ -57,10 +63,12 @@ module _ {S : Type 0} (g : Ghosts S) where
       shuts = u.shuts;
       same = λ clean i s. record {
         sound = s.sound;
-        serves = λ live. let before = s.serves (u.was_open clean live) in subst (λ d. Serves schema_of Holds d (Some (tables_of i))) (sym (u.same clean live before.schema_is)) before;
+        serves = λ live. let before = s.serves (u.was_open clean live) in subst (λ d. Serves schema_of Holds d
+            (Some (tables_of i))) (sym (u.same clean live before.schema_is)) before;
       };
       stop = λ clean left l. record {
-        ours = λ now live. let before = l.ours (u.premise now) (u.was_open now live) in ap (λ (d : Database). d.schema) (u.same now live before) ∙ before;
+        ours = λ now live. let before = l.ours (u.premise now) (u.was_open now live) in ap (λ (d : Database). d.schema)
+            (u.same now live before) ∙ before;
         whole = λ now trees may. l.whole (u.premise now) trees (u.stop now (l.ours (u.premise now)) trees may);
       };
     }
@@ -72,31 +80,45 @@ module _ {S : Type 0} (g : Ghosts S) where
       abbrev MayLeave : Trees → Type 0
       MayLeave = MayHold (Serves schema_of Holds) Holds (AllFit after Fits writes) (after_all after writes) was
 
-      pub made_stands : (IsTrue is.is_open → IsTrue was.is_open) → Change was.now is.now → (i j : Institution) → IsTabled g old i → Becomes writes i j → IsTabled g new j
+      pub made_stands : (IsTrue is.is_open → IsTrue was.is_open) → Change was.now is.now → (i j : Institution)
+          → IsTabled g old i → Becomes writes i j → IsTabled g new j
       made_stands was_open turns i j s b = record {
         sound = b.sound;
-        serves = λ live. subst (λ lists. Serves schema_of Holds is.now lists) b.is (turns (Some (tables_of i)) (s.serves (was_open live)) b.fits);
+        serves = λ live. subst (λ lists. Serves schema_of Holds is.now lists) b.is (turns (Some (tables_of i))
+            (s.serves (was_open live)) b.fits);
       }
 
-      pub made_leaves : ((trees : Trees) → IsTrue is.is_open → is.may_leave trees → trees ≡ is.committed.trees) → IsSettled is → (j : Institution) → IsTabled g new j → LeavesTables g new (j ∷ [])
+      pub made_leaves : ((trees : Trees) → IsTrue is.is_open → is.may_leave trees → trees ≡ is.committed.trees)
+          → IsSettled is → (j : Institution) → IsTabled g new j → LeavesTables g new (j ∷ [])
       made_leaves settled rests j s = record {
         ours = λ clean live. (s.serves live).schema_is;
-        whole = λ clean trees may. inl (subst (λ t. Holds t (Some (tables_of j))) (sym (settled trees rests.is_open may ∙ ap (λ (d : Database). d.trees) rests.committed)) (s.serves rests.is_open).holds);
+        whole = λ clean trees may. inl (subst (λ t. Holds t (Some (tables_of j))) (sym (settled trees rests.is_open may
+            ∙ ap (λ (d : Database). d.trees) rests.committed)) (s.serves rests.is_open).holds);
       }
 
-      pub unmade_stands : (IsTrue is.is_open → IsTrue was.is_open) → (IsTrue is.is_open → is.now ≡ was.now) → (i : Institution) → IsTabled g old i → IsTabled g new i
-      unmade_stands was_open same i s = record { sound = s.sound; serves = λ live. subst (λ d. Serves schema_of Holds d (Some (tables_of i))) (sym (same live)) (s.serves (was_open live)) }
+      pub unmade_stands : (IsTrue is.is_open → IsTrue was.is_open) → (IsTrue is.is_open → is.now ≡ was.now)
+          → (i : Institution) → IsTabled g old i → IsTabled g new i
+      unmade_stands was_open same i s = record {
+        sound = s.sound;
+        serves = λ live.
+            subst (λ d. Serves schema_of Holds d (Some (tables_of i))) (sym (same live)) (s.serves (was_open live));
+      }
 
       -- whatever came of the call, the tables are this program's
-      pub still_ours : {V : Type 0} (r : Result V Error) → (IsTrue is.is_open → IsTrue was.is_open) → OnOk r (Change was.now is.now) → (IsTrue is.is_open → OnErr r (is.now ≡ was.now)) → (i j : Institution) → IsTabled g old i → Becomes writes i j → IsTrue is.is_open → is.now.schema ≡ schema
+      pub still_ours : {V : Type 0} (r : Result V Error) → (IsTrue is.is_open → IsTrue was.is_open)
+          → OnOk r (Change was.now is.now) → (IsTrue is.is_open → OnErr r (is.now ≡ was.now)) → (i j : Institution)
+          → IsTabled g old i → Becomes writes i j → IsTrue is.is_open → is.now.schema ≡ schema
       still_ours (Ok v) was_open turns same i j s b live = ((made_stands was_open turns i j s b).serves live).schema_is
       still_ours (Err e) was_open turns same i j s b live = ((unmade_stands was_open same i s).serves live).schema_is
 
-      pub made_stop : (HasCleanDisk is → IsTrue is.is_open → is.now.schema ≡ schema) → Survives was is MayLeave → (i j : Institution) (left : List Institution) → IsTabled g old i → Becomes writes i j → LeavesTables g old left → LeavesTables g new (j ∷ left)
+      pub made_stop : (HasCleanDisk is → IsTrue is.is_open → is.now.schema ≡ schema) → Survives was is MayLeave
+          → (i j : Institution) (left : List Institution) → IsTabled g old i → Becomes writes i j
+          → LeavesTables g old left → LeavesTables g new (j ∷ left)
       made_stop ours survives i j left s b l = record {
         ours = ours;
         whole = λ clean trees may. elim (survives.crash clean trees may) [
           | inl before ↦ inr (l.whole (earlier survives clean) trees before)
-          | inr wrote ↦ inl (subst (λ lists. Holds trees lists) b.is (wrote.holds (Some (tables_of i)) (s.serves wrote.was_open) b.fits))
+          | inr wrote ↦ inl (subst (λ lists. Holds trees lists) b.is (wrote.holds (Some (tables_of i))
+              (s.serves wrote.was_open) b.fits))
         ];
       }

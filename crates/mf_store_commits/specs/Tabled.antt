@@ -18,7 +18,8 @@ HoldsOneOf [] trees = ⊥
 HoldsOneOf (i ∷ is) trees = Holds trees (Some (tables_of i)) ⊎ HoldsOneOf is trees
 
 module _ {S : Type 0} (g : Ghosts S) where
-  -- The tables hold the institution's rows and nothing else, and it is sound. Of a connection that a fault has shut nothing more is known.
+  -- The tables hold the institution's rows and nothing else, and it is sound. Of a connection that a fault has shut
+  -- nothing more is known.
   pub record IsTabled (h : Held S) (i : Institution) : Type 0 where
     pub sound : IsSound i
     pub serves : IsTrue (state g h).is_open → Serves schema_of Holds (state g h).now (Some (tables_of i))
@@ -32,17 +33,21 @@ module _ {S : Type 0} (g : Ghosts S) where
     pub ours : HasGoodDisk h → IsTrue (state g h).is_open → (state g h).now.schema ≡ schema
     pub whole : HasGoodDisk h → (trees : Trees) → (state g h).may_leave trees → HoldsOneOf is trees
 
-  -- the tables hold what they held, a stop leaves nothing more than before, and only a fault of the disk shuts the connection
+  -- the tables hold what they held, a stop leaves nothing more than before, and only a fault of the disk shuts the
+  -- connection
   pub record StayTabled (old new : Held S) : Type 0 where
     pub premise : HasGoodDisk new → HasGoodDisk old
     pub shuts : OnlyFaultsShut (state g old) (state g new)
     pub same : HasGoodDisk new → (i : Institution) → IsTabled old i → IsTabled new i
     pub stop : HasGoodDisk new → (is : List Institution) → LeavesTables old is → LeavesTables new is
 
-  -- Where a new institution could not be made on this day, nothing is changed, a stop leaves nothing more than before but that institution, whole, and only a fault of the disk shuts the connection.
+  -- Where a new institution could not be made on this day, nothing is changed, a stop leaves nothing more than before
+  -- but that institution, whole, and only a fault of the disk shuts the connection.
   pub record IsUnfounded (day : ℕ) (old new : Held S) : Type 0 where
     pub premise : HasGoodDisk new → HasGoodDisk old
     pub was_open : HasGoodDisk new → IsTrue (state g new).is_open → IsTrue (state g old).is_open
     pub same : HasGoodDisk new → IsTrue (state g new).is_open → (state g new).now ≡ (state g old).now
     pub shuts : OnlyFaultsShut (state g old) (state g new)
-    pub stop : HasGoodDisk new → Serves schema_of Holds (state g old).now None → (trees : Trees) → (state g new).may_leave trees → (state g old).may_leave trees ⊎ Holds trees (Some (tables_of (newly_made day)))
+    pub stop : HasGoodDisk new → Serves schema_of Holds (state g old).now None → (trees : Trees)
+        → (state g new).may_leave trees → (state g old).may_leave trees
+        ⊎ Holds trees (Some (tables_of (newly_made day)))

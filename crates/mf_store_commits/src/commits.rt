@@ -33,12 +33,17 @@ pub fn write<S: Alter>(connection: &mut Connection<S>, writes: &[StoreWrite]) ->
     ensures shuts { OnlyFaultsShut (state S.Store connection.old) (state S.Store connection.new) }
     ensures open { HasGoodDisk S.Store connection.new → OnOk result (IsTrue (state S.Store connection.new).is_open) }
     ensures made { HasGoodDisk S.Store connection.new
-        → OnOk result ((i j : Institution) → IsTabled S.Store connection.old i → Becomes writes.now i j → IsTabled S.Store connection.new j) }
+        → OnOk result ((i j : Institution) → IsTabled S.Store connection.old i → Becomes writes.now i j
+        → IsTabled S.Store connection.new j) }
     ensures left { HasGoodDisk S.Store connection.new
-        → OnOk result ((i j : Institution) → IsTabled S.Store connection.old i → Becomes writes.now i j → LeavesTables S.Store connection.new (j ∷ [])) }
-    ensures same { HasGoodDisk S.Store connection.new → OnErr result ((i : Institution) → IsTabled S.Store connection.old i → IsTabled S.Store connection.new i) }
-    ensures stop { HasGoodDisk S.Store connection.new → (i j : Institution) (is : List Institution) → IsTabled S.Store connection.old i
-        → Becomes writes.now i j → LeavesTables S.Store connection.old is → LeavesTables S.Store connection.new (j ∷ is) }
+        → OnOk result ((i j : Institution) → IsTabled S.Store connection.old i → Becomes writes.now i j
+        → LeavesTables S.Store connection.new (j ∷ [])) }
+    ensures same { HasGoodDisk S.Store connection.new → OnErr result ((i : Institution)
+        → IsTabled S.Store connection.old i → IsTabled S.Store connection.new i) }
+    ensures stop { HasGoodDisk S.Store connection.new → (i j : Institution) (is : List Institution)
+        → IsTabled S.Store connection.old i
+        → Becomes writes.now i j → LeavesTables S.Store connection.old is → LeavesTables S.Store connection.new (j
+        ∷ is) }
     ensures mode { connection.new.in_transaction ≡ false }
 {
     given_up(apply(connection, writes))

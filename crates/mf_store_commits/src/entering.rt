@@ -1,4 +1,5 @@
-//! An entry of a loan, and the reversal of one, each in one commit with what it changes of the loan's instalments and shares.
+//! An entry of a loan, and the reversal of one, each in one commit with what it changes of the loan's instalments and
+//! shares.
 
 ghost use Rattle.std.specs.Prelude.{◌≡◌, ◌<◌, length, false, IsTrue, OnOk, IfOk, IfErr};
 ghost use Rattle.mf_base.specs.declared.fault.Fault.TheVariants.{F20};
@@ -46,7 +47,8 @@ fn reversal_writes(
     seq: u32,
     account: &LoanAccount,
 ) -> Result<Vec<StoreWrite>, Fault>
-    ensures carries { IfOk result (λ writes. (i : Institution) → IsSound i → IsAdmitted (ReverseEntry loan seq account.now) i
+    ensures carries { IfOk result (λ writes. (i : Institution) → IsSound i
+        → IsAdmitted (ReverseEntry loan seq account.now) i
         → Carries (ReverseEntry loan seq account.now) writes.items i) }
     ensures some { IfOk result (λ writes. 0 < length writes.items) }
     ensures gives_up { IfErr result (λ fault. fault ≡ F20) }
@@ -69,7 +71,8 @@ pub fn add_entry<S: Alter>(
     account: LoanAccount,
 ) -> Result<(), Fault>
     requires alone { connection.old.in_transaction ≡ false }
-    ensures commits { Commits (IsTabled S.Store) (HasGoodDisk S.Store) (LeavesTables S.Store) (AddEntry loan account) connection.old connection.new result }
+    ensures commits { Commits (IsTabled S.Store) (HasGoodDisk S.Store) (LeavesTables S.Store) (AddEntry loan account)
+        connection.old connection.new result }
     ensures shuts { OnlyFaultsShut (state S.Store connection.old) (state S.Store connection.new) }
     ensures open { HasGoodDisk S.Store connection.new → OnOk result (IsTrue (state S.Store connection.new).is_open) }
     ensures mode { connection.new.in_transaction ≡ false }
@@ -78,8 +81,8 @@ pub fn add_entry<S: Alter>(
     write(connection, &writes)
 }
 
-/// Writes an entry of a loan that is reversed in the loan's account, and what that changed of the loan's instalments and
-/// shares. All other entries are the same in both. The row of the entry's receipt stays as it is.
+/// Writes an entry of a loan that is reversed in the loan's account, and what that changed of the loan's instalments
+/// and shares. All other entries are the same in both. The row of the entry's receipt stays as it is.
 pub fn reverse_entry<S: Alter>(
     alloc: Global,
     connection: &mut Connection<S>,
@@ -88,7 +91,8 @@ pub fn reverse_entry<S: Alter>(
     account: LoanAccount,
 ) -> Result<(), Fault>
     requires alone { connection.old.in_transaction ≡ false }
-    ensures commits { Commits (IsTabled S.Store) (HasGoodDisk S.Store) (LeavesTables S.Store) (ReverseEntry loan seq account) connection.old connection.new result }
+    ensures commits { Commits (IsTabled S.Store) (HasGoodDisk S.Store) (LeavesTables S.Store)
+        (ReverseEntry loan seq account) connection.old connection.new result }
     ensures shuts { OnlyFaultsShut (state S.Store connection.old) (state S.Store connection.new) }
     ensures open { HasGoodDisk S.Store connection.new → OnOk result (IsTrue (state S.Store connection.new).is_open) }
     ensures mode { connection.new.in_transaction ≡ false }

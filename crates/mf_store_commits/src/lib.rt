@@ -1,5 +1,5 @@
-//! Commits over tables that hold an institution: any writes that make another of it, and those of an entry or a reversal.
-//! Contracts speak of a connection; what is known beside its tables is `mf_store`'s.
+//! Commits over tables that hold an institution: any writes that make another of it, and those of an entry or a
+//! reversal. Contracts speak of a connection; what is known beside its tables is `mf_store`'s.
 #![tactic(auto)]
 
 mod commits;

@@ -25,16 +25,19 @@ module _ (trees : Trees) (held : HoldsSound trees) where
   holds_it image database = ∥∥₁_map database (λ stored. (trees, stored, held, refl))
 
   by_itself : (image : Image) → HoldsAlone image trees → HoldsByItself image held.institution
-  by_itself image all = record { both = holds_it image all.both; alone = holds_it (record image { log = [] }) all.alone }
+  by_itself image all =
+      record { both = holds_it image all.both; alone = holds_it (record image { log = [] }) all.alone }
 
-module _ {D : Type 0} {g : Ghosts D} (c : Held (FileStore D g)) (settled : IsTrue (file_state c).is_open → (file_state c).now ≡ (file_state c).committed) where
+module _ {D : Type 0} {g : Ghosts D} (c : Held (FileStore D g)) (settled : IsTrue (file_state c).is_open
+    → (file_state c).now ≡ (file_state c).committed) where
   module _ (end : Files D) (copied : IsCopied c end) (i : Institution) (was : IsTabled over_files c i) where
     -- the last commit holds the rows
     abbrev committed_holds : HoldsSound (file_state c).committed.trees
     committed_holds = record {
       institution = i;
       sound = was.sound;
-      holds = subst (λ (db : Database). Holds db.trees (Some (tables_of i))) (settled copied.was_open) (was.serves copied.was_open).holds;
+      holds = subst (λ (db : Database). Holds db.trees (Some (tables_of i))) (settled copied.was_open)
+          (was.serves copied.was_open).holds;
     }
 
     pub whole : HoldsByItself (image_of g end) i
@@ -44,14 +47,17 @@ module _ {D : Type 0} {g : Ghosts D} (c : Held (FileStore D g)) (settled : IsTru
     left_whole left may = by_itself _ committed_holds left (copied.left left may)
 
 -- where closing failed, a stop leaves nothing more
-pub kept : {D : Type 0} {g : Ghosts D} (c : Held (FileStore D g)) (last : FileStore D g) → IsClosed c last → IsCleanView (files.view last)
-    → (is : List Institution) → LeavesTables over_files c is → (trees : Trees) → files.recovers last trees → HoldsOneOf is trees
+pub kept : {D : Type 0} {g : Ghosts D} (c : Held (FileStore D g)) (last : FileStore D g) → IsClosed c last
+    → IsCleanView (files.view last)
+    → (is : List Institution) → LeavesTables over_files c is → (trees : Trees) → files.recovers last trees
+    → HoldsOneOf is trees
 kept c last closed clean is leaves trees may =
     let counts = closed.quiet.clean in
     leaves.whole (omega (arith, counts, clean)) trees (closed.quiet.outcomes trees may)
 
 -- where closing failed, the disk was good before if it still is
-pub was_good : {D : Type 0} {g : Ghosts D} (c : Held (FileStore D g)) (last : FileStore D g) → IsClosed c last → IsCleanView (files.view last) → HasGoodDisk over_files c
+pub was_good : {D : Type 0} {g : Ghosts D} (c : Held (FileStore D g)) (last : FileStore D g) → IsClosed c last
+    → IsCleanView (files.view last) → HasGoodDisk over_files c
 was_good c last closed clean =
     let counts = closed.quiet.clean in
     omega (arith, counts, clean)

@@ -29,10 +29,12 @@ module _ (image : Image) (s : State) (opens : Opens s) (live : IsLive s) (found 
       record { schema_is = bare; holds = subst (λ k. IsSound k s.now.trees) bare sound }
 
   no_tables : HasNoTables image → Serves schema_of Holds s.now None
-  no_tables (inl nothing) = unlisted (ap (λ (db : Database). db.trees catalog_tree) opens.clean ∙ (empty_if_nothing image s.committed.trees nothing found.reads).1)
+  no_tables (inl nothing) = unlisted (ap (λ (db : Database). db.trees catalog_tree) opens.clean
+      ∙ (empty_if_nothing image s.committed.trees nothing found.reads).1)
   no_tables (inr held) = unlisted (ap (λ (trees : Trees). trees catalog_tree) (now_are held.0 held.1) ∙ held.2.1)
 
-  pub shows : (s.now.schema ≡ schema → HaveRowids s.now.trees) → (s.now.schema ≡ first_schema → HaveFirstRowids s.now.trees) → ((left : Trees) → s.may_leave left → left ≡ s.now.trees) → ShowsFile image s
+  pub shows : (s.now.schema ≡ schema → HaveRowids s.now.trees) → (s.now.schema ≡ first_schema
+      → HaveFirstRowids s.now.trees) → ((left : Trees) → s.may_leave left → left ≡ s.now.trees) → ShowsFile image s
   shows rowids first_rowids leaves = record {
     is_open = opens.is_open;
     none = no_tables;

@@ -1,5 +1,8 @@
--- The rows that the accounts of a sound institution leave, its instalments and its shares, are ones that records can hold.
-use Rattle.std.proofs.Common.{◌≡◌, ◌≤◌, ◌<◌, ◌+◌, ◌*◌, ◌^◌, ◌/◌, ◌%◌, ◌==◌, pos, ℕ, zero, suc, Bool, true, false, cond, List, [], ◌∷◌, ◌++◌, map, filter, length, Option, Some, None, refl, sym, ap, ◌∙◌, subst, arith}
+-- The rows that the accounts of a sound institution leave, its instalments and its shares, are ones that records can
+-- hold.
+use Rattle.std.proofs.Common.{◌≡◌, ◌≤◌, ◌<◌, ◌+◌, ◌*◌, ◌^◌, ◌/◌, ◌%◌, ◌==◌, pos, ℕ, zero, suc, Bool, true, false, cond}
+use Rattle.std.proofs.Common.{List, [], ◌∷◌, ◌++◌, map, filter, length, Option, Some, None, refl, sym, ap, ◌∙◌, subst}
+use Rattle.std.proofs.Common.{arith}
 use Rattle.std.specs.List.{AllByRecursion, range_with_len}
 use Rattle.std.specs.Str.{IsUtf8}
 use Rattle.std.proofs.lemmas.List.{length-map, length-append}
@@ -23,8 +26,10 @@ use Rattle.mf_alloc.specs.Sums.{Sums}
 use Rattle.mf_account.specs.Account.{Orders, first_state, row_of, parts_numbered as numbered_parts, settled_by}
 use Rattle.mf_account.specs.Applicable.{HasInstalment}
 use Rattle.mf_account.specs.Change.{settled_in}
-use Rattle.mf_account.specs.Effect.{Part, State, after, is_some_part, whole_part, parts_by, parts_cleared, parts_of, parts_paid, paid_at, own_share, later_share}
-use Rattle.mf_account.specs.Loan.{Loan as Running, IsSound as IsSoundAccount, schedule_of, orders_of, state_of_loan, settled_of_loan}
+use Rattle.mf_account.specs.Effect.{Part, State, after, is_some_part, whole_part, parts_by, parts_cleared, parts_of}
+use Rattle.mf_account.specs.Effect.{parts_paid, paid_at, own_share, later_share}
+use Rattle.mf_account.specs.Loan.{Loan as Running, IsSound as IsSoundAccount, schedule_of, orders_of, state_of_loan}
+use Rattle.mf_account.specs.Loan.{settled_of_loan}
 use Rattle.mf_account.specs.Standing.{standing_entries}
 use Rattle.mf_account.specs.declared.entry.Entry.{Entry}
 use Rattle.mf_account.specs.declared.entry.Kind.{Kind}
@@ -44,8 +49,11 @@ use Rattle.mf_store_records.specs.Fields.{HasFields}
 use Rattle.mf_store_records.specs.Rows.{instalment_fields, instalment_row, share_fields, share_row}
 use Rattle.mf_store_records.specs.declared.instalments.InstalmentRow.{InstalmentRow}
 use Rattle.mf_store_records.specs.declared.shares.ShareRow.{ShareRow}
-use Rattle.mf_store_accounts.specs.Flat.{numbered_from, tables_of, instalment_in, share_in, how_number, portion_number, instalments_kept, shares_kept, placed_parts, parts_from, kept_of, rows_of_loans, rows_by_loan}
-use Rattle.mf_store_files.proofs.HeldLemmas.{is_number, is_amount, is_text, stored_held, low_bytes, digits_low, portion_low}
+use Rattle.mf_store_accounts.specs.Flat.{numbered_from, tables_of, instalment_in, share_in, how_number, portion_number}
+use Rattle.mf_store_accounts.specs.Flat.{instalments_kept, shares_kept, placed_parts, parts_from, kept_of}
+use Rattle.mf_store_accounts.specs.Flat.{rows_of_loans, rows_by_loan}
+use Rattle.mf_store_files.proofs.HeldLemmas.{is_number, is_amount, is_text, stored_held, low_bytes, digits_low}
+use Rattle.mf_store_files.proofs.HeldLemmas.{portion_low}
 
 -- ---- instalments
 
@@ -61,13 +69,17 @@ utf8_by day h =
     let its_day = digits_low date.day (let d = short.day in omega (arith, d)) in
     let after_month : AllByRecursion low (45 ∷ two_digits date.day) = (omega arith, its_day) in
     let from_month = all-append low (two_digits date.month) (45 ∷ two_digits date.day) month after_month in
-    let after_year : AllByRecursion low (45 ∷ (two_digits date.month ++ 45 ∷ two_digits date.day)) = (omega arith, from_month) in
-    let from_year = all-append low (two_digits (date.year % 100)) (45 ∷ (two_digits date.month ++ 45 ∷ two_digits date.day)) year after_year in
-    let bytes : AllByRecursion low (date_text date) = all-append low (two_digits (date.year / 100)) (two_digits (date.year % 100) ++ 45 ∷ (two_digits date.month ++ 45 ∷ two_digits date.day)) years from_year in
+    let after_year : AllByRecursion low (45 ∷ (two_digits date.month ++ 45 ∷ two_digits date.day)) =
+    (omega arith, from_month) in
+    let from_year = all-append low (two_digits (date.year % 100))
+    (45 ∷ (two_digits date.month ++ 45 ∷ two_digits date.day)) year after_year in
+    let bytes : AllByRecursion low (date_text date) = all-append low (two_digits (date.year / 100))
+    (two_digits (date.year % 100) ++ 45 ∷ (two_digits date.month ++ 45 ∷ two_digits date.day)) years from_year in
     subst IsUtf8 (sym (date_text-day day)) (IsUtf8-from_ascii (date_text date) (low_bytes (date_text date) bytes))
 
 -- no loan is due later
-due_by_then : (day : ℕ) (freq : Freq) (count : ℕ) → day ≤ last_entered_day → count ≤ 20_000 → day_after day freq count ≤ last_day
+due_by_then : (day : ℕ) (freq : Freq) (count : ℕ) → day ≤ last_entered_day → count ≤ 20_000 → day_after day freq count
+    ≤ last_day
 due_by_then day Weeks count early few = omega (arith, early, few)
 due_by_then day Months count early few =
     let date = date_of day in
@@ -77,10 +89,12 @@ due_by_then day Months count early few =
     (last_year (months_on date count) (IsDate-months_on date count is)).0 (omega (arith, year, month, few))
 
 dues_first : (terms : Terms) (principal n day : ℕ) → day ≤ last_entered_day → terms.every ≤ 52 → (a m : ℕ) → a + m ≤ 361
-    → AllByRecursion (λ (due : ℕ). due ≤ last_day) (dues_of (map row_of (map (instalment_of terms principal n day) (range_with_len a m))))
+    → AllByRecursion (λ (due : ℕ). due ≤ last_day)
+    (dues_of (map row_of (map (instalment_of terms principal n day) (range_with_len a m))))
 dues_first terms principal n day early every a zero most = tt
 dues_first terms principal n day early every a (suc m) most = (
-  due_by_then day terms.freq (terms.every * a) early (let steps = mul-le terms.every a 52 360 every (omega (arith, most)) in omega (arith, steps)),
+  due_by_then day terms.freq (terms.every * a) early (let steps = mul-le terms.every a 52 360 every
+      (omega (arith, most)) in omega (arith, steps)),
   dues_first terms principal n day early every (a + 1) m (omega (arith, most)),
 )
 
@@ -91,21 +105,26 @@ steps_low terms most = go terms.freq most
     go Weeks h = h
     go Months h = omega (arith, h)
 
-account_dues : (a : Running) → IsSoundAccount a → AllByRecursion (λ (due : ℕ). due ≤ last_day) (dues_of (state_of_loan a).rows)
+account_dues : (a : Running) → IsSoundAccount a → AllByRecursion (λ (due : ℕ). due ≤ last_day)
+    (dues_of (state_of_loan a).rows)
 account_dues a sound =
     let first = first_state (schedule_of a) in
-    let same : dues_of (state_of_loan a).rows ≡ dues_of first.rows = dues-after_all (orders_of a) (standing_entries a.entries) first in
+    let same : dues_of (state_of_loan a).rows ≡ dues_of first.rows =
+    dues-after_all (orders_of a) (standing_entries a.entries) first in
     let periods = sound.limits.most_periods in
     subst (AllByRecursion (λ (due : ℕ). due ≤ last_day)) (sym same)
-    (dues_first a.terms a.principal a.periods a.day sound.day (steps_low a.terms sound.limits.terms_limits.longest) 1 a.periods (omega (arith, periods)))
+    (dues_first a.terms a.principal a.periods a.day sound.day (steps_low a.terms sound.limits.terms_limits.longest) 1
+    a.periods (omega (arith, periods)))
 
 account_size : (a : Running) → IsSoundAccount a → length (state_of_loan a).rows ≤ 360
-account_size a sound = let size = (good-sound a sound).size in let periods = sound.limits.most_periods in omega (arith, size, periods)
+account_size a sound = let size = (good-sound a sound).size in let periods =
+    sound.limits.most_periods in omega (arith, size, periods)
 
 abbrev HeldInstalment : InstalmentRow → Type 0
 HeldInstalment x = HasFields instalment_fields (instalment_row x)
 
-instalment_held : (x m n : ℕ) (row : Sums) → x ≤ 9999 → m ≤ 999999 → n ≤ 360 → row.due ≤ last_day → HeldInstalment (instalment_in x m (n, row))
+instalment_held : (x m n : ℕ) (row : Sums) → x ≤ 9999 → m ≤ 999999 → n ≤ 360 → row.due ≤ last_day
+    → HeldInstalment (instalment_in x m (n, row))
 instalment_held x m n row low_x low_m low_n due =
     record {
       width = refl;
@@ -119,7 +138,37 @@ instalment_held x m n row low_x low_m low_n due =
               is_text (day_text row.due) (utf8_by row.due due),
               (
                 is_amount _,
-                (is_amount _, (is_amount _, (is_amount _, (is_amount _, (is_amount _, (is_amount _, (is_amount _, (is_amount _, (is_amount _, (is_amount _, (is_amount _, (is_amount _, (is_amount _, (is_amount _, (is_amount _, tt))))))))))))))),
+                (
+                  is_amount _,
+                  (
+                    is_amount _,
+                    (
+                      is_amount _,
+                      (
+                        is_amount _,
+                        (
+                          is_amount _,
+                          (
+                            is_amount _,
+                            (
+                              is_amount _,
+                              (
+                                is_amount _,
+                                (
+                                  is_amount _,
+                                  (
+                                    is_amount _,
+                                    (is_amount _, (is_amount _, (is_amount _, (is_amount _, (is_amount _, tt))))),
+                                  ),
+                                ),
+                              ),
+                            ),
+                          ),
+                        ),
+                      ),
+                    ),
+                  ),
+                ),
               ),
             ),
           ),
@@ -127,37 +176,54 @@ instalment_held x m n row low_x low_m low_n due =
       );
     }
 
-instalments_held : (x m n : ℕ) (rows : List Sums) → x ≤ 9999 → m ≤ 999999 → n + length rows ≤ 361 → AllByRecursion (λ (due : ℕ). due ≤ last_day) (dues_of rows)
+instalments_held : (x m n : ℕ) (rows : List Sums) → x ≤ 9999 → m ≤ 999999 → n + length rows ≤ 361
+    → AllByRecursion (λ (due : ℕ). due ≤ last_day) (dues_of rows)
     → AllByRecursion HeldInstalment (map (instalment_in x m) (numbered_from (λ at row. (at, row)) n rows))
 instalments_held x m n [] low_x low_m few dues = tt
-instalments_held x m n (row ∷ rows) low_x low_m few dues =
-    (instalment_held x m n row low_x low_m (omega (arith, few)) dues.0, instalments_held x m (n + 1) rows low_x low_m (omega (arith, few)) dues.1)
+instalments_held x m n (row ∷ rows) low_x low_m few dues = (
+  instalment_held x m n row low_x low_m (omega (arith, few)) dues.0,
+  instalments_held x m (n + 1) rows low_x low_m
+      (omega (arith, few)) dues.1,
+)
 
 -- what the accounts of loans leave, where that of each sound account is held
-module _ {A R : Type 0} (make : ℕ → ℕ → A → R) (read : Running → List A) (H : R → Type 0) (held : (x m : ℕ) (a : Running) → x ≤ 9999 → m ≤ 999999 → IsSoundAccount a → AllByRecursion H (map (make x m) (read a)))
+module _ {A R : Type 0} (make : ℕ → ℕ → A → R) (read : Running → List A) (H : R → Type 0) (held : (x m : ℕ)
+    (a : Running) → x ≤ 9999 → m ≤ 999999 → IsSoundAccount a → AllByRecursion H (map (make x m) (read a)))
     (k : Catalogue) (sound : IsSoundCatalogue k) (staffed : Caller → Bool) where
-  kept_of_loan : (clients : List (List ℕ)) (x m : ℕ) (l : Ledger) → x ≤ 9999 → m ≤ 999999 → IsSoundLoan k staffed clients l → (o : Option Running) → account_in k l ≡ o → AllByRecursion H (map (make x m) (of_account [] read o))
+  kept_of_loan : (clients : List (List ℕ)) (x m : ℕ) (l : Ledger) → x ≤ 9999 → m ≤ 999999 → IsSoundLoan k staffed
+      clients l → (o : Option Running) → account_in k l ≡ o → AllByRecursion H (map (make x m) (of_account [] read o))
   kept_of_loan clients x m l low_x low_m is None e = tt
-  kept_of_loan clients x m l low_x low_m is (Some a) e = held x m a low_x low_m (account_sound k staffed clients l a sound is e)
+  kept_of_loan clients x m l low_x low_m is (Some a) e =
+      held x m a low_x low_m (account_sound k staffed clients l a sound is e)
 
-  kept_of_loans : (clients : List (List ℕ)) (x m : ℕ) (ls : List Ledger) → x ≤ 9999 → m + length ls ≤ 1000000 → AllByRecursion (IsSoundLoan k staffed clients) ls → AllByRecursion H (rows_of_loans make (kept_of read k) x m ls)
+  kept_of_loans : (clients : List (List ℕ)) (x m : ℕ) (ls : List Ledger) → x ≤ 9999 → m + length ls ≤ 1000000
+      → AllByRecursion (IsSoundLoan k staffed clients) ls
+      → AllByRecursion H (rows_of_loans make (kept_of read k) x m ls)
   kept_of_loans clients x m [] low_x few all = tt
   kept_of_loans clients x m (l ∷ ls) low_x few all =
       all-append H (map (make x m) (kept_of read k l)) (rows_of_loans make (kept_of read k) x (m + 1) ls)
-      (kept_of_loan clients x m l low_x (omega (arith, few)) all.0 (account_in k l) refl) (kept_of_loans clients x (m + 1) ls low_x (omega (arith, few)) all.1)
+      (kept_of_loan clients x m l low_x (omega (arith, few)) all.0 (account_in k l) refl)
+      (kept_of_loans clients x (m + 1) ls low_x (omega (arith, few)) all.1)
 
-  kept_of_offices : (fs : List Office) → AllByRecursion (IsSoundOffice k staffed) fs → AllByRecursion H (rows_by_loan make (kept_of read k) fs)
+  kept_of_offices : (fs : List Office) → AllByRecursion (IsSoundOffice k staffed) fs
+      → AllByRecursion H (rows_by_loan make (kept_of read k) fs)
   kept_of_offices [] all = tt
   kept_of_offices (f ∷ fs) all =
       all-append H (rows_of_loans make (kept_of read k) f.number 1 f.rows.loans) (rows_by_loan make (kept_of read k) fs)
-      (kept_of_loans f.rows.clients f.number 1 f.rows.loans all.0.number.1 (let most = all.0.rows.loan_limit in omega (arith, most)) all.0.rows.loans) (kept_of_offices fs all.1)
+      (kept_of_loans f.rows.clients f.number 1 f.rows.loans all.0.number.1 (let most = all.0.rows.loan_limit in
+      omega (arith, most)) all.0.rows.loans) (kept_of_offices fs all.1)
 
-account_instalments : (x m : ℕ) (a : Running) → x ≤ 9999 → m ≤ 999999 → IsSoundAccount a → AllByRecursion HeldInstalment (map (instalment_in x m) (instalments_kept a))
-account_instalments x m a low_x low_m sound = let size = account_size a sound in instalments_held x m 1 (state_of_loan a).rows low_x low_m (omega (arith, size)) (account_dues a sound)
+account_instalments : (x m : ℕ) (a : Running) → x ≤ 9999 → m ≤ 999999 → IsSoundAccount a
+    → AllByRecursion HeldInstalment (map (instalment_in x m) (instalments_kept a))
+account_instalments x m a low_x low_m sound = let size = account_size a sound in instalments_held x m 1
+    (state_of_loan a).rows low_x low_m (omega (arith, size)) (account_dues a sound)
 
-pub held_instalments : (i : Institution) → IsSound i → AllByRecursion (HasFields instalment_fields) (map instalment_row (tables_of i).instalments)
+pub held_instalments : (i : Institution) → IsSound i → AllByRecursion (HasFields instalment_fields)
+    (map instalment_row (tables_of i).instalments)
 held_instalments i sound =
-    stored_held (HasFields instalment_fields) instalment_row (tables_of i).instalments (kept_of_offices instalment_in instalments_kept HeldInstalment account_instalments i.catalogue sound.catalogue (is_staff i.offices) i.offices sound.each)
+    stored_held (HasFields instalment_fields) instalment_row (tables_of i).instalments (kept_of_offices instalment_in
+    instalments_kept HeldInstalment account_instalments i.catalogue sound.catalogue (is_staff i.offices) i.offices
+    sound.each)
 
 -- ---- shares
 
@@ -169,7 +235,8 @@ how_low Paid = omega arith
 how_low Waived = omega arith
 how_low WrittenOff = omega arith
 
-share_held : (x m seq place : ℕ) (s : Settled) → x ≤ 9999 → m ≤ 999999 → seq ≤ 9999 → place < 2 ^ 32 → s.cell.instalment < 2 ^ 32 → HeldShare (share_in x m (seq, (place, s)))
+share_held : (x m seq place : ℕ) (s : Settled) → x ≤ 9999 → m ≤ 999999 → seq ≤ 9999 → place < 2 ^ 32 → s.cell.instalment
+    < 2 ^ 32 → HeldShare (share_in x m (seq, (place, s)))
 share_held x m seq place s low_x low_m low_seq low_place low =
     record {
       width = refl;
@@ -183,7 +250,10 @@ share_held x m seq place s low_x low_m low_seq low_place low =
               is_number place low_place,
               (
                 is_number s.cell.instalment low,
-                (is_number (portion_number s.cell.portion) (portion_low s.cell.portion), (is_number (how_number s.how) (how_low s.how), (is_amount (pos s.amount), tt))),
+                (
+                  is_number (portion_number s.cell.portion) (portion_low s.cell.portion),
+                  (is_number (how_number s.how) (how_low s.how), (is_amount (pos s.amount), tt)),
+                ),
               ),
             ),
           ),
@@ -198,7 +268,8 @@ IsPartOf n p = p.cell.instalment ≤ n
 abbrev IsSettledOf : ℕ → Settled → Type 0
 IsSettledOf n s = s.cell.instalment ≤ n
 
-all_filtered : {A : Type 0} (P : A → Type 0) (p : A → Bool) (xs : List A) → AllByRecursion P xs → AllByRecursion P (filter p xs)
+all_filtered : {A : Type 0} (P : A → Type 0) (p : A → Bool) (xs : List A) → AllByRecursion P xs
+    → AllByRecursion P (filter p xs)
 all_filtered P p [] all = tt
 all_filtered P p (x ∷ xs) all = go (p x) (all_filtered P p xs all.1)
   where
@@ -210,11 +281,13 @@ few_filtered : {A : Type 0} (p : A → Bool) (xs : List A) → length (filter p 
 few_filtered p [] = omega arith
 few_filtered p (x ∷ xs) = go (p x) (few_filtered p xs)
   where
-    go : (b : Bool) → length (filter p xs) ≤ length xs → length (cond b (x ∷ filter p xs) (filter p xs)) ≤ length (x ∷ xs)
+    go : (b : Bool) → length (filter p xs) ≤ length xs → length (cond b (x ∷ filter p xs) (filter p xs))
+        ≤ length (x ∷ xs)
     go true more = omega (arith, more)
     go false more = omega (arith, more)
 
-range_parts : (n : ℕ) (f : ℕ → Part) (a m : ℕ) → ((k : ℕ) → k < a + m → IsPartOf n (f k)) → AllByRecursion (IsPartOf n) (map f (range_with_len a m))
+range_parts : (n : ℕ) (f : ℕ → Part) (a m : ℕ) → ((k : ℕ) → k < a + m → IsPartOf n (f k)) → AllByRecursion (IsPartOf n)
+    (map f (range_with_len a m))
 range_parts n f a zero h = tt
 range_parts n f a (suc m) h = (h a (omega arith), range_parts n f (a + 1) m (λ k low. h k (omega (arith, low))))
 
@@ -223,22 +296,29 @@ range_size f a zero = refl
 range_size f a (suc m) = let more = range_size f (a + 1) m in omega (arith, more)
 
 module _ (n : ℕ) (order : ℕ → Cell) (cells : (k : ℕ) → k < 4 * n → (order k).instalment ≤ n) where
-  cleared_of : (k : Kind) (e : Entry) (rows : List Sums) → length rows ≡ n → HasInstalment k e n → AllByRecursion (IsPartOf n) (parts_by k order e rows)
+  cleared_of : (k : Kind) (e : Entry) (rows : List Sums) → length rows ≡ n → HasInstalment k e n
+      → AllByRecursion (IsPartOf n) (parts_by k order e rows)
   cleared_of kind.Repay e rows size there = tt
   cleared_of kind.Fee e rows size there = tt
   cleared_of kind.Penalty e rows size there = tt
-  cleared_of kind.Waive e rows size there = all_filtered (IsPartOf n) is_some_part (whole_part Waived rows (record { instalment = e.instalment; portion = e.portion }) ∷ []) (there.1, tt)
+  cleared_of kind.Waive e rows size there = all_filtered (IsPartOf n) is_some_part
+      (whole_part Waived rows (record { instalment = e.instalment; portion = e.portion }) ∷ []) (there.1, tt)
   cleared_of kind.WriteOff e rows size there =
-      all_filtered (IsPartOf n) is_some_part (map (λ k. whole_part WrittenOff rows (order k)) (range_with_len 0 (4 * length rows))) (range_parts n (λ k. whole_part WrittenOff rows (order k)) 0 (4 * length rows) (λ k low. cells k (omega (arith, low, size))))
+      all_filtered (IsPartOf n) is_some_part (map (λ k. whole_part WrittenOff rows (order k))
+      (range_with_len 0 (4 * length rows))) (range_parts n (λ k. whole_part WrittenOff rows (order k)) 0
+      (4 * length rows) (λ k low. cells k (omega (arith, low, size))))
   cleared_of kind.Refund e rows size there = tt
 
-  cleared_few : (k : Kind) (e : Entry) (rows : List Sums) → length rows ≡ n → length (parts_by k order e rows) ≤ 4 * n + 1
+  cleared_few : (k : Kind) (e : Entry) (rows : List Sums) → length rows ≡ n → length (parts_by k order e rows) ≤ 4 * n
+      + 1
   cleared_few kind.Repay e rows size = omega arith
   cleared_few kind.Fee e rows size = omega arith
   cleared_few kind.Penalty e rows size = omega arith
-  cleared_few kind.Waive e rows size = let few = few_filtered is_some_part (whole_part Waived rows (record { instalment = e.instalment; portion = e.portion }) ∷ []) in omega (arith, few)
+  cleared_few kind.Waive e rows size = let few = few_filtered is_some_part
+      (whole_part Waived rows (record { instalment = e.instalment; portion = e.portion }) ∷ []) in omega (arith, few)
   cleared_few kind.WriteOff e rows size =
-      let few = few_filtered is_some_part (map (λ k. whole_part WrittenOff rows (order k)) (range_with_len 0 (4 * length rows))) in
+      let few = few_filtered is_some_part (map (λ k. whole_part WrittenOff rows (order k))
+      (range_with_len 0 (4 * length rows))) in
       let all = range_size (λ k. whole_part WrittenOff rows (order k)) 0 (4 * length rows) in
       omega (arith, few, all, size)
   cleared_few kind.Refund e rows size = omega arith
@@ -252,8 +332,10 @@ module _ (n : ℕ) (order : ℕ → Cell) (cells : (k : ℕ) → k < 4 * n → (
 
     parts_low : HasInstalment e.kind e n → AllByRecursion (IsPartOf n) (parts_of order e before)
     parts_low there =
-        all-append (IsPartOf n) (parts_cleared order e before.rows) (parts_paid order e before) (cleared_of e.kind e before.rows size there)
-        (all_filtered (IsPartOf n) is_some_part paid_all (range_parts n (paid_at order amount_paid) 0 (4 * length before.rows) (λ k low. cells k (omega (arith, low, size)))))
+        all-append (IsPartOf n) (parts_cleared order e before.rows) (parts_paid order e before)
+        (cleared_of e.kind e before.rows size there)
+        (all_filtered (IsPartOf n) is_some_part paid_all (range_parts n (paid_at order amount_paid) 0
+        (4 * length before.rows) (λ k low. cells k (omega (arith, low, size)))))
 
     parts_few : length (parts_of order e before) ≤ 8 * n + 1
     parts_few =
@@ -263,7 +345,8 @@ module _ (n : ℕ) (order : ℕ → Cell) (cells : (k : ℕ) → k < 4 * n → (
         let all = range_size (paid_at order amount_paid) 0 (4 * length before.rows) in
         omega (arith, both, cleared, paid, all, size)
 
-numbered_low : (n seq place : ℕ) (parts : List Part) → AllByRecursion (IsPartOf n) parts → AllByRecursion (IsSettledOf n) (numbered_parts seq place parts)
+numbered_low : (n seq place : ℕ) (parts : List Part) → AllByRecursion (IsPartOf n) parts
+    → AllByRecursion (IsSettledOf n) (numbered_parts seq place parts)
 numbered_low n seq place [] all = tt
 numbered_low n seq place (p ∷ parts) all = (all.0, numbered_low n seq (place + 1) parts all.1)
 
@@ -271,8 +354,11 @@ numbered_size : (seq place : ℕ) (parts : List Part) → length (numbered_parts
 numbered_size seq place [] = refl
 numbered_size seq place (p ∷ parts) = ap suc (numbered_size seq (place + 1) parts)
 
-module _ (n : ℕ) (short : n ≤ 360) (orders : Orders) (cells : (e : Entry) (k : ℕ) → k < 4 * n → (orders e k).instalment ≤ n) where
-  settled_low : (es : List Entry) (before : State) → length before.rows ≡ n → AllByRecursion (IsReplayable n) es → AllByRecursion (IsSettledOf n) (settled_by orders es before) × (length (settled_by orders es before) ≤ 2881 * length es)
+module _ (n : ℕ) (short : n ≤ 360) (orders : Orders) (cells : (e : Entry) (k : ℕ) → k < 4 * n → (orders e k).instalment
+    ≤ n) where
+  settled_low : (es : List Entry) (before : State) → length before.rows ≡ n → AllByRecursion (IsReplayable n) es
+      → AllByRecursion (IsSettledOf n) (settled_by orders es before)
+      × (length (settled_by orders es before) ≤ 2881 * length es)
   settled_low [] before size each = (tt, omega arith)
   settled_low (e ∷ es) before size each =
       let next = after (orders e) e before in
@@ -282,46 +368,73 @@ module _ (n : ℕ) (short : n ≤ 360) (orders : Orders) (cells : (e : Entry) (k
       let both = length-append own (settled_by orders es next) in
       let count = numbered_size e.seq 1 (parts_of (orders e) e before) in
       let few = parts_few n (orders e) (cells e) e before size in
-      let rest = more.1 in
-      (all-append (IsSettledOf n) own (settled_by orders es next) (numbered_low n e.seq 1 (parts_of (orders e) e before) (parts_low n (orders e) (cells e) e before size each.0.there)) more.0, omega (arith, both, count, few, rest, short))
+      let rest = more.1 in (
+        all-append (IsSettledOf n) own (settled_by orders es next)
+            (numbered_low n e.seq 1 (parts_of (orders e) e before)
+            (parts_low n (orders e) (cells e) e before size each.0.there)) more.0,
+        omega (
+          arith,
+          both,
+          count,
+          few,
+          rest,
+          short,
+        ),
+      )
 
-account_settled : (a : Running) → IsSoundAccount a → AllByRecursion (IsSettledOf 360) (settled_of_loan a) × (length (settled_of_loan a) < 2 ^ 31)
+account_settled : (a : Running) → IsSoundAccount a → AllByRecursion (IsSettledOf 360) (settled_of_loan a)
+    × (length (settled_of_loan a) < 2 ^ 31)
 account_settled a sound =
     let periods = sound.limits.most_periods in
     let size = length-map (schedule_of a) row_of ∙ length-schedule a in
-    let it = settled_low a.periods periods (orders_of a) (λ e k low. (let c = (lawful-of a e).is_cell k low in c.last)) (standing_entries a.entries) (first_state (schedule_of a)) size
+    let it = settled_low a.periods periods (orders_of a) (λ e k low. (let c = (lawful-of a e).is_cell k low in c.last))
+    (standing_entries a.entries) (first_state (schedule_of a)) size
     (recursion_from_All (IsReplayable a.periods) (standing_entries a.entries) (each-standing a sound)) in
     let few = it.1 in
     let standing_few = length-standing-le a.entries in
-    let all_few = sound.entries.few in
-    (all_weaker (IsSettledOf a.periods) (IsSettledOf 360) (λ s low. omega (arith, low, periods)) (settled_of_loan a) it.0, omega (arith, few, standing_few, all_few))
+    let all_few = sound.entries.few in (
+      all_weaker (IsSettledOf a.periods) (IsSettledOf 360) (λ s low. omega (arith, low, periods)) (settled_of_loan a)
+          it.0,
+      omega (arith, few, standing_few, all_few),
+    )
 
-placed_held : (x m seq place : ℕ) (parts : List Settled) → x ≤ 9999 → m ≤ 999999 → seq ≤ 9999 → place + length parts < 2 ^ 32 → AllByRecursion (IsSettledOf 360) parts → AllByRecursion HeldShare (map (share_in x m) (numbered_from (λ at part. (seq, (at, part))) place parts))
+placed_held : (x m seq place : ℕ) (parts : List Settled) → x ≤ 9999 → m ≤ 999999 → seq ≤ 9999 → place + length parts
+    < 2 ^ 32 → AllByRecursion (IsSettledOf 360) parts → AllByRecursion HeldShare (map (share_in x m)
+    (numbered_from (λ at part. (seq, (at, part))) place parts))
 placed_held x m seq place [] low_x low_m low_seq few all = tt
-placed_held x m seq place (s ∷ parts) low_x low_m low_seq few all =
-    (let low = all.0 in share_held x m seq place s low_x low_m low_seq (omega (arith, few)) (omega (arith, low)), placed_held x m seq (place + 1) parts low_x low_m low_seq (omega (arith, few)) all.1)
+placed_held x m seq place (s ∷ parts) low_x low_m low_seq few all = (
+  let low = all.0 in share_held x m seq place s low_x low_m low_seq (omega (arith, few)) (omega (arith, low)),
+  placed_held x m seq (place + 1) parts low_x low_m low_seq (omega (arith, few)) all.1,
+)
 
 mapped_append : {A B : Type 0} (f : A → B) (xs ys : List A) → map f (xs ++ ys) ≡ map f xs ++ map f ys
 mapped_append f [] ys = refl
 mapped_append f (x ∷ xs) ys = ap (λ l. f x ∷ l) (mapped_append f xs ys)
 
-shares_held : (x m : ℕ) (settled : List Settled) (seq count : ℕ) → x ≤ 9999 → m ≤ 999999 → seq + count ≤ 10000 → length settled < 2 ^ 31 → AllByRecursion (IsSettledOf 360) settled
+shares_held : (x m : ℕ) (settled : List Settled) (seq count : ℕ) → x ≤ 9999 → m ≤ 999999 → seq + count ≤ 10000
+    → length settled < 2 ^ 31 → AllByRecursion (IsSettledOf 360) settled
     → AllByRecursion HeldShare (map (share_in x m) (parts_from (λ s. settled_in s settled) seq count))
 shares_held x m settled seq zero low_x low_m most few all = tt
 shares_held x m settled seq (suc count) low_x low_m most few all =
     let own = settled_in seq settled in
     let fewer = few_filtered (λ (s : Settled). s.seq == seq) settled in
-    subst (AllByRecursion HeldShare) (sym (mapped_append (share_in x m) (placed_parts seq own) (parts_from (λ s. settled_in s settled) (seq + 1) count)))
-    (all-append HeldShare (map (share_in x m) (placed_parts seq own)) (map (share_in x m) (parts_from (λ s. settled_in s settled) (seq + 1) count))
-    (placed_held x m seq 1 own low_x low_m (omega (arith, most)) (omega (arith, fewer, few)) (all_filtered (IsSettledOf 360) (λ (s : Settled). s.seq == seq) settled all))
+    subst (AllByRecursion HeldShare) (sym (mapped_append (share_in x m) (placed_parts seq own)
+    (parts_from (λ s. settled_in s settled) (seq + 1) count)))
+    (all-append HeldShare (map (share_in x m) (placed_parts seq own))
+    (map (share_in x m) (parts_from (λ s. settled_in s settled) (seq + 1) count))
+    (placed_held x m seq 1 own low_x low_m (omega (arith, most)) (omega (arith, fewer, few))
+    (all_filtered (IsSettledOf 360) (λ (s : Settled). s.seq == seq) settled all))
     (shares_held x m settled (seq + 1) count low_x low_m (omega (arith, most)) few all))
 
-account_shares : (x m : ℕ) (a : Running) → x ≤ 9999 → m ≤ 999999 → IsSoundAccount a → AllByRecursion HeldShare (map (share_in x m) (shares_kept a))
+account_shares : (x m : ℕ) (a : Running) → x ≤ 9999 → m ≤ 999999 → IsSoundAccount a
+    → AllByRecursion HeldShare (map (share_in x m) (shares_kept a))
 account_shares x m a low_x low_m sound =
     let its = account_settled a sound in
     let few = sound.entries.few in
     shares_held x m (settled_of_loan a) 1 (length a.entries) low_x low_m (omega (arith, few)) its.1 its.0
 
-pub held_shares : (i : Institution) → IsSound i → AllByRecursion (HasFields share_fields) (map share_row (tables_of i).shares)
+pub held_shares : (i : Institution) → IsSound i → AllByRecursion (HasFields share_fields)
+    (map share_row (tables_of i).shares)
 held_shares i sound =
-    stored_held (HasFields share_fields) share_row (tables_of i).shares (kept_of_offices share_in shares_kept HeldShare account_shares i.catalogue sound.catalogue (is_staff i.offices) i.offices sound.each)
+    stored_held (HasFields share_fields) share_row (tables_of i).shares (kept_of_offices share_in shares_kept HeldShare
+    account_shares i.catalogue sound.catalogue (is_staff i.offices) i.offices sound.each)

@@ -1,5 +1,7 @@
 -- The rows of a sound institution are ones that records can hold: numbers of 32 bits, and texts in UTF-8.
-use Rattle.std.proofs.Common.{◌≡◌, ◌≤◌, ◌<◌, ◌+◌, ◌^◌, ◌/◌, ◌%◌, ◌==◌, inl, inr, pos, nat_le, ℕ, ℤ, zero, suc, Bool, true, false, cond, List, [], ◌∷◌, ◌++◌, map, length, slice_get, Option, Some, None, refl, sym, ap, ◌∙◌, subst, arith, true≢false, codes}
+use Rattle.std.proofs.Common.{◌≡◌, ◌≤◌, ◌<◌, ◌+◌, ◌^◌, ◌/◌, ◌%◌, ◌==◌, inl, inr, pos, nat_le, ℕ, ℤ, zero, suc, Bool}
+use Rattle.std.proofs.Common.{true, false, cond, List, [], ◌∷◌, ◌++◌, map, length, slice_get, Option, Some, None, refl}
+use Rattle.std.proofs.Common.{sym, ap, ◌∙◌, subst, arith, true≢false, codes}
 use Rattle.std.specs.Option.{option_map, is_some}
 use Rattle.std.specs.Prelude.{IfSome}
 use Rattle.std.specs.List.{AllByRecursion}
@@ -28,7 +30,8 @@ use Rattle.mf_catalog.specs.declared.charge.Calc.TheVariants as calc
 use Rattle.mf_catalog.specs.declared.terms.Method.{Method}
 use Rattle.mf_catalog.specs.declared.terms.Method.TheVariants as method
 use Rattle.mf_catalog.specs.declared.terms.StrategyName.{StrategyName}
-use Rattle.mf_catalog.specs.declared.terms.StrategyName.TheVariants.{MifosStandard, PrincipalFirst, InterestFirst, DueFirst}
+use Rattle.mf_catalog.specs.declared.terms.StrategyName.TheVariants.{MifosStandard, PrincipalFirst, InterestFirst}
+use Rattle.mf_catalog.specs.declared.terms.StrategyName.TheVariants.{DueFirst}
 use Rattle.mf_catalog.specs.Limits.{longest_step}
 use Rattle.mf_catalog.specs.Product.{has_kind, is_of_kind}
 use Rattle.mf_office.specs.Keys.{key_within, key_of, key_under}
@@ -45,11 +48,13 @@ use Rattle.mf_account.specs.declared.entry.Kind.{Kind}
 use Rattle.mf_account.specs.declared.entry.Kind.TheVariants as kind
 use Rattle.mf_alloc.specs.declared.row.Portion.{Portion}
 use Rattle.mf_alloc.specs.declared.row.Portion.TheVariants as portion
-use Rattle.mf_model.specs.Institution.{Institution, Catalogue, Charge, Ledger, Offer, Office, Rows, Staff, office_at, item_numbered, charge_def, charge_in, product_of, product_in}
+use Rattle.mf_model.specs.Institution.{Institution, Catalogue, Charge, Ledger, Offer, Office, Rows, Staff, office_at}
+use Rattle.mf_model.specs.Institution.{item_numbered, charge_def, charge_in, product_of, product_in}
 use Rattle.mf_account.specs.Receipts.{IsReceipt}
 use Rattle.mf_account.proofs.ReceiptLemmas.{receipt_is_text}
 use Rattle.mf_model.specs.Receipts.{Use, uses_from, uses_in, use_by, use_of}
-use Rattle.mf_model.specs.Sound.{IsSound, IsSoundOffice, IsSoundCatalogue, IsSoundCharge, IsSoundOffer, IsSoundLoan, IsStageBy, IsName, IsEntryBy, AreEntriesBy, lends, is_staff}
+use Rattle.mf_model.specs.Sound.{IsSound, IsSoundOffice, IsSoundCatalogue, IsSoundCharge, IsSoundOffer, IsSoundLoan}
+use Rattle.mf_model.specs.Sound.{IsStageBy, IsName, IsEntryBy, AreEntriesBy, lends, is_staff}
 use Rattle.mf_model.specs.Stages.{stage_number, disbursed_on}
 use Rattle.mf_model.specs.Tree.{parent_of, Above, Ascending}
 use Rattle.mf_model.specs.declared.loan.Loan.{Loan}
@@ -57,7 +62,10 @@ use Rattle.mf_model.specs.declared.loan.Stage.{Stage}
 use Rattle.mf_model.specs.declared.loan.Stage.TheVariants.{Submitted, Approved, Disbursed, Withdrawn, Rejected}
 use Rattle.mf_store_tables.specs.Values.{or_null, or_text}
 use Rattle.mf_store_records.specs.Fields.{CanHold, Number, Amount, Text, MaybeNumber, MaybeText, HasFields}
-use Rattle.mf_store_records.specs.Rows.{by_receipt, meta_fields, meta_row, office_fields, office_row, staff_fields, staff_row, client_fields, client_row, charge_fields, charge_row, product_fields, product_row, loan_fields, loan_row, entry_fields, entry_row, receipt_fields, receipt_row}
+use Rattle.mf_store_records.specs.Rows.{by_receipt, meta_fields, meta_row, office_fields, office_row, staff_fields}
+use Rattle.mf_store_records.specs.Rows.{staff_row, client_fields, client_row, charge_fields, charge_row, product_fields}
+use Rattle.mf_store_records.specs.Rows.{product_row, loan_fields, loan_row, entry_fields, entry_row, receipt_fields}
+use Rattle.mf_store_records.specs.Rows.{receipt_row}
 use Rattle.mf_store_records.specs.declared.offices.OfficeRow.{OfficeRow}
 use Rattle.mf_store_records.specs.declared.staff.StaffRow.{StaffRow}
 use Rattle.mf_store_records.specs.declared.clients.ClientRow.{ClientRow}
@@ -66,7 +74,10 @@ use Rattle.mf_store_records.specs.declared.products.ProductRow.{ProductRow}
 use Rattle.mf_store_records.specs.declared.loans.LoanRow.{LoanRow}
 use Rattle.mf_store_records.specs.declared.entries.EntryRow.{EntryRow}
 use Rattle.mf_store_records.specs.declared.receipts.ReceiptRow.{ReceiptRow}
-use Rattle.mf_store_accounts.specs.Flat.{numbered_from, all_rows, schema_number, tables_of, office_under, client_in, staff_in, charge_as, product_as, loan_in, entry_in, entry_kind_number, portion_number, flag_number, approval_text, disbursal_text, loans_of, rows_of_loans, own_entries, entry_rows}
+use Rattle.mf_store_accounts.specs.Flat.{numbered_from, all_rows, schema_number, tables_of, office_under, client_in}
+use Rattle.mf_store_accounts.specs.Flat.{staff_in, charge_as, product_as, loan_in, entry_in, entry_kind_number}
+use Rattle.mf_store_accounts.specs.Flat.{portion_number, flag_number, approval_text, disbursal_text, loans_of}
+use Rattle.mf_store_accounts.specs.Flat.{rows_of_loans, own_entries, entry_rows}
 use Rattle.mf_store_accounts.specs.ReceiptRows.{receipt_in, receipts_carried}
 use Rattle.mf_model.proofs.StaffLemmas.{staff_are_callers}
 use Rattle.mf_store_changes.proofs.FlatLemmas.{numbered-suc}
@@ -92,7 +103,8 @@ may_be_text : (o : Option (List ℕ)) → IfSome o IsUtf8 → CanHold MaybeText 
 may_be_text None utf8 = inl refl
 may_be_text (Some t) utf8 = inr (t, refl, utf8)
 
-pub stored_held : {X Y : Type 0} (H : Y → Type 0) (stored : X → Y) (xs : List X) → AllByRecursion (λ x. H (stored x)) xs → AllByRecursion H (map stored xs)
+pub stored_held : {X Y : Type 0} (H : Y → Type 0) (stored : X → Y) (xs : List X) → AllByRecursion (λ x. H (stored x)) xs
+    → AllByRecursion H (map stored xs)
 stored_held H stored [] all = tt
 stored_held H stored (x ∷ xs) all = (all.0, stored_held H stored xs all.1)
 
@@ -100,25 +112,42 @@ stored_held H stored (x ∷ xs) all = (all.0, stored_held H stored xs all.1)
 
 module _ {A R : Type 0} (P : A → Type 0) (H : R → Type 0) where
   -- values that are numbered up to a limit
-  numbered_held : (limit : ℕ) (make : ℕ → A → R) → ((n : ℕ) (a : A) → n ≤ limit → P a → H (make n a)) → (n : ℕ) (xs : List A) → n + length xs ≤ limit + 1 → AllByRecursion P xs → AllByRecursion H (numbered_from make n xs)
+  numbered_held : (limit : ℕ) (make : ℕ → A → R) → ((n : ℕ) (a : A) → n ≤ limit → P a → H (make n a)) → (n : ℕ)
+      (xs : List A) → n + length xs ≤ limit + 1 → AllByRecursion P xs → AllByRecursion H (numbered_from make n xs)
   numbered_held limit make held n [] most all = tt
-  numbered_held limit make held n (x ∷ xs) most all = (held n x (omega arith) all.0, numbered_held limit make held (n + 1) xs (omega arith) all.1)
+  numbered_held limit make held n (x ∷ xs) most all =
+      (held n x (omega arith) all.0, numbered_held limit make held (n + 1) xs (omega arith) all.1)
 
   -- the same office by office
-  rows_held : (S : Office → Type 0) (limit : ℕ) (make : ℕ → ℕ → A → R) (of : Rows → List A) → ((x n : ℕ) (a : A) → x ≤ 9999 → n ≤ limit → P a → H (make x n a))
-      → ((f : Office) → S f → (f.number ≤ 9999) × (length (of f.rows) ≤ limit) × AllByRecursion P (of f.rows)) → (fs : List Office) → AllByRecursion S fs → AllByRecursion H (all_rows make of fs)
+  rows_held : (S : Office → Type 0) (limit : ℕ) (make : ℕ → ℕ → A → R) (of : Rows → List A)
+      → ((x n : ℕ) (a : A) → x ≤ 9999 → n ≤ limit → P a → H (make x n a))
+      → ((f : Office) → S f → (f.number ≤ 9999) × (length (of f.rows) ≤ limit) × AllByRecursion P (of f.rows))
+      → (fs : List Office) → AllByRecursion S fs → AllByRecursion H (all_rows make of fs)
   rows_held S limit make of held each [] all = tt
   rows_held S limit make of held each (f ∷ fs) all =
       let its = each f all.0 in
-      all-append H (numbered_from (make f.number) 1 (of f.rows)) (all_rows make of fs) (numbered_held limit (make f.number) (λ n a low p. held f.number n a its.0 low p) 1 (of f.rows) (let most = its.1 in omega arith) its.2) (rows_held S limit make of held each fs all.1)
+      all-append H (numbered_from (make f.number) 1 (of f.rows)) (all_rows make of fs)
+      (numbered_held limit (make f.number) (λ n a low p. held f.number n a its.0 low p) 1 (of f.rows)
+      (let most = its.1 in omega arith) its.2) (rows_held S limit make of held each fs all.1)
 
 abbrev HeldClient : ClientRow → Type 0
 HeldClient x = HasFields client_fields (client_row x)
 
-pub held_clients : (i : Institution) → IsSound i → AllByRecursion (HasFields client_fields) (map client_row (tables_of i).clients)
+pub held_clients : (i : Institution) → IsSound i → AllByRecursion (HasFields client_fields)
+    (map client_row (tables_of i).clients)
 held_clients i sound =
-    stored_held (HasFields client_fields) client_row (tables_of i).clients (rows_held IsName HeldClient (IsSoundOffice i.catalogue (is_staff i.offices)) 999999 client_in (λ rows. rows.clients)
-    (λ x n a low_x low_n name. record { width = refl; values = (is_number x (omega arith), (is_number n (omega arith), (is_text a name.text, tt))) })
+    stored_held (HasFields client_fields) client_row (tables_of i).clients (rows_held IsName HeldClient
+    (IsSoundOffice i.catalogue (is_staff i.offices)) 999999 client_in (λ rows. rows.clients)
+    (λ x n a low_x low_n name. record {
+      width = refl;
+      values = (
+        is_number x (omega arith),
+        (
+          is_number n (omega arith),
+          (is_text a name.text, tt),
+        ),
+      );
+    })
     (λ f is. (is.number.1, is.rows.client_limit, is.rows.client_names)) i.offices sound.each)
 
 -- ---- texts
@@ -142,49 +171,91 @@ day_utf8 day h =
     let its_day = digits_low date.day (let d = short.day in omega arith) in
     let after_month : AllByRecursion low (45 ∷ two_digits date.day) = (omega arith, its_day) in
     let from_month = all-append low (two_digits date.month) (45 ∷ two_digits date.day) month after_month in
-    let after_year : AllByRecursion low (45 ∷ (two_digits date.month ++ 45 ∷ two_digits date.day)) = (omega arith, from_month) in
-    let from_year = all-append low (two_digits (date.year % 100)) (45 ∷ (two_digits date.month ++ 45 ∷ two_digits date.day)) year after_year in
-    let bytes : AllByRecursion low (date_text date) = all-append low (two_digits (date.year / 100)) (two_digits (date.year % 100) ++ 45 ∷ (two_digits date.month ++ 45 ∷ two_digits date.day)) years from_year in
+    let after_year : AllByRecursion low (45 ∷ (two_digits date.month ++ 45 ∷ two_digits date.day)) =
+    (omega arith, from_month) in
+    let from_year = all-append low (two_digits (date.year % 100))
+    (45 ∷ (two_digits date.month ++ 45 ∷ two_digits date.day)) year after_year in
+    let bytes : AllByRecursion low (date_text date) = all-append low (two_digits (date.year / 100))
+    (two_digits (date.year % 100) ++ 45 ∷ (two_digits date.month ++ 45 ∷ two_digits date.day)) years from_year in
     subst IsUtf8 (sym (date_text-day day)) (IsUtf8-from_ascii (date_text date) (low_bytes (date_text date) bytes))
 
-key_utf8 : (n : ℕ) (parents : ℕ → Option ℕ) → ((x p : ℕ) → parents x ≡ Some p → p ≤ 9999) → (x : ℕ) → x ≤ 9999 → IsUtf8 (key_within n parents x)
+key_utf8 : (n : ℕ) (parents : ℕ → Option ℕ) → ((x p : ℕ) → parents x ≡ Some p → p ≤ 9999) → (x : ℕ) → x ≤ 9999
+    → IsUtf8 (key_within n parents x)
 unfolding key_within
 key_utf8 zero parents low x h = IsUtf8-from_ascii (codes ".") (low_bytes (codes ".") (omega arith, tt))
 key_utf8 (suc n) parents low x h = go (parents x) refl (key_utf8 n parents low)
   where
-    go : (o : Option ℕ) → parents x ≡ o → ((p : ℕ) → p ≤ 9999 → IsUtf8 (key_within n parents p)) → IsUtf8 (key_under o (λ p. key_within n parents p) x)
+    go : (o : Option ℕ) → parents x ≡ o → ((p : ℕ) → p ≤ 9999 → IsUtf8 (key_within n parents p))
+        → IsUtf8 (key_under o (λ p. key_within n parents p) x)
     go None e above = IsUtf8-from_ascii (codes ".") (low_bytes (codes ".") (omega arith, tt))
     go (Some p) e above =
-        IsUtf8-append (key_within n parents p) _ (above p (low x p e)) (IsUtf8-append (decimal x) _ (IsUtf8-from_ascii (decimal x) (IsAscii-decimal x (omega (arith, h)))) (IsUtf8-from_ascii (codes ".") (low_bytes (codes ".") (omega arith, tt))))
+        IsUtf8-append (key_within n parents p) _ (above p (low x p e))
+        (IsUtf8-append (decimal x) _ (IsUtf8-from_ascii (decimal x) (IsAscii-decimal x (omega (arith, h))))
+        (IsUtf8-from_ascii (codes ".") (low_bytes (codes ".") (omega arith, tt))))
 
-there_low : (k : Catalogue) (staffed : Caller → Bool) (fs : List Office) → AllByRecursion (IsSoundOffice k staffed) fs → (x : ℕ) → is_some (office_at x fs) ≡ true → x ≤ 9999
+there_low : (k : Catalogue) (staffed : Caller → Bool) (fs : List Office) → AllByRecursion (IsSoundOffice k staffed) fs
+    → (x : ℕ) → is_some (office_at x fs) ≡ true → x ≤ 9999
 there_low k staffed [] all x h = absurd (true≢false (sym h))
 there_low k staffed (f ∷ fs) all x h = go (f.number == x) refl h (there_low k staffed fs all.1 x)
   where
-    go : (b : Bool) → (f.number == x) ≡ b → is_some (cond b (Some f) (office_at x fs)) ≡ true → (is_some (office_at x fs) ≡ true → x ≤ 9999) → x ≤ 9999
+    go : (b : Bool) → (f.number == x) ≡ b → is_some (cond b (Some f) (office_at x fs)) ≡ true
+        → (is_some (office_at x fs) ≡ true → x ≤ 9999) → x ≤ 9999
     go true e h more = let most = all.0.number.1 in let same : f.number ≡ x = grind (arith, nat_tests) in omega arith
     go false e h more = more h
 
-own_skip : (f : Office) (whole gs : List Office) → Above f.number gs → AllByRecursion (λ (g : Office). parent_of whole g.number ≡ g.parent) gs → AllByRecursion (λ (g : Office). parent_of (f ∷ whole) g.number ≡ g.parent) gs
+own_skip : (f : Office) (whole gs : List Office) → Above f.number gs → AllByRecursion (λ (g : Office). parent_of whole
+    g.number ≡ g.parent) gs → AllByRecursion (λ (g : Office). parent_of (f ∷ whole) g.number ≡ g.parent) gs
 own_skip f whole [] above all = tt
-own_skip f whole (g ∷ gs) above all = (let low = above.0 in let apart : (f.number == g.number) ≡ false = grind (arith, nat_tests) in rw apart all.0, own_skip f whole gs above.1 all.1)
+own_skip f whole (g ∷ gs) above all = (
+  let low = above.0 in let apart : (f.number == g.number) ≡ false = grind (
+    arith,
+    nat_tests,
+  ) in rw apart all.0,
+  own_skip f whole gs above.1 all.1,
+)
 
 own_parents : (fs : List Office) → Ascending fs → AllByRecursion (λ (f : Office). parent_of fs f.number ≡ f.parent) fs
 own_parents [] up = tt
-own_parents (f ∷ fs) up = (let itself : (f.number == f.number) ≡ true = grind (arith, nat_tests) in rw itself, own_skip f fs fs up.0 (own_parents fs up.1))
+own_parents (f ∷ fs) up = (
+  let itself : (f.number == f.number) ≡ true = grind (arith, nat_tests) in rw itself,
+  own_skip f fs fs up.0 (own_parents fs up.1),
+)
 
 -- ---- the other tables
 
 pub held_meta : (i : Institution) → IsSound i → AllByRecursion (HasFields meta_fields) (map meta_row (tables_of i).meta)
-held_meta i sound = (record { width = refl; values = (is_number 1 (omega arith), (is_number schema_number (omega arith), (is_text (day_text i.catalogue.day) (day_utf8 i.catalogue.day sound.catalogue.day), tt))) }, tt)
+held_meta i sound = (
+  record {
+    width = refl;
+    values = (
+      is_number 1 (omega arith),
+      (
+        is_number schema_number (omega arith),
+        (is_text (day_text i.catalogue.day) (day_utf8 i.catalogue.day sound.catalogue.day), tt),
+      ),
+    );
+  },
+  tt,
+)
 
 abbrev HeldStaff : StaffRow → Type 0
 HeldStaff x = HasFields staff_fields (staff_row x)
 
-pub held_staff : (i : Institution) → IsSound i → AllByRecursion (HasFields staff_fields) (map staff_row (tables_of i).staff)
+pub held_staff : (i : Institution) → IsSound i → AllByRecursion (HasFields staff_fields)
+    (map staff_row (tables_of i).staff)
 held_staff i sound =
-    stored_held (HasFields staff_fields) staff_row (tables_of i).staff (rows_held (λ (s : Staff). IsName s.name) HeldStaff (IsSoundOffice i.catalogue (is_staff i.offices)) 9999 staff_in (λ rows. rows.staff)
-    (λ x n s low_x low_n name. record { width = refl; values = (is_number x (omega arith), (is_number n (omega arith), (is_text s.name name.text, (is_number (role_number s.role) (role_low s.role), tt)))) })
+    stored_held (HasFields staff_fields) staff_row (tables_of i).staff (rows_held (λ (s : Staff). IsName s.name)
+    HeldStaff (IsSoundOffice i.catalogue (is_staff i.offices)) 9999 staff_in (λ rows. rows.staff)
+    (λ x n s low_x low_n name. record {
+      width = refl;
+      values = (
+        is_number x (omega arith),
+        (
+          is_number n (omega arith),
+          (is_text s.name name.text, (is_number (role_number s.role) (role_low s.role), tt)),
+        ),
+      );
+    })
     (λ f is. (is.number.1, is.rows.staff_limit, is.rows.staff_names)) i.offices sound.each)
   where
     role_low : (r : Role) → role_number r < 2 ^ 32
@@ -195,9 +266,11 @@ held_staff i sound =
 abbrev HeldOffice : OfficeRow → Type 0
 HeldOffice x = HasFields office_fields (office_row x)
 
-pub held_offices : (i : Institution) → IsSound i → AllByRecursion (HasFields office_fields) (map office_row (tables_of i).offices)
+pub held_offices : (i : Institution) → IsSound i → AllByRecursion (HasFields office_fields)
+    (map office_row (tables_of i).offices)
 unfolding key_of
-held_offices i sound = stored_held (HasFields office_fields) office_row (tables_of i).offices (each i.offices sound.each (own_parents i.offices sound.tree.ascending))
+held_offices i sound = stored_held (HasFields office_fields) office_row (tables_of i).offices (each i.offices sound.each
+    (own_parents i.offices sound.tree.ascending))
   where
     up : (x p : ℕ) → parent_of i.offices x ≡ Some p → p ≤ 9999
     up x p e = there_low i.catalogue (is_staff i.offices) i.offices sound.each p (sound.tree.parents_there x p e)
@@ -206,20 +279,54 @@ held_offices i sound = stored_held (HasFields office_fields) office_row (tables_
     parent_low None x e = tt
     parent_low (Some p) x e = let most = up x p e in omega arith
 
-    each : (fs : List Office) → AllByRecursion (IsSoundOffice i.catalogue (is_staff i.offices)) fs → AllByRecursion (λ (f : Office). parent_of i.offices f.number ≡ f.parent) fs → AllByRecursion HeldOffice (map (office_under (parent_of i.offices)) fs)
+    each : (fs : List Office) → AllByRecursion (IsSoundOffice i.catalogue (is_staff i.offices)) fs
+        → AllByRecursion (λ (f : Office). parent_of i.offices f.number ≡ f.parent) fs
+        → AllByRecursion HeldOffice (map (office_under (parent_of i.offices)) fs)
     each [] all own = tt
     each (f ∷ fs) all own = (
-      record { width = refl; values = (is_number f.number (let most = all.0.number.1 in omega arith), (may_be_number f.parent (parent_low f.parent f.number own.0), (is_text _ (key_utf8 5 (parent_of i.offices) up f.number all.0.number.1), (is_text f.name all.0.name.text, tt)))) },
+      record {
+        width = refl;
+        values = (
+          is_number f.number (let most = all.0.number.1 in omega arith),
+          (
+            may_be_number f.parent (parent_low f.parent f.number own.0),
+            (
+              is_text _ (key_utf8 5 (parent_of i.offices) up f.number all.0.number.1),
+              (
+                is_text f.name all.0.name.text,
+                tt,
+              ),
+            ),
+          ),
+        );
+      },
       each fs all.1 own.1,
     )
 
 abbrev HeldCharge : ChargeRow → Type 0
 HeldCharge x = HasFields charge_fields (charge_row x)
 
-pub held_charges : (i : Institution) → IsSound i → AllByRecursion (HasFields charge_fields) (map charge_row (tables_of i).charges)
+pub held_charges : (i : Institution) → IsSound i → AllByRecursion (HasFields charge_fields)
+    (map charge_row (tables_of i).charges)
 held_charges i sound =
-    stored_held (HasFields charge_fields) charge_row (tables_of i).charges (numbered_held IsSoundCharge HeldCharge 999 charge_as
-    (λ n c low is. record { width = refl; values = (is_number n (omega arith), (is_text c.name is.name.text, (is_number (kind_number c.kind) (kind_low c.kind), (is_number (calc_number c.calc) (calc_low c.calc), (is_amount (pos c.value), tt))))) })
+    stored_held (HasFields charge_fields) charge_row (tables_of i).charges (numbered_held IsSoundCharge HeldCharge 999
+    charge_as
+    (λ n c low is. record {
+      width = refl;
+      values = (
+        is_number n (omega arith),
+        (
+          is_text c.name is.name.text,
+          (
+            is_number (kind_number c.kind) (kind_low c.kind),
+            (
+              is_number (calc_number c.calc) (calc_low c.calc),
+              (is_amount (pos c.value), tt),
+            ),
+          ),
+        ),
+      );
+    })
     1 i.catalogue.charges (let most = sound.catalogue.charge_limit in omega arith) sound.catalogue.charges)
   where
     kind_low : (k : ChargeKind) → kind_number k < 2 ^ 32
@@ -235,11 +342,13 @@ held_charges i sound =
     calc_low calc.OfBoth = omega arith
 
 -- a charge that is named is there
-charge_low : (k : Catalogue) → length k.charges ≤ 999 → (kind : ChargeKind) (o : Option ℕ) → is_of_kind (charge_in k) kind o ≡ true → IfSome o (λ n. n < 2 ^ 32)
+charge_low : (k : Catalogue) → length k.charges ≤ 999 → (kind : ChargeKind) (o : Option ℕ)
+    → is_of_kind (charge_in k) kind o ≡ true → IfSome o (λ n. n < 2 ^ 32)
 charge_low k most kind None h = tt
 charge_low k most kind (Some n) h = go (item_numbered k.charges n) refl h
   where
-    go : (o : Option Charge) → item_numbered k.charges n ≡ o → has_kind kind (option_map (charge_def n) o) ≡ true → n < 2 ^ 32
+    go : (o : Option Charge) → item_numbered k.charges n ≡ o → has_kind kind (option_map (charge_def n) o) ≡ true
+        → n < 2 ^ 32
     go None e h = absurd (true≢false (sym h))
     go (Some c) e h = let low = ((has_number k.charges n).0 (ap is_some e)).1 in omega (arith, low, most)
 
@@ -250,7 +359,8 @@ flag_low true = omega arith
 abbrev HeldProduct : ProductRow → Type 0
 HeldProduct x = HasFields product_fields (product_row x)
 
-product_held : (k : Catalogue) → IsSoundCatalogue k → (n : ℕ) (p : Offer) → n ≤ 999 → IsSoundOffer (charge_in k) p → HeldProduct (product_as n p)
+product_held : (k : Catalogue) → IsSoundCatalogue k → (n : ℕ) (p : Offer) → n ≤ 999 → IsSoundOffer (charge_in k) p
+    → HeldProduct (product_as n p)
 product_held k sound n p low is =
     let m = is.members.limits in
     let kinds = (and_parts _ _ is.consistent).1 in
@@ -286,11 +396,14 @@ product_held k sound n p low is =
                               (
                                 is_number (strategy_number p.members.strategy) (strategy_low p.members.strategy),
                                 (
-                                  may_be_number p.members.disbursement_charge (charge_low k most Disbursement p.members.disbursement_charge first.0),
+                                  may_be_number p.members.disbursement_charge (charge_low k most Disbursement
+                                      p.members.disbursement_charge first.0),
                                   (
-                                    may_be_number p.members.instalment_charge (charge_low k most Instalment p.members.instalment_charge others.0),
+                                    may_be_number p.members.instalment_charge (charge_low k most Instalment
+                                        p.members.instalment_charge others.0),
                                     (
-                                      may_be_number p.members.overdue_charge (charge_low k most Overdue p.members.overdue_charge others.1),
+                                      may_be_number p.members.overdue_charge (charge_low k most Overdue
+                                          p.members.overdue_charge others.1),
                                       (
                                         is_number (flag_number p.retired) (flag_low p.retired),
                                         tt,
@@ -332,29 +445,39 @@ product_held k sound n p low is =
     strategy_low InterestFirst = omega arith
     strategy_low DueFirst = omega arith
 
-pub held_products : (i : Institution) → IsSound i → AllByRecursion (HasFields product_fields) (map product_row (tables_of i).products)
+pub held_products : (i : Institution) → IsSound i → AllByRecursion (HasFields product_fields)
+    (map product_row (tables_of i).products)
 held_products i sound =
-    stored_held (HasFields product_fields) product_row (tables_of i).products (numbered_held (IsSoundOffer (charge_in i.catalogue)) HeldProduct 999 product_as (product_held i.catalogue sound.catalogue)
+    stored_held (HasFields product_fields) product_row (tables_of i).products (numbered_held
+    (IsSoundOffer (charge_in i.catalogue)) HeldProduct 999 product_as (product_held i.catalogue sound.catalogue)
     1 i.catalogue.products (let most = sound.catalogue.product_limit in omega arith) sound.catalogue.products)
 
-all_numbered : {A : Type 0} (P : A → Type 0) (xs : List A) (k : ℕ) (x : A) → AllByRecursion P xs → slice_get xs k ≡ Some x → P x
+all_numbered : {A : Type 0} (P : A → Type 0) (xs : List A) (k : ℕ) (x : A) → AllByRecursion P xs → slice_get xs k
+    ≡ Some x → P x
 all_numbered P [] k x all e = absurd (cc)
 all_numbered P (y ∷ xs) zero x all e = let same : y ≡ x = cc in subst P same all.0
 all_numbered P (y ∷ xs) (suc k) x all e = all_numbered P xs k x all.1 e
 
 -- a product that lends has a number, and bounds the periods
-lends_low : (k : Catalogue) → IsSoundCatalogue k → (n principal periods : ℕ) → lends (product_in k n) principal periods ≡ true → (n < 2 ^ 32) × (periods < 2 ^ 32)
+lends_low : (k : Catalogue) → IsSoundCatalogue k → (n principal periods : ℕ) → lends (product_in k n) principal periods
+    ≡ true → (n < 2 ^ 32) × (periods < 2 ^ 32)
 lends_low k sound zero principal periods h = absurd (true≢false (sym h))
-lends_low k sound (suc n) principal periods h = go (slice_get k.products n) refl (subst (λ o. lends (option_map (product_of (suc n)) o) principal periods ≡ true) (numbered-suc k.products n) h)
+lends_low k sound (suc n) principal periods h = go (slice_get k.products n) refl
+    (subst (λ o. lends (option_map (product_of (suc n)) o) principal periods ≡ true) (numbered-suc k.products n) h)
   where
-    go : (o : Option Offer) → slice_get k.products n ≡ o → lends (option_map (product_of (suc n)) o) principal periods ≡ true → (suc n < 2 ^ 32) × (periods < 2 ^ 32)
+    go : (o : Option Offer) → slice_get k.products n ≡ o → lends (option_map (product_of (suc n)) o) principal periods
+        ≡ true → (suc n < 2 ^ 32) × (periods < 2 ^ 32)
     go None e h = absurd (true≢false (sym h))
     go (Some p) e h =
         let within = slice_get_within k.products n p e in
         let limit = sound.product_limit in
-        let bound = (all_numbered (IsSoundOffer (charge_in k)) k.products n p sound.products e).members.limits.most_max_periods in
-        let last : nat_le periods p.members.max_periods ≡ true = (and_parts _ _ (and_parts _ _ h).1).1 in
-        (omega (arith, within, limit), (let low : periods ≤ p.members.max_periods = grind (arith, nat_tests) in omega (arith, low, bound)))
+        let bound = (all_numbered (IsSoundOffer (charge_in k)) k.products n p sound.products
+        e).members.limits.most_max_periods in
+        let last : nat_le periods p.members.max_periods ≡ true = (and_parts _ _ (and_parts _ _ h).1).1 in (
+          omega (arith, within, limit),
+          (let low : periods ≤ p.members.max_periods = grind (arith, nat_tests) in
+              omega (arith, low, bound)),
+        )
 
 -- ---- loans
 
@@ -364,7 +487,8 @@ HeldLoan x = HasFields loan_fields (loan_row x)
 abbrev IsLow : ℕ → Loan → Type 0
 IsLow today l = (l.client < 2 ^ 32) × (l.product < 2 ^ 32) × (l.periods < 2 ^ 32) × IsStageBy today l.stage
 
-loan_low : (k : Catalogue) → IsSoundCatalogue k → (staffed : Caller → Bool) (clients : List (List ℕ)) → length clients ≤ 999999 → (l : Ledger) → IsSoundLoan k staffed clients l → IsLow k.day l.loan
+loan_low : (k : Catalogue) → IsSoundCatalogue k → (staffed : Caller → Bool) (clients : List (List ℕ)) → length clients
+    ≤ 999999 → (l : Ledger) → IsSoundLoan k staffed clients l → IsLow k.day l.loan
 loan_low k sound staffed clients most l is =
     let low = ((has_number clients l.loan.client).0 is.client).1 in
     let lent = lends_low k sound l.loan.product l.loan.principal l.loan.periods is.product in
@@ -377,21 +501,25 @@ stage_low (Disbursed approved day) = omega arith
 stage_low Withdrawn = omega arith
 stage_low Rejected = omega arith
 
-approved_utf8 : (today : ℕ) → today ≤ last_entered_day → (s : Stage) → IsStageBy today s → IfSome (approval_text s) IsUtf8
+approved_utf8 : (today : ℕ) → today ≤ last_entered_day → (s : Stage) → IsStageBy today s
+    → IfSome (approval_text s) IsUtf8
 approved_utf8 today last Submitted by = tt
 approved_utf8 today last (Approved day) by = day_utf8 day (omega (arith, by, last))
-approved_utf8 today last (Disbursed approved day) by = let before = by.0 in let after = by.1 in day_utf8 approved (omega (arith, before, after, last))
+approved_utf8 today last (Disbursed approved day) by = let before = by.0 in let after =
+    by.1 in day_utf8 approved (omega (arith, before, after, last))
 approved_utf8 today last Withdrawn by = tt
 approved_utf8 today last Rejected by = tt
 
-disbursed_utf8 : (today : ℕ) → today ≤ last_entered_day → (s : Stage) → IsStageBy today s → IfSome (disbursal_text s) IsUtf8
+disbursed_utf8 : (today : ℕ) → today ≤ last_entered_day → (s : Stage) → IsStageBy today s
+    → IfSome (disbursal_text s) IsUtf8
 disbursed_utf8 today last Submitted by = tt
 disbursed_utf8 today last (Approved day) by = tt
 disbursed_utf8 today last (Disbursed approved day) by = let after = by.1 in day_utf8 day (omega (arith, after, last))
 disbursed_utf8 today last Withdrawn by = tt
 disbursed_utf8 today last Rejected by = tt
 
-loan_held : (today : ℕ) → today ≤ last_entered_day → (x n : ℕ) (l : Loan) → x ≤ 9999 → n ≤ 999999 → IsLow today l → HeldLoan (loan_in x n l)
+loan_held : (today : ℕ) → today ≤ last_entered_day → (x n : ℕ) (l : Loan) → x ≤ 9999 → n ≤ 999999 → IsLow today l
+    → HeldLoan (loan_in x n l)
 loan_held today last x n l low_x low_n is =
     record {
       width = refl;
@@ -425,7 +553,8 @@ loan_held today last x n l low_x low_n is =
       );
     }
 
-each_loan : (P : Ledger → Type 0) (Q : Loan → Type 0) → ((l : Ledger) → P l → Q l.loan) → (ls : List Ledger) → AllByRecursion P ls → AllByRecursion Q (map (λ (l : Ledger). l.loan) ls)
+each_loan : (P : Ledger → Type 0) (Q : Loan → Type 0) → ((l : Ledger) → P l → Q l.loan) → (ls : List Ledger)
+    → AllByRecursion P ls → AllByRecursion Q (map (λ (l : Ledger). l.loan) ls)
 each_loan P Q so [] all = tt
 each_loan P Q so (l ∷ ls) all = (so l all.0, each_loan P Q so ls all.1)
 
@@ -433,12 +562,19 @@ loans_count : (ls : List Ledger) → length (map (λ (l : Ledger). l.loan) ls) �
 loans_count [] = refl
 loans_count (l ∷ ls) = ap suc (loans_count ls)
 
-pub held_loans : (i : Institution) → IsSound i → AllByRecursion (HasFields loan_fields) (map loan_row (tables_of i).loans)
+pub held_loans : (i : Institution) → IsSound i → AllByRecursion (HasFields loan_fields)
+    (map loan_row (tables_of i).loans)
 held_loans i sound =
     let k = i.catalogue in
     let staffed = is_staff i.offices in
-    stored_held (HasFields loan_fields) loan_row (tables_of i).loans (rows_held (IsLow k.day) HeldLoan (IsSoundOffice k staffed) 999999 loan_in loans_of (loan_held k.day sound.catalogue.day)
-    (λ f is. (is.number.1, subst (λ n. n ≤ 999999) (sym (loans_count f.rows.loans)) is.rows.loan_limit, each_loan (IsSoundLoan k staffed f.rows.clients) (IsLow k.day) (loan_low k sound.catalogue staffed f.rows.clients is.rows.client_limit) f.rows.loans is.rows.loans)) i.offices sound.each)
+    stored_held (HasFields loan_fields) loan_row (tables_of i).loans (rows_held (IsLow k.day) HeldLoan
+    (IsSoundOffice k staffed) 999999 loan_in loans_of (loan_held k.day sound.catalogue.day)
+    (λ f is. (
+      is.number.1,
+      subst (λ n. n ≤ 999999) (sym (loans_count f.rows.loans)) is.rows.loan_limit,
+      each_loan (IsSoundLoan k staffed f.rows.clients) (IsLow k.day) (loan_low k sound.catalogue staffed
+          f.rows.clients is.rows.client_limit) f.rows.loans is.rows.loans,
+    )) i.offices sound.each)
 
 -- ---- entries
 
@@ -447,9 +583,14 @@ abbrev pub AreNumberedFrom : ℕ → List Entry → Type 0
 AreNumberedFrom n [] = Unit {0}
 AreNumberedFrom n (e ∷ es) = (e.seq ≡ n) × AreNumberedFrom (n + 1) es
 
-pub numbers_by_place : (n : ℕ) (es : List Entry) → ((i : ℕ) → i < length es → (entry_at es i).seq ≡ i + n) → AreNumberedFrom n es
+pub numbers_by_place : (n : ℕ) (es : List Entry) → ((i : ℕ) → i < length es → (entry_at es i).seq ≡ i + n)
+    → AreNumberedFrom n es
 numbers_by_place n [] h = tt
-numbers_by_place n (e ∷ es) h = (h 0 (omega arith) ∙ omega arith, numbers_by_place (n + 1) es (λ i low. h (suc i) (omega (arith, low)) ∙ omega arith))
+numbers_by_place n (e ∷ es) h = (
+  h 0 (omega arith) ∙ omega arith,
+  numbers_by_place (n + 1) es (λ i low. h (suc i)
+      (omega (arith, low)) ∙ omega arith),
+)
 
 abbrev HeldEntry : EntryRow → Type 0
 HeldEntry x = HasFields entry_fields (entry_row x)
@@ -484,11 +625,15 @@ caller_utf8 : (c : Caller) → IsCaller c → IsUtf8 (caller_text c.office c.sta
 caller_utf8 c is =
     let office = is.0.1 in
     let staff = is.1.1 in
-    IsUtf8-append (decimal c.office) _ (IsUtf8-from_ascii (decimal c.office) (IsAscii-decimal c.office (omega (arith, office))))
-    (IsUtf8-append (codes "/") _ (IsUtf8-from_ascii (codes "/") (low_bytes (codes "/") (omega arith, tt))) (IsUtf8-from_ascii (decimal c.staff) (IsAscii-decimal c.staff (omega (arith, staff)))))
+    IsUtf8-append (decimal c.office) _ (IsUtf8-from_ascii (decimal c.office)
+    (IsAscii-decimal c.office (omega (arith, office))))
+    (IsUtf8-append (codes "/") _ (IsUtf8-from_ascii (codes "/") (low_bytes (codes "/") (omega arith, tt)))
+    (IsUtf8-from_ascii (decimal c.staff) (IsAscii-decimal c.staff (omega (arith, staff)))))
 
-module _ (today : ℕ) (last : today ≤ last_entered_day) (staffed : Caller → Bool) (callers : (c : Caller) → staffed c ≡ true → IsCaller c) where
-  entry_held : (x m periods day : ℕ) (e : Entry) → x ≤ 9999 → m ≤ 999999 → periods < 2 ^ 32 → e.seq ≤ 9999 → IsEntry periods day e → IsEntryBy today staffed e → HeldEntry (entry_in x m e)
+module _ (today : ℕ) (last : today ≤ last_entered_day) (staffed : Caller → Bool) (callers : (c : Caller)
+    → staffed c ≡ true → IsCaller c) where
+  entry_held : (x m periods day : ℕ) (e : Entry) → x ≤ 9999 → m ≤ 999999 → periods < 2 ^ 32 → e.seq ≤ 9999
+      → IsEntry periods day e → IsEntryBy today staffed e → HeldEntry (entry_in x m e)
   entry_held x m periods day e low_x low_m low seq is by =
       record {
         width = refl;
@@ -511,7 +656,8 @@ module _ (today : ℕ) (last : today ≤ last_entered_day) (staffed : Caller →
                         (
                           may_be_text e.receipt (receipt_utf8 e.receipt by.receipt),
                           (
-                            is_text (caller_text e.staff.office e.staff.staff) (caller_utf8 e.staff (callers e.staff by.staff)),
+                            is_text (caller_text e.staff.office e.staff.staff)
+                                (caller_utf8 e.staff (callers e.staff by.staff)),
                             (
                               is_number (flag_number e.reversed) (flag_low e.reversed),
                               tt,
@@ -528,7 +674,9 @@ module _ (today : ℕ) (last : today ≤ last_entered_day) (staffed : Caller →
         );
       }
 
-  entries_held : (x m periods day n : ℕ) (es : List Entry) → x ≤ 9999 → m ≤ 999999 → periods < 2 ^ 32 → n + length es ≤ 10000 → AreNumberedFrom n es → AllByRecursion (IsEntry periods day) es → AllByRecursion (IsEntryBy today staffed) es
+  entries_held : (x m periods day n : ℕ) (es : List Entry) → x ≤ 9999 → m ≤ 999999 → periods < 2 ^ 32 → n + length es
+      ≤ 10000 → AreNumberedFrom n es → AllByRecursion (IsEntry periods day) es
+      → AllByRecursion (IsEntryBy today staffed) es
       → AllByRecursion HeldEntry (map (entry_in x m) es)
   entries_held x m periods day n [] low_x low_m low few own are by = tt
   entries_held x m periods day n (e ∷ es) low_x low_m low few own are by = (
@@ -536,68 +684,106 @@ module _ (today : ℕ) (last : today ≤ last_entered_day) (staffed : Caller →
     entries_held x m periods day (n + 1) es low_x low_m low (omega (arith, few)) own.1 are.1 by.1,
   )
 
-  of_loan_held : (x m periods : ℕ) (o : Option ℕ) (es : List Entry) → x ≤ 9999 → m ≤ 999999 → periods < 2 ^ 32 → AreEntriesBy today staffed periods o es → AllByRecursion HeldEntry (map (entry_in x m) es)
-  of_loan_held x m periods None es low_x low_m low none = subst (λ l. AllByRecursion HeldEntry (map (entry_in x m) l)) (sym none) tt
+  of_loan_held : (x m periods : ℕ) (o : Option ℕ) (es : List Entry) → x ≤ 9999 → m ≤ 999999 → periods < 2 ^ 32
+      → AreEntriesBy today staffed periods o es → AllByRecursion HeldEntry (map (entry_in x m) es)
+  of_loan_held x m periods None es low_x low_m low none =
+      subst (λ l. AllByRecursion HeldEntry (map (entry_in x m) l)) (sym none) tt
   of_loan_held x m periods (Some day) es low_x low_m low are =
-      entries_held x m periods day 1 es low_x low_m low (let few = are.lawful.few in omega (arith, few)) (numbers_by_place 1 es are.lawful.numbers) (recursion_from_All (IsEntry periods day) es are.lawful.each) are.each
+      entries_held x m periods day 1 es low_x low_m low (let few = are.lawful.few in omega (arith, few))
+      (numbers_by_place 1 es are.lawful.numbers) (recursion_from_All (IsEntry periods day) es are.lawful.each)
+      are.each
 
   module _ (k : Catalogue) (sound : IsSoundCatalogue k) (is_today : k.day ≡ today) (clients : List (List ℕ)) where
-    of_loans_held : (x n : ℕ) (ls : List Ledger) → x ≤ 9999 → n + length ls ≤ 1000000 → AllByRecursion (IsSoundLoan k staffed clients) ls → AllByRecursion HeldEntry (rows_of_loans entry_in own_entries x n ls)
+    of_loans_held : (x n : ℕ) (ls : List Ledger) → x ≤ 9999 → n + length ls ≤ 1000000
+        → AllByRecursion (IsSoundLoan k staffed clients) ls
+        → AllByRecursion HeldEntry (rows_of_loans entry_in own_entries x n ls)
     of_loans_held x n [] low_x few all = tt
     of_loans_held x n (l ∷ ls) low_x few all =
         let lent = lends_low k sound l.loan.product l.loan.principal l.loan.periods all.0.product in
         all-append HeldEntry (map (entry_in x n) l.entries) (rows_of_loans entry_in own_entries x (n + 1) ls)
-        (of_loan_held x n l.loan.periods (disbursed_on l.loan.stage) l.entries low_x (omega (arith, few)) lent.1 (subst (λ d. AreEntriesBy d staffed l.loan.periods (disbursed_on l.loan.stage) l.entries) is_today all.0.entries))
+        (of_loan_held x n l.loan.periods (disbursed_on l.loan.stage) l.entries low_x (omega (arith, few)) lent.1
+        (subst (λ d. AreEntriesBy d staffed l.loan.periods (disbursed_on l.loan.stage) l.entries) is_today
+        all.0.entries))
         (of_loans_held x (n + 1) ls low_x (omega (arith, few)) all.1)
 
-of_offices_held : (i : Institution) → IsSound i → (fs : List Office) → AllByRecursion (IsSoundOffice i.catalogue (is_staff i.offices)) fs → AllByRecursion HeldEntry (entry_rows fs)
+of_offices_held : (i : Institution) → IsSound i → (fs : List Office)
+    → AllByRecursion (IsSoundOffice i.catalogue (is_staff i.offices)) fs → AllByRecursion HeldEntry (entry_rows fs)
 of_offices_held i sound [] all = tt
 of_offices_held i sound (f ∷ fs) all =
     let staffed = is_staff i.offices in
     all-append HeldEntry (rows_of_loans entry_in own_entries f.number 1 f.rows.loans) (entry_rows fs)
-    (of_loans_held i.catalogue.day sound.catalogue.day staffed (staff_are_callers i.catalogue staffed i.offices sound.each) i.catalogue sound.catalogue refl f.rows.clients f.number 1 f.rows.loans all.0.number.1 (let most = all.0.rows.loan_limit in omega (arith, most)) all.0.rows.loans)
+    (of_loans_held i.catalogue.day sound.catalogue.day staffed (staff_are_callers i.catalogue staffed i.offices
+    sound.each) i.catalogue sound.catalogue refl f.rows.clients f.number 1 f.rows.loans all.0.number.1 (let most =
+    all.0.rows.loan_limit in omega (arith, most)) all.0.rows.loans)
     (of_offices_held i sound fs all.1)
 
-pub held_entries : (i : Institution) → IsSound i → AllByRecursion (HasFields entry_fields) (map entry_row (tables_of i).entries)
-held_entries i sound = stored_held (HasFields entry_fields) entry_row (tables_of i).entries (of_offices_held i sound i.offices sound.each)
+pub held_entries : (i : Institution) → IsSound i → AllByRecursion (HasFields entry_fields)
+    (map entry_row (tables_of i).entries)
+held_entries i sound =
+    stored_held (HasFields entry_fields) entry_row (tables_of i).entries (of_offices_held i sound i.offices sound.each)
 
 -- ---- receipts
 
 abbrev HeldReceipt : ReceiptRow → Type 0
 HeldReceipt x = HasFields receipt_fields (receipt_row x)
 
-receipt_held : (x : ℕ) (u : Use) → x ≤ 9999 → u.by.loan ≤ 999999 → u.by.seq ≤ 9999 → IsUtf8 u.receipt → HeldReceipt (receipt_in x u)
+receipt_held : (x : ℕ) (u : Use) → x ≤ 9999 → u.by.loan ≤ 999999 → u.by.seq ≤ 9999 → IsUtf8 u.receipt
+    → HeldReceipt (receipt_in x u)
 receipt_held x u low_x low_loan low_seq utf8 =
-    record { width = refl; values = (is_number x (omega arith), (is_text u.receipt utf8, (is_number u.by.loan (omega arith), (is_number u.by.seq (omega arith), tt)))) }
+    record {
+      width = refl;
+      values = (
+        is_number x (omega arith),
+        (is_text u.receipt utf8, (is_number u.by.loan (omega arith), (is_number u.by.seq (omega arith), tt))),
+      );
+    }
 
 module _ (today : ℕ) (staffed : Caller → Bool) where
-  uses_of_entries : (x m n : ℕ) (es : List Entry) → x ≤ 9999 → m ≤ 999999 → n + length es ≤ 10000 → AreNumberedFrom n es → AllByRecursion (IsEntryBy today staffed) es → AllByRecursion (λ u. HeldReceipt (receipt_in x u)) (uses_in m es)
+  uses_of_entries : (x m n : ℕ) (es : List Entry) → x ≤ 9999 → m ≤ 999999 → n + length es ≤ 10000 → AreNumberedFrom n es
+      → AllByRecursion (IsEntryBy today staffed) es → AllByRecursion (λ u. HeldReceipt (receipt_in x u)) (uses_in m es)
   uses_of_entries x m n [] low_x low_m few own by = tt
   uses_of_entries x m n (e ∷ es) low_x low_m few own by =
-      all-append (λ u. HeldReceipt (receipt_in x u)) (use_of e.receipt m e) (uses_in m es) (one e.receipt (receipt_utf8 e.receipt by.0.receipt)) (uses_of_entries x m (n + 1) es low_x low_m (omega (arith, few)) own.1 by.1)
+      all-append (λ u. HeldReceipt (receipt_in x u)) (use_of e.receipt m e) (uses_in m es)
+      (one e.receipt (receipt_utf8 e.receipt by.0.receipt))
+      (uses_of_entries x m (n + 1) es low_x low_m (omega (arith, few)) own.1 by.1)
     where
       one : (o : Option (List ℕ)) → IfSome o IsUtf8 → AllByRecursion (λ u. HeldReceipt (receipt_in x u)) (use_of o m e)
       one None utf8 = tt
-      one (Some t) utf8 = (receipt_held x (record { receipt = t; by = use_by m e }) low_x low_m (let number = own.0 in omega (arith, number, few)) utf8, tt)
+      one (Some t) utf8 = (
+        receipt_held x (record { receipt = t; by = use_by m e }) low_x low_m (let number = own.0 in
+            omega (arith, number, few)) utf8,
+        tt,
+      )
 
-  uses_of_loan : (x m periods : ℕ) (o : Option ℕ) (es : List Entry) → x ≤ 9999 → m ≤ 999999 → AreEntriesBy today staffed periods o es → AllByRecursion (λ u. HeldReceipt (receipt_in x u)) (uses_in m es)
-  uses_of_loan x m periods None es low_x low_m none = subst (λ l. AllByRecursion (λ u. HeldReceipt (receipt_in x u)) (uses_in m l)) (sym none) tt
-  uses_of_loan x m periods (Some day) es low_x low_m are = uses_of_entries x m 1 es low_x low_m (let few = are.lawful.few in omega (arith, few)) (numbers_by_place 1 es are.lawful.numbers) are.each
+  uses_of_loan : (x m periods : ℕ) (o : Option ℕ) (es : List Entry) → x ≤ 9999 → m ≤ 999999
+      → AreEntriesBy today staffed periods o es → AllByRecursion (λ u. HeldReceipt (receipt_in x u)) (uses_in m es)
+  uses_of_loan x m periods None es low_x low_m none =
+      subst (λ l. AllByRecursion (λ u. HeldReceipt (receipt_in x u)) (uses_in m l)) (sym none) tt
+  uses_of_loan x m periods (Some day) es low_x low_m are = uses_of_entries x m 1 es low_x low_m
+      (let few = are.lawful.few in omega (arith, few)) (numbers_by_place 1 es are.lawful.numbers) are.each
 
-uses_of_loans : (k : Catalogue) (staffed : Caller → Bool) (clients : List (List ℕ)) (x n : ℕ) (ls : List Ledger) → x ≤ 9999 → n + length ls ≤ 1000000 → AllByRecursion (IsSoundLoan k staffed clients) ls → AllByRecursion (λ u. HeldReceipt (receipt_in x u)) (uses_from n ls)
+uses_of_loans : (k : Catalogue) (staffed : Caller → Bool) (clients : List (List ℕ)) (x n : ℕ) (ls : List Ledger)
+    → x ≤ 9999 → n + length ls ≤ 1000000 → AllByRecursion (IsSoundLoan k staffed clients) ls
+    → AllByRecursion (λ u. HeldReceipt (receipt_in x u)) (uses_from n ls)
 uses_of_loans k staffed clients x n [] low_x few all = tt
 uses_of_loans k staffed clients x n (l ∷ ls) low_x few all =
     all-append (λ u. HeldReceipt (receipt_in x u)) (uses_in n l.entries) (uses_from (n + 1) ls)
-    (uses_of_loan k.day staffed x n l.loan.periods (disbursed_on l.loan.stage) l.entries low_x (omega (arith, few)) all.0.entries)
+    (uses_of_loan k.day staffed x n l.loan.periods (disbursed_on l.loan.stage) l.entries low_x (omega (arith, few))
+    all.0.entries)
     (uses_of_loans k staffed clients x (n + 1) ls low_x (omega (arith, few)) all.1)
 
-carried_held : (k : Catalogue) (staffed : Caller → Bool) (fs : List Office) → AllByRecursion (IsSoundOffice k staffed) fs → AllByRecursion HeldReceipt (receipts_carried fs)
+carried_held : (k : Catalogue) (staffed : Caller → Bool) (fs : List Office) → AllByRecursion (IsSoundOffice k staffed)
+    fs → AllByRecursion HeldReceipt (receipts_carried fs)
 carried_held k staffed [] all = tt
 carried_held k staffed (f ∷ fs) all =
     all-append HeldReceipt (map (receipt_in f.number) (uses_from 1 f.rows.loans)) (receipts_carried fs)
-    (stored_held HeldReceipt (receipt_in f.number) (uses_from 1 f.rows.loans) (uses_of_loans k staffed f.rows.clients f.number 1 f.rows.loans all.0.number.1 (let most = all.0.rows.loan_limit in omega (arith, most)) all.0.rows.loans))
+    (stored_held HeldReceipt (receipt_in f.number) (uses_from 1 f.rows.loans)
+    (uses_of_loans k staffed f.rows.clients f.number 1 f.rows.loans all.0.number.1
+    (let most = all.0.rows.loan_limit in omega (arith, most)) all.0.rows.loans))
     (carried_held k staffed fs all.1)
 
-pub held_receipts : (i : Institution) → IsSound i → AllByRecursion (HasFields receipt_fields) (map receipt_row (tables_of i).receipts)
+pub held_receipts : (i : Institution) → IsSound i → AllByRecursion (HasFields receipt_fields)
+    (map receipt_row (tables_of i).receipts)
 held_receipts i sound =
-    stored_held (HasFields receipt_fields) receipt_row (tables_of i).receipts (all_sorted by_receipt HeldReceipt (receipts_carried i.offices) (carried_held i.catalogue (is_staff i.offices) i.offices sound.each))
+    stored_held (HasFields receipt_fields) receipt_row (tables_of i).receipts (all_sorted by_receipt HeldReceipt
+    (receipts_carried i.offices) (carried_held i.catalogue (is_staff i.offices) i.offices sound.each))

@@ -12,8 +12,12 @@ use Rattle.mf_store_sound.specs.Sound.{AreOfSound, AreOfSoundFirst}
 use Rattle.mf_store_upgrade.specs.Upgrade.{HoldsFirst}
 use Rattle.mf_store_files.specs.Held.{CanBeHeld, DoRise, HoldsSound, HoldsSoundFirst}
 use Rattle.mf_store_files.proofs.HeldAccountLemmas.{held_instalments, held_shares}
-use Rattle.mf_store_files.proofs.HeldLemmas.{is_number, is_text, day_utf8, held_meta, held_offices, held_staff, held_clients, held_charges, held_products, held_loans, held_entries, held_receipts}
-use Rattle.mf_store_files.proofs.RiseLemmas.{meta_rises, offices_rise, staff_rise, clients_rise, charges_rise, products_rise, loans_rise, entries_rise, receipts_rise, instalments_rise, shares_rise}
+use Rattle.mf_store_files.proofs.HeldLemmas.{is_number, is_text, day_utf8, held_meta, held_offices, held_staff}
+use Rattle.mf_store_files.proofs.HeldLemmas.{held_clients, held_charges, held_products, held_loans, held_entries}
+use Rattle.mf_store_files.proofs.HeldLemmas.{held_receipts}
+use Rattle.mf_store_files.proofs.RiseLemmas.{meta_rises, offices_rise, staff_rise, clients_rise, charges_rise}
+use Rattle.mf_store_files.proofs.RiseLemmas.{products_rise, loans_rise, entries_rise, receipts_rise, instalments_rise}
+use Rattle.mf_store_files.proofs.RiseLemmas.{shares_rise}
 
 pub can_be_held : (i : Institution) → IsSound i → CanBeHeld (tables_of i)
 can_be_held i sound = record {
@@ -51,7 +55,8 @@ module _ (trees : Trees) (lists : Lists) where
   holds_sound keeps are = record {
     institution = are.institution;
     sound = are.sound;
-    holds = subst (λ l. Holds trees (Some l)) (sym are.rows_are) (keeps (subst DoRise are.rows_are (do_rise are.institution are.sound)));
+    holds = subst (λ l. Holds trees (Some l)) (sym are.rows_are)
+        (keeps (subst DoRise are.rows_are (do_rise are.institution are.sound)));
   }
 
   -- where trees hold a sound institution and the lists read are all that they hold, these are its rows
@@ -68,7 +73,19 @@ pub first_can_be_held : (i : Institution) → IsSound i → CanBeHeld (first_tab
 first_can_be_held i sound =
     let held = can_be_held i sound in
     record {
-      meta = (record { width = refl; values = (is_number 1 (omega arith), (is_number 1 (omega arith), (is_text (day_text i.catalogue.day) (day_utf8 i.catalogue.day sound.catalogue.day), tt))) }, tt);
+      meta = (
+        record {
+          width = refl;
+          values = (
+            is_number 1 (omega arith),
+            (
+              is_number 1 (omega arith),
+              (is_text (day_text i.catalogue.day) (day_utf8 i.catalogue.day sound.catalogue.day), tt),
+            ),
+          );
+        },
+        tt,
+      );
       offices = held.offices;
       staff = held.staff;
       clients = held.clients;
@@ -103,13 +120,16 @@ module _ (trees : Trees) (lists : Lists) where
   holds_sound_first keeps are = record {
     institution = are.institution;
     sound = are.sound;
-    holds = subst (HoldsFirst trees) (sym are.rows_are) (keeps (subst DoRise are.rows_are (first_do_rise are.institution are.sound)));
+    holds = subst (HoldsFirst trees) (sym are.rows_are)
+        (keeps (subst DoRise are.rows_are (first_do_rise are.institution are.sound)));
   }
 
-  pub first_rows_are : ((l : Lists) → HoldsFirst trees l → lists ≡ without_accounts l) → (h : HoldsSoundFirst trees) → first_tables_of h.institution ≡ lists
+  pub first_rows_are : ((l : Lists) → HoldsFirst trees l → lists ≡ without_accounts l) → (h : HoldsSoundFirst trees)
+      → first_tables_of h.institution ≡ lists
   first_rows_are only h = sym (only (first_tables_of h.institution) h.holds)
 
-  pub are_of_sound_first : ((l : Lists) → HoldsFirst trees l → lists ≡ without_accounts l) → HoldsSoundFirst trees → AreOfSoundFirst lists
+  pub are_of_sound_first : ((l : Lists) → HoldsFirst trees l → lists ≡ without_accounts l) → HoldsSoundFirst trees
+      → AreOfSoundFirst lists
   are_of_sound_first only h = record {
     institution = h.institution;
     sound = h.sound;

@@ -41,62 +41,92 @@ module _ {S : Type 0} (g : StoreGhosts S) (h : Held S) (trees : Trees) where
     trees_are : (state g h).now.trees ≡ trees
     trees_are = ap (λ (db : Database). db.trees) is
 
-  tabled_as : (state g h).now ≡ record { schema = schema; trees = trees } → (held : HoldsSound trees) → IsTabled g h held.institution
-  tabled_as is held = record { sound = held.sound; serves = λ live. record { schema_is = schema_is schema is; holds = subst (λ t. Holds t (Some (tables_of held.institution))) (sym (trees_are schema is)) held.holds } }
+  tabled_as : (state g h).now ≡ record { schema = schema; trees = trees } → (held : HoldsSound trees)
+      → IsTabled g h held.institution
+  tabled_as is held = record {
+    sound = held.sound;
+    serves = λ live. record {
+      schema_is = schema_is schema is;
+      holds = subst (λ t. Holds t (Some (tables_of held.institution))) (sym (trees_are schema is)) held.holds;
+    };
+  }
 
-  tabled_first_as : (state g h).now ≡ record { schema = first_schema; trees = trees } → (held : HoldsSoundFirst trees) → IsTabledFirst g h held.institution
-  tabled_first_as is held = record { sound = held.sound; keeps = λ live. record { schema_is = schema_is first_schema is; holds = subst (λ t. HoldsFirst t (first_tables_of held.institution)) (sym (trees_are first_schema is)) held.holds } }
+  tabled_first_as : (state g h).now ≡ record { schema = first_schema; trees = trees } → (held : HoldsSoundFirst trees)
+      → IsTabledFirst g h held.institution
+  tabled_first_as is held = record {
+    sound = held.sound;
+    keeps = λ live. record {
+      schema_is = schema_is first_schema is;
+      holds = subst (λ t. HoldsFirst t (first_tables_of held.institution)) (sym (trees_are first_schema is))
+          held.holds;
+    };
+  }
 
 -- ---- the file shows what it held
 
 module _ (image : Image) (s : State) (shows : ShowsFile image s) where
   -- the schema is the one that the trees list, which has no views
-  pub under : (own : Schema) → own.views ≡ [] → (trees : Trees) → HoldsDatabase image trees → IsSound own trees → s.now ≡ record { schema = own; trees = trees }
+  pub under : (own : Schema) → own.views ≡ [] → (trees : Trees) → HoldsDatabase image trees → IsSound own trees
+      → s.now ≡ record { schema = own; trees = trees }
   under own bare trees held sound =
       let are = shows.holds trees held in
       let same = one_schema s.now.trees s.now.schema own bare shows.sound (subst (IsSound own) (sym are) sound) in
       λ t. record { schema = same t; trees = are t }
 
   -- where the schema has no views, the trees list no other
-  pub seen : (trees : Trees) (k : Schema) → HoldsDatabase image trees → IsSound k trees → s.now.schema.views ≡ [] → k ≡ s.now.schema
-  seen trees k held sound bare = one_schema trees k s.now.schema bare sound (subst (IsSound s.now.schema) (shows.holds trees held) shows.sound)
+  pub seen : (trees : Trees) (k : Schema) → HoldsDatabase image trees → IsSound k trees → s.now.schema.views ≡ []
+      → k ≡ s.now.schema
+  seen trees k held sound bare =
+      one_schema trees k s.now.schema bare sound (subst (IsSound s.now.schema) (shows.holds trees held) shows.sound)
 
   own_views : (s.now.schema ≡ no_schema) ⊎ IsKnown s.now.schema → s.now.schema.views ≡ []
   own_views (inl none) = ap (λ (k : Schema). k.views) none
   own_views (inr (inl present)) = ap (λ (k : Schema). k.views) present
   own_views (inr (inr first)) = ap (λ (k : Schema). k.views) first
 
-  is_one : (s.now.schema ≡ no_schema) ⊎ IsKnown s.now.schema → (trees : Trees) (k : Schema) → HoldsDatabase image trees → IsSound k trees → (k ≡ no_schema) ⊎ IsKnown k
-  is_one known trees k held sound = subst (λ (x : Schema). (x ≡ no_schema) ⊎ IsKnown x) (sym (seen trees k held sound (own_views known))) known
+  is_one : (s.now.schema ≡ no_schema) ⊎ IsKnown s.now.schema → (trees : Trees) (k : Schema) → HoldsDatabase image trees
+      → IsSound k trees → (k ≡ no_schema) ⊎ IsKnown k
+  is_one known trees k held sound =
+      subst (λ (x : Schema). (x ≡ no_schema) ⊎ IsKnown x) (sym (seen trees k held sound (own_views known))) known
 
   -- what was left as it is now is what the file held
   pub left_as_held : (trees : Trees) → HoldsDatabase image trees → (left : Trees) → s.may_leave left → left ≡ trees
   left_as_held trees held left may = shows.leaves left may ∙ shows.holds trees held
 
-module _ {D : Type 0} {g : Ghosts D} (image : Image) (h : Held (FileStore D g)) (shown : HasCleanDisk (file_state h) → ShowsFile image (file_state h)) where
-  abbrev now_under : HasCleanDisk (file_state h) → (own : Schema) → own.views ≡ [] → (trees : Trees) → HoldsDatabase image trees → IsSound own trees → (file_state h).now ≡ record { schema = own; trees = trees }
+module _ {D : Type 0} {g : Ghosts D} (image : Image) (h : Held (FileStore D g)) (shown : HasCleanDisk (file_state h)
+    → ShowsFile image (file_state h)) where
+  abbrev now_under : HasCleanDisk (file_state h) → (own : Schema) → own.views ≡ [] → (trees : Trees)
+      → HoldsDatabase image trees → IsSound own trees → (file_state h).now ≡ record { schema = own; trees = trees }
   now_under good = under image (file_state h) (shown good)
 
-  module _ (store : KnownStore (FileStore D g)) (taken : IsTaken over_files h store) (known : ((file_state h).now.schema ≡ no_schema) ⊎ IsKnown (file_state h).now.schema) where
-    sound : IsClean over_files store → (trees : Trees) → HoldsDatabase image trees → IsSound schema trees → HoldsSound trees
+  module _ (store : KnownStore (FileStore D g)) (taken : IsTaken over_files h store)
+      (known : ((file_state h).now.schema ≡ no_schema) ⊎ IsKnown (file_state h).now.schema) where
+    sound : IsClean over_files store → (trees : Trees) → HoldsDatabase image trees → IsSound schema trees
+        → HoldsSound trees
     sound clean trees holds its =
         let good = taken.premise clean in
         let is = now_under good schema refl trees holds its in
         let ours = schema_is over_files h trees schema is in
         subst HoldsSound (trees_are over_files h trees schema is) (taken.sound clean ours ((shown good).rowids ours))
 
-    sound_first : IsClean over_files store → (trees : Trees) → HoldsDatabase image trees → IsSound first_schema trees → HoldsSoundFirst trees
+    sound_first : IsClean over_files store → (trees : Trees) → HoldsDatabase image trees → IsSound first_schema trees
+        → HoldsSoundFirst trees
     sound_first clean trees holds its =
         let good = taken.premise clean in
         let is = now_under good first_schema refl trees holds its in
         let ours = schema_is over_files h trees first_schema is in
-        subst HoldsSoundFirst (trees_are over_files h trees first_schema is) (taken.sound_first clean ours ((shown good).first_rowids ours))
+        subst HoldsSoundFirst (trees_are over_files h trees first_schema is)
+        (taken.sound_first clean ours ((shown good).first_rowids ours))
 
-    tabled : IsClean over_files store → (trees : Trees) → HoldsDatabase image trees → (held : HoldsSound trees) → IsTabled over_files h held.institution
-    tabled clean trees holds held = tabled_as over_files h trees (now_under (taken.premise clean) schema refl trees holds held.holds.sound) held
+    tabled : IsClean over_files store → (trees : Trees) → HoldsDatabase image trees → (held : HoldsSound trees)
+        → IsTabled over_files h held.institution
+    tabled clean trees holds held =
+        tabled_as over_files h trees (now_under (taken.premise clean) schema refl trees holds held.holds.sound) held
 
-    tabled_first : IsClean over_files store → (trees : Trees) → HoldsDatabase image trees → (held : HoldsSoundFirst trees) → IsTabledFirst over_files h held.institution
-    tabled_first clean trees holds held = tabled_first_as over_files h trees (now_under (taken.premise clean) first_schema refl trees holds held.holds.sound) held
+    tabled_first : IsClean over_files store → (trees : Trees) → HoldsDatabase image trees
+        → (held : HoldsSoundFirst trees) → IsTabledFirst over_files h held.institution
+    tabled_first clean trees holds held = tabled_first_as over_files h trees (now_under (taken.premise clean)
+        first_schema refl trees holds held.holds.sound) held
 
     pub opens_as_found : OpensAsFound image store
     opens_as_found = record {
@@ -106,19 +136,25 @@ module _ {D : Type 0} {g : Ghosts D} (image : Image) (h : Held (FileStore D g)) 
       stands = λ clean trees holds held. taken.stands clean held.institution (tabled clean trees holds held);
       leaves = λ clean trees holds held. taken.leaves clean held.institution (tabled clean trees holds held);
       sound_first = sound_first;
-      stands_first = λ clean trees holds held. taken.stands_first clean held.institution (tabled_first clean trees holds held);
-      leaves_first = λ clean trees holds held. taken.leaves_first clean held.institution (tabled_first clean trees holds held);
+      stands_first =
+          λ clean trees holds held. taken.stands_first clean held.institution (tabled_first clean trees holds held);
+      leaves_first =
+          λ clean trees holds held. taken.leaves_first clean held.institution (tabled_first clean trees holds held);
     }
 
   module _ (new : Held (FileStore D g)) (fault : Fault) (back : IsGivenBack over_files h new fault) where
-    unchanged : HasCleanDisk (file_state new) → (trees : Trees) → HoldsDatabase image trees → IsSound schema trees → (left : Trees) → (file_state new).may_leave left → left ≡ trees
+    unchanged : HasCleanDisk (file_state new) → (trees : Trees) → HoldsDatabase image trees → IsSound schema trees
+        → (left : Trees) → (file_state new).may_leave left → left ≡ trees
     unchanged clean trees holds its left may =
         let good = back.still clean in
         let ours = schema_is over_files h trees schema (now_under good schema refl trees holds its) in
-        left_as_held image (file_state h) (shown good) trees holds left ((back.unchanged ours).stop clean (λ live. ours) left may)
+        left_as_held image (file_state h) (shown good) trees holds left ((back.unchanged ours).stop clean (λ live. ours)
+        left may)
 
-    left_first : HasCleanDisk (file_state new) → (trees : Trees) → HoldsDatabase image trees → (held : HoldsSoundFirst trees)
-        → (left : Trees) → (file_state new).may_leave left → left ≡ trees ⊎ Holds left (Some (tables_of held.institution))
+    left_first : HasCleanDisk (file_state new) → (trees : Trees) → HoldsDatabase image trees
+        → (held : HoldsSoundFirst trees)
+        → (left : Trees) → (file_state new).may_leave left → left ≡ trees
+        ⊎ Holds left (Some (tables_of held.institution))
     left_first clean trees holds held left may =
         let good = back.still clean in
         let is = now_under good first_schema refl trees holds held.holds.sound in
@@ -128,7 +164,8 @@ module _ {D : Type 0} {g : Ghosts D} (image : Image) (h : Held (FileStore D g)) 
           | inr made ↦ inr made
         ]
 
-    refused_first : HasCleanDisk (file_state new) → (trees : Trees) → HoldsDatabase image trees → IsSound first_schema trees → ¬ HoldsSoundFirst trees
+    refused_first : HasCleanDisk (file_state new) → (trees : Trees) → HoldsDatabase image trees
+        → IsSound first_schema trees → ¬ HoldsSoundFirst trees
         → (left : Trees) → (file_state new).may_leave left → left ≡ trees
     refused_first clean trees holds its none_held left may =
         let good = back.still clean in
@@ -136,59 +173,82 @@ module _ {D : Type 0} {g : Ghosts D} (image : Image) (h : Held (FileStore D g)) 
         let first = schema_is over_files h trees first_schema is in
         let are = trees_are over_files h trees first_schema is in
         let kept = back.left_first first in
-        left_as_held image (file_state h) (shown good) trees holds left (kept.refused clean ((shown good).first_rowids first) (λ held. none_held (subst HoldsSoundFirst are held)) left may)
+        left_as_held image (file_state h) (shown good) trees holds left (kept.refused clean ((shown good).first_rowids
+        first) (λ held. none_held (subst HoldsSoundFirst are held)) left may)
 
-    foreign : HasCleanDisk (file_state new) → (trees : Trees) (k : Schema) → HoldsDatabase image trees → IsSound k trees → k ≢ no_schema → ¬ IsKnown k
+    foreign : HasCleanDisk (file_state new) → (trees : Trees) (k : Schema) → HoldsDatabase image trees → IsSound k trees
+        → k ≢ no_schema → ¬ IsKnown k
         → (fault ≡ F19) × ((left : Trees) → (file_state new).may_leave left → left ≡ trees)
     foreign clean trees k holds its some others =
         let good = back.still clean in
         let one = is_one image (file_state h) (shown good) in
-        let not_none : (file_state h).now.schema ≢ no_schema = λ none. elim (one (inl none) trees k holds its) [ inl is ↦ some is | inr is ↦ others is ] in
-        let not_known : ¬ IsKnown (file_state h).now.schema = λ known. elim (one (inr known) trees k holds its) [ inl is ↦ some is | inr is ↦ others is ] in
+        let not_none : (file_state h).now.schema ≢ no_schema =
+        λ none. elim (one (inl none) trees k holds its) [ inl is ↦ some is | inr is ↦ others is ] in
+        let not_known : ¬ IsKnown (file_state h).now.schema =
+        λ known. elim (one (inr known) trees k holds its) [ inl is ↦ some is | inr is ↦ others is ] in
         let told = back.foreign not_none not_known in (
           told.0,
-          λ left may. left_as_held image (file_state h) (shown good) trees holds left (subst (λ (c : Held (FileStore D g)). (file_state c).may_leave left) told.1 may),
+          λ left may. left_as_held image (file_state h) (shown good) trees holds left
+              (subst (λ (c : Held (FileStore D g)). (file_state c).may_leave left) told.1 may),
         )
 
     pub stays_as_found : StaysAsFound image new fault
-    stays_as_found = record { unchanged = unchanged; left_first = left_first; refused_first = refused_first; foreign = foreign }
+    stays_as_found = record {
+      unchanged = unchanged;
+      left_first = left_first;
+      refused_first = refused_first;
+      foreign = foreign;
+    }
 
-    pub none_sound : fault ≡ F19 → (file_state h).now.schema ≢ no_schema → HasCleanDisk (file_state new) → HoldsNoneSound image
+    pub none_sound : fault ≡ F19 → (file_state h).now.schema ≢ no_schema → HasCleanDisk (file_state new)
+        → HoldsNoneSound image
     none_sound told some clean =
         let good = back.still clean in record {
           some = λ nothing. some ((shown good).none nothing).schema_is;
           present = λ trees holds held.
               let is = now_under good schema refl trees holds held.holds.sound in
-              back.refused told clean (schema_is over_files h trees schema is) (subst HoldsSound (sym (trees_are over_files h trees schema is)) held);
+              back.refused told clean (schema_is over_files h trees schema is)
+              (subst HoldsSound (sym (trees_are over_files h trees schema is)) held);
           first = λ trees holds held.
               let is = now_under good first_schema refl trees holds held.holds.sound in
-              back.refused_first told clean (schema_is over_files h trees first_schema is) (subst HoldsSoundFirst (sym (trees_are over_files h trees first_schema is)) held);
+              back.refused_first told clean (schema_is over_files h trees first_schema is)
+              (subst HoldsSoundFirst (sym (trees_are over_files h trees first_schema is)) held);
         }
 
   -- where no institution was to be made
-  module _ (new : Held (FileStore D g)) (refused : Refused) (none : (refused ≡ NoInstitution) ↔ ((file_state h).now.schema ≡ no_schema)) (same : refused ≡ NoInstitution → new ≡ h) (back : (fault : Fault) → refused ≡ Failed fault → IsGivenBack over_files h new fault) where
+  module _ (new : Held (FileStore D g)) (refused : Refused) (none : (refused ≡ NoInstitution)
+      ↔ ((file_state h).now.schema ≡ no_schema)) (same : refused ≡ NoInstitution → new ≡ h) (back : (fault : Fault)
+      → refused ≡ Failed fault → IsGivenBack over_files h new fault) where
     still : HasCleanDisk (file_state new) → HasCleanDisk (file_state h)
     still = go refused same back
       where
-        go : (r : Refused) → (r ≡ NoInstitution → new ≡ h) → ((fault : Fault) → r ≡ Failed fault → IsGivenBack over_files h new fault) → HasCleanDisk (file_state new) → HasCleanDisk (file_state h)
-        go NoInstitution as_it_was given clean = subst (λ (c : Held (FileStore D g)). HasCleanDisk (file_state c)) (as_it_was refl) clean
+        go : (r : Refused) → (r ≡ NoInstitution → new ≡ h) → ((fault : Fault) → r ≡ Failed fault
+            → IsGivenBack over_files h new fault) → HasCleanDisk (file_state new) → HasCleanDisk (file_state h)
+        go NoInstitution as_it_was given clean =
+            subst (λ (c : Held (FileStore D g)). HasCleanDisk (file_state c)) (as_it_was refl) clean
         go (Failed fault) as_it_was given clean = (given fault refl).still clean
 
     pub told_none : HasCleanDisk (file_state new) → HasNoTables image → refused ≡ NoInstitution
     told_none clean nothing = none.1 ((shown (still clean)).none nothing).schema_is
 
-    pub left_none : refused ≡ NoInstitution → HasCleanDisk (file_state new) → ((left : Trees) → (file_state new).may_leave left → Holds left None) × ((trees : Trees) → HoldsDatabase image trees → Holds trees None)
+    pub left_none : refused ≡ NoInstitution → HasCleanDisk (file_state new)
+        → ((left : Trees) → (file_state new).may_leave left → Holds left None)
+        × ((trees : Trees) → HoldsDatabase image trees → Holds trees None)
     left_none told clean =
         let shows = shown (still clean) in
-        let bare : IsSound no_schema (file_state h).now.trees = subst (λ (k : Schema). IsSound k (file_state h).now.trees) (none.0 told) shows.sound in (
-          λ left may. subst (IsSound no_schema) (sym (shows.leaves left (subst (λ (c : Held (FileStore D g)). (file_state c).may_leave left) (same told) may))) bare,
+        let bare : IsSound no_schema (file_state h).now.trees =
+        subst (λ (k : Schema). IsSound k (file_state h).now.trees) (none.0 told) shows.sound in (
+          λ left may. subst (IsSound no_schema)
+              (sym (shows.leaves left (subst (λ (c : Held (FileStore D g)). (file_state c).may_leave left)
+              (same told) may))) bare,
           λ trees holds. subst (IsSound no_schema) (shows.holds trees holds) bare,
         )
 
     pub existing_errors : (refused ≡ NoInstitution) ⊎ ((refused ≡ Failed F19) ⊎ (refused ≡ Failed F20))
     existing_errors = go refused back
       where
-        go : (r : Refused) → ((fault : Fault) → r ≡ Failed fault → IsGivenBack over_files h new fault) → (r ≡ NoInstitution) ⊎ ((r ≡ Failed F19) ⊎ (r ≡ Failed F20))
+        go : (r : Refused) → ((fault : Fault) → r ≡ Failed fault → IsGivenBack over_files h new fault)
+            → (r ≡ NoInstitution) ⊎ ((r ≡ Failed F19) ⊎ (r ≡ Failed F20))
         go NoInstitution given = inl refl
         go (Failed fault) given = elim (given fault refl).errors [
           | inl is ↦ inr (inl (ap Failed is))
@@ -197,5 +257,6 @@ module _ {D : Type 0} {g : Ghosts D} (image : Image) (h : Held (FileStore D g)) 
 
     pub existing_none_sound : refused ≡ Failed F19 → HasCleanDisk (file_state new) → HoldsNoneSound image
     existing_none_sound told clean =
-        let some : (file_state h).now.schema ≢ no_schema = λ is. (let both : NoInstitution ≡ Failed F19 = sym (none.1 is) ∙ told in cc) in
+        let some : (file_state h).now.schema ≢ no_schema =
+        λ is. (let both : NoInstitution ≡ Failed F19 = sym (none.1 is) ∙ told in cc) in
         none_sound new F19 (back F19 told) refl some clean

@@ -1,5 +1,6 @@
 -- The rows of a sound institution rise by the key of their table.
-use Rattle.std.proofs.Common.{◌≡◌, ◌<◌, ◌≤◌, ◌+◌, ◌∙◌, ℕ, zero, suc, length, Bool, List, [], ◌∷◌, map, Option, None, Some, refl, sym, subst, arith, Ordering, Less, nat_cmp}
+use Rattle.std.proofs.Common.{◌≡◌, ◌<◌, ◌≤◌, ◌+◌, ◌∙◌, ℕ, zero, suc, length, Bool, List, [], ◌∷◌, map, Option, None}
+use Rattle.std.proofs.Common.{Some, refl, sym, subst, arith, Ordering, Less, nat_cmp}
 use Rattle.std.specs.List.{AllByRecursion}
 use Rattle.std.specs.Ordering.{ordering_then}
 use Rattle.std.proofs.lemmas.Bool.Decides.{nat_tests}
@@ -16,10 +17,14 @@ use Rattle.mf_model.specs.Institution.{Institution, Ledger, Office}
 use Rattle.mf_model.specs.Sound.{IsSound, IsSoundOffice, IsSoundLoan, AreEntriesBy, is_staff}
 use Rattle.mf_model.specs.Stages.{disbursed_on}
 use Rattle.mf_model.specs.Tree.{Above, Ascending, parent_of}
-use Rattle.mf_store_records.specs.Rows.{by_meta, by_office, by_staff, by_client, by_charge, by_product, by_loan, by_entry, by_receipt, by_instalment, by_share}
+use Rattle.mf_store_records.specs.Rows.{by_meta, by_office, by_staff, by_client, by_charge, by_product, by_loan}
+use Rattle.mf_store_records.specs.Rows.{by_entry, by_receipt, by_instalment, by_share}
 use Rattle.mf_store_records.specs.declared.offices.OfficeRow.{OfficeRow}
 use Rattle.mf_store_records.proofs.TableLemmas.{by_receipt_total}
-use Rattle.mf_store_accounts.specs.Flat.{numbered_from, tables_of, office_under, staff_in, client_in, charge_as, product_as, loan_in, entry_in, instalment_in, share_in, instalments_kept, placed_parts, parts_from, shares_kept, kept_of, loans_of, rows_of_loans, rows_by_loan, own_entries}
+use Rattle.mf_store_accounts.specs.Flat.{numbered_from, tables_of, office_under, staff_in, client_in, charge_as}
+use Rattle.mf_store_accounts.specs.Flat.{product_as, loan_in, entry_in, instalment_in, share_in, instalments_kept}
+use Rattle.mf_store_accounts.specs.Flat.{placed_parts, parts_from, shares_kept, kept_of, loans_of, rows_of_loans}
+use Rattle.mf_store_accounts.specs.Flat.{rows_by_loan, own_entries}
 use Rattle.mf_store_accounts.specs.ReceiptRows.{receipts_carried}
 use Rattle.mf_store_accounts.proofs.ReceiptLemmas.{receipts_apart}
 use Rattle.mf_store_accounts.proofs.SortedLemmas.{first_less, rises_sorted}
@@ -41,8 +46,10 @@ same_number x n o = grind (arith, nat_tests)
 
 -- ---- rows by one number
 
-module _ {A R : Type 0} (make : ℕ → A → R) (cmp : R → R → Ordering) (ranks : (n m : ℕ) (a b : A) → cmp (make n a) (make m b) ≡ nat_cmp n m) where
-  numbered_after : (n : ℕ) (a : A) (m : ℕ) (xs : List A) → n < m → AllByRecursion (λ r. cmp (make n a) r ≡ Less) (numbered_from make m xs)
+module _ {A R : Type 0} (make : ℕ → A → R) (cmp : R → R → Ordering) (ranks : (n m : ℕ) (a b : A)
+    → cmp (make n a) (make m b) ≡ nat_cmp n m) where
+  numbered_after : (n : ℕ) (a : A) (m : ℕ) (xs : List A) → n < m → AllByRecursion (λ r. cmp (make n a) r ≡ Less)
+      (numbered_from make m xs)
   numbered_after n a m [] h = tt
   numbered_after n a m (x ∷ xs) h = (ranks n m a x ∙ lower n m h, numbered_after n a (m + 1) xs (omega (arith, h)))
 
@@ -51,25 +58,29 @@ module _ {A R : Type 0} (make : ℕ → A → R) (cmp : R → R → Ordering) (r
   numbered_rise n (x ∷ xs) = (numbered_after n x (n + 1) xs (omega arith), numbered_rise (n + 1) xs)
 
 module _ (parents : ℕ → Option ℕ) where
-  office_after : (f : Office) (fs : List Office) → Above f.number fs → AllByRecursion (λ (r : OfficeRow). by_office (office_under parents f) r ≡ Less) (map (office_under parents) fs)
+  office_after : (f : Office) (fs : List Office) → Above f.number fs
+      → AllByRecursion (λ (r : OfficeRow). by_office (office_under parents f) r ≡ Less) (map (office_under parents) fs)
   office_after f [] h = tt
   office_after f (g ∷ fs) h = (lower f.number g.number h.0, office_after f fs h.1)
 
-  under_rise : (fs : List Office) → Ascending fs → IsAscending (λ a b. by_office a b ≡ Less) (map (office_under parents) fs)
+  under_rise : (fs : List Office) → Ascending fs → IsAscending (λ a b. by_office a b ≡ Less)
+      (map (office_under parents) fs)
   under_rise [] up = tt
   under_rise (f ∷ fs) up = (office_after f fs up.0, under_rise fs up.1)
 
 -- ---- rows by office, loan and what follows
 
 module _ {A R : Type 0} (make : ℕ → ℕ → A → R) (of : Ledger → List A) (cmp : R → R → Ordering) (key : A → A → Ordering)
-    (ranks : (x n y m : ℕ) (a b : A) → cmp (make x n a) (make y m b) ≡ ordering_then (nat_cmp x y) (ordering_then (nat_cmp n m) (key a b))) where
+    (ranks : (x n y m : ℕ) (a b : A) → cmp (make x n a) (make y m b) ≡ ordering_then (nat_cmp x y)
+    (ordering_then (nat_cmp n m) (key a b))) where
   abbrev Rises : List R → Type 0
   Rises = IsAscending (λ a b. cmp a b ≡ Less)
 
   abbrev AreRising : List A → Type 0
   AreRising = IsAscending (λ a b. key a b ≡ Less)
 
-  one_after : (x n : ℕ) (a : A) (items : List A) → AllByRecursion (λ b. key a b ≡ Less) items → AllByRecursion (λ r. cmp (make x n a) r ≡ Less) (map (make x n) items)
+  one_after : (x n : ℕ) (a : A) (items : List A) → AllByRecursion (λ b. key a b ≡ Less) items
+      → AllByRecursion (λ r. cmp (make x n a) r ≡ Less) (map (make x n) items)
   one_after x n a [] h = tt
   one_after x n a (b ∷ items) h = (ranks x n x n a b ∙ same_number x n (key a b) ∙ h.0, one_after x n a items h.1)
 
@@ -77,39 +88,57 @@ module _ {A R : Type 0} (make : ℕ → ℕ → A → R) (of : Ledger → List A
   one_loan x n [] up = tt
   one_loan x n (a ∷ items) up = (one_after x n a items up.0, one_loan x n items up.1)
 
-  each_loan : (x n : ℕ) (ls : List Ledger) → AllByRecursion (λ (l : Ledger). AreRising (of l)) ls → Rises (rows_of_loans make of x n ls)
+  each_loan : (x n : ℕ) (ls : List Ledger) → AllByRecursion (λ (l : Ledger). AreRising (of l)) ls
+      → Rises (rows_of_loans make of x n ls)
   each_loan x n [] up = tt
   each_loan x n (l ∷ ls) up =
       let rest = rows_of_loans make of x (n + 1) ls in
-      ascending-append (λ a b. cmp a b ≡ Less) (map (make x n) (of l)) rest (one_loan x n (of l) up.0) (each_loan x (n + 1) ls up.1)
-      (all-map (λ r. AllByRecursion (λ s. cmp r s ≡ Less) rest) (make x n) (λ a. all_loans make of (λ s. cmp (make x n a) s ≡ Less) x (n + 1) ls (λ m b low. ranks x n x m a b ∙ greater_number x n m (key a b) (omega (arith, low)))) (of l))
+      ascending-append (λ a b. cmp a b ≡ Less) (map (make x n) (of l)) rest (one_loan x n (of l) up.0)
+      (each_loan x (n + 1) ls up.1)
+      (all-map (λ r. AllByRecursion (λ s. cmp r s ≡ Less) rest) (make x n)
+      (λ a. all_loans make of (λ s. cmp (make x n a) s ≡ Less) x (n + 1) ls (λ m b low. ranks x n x m a b
+      ∙ greater_number x n m (key a b) (omega (arith, low)))) (of l))
 
   -- the rows that each loan has rise, loan by loan and office by office, where those of one loan do
-  pub by_loan_rise : (fs : List Office) → Ascending fs → AllByRecursion (λ (f : Office). AllByRecursion (λ (l : Ledger). AreRising (of l)) f.rows.loans) fs → Rises (rows_by_loan make of fs)
+  pub by_loan_rise : (fs : List Office) → Ascending fs → AllByRecursion (λ (f : Office). AllByRecursion (λ (l : Ledger).
+      AreRising (of l)) f.rows.loans) fs → Rises (rows_by_loan make of fs)
   by_loan_rise [] up each = tt
   by_loan_rise (f ∷ fs) up each =
       let rest = rows_by_loan make of fs in
-      ascending-append (λ a b. cmp a b ≡ Less) (rows_of_loans make of f.number 1 f.rows.loans) rest (each_loan f.number 1 f.rows.loans each.0) (by_loan_rise fs up.1 each.1)
-      (all_loans make of (λ r. AllByRecursion (λ s. cmp r s ≡ Less) rest) f.number 1 f.rows.loans (λ m a low. all_offices make of (λ s. cmp (make f.number m a) s ≡ Less) f.number fs up.0
+      ascending-append (λ a b. cmp a b ≡ Less) (rows_of_loans make of f.number 1 f.rows.loans) rest
+      (each_loan f.number 1 f.rows.loans each.0) (by_loan_rise fs up.1 each.1)
+      (all_loans make of (λ r. AllByRecursion (λ s. cmp r s ≡ Less) rest) f.number 1 f.rows.loans (λ m a low.
+      all_offices make of (λ s. cmp (make f.number m a) s ≡ Less) f.number fs up.0
       (λ y k b lt. ranks f.number m y k a b ∙ first_less f.number y (ordering_then (nat_cmp m k) (key a b)) lt)))
 
 -- ---- entries
 
-entry_after : (n m : ℕ) (es : List Entry) → n < m → AreNumberedFrom m es → AllByRecursion (λ (e : Entry). nat_cmp n e.seq ≡ Less) es
+entry_after : (n m : ℕ) (es : List Entry) → n < m → AreNumberedFrom m es
+    → AllByRecursion (λ (e : Entry). nat_cmp n e.seq ≡ Less) es
 entry_after n m [] lt own = tt
-entry_after n m (e ∷ es) lt own = (let number = own.0 in lower n e.seq (omega (arith, number, lt)), entry_after n (m + 1) es (omega (arith, lt)) own.1)
+entry_after n m (e ∷ es) lt own = (
+  let number = own.0 in lower n e.seq (omega (arith, number, lt)),
+  entry_after n (m + 1) es (omega (arith, lt)) own.1,
+)
 
-entries_up : (n : ℕ) (es : List Entry) → AreNumberedFrom n es → IsAscending (λ (a b : Entry). nat_cmp a.seq b.seq ≡ Less) es
+entries_up : (n : ℕ) (es : List Entry) → AreNumberedFrom n es → IsAscending (λ (a b : Entry). nat_cmp a.seq b.seq
+    ≡ Less) es
 entries_up n [] own = tt
-entries_up n (e ∷ es) own = (let number = own.0 in entry_after e.seq (n + 1) es (omega (arith, number)) own.1, entries_up (n + 1) es own.1)
+entries_up n (e ∷ es) own = (
+  let number = own.0 in entry_after e.seq (n + 1) es (omega (arith, number)) own.1,
+  entries_up (n + 1) es own.1,
+)
 
-entries_by : (today : ℕ) (staffed : Caller → Bool) (periods : ℕ) (o : Option ℕ) (es : List Entry) → AreEntriesBy today staffed periods o es → IsAscending (λ (a b : Entry). nat_cmp a.seq b.seq ≡ Less) es
-entries_by today staffed periods None es none = subst (IsAscending (λ (a b : Entry). nat_cmp a.seq b.seq ≡ Less)) (sym none) tt
+entries_by : (today : ℕ) (staffed : Caller → Bool) (periods : ℕ) (o : Option ℕ) (es : List Entry)
+    → AreEntriesBy today staffed periods o es → IsAscending (λ (a b : Entry). nat_cmp a.seq b.seq ≡ Less) es
+entries_by today staffed periods None es none =
+    subst (IsAscending (λ (a b : Entry). nat_cmp a.seq b.seq ≡ Less)) (sym none) tt
 entries_by today staffed periods (Some day) es are = entries_up 1 es (numbers_by_place 1 es are.lawful.numbers)
 
 -- ---- what accounts leave
 
-of_all_loans : (Q : Ledger → Type 0) → ((l : Ledger) → Q l) → (fs : List Office) → AllByRecursion (λ (f : Office). AllByRecursion Q f.rows.loans) fs
+of_all_loans : (Q : Ledger → Type 0) → ((l : Ledger) → Q l) → (fs : List Office)
+    → AllByRecursion (λ (f : Office). AllByRecursion Q f.rows.loans) fs
 of_all_loans Q h [] = tt
 of_all_loans Q h (f ∷ fs) = (each f.rows.loans, of_all_loans Q h fs)
   where
@@ -117,7 +146,9 @@ of_all_loans Q h (f ∷ fs) = (each f.rows.loans, of_all_loans Q h fs)
     each [] = tt
     each (l ∷ ls) = (h l, each ls)
 
-rises_if_there : {A : Type 0} (cmp : A → A → Ordering) (read : Running → List A) → ((a : Running) → IsAscending (λ x y. cmp x y ≡ Less) (read a)) → (o : Option Running) → IsAscending (λ x y. cmp x y ≡ Less) (of_account [] read o)
+rises_if_there : {A : Type 0} (cmp : A → A → Ordering) (read : Running → List A)
+    → ((a : Running) → IsAscending (λ x y. cmp x y ≡ Less) (read a)) → (o : Option Running)
+    → IsAscending (λ x y. cmp x y ≡ Less) (of_account [] read o)
 rises_if_there cmp read h None = tt
 rises_if_there cmp read h (Some a) = h a
 
@@ -134,22 +165,29 @@ placed_cmp a b = ordering_then (nat_cmp a.0 b.0) (nat_cmp a.1.0 b.1.0)
 same_entry : (seq : ℕ) (o : Ordering) → ordering_then (nat_cmp seq seq) o ≡ o
 same_entry seq o = grind (arith, nat_tests)
 
-all_placed : (Q : ℕ × (ℕ × Settled) → Type 0) (seq place : ℕ) (parts : List Settled) → ((p : ℕ × Settled) → Q (seq, p)) → AllByRecursion Q (numbered_from (λ at part. (seq, (at, part))) place parts)
+all_placed : (Q : ℕ × (ℕ × Settled) → Type 0) (seq place : ℕ) (parts : List Settled) → ((p : ℕ × Settled) → Q (seq, p))
+    → AllByRecursion Q (numbered_from (λ at part. (seq, (at, part))) place parts)
 all_placed Q seq place [] h = tt
 all_placed Q seq place (part ∷ parts) h = (h (place, part), all_placed Q seq (place + 1) parts h)
 
-all_parts : (Q : ℕ × (ℕ × Settled) → Type 0) (parts : ℕ → List Settled) (seq count : ℕ) → ((s : ℕ) (p : ℕ × Settled) → seq ≤ s → Q (s, p)) → AllByRecursion Q (parts_from parts seq count)
+all_parts : (Q : ℕ × (ℕ × Settled) → Type 0) (parts : ℕ → List Settled) (seq count : ℕ) → ((s : ℕ) (p : ℕ × Settled)
+    → seq ≤ s → Q (s, p)) → AllByRecursion Q (parts_from parts seq count)
 all_parts Q parts seq zero h = tt
 all_parts Q parts seq (suc count) h =
-    all-append Q (placed_parts seq (parts seq)) (parts_from parts (seq + 1) count) (all_placed Q seq 1 (parts seq) (λ p. h seq p (omega arith))) (all_parts Q parts (seq + 1) count (λ s p low. h s p (omega (arith, low))))
+    all-append Q (placed_parts seq (parts seq)) (parts_from parts (seq + 1) count) (all_placed Q seq 1 (parts seq)
+    (λ p. h seq p (omega arith))) (all_parts Q parts (seq + 1) count (λ s p low. h s p (omega (arith, low))))
 
-parts_rise : (parts : ℕ → List Settled) (seq count : ℕ) → IsAscending (λ x y. placed_cmp x y ≡ Less) (parts_from parts seq count)
+parts_rise : (parts : ℕ → List Settled) (seq count : ℕ) → IsAscending (λ x y. placed_cmp x y ≡ Less)
+    (parts_from parts seq count)
 parts_rise parts seq zero = tt
 parts_rise parts seq (suc count) =
     let rest = parts_from parts (seq + 1) count in
     ascending-append (λ x y. placed_cmp x y ≡ Less) (placed_parts seq (parts seq)) rest
-    (numbered_rise (λ at part. (seq, (at, part))) placed_cmp (λ n m x y. same_entry seq (nat_cmp n m)) 1 (parts seq)) (parts_rise parts (seq + 1) count)
-    (all_placed (λ x. AllByRecursion (λ y. placed_cmp x y ≡ Less) rest) seq 1 (parts seq) (λ p. all_parts (λ y. placed_cmp (seq, p) y ≡ Less) parts (seq + 1) count (λ s q low. first_less seq s (nat_cmp p.0 q.0) (omega (arith, low)))))
+    (numbered_rise (λ at part. (seq, (at, part))) placed_cmp (λ n m x y. same_entry seq (nat_cmp n m)) 1 (parts seq))
+    (parts_rise parts (seq + 1) count)
+    (all_placed (λ x. AllByRecursion (λ y. placed_cmp x y ≡ Less) rest) seq 1 (parts seq)
+    (λ p. all_parts (λ y. placed_cmp (seq, p) y ≡ Less) parts (seq + 1) count (λ s q low.
+    first_less seq s (nat_cmp p.0 q.0) (omega (arith, low)))))
 
 kept_shares_rise : (a : Running) → IsAscending (λ x y. placed_cmp x y ≡ Less) (shares_kept a)
 kept_shares_rise a = parts_rise (λ seq. settled_in seq (settled_of_loan a)) 1 (length a.entries)
@@ -163,10 +201,12 @@ pub offices_rise : (i : Institution) → IsSound i → IsAscending (λ a b. by_o
 offices_rise i sound = under_rise (parent_of i.offices) i.offices sound.tree.ascending
 
 pub staff_rise : (i : Institution) → IsSound i → IsAscending (λ a b. by_staff a b ≡ Less) (tables_of i).staff
-staff_rise i sound = rows_rise staff_in (λ rows. rows.staff) by_staff (λ x n y m a b. refl) i.offices sound.tree.ascending
+staff_rise i sound =
+    rows_rise staff_in (λ rows. rows.staff) by_staff (λ x n y m a b. refl) i.offices sound.tree.ascending
 
 pub clients_rise : (i : Institution) → IsSound i → IsAscending (λ a b. by_client a b ≡ Less) (tables_of i).clients
-clients_rise i sound = rows_rise client_in (λ rows. rows.clients) by_client (λ x n y m a b. refl) i.offices sound.tree.ascending
+clients_rise i sound = rows_rise client_in (λ rows. rows.clients) by_client (λ x n y m a b. refl) i.offices
+    sound.tree.ascending
 
 pub charges_rise : (i : Institution) → IsSound i → IsAscending (λ a b. by_charge a b ≡ Less) (tables_of i).charges
 charges_rise i sound = numbered_rise charge_as by_charge (λ n m a b. refl) 1 i.catalogue.charges
@@ -181,18 +221,31 @@ pub entries_rise : (i : Institution) → IsSound i → IsAscending (λ a b. by_e
 entries_rise i sound =
     let staffed = is_staff i.offices in
     let k = i.catalogue in
-    by_loan_rise entry_in own_entries by_entry (λ (a b : Entry). nat_cmp a.seq b.seq) (λ x n y m a b. refl) i.offices sound.tree.ascending
-    (all_weaker (IsSoundOffice k staffed) (λ (f : Office). AllByRecursion (λ (l : Ledger). IsAscending (λ (a b : Entry). nat_cmp a.seq b.seq ≡ Less) l.entries) f.rows.loans) (λ f is. all_weaker (IsSoundLoan k staffed f.rows.clients) (λ (l : Ledger). IsAscending (λ (a b : Entry). nat_cmp a.seq b.seq ≡ Less) l.entries) (λ l one. entries_by k.day staffed l.loan.periods (disbursed_on l.loan.stage) l.entries one.entries) f.rows.loans is.rows.loans) i.offices sound.each)
+    by_loan_rise entry_in own_entries by_entry (λ (a b : Entry). nat_cmp a.seq b.seq) (λ x n y m a b. refl) i.offices
+    sound.tree.ascending
+    (all_weaker (IsSoundOffice k staffed)
+    (λ (f : Office). AllByRecursion (λ (l : Ledger). IsAscending (λ (a b : Entry). nat_cmp a.seq b.seq ≡ Less)
+    l.entries) f.rows.loans) (λ f is. all_weaker (IsSoundLoan k staffed f.rows.clients)
+    (λ (l : Ledger). IsAscending (λ (a b : Entry). nat_cmp a.seq b.seq ≡ Less) l.entries)
+    (λ l one. entries_by k.day staffed l.loan.periods (disbursed_on l.loan.stage) l.entries one.entries)
+    f.rows.loans is.rows.loans) i.offices sound.each)
 
 pub receipts_rise : (i : Institution) → IsSound i → IsAscending (λ a b. by_receipt a b ≡ Less) (tables_of i).receipts
-receipts_rise i sound = rises_sorted by_receipt by_receipt_total (receipts_carried i.offices) (no_ties_of i.offices sound.tree.ascending (receipts_apart i sound))
+receipts_rise i sound = rises_sorted by_receipt by_receipt_total (receipts_carried i.offices)
+    (no_ties_of i.offices sound.tree.ascending (receipts_apart i sound))
 
-pub instalments_rise : (i : Institution) → IsSound i → IsAscending (λ a b. by_instalment a b ≡ Less) (tables_of i).instalments
+pub instalments_rise : (i : Institution) → IsSound i → IsAscending (λ a b. by_instalment a b ≡ Less)
+    (tables_of i).instalments
 instalments_rise i sound =
-    by_loan_rise instalment_in (kept_of instalments_kept i.catalogue) by_instalment numbered_cmp (λ x n y m a b. refl) i.offices sound.tree.ascending
-    (of_all_loans (λ (l : Ledger). IsAscending (λ a b. numbered_cmp a b ≡ Less) (kept_of instalments_kept i.catalogue l)) (λ l. rises_if_there numbered_cmp instalments_kept kept_instalments_rise (account_in i.catalogue l)) i.offices)
+    by_loan_rise instalment_in (kept_of instalments_kept i.catalogue) by_instalment numbered_cmp (λ x n y m a b. refl)
+    i.offices sound.tree.ascending
+    (of_all_loans (λ (l : Ledger). IsAscending (λ a b. numbered_cmp a b ≡ Less)
+    (kept_of instalments_kept i.catalogue l)) (λ l. rises_if_there numbered_cmp instalments_kept
+    kept_instalments_rise (account_in i.catalogue l)) i.offices)
 
 pub shares_rise : (i : Institution) → IsSound i → IsAscending (λ a b. by_share a b ≡ Less) (tables_of i).shares
 shares_rise i sound =
-    by_loan_rise share_in (kept_of shares_kept i.catalogue) by_share placed_cmp (λ x n y m a b. refl) i.offices sound.tree.ascending
-    (of_all_loans (λ (l : Ledger). IsAscending (λ a b. placed_cmp a b ≡ Less) (kept_of shares_kept i.catalogue l)) (λ l. rises_if_there placed_cmp shares_kept kept_shares_rise (account_in i.catalogue l)) i.offices)
+    by_loan_rise share_in (kept_of shares_kept i.catalogue) by_share placed_cmp (λ x n y m a b. refl) i.offices
+    sound.tree.ascending
+    (of_all_loans (λ (l : Ledger). IsAscending (λ a b. placed_cmp a b ≡ Less) (kept_of shares_kept i.catalogue l))
+    (λ l. rises_if_there placed_cmp shares_kept kept_shares_rise (account_in i.catalogue l)) i.offices)

@@ -1,5 +1,6 @@
 -- Which institution a stop after a run leaves.
-use Rattle.std.proofs.Common.{◌≡◌, ◌⊎◌, inl, inr, Bool, true, false, cond, List, [], ◌∷◌, ◌++◌, Option, Some, None, IsTrue, refl, sym, ap, ◌∙◌, subst}
+use Rattle.std.proofs.Common.{◌≡◌, ◌⊎◌, inl, inr, Bool, true, false, cond, List, [], ◌∷◌, ◌++◌, Option, Some, None}
+use Rattle.std.proofs.Common.{IsTrue, refl, sym, ap, ◌∙◌, subst}
 use Rattle.std.proofs.Math.Logic.{∥∥₁_map}
 use Rattle.sqlite.specs.Files.{HoldsDatabase}
 use Rattle.sqlite.specs.Tree.{Trees}
@@ -53,25 +54,53 @@ module _ (left : Trees) where
     held,
   )
 
-  unchanged_by : (l : Line) (i : Institution) (c : Option Change) (given_up : Bool) → change_in (outcome l.call i) ≡ c → l.given_up ≡ given_up → change_of l i ≡ cond given_up None c
-  unchanged_by l i c given_up is gives = ap (λ b. cond b None (change_in (outcome l.call i))) gives ∙ ap (λ d. cond given_up None d) is
+  unchanged_by : (l : Line) (i : Institution) (c : Option Change) (given_up : Bool) → change_in (outcome l.call i) ≡ c
+      → l.given_up ≡ given_up → change_of l i ≡ cond given_up None c
+  unchanged_by l i c given_up is gives = ap (λ b. cond b None (change_in (outcome l.call i))) gives
+      ∙ ap (λ d. cond given_up None d) is
 
-  first_step : (l : Line) (ls : List Line) (i : Institution) (is : List Institution) (c : Option Change) (given_up : Bool) → change_in (outcome l.call i) ≡ c → l.given_up ≡ given_up → NoneChanges ls (after_maybe (cond given_up None c) i) → HoldsOneOf (left_by c given_up i is) left → IsOfBefore (l ∷ ls) i is ⊎ IsOfRun (l ∷ ls) i
+  first_step : (l : Line) (ls : List Line) (i : Institution) (is : List Institution) (c : Option Change)
+      (given_up : Bool) → change_in (outcome l.call i) ≡ c → l.given_up ≡ given_up
+      → NoneChanges ls (after_maybe (cond given_up None c) i) → HoldsOneOf (left_by c given_up i is) left
+      → IsOfBefore (l ∷ ls) i is ⊎ IsOfRun (l ∷ ls) i
   first_step l ls i is None true e gives none one = inl ((unchanged_by l i None true e gives, none), one)
   first_step l ls i is None false e gives none one = inl ((unchanged_by l i None false e gives, none), one)
   first_step l ls i is (Some change) false e gives none (inl held) =
-      inr (after change i, inl (sym (ap (λ c. last ls (after_maybe c i)) (unchanged_by l i (Some change) false e gives) ∙ unmoved ls (after change i) none)), held)
+      inr (
+        after change i,
+        inl (sym (ap (λ c. last ls (after_maybe c i)) (unchanged_by l i (Some change) false e gives)
+            ∙ unmoved ls (after change i) none)),
+        held,
+      )
   first_step l ls i is (Some change) false e gives none (inr nothing) = absurd nothing
   first_step l ls i is (Some change) true e gives none (inl held) =
-      inr (after change i, inr (record { before = []; line = l; later = ls; parts = refl; given_up = gives; unchanged = none; change = change; asked = e; with_change = refl }), held)
-  first_step l ls i is (Some change) true e gives none (inr one) = inl ((unchanged_by l i (Some change) true e gives, none), one)
+      inr (
+        after change i,
+        inr (record {
+          before = [];
+          line = l;
+          later = ls;
+          parts = refl;
+          given_up = gives;
+          unchanged = none;
+          change = change;
+          asked = e;
+          with_change = refl;
+        }),
+        held,
+      )
+  first_step l ls i is (Some change) true e gives none (inr one) =
+      inl ((unchanged_by l i (Some change) true e gives, none), one)
 
   -- one of those before, if the run changes nothing, or one that the run leaves
-  left_by_run : (run : List Line) (i : Institution) (is : List Institution) → HoldsOneOf (left_after run i is) left → IsOfBefore run i is ⊎ IsOfRun run i
+  left_by_run : (run : List Line) (i : Institution) (is : List Institution) → HoldsOneOf (left_after run i is) left
+      → IsOfBefore run i is ⊎ IsOfRun run i
   left_by_run [] i is one = inl (tt, one)
-  left_by_run (l ∷ ls) i is one = go (left_by_run ls (next l i) (left_by (change_in (outcome l.call i)) l.given_up i is) one)
+  left_by_run (l ∷ ls) i is one =
+      go (left_by_run ls (next l i) (left_by (change_in (outcome l.call i)) l.given_up i is) one)
     where
-      go : IsOfBefore ls (next l i) (left_by (change_in (outcome l.call i)) l.given_up i is) ⊎ IsOfRun ls (next l i) → IsOfBefore (l ∷ ls) i is ⊎ IsOfRun (l ∷ ls) i
+      go : IsOfBefore ls (next l i) (left_by (change_in (outcome l.call i)) l.given_up i is) ⊎ IsOfRun ls (next l i)
+          → IsOfBefore (l ∷ ls) i is ⊎ IsOfRun (l ∷ ls) i
       go (inl (none, held)) = first_step l ls i is (change_in (outcome l.call i)) l.given_up refl refl none held
       go (inr it) = inr (later_too l ls i it)
 
@@ -93,25 +122,32 @@ AreInRange-rest (l ∷ ls) later r = AreInRange-rest ls later r.1
 
 module _
     (stays_sound : (i : Institution) (lines : List Line) → IsSound i → AreInRange lines → IsSound (last lines i))
-    (change_sound : (call : Call) (i : Institution) (change : Change) → IsSound i → IsInRange call.request → change_in (outcome call i) ≡ Some change → IsSound (after change i)) where
+    (change_sound : (call : Call) (i : Institution) (change : Change) → IsSound i → IsInRange call.request
+    → change_in (outcome call i) ≡ Some change → IsSound (after change i)) where
   left_sound : (run : List Line) (i j : Institution) → IsSound i → AreInRange run → IsLeftBy run i j → IsSound j
   left_sound run i j sound range (inl is_last) = subst IsSound (sym is_last) (stays_sound i run sound range)
   left_sound run i j sound range (inr it) =
       let parts = subst AreInRange it.parts range in
       let before = stays_sound i it.before sound (AreInRange-first it.before (it.line ∷ it.later) parts) in
-      subst IsSound (sym it.with_change) (change_sound it.line.call (last it.before i) it.change before (AreInRange-rest it.before (it.line ∷ it.later) parts).0 it.asked)
+      subst IsSound (sym it.with_change) (change_sound it.line.call (last it.before i) it.change before
+      (AreInRange-rest it.before (it.line ∷ it.later) parts).0 it.asked)
 
-  pub left_tables : (run : List Line) (i : Institution) → IsSound i → AreInRange run → (left : Trees) → HoldsOneOf (left_after run i (i ∷ [])) left → (held : HoldsSound left) × IsLeftBy run i held.institution
+  pub left_tables : (run : List Line) (i : Institution) → IsSound i → AreInRange run → (left : Trees)
+      → HoldsOneOf (left_after run i (i ∷ [])) left → (held : HoldsSound left) × IsLeftBy run i held.institution
   left_tables run i sound range left one =
       let it = one_of_run left run i one in
       (record { institution = it.0; sound = left_sound run i it.0 sound range it.1; holds = it.2 }, it.1)
 
   -- and whatever a stop leaves of the files is a database with them
-  pub left_files : {D : Type 0} {g : Ghosts D} (store : FileStore D g) (run : List Line) (i : Institution) → IsSound i → AreInRange run
-      → IsTrue (view store).is_numbered → ((trees : Trees) → recovers store trees → HoldsOneOf (left_after run i (i ∷ [])) trees)
-      → (left : Image) → (state store).may_leave left → ∥ ((trees : Trees) × HoldsDatabase left trees × (held : HoldsSound trees) × IsLeftBy run i held.institution) ∥₁
+  pub left_files : {D : Type 0} {g : Ghosts D} (store : FileStore D g) (run : List Line) (i : Institution) → IsSound i
+      → AreInRange run
+      → IsTrue (view store).is_numbered → ((trees : Trees) → recovers store trees
+      → HoldsOneOf (left_after run i (i ∷ [])) trees)
+      → (left : Image) → (state store).may_leave left → ∥ ((trees : Trees) × HoldsDatabase left trees
+      × (held : HoldsSound trees) × IsLeftBy run i held.institution) ∥₁
   left_files store run i sound range numbered leaves left may =
-      let tables = λ (trees : Trees) (may : recovers store trees). left_tables run i sound range trees (leaves trees may) in
+      let tables =
+      λ (trees : Trees) (may : recovers store trees). left_tables run i sound range trees (leaves trees may) in
       ∥∥₁_map (opens_again store numbered (λ trees may. (schema, (tables trees may).0.holds.sound)) left may) (λ found.
       let held = tables found.0 found.1 in
       (found.0, found.2, held.0, held.1))

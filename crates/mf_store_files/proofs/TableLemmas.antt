@@ -32,7 +32,13 @@ Nested =
     × ((List LoanRow × (List EntryRow × List ReceiptRow)) × (List InstalmentRow × List ShareRow))
 
 abbrev pub nested : Lists → Nested
-nested l = (((l.offices, (l.staff, l.clients)), (l.meta, (l.charges, l.products))), ((l.loans, (l.entries, l.receipts)), (l.instalments, l.shares)))
+nested l = (
+  ((l.offices, (l.staff, l.clients)), (l.meta, (l.charges, l.products))),
+  (
+    (l.loans, (l.entries, l.receipts)),
+    (l.instalments, l.shares),
+  ),
+)
 
 abbrev pub lists_of : Nested → Lists
 lists_of t = record {
@@ -58,7 +64,8 @@ abbrev pub Three : Type 0 → Type 0
 Three P = P × (P × P)
 
 pub under_present : (k : Schema) → IsPresent k → Six (IsKnown k) × (Three (IsKnown k) × (IsPresent k × IsPresent k))
-under_present k is = let one : IsKnown k = inl is in (((one, (one, one)), (one, (one, one))), ((one, (one, one)), (is, is)))
+under_present k is = let one : IsKnown k =
+    inl is in (((one, (one, one)), (one, (one, one))), ((one, (one, one)), (is, is)))
 
 pub under_first : (k : Schema) → IsFirst k → Six (IsKnown k) × Three (IsKnown k)
 under_first k is = let one : IsKnown k = inr is in (((one, (one, one)), (one, (one, one))), (one, (one, one)))
@@ -67,14 +74,22 @@ module _ (trees : Trees) where
   abbrev pub R : ℕ → Type 0
   R t = HasRowids (trees t)
 
-  pub rowids_present : HaveRowids trees → ((R 2 × (R 5 × R 7)) × (R 0 × (R 9 × R 11))) × ((R 13 × (R 15 × R 17)) × (R 19 × R 21))
-  rowids_present r = (((r.1.0, (r.1.1.0, r.1.1.1.0)), (r.0, (r.1.1.1.1.0, r.1.1.1.1.1.0))), ((r.1.1.1.1.1.1.0, (r.1.1.1.1.1.1.1.0, r.1.1.1.1.1.1.1.1.0)), (r.1.1.1.1.1.1.1.1.1.0, r.1.1.1.1.1.1.1.1.1.1.0)))
+  pub rowids_present : HaveRowids trees → ((R 2 × (R 5 × R 7)) × (R 0 × (R 9 × R 11)))
+      × ((R 13 × (R 15 × R 17)) × (R 19 × R 21))
+  rowids_present r = (
+    ((r.1.0, (r.1.1.0, r.1.1.1.0)), (r.0, (r.1.1.1.1.0, r.1.1.1.1.1.0))),
+    ((r.1.1.1.1.1.1.0, (r.1.1.1.1.1.1.1.0, r.1.1.1.1.1.1.1.1.0)), (r.1.1.1.1.1.1.1.1.1.0, r.1.1.1.1.1.1.1.1.1.1.0)),
+  )
 
   pub rowids_first : HaveFirstRowids trees → ((R 2 × (R 5 × R 7)) × (R 0 × (R 9 × R 11))) × (R 13 × (R 15 × R 17))
-  rowids_first r = (((r.1.0, (r.1.1.0, r.1.1.1.0)), (r.0, (r.1.1.1.1.0, r.1.1.1.1.1.0))), (r.1.1.1.1.1.1.0, (r.1.1.1.1.1.1.1.0, r.1.1.1.1.1.1.1.1.0)))
+  rowids_first r = (
+    ((r.1.0, (r.1.1.0, r.1.1.1.0)), (r.0, (r.1.1.1.1.0, r.1.1.1.1.1.0))),
+    (r.1.1.1.1.1.1.0, (r.1.1.1.1.1.1.1.0, r.1.1.1.1.1.1.1.1.0)),
+  )
 
 -- what nothing changes under some schemas is unchanged under fewer
-pub unchanged_fewer : (P Q : Schema → Type 0) (a b : State) → ((k : Schema) → Q k → P k) → IsUnchangedUnder P a b → IsUnchangedUnder Q a b
+pub unchanged_fewer : (P Q : Schema → Type 0) (a b : State) → ((k : Schema) → Q k → P k) → IsUnchangedUnder P a b
+    → IsUnchangedUnder Q a b
 unchanged_fewer P Q a b has u = record {
   premise = u.premise;
   was_open = u.was_open;
@@ -83,7 +98,8 @@ unchanged_fewer P Q a b has u = record {
   stop = λ clean its. u.stop clean (λ live. has a.now.schema (its live));
 }
 
-pub unchanged_present : (P : Schema → Type 0) (a b : State) → ((k : Schema) → IsPresent k → P k) → IsUnchangedUnder P a b → IsUnchanged a b
+pub unchanged_present : (P : Schema → Type 0) (a b : State) → ((k : Schema) → IsPresent k → P k)
+    → IsUnchangedUnder P a b → IsUnchanged a b
 unchanged_present P a b has u = record {
   premise = u.premise;
   was_open = u.was_open;
@@ -95,10 +111,12 @@ unchanged_present P a b has u = record {
 -- ---- nine tables, in the same order
 
 abbrev pub NestedFirst : Type 0
-NestedFirst = ((List OfficeRow × (List StaffRow × List ClientRow)) × (List MetaRow × (List ChargeRow × List ProductRow))) × (List LoanRow × (List EntryRow × List ReceiptRow))
+NestedFirst = ((List OfficeRow × (List StaffRow × List ClientRow))
+    × (List MetaRow × (List ChargeRow × List ProductRow))) × (List LoanRow × (List EntryRow × List ReceiptRow))
 
 abbrev pub nested_first : Lists → NestedFirst
-nested_first l = (((l.offices, (l.staff, l.clients)), (l.meta, (l.charges, l.products))), (l.loans, (l.entries, l.receipts)))
+nested_first l =
+    (((l.offices, (l.staff, l.clients)), (l.meta, (l.charges, l.products))), (l.loans, (l.entries, l.receipts)))
 
 abbrev pub lists_of_first : NestedFirst → List InstalmentRow → List ShareRow → Lists
 lists_of_first t instalments shares = record {
@@ -115,5 +133,6 @@ lists_of_first t instalments shares = record {
   shares = shares;
 }
 
-pub same_lists : (a b : NestedFirst) (instalments : List InstalmentRow) (shares : List ShareRow) → a ≡ b → instalments ≡ [] → shares ≡ [] → lists_of_first a instalments shares ≡ lists_of_first b [] []
+pub same_lists : (a b : NestedFirst) (instalments : List InstalmentRow) (shares : List ShareRow) → a ≡ b
+    → instalments ≡ [] → shares ≡ [] → lists_of_first a instalments shares ≡ lists_of_first b [] []
 same_lists a b instalments shares same none empty = λ t. lists_of_first (same t) (none t) (empty t)

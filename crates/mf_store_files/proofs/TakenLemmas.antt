@@ -1,5 +1,6 @@
 -- A store over tables of which one schema alone is the case.
-use Rattle.std.proofs.Common.{◌≡◌, ◌≢◌, ◌⊎◌, inl, inr, [], ◌∷◌, Result, Ok, Err, IfOk, IfErr, false, length, IsTrue, sym, ap, ◌∙◌, arith}
+use Rattle.std.proofs.Common.{◌≡◌, ◌≢◌, ◌⊎◌, inl, inr, [], ◌∷◌, Result, Ok, Err, IfOk, IfErr, false, length, IsTrue}
+use Rattle.std.proofs.Common.{sym, ap, ◌∙◌, arith}
 use Rattle.mf_base.specs.declared.fault.Fault.{Fault}
 use Rattle.mf_base.specs.declared.fault.Fault.TheVariants.{F19, F20}
 use Rattle.sqlite.specs.Held.{Held, state}
@@ -49,7 +50,8 @@ module _ {S : Type 0} (g : Ghosts S) (h : Held S) where
 
     pub taken_present : (r : Made)
         → IfOk r (λ store. IsClean g store → HasCleanDisk (state g h))
-        → IfOk r (λ store. IsClean g store → (state g h).now.schema ≡ schema → HaveRowids (state g h).now.trees → HoldsSound (state g h).now.trees)
+        → IfOk r (λ store. IsClean g store → (state g h).now.schema ≡ schema → HaveRowids (state g h).now.trees
+        → HoldsSound (state g h).now.trees)
         → IfOk r (λ store. IsClean g store → (i : Institution) → IsTabled g h i → StandsFor g store i)
         → IfOk r (λ store. IsClean g store → (i : Institution) → IsTabled g h i → Leaves g store (i ∷ []))
         → IfOk r (λ store. IsClean g store → IsTrue (state g h).is_open)
@@ -71,7 +73,8 @@ module _ {S : Type 0} (g : Ghosts S) (h : Held S) where
     pub back_present : (r : Made)
         → IfErr r (λ e. HasCleanDisk (state g e.1) → HasCleanDisk (state g h))
         → IfErr r (λ e. (e.0 ≡ F19) ⊎ (e.0 ≡ F20))
-        → IfErr r (λ e. e.0 ≡ F19 → HasCleanDisk (state g e.1) → (state g h).now.schema ≡ schema → ¬ HoldsSound (state g h).now.trees)
+        → IfErr r (λ e. e.0 ≡ F19 → HasCleanDisk (state g e.1) → (state g h).now.schema ≡ schema
+        → ¬ HoldsSound (state g h).now.trees)
         → IfErr r (λ e. (state g h).now.schema ≡ schema → IsUnchanged (state g h) (state g e.1))
         → IfErr r (λ e. e.1.in_transaction ≡ false)
         → IfErr r (λ e. IsGivenBack g h e.1 e.0)
@@ -98,7 +101,8 @@ module _ {S : Type 0} (g : Ghosts S) (h : Held S) where
 
     pub taken_first : (r : Made)
         → IfOk r (λ store. IsClean g store → HasCleanDisk (state g h))
-        → IfOk r (λ store. IsClean g store → (state g h).now.schema ≡ first_schema → HaveFirstRowids (state g h).now.trees → HoldsSoundFirst (state g h).now.trees)
+        → IfOk r (λ store. IsClean g store → (state g h).now.schema ≡ first_schema
+        → HaveFirstRowids (state g h).now.trees → HoldsSoundFirst (state g h).now.trees)
         → IfOk r (λ store. IsClean g store → (i : Institution) → IsTabledFirst g h i → StandsFor g store i)
         → IfOk r (λ store. IsClean g store → (i : Institution) → IsTabledFirst g h i → Leaves g store (i ∷ []))
         → IfOk r (λ store. IsClean g store → IsTrue (state g h).is_open)
@@ -120,7 +124,8 @@ module _ {S : Type 0} (g : Ghosts S) (h : Held S) where
     pub back_first : (r : Made)
         → IfErr r (λ e. HasCleanDisk (state g e.1) → HasCleanDisk (state g h))
         → IfErr r (λ e. (e.0 ≡ F19) ⊎ (e.0 ≡ F20))
-        → IfErr r (λ e. e.0 ≡ F19 → HasCleanDisk (state g e.1) → (state g h).now.schema ≡ first_schema → ¬ HoldsSoundFirst (state g h).now.trees)
+        → IfErr r (λ e. e.0 ≡ F19 → HasCleanDisk (state g e.1) → (state g h).now.schema ≡ first_schema
+        → ¬ HoldsSoundFirst (state g h).now.trees)
         → IfErr r (λ e. (state g h).now.schema ≡ first_schema → IsLeftFirst g h e.1)
         → IfErr r (λ e. e.1.in_transaction ≡ false)
         → IfErr r (λ e. IsGivenBack g h e.1 e.0)

@@ -31,7 +31,8 @@ as_it_was s = record {
   stop = λ clean any trees may. may;
 }
 
-pub unchanged_present : (old new : State) → old.now.schema ≡ schema → IsUnchanged old new → IsUnchangedUnder IsAny old new
+pub unchanged_present : (old new : State) → old.now.schema ≡ schema → IsUnchanged old new
+    → IsUnchangedUnder IsAny old new
 unchanged_present old new ours u = record {
   premise = u.premise;
   was_open = u.was_open;
@@ -40,7 +41,8 @@ unchanged_present old new ours u = record {
   stop = λ clean any. u.stop clean (λ live. ours);
 }
 
-pub unchanged_first : (old new : State) → old.now.schema ≡ first_schema → IsUnchangedUnder IsFirst old new → IsUnchangedUnder IsAny old new
+pub unchanged_first : (old new : State) → old.now.schema ≡ first_schema → IsUnchangedUnder IsFirst old new
+    → IsUnchangedUnder IsAny old new
 unchanged_first old new ours u = record {
   premise = u.premise;
   was_open = u.was_open;
@@ -63,12 +65,19 @@ module _ (image : Image) (s : State) (shows : ShowsFile image s) where
     is_seen own bare is = seen image s shows trees k holds sound (ap (λ (x : Schema). x.views) is ∙ bare) ∙ is
 
     was_seen : (own : Schema) → own.views ≡ [] → k ≡ own → s.now.schema ≡ own
-    was_seen own bare is = ap (λ (db : Database). db.schema) (under image s shows k (ap (λ (x : Schema). x.views) is ∙ bare) trees holds sound) ∙ is
+    was_seen own bare is = ap (λ (db : Database). db.schema) (under image s shows k (ap (λ (x : Schema). x.views) is
+        ∙ bare) trees holds sound) ∙ is
 
-    told_tables : (contents : Contents) → IsToldOf s.now contents → IsToldOf (record { schema = k; trees = trees }) contents
+    told_tables : (contents : Contents) → IsToldOf s.now contents → IsToldOf (record { schema = k; trees = trees })
+        contents
     told_tables Nothing told = is_seen no_schema refl told
-    told_tables (Present held) told = (is_seen schema refl told.0, subst (λ (t : Trees). IsTrue held ↔ HoldsSound t) (shows.holds trees holds) told.1)
-    told_tables (First held) told = (is_seen first_schema refl told.0, subst (λ (t : Trees). IsTrue held ↔ HoldsSoundFirst t) (shows.holds trees holds) told.1)
+    told_tables (Present held) told =
+        (is_seen schema refl told.0, subst (λ (t : Trees). IsTrue held ↔ HoldsSound t) (shows.holds trees holds) told.1)
+    told_tables (First held) told = (
+      is_seen first_schema refl told.0,
+      subst (λ (t : Trees). IsTrue held
+          ↔ HoldsSoundFirst t) (shows.holds trees holds) told.1,
+    )
     told_tables Others told = (λ none. told.0 (was_seen no_schema refl none), λ known. told.1 (as_known known))
       where
         as_known : IsKnown k → IsKnown s.now.schema

@@ -17,16 +17,21 @@ head_is : (a b : MetaRow) (rest : List MetaRow) → a ∷ [] ≡ b ∷ rest → 
 head_is a b rest e = cc
 
 -- the row of meta, with the new schema's number
-pub meta_is : (i : Institution) (tables : Lists) (row : MetaRow) (rest : List MetaRow) → first_tables_of i ≡ tables → tables.meta ≡ row ∷ rest → record row { schema = 2 } ≡ meta_on i.catalogue.day
-meta_is i tables row rest are first = ap (λ (r : MetaRow). record r { schema = 2 }) (sym (head_is (meta_under 1 i.catalogue.day) row rest (ap (λ (l : Lists). l.meta) are ∙ first)))
+pub meta_is : (i : Institution) (tables : Lists) (row : MetaRow) (rest : List MetaRow) → first_tables_of i ≡ tables
+    → tables.meta ≡ row ∷ rest → record row { schema = 2 } ≡ meta_on i.catalogue.day
+meta_is i tables row rest are first = ap (λ (r : MetaRow). record r { schema = 2 })
+    (sym (head_is (meta_under 1 i.catalogue.day) row rest (ap (λ (l : Lists). l.meta) are ∙ first)))
 
-module _ (i : Institution) (meta : MetaRow) (instalments : List InstalmentRow) (shares : List ShareRow) (meta_same : meta ≡ meta_on i.catalogue.day) (instalments_same : instalments ≡ (tables_of i).instalments) (shares_same : shares ≡ (tables_of i).shares) where
+module _ (i : Institution) (meta : MetaRow) (instalments : List InstalmentRow) (shares : List ShareRow)
+    (meta_same : meta ≡ meta_on i.catalogue.day) (instalments_same : instalments ≡ (tables_of i).instalments)
+    (shares_same : shares ≡ (tables_of i).shares) where
   pub can_upgrade : IsSound i → CanUpgrade meta instalments shares (first_tables_of i)
   can_upgrade sound = record {
     old = meta_under 1 i.catalogue.day;
     one = refl;
     same_key = ap (λ (r : MetaRow). r.one) meta_same;
-    instalments_rise = subst (IsAscending (λ a b. by_instalment a b ≡ Less)) (sym instalments_same) (instalments_rise i sound);
+    instalments_rise = subst (IsAscending (λ a b. by_instalment a b ≡ Less)) (sym instalments_same)
+        (instalments_rise i sound);
     shares_rise = subst (IsAscending (λ a b. by_share a b ≡ Less)) (sym shares_same) (shares_rise i sound);
   }
 

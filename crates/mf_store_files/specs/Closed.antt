@@ -15,7 +15,8 @@ use Rattle.mf_store_files.specs.Held.{HoldsSound}
 
 -- the database file and its log hold a database with the rows of the institution and nothing else, and it is sound
 abbrev pub HoldsInstitution : Image → Institution → Type 0
-HoldsInstitution image i = ∥ ((trees : Trees) × HoldsDatabase image trees × (held : HoldsSound trees) × (held.institution ≡ i)) ∥₁
+HoldsInstitution image i = ∥ ((trees : Trees) × HoldsDatabase image trees × (held : HoldsSound trees)
+    × (held.institution ≡ i)) ∥₁
 
 -- the two hold it together, and so does the database file without its log
 pub record HoldsByItself (image : Image) (i : Institution) : Type 0 where

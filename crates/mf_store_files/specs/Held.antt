@@ -9,7 +9,12 @@ use Rattle.sqlite_trees.specs.Tree.{IsAscending}
 use Rattle.mf_model.specs.Institution.{Institution}
 use Rattle.mf_model.specs.Sound.{IsSound}
 use Rattle.mf_store_records.specs.Fields.{Field, HasFields}
-use Rattle.mf_store_records.specs.Rows.{Lists, meta_row, office_row, staff_row, client_row, charge_row, product_row, loan_row, entry_row, receipt_row, instalment_row, share_row, by_meta, by_office, by_staff, by_client, by_charge, by_product, by_loan, by_entry, by_receipt, by_instalment, by_share, meta_fields, office_fields, staff_fields, client_fields, charge_fields, product_fields, loan_fields, entry_fields, receipt_fields, instalment_fields, share_fields}
+use Rattle.mf_store_records.specs.Rows.{Lists, meta_row, office_row, staff_row, client_row, charge_row, product_row}
+use Rattle.mf_store_records.specs.Rows.{loan_row, entry_row, receipt_row, instalment_row, share_row, by_meta, by_office}
+use Rattle.mf_store_records.specs.Rows.{by_staff, by_client, by_charge, by_product, by_loan, by_entry, by_receipt}
+use Rattle.mf_store_records.specs.Rows.{by_instalment, by_share, meta_fields, office_fields, staff_fields}
+use Rattle.mf_store_records.specs.Rows.{client_fields, charge_fields, product_fields, loan_fields, entry_fields}
+use Rattle.mf_store_records.specs.Rows.{receipt_fields, instalment_fields, share_fields}
 use Rattle.mf_store_records.specs.Writes.{Holds}
 use Rattle.mf_store_accounts.specs.Flat.{tables_of}
 use Rattle.mf_store_sound.specs.Schemas.{first_tables_of}

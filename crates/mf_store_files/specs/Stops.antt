@@ -21,6 +21,7 @@ pub record IsWithGivenUp (run : List Line) (i j : Institution) : Type 0 where
   pub asked : change_in (outcome line.call (last before i)) ≡ Some change
   pub with_change : j ≡ after change (last before i)
 
--- The institution after all changes of the run, so after those of each line that was answered; or with the change of one line more, of those that were given up after the last change.
+-- The institution after all changes of the run, so after those of each line that was answered; or with the change of
+-- one line more, of those that were given up after the last change.
 abbrev pub IsLeftBy : List Line → Institution → Institution → Type 0
 IsLeftBy run i j = (j ≡ last run i) ⊎ IsWithGivenUp run i j

@@ -18,25 +18,32 @@ use Rattle.mf_store_files.specs.First.{IsTabledFirst, IsLeftFirst}
 use Rattle.mf_store_files.specs.Held.{HoldsSound, HoldsSoundFirst}
 
 module _ {S : Type 0} (g : Ghosts S) where
-  -- Where the tables are those of today or of the first schema, whatever rows stand there, the store is that of the sound institution whose rows they are.
+  -- Where the tables are those of today or of the first schema, whatever rows stand there, the store is that of the
+  -- sound institution whose rows they are.
   pub record IsTaken (old : Held S) (store : KnownStore S) : Type 0 where
     pub premise : IsClean g store → HasCleanDisk (state g old)
     pub was_open : IsClean g store → IsTrue (state g old).is_open
     pub is_open : IsClean g store → IsOpen g store
-    pub sound : IsClean g store → (state g old).now.schema ≡ schema → HaveRowids (state g old).now.trees → HoldsSound (state g old).now.trees
+    pub sound : IsClean g store → (state g old).now.schema ≡ schema → HaveRowids (state g old).now.trees
+        → HoldsSound (state g old).now.trees
     pub stands : IsClean g store → (i : Institution) → IsTabled g old i → StandsFor g store i
     pub leaves : IsClean g store → (i : Institution) → IsTabled g old i → Leaves g store (i ∷ [])
-    pub sound_first : IsClean g store → (state g old).now.schema ≡ first_schema → HaveFirstRowids (state g old).now.trees → HoldsSoundFirst (state g old).now.trees
+    pub sound_first : IsClean g store → (state g old).now.schema ≡ first_schema
+        → HaveFirstRowids (state g old).now.trees → HoldsSoundFirst (state g old).now.trees
     pub stands_first : IsClean g store → (i : Institution) → IsTabledFirst g old i → StandsFor g store i
     pub leaves_first : IsClean g store → (i : Institution) → IsTabledFirst g old i → Leaves g store (i ∷ [])
 
-  -- Tables of today are unchanged, of the first schema a stop leaves what was there or those of today, whole, and F19 tells that no sound institution has their rows, or that they are others.
+  -- Tables of today are unchanged, of the first schema a stop leaves what was there or those of today, whole, and F19
+  -- tells that no sound institution has their rows, or that they are others.
   pub record IsGivenBack (old new : Held S) (fault : Fault) : Type 0 where
     pub still : HasCleanDisk (state g new) → HasCleanDisk (state g old)
     pub alone : new.in_transaction ≡ false
     pub errors : (fault ≡ F19) ⊎ (fault ≡ F20)
     pub unchanged : (state g old).now.schema ≡ schema → IsUnchanged (state g old) (state g new)
-    pub refused : fault ≡ F19 → HasCleanDisk (state g new) → (state g old).now.schema ≡ schema → ¬ HoldsSound (state g old).now.trees
+    pub refused : fault ≡ F19 → HasCleanDisk (state g new) → (state g old).now.schema ≡ schema
+        → ¬ HoldsSound (state g old).now.trees
     pub left_first : (state g old).now.schema ≡ first_schema → IsLeftFirst g old new
-    pub refused_first : fault ≡ F19 → HasCleanDisk (state g new) → (state g old).now.schema ≡ first_schema → ¬ HoldsSoundFirst (state g old).now.trees
-    pub foreign : (state g old).now.schema ≢ no_schema → ¬ IsKnown (state g old).now.schema → (fault ≡ F19) × (new ≡ old)
+    pub refused_first : fault ≡ F19 → HasCleanDisk (state g new) → (state g old).now.schema ≡ first_schema
+        → ¬ HoldsSoundFirst (state g old).now.trees
+    pub foreign : (state g old).now.schema ≢ no_schema → ¬ IsKnown (state g old).now.schema → (fault ≡ F19)
+        × (new ≡ old)

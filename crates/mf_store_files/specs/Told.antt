@@ -26,7 +26,8 @@ pub record HaveOwnRowids (db : Database) : Type 0 where
   pub present : db.schema ≡ schema → HaveRowids db.trees
   pub first : db.schema ≡ first_schema → HaveFirstRowids db.trees
 
--- There are no tables; or those of today or of the first schema, with the rows of a sound institution or not; or others.
+-- There are no tables; or those of today or of the first schema, with the rows of a sound institution or not; or
+-- others.
 abbrev pub IsToldOf : Database → Contents → Type 0
 IsToldOf db Nothing = db.schema ≡ no_schema
 IsToldOf db (Present sound) = (db.schema ≡ schema) × (IsTrue sound ↔ HoldsSound db.trees)
@@ -36,7 +37,8 @@ IsToldOf db Others = (db.schema ≢ no_schema) × (¬ IsKnown db.schema)
 -- the same of the database that a file held
 pub record IsToldOfFile (image : Image) (contents : Contents) : Type 0 where
   pub nothing : HasNoTables image → contents ≡ Nothing
-  pub tables : (trees : Trees) (k : Schema) → HoldsDatabase image trees → IsSound k trees → IsToldOf (record { schema = k; trees = trees }) contents
+  pub tables : (trees : Trees) (k : Schema) → HoldsDatabase image trees → IsSound k trees
+      → IsToldOf (record { schema = k; trees = trees }) contents
 
 -- what is found where the tables hold this
 abbrev pub finding_of : Contents → Finding

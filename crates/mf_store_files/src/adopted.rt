@@ -45,15 +45,20 @@ fn take_over<S: Alter, P: Progress>(
 ) -> Result<Store<S>, (Fault, Connection<S>)>
     requires alone { connection.in_transaction ≡ false }
     ensures premise { IfOk result (λ store. IsClean S.Store store → HasCleanDisk (state S.Store connection)) }
-    ensures sound { IfOk result (λ store. IsClean S.Store store → (state S.Store connection).now.schema ≡ schema → HaveRowids (state S.Store connection).now.trees → HoldsSound (state S.Store connection).now.trees) }
-    ensures stands { IfOk result (λ store. IsClean S.Store store → (i : Institution) → IsTabled S.Store connection i → StandsFor S.Store store i) }
-    ensures leaves { IfOk result (λ store. IsClean S.Store store → (i : Institution) → IsTabled S.Store connection i → Leaves S.Store store (i ∷ [])) }
+    ensures sound { IfOk result (λ store. IsClean S.Store store → (state S.Store connection).now.schema ≡ schema
+        → HaveRowids (state S.Store connection).now.trees → HoldsSound (state S.Store connection).now.trees) }
+    ensures stands { IfOk result (λ store. IsClean S.Store store → (i : Institution) → IsTabled S.Store connection i
+        → StandsFor S.Store store i) }
+    ensures leaves { IfOk result (λ store. IsClean S.Store store → (i : Institution) → IsTabled S.Store connection i
+        → Leaves S.Store store (i ∷ [])) }
     ensures was_open { IfOk result (λ store. IsClean S.Store store → IsTrue (state S.Store connection).is_open) }
     ensures open { IfOk result (λ store. IsClean S.Store store → IsOpen S.Store store) }
     ensures still { IfErr result (λ e. HasCleanDisk (state S.Store e.1) → HasCleanDisk (state S.Store connection)) }
     ensures errors { IfErr result (λ e. (e.0 ≡ F19) ⊎ (e.0 ≡ F20)) }
-    ensures refused { IfErr result (λ e. e.0 ≡ F19 → HasCleanDisk (state S.Store e.1) → (state S.Store connection).now.schema ≡ schema → ¬ HoldsSound (state S.Store connection).now.trees) }
-    ensures unchanged { IfErr result (λ e. (state S.Store connection).now.schema ≡ schema → IsUnchanged (state S.Store connection) (state S.Store e.1)) }
+    ensures refused { IfErr result (λ e. e.0 ≡ F19 → HasCleanDisk (state S.Store e.1)
+        → (state S.Store connection).now.schema ≡ schema → ¬ HoldsSound (state S.Store connection).now.trees) }
+    ensures unchanged { IfErr result (λ e. (state S.Store connection).now.schema ≡ schema
+        → IsUnchanged (state S.Store connection) (state S.Store e.1)) }
     ensures alone { IfErr result (λ e. e.1.in_transaction ≡ false) }
 {
     let sound = match holds_sound(alloc, &mut connection, progress) {
@@ -79,14 +84,19 @@ fn take_over_first<S: Alter, P: Progress>(
     ensures premise { IfOk result (λ store. IsClean S.Store store → HasCleanDisk (state S.Store connection)) }
     ensures sound { IfOk result (λ store. IsClean S.Store store → (state S.Store connection).now.schema ≡ first_schema
         → HaveFirstRowids (state S.Store connection).now.trees → HoldsSoundFirst (state S.Store connection).now.trees) }
-    ensures stands { IfOk result (λ store. IsClean S.Store store → (i : Institution) → IsTabledFirst S.Store connection i → StandsFor S.Store store i) }
-    ensures leaves { IfOk result (λ store. IsClean S.Store store → (i : Institution) → IsTabledFirst S.Store connection i → Leaves S.Store store (i ∷ [])) }
+    ensures stands { IfOk result (λ store. IsClean S.Store store → (i : Institution)
+        → IsTabledFirst S.Store connection i → StandsFor S.Store store i) }
+    ensures leaves { IfOk result (λ store. IsClean S.Store store → (i : Institution)
+        → IsTabledFirst S.Store connection i → Leaves S.Store store (i ∷ [])) }
     ensures was_open { IfOk result (λ store. IsClean S.Store store → IsTrue (state S.Store connection).is_open) }
     ensures open { IfOk result (λ store. IsClean S.Store store → IsOpen S.Store store) }
     ensures still { IfErr result (λ e. HasCleanDisk (state S.Store e.1) → HasCleanDisk (state S.Store connection)) }
     ensures errors { IfErr result (λ e. (e.0 ≡ F19) ⊎ (e.0 ≡ F20)) }
-    ensures refused { IfErr result (λ e. e.0 ≡ F19 → HasCleanDisk (state S.Store e.1) → (state S.Store connection).now.schema ≡ first_schema → ¬ HoldsSoundFirst (state S.Store connection).now.trees) }
-    ensures left { IfErr result (λ e. (state S.Store connection).now.schema ≡ first_schema → IsLeftFirst S.Store connection e.1) }
+    ensures refused { IfErr result (λ e. e.0 ≡ F19 → HasCleanDisk (state S.Store e.1)
+        → (state S.Store connection).now.schema ≡ first_schema
+        → ¬ HoldsSoundFirst (state S.Store connection).now.trees) }
+    ensures left { IfErr result (λ e. (state S.Store connection).now.schema ≡ first_schema
+        → IsLeftFirst S.Store connection e.1) }
     ensures alone { IfErr result (λ e. e.1.in_transaction ≡ false) }
 {
     let tables = match read_sound_first(alloc, &mut connection, progress) {
@@ -104,8 +114,8 @@ fn take_over_first<S: Alter, P: Progress>(
     }
 }
 
-/// A store over the tables of a connection where they are this program's, of today or of the first schema; these are brought to
-/// today's, in one commit.
+/// A store over the tables of a connection where they are this program's, of today or of the first schema; these are
+/// brought to today's, in one commit.
 fn take_known<S: Alter, P: Progress>(
     alloc: Global,
     connection: Connection<S>,
@@ -125,11 +135,12 @@ fn take_known<S: Alter, P: Progress>(
     Err((Fault::F19, connection))
 }
 
-/// A store over the tables of a connection: where there are none, those of a new institution on this day, made in one commit; else
-/// the institution that they hold, whatever the day. Tables of the first schema are brought to the second, in one commit.
+/// A store over the tables of a connection: where there are none, those of a new institution on this day, made in one
+/// commit; else the institution that they hold, whatever the day. Tables of the first schema are brought to the second,
+/// in one commit.
 ///
-/// The day is at most 2099-12-31. F19 tells that the tables are others than this program makes, or that no sound institution has their
-/// rows, and F20 out of memory or a failure of the disk; with either the connection comes back.
+/// The day is at most 2099-12-31. F19 tells that the tables are others than this program makes, or that no sound
+/// institution has their rows, and F20 out of memory or a failure of the disk; with either the connection comes back.
 pub fn adopt<S: Alter, P: Progress>(
     alloc: Global,
     connection: Connection<S>,
@@ -140,13 +151,17 @@ pub fn adopt<S: Alter, P: Progress>(
     requires day { day ≤ last_entered_day }
 
     // Where there are no tables.
-    ensures made { IfOk result (λ store. IsClean S.Store store → Serves schema_of Holds (state S.Store connection).now None → StandsFor S.Store store (newly_made day)) }
-    ensures made_leaves { IfOk result (λ store. IsClean S.Store store → Serves schema_of Holds (state S.Store connection).now None → Leaves S.Store store (newly_made day ∷ [])) }
-    ensures unfounded { IfErr result (λ e. Serves schema_of Holds (state S.Store connection).now None → IsUnfounded S.Store day connection e.1) }
+    ensures made { IfOk result (λ store. IsClean S.Store store → Serves schema_of Holds (state S.Store connection).now
+        None → StandsFor S.Store store (newly_made day)) }
+    ensures made_leaves { IfOk result (λ store. IsClean S.Store store
+        → Serves schema_of Holds (state S.Store connection).now None → Leaves S.Store store (newly_made day ∷ [])) }
+    ensures unfounded { IfErr result (λ e. Serves schema_of Holds (state S.Store connection).now None
+        → IsUnfounded S.Store day connection e.1) }
 
     // Where there are some.
     ensures taken { IfOk result (IsTaken S.Store connection) }
-    ensures known { IfOk result (λ store. ((state S.Store connection).now.schema ≡ no_schema) ⊎ IsKnown (state S.Store connection).now.schema) }
+    ensures known { IfOk result (λ store. ((state S.Store connection).now.schema ≡ no_schema)
+        ⊎ IsKnown (state S.Store connection).now.schema) }
     ensures given_back { IfErr result (λ e. IsGivenBack S.Store connection e.1 e.0) }
     ensures some { IfErr result (λ e. e.0 ≡ F19 → (state S.Store connection).now.schema ≢ no_schema) }
 {
@@ -156,8 +171,8 @@ pub fn adopt<S: Alter, P: Progress>(
     take_known(alloc, connection, progress)
 }
 
-/// A store over the tables of a connection as `adopt` makes it, but where there are none nothing is made: then it is refused, and the
-/// connection comes back as it was.
+/// A store over the tables of a connection as `adopt` makes it, but where there are none nothing is made: then it is
+/// refused, and the connection comes back as it was.
 pub fn adopt_existing<S: Alter, P: Progress>(
     alloc: Global,
     connection: Connection<S>,
@@ -166,9 +181,11 @@ pub fn adopt_existing<S: Alter, P: Progress>(
     requires alone { connection.in_transaction ≡ false }
     ensures taken { IfOk result (IsTaken S.Store connection) }
     ensures known { IfOk result (λ store. IsKnown (state S.Store connection).now.schema) }
-    ensures none { IfErr result (λ e. (e.0 ≡ Refused.NoInstitution) ↔ ((state S.Store connection).now.schema ≡ no_schema)) }
+    ensures none { IfErr result (λ e. (e.0 ≡ Refused.NoInstitution) ↔ ((state S.Store connection).now.schema
+        ≡ no_schema)) }
     ensures same { IfErr result (λ e. e.0 ≡ Refused.NoInstitution → e.1 ≡ connection) }
-    ensures given_back { IfErr result (λ e. (fault : Number) → e.0 ≡ Refused.Failed fault → IsGivenBack S.Store connection e.1 fault) }
+    ensures given_back { IfErr result (λ e. (fault : Number) → e.0 ≡ Refused.Failed fault
+        → IsGivenBack S.Store connection e.1 fault) }
 {
     if has_no_tables(connection.schema()) {
         return Err((Refused::NoInstitution, connection));

@@ -19,18 +19,21 @@ use mf_store::Store;
 use sqlite::{FileStore, Files};
 use sqlite_disk::Disk;
 
-/// Closes a store: its log is copied into the database file, which then holds the institution with the log and without it, and so does
-/// whatever a stop leaves of the two. The files come back.
+/// Closes a store: its log is copied into the database file, which then holds the institution with the log and without
+/// it, and so does whatever a stop leaves of the two. The files come back.
 ///
-/// F20 tells that the disk failed or that there was no memory: the log stays, a stop leaves of the two what it could before, and what is
-/// left of the store comes back.
+/// F20 tells that the disk failed or that there was no memory: the log stays, a stop leaves of the two what it could
+/// before, and what is left of the store comes back.
 pub fn close<D: Disk + Drop>(store: Store<FileStore<D>>) -> Result<Files<D>, (Fault, FileStore<D>)>
     ensures premise { CloseWell result → HasGoodDisk over_files store.connection }
-    ensures whole { IfOk result (λ files. AreClean D.Disk files.log files.db → (i : Institution) → StandsFor over_files store i → HoldsByItself (image_of D.Disk files) i) }
-    ensures left_whole { IfOk result (λ files. AreClean D.Disk files.log files.db → (i : Institution) → StandsFor over_files store i
+    ensures whole { IfOk result (λ files. AreClean D.Disk files.log files.db → (i : Institution)
+        → StandsFor over_files store i → HoldsByItself (image_of D.Disk files) i) }
+    ensures left_whole { IfOk result (λ files. AreClean D.Disk files.log files.db → (i : Institution)
+        → StandsFor over_files store i
         → (left : Image) → outcomes D.Disk files.log files.db left → HoldsByItself left i) }
     ensures gives_up { IfErr result (λ e. e.0 ≡ F20) }
-    ensures kept { IfErr result (λ e. IsCleanView (files.view e.1) → (is : List Institution) → Leaves over_files store is
+    ensures kept { IfErr result (λ e. IsCleanView (files.view e.1) → (is : List Institution)
+        → Leaves over_files store is
         → (trees : Trees) → files.recovers e.1 trees → HoldsOneOf is trees) }
 {
     let connection = store.release();

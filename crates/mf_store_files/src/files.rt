@@ -1,6 +1,7 @@
 //! Stores over files, by what these held as they were opened.
 
-ghost use Rattle.std.specs.Prelude.{◌≡◌, ◌≤◌, ◌⊎◌, List, [], ◌∷◌, false, Some, None, IsTrue, IfOk, IfErr, IfSome, IsSomeAnd};
+ghost use Rattle.std.specs.Prelude.{◌≡◌, ◌≤◌, ◌⊎◌, List, [], ◌∷◌, false, Some, None, IsTrue, IfOk, IfErr, IfSome};
+ghost use Rattle.std.specs.Prelude.{IsSomeAnd};
 ghost use Rattle.mf_base.specs.declared.fault.Fault.{Fault as Number};
 ghost use Rattle.mf_base.specs.declared.fault.Fault.TheVariants.{F19, F20};
 ghost use Rattle.mf_base.specs.DayText.{last_entered_day};
@@ -29,7 +30,8 @@ pub const PARTS: u32 = 11;
 /// A stop leaves the tables of a connection that has nothing to commit.
 fn nothing_waits<S: Alter>(connection: &Connection<S>)
     requires alone { connection.now.in_transaction ≡ false }
-    ensures { IsTrue (state S.Store connection.now).is_open → (left : Trees) → (state S.Store connection.now).may_leave left → left ≡ (state S.Store connection.now).now.trees }
+    ensures { IsTrue (state S.Store connection.now).is_open → (left : Trees) → (state S.Store connection.now).may_leave
+        left → left ≡ (state S.Store connection.now).now.trees }
 {
     let _settled = connection.is_autocommit();
 }
@@ -52,13 +54,14 @@ pub(crate) fn connect<S: Start>(
     }
 }
 
-/// A store over the file at a path, where `start` stands for what the file held: where it had no tables, which is so too of one that
-/// is missing, those of a new institution on this day, made in one commit; else the institution that it holds, whatever the day.
-/// Tables of the first schema are brought to the second, in one commit. A file that is made has sums of its pages (`mf_store_rows`).
+/// A store over the file at a path, where `start` stands for what the file held: where it had no tables, which is so
+/// too of one that is missing, those of a new institution on this day, made in one commit; else the institution that it
+/// holds, whatever the day. Tables of the first schema are brought to the second, in one commit. A file that is made
+/// has sums of its pages (`mf_store_rows`).
 ///
-/// The day is at most 2099-12-31. F19 tells that the tables are others than this program makes, or that no sound institution has the
-/// rows of the file, and F20 out of memory, a file that could not be opened, or a failure of the disk. The connection comes back once
-/// there is one.
+/// The day is at most 2099-12-31. F19 tells that the tables are others than this program makes, or that no sound
+/// institution has the rows of the file, and F20 out of memory, a file that could not be opened, or a failure of the
+/// disk. The connection comes back once there is one.
 pub fn open_with<S: Start, P: Progress>(
     rt: &HostRuntime,
     path: &str,
@@ -69,17 +72,21 @@ pub fn open_with<S: Start, P: Progress>(
     requires { day ≤ last_entered_day }
 
     // Where there were no tables.
-    ensures made { IfOk result (λ store. IsClean over_files store → HasNoTables (image_at S.Start) → StandsFor over_files store (newly_made day)) }
-    ensures made_leaves { IfOk result (λ store. IsClean over_files store → HasNoTables (image_at S.Start) → Leaves over_files store (newly_made day ∷ [])) }
+    ensures made { IfOk result (λ store. IsClean over_files store → HasNoTables (image_at S.Start)
+        → StandsFor over_files store (newly_made day)) }
+    ensures made_leaves { IfOk result (λ store. IsClean over_files store → HasNoTables (image_at S.Start)
+        → Leaves over_files store (newly_made day ∷ [])) }
     ensures unfounded { IfErr result (λ e. IfSome e.1 (λ c. HasCleanDisk (file_state c) → HasNoTables (image_at S.Start)
-        → (left : Trees) → (file_state c).may_leave left → Holds left None ⊎ Holds left (Some (tables_of (newly_made day))))) }
+        → (left : Trees) → (file_state c).may_leave left → Holds left None
+        ⊎ Holds left (Some (tables_of (newly_made day))))) }
 
     // Where there were some.
     ensures found { IfOk result (OpensAsFound (image_at S.Start)) }
     ensures kept { IfErr result (λ e. IfSome e.1 (λ c. StaysAsFound (image_at S.Start) c e.0)) }
 
     ensures errors { IfErr result (λ e. (e.0 ≡ F19) ⊎ (e.0 ≡ F20)) }
-    ensures refused { IfErr result (λ e. e.0 ≡ F19 → IsSomeAnd e.1 (λ c. HasCleanDisk (file_state c) → HoldsNoneSound (image_at S.Start))) }
+    ensures refused { IfErr result (λ e. e.0 ≡ F19 → IsSomeAnd e.1 (λ c. HasCleanDisk (file_state c)
+        → HoldsNoneSound (image_at S.Start))) }
 {
     let connection = match connect(rt, path, start) {
         Ok(connection) => connection,
@@ -91,8 +98,8 @@ pub fn open_with<S: Start, P: Progress>(
     }
 }
 
-/// As `open_with`, but where the file had no tables no institution is made: then it is refused with `NoInstitution`. A file that is
-/// missing is made even so, without tables; so the caller sees first that there is one.
+/// As `open_with`, but where the file had no tables no institution is made: then it is refused with `NoInstitution`. A
+/// file that is missing is made even so, without tables; so the caller sees first that there is one.
 pub fn open_existing_with<S: Start, P: Progress>(
     rt: &HostRuntime,
     path: &str,
@@ -101,16 +108,21 @@ pub fn open_existing_with<S: Start, P: Progress>(
 ) -> Result<Store<FileStore<FileFrom<S>>>, (Refused, Option<Connection<FileStore<FileFrom<S>>>>)>
     // Where there were no tables.
     ensures some { IfOk result (λ store. IsClean over_files store → ¬ HasNoTables (image_at S.Start)) }
-    ensures none { IfErr result (λ e. IfSome e.1 (λ c. HasCleanDisk (file_state c) → HasNoTables (image_at S.Start) → e.0 ≡ Refused.NoInstitution)) }
+    ensures none { IfErr result (λ e. IfSome e.1 (λ c. HasCleanDisk (file_state c) → HasNoTables (image_at S.Start)
+        → e.0 ≡ Refused.NoInstitution)) }
     ensures unfounded { IfErr result (λ e. e.0 ≡ Refused.NoInstitution → IsSomeAnd e.1 (λ c. HasCleanDisk (file_state c)
-        → ((left : Trees) → (file_state c).may_leave left → Holds left None) × ((trees : Trees) → HoldsDatabase (image_at S.Start) trees → Holds trees None))) }
+        → ((left : Trees) → (file_state c).may_leave left → Holds left None)
+        × ((trees : Trees) → HoldsDatabase (image_at S.Start) trees → Holds trees None))) }
 
     // Where there were some.
     ensures found { IfOk result (OpensAsFound (image_at S.Start)) }
-    ensures kept { IfErr result (λ e. IfSome e.1 (λ c. (fault : Number) → e.0 ≡ Refused.Failed fault → StaysAsFound (image_at S.Start) c fault)) }
+    ensures kept { IfErr result (λ e. IfSome e.1 (λ c. (fault : Number) → e.0 ≡ Refused.Failed fault
+        → StaysAsFound (image_at S.Start) c fault)) }
 
-    ensures errors { IfErr result (λ e. (e.0 ≡ Refused.NoInstitution) ⊎ ((e.0 ≡ Refused.Failed F19) ⊎ (e.0 ≡ Refused.Failed F20))) }
-    ensures refused { IfErr result (λ e. e.0 ≡ Refused.Failed F19 → IsSomeAnd e.1 (λ c. HasCleanDisk (file_state c) → HoldsNoneSound (image_at S.Start))) }
+    ensures errors { IfErr result (λ e. (e.0 ≡ Refused.NoInstitution) ⊎ ((e.0 ≡ Refused.Failed F19)
+        ⊎ (e.0 ≡ Refused.Failed F20))) }
+    ensures refused { IfErr result (λ e. e.0 ≡ Refused.Failed F19 → IsSomeAnd e.1 (λ c. HasCleanDisk (file_state c)
+        → HoldsNoneSound (image_at S.Start))) }
 {
     let connection = match connect(rt, path, start) {
         Ok(connection) => connection,
@@ -122,7 +134,8 @@ pub fn open_existing_with<S: Start, P: Progress>(
     }
 }
 
-/// As `open_with`, in `main` and where nothing is said of what the file held. It supposes that a torn write leaves each byte old or new.
+/// As `open_with`, in `main` and where nothing is said of what the file held. It supposes that a torn write leaves each
+/// byte old or new.
 pub fn open<P: Progress>(
     rt: &HostRuntime,
     path: &str,
@@ -151,7 +164,8 @@ pub fn open_existing<P: Progress>(
     progress: &mut P,
 ) -> Result<Store<FileStore<File>>, Refused>
     ensures open { IfOk result (λ store. IsClean over_files store → IsOpen over_files store) }
-    ensures errors { IfErr result (λ refused. (refused ≡ Refused.NoInstitution) ⊎ ((refused ≡ Refused.Failed F19) ⊎ (refused ≡ Refused.Failed F20))) }
+    ensures errors { IfErr result (λ refused. (refused ≡ Refused.NoInstitution) ⊎ ((refused ≡ Refused.Failed F19)
+        ⊎ (refused ≡ Refused.Failed F20))) }
 {
     match open_existing_with(rt, path, Unknown, progress) {
         Ok(store) => Ok(store),

@@ -47,13 +47,18 @@ pub fn read_tables<S: Alter, P: Progress>(
     requires alone { connection.old.in_transaction ≡ false }
     ensures kept { IsUnchanged (state S.Store connection.old) (state S.Store connection.new) }
     ensures gives_up { IfErr result (λ fault. fault ≡ F20) }
-    ensures open { HasCleanDisk (state S.Store connection.new) → OnOk result (IsTrue (state S.Store connection.new).is_open) }
+    ensures open { HasCleanDisk (state S.Store connection.new)
+        → OnOk result (IsTrue (state S.Store connection.new).is_open) }
     ensures only { HasCleanDisk (state S.Store connection.new) → (state S.Store connection.old).now.schema ≡ schema
-        → IfOk result (λ x. IfSome x (λ tables. (lists : Lists) → Holds (state S.Store connection.old).now.trees (Some lists) → tables ≡ lists)) }
-    ensures keeps { HasCleanDisk (state S.Store connection.new) → (state S.Store connection.old).now.schema ≡ schema → HaveRowids (state S.Store connection.old).now.trees
-        → IfOk result (λ x. IfSome x (λ tables. DoRise tables → Holds (state S.Store connection.old).now.trees (Some tables))) }
+        → IfOk result (λ x. IfSome x (λ tables. (lists : Lists) → Holds (state S.Store connection.old).now.trees
+        (Some lists) → tables ≡ lists)) }
+    ensures keeps { HasCleanDisk (state S.Store connection.new) → (state S.Store connection.old).now.schema ≡ schema
+        → HaveRowids (state S.Store connection.old).now.trees
+        → IfOk result (λ x. IfSome x (λ tables. DoRise tables → Holds (state S.Store connection.old).now.trees
+        (Some tables))) }
     ensures none { HasCleanDisk (state S.Store connection.new) → (state S.Store connection.old).now.schema ≡ schema
-        → IfOk result (λ x. IfNone x ((lists : Lists) → CanBeHeld lists → ¬ Holds (state S.Store connection.old).now.trees (Some lists))) }
+        → IfOk result (λ x. IfNone x ((lists : Lists) → CanBeHeld lists
+        → ¬ Holds (state S.Store connection.old).now.trees (Some lists))) }
     ensures mode { connection.new.in_transaction ≡ false }
 {
     let _schema = connection.schema();
@@ -89,8 +94,10 @@ pub(crate) fn holds_sound<S: Alter, P: Progress>(
     requires alone { connection.old.in_transaction ≡ false }
     ensures kept { IsUnchanged (state S.Store connection.old) (state S.Store connection.new) }
     ensures gives_up { IfErr result (λ fault. fault ≡ F20) }
-    ensures open { HasCleanDisk (state S.Store connection.new) → OnOk result (IsTrue (state S.Store connection.new).is_open) }
-    ensures yes { HasCleanDisk (state S.Store connection.new) → (state S.Store connection.old).now.schema ≡ schema → HaveRowids (state S.Store connection.old).now.trees
+    ensures open { HasCleanDisk (state S.Store connection.new)
+        → OnOk result (IsTrue (state S.Store connection.new).is_open) }
+    ensures yes { HasCleanDisk (state S.Store connection.new) → (state S.Store connection.old).now.schema ≡ schema
+        → HaveRowids (state S.Store connection.old).now.trees
         → IfOk result (λ yes. IsTrue yes → HoldsSound (state S.Store connection.old).now.trees) }
     ensures only { HasCleanDisk (state S.Store connection.new) → (state S.Store connection.old).now.schema ≡ schema
         → IfOk result (λ yes. HoldsSound (state S.Store connection.old).now.trees → IsTrue yes) }
@@ -102,10 +109,11 @@ pub(crate) fn holds_sound<S: Alter, P: Progress>(
     is_sound(alloc, &tables)
 }
 
-/// What the tables of the first schema hold, with no rows of accounts, and none where they hold nothing that records can hold. The
-/// error is F20.
+/// What the tables of the first schema hold, with no rows of accounts, and none where they hold nothing that records
+/// can hold. The error is F20.
 ///
-/// The clauses on what is read speak of a connection whose tables are those of the first schema, whatever rows stand there.
+/// The clauses on what is read speak of a connection whose tables are those of the first schema, whatever rows stand
+/// there.
 pub fn read_first_tables<S: Alter, P: Progress>(
     alloc: Global,
     connection: &mut Connection<S>,
@@ -114,13 +122,20 @@ pub fn read_first_tables<S: Alter, P: Progress>(
     requires alone { connection.old.in_transaction ≡ false }
     ensures kept { IsUnchangedUnder IsFirst (state S.Store connection.old) (state S.Store connection.new) }
     ensures gives_up { IfErr result (λ fault. fault ≡ F20) }
-    ensures open { HasCleanDisk (state S.Store connection.new) → OnOk result (IsTrue (state S.Store connection.new).is_open) }
-    ensures only { HasCleanDisk (state S.Store connection.new) → (state S.Store connection.old).now.schema ≡ first_schema
-        → IfOk result (λ x. IfSome x (λ tables. (lists : Lists) → HoldsFirst (state S.Store connection.old).now.trees lists → tables ≡ without_accounts lists)) }
-    ensures keeps { HasCleanDisk (state S.Store connection.new) → (state S.Store connection.old).now.schema ≡ first_schema → HaveFirstRowids (state S.Store connection.old).now.trees
-        → IfOk result (λ x. IfSome x (λ tables. DoRise tables → HoldsFirst (state S.Store connection.old).now.trees tables)) }
-    ensures none { HasCleanDisk (state S.Store connection.new) → (state S.Store connection.old).now.schema ≡ first_schema
-        → IfOk result (λ x. IfNone x ((lists : Lists) → CanBeHeld lists → ¬ HoldsFirst (state S.Store connection.old).now.trees lists)) }
+    ensures open { HasCleanDisk (state S.Store connection.new)
+        → OnOk result (IsTrue (state S.Store connection.new).is_open) }
+    ensures only { HasCleanDisk (state S.Store connection.new) → (state S.Store connection.old).now.schema
+        ≡ first_schema
+        → IfOk result (λ x. IfSome x (λ tables. (lists : Lists) → HoldsFirst (state S.Store connection.old).now.trees
+        lists → tables ≡ without_accounts lists)) }
+    ensures keeps { HasCleanDisk (state S.Store connection.new) → (state S.Store connection.old).now.schema
+        ≡ first_schema → HaveFirstRowids (state S.Store connection.old).now.trees
+        → IfOk result (λ x. IfSome x (λ tables. DoRise tables → HoldsFirst (state S.Store connection.old).now.trees
+        tables)) }
+    ensures none { HasCleanDisk (state S.Store connection.new) → (state S.Store connection.old).now.schema
+        ≡ first_schema
+        → IfOk result (λ x. IfNone x ((lists : Lists) → CanBeHeld lists
+        → ¬ HoldsFirst (state S.Store connection.old).now.trees lists)) }
     ensures mode { connection.new.in_transaction ≡ false }
 {
     let _schema = connection.schema();
@@ -145,8 +160,8 @@ pub fn read_first_tables<S: Alter, P: Progress>(
     }))
 }
 
-/// The rows of the tables of the first schema where they are those of a sound institution, and none where no sound one has them. It
-/// changes nothing. The error is F20.
+/// The rows of the tables of the first schema where they are those of a sound institution, and none where no sound one
+/// has them. It changes nothing. The error is F20.
 ///
 /// The answer speaks of a connection whose tables are those of the first schema, whatever rows stand there.
 pub(crate) fn read_sound_first<S: Alter, P: Progress>(
@@ -157,12 +172,17 @@ pub(crate) fn read_sound_first<S: Alter, P: Progress>(
     requires alone { connection.old.in_transaction ≡ false }
     ensures kept { IsUnchangedUnder IsFirst (state S.Store connection.old) (state S.Store connection.new) }
     ensures gives_up { IfErr result (λ fault. fault ≡ F20) }
-    ensures open { HasCleanDisk (state S.Store connection.new) → OnOk result (IsTrue (state S.Store connection.new).is_open) }
-    ensures sound { HasCleanDisk (state S.Store connection.new) → (state S.Store connection.old).now.schema ≡ first_schema → HaveFirstRowids (state S.Store connection.old).now.trees
+    ensures open { HasCleanDisk (state S.Store connection.new)
+        → OnOk result (IsTrue (state S.Store connection.new).is_open) }
+    ensures sound { HasCleanDisk (state S.Store connection.new) → (state S.Store connection.old).now.schema
+        ≡ first_schema → HaveFirstRowids (state S.Store connection.old).now.trees
         → IfOk result (λ x. IfSome x (λ tables. HoldsSoundFirst (state S.Store connection.old).now.trees)) }
-    ensures rows { HasCleanDisk (state S.Store connection.new) → (state S.Store connection.old).now.schema ≡ first_schema
-        → IfOk result (λ x. IfSome x (λ tables. (held : HoldsSoundFirst (state S.Store connection.old).now.trees) → first_tables_of held.institution ≡ tables)) }
-    ensures none { HasCleanDisk (state S.Store connection.new) → (state S.Store connection.old).now.schema ≡ first_schema
+    ensures rows { HasCleanDisk (state S.Store connection.new) → (state S.Store connection.old).now.schema
+        ≡ first_schema
+        → IfOk result (λ x. IfSome x (λ tables. (held : HoldsSoundFirst (state S.Store connection.old).now.trees)
+        → first_tables_of held.institution ≡ tables)) }
+    ensures none { HasCleanDisk (state S.Store connection.new) → (state S.Store connection.old).now.schema
+        ≡ first_schema
         → IfOk result (λ x. IfNone x (¬ HoldsSoundFirst (state S.Store connection.old).now.trees)) }
     ensures mode { connection.new.in_transaction ≡ false }
 {

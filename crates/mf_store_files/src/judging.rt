@@ -33,7 +33,8 @@ pub enum Contents {
 fn holds_sound_first<S: Alter>(alloc: Global, connection: &mut Connection<S>) -> Result<bool, Fault>
     requires alone { connection.old.in_transaction ≡ false }
     ensures kept { IsUnchangedUnder IsFirst (state S.Store connection.old) (state S.Store connection.new) }
-    ensures exact { HasCleanDisk (state S.Store connection.new) → (state S.Store connection.old).now.schema ≡ first_schema → HaveFirstRowids (state S.Store connection.old).now.trees
+    ensures exact { HasCleanDisk (state S.Store connection.new) → (state S.Store connection.old).now.schema
+        ≡ first_schema → HaveFirstRowids (state S.Store connection.old).now.trees
         → IfOk result (λ yes. IsTrue yes ↔ HoldsSoundFirst (state S.Store connection.old).now.trees) }
     ensures gives_up { IfErr result (λ fault. fault ≡ F20) }
     ensures mode { connection.new.in_transaction ≡ false }
@@ -45,11 +46,13 @@ fn holds_sound_first<S: Alter>(alloc: Global, connection: &mut Connection<S>) ->
     }
 }
 
-/// Tells what the tables of a connection hold, whatever tables and rows stand there. It changes nothing. The error is F20.
+/// Tells what the tables of a connection hold, whatever tables and rows stand there. It changes nothing. The error is
+/// F20.
 pub fn judge<S: Alter>(alloc: Global, connection: &mut Connection<S>) -> Result<Contents, Fault>
     requires alone { connection.old.in_transaction ≡ false }
     ensures kept { IsUnchangedUnder IsAny (state S.Store connection.old) (state S.Store connection.new) }
-    ensures exact { HasCleanDisk (state S.Store connection.new) → HaveOwnRowids (state S.Store connection.old).now → IfOk result (IsToldOf (state S.Store connection.old).now) }
+    ensures exact { HasCleanDisk (state S.Store connection.new) → HaveOwnRowids (state S.Store connection.old).now
+        → IfOk result (IsToldOf (state S.Store connection.old).now) }
     ensures gives_up { IfErr result (λ fault. fault ≡ F20) }
     ensures mode { connection.new.in_transaction ≡ false }
 {

@@ -19,24 +19,29 @@ use mf_store::Store;
 use sqlite::{Alter, FileStore};
 use sqlite_disk::Disk;
 
-/// Where a stop before a run left the institution that the run began with, and no other, whatever a stop after the run leaves are
-/// the rows of one sound institution: the one after each request that was answered, or with the change of one request more, of
-/// those that were given up since the last change. The requests have their members in range, as those have that are read from
-/// texts.
+/// Where a stop before a run left the institution that the run began with, and no other, whatever a stop after the run
+/// leaves are the rows of one sound institution: the one after each request that was answered, or with the change of
+/// one request more, of those that were given up since the last change. The requests have their members in range, as
+/// those have that are read from texts.
 pub fn left_is_a_beginning<S: Alter>(store: &Store<S>)
-    ensures { (i : Institution) (run : List Line) → IsSound i → AreInRange run → IsClean S.Store store.now → Leaves S.Store store.now (left_after run i (i ∷ []))
-        → (left : Trees) → (state S.Store store.now.connection).may_leave left → (held : HoldsSound left) × IsLeftBy run i held.institution }
+    ensures { (i : Institution) (run : List Line) → IsSound i → AreInRange run → IsClean S.Store store.now
+        → Leaves S.Store store.now (left_after run i (i ∷ []))
+        → (left : Trees) → (state S.Store store.now.connection).may_leave left → (held : HoldsSound left)
+        × IsLeftBy run i held.institution }
 {
     laws::soundness();
 }
 
-/// The same of the files of a store: whatever a stop leaves of these is a database with such rows. So `open_with` makes a store of
-/// that institution, and doesn't answer F19. The store's trees are numbered, as those of each connection are (`into_store` of
-/// `sqlite`).
+/// The same of the files of a store: whatever a stop leaves of these is a database with such rows. So `open_with` makes
+/// a store of that institution, and doesn't answer F19. The store's trees are numbered, as those of each connection are
+/// (`into_store` of `sqlite`).
 pub fn left_files_hold_a_beginning<D: Disk>(store: &Store<FileStore<D>>)
-    ensures { (i : Institution) (run : List Line) → IsSound i → AreInRange run → IsClean over_files store.now → Leaves over_files store.now (left_after run i (i ∷ []))
-        → IsTrue (files.view store.now.connection.store).is_numbered → (left : Image) → (files.state store.now.connection.store).may_leave left
-        → ∥ ((trees : Trees) × HoldsDatabase left trees × (held : HoldsSound trees) × IsLeftBy run i held.institution) ∥₁ }
+    ensures { (i : Institution) (run : List Line) → IsSound i → AreInRange run → IsClean over_files store.now
+        → Leaves over_files store.now (left_after run i (i ∷ []))
+        → IsTrue (files.view store.now.connection.store).is_numbered → (left : Image)
+        → (files.state store.now.connection.store).may_leave left
+        → ∥ ((trees : Trees) × HoldsDatabase left trees × (held : HoldsSound trees) × IsLeftBy run i held.institution)
+        ∥₁ }
 {
     laws::soundness();
 }

@@ -67,8 +67,8 @@ fn found(contents: Contents) -> Finding
     }
 }
 
-/// A connection to the file at a path, where `start` stands for what the file held. A file that is missing is made, and an empty one
-/// made a database without tables, so the caller sees first that there is one.
+/// A connection to the file at a path, where `start` stands for what the file held. A file that is missing is made, and
+/// an empty one made a database without tables, so the caller sees first that there is one.
 pub fn reach<S: Start>(
     rt: &HostRuntime,
     path: &str,
@@ -83,15 +83,17 @@ pub fn reach<S: Start>(
     }
 }
 
-/// What the file at a path holds, with the connection that was asked, where `start` stands for what the file held. What it holds isn't
-/// changed; a file that is missing is made, and an empty one made a database without tables, so the caller sees first that there is one.
+/// What the file at a path holds, with the connection that was asked, where `start` stands for what the file held. What
+/// it holds isn't changed; a file that is missing is made, and an empty one made a database without tables, so the
+/// caller sees first that there is one.
 pub fn look_with<S: Start>(
     rt: &HostRuntime,
     path: &str,
     start: S,
 ) -> Result<(Contents, Connection<FileStore<FileFrom<S>>>), Finding>
     ensures exact { IfOk result (λ seen. HasCleanDisk (file_state seen.1) → IsToldOfFile (image_at S.Start) seen.0) }
-    ensures leaves { IfOk result (λ seen. HasCleanDisk (file_state seen.1) → (trees : Trees) → HoldsDatabase (image_at S.Start) trees
+    ensures leaves { IfOk result (λ seen. HasCleanDisk (file_state seen.1) → (trees : Trees)
+        → HoldsDatabase (image_at S.Start) trees
         → (left : Trees) → (file_state seen.1).may_leave left → left ≡ trees) }
 {
     let mut connection = match reach(rt, path, start) {
@@ -104,8 +106,9 @@ pub fn look_with<S: Start>(
     }
 }
 
-/// What the file at a path holds, in `main` and where nothing is said of what it held. What it holds isn't changed; but a file that is
-/// missing is made, and an empty one made a database without tables, so the caller sees first that there is one.
+/// What the file at a path holds, in `main` and where nothing is said of what it held. What it holds isn't changed; but
+/// a file that is missing is made, and an empty one made a database without tables, so the caller sees first that there
+/// is one.
 pub fn look(rt: &HostRuntime, path: &str) -> Finding {
     match look_with(rt, path, Unknown) {
         Ok((contents, held)) => {

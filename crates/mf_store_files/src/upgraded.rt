@@ -20,8 +20,8 @@ use mf_store_upgrade::upgrade;
 use sqlite::{Alter, Connection};
 use std::alloc::Global;
 
-/// Brings tables of the first schema, which keep these rows of a sound institution, to those of the second, in one commit: with
-/// the rows of its accounts, and the schema's number. The error is F20.
+/// Brings tables of the first schema, which keep these rows of a sound institution, to those of the second, in one
+/// commit: with the rows of its accounts, and the schema's number. The error is F20.
 pub(crate) fn upgrade_tables<S: Alter>(
     alloc: Global,
     connection: &mut Connection<S>,
@@ -31,18 +31,23 @@ pub(crate) fn upgrade_tables<S: Alter>(
     ensures premise { HasCleanDisk (state S.Store connection.new) → HasCleanDisk (state S.Store connection.old) }
     ensures gives_up { IfErr result (λ fault. fault ≡ F20) }
     ensures shuts { OnlyFaultsShut (state S.Store connection.old) (state S.Store connection.new) }
-    ensures open { HasCleanDisk (state S.Store connection.new) → OnOk result (IsTrue (state S.Store connection.new).is_open) }
-    ensures was_open { HasCleanDisk (state S.Store connection.new) → IsTrue (state S.Store connection.new).is_open → IsTrue (state S.Store connection.old).is_open }
+    ensures open { HasCleanDisk (state S.Store connection.new)
+        → OnOk result (IsTrue (state S.Store connection.new).is_open) }
+    ensures was_open { HasCleanDisk (state S.Store connection.new) → IsTrue (state S.Store connection.new).is_open
+        → IsTrue (state S.Store connection.old).is_open }
 
     // The institution is the one whose rows the tables kept.
-    ensures made { HasCleanDisk (state S.Store connection.new) → OnOk result ((i : Institution) → IsSound i → first_tables_of i ≡ tables → IsKeepingFirst (state S.Store connection.old) (first_tables_of i)
+    ensures made { HasCleanDisk (state S.Store connection.new) → OnOk result ((i : Institution) → IsSound i
+        → first_tables_of i ≡ tables → IsKeepingFirst (state S.Store connection.old) (first_tables_of i)
         → IsUpgradedTo (state S.Store connection.new) (tables_of i)) }
     ensures same { HasCleanDisk (state S.Store connection.new) → IsTrue (state S.Store connection.new).is_open
         → OnErr result ((state S.Store connection.new).now ≡ (state S.Store connection.old).now) }
 
     // A stop leaves what it could leave before, or the tables of the second schema, whole.
-    ensures stop { HasCleanDisk (state S.Store connection.new) → (i : Institution) → IsSound i → first_tables_of i ≡ tables → IsKeepingFirst (state S.Store connection.old) (first_tables_of i)
-        → (trees : Trees) → (state S.Store connection.new).may_leave trees → (state S.Store connection.old).may_leave trees ⊎ Holds trees (Some (tables_of i)) }
+    ensures stop { HasCleanDisk (state S.Store connection.new) → (i : Institution) → IsSound i → first_tables_of i
+        ≡ tables → IsKeepingFirst (state S.Store connection.old) (first_tables_of i)
+        → (trees : Trees) → (state S.Store connection.new).may_leave trees → (state S.Store connection.old).may_leave
+        trees ⊎ Holds trees (Some (tables_of i)) }
     ensures mode { connection.new.in_transaction ≡ false }
 {
     let (instalments, shares) = match account_rows(alloc, &tables) {

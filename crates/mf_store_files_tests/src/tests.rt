@@ -35,8 +35,8 @@ fn fused<D: Failing>(alloc: Global, log: u64, db: u64) -> Files<D> {
     }
 }
 
-/// What is tried over a connection, of any store: a function that holds tables of a type that is known costs five times as much to
-/// prove.
+/// What is tried over a connection, of any store: a function that holds tables of a type that is known costs five times
+/// as much to prove.
 trait Trial {
     fn holds<S: Alter + Drop>(&self, alloc: Global, connection: Connection<S>) -> Result<bool, Fail>
         requires { connection.in_transaction ≡ false };
@@ -54,8 +54,8 @@ fn holds<T: Trial>(alloc: Global, trial: &T) -> Result<bool, Fail> {
     }
 }
 
-/// The replies to lines over the tables of a connection, which are adopted on 2024-01-31, and the connection after; none where
-/// they are refused.
+/// The replies to lines over the tables of a connection, which are adopted on 2024-01-31, and the connection after;
+/// none where they are refused.
 fn answered_over<S: Alter>(
     alloc: Global,
     connection: Connection<S>,

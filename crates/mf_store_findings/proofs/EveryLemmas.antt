@@ -14,7 +14,15 @@ module _ (charges : List ChargeRow) (before : Option ProductRow) (row : ProductR
   abbrev pub LacksProduct : ProductFlaw → Type 0
   LacksProduct flaw = BreaksProduct charges flaw before row → ⊥
 
-  pub every_product : (LacksProduct product.Number × LacksProduct product.Limit × LacksProduct product.Name × LacksProduct product.Method × LacksProduct product.Frequency × LacksProduct product.Strategy × LacksProduct product.Retired) → (LacksProduct product.Rate × LacksProduct product.Every × LacksProduct product.PrincipalGrace × LacksProduct product.InterestGrace × LacksProduct product.MinPrincipal × LacksProduct product.MaxPrincipal × LacksProduct product.MinPeriods × LacksProduct product.MaxPeriods) → (LacksProduct product.PrincipalOrder × LacksProduct product.PeriodsOrder × LacksProduct product.PrincipalGraceOrder × LacksProduct product.InterestGraceOrder) → (LacksProduct product.DisbursementCharge × LacksProduct product.InstalmentCharge × LacksProduct product.OverdueCharge) → (flaw : ProductFlaw) → LacksProduct flaw
+  pub every_product : (LacksProduct product.Number × LacksProduct product.Limit × LacksProduct product.Name
+      × LacksProduct product.Method × LacksProduct product.Frequency × LacksProduct product.Strategy
+      × LacksProduct product.Retired) → (LacksProduct product.Rate × LacksProduct product.Every
+      × LacksProduct product.PrincipalGrace × LacksProduct product.InterestGrace × LacksProduct product.MinPrincipal
+      × LacksProduct product.MaxPrincipal × LacksProduct product.MinPeriods × LacksProduct product.MaxPeriods)
+      → (LacksProduct product.PrincipalOrder × LacksProduct product.PeriodsOrder
+      × LacksProduct product.PrincipalGraceOrder × LacksProduct product.InterestGraceOrder)
+      → (LacksProduct product.DisbursementCharge × LacksProduct product.InstalmentCharge
+      × LacksProduct product.OverdueCharge) → (flaw : ProductFlaw) → LacksProduct flaw
   every_product choices ranges limits charged product.Number = choices.0
   every_product choices ranges limits charged product.Limit = choices.1
   every_product choices ranges limits charged product.Name = choices.2
@@ -42,7 +50,9 @@ module _ (offices : List OfficeRow) (before : Option OfficeRow) (row : OfficeRow
   abbrev pub LacksOffice : OfficeFlaw → Type 0
   LacksOffice flaw = BreaksOffice offices flaw before row → ⊥
 
-  pub every_office : (LacksOffice office.Order × LacksOffice office.Number × LacksOffice office.Name × LacksOffice office.Parent) → (LacksOffice office.Text × LacksOffice office.Depth) → (flaw : OfficeFlaw) → LacksOffice flaw
+  pub every_office : (LacksOffice office.Order × LacksOffice office.Number × LacksOffice office.Name
+      × LacksOffice office.Parent) → (LacksOffice office.Text × LacksOffice office.Depth) → (flaw : OfficeFlaw)
+      → LacksOffice flaw
   every_office placed texts office.Order = placed.0
   every_office placed texts office.Number = placed.1
   every_office placed texts office.Name = placed.2

@@ -1,5 +1,6 @@
 -- Conditions of charges and products, by what a test of them said.
-use Rattle.std.proofs.Common.{◌≡◌, ◌≢◌, ◌↔◌, ◌∙◌, ℕ, ℤ, pos, ◌≤◌, Bool, true, false, not, IsTrue, List, Option, Some, None, refl, sym, ap, subst, arith, ◌==◌, true≢false}
+use Rattle.std.proofs.Common.{◌≡◌, ◌≢◌, ◌↔◌, ◌∙◌, ℕ, ℤ, pos, ◌≤◌, Bool, true, false, not, IsTrue, List, Option, Some}
+use Rattle.std.proofs.Common.{None, refl, sym, ap, subst, arith, ◌==◌, true≢false}
 use Rattle.std.proofs.lemmas.Bool.Decides.{nat_tests}
 use Rattle.mf_base.specs.Choices.{frequency_number}
 use Rattle.mf_base.specs.declared.day.Freq.{Freq}
@@ -20,13 +21,16 @@ pub other_number : (a b wanted : ℕ) → b ≡ wanted → IsTrue (not (a == b))
 other_number a b wanted same = subst (λ w. IsTrue (not (a == b)) ↔ (a ≢ w)) same (apart a b)
 
 -- a charge that is there under the number that is named, and a test of its kind
-pub named_is_none : (charges : List ChargeRow) (kind : ChargeKind) (named : Option ℕ) (number : ℕ) (charge : ChargeRow) (b : Bool) → named ≡ Some number → Some charge ≡ item_numbered charges number → (IsTrue b ↔ (charge.kind ≢ kind_number kind)) → IsTrue b ↔ NamesNoCharge charges kind named
+pub named_is_none : (charges : List ChargeRow) (kind : ChargeKind) (named : Option ℕ) (number : ℕ) (charge : ChargeRow)
+    (b : Bool) → named ≡ Some number → Some charge ≡ item_numbered charges number
+    → (IsTrue b ↔ (charge.kind ≢ kind_number kind)) → IsTrue b ↔ NamesNoCharge charges kind named
 named_is_none charges kind named number charge b is there h = (
   λ yes.
       record {
         number = number;
         is_named = is;
-        none = λ c e. (let found : Some charge ≡ Some c = there ∙ e in let same : charge ≡ c = cc in subst (λ (r : ChargeRow). r.kind ≢ kind_number kind) same (h.0 yes));
+        none = λ c e. (let found : Some charge ≡ Some c = there ∙ e in let same : charge ≡ c = cc in
+            subst (λ (r : ChargeRow). r.kind ≢ kind_number kind) same (h.0 yes));
       },
   λ names.
       let both : Some number ≡ Some names.number = sym is ∙ names.is_named in
@@ -35,7 +39,8 @@ named_is_none charges kind named number charge b is there h = (
 )
 
 -- no charge is there under the number that is named
-pub unnamed_is_none : (charges : List ChargeRow) (kind : ChargeKind) (named : Option ℕ) (number : ℕ) → named ≡ Some number → None ≡ item_numbered charges number → NamesNoCharge charges kind named
+pub unnamed_is_none : (charges : List ChargeRow) (kind : ChargeKind) (named : Option ℕ) (number : ℕ)
+    → named ≡ Some number → None ≡ item_numbered charges number → NamesNoCharge charges kind named
 unnamed_is_none charges kind named number is there = record {
   number = number;
   is_named = is;
@@ -43,7 +48,8 @@ unnamed_is_none charges kind named number is there = record {
 }
 
 -- an amount that is read, and a test of it
-pub amount_is_none : (cents : ℤ) (amount : ℕ) (b : Bool) → pos amount ≡ cents → (IsTrue b ↔ ((1 ≤ amount) × (amount ≤ greatest_amount) → ⊥)) → IsTrue b ↔ IsNoAmount cents
+pub amount_is_none : (cents : ℤ) (amount : ℕ) (b : Bool) → pos amount ≡ cents
+    → (IsTrue b ↔ ((1 ≤ amount) × (amount ≤ greatest_amount) → ⊥)) → IsTrue b ↔ IsNoAmount cents
 amount_is_none cents amount b is h = (
   λ yes other e.
       let both : pos amount ≡ pos other = is ∙ sym e in
@@ -53,14 +59,20 @@ amount_is_none cents amount b is h = (
 )
 
 -- a frequency that is read, and a test of a step
-pub step_is_none : (number every : ℕ) (freq : Freq) (b : Bool) → number ≡ frequency_number freq → ((other : Freq) → number ≡ frequency_number other → Some freq ≡ Some other) → (IsTrue b ↔ ((1 ≤ every) × (every ≤ longest_step freq) → ⊥)) → IsTrue b ↔ ((other : Freq) → frequency_number other ≡ number → (1 ≤ every) × (every ≤ longest_step other) → ⊥)
+pub step_is_none : (number every : ℕ) (freq : Freq) (b : Bool) → number ≡ frequency_number freq
+    → ((other : Freq) → number ≡ frequency_number other → Some freq ≡ Some other)
+    → (IsTrue b ↔ ((1 ≤ every) × (every ≤ longest_step freq) → ⊥)) → IsTrue b ↔ ((other : Freq) → frequency_number other
+    ≡ number → (1 ≤ every) × (every ≤ longest_step other) → ⊥)
 step_is_none number every freq b is only h = (
-  λ yes other e. (let both : Some freq ≡ Some other = only other (sym e) in let same : freq ≡ other = cc in subst (λ (f : Freq). (1 ≤ every) × (every ≤ longest_step f) → ⊥) same (h.0 yes)),
+  λ yes other e. (let both : Some freq ≡ Some other = only other (sym e) in let same : freq ≡ other = cc in
+      subst (λ (f : Freq). (1 ≤ every) × (every ≤ longest_step f) → ⊥) same (h.0 yes)),
   λ none. h.1 (none freq (sym is)),
 )
 
 -- a way of computing and a value that are read, and a test of the value
-pub value_is_none : (number : ℕ) (cents : ℤ) (calc : Calc) (value : ℕ) (b : Bool) → number ≡ calc_number calc → ((other : Calc) → number ≡ calc_number other → Some calc ≡ Some other) → pos value ≡ cents → (IsTrue b ↔ IsValue calc value)
+pub value_is_none : (number : ℕ) (cents : ℤ) (calc : Calc) (value : ℕ) (b : Bool) → number ≡ calc_number calc
+    → ((other : Calc) → number ≡ calc_number other → Some calc ≡ Some other) → pos value ≡ cents
+    → (IsTrue b ↔ IsValue calc value)
     → IsTrue (not b) ↔ ((other : Calc) → calc_number other ≡ number → (n : ℕ) → pos n ≡ cents → IsValue other n → ⊥)
 value_is_none number cents calc value b is only its h = (
   λ yes other e n same.
@@ -68,7 +80,8 @@ value_is_none number cents calc value b is only its h = (
       let one : calc ≡ other = cc in
       let values : pos value ≡ pos n = its ∙ sym same in
       let two : value ≡ n = cc in
-      subst (λ (m : ℕ). IsValue other m → ⊥) two (subst (λ (c : Calc). IsValue c value → ⊥) one ((denied b (IsValue calc value) h).0 yes)),
+      subst (λ (m : ℕ). IsValue other m → ⊥) two (subst (λ (c : Calc). IsValue c value
+      → ⊥) one ((denied b (IsValue calc value) h).0 yes)),
   λ none. (denied b (IsValue calc value) h).1 (none calc (sym is) value its),
 )
   where

@@ -10,7 +10,8 @@ use Rattle.mf_store_findings.specs.Offices.{is_office}
 no_office : OfficeRow
 no_office = record { number = 0; parent = None; hkey = []; name = [] }
 
-pub found_there : (offices : List OfficeRow) (number place : ℕ) → place < length offices → IsBinarySearchResult (λ (r : OfficeRow). nat_cmp r.number number) offices (Ok place) → true ≡ is_office offices number
+pub found_there : (offices : List OfficeRow) (number place : ℕ) → place < length offices → IsBinarySearchResult
+    (λ (r : OfficeRow). nat_cmp r.number number) offices (Ok place) → true ≡ is_office offices number
 found_there offices number place h equal =
     let its : (get_or offices place no_office).number ≡ number = ranked _ number _ (sym (equal no_office)) in
     let passes : ((get_or offices place no_office).number == number) ≡ true = grind (arith, nat_tests) in

@@ -10,6 +10,8 @@ use Rattle.mf_store_findings.specs.Places.{IsAfter}
 use Rattle.mf_store_findings.specs.declared.finding.ReceiptFlaw.{ReceiptFlaw}
 use Rattle.mf_store_findings.specs.declared.finding.ReceiptFlaw.TheVariants as receipt
 
-pub no_flaw : (entries : List EntryRow) (last : Option ReceiptRow) (row : ReceiptRow) → IsAfter by_receipt last row → (e : EntryRow) × Contains entries e × Contains (receipt_of e e.receipt) row → (flaw : ReceiptFlaw) → ¬ BreaksReceipt entries flaw last row
+pub no_flaw : (entries : List EntryRow) (last : Option ReceiptRow) (row : ReceiptRow) → IsAfter by_receipt last row
+    → (e : EntryRow) × Contains entries e × Contains (receipt_of e e.receipt) row → (flaw : ReceiptFlaw)
+    → ¬ BreaksReceipt entries flaw last row
 no_flaw entries last row after carried receipt.Order broken = broken after
 no_flaw entries last row after carried receipt.Entry broken = broken carried.0 carried.1 carried.2

@@ -45,7 +45,8 @@ pub record HasWrongColumns (row : EntryRow) (periods : ℕ) : Type 0 where
   pub row_is : entry_in row.office row.loan entry ≡ row
   pub wrong : ¬ HasColumns entry.kind periods entry
 
--- the row is that of a write-off or a refund that stands, and another standing entry of its loan does not come before it
+-- the row is that of a write-off or a refund that stands, and another standing entry of its loan does not come before
+-- it
 pub record IsNotLast (rows : List EntryRow) (row : EntryRow) : Type 0 where
   pub seal : Entry
   pub seal_is : entry_in row.office row.loan seal ≡ row
@@ -87,7 +88,8 @@ BreaksEntry today loans staff receipts rows entry.Staff before row = is_staff_na
 BreaksEntry today loans staff receipts rows entry.Unlisted before row =
     ¬ AreListed receipts (receipt_of row row.receipt)
 
--- whether a condition is decided either way by a row, the one before it, and whether there are the rows that it names; the others speak of what rows of its loan hold, or of days that have texts
+-- whether a condition is decided either way by a row, the one before it, and whether there are the rows that it names;
+-- the others speak of what rows of its loan hold, or of days that have texts
 abbrev pub is_decided : EntryFlaw → Bool
 is_decided entry.Undisbursed = false
 is_decided entry.Early = false

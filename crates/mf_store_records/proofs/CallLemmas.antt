@@ -1,5 +1,6 @@
 -- What a query and the calls made of it come to.
-use Rattle.std.proofs.Common.{◌≡◌, ℕ, inl, inr, Bool, List, Option, Some, Result, Ok, Err, ◌≤◌, IfOk, IsTrue, sym, ◌∙◌, subst, arith, map, filter, find, slice_get}
+use Rattle.std.proofs.Common.{◌≡◌, ℕ, inl, inr, Bool, List, Option, Some, Result, Ok, Err, ◌≤◌, IfOk, IsTrue, sym, ◌∙◌}
+use Rattle.std.proofs.Common.{subst, arith, map, filter, find, slice_get}
 use Rattle.sqlite.specs.Tree.{Trees}
 use Rattle.sqlite.specs.Order.{Row}
 use Rattle.sqlite.specs.State.{State, HasCleanDisk, Survives}
@@ -31,11 +32,14 @@ module _ (was is : State) where
         ];
   }
 
-  plain_then : (sql : List ℕ) → IsPlain (understood schema sql) → was.now.schema ≡ schema → IsPlain (understood was.now.schema sql)
+  plain_then : (sql : List ℕ) → IsPlain (understood schema sql) → was.now.schema ≡ schema
+      → IsPlain (understood was.now.schema sql)
   plain_then sql plain ours = subst (λ k. IsPlain (understood k sql)) (sym ours) plain
 
   -- a plain text changes nothing
-  pub unchanged : (sql : List ℕ) → IsPlain (understood schema sql) → (HasCleanDisk is → IsTrue is.is_open → IsPlain (understood was.now.schema sql) → is.now ≡ was.now) → (HasCleanDisk is → IsTrue is.is_open → IsTrue was.is_open)
+  pub unchanged : (sql : List ℕ) → IsPlain (understood schema sql) → (HasCleanDisk is → IsTrue is.is_open
+      → IsPlain (understood was.now.schema sql) → is.now ≡ was.now) → (HasCleanDisk is → IsTrue is.is_open
+      → IsTrue was.is_open)
       → Survives was is (λ _. IsTrue was.is_open × ¬ IsPlain (understood was.now.schema sql)) → IsUnchanged was is
   unchanged sql plain same was_open survives = record {
     premise = earlier survives;
@@ -49,11 +53,14 @@ module _ (was is : State) where
   }
 
 -- the first of the rows that pass the test
-pub first_is : {R : Type 0} (row : R → Row) (p : R → Bool) (items : List R) (rows : List Row) (found : Option R) → rows ≡ map row (filter p items) → ((rs : List R) → rows ≡ map row rs → found ≡ slice_get rs 0) → found ≡ find p items
+pub first_is : {R : Type 0} (row : R → Row) (p : R → Bool) (items : List R) (rows : List Row) (found : Option R) → rows
+    ≡ map row (filter p items) → ((rs : List R) → rows ≡ map row rs → found ≡ slice_get rs 0) → found ≡ find p items
 first_is row p items rows found are reads = reads (filter p items) are ∙ slice_get-filter p items
 
 -- what a query shows of the lists that the tables keep
-pub shown : {V E : Type 0} (r : Result V E) (rows_of : V → List Row) (s : State) (sql : List ℕ) (params : Row) (lists : Lists) (P : V → Type 0) → ((v : V) → Serves schema_of Holds s.now (Some lists) → Answers sql params s.now (rows_of v) → P v)
+pub shown : {V E : Type 0} (r : Result V E) (rows_of : V → List Row) (s : State) (sql : List ℕ) (params : Row)
+    (lists : Lists) (P : V → Type 0) → ((v : V) → Serves schema_of Holds s.now (Some lists)
+    → Answers sql params s.now (rows_of v) → P v)
     → IsKeeping s lists → IfOk r (λ v. Shows s sql params (rows_of v)) → IfOk r P
 shown (Ok v) rows_of s sql params lists P law kept h = law v (kept h.is_open) h.answers
 shown (Err e) rows_of s sql params lists P law kept h = tt
@@ -63,5 +70,6 @@ pub goes_on : (was mid is : State) → Survives was mid (λ _. ⊥) → Survives
 goes_on was mid is = survives_then was mid is (λ _. ⊥) (λ _. ⊥) (λ _. ⊥) (λ _ db none. none) (λ _ db none. none)
 
 -- a statement ran with these values, told otherwise
-pub ran_with : (sql : List ℕ) (was is : State) (given row : Row) → given ≡ row → Ran sql given was is → Ran sql row was is
+pub ran_with : (sql : List ℕ) (was is : State) (given row : Row) → given ≡ row → Ran sql given was is
+    → Ran sql row was is
 ran_with sql was is given row same ran = subst (λ r. Ran sql r was is) same ran

@@ -5,7 +5,8 @@ use Rattle.sqlite.specs.declared.types.Value.{Value}
 use Rattle.sqlite.specs.declared.types.Value.TheVariants.{Int, Text as Words}
 use Rattle.sqlite.specs.Order.{Row, column}
 use Rattle.mf_store_tables.specs.Values.{or_null, or_text}
-use Rattle.mf_store_records.specs.Rows.{meta_row, office_row, staff_row, client_row, charge_row, product_row, loan_row, entry_row, receipt_row, instalment_row, share_row}
+use Rattle.mf_store_records.specs.Rows.{meta_row, office_row, staff_row, client_row, charge_row, product_row, loan_row}
+use Rattle.mf_store_records.specs.Rows.{entry_row, receipt_row, instalment_row, share_row}
 use Rattle.mf_store_records.specs.declared.meta.MetaRow.{MetaRow}
 use Rattle.mf_store_records.specs.declared.offices.OfficeRow.{OfficeRow}
 use Rattle.mf_store_records.specs.declared.staff.StaffRow.{StaffRow}
@@ -57,7 +58,12 @@ pub meta_once : (x y : MetaRow) → meta_row x ≡ meta_row y → x ≡ y
 meta_once x y same = ap meta_in same
 
 abbrev office_in : Row → OfficeRow
-office_in row = record { number = number_in (column row 0); parent = maybe_number_in (column row 1); hkey = text_in (column row 2); name = text_in (column row 3) }
+office_in row = record {
+  number = number_in (column row 0);
+  parent = maybe_number_in (column row 1);
+  hkey = text_in (column row 2);
+  name = text_in (column row 3);
+}
 
 office_back : (x : OfficeRow) → office_in (office_row x) ≡ x
 office_back x = ap (λ o. record x { parent = o }) (number_back x.parent)
@@ -66,46 +72,109 @@ pub office_once : (x y : OfficeRow) → office_row x ≡ office_row y → x ≡ 
 office_once x y same = sym (office_back x) ∙ ap office_in same ∙ office_back y
 
 abbrev staff_in : Row → StaffRow
-staff_in row = record { office = number_in (column row 0); number = number_in (column row 1); name = text_in (column row 2); role = number_in (column row 3) }
+staff_in row = record {
+  office = number_in (column row 0);
+  number = number_in (column row 1);
+  name = text_in (column row 2);
+  role = number_in (column row 3);
+}
 
 pub staff_once : (x y : StaffRow) → staff_row x ≡ staff_row y → x ≡ y
 staff_once x y same = ap staff_in same
 
 abbrev client_in : Row → ClientRow
-client_in row = record { office = number_in (column row 0); number = number_in (column row 1); name = text_in (column row 2) }
+client_in row = record {
+  office = number_in (column row 0);
+  number = number_in (column row 1);
+  name = text_in (column row 2);
+}
 
 pub client_once : (x y : ClientRow) → client_row x ≡ client_row y → x ≡ y
 client_once x y same = ap client_in same
 
 abbrev charge_in : Row → ChargeRow
-charge_in row = record { number = number_in (column row 0); name = text_in (column row 1); kind = number_in (column row 2); calc = number_in (column row 3); value = amount_in (column row 4) }
+charge_in row = record {
+  number = number_in (column row 0);
+  name = text_in (column row 1);
+  kind = number_in (column row 2);
+  calc = number_in (column row 3);
+  value = amount_in (column row 4);
+}
 
 pub charge_once : (x y : ChargeRow) → charge_row x ≡ charge_row y → x ≡ y
 charge_once x y same = ap charge_in same
 
 abbrev product_in : Row → ProductRow
-product_in row = record { number = number_in (column row 0); name = text_in (column row 1); method = number_in (column row 2); rate = number_in (column row 3); frequency = number_in (column row 4); every = number_in (column row 5); principal_grace = number_in (column row 6); interest_grace = number_in (column row 7); min_principal = amount_in (column row 8); max_principal = amount_in (column row 9); min_periods = number_in (column row 10); max_periods = number_in (column row 11); strategy = number_in (column row 12); disbursement_charge = maybe_number_in (column row 13); instalment_charge = maybe_number_in (column row 14); overdue_charge = maybe_number_in (column row 15); retired = number_in (column row 16) }
+product_in row = record {
+  number = number_in (column row 0);
+  name = text_in (column row 1);
+  method = number_in (column row 2);
+  rate = number_in (column row 3);
+  frequency = number_in (column row 4);
+  every = number_in (column row 5);
+  principal_grace = number_in (column row 6);
+  interest_grace = number_in (column row 7);
+  min_principal = amount_in (column row 8);
+  max_principal = amount_in (column row 9);
+  min_periods = number_in (column row 10);
+  max_periods = number_in (column row 11);
+  strategy = number_in (column row 12);
+  disbursement_charge = maybe_number_in (column row 13);
+  instalment_charge = maybe_number_in (column row 14);
+  overdue_charge = maybe_number_in (column row 15);
+  retired = number_in (column row 16);
+}
 
 product_back : (x : ProductRow) → product_in (product_row x) ≡ x
-product_back x = ap (λ o. record x { disbursement_charge = o; instalment_charge = maybe_number_in (or_null x.instalment_charge); overdue_charge = maybe_number_in (or_null x.overdue_charge) }) (number_back x.disbursement_charge)
-    ∙ ap (λ o. record x { instalment_charge = o; overdue_charge = maybe_number_in (or_null x.overdue_charge) }) (number_back x.instalment_charge)
+product_back x = ap (λ o. record x {
+  disbursement_charge = o;
+  instalment_charge = maybe_number_in (or_null x.instalment_charge);
+  overdue_charge =
+      maybe_number_in (or_null x.overdue_charge);
+}) (number_back x.disbursement_charge)
+    ∙ ap (λ o. record x { instalment_charge = o; overdue_charge = maybe_number_in (or_null x.overdue_charge) })
+    (number_back x.instalment_charge)
     ∙ ap (λ o. record x { overdue_charge = o }) (number_back x.overdue_charge)
 
 pub product_once : (x y : ProductRow) → product_row x ≡ product_row y → x ≡ y
 product_once x y same = sym (product_back x) ∙ ap product_in same ∙ product_back y
 
 abbrev loan_in : Row → LoanRow
-loan_in row = record { office = number_in (column row 0); number = number_in (column row 1); client = number_in (column row 2); product = number_in (column row 3); principal = amount_in (column row 4); periods = number_in (column row 5); stage = number_in (column row 6); approved = maybe_text_in (column row 7); disbursed = maybe_text_in (column row 8) }
+loan_in row = record {
+  office = number_in (column row 0);
+  number = number_in (column row 1);
+  client = number_in (column row 2);
+  product = number_in (column row 3);
+  principal = amount_in (column row 4);
+  periods = number_in (column row 5);
+  stage = number_in (column row 6);
+  approved =
+      maybe_text_in (column row 7);
+  disbursed = maybe_text_in (column row 8);
+}
 
 loan_back : (x : LoanRow) → loan_in (loan_row x) ≡ x
-loan_back x = ap (λ o. record x { approved = o; disbursed = maybe_text_in (or_text x.disbursed) }) (text_back x.approved)
+loan_back x = ap (λ o. record x { approved = o; disbursed = maybe_text_in (or_text x.disbursed) })
+    (text_back x.approved)
     ∙ ap (λ o. record x { disbursed = o }) (text_back x.disbursed)
 
 pub loan_once : (x y : LoanRow) → loan_row x ≡ loan_row y → x ≡ y
 loan_once x y same = sym (loan_back x) ∙ ap loan_in same ∙ loan_back y
 
 abbrev entry_in : Row → EntryRow
-entry_in row = record { office = number_in (column row 0); loan = number_in (column row 1); seq = number_in (column row 2); kind = number_in (column row 3); day = text_in (column row 4); amount = amount_in (column row 5); instalment = number_in (column row 6); portion = number_in (column row 7); receipt = maybe_text_in (column row 8); staff = text_in (column row 9); reversed = number_in (column row 10) }
+entry_in row = record {
+  office = number_in (column row 0);
+  loan = number_in (column row 1);
+  seq = number_in (column row 2);
+  kind = number_in (column row 3);
+  day = text_in (column row 4);
+  amount = amount_in (column row 5);
+  instalment = number_in (column row 6);
+  portion = number_in (column row 7);
+  receipt = maybe_text_in (column row 8);
+  staff = text_in (column row 9);
+  reversed = number_in (column row 10);
+}
 
 entry_back : (x : EntryRow) → entry_in (entry_row x) ≡ x
 entry_back x = ap (λ o. record x { receipt = o }) (text_back x.receipt)
@@ -114,19 +183,56 @@ pub entry_once : (x y : EntryRow) → entry_row x ≡ entry_row y → x ≡ y
 entry_once x y same = sym (entry_back x) ∙ ap entry_in same ∙ entry_back y
 
 abbrev receipt_in : Row → ReceiptRow
-receipt_in row = record { office = number_in (column row 0); receipt = text_in (column row 1); loan = number_in (column row 2); seq = number_in (column row 3) }
+receipt_in row = record {
+  office = number_in (column row 0);
+  receipt = text_in (column row 1);
+  loan = number_in (column row 2);
+  seq = number_in (column row 3);
+}
 
 pub receipt_once : (x y : ReceiptRow) → receipt_row x ≡ receipt_row y → x ≡ y
 receipt_once x y same = ap receipt_in same
 
 abbrev instalment_in : Row → InstalmentRow
-instalment_in row = record { office = number_in (column row 0); loan = number_in (column row 1); number = number_in (column row 2); due = text_in (column row 3); owed_penalty = amount_in (column row 4); paid_penalty = amount_in (column row 5); waived_penalty = amount_in (column row 6); written_off_penalty = amount_in (column row 7); owed_fee = amount_in (column row 8); paid_fee = amount_in (column row 9); waived_fee = amount_in (column row 10); written_off_fee = amount_in (column row 11); owed_interest = amount_in (column row 12); paid_interest = amount_in (column row 13); waived_interest = amount_in (column row 14); written_off_interest = amount_in (column row 15); owed_principal = amount_in (column row 16); paid_principal = amount_in (column row 17); waived_principal = amount_in (column row 18); written_off_principal = amount_in (column row 19) }
+instalment_in row = record {
+  office = number_in (column row 0);
+  loan = number_in (column row 1);
+  number = number_in (column row 2);
+  due = text_in (column row 3);
+  owed_penalty = amount_in (column row 4);
+  paid_penalty = amount_in (column row 5);
+  waived_penalty = amount_in (column row 6);
+  written_off_penalty = amount_in (column row 7);
+  owed_fee = amount_in (column row 8);
+  paid_fee = amount_in (column row 9);
+  waived_fee = amount_in (column row 10);
+  written_off_fee = amount_in (column row 11);
+  owed_interest = amount_in (column row 12);
+  paid_interest = amount_in (column row 13);
+  waived_interest = amount_in (column row 14);
+  written_off_interest = amount_in (column row 15);
+  owed_principal = amount_in (column row 16);
+  paid_principal = amount_in (column row 17);
+  waived_principal = amount_in (column row 18);
+  written_off_principal =
+      amount_in (column row 19);
+}
 
 pub instalment_once : (x y : InstalmentRow) → instalment_row x ≡ instalment_row y → x ≡ y
 instalment_once x y same = ap instalment_in same
 
 abbrev share_in : Row → ShareRow
-share_in row = record { office = number_in (column row 0); loan = number_in (column row 1); seq = number_in (column row 2); place = number_in (column row 3); instalment = number_in (column row 4); portion = number_in (column row 5); how = number_in (column row 6); amount = amount_in (column row 7) }
+share_in row = record {
+  office = number_in (column row 0);
+  loan = number_in (column row 1);
+  seq = number_in (column row 2);
+  place = number_in (column row 3);
+  instalment = number_in (column row 4);
+  portion =
+      number_in (column row 5);
+  how = number_in (column row 6);
+  amount = amount_in (column row 7);
+}
 
 pub share_once : (x y : ShareRow) → share_row x ≡ share_row y → x ≡ y
 share_once x y same = ap share_in same

@@ -15,4 +15,5 @@ row_is (x ∷ row) (v ∷ vs) n h = ap₂ ◌∷◌ (sym h.0) (row_is row vs (om
   where
     later : (us : Row) (at : ℕ) → HasColumnsFrom (at + 1) (x ∷ row) us → HasColumnsFrom at row us
     later [] at rest = tt
-    later (u ∷ us) at rest = let next : suc at ≡ at + 1 = omega arith in (ap (column (x ∷ row)) next ∙ rest.0, later us (at + 1) rest.1)
+    later (u ∷ us) at rest = let next : suc at ≡ at + 1 =
+        omega arith in (ap (column (x ∷ row)) next ∙ rest.0, later us (at + 1) rest.1)

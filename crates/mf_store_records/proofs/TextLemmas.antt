@@ -15,5 +15,7 @@ reversed_eq Less = refl
 reversed_eq Equal = refl
 reversed_eq Greater = refl
 
-pub equals_text_back : (a b : List ℕ) → is_true (binary (Compare Eq Binary) (Text a) (Text b)) ≡ is_eq (slice_cmp nat_cmp b a)
-equals_text_back a b = equals_text a b ∙ ap is_eq (nat_list_cmp_total.antisymm a b) ∙ reversed_eq (slice_cmp nat_cmp b a)
+pub equals_text_back : (a b : List ℕ) → is_true (binary (Compare Eq Binary) (Text a) (Text b))
+    ≡ is_eq (slice_cmp nat_cmp b a)
+equals_text_back a b = equals_text a b ∙ ap is_eq (nat_list_cmp_total.antisymm a b)
+    ∙ reversed_eq (slice_cmp nat_cmp b a)

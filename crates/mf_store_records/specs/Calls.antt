@@ -14,17 +14,20 @@ pub record IsOpenUpTo (faults : ℕ) (s : State) : Type 0 where
   pub counted : faults ≤ s.faults
   pub is_open : HasCleanDisk s → s.faults ≤ faults → IsTrue s.is_open
 
--- Only a fault of the disk shuts the connection: one that is open up to so many faults stays so. They are counted in 64 bits, and the count stays at its greatest.
+-- Only a fault of the disk shuts the connection: one that is open up to so many faults stays so. They are counted in 64
+-- bits, and the count stays at its greatest.
 abbrev pub OnlyFaultsShut : State → State → Type 0
 OnlyFaultsShut old new = (faults : ℕ) → faults < 2 ^ 64 - 1 → IsOpenUpTo faults old → IsOpenUpTo faults new
 
--- Nothing is changed where the tables are this program's, and then a stop leaves nothing that it could not leave before.
+-- Nothing is changed where the tables are this program's, and then a stop leaves nothing that it could not leave
+-- before.
 pub record IsUnchanged (old new : State) : Type 0 where
   pub premise : HasCleanDisk new → HasCleanDisk old
   pub was_open : HasCleanDisk new → IsTrue new.is_open → IsTrue old.is_open
   pub same : HasCleanDisk new → IsTrue new.is_open → old.now.schema ≡ schema → new.now ≡ old.now
   pub shuts : OnlyFaultsShut old new
-  pub stop : HasCleanDisk new → (IsTrue old.is_open → old.now.schema ≡ schema) → (trees : Trees) → new.may_leave trees → old.may_leave trees
+  pub stop : HasCleanDisk new → (IsTrue old.is_open → old.now.schema ≡ schema) → (trees : Trees) → new.may_leave trees
+      → old.may_leave trees
 
 -- while the connection is open, the tables keep these lists
 abbrev pub IsKeeping : State → Lists → Type 0

@@ -16,12 +16,15 @@ pub data Field : Type 0 where
   MaybeNumber : Field
   MaybeText : Field
 
+-- a number of 32 bits, without a sign
 abbrev pub IsNumber : Value → Type 0
 IsNumber v = (n : ℕ) × (v ≡ Int (pos n)) × (n < 2 ^ 32)
 
+-- a number of 64 bits, with a sign
 abbrev pub IsAmount : Value → Type 0
 IsAmount v = (n : ℤ) × (v ≡ Int n)
 
+-- a text in UTF-8
 abbrev pub IsText : Value → Type 0
 IsText v = (t : List ℕ) × (v ≡ Words t) × IsUtf8 t
 

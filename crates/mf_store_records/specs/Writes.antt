@@ -8,9 +8,18 @@ use Rattle.sqlite.specs.State.{State}
 use Rattle.mf_store_tables.specs.Tables.{no_schema}
 use Rattle.mf_store_tables.specs.Writes.{Serves, Steps}
 use Rattle.mf_store_records.specs.Tables.{schema}
-use Rattle.mf_store_records.specs.Rows.{Lists, no_rows, meta_row, office_row, staff_row, client_row, charge_row, product_row, loan_row, entry_row, receipt_row, instalment_row, share_row, by_meta, by_office, by_staff, by_client, by_charge, by_product, by_loan, by_entry, by_receipt, by_instalment, by_share, put_meta, put_office, put_staff, put_client, put_charge, put_product, put_loan, put_entry, put_receipt, put_instalment, put_share, drop_shares}
+use Rattle.mf_store_records.specs.Rows.{Lists, no_rows, meta_row, office_row, staff_row, client_row, charge_row}
+use Rattle.mf_store_records.specs.Rows.{product_row, loan_row, entry_row, receipt_row, instalment_row, share_row}
+use Rattle.mf_store_records.specs.Rows.{by_meta, by_office, by_staff, by_client, by_charge, by_product, by_loan}
+use Rattle.mf_store_records.specs.Rows.{by_entry, by_receipt, by_instalment, by_share, put_meta, put_office, put_staff}
+use Rattle.mf_store_records.specs.Rows.{put_client, put_charge, put_product, put_loan, put_entry, put_receipt}
+use Rattle.mf_store_records.specs.Rows.{put_instalment, put_share, drop_shares}
 use Rattle.mf_store_records.specs.declared.writes.StoreWrite.{StoreWrite}
-use Rattle.mf_store_records.specs.declared.writes.StoreWrite.TheVariants.{MakeTables, PutMeta, PutOffice, PutStaff, PutClient, PutCharge, AddProduct, PutProduct, AddLoan, PutLoan, AddEntry, ChangeEntry, AddReceipt, PutInstalment, PutShare, RemoveShares}
+use Rattle.mf_store_records.specs.declared.writes.StoreWrite.TheVariants.{MakeTables, PutMeta, PutOffice, PutStaff}
+use Rattle.mf_store_records.specs.declared.writes.StoreWrite.TheVariants.{PutClient, PutCharge, AddProduct, PutProduct}
+use Rattle.mf_store_records.specs.declared.writes.StoreWrite.TheVariants.{AddLoan, PutLoan, AddEntry, ChangeEntry}
+use Rattle.mf_store_records.specs.declared.writes.StoreWrite.TheVariants.{AddReceipt, PutInstalment, PutShare}
+use Rattle.mf_store_records.specs.declared.writes.StoreWrite.TheVariants.{RemoveShares}
 
 -- the trees list the schema and obey it, and keep these lists
 pub record HoldsLists (trees : Trees) (lists : Lists) : Type 0 where
@@ -27,18 +36,22 @@ pub record HoldsLists (trees : Trees) (lists : Lists) : Type 0 where
   pub instalments : Keeps instalment_row by_instalment (trees 19) lists.instalments
   pub shares : Keeps share_row by_share (trees 21) lists.shares
 
+-- the schema of a database that keeps these lists; none where the tables are still to be made
 abbrev pub schema_of : Option Lists → Schema
 schema_of None = no_schema
 schema_of (Some lists) = schema
 
+-- the trees keep these lists and nothing else
 abbrev pub Holds : Trees → Option Lists → Type 0
 Holds trees None = IsSound no_schema trees
 Holds trees (Some lists) = HoldsLists trees lists
 
+-- the lists with a change, where there are tables
 abbrev pub lists_changed : (Lists → Lists) → Option Lists → Option Lists
 lists_changed change None = None
 lists_changed change (Some lists) = Some (change lists)
 
+-- the lists after a write
 abbrev pub after : StoreWrite → Option Lists → Option Lists
 after MakeTables lists = Some no_rows
 after (PutMeta x) lists = lists_changed (put_meta x) lists

@@ -1,3 +1,5 @@
+//! The table charges: its rows, and the texts that read and write them.
+
 ghost use Rattle.mf_store_records.specs.Rows.{charge_fields, IsNew, by_charge, charge_row, put_charge, is_charge};
 
 use crate::table::{New, Put, Table, has_columns};

@@ -1,4 +1,7 @@
-ghost use Rattle.mf_store_records.specs.Rows.{client_fields, IsNew, by_client, client_row, put_client, is_client, is_client_of};
+//! The table clients: its rows, and the texts that read and write them.
+
+ghost use Rattle.mf_store_records.specs.Rows.{client_fields, IsNew, by_client, client_row, put_client, is_client};
+ghost use Rattle.mf_store_records.specs.Rows.{is_client_of};
 
 use crate::table::{Listed, New, Put, Table, has_columns};
 use crate::text::Text;

@@ -1,4 +1,7 @@
-ghost use Rattle.mf_store_records.specs.Rows.{entry_fields, IsNew, by_entry, entry_row, put_entry, is_entry, is_entry_of};
+//! The table entries: its rows, and the texts that read and write them.
+
+ghost use Rattle.mf_store_records.specs.Rows.{entry_fields, IsNew, by_entry, entry_row, put_entry, is_entry};
+ghost use Rattle.mf_store_records.specs.Rows.{is_entry_of};
 
 use crate::table::{Changed, Listed, New, Put, Table, has_columns};
 use crate::text::Text;
@@ -15,7 +18,8 @@ pub struct EntryRow {
     pub seq: u32,
     /// 1 a repayment, 2 a fee, 3 a penalty, 4 a waiver, 5 a write-off, 6 a refund.
     pub kind: u32,
-    /// As YYYY-MM-DD: of a repayment the day that it names, of the other kinds the business day on which it was entered.
+    /// As YYYY-MM-DD: of a repayment the day that it names, of the other kinds the business day on which it was
+    /// entered.
     pub day: Text,
     /// Cents; 0 for a waiver, a write-off and a refund.
     pub amount: i64,
@@ -82,7 +86,8 @@ impl Table for EntryRow {
     }
 
     fn find_text() -> &'static str {
-        "SELECT office, loan, seq, kind, day, amount, instalment, portion, receipt, staff, reversed FROM entries WHERE office = ?1 AND loan = ?2 AND seq = ?3 ORDER BY office, loan, seq"
+        "SELECT office, loan, seq, kind, day, amount, instalment, portion, receipt, staff, \
+         reversed FROM entries WHERE office = ?1 AND loan = ?2 AND seq = ?3 ORDER BY office, loan, seq"
     }
 }
 
@@ -103,7 +108,10 @@ impl Put<Changed> for EntryRow {
     fn put_row<S: Alter>(&self, tx: &mut Transaction<'_, S>) -> Result<(), Error> {
         self.execute(
             tx,
-            "INSERT INTO entries VALUES (?1, ?2, ?3, ?4, ?5, ?6, ?7, ?8, ?9, ?10, ?11) ON CONFLICT (office, loan, seq) DO UPDATE SET kind = excluded.kind, day = excluded.day, amount = excluded.amount, instalment = excluded.instalment, portion = excluded.portion, receipt = excluded.receipt, staff = excluded.staff, reversed = excluded.reversed",
+            "INSERT INTO entries VALUES (?1, ?2, ?3, ?4, ?5, ?6, ?7, ?8, ?9, ?10, ?11) ON CONFLICT (office, loan, \
+             seq) DO UPDATE SET kind = excluded.kind, day = excluded.day, amount = excluded.amount, \
+             instalment = excluded.instalment, portion = excluded.portion, receipt = excluded.receipt, \
+             staff = excluded.staff, reversed = excluded.reversed",
         )
     }
 }
@@ -114,6 +122,7 @@ impl Listed for EntryRow {
     ghost is_in = { λ loan. is_entry_of loan.0 loan.1 };
 
     fn list_text() -> &'static str {
-        "SELECT office, loan, seq, kind, day, amount, instalment, portion, receipt, staff, reversed FROM entries WHERE office = ?1 AND loan = ?2 ORDER BY office, loan, seq"
+        "SELECT office, loan, seq, kind, day, amount, instalment, portion, receipt, staff, \
+         reversed FROM entries WHERE office = ?1 AND loan = ?2 ORDER BY office, loan, seq"
     }
 }

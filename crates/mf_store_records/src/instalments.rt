@@ -1,4 +1,7 @@
-ghost use Rattle.mf_store_records.specs.Rows.{instalment_fields, instalment_row, put_instalment, is_instalment, is_instalment_of};
+//! The table instalments: its rows, and the texts that read and write them.
+
+ghost use Rattle.mf_store_records.specs.Rows.{instalment_fields, instalment_row, put_instalment, is_instalment};
+ghost use Rattle.mf_store_records.specs.Rows.{is_instalment_of};
 
 use crate::table::{Changed, Listed, Put, Table, has_columns};
 use crate::text::Text;
@@ -103,7 +106,11 @@ impl Table for InstalmentRow {
     }
 
     fn find_text() -> &'static str {
-        "SELECT office, loan, number, due, owed_penalty, paid_penalty, waived_penalty, written_off_penalty, owed_fee, paid_fee, waived_fee, written_off_fee, owed_interest, paid_interest, waived_interest, written_off_interest, owed_principal, paid_principal, waived_principal, written_off_principal FROM instalments WHERE office = ?1 AND loan = ?2 AND number = ?3 ORDER BY office, loan, number"
+        "SELECT office, loan, number, due, owed_penalty, paid_penalty, waived_penalty, written_off_penalty, \
+         owed_fee, paid_fee, waived_fee, written_off_fee, owed_interest, paid_interest, waived_interest, \
+         written_off_interest, owed_principal, paid_principal, waived_principal, \
+         written_off_principal FROM instalments WHERE office = ?1 AND loan = ?2 AND number = ?3 ORDER BY office, \
+         loan, number"
     }
 }
 
@@ -113,7 +120,16 @@ impl Put<Changed> for InstalmentRow {
     fn put_row<S: Alter>(&self, tx: &mut Transaction<'_, S>) -> Result<(), Error> {
         self.execute(
             tx,
-            "INSERT INTO instalments VALUES (?1, ?2, ?3, ?4, ?5, ?6, ?7, ?8, ?9, ?10, ?11, ?12, ?13, ?14, ?15, ?16, ?17, ?18, ?19, ?20) ON CONFLICT (office, loan, number) DO UPDATE SET due = excluded.due, owed_penalty = excluded.owed_penalty, paid_penalty = excluded.paid_penalty, waived_penalty = excluded.waived_penalty, written_off_penalty = excluded.written_off_penalty, owed_fee = excluded.owed_fee, paid_fee = excluded.paid_fee, waived_fee = excluded.waived_fee, written_off_fee = excluded.written_off_fee, owed_interest = excluded.owed_interest, paid_interest = excluded.paid_interest, waived_interest = excluded.waived_interest, written_off_interest = excluded.written_off_interest, owed_principal = excluded.owed_principal, paid_principal = excluded.paid_principal, waived_principal = excluded.waived_principal, written_off_principal = excluded.written_off_principal",
+            "INSERT INTO instalments VALUES (?1, ?2, ?3, ?4, ?5, ?6, ?7, ?8, ?9, ?10, ?11, ?12, ?13, ?14, ?15, ?16, \
+             ?17, ?18, ?19, ?20) ON CONFLICT (office, loan, number) DO UPDATE SET due = excluded.due, \
+             owed_penalty = excluded.owed_penalty, paid_penalty = excluded.paid_penalty, \
+             waived_penalty = excluded.waived_penalty, written_off_penalty = excluded.written_off_penalty, \
+             owed_fee = excluded.owed_fee, paid_fee = excluded.paid_fee, waived_fee = excluded.waived_fee, \
+             written_off_fee = excluded.written_off_fee, owed_interest = excluded.owed_interest, \
+             paid_interest = excluded.paid_interest, waived_interest = excluded.waived_interest, \
+             written_off_interest = excluded.written_off_interest, owed_principal = excluded.owed_principal, \
+             paid_principal = excluded.paid_principal, waived_principal = excluded.waived_principal, \
+             written_off_principal = excluded.written_off_principal",
         )
     }
 }
@@ -124,6 +140,9 @@ impl Listed for InstalmentRow {
     ghost is_in = { λ loan. is_instalment_of loan.0 loan.1 };
 
     fn list_text() -> &'static str {
-        "SELECT office, loan, number, due, owed_penalty, paid_penalty, waived_penalty, written_off_penalty, owed_fee, paid_fee, waived_fee, written_off_fee, owed_interest, paid_interest, waived_interest, written_off_interest, owed_principal, paid_principal, waived_principal, written_off_principal FROM instalments WHERE office = ?1 AND loan = ?2 ORDER BY office, loan, number"
+        "SELECT office, loan, number, due, owed_penalty, paid_penalty, waived_penalty, written_off_penalty, \
+         owed_fee, paid_fee, waived_fee, written_off_fee, owed_interest, paid_interest, waived_interest, \
+         written_off_interest, owed_principal, paid_principal, waived_principal, \
+         written_off_principal FROM instalments WHERE office = ?1 AND loan = ?2 ORDER BY office, loan, number"
     }
 }

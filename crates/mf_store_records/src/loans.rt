@@ -1,8 +1,11 @@
+//! The table loans: its rows, and the texts that read and write them.
+
 ghost use Rattle.std.specs.Prelude.{◌≡◌, false, IsTrue, OnOk, IfOk, IfErr, map, filter, take};
 ghost use Rattle.mf_base.specs.declared.fault.Fault.TheVariants.{F20};
 ghost use Rattle.sqlite.specs.Held.{state};
 ghost use Rattle.sqlite.specs.State.{HasCleanDisk};
-ghost use Rattle.mf_store_records.specs.Rows.{loan_fields, IsNew, by_loan, Lists, loan_row, put_loan, is_loan, is_loan_of, is_loan_above};
+ghost use Rattle.mf_store_records.specs.Rows.{loan_fields, IsNew, by_loan, Lists, loan_row, put_loan, is_loan};
+ghost use Rattle.mf_store_records.specs.Rows.{is_loan_of, is_loan_above};
 ghost use Rattle.mf_store_records.specs.Calls.{IsUnchanged, IsKeeping};
 
 use crate::table::{Changed, Listed, New, Put, Table, ask, has_columns};
@@ -77,7 +80,8 @@ impl Table for LoanRow {
     }
 
     fn find_text() -> &'static str {
-        "SELECT office, number, client, product, principal, periods, stage, approved, disbursed FROM loans WHERE office = ?1 AND number = ?2 ORDER BY office, number"
+        "SELECT office, number, client, product, principal, periods, stage, approved, \
+         disbursed FROM loans WHERE office = ?1 AND number = ?2 ORDER BY office, number"
     }
 }
 
@@ -98,7 +102,10 @@ impl Put<Changed> for LoanRow {
     fn put_row<S: Alter>(&self, tx: &mut Transaction<'_, S>) -> Result<(), Error> {
         self.execute(
             tx,
-            "INSERT INTO loans VALUES (?1, ?2, ?3, ?4, ?5, ?6, ?7, ?8, ?9) ON CONFLICT (office, number) DO UPDATE SET client = excluded.client, product = excluded.product, principal = excluded.principal, periods = excluded.periods, stage = excluded.stage, approved = excluded.approved, disbursed = excluded.disbursed",
+            "INSERT INTO loans VALUES (?1, ?2, ?3, ?4, ?5, ?6, ?7, ?8, ?9) ON CONFLICT (office, \
+             number) DO UPDATE SET client = excluded.client, product = excluded.product, \
+             principal = excluded.principal, periods = excluded.periods, stage = excluded.stage, \
+             approved = excluded.approved, disbursed = excluded.disbursed",
         )
     }
 }
@@ -109,7 +116,8 @@ impl Listed for LoanRow {
     ghost is_in = { is_loan_of };
 
     fn list_text() -> &'static str {
-        "SELECT office, number, client, product, principal, periods, stage, approved, disbursed FROM loans WHERE office = ?1 ORDER BY office, number"
+        "SELECT office, number, client, product, principal, periods, stage, approved, \
+         disbursed FROM loans WHERE office = ?1 ORDER BY office, number"
     }
 }
 
@@ -122,13 +130,17 @@ pub fn loans_above<S: Alter>(
     requires alone { connection.old.in_transaction ≡ false }
     ensures kept { IsUnchanged (state S.Store connection.old) (state S.Store connection.new) }
     ensures gives_up { IfErr result (λ fault. fault ≡ F20) }
-    ensures open { HasCleanDisk (state S.Store connection.new) → OnOk result (IsTrue (state S.Store connection.new).is_open) }
-    ensures rows { HasCleanDisk (state S.Store connection.new) → (lists : Lists) → IsKeeping (state S.Store connection.old) lists → IfOk result (λ rows. rows.items ≡ take 100 (map loan_row (filter (is_loan_above office after) lists.loans))) }
+    ensures open { HasCleanDisk (state S.Store connection.new)
+        → OnOk result (IsTrue (state S.Store connection.new).is_open) }
+    ensures rows { HasCleanDisk (state S.Store connection.new) → (lists : Lists)
+        → IsKeeping (state S.Store connection.old) lists → IfOk result (λ rows. rows.items
+        ≡ take 100 (map loan_row (filter (is_loan_above office after) lists.loans))) }
     ensures mode { connection.new.in_transaction ≡ false }
 {
     ask(
         connection,
-        "SELECT office, number, client, product, principal, periods, stage, approved, disbursed FROM loans WHERE office = ?1 AND number > ?2 ORDER BY office, number LIMIT 100",
+        "SELECT office, number, client, product, principal, periods, stage, approved, \
+         disbursed FROM loans WHERE office = ?1 AND number > ?2 ORDER BY office, number LIMIT 100",
         params![office, after],
     )
 }

@@ -1,3 +1,5 @@
+//! The table meta, of one row: the schema's number and the business day.
+
 ghost use Rattle.mf_store_records.specs.Rows.{meta_fields, meta_row, put_meta, is_meta};
 
 use crate::table::{Changed, Put, Table, has_columns};
@@ -58,7 +60,8 @@ impl Put<Changed> for MetaRow {
     fn put_row<S: Alter>(&self, tx: &mut Transaction<'_, S>) -> Result<(), Error> {
         self.execute(
             tx,
-            "INSERT INTO meta VALUES (?1, ?2, ?3) ON CONFLICT (one) DO UPDATE SET schema = excluded.schema, day = excluded.day",
+            "INSERT INTO meta VALUES (?1, ?2, ?3) ON CONFLICT (one) DO UPDATE SET schema = excluded.schema, \
+             day = excluded.day",
         )
     }
 }

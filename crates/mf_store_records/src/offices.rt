@@ -1,8 +1,11 @@
+//! The table offices: its rows, and the texts that read and write them.
+
 ghost use Rattle.std.specs.Prelude.{◌≡◌, false, IsTrue, OnOk, IfOk, IfErr, map, filter};
 ghost use Rattle.mf_base.specs.declared.fault.Fault.TheVariants.{F20};
 ghost use Rattle.sqlite.specs.Held.{state};
 ghost use Rattle.sqlite.specs.State.{HasCleanDisk};
-ghost use Rattle.mf_store_records.specs.Rows.{office_fields, IsNew, by_office, Lists, office_row, put_office, is_office, is_in_range};
+ghost use Rattle.mf_store_records.specs.Rows.{office_fields, IsNew, by_office, Lists, office_row, put_office};
+ghost use Rattle.mf_store_records.specs.Rows.{is_office, is_in_range};
 ghost use Rattle.mf_store_records.specs.Calls.{IsUnchanged, IsKeeping};
 
 use crate::table::{New, Put, Table, ask, has_columns};
@@ -75,8 +78,11 @@ pub fn offices_within<S: Alter>(
     requires alone { connection.old.in_transaction ≡ false }
     ensures kept { IsUnchanged (state S.Store connection.old) (state S.Store connection.new) }
     ensures gives_up { IfErr result (λ fault. fault ≡ F20) }
-    ensures open { HasCleanDisk (state S.Store connection.new) → OnOk result (IsTrue (state S.Store connection.new).is_open) }
-    ensures rows { HasCleanDisk (state S.Store connection.new) → (lists : Lists) → IsKeeping (state S.Store connection.old) lists → IfOk result (λ rows. rows.items ≡ map office_row (filter (is_in_range low.now high.now) lists.offices)) }
+    ensures open { HasCleanDisk (state S.Store connection.new)
+        → OnOk result (IsTrue (state S.Store connection.new).is_open) }
+    ensures rows { HasCleanDisk (state S.Store connection.new) → (lists : Lists)
+        → IsKeeping (state S.Store connection.old) lists
+        → IfOk result (λ rows. rows.items ≡ map office_row (filter (is_in_range low.now high.now) lists.offices)) }
     ensures mode { connection.new.in_transaction ≡ false }
 {
     ask(

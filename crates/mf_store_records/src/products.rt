@@ -1,3 +1,5 @@
+//! The table products: its rows, and the texts that read and write them.
+
 ghost use Rattle.mf_store_records.specs.Rows.{product_fields, IsNew, by_product, product_row, put_product, is_product};
 
 use crate::table::{Changed, New, Put, Table, has_columns};
@@ -97,7 +99,9 @@ impl Table for ProductRow {
     }
 
     fn find_text() -> &'static str {
-        "SELECT number, name, method, rate, frequency, every, principal_grace, interest_grace, min_principal, max_principal, min_periods, max_periods, strategy, disbursement_charge, instalment_charge, overdue_charge, retired FROM products WHERE number = ?1 ORDER BY number"
+        "SELECT number, name, method, rate, frequency, every, principal_grace, interest_grace, min_principal, \
+         max_principal, min_periods, max_periods, strategy, disbursement_charge, instalment_charge, overdue_charge, \
+         retired FROM products WHERE number = ?1 ORDER BY number"
     }
 }
 
@@ -118,7 +122,14 @@ impl Put<Changed> for ProductRow {
     fn put_row<S: Alter>(&self, tx: &mut Transaction<'_, S>) -> Result<(), Error> {
         self.execute(
             tx,
-            "INSERT INTO products VALUES (?1, ?2, ?3, ?4, ?5, ?6, ?7, ?8, ?9, ?10, ?11, ?12, ?13, ?14, ?15, ?16, ?17) ON CONFLICT (number) DO UPDATE SET name = excluded.name, method = excluded.method, rate = excluded.rate, frequency = excluded.frequency, every = excluded.every, principal_grace = excluded.principal_grace, interest_grace = excluded.interest_grace, min_principal = excluded.min_principal, max_principal = excluded.max_principal, min_periods = excluded.min_periods, max_periods = excluded.max_periods, strategy = excluded.strategy, disbursement_charge = excluded.disbursement_charge, instalment_charge = excluded.instalment_charge, overdue_charge = excluded.overdue_charge, retired = excluded.retired",
+            "INSERT INTO products VALUES (?1, ?2, ?3, ?4, ?5, ?6, ?7, ?8, ?9, ?10, ?11, ?12, ?13, ?14, ?15, ?16, \
+             ?17) ON CONFLICT (number) DO UPDATE SET name = excluded.name, method = excluded.method, \
+             rate = excluded.rate, frequency = excluded.frequency, every = excluded.every, \
+             principal_grace = excluded.principal_grace, interest_grace = excluded.interest_grace, \
+             min_principal = excluded.min_principal, max_principal = excluded.max_principal, \
+             min_periods = excluded.min_periods, max_periods = excluded.max_periods, strategy = excluded.strategy, \
+             disbursement_charge = excluded.disbursement_charge, instalment_charge = excluded.instalment_charge, \
+             overdue_charge = excluded.overdue_charge, retired = excluded.retired",
         )
     }
 }

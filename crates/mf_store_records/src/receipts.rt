@@ -1,8 +1,11 @@
+//! The table receipts: its rows, and the texts that read and write them.
+
 ghost use Rattle.std.specs.Prelude.{◌≡◌, false, IsTrue, OnOk, IfOk, IfErr, find};
 ghost use Rattle.mf_base.specs.declared.fault.Fault.TheVariants.{F20};
 ghost use Rattle.sqlite.specs.Held.{state};
 ghost use Rattle.sqlite.specs.State.{HasCleanDisk};
-ghost use Rattle.mf_store_records.specs.Rows.{receipt_fields, IsNew, by_receipt, Lists, receipt_row, put_receipt, is_receipt};
+ghost use Rattle.mf_store_records.specs.Rows.{receipt_fields, IsNew, by_receipt, Lists, receipt_row, put_receipt};
+ghost use Rattle.mf_store_records.specs.Rows.{is_receipt};
 ghost use Rattle.mf_store_records.specs.Calls.{IsUnchanged, IsKeeping};
 
 use crate::table::{New, Put, Table, ask, first, has_columns};
@@ -66,7 +69,8 @@ impl Put<New> for ReceiptRow {
     }
 }
 
-/// The row of an office's receipt, if there is one: what `find_row` finds under the two, for a text that the caller keeps.
+/// The row of an office's receipt, if there is one: what `find_row` finds under the two, for a text that the caller
+/// keeps.
 pub fn find_receipt<S: Alter>(
     connection: &mut Connection<S>,
     office: u32,
@@ -75,8 +79,11 @@ pub fn find_receipt<S: Alter>(
     requires alone { connection.old.in_transaction ≡ false }
     ensures kept { IsUnchanged (state S.Store connection.old) (state S.Store connection.new) }
     ensures gives_up { IfErr result (λ fault. fault ≡ F20) }
-    ensures open { HasCleanDisk (state S.Store connection.new) → OnOk result (IsTrue (state S.Store connection.new).is_open) }
-    ensures row { HasCleanDisk (state S.Store connection.new) → (lists : Lists) → IsKeeping (state S.Store connection.old) lists → IfOk result (λ x. x ≡ find (is_receipt office receipt.now) lists.receipts) }
+    ensures open { HasCleanDisk (state S.Store connection.new)
+        → OnOk result (IsTrue (state S.Store connection.new).is_open) }
+    ensures row { HasCleanDisk (state S.Store connection.new) → (lists : Lists)
+        → IsKeeping (state S.Store connection.old) lists
+        → IfOk result (λ x. x ≡ find (is_receipt office receipt.now) lists.receipts) }
     ensures mode { connection.new.in_transaction ≡ false }
 {
     let rows = ask(

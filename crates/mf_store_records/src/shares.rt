@@ -1,3 +1,5 @@
+//! The table shares: its rows, and the texts that read, write and remove them.
+
 ghost use Rattle.std.specs.Prelude.{◌≡◌, IsTrue, OnOk};
 ghost use Rattle.sqlite.specs.Held.{state};
 ghost use Rattle.sqlite.specs.State.{HasCleanDisk, KeepsCommit, Survives};
@@ -72,7 +74,9 @@ impl Table for ShareRow {
     }
 
     fn find_text() -> &'static str {
-        "SELECT office, loan, seq, place, instalment, portion, how, amount FROM shares WHERE office = ?1 AND loan = ?2 AND seq = ?3 AND place = ?4 ORDER BY office, loan, seq, place"
+        "SELECT office, loan, seq, place, instalment, portion, how, \
+         amount FROM shares WHERE office = ?1 AND loan = ?2 AND seq = ?3 AND place = ?4 ORDER BY office, loan, seq, \
+         place"
     }
 }
 
@@ -82,7 +86,9 @@ impl Put<Changed> for ShareRow {
     fn put_row<S: Alter>(&self, tx: &mut Transaction<'_, S>) -> Result<(), Error> {
         self.execute(
             tx,
-            "INSERT INTO shares VALUES (?1, ?2, ?3, ?4, ?5, ?6, ?7, ?8) ON CONFLICT (office, loan, seq, place) DO UPDATE SET instalment = excluded.instalment, portion = excluded.portion, how = excluded.how, amount = excluded.amount",
+            "INSERT INTO shares VALUES (?1, ?2, ?3, ?4, ?5, ?6, ?7, ?8) ON CONFLICT (office, loan, seq, \
+             place) DO UPDATE SET instalment = excluded.instalment, portion = excluded.portion, how = excluded.how, \
+             amount = excluded.amount",
         )
     }
 }
@@ -93,7 +99,8 @@ impl Listed for ShareRow {
     ghost is_in = { λ loan. is_share_of loan.0 loan.1 };
 
     fn list_text() -> &'static str {
-        "SELECT office, loan, seq, place, instalment, portion, how, amount FROM shares WHERE office = ?1 AND loan = ?2 ORDER BY office, loan, seq, place"
+        "SELECT office, loan, seq, place, instalment, portion, how, \
+         amount FROM shares WHERE office = ?1 AND loan = ?2 ORDER BY office, loan, seq, place"
     }
 }
 
@@ -111,9 +118,12 @@ impl EntryKey {
     /// Removes all shares of the entry.
     pub(crate) fn remove_shares<S: Alter>(&self, tx: &mut Transaction<'_, S>) -> Result<(), Error>
         ensures same_reference { tx.new.conn.ghost_name ≡ tx.old.conn.ghost_name }
-        ensures ok { HasCleanDisk (state S.Store tx.new.conn.now) → IsTrue (state S.Store tx.old.conn.now).in_transaction
-            → OnOk result (Putting (drop_shares self.now) (state S.Store tx.old.conn.now) (state S.Store tx.new.conn.now)) }
-        ensures kept { HasCleanDisk (state S.Store tx.new.conn.now) → KeepsCommit (state S.Store tx.old.conn.now) (state S.Store tx.new.conn.now) }
+        ensures ok { HasCleanDisk (state S.Store tx.new.conn.now)
+            → IsTrue (state S.Store tx.old.conn.now).in_transaction
+            → OnOk result (Putting (drop_shares self.now) (state S.Store tx.old.conn.now)
+            (state S.Store tx.new.conn.now)) }
+        ensures kept { HasCleanDisk (state S.Store tx.new.conn.now) → KeepsCommit (state S.Store tx.old.conn.now)
+            (state S.Store tx.new.conn.now) }
         ensures survives { Survives (state S.Store tx.old.conn.now) (state S.Store tx.new.conn.now) (λ _. ⊥) }
     {
         run(

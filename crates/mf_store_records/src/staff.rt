@@ -1,4 +1,7 @@
-ghost use Rattle.mf_store_records.specs.Rows.{staff_fields, IsNew, by_staff, staff_row, put_staff, is_staff, is_staff_of};
+//! The table staff: its rows, and the texts that read and write them.
+
+ghost use Rattle.mf_store_records.specs.Rows.{staff_fields, IsNew, by_staff, staff_row, put_staff, is_staff};
+ghost use Rattle.mf_store_records.specs.Rows.{is_staff_of};
 
 use crate::table::{Listed, New, Put, Table, has_columns};
 use crate::text::Text;

@@ -1,6 +1,7 @@
 //! A table: the texts that read and write it, and what these mean.
 
-ghost use Rattle.std.specs.Prelude.{◌≡◌, ◌≢◌, ℕ, List, Bool, IsTrue, OnOk, OnErr, IfOk, IfErr, length, Some, false, map, filter, find, slice_get};
+ghost use Rattle.std.specs.Prelude.{◌≡◌, ◌≢◌, ℕ, List, Bool, IsTrue, OnOk, OnErr, IfOk, IfErr, length, Some, false};
+ghost use Rattle.std.specs.Prelude.{map, filter, find, slice_get};
 ghost use Rattle.mf_base.specs.declared.fault.Fault.TheVariants.{F20};
 ghost use Rattle.sqlite.specs.Order.{Row as SqlRow};
 ghost use Rattle.sqlite.specs.Effect.{Database};
@@ -34,8 +35,10 @@ pub trait Columns {
         requires plain { IsPlain (understood schema sql.now) }
         ensures kept { IsUnchanged (state S.Store connection.old) (state S.Store connection.new) }
         ensures gives_up { IfErr result (λ fault. fault ≡ F20) }
-        ensures open { HasCleanDisk (state S.Store connection.new) → OnOk result (IsTrue (state S.Store connection.new).is_open) }
-        ensures shows { HasCleanDisk (state S.Store connection.new) → IfOk result (λ rows. Shows (state S.Store connection.old) sql.now (values self) rows.items) }
+        ensures open { HasCleanDisk (state S.Store connection.new)
+            → OnOk result (IsTrue (state S.Store connection.new).is_open) }
+        ensures shows { HasCleanDisk (state S.Store connection.new)
+            → IfOk result (λ rows. Shows (state S.Store connection.old) sql.now (values self) rows.items) }
         ensures mode { connection.new.in_transaction ≡ false };
 }
 
@@ -114,7 +117,8 @@ pub trait Table: Sized {
     /// Whether a row is the one under a key.
     ghost is_at: { Self.Key → Self → Bool };
 
-    /// The row, of whatever values. It fails when out of memory, and with any other error for values that the fields cannot hold.
+    /// The row, of whatever values. It fails when out of memory, and with any other error for values that the fields
+    /// cannot hold.
     // Each reads its texts last, so that none is to be dropped where a number is refused.
     fn read(row: &Row) -> Result<Self, Error>
         ensures row { IfOk result (λ x. stored x ≡ row.now) }
@@ -124,15 +128,19 @@ pub trait Table: Sized {
     /// Runs a text with the row's values for its parameters.
     fn execute<S: Alter>(&self, tx: &mut Transaction<'_, S>, sql: &str) -> Result<(), Error>
         ensures same_reference { tx.new.conn.ghost_name ≡ tx.old.conn.ghost_name }
-        ensures ok { HasCleanDisk (state S.Store tx.new.conn.now) → IsTrue (state S.Store tx.old.conn.now).in_transaction
-            → OnOk result (Ran sql.now (stored self.now) (state S.Store tx.old.conn.now) (state S.Store tx.new.conn.now)) }
-        ensures kept { HasCleanDisk (state S.Store tx.new.conn.now) → KeepsCommit (state S.Store tx.old.conn.now) (state S.Store tx.new.conn.now) }
+        ensures ok { HasCleanDisk (state S.Store tx.new.conn.now)
+            → IsTrue (state S.Store tx.old.conn.now).in_transaction
+            → OnOk result (Ran sql.now (stored self.now) (state S.Store tx.old.conn.now)
+            (state S.Store tx.new.conn.now)) }
+        ensures kept { HasCleanDisk (state S.Store tx.new.conn.now) → KeepsCommit (state S.Store tx.old.conn.now)
+            (state S.Store tx.new.conn.now) }
         ensures survives { Survives (state S.Store tx.old.conn.now) (state S.Store tx.new.conn.now) (λ _. ⊥) };
 
     /// The text that shows the row under a key.
     fn find_text() -> &'static str
         ensures plain { IsPlain (understood schema result.now) }
-        ensures shows { (key : Self.Key) (lists : Lists) (db : Database) (rows : List SqlRow) → Serves schema_of Holds db (Some lists) → Answers result.now (Self.Key.values key) db rows
+        ensures shows { (key : Self.Key) (lists : Lists) (db : Database) (rows : List SqlRow)
+            → Serves schema_of Holds db (Some lists) → Answers result.now (Self.Key.values key) db rows
             → rows ≡ map stored (filter (is_at key) (list lists)) };
 }
 
@@ -150,11 +158,16 @@ pub trait Put<How>: Table {
     /// Puts the row under its key.
     fn put_row<S: Alter>(&self, tx: &mut Transaction<'_, S>) -> Result<(), Error>
         ensures same_reference { tx.new.conn.ghost_name ≡ tx.old.conn.ghost_name }
-        ensures ok { HasCleanDisk (state S.Store tx.new.conn.now) → IsTrue (state S.Store tx.old.conn.now).in_transaction
-            → OnOk result (Putting (Self.put self.now) (state S.Store tx.old.conn.now) (state S.Store tx.new.conn.now)) }
-        ensures before { HasCleanDisk (state S.Store tx.new.conn.now) → IsTrue (state S.Store tx.old.conn.now).in_transaction
-            → OnOk result ((lists : Lists) → Serves schema_of Holds (state S.Store tx.old.conn.now).now (Some lists) → Before self.now lists) }
-        ensures kept { HasCleanDisk (state S.Store tx.new.conn.now) → KeepsCommit (state S.Store tx.old.conn.now) (state S.Store tx.new.conn.now) }
+        ensures ok { HasCleanDisk (state S.Store tx.new.conn.now)
+            → IsTrue (state S.Store tx.old.conn.now).in_transaction
+            → OnOk result (Putting (Self.put self.now) (state S.Store tx.old.conn.now)
+            (state S.Store tx.new.conn.now)) }
+        ensures before { HasCleanDisk (state S.Store tx.new.conn.now)
+            → IsTrue (state S.Store tx.old.conn.now).in_transaction
+            → OnOk result ((lists : Lists) → Serves schema_of Holds (state S.Store tx.old.conn.now).now (Some lists)
+            → Before self.now lists) }
+        ensures kept { HasCleanDisk (state S.Store tx.new.conn.now) → KeepsCommit (state S.Store tx.old.conn.now)
+            (state S.Store tx.new.conn.now) }
         ensures survives { Survives (state S.Store tx.old.conn.now) (state S.Store tx.new.conn.now) (λ _. ⊥) };
 }
 
@@ -169,7 +182,8 @@ pub trait Listed: Table {
     /// The text that shows the rows with these values, in the order of their key.
     fn list_text() -> &'static str
         ensures plain { IsPlain (understood schema result.now) }
-        ensures shows { (part : Self.Part) (lists : Lists) (db : Database) (rows : List SqlRow) → Serves schema_of Holds db (Some lists) → Answers result.now (Self.Part.values part) db rows
+        ensures shows { (part : Self.Part) (lists : Lists) (db : Database) (rows : List SqlRow)
+            → Serves schema_of Holds db (Some lists) → Answers result.now (Self.Part.values part) db rows
             → rows ≡ map Self.stored (filter (is_in part) (Self.list lists)) };
 }
 
@@ -196,8 +210,10 @@ pub fn ask<S: Alter>(
     requires plain { IsPlain (understood schema sql.now) }
     ensures kept { IsUnchanged (state S.Store connection.old) (state S.Store connection.new) }
     ensures gives_up { IfErr result (λ fault. fault ≡ F20) }
-    ensures open { HasCleanDisk (state S.Store connection.new) → OnOk result (IsTrue (state S.Store connection.new).is_open) }
-    ensures shows { HasCleanDisk (state S.Store connection.new) → IfOk result (λ rows. Shows (state S.Store connection.old) sql.now (bound params.now) rows.items) }
+    ensures open { HasCleanDisk (state S.Store connection.new)
+        → OnOk result (IsTrue (state S.Store connection.new).is_open) }
+    ensures shows { HasCleanDisk (state S.Store connection.new)
+        → IfOk result (λ rows. Shows (state S.Store connection.old) sql.now (bound params.now) rows.items) }
     ensures mode { connection.new.in_transaction ≡ false }
 {
     match query(connection, sql, params) {
@@ -236,8 +252,10 @@ pub fn find_row<T: Table, S: Alter>(
     requires alone { connection.old.in_transaction ≡ false }
     ensures kept { IsUnchanged (state S.Store connection.old) (state S.Store connection.new) }
     ensures gives_up { IfErr result (λ fault. fault ≡ F20) }
-    ensures open { HasCleanDisk (state S.Store connection.new) → OnOk result (IsTrue (state S.Store connection.new).is_open) }
-    ensures row { HasCleanDisk (state S.Store connection.new) → (lists : Lists) → IsKeeping (state S.Store connection.old) lists → IfOk result (λ x. x ≡ find (T.is_at key) (T.list lists)) }
+    ensures open { HasCleanDisk (state S.Store connection.new)
+        → OnOk result (IsTrue (state S.Store connection.new).is_open) }
+    ensures row { HasCleanDisk (state S.Store connection.new) → (lists : Lists)
+        → IsKeeping (state S.Store connection.old) lists → IfOk result (λ x. x ≡ find (T.is_at key) (T.list lists)) }
     ensures mode { connection.new.in_transaction ≡ false }
 {
     let rows = key.ask(connection, T::find_text())?;
@@ -252,8 +270,11 @@ pub fn list_rows<T: Listed, S: Alter>(
     requires alone { connection.old.in_transaction ≡ false }
     ensures kept { IsUnchanged (state S.Store connection.old) (state S.Store connection.new) }
     ensures gives_up { IfErr result (λ fault. fault ≡ F20) }
-    ensures open { HasCleanDisk (state S.Store connection.new) → OnOk result (IsTrue (state S.Store connection.new).is_open) }
-    ensures rows { HasCleanDisk (state S.Store connection.new) → (lists : Lists) → IsKeeping (state S.Store connection.old) lists → IfOk result (λ rows. rows.items ≡ map T.stored (filter (T.is_in part) (T.list lists))) }
+    ensures open { HasCleanDisk (state S.Store connection.new)
+        → OnOk result (IsTrue (state S.Store connection.new).is_open) }
+    ensures rows { HasCleanDisk (state S.Store connection.new) → (lists : Lists)
+        → IsKeeping (state S.Store connection.old) lists
+        → IfOk result (λ rows. rows.items ≡ map T.stored (filter (T.is_in part) (T.list lists))) }
     ensures mode { connection.new.in_transaction ≡ false }
 {
     part.ask(connection, T::list_text())

@@ -1,5 +1,6 @@
 -- What a query that asks for a whole table shows, whatever rows it has.
-use Rattle.std.proofs.Common.{◌≡◌, inl, inr, ◌≤◌, ◌+◌, ℕ, ℤ, zero, suc, true, false, List, [], ◌∷◌, map, filter, length, None, refl, sym, ap, ◌∙◌, subst, arith, Ordering, Less, IsPermutation}
+use Rattle.std.proofs.Common.{◌≡◌, inl, inr, ◌≤◌, ◌+◌, ℕ, ℤ, zero, suc, true, false, List, [], ◌∷◌, map, filter, length}
+use Rattle.std.proofs.Common.{None, refl, sym, ap, ◌∙◌, subst, arith, Ordering, Less, IsPermutation}
 use Rattle.std.specs.List.{AllByRecursion, list_all}
 use Rattle.std.proofs.lemmas.List.Sorted.{IsPermutation-map}
 use Rattle.sqlite.specs.declared.types.Value.TheVariants.{Null, Int}
@@ -37,10 +38,12 @@ cols at zero = []
 cols at (suc n) = col 1 at ∷ cols (at + 1) n
 
 -- a column that is shown, and past the last of them NULL, as the row itself has there
-shown_column : (params row : Row) (at n k : ℕ) → length row ≤ at + n → column (eval_all (cols at n) (params ∷ row ∷ [])) k ≡ column row (at + k)
+shown_column : (params row : Row) (at n k : ℕ) → length row ≤ at + n → column (eval_all (cols at n) (params ∷ row ∷ []))
+    k ≡ column row (at + k)
 shown_column params row at zero k short = sym (past_end row (at + k) (omega (arith, short)))
 shown_column params row at (suc n) zero short = ap (column row) (omega arith)
-shown_column params row at (suc n) (suc k) short = shown_column params row (at + 1) n k (omega (arith, short)) ∙ ap (column row) (omega arith)
+shown_column params row at (suc n) (suc k) short = shown_column params row (at + 1) n k (omega (arith, short))
+    ∙ ap (column row) (omega arith)
 
 -- the rows as they are shown, under their rowids
 abbrev pub filled : Row → ℕ → ℤ × Row → ℤ × Row
@@ -48,22 +51,27 @@ filled params n e = (e.0, eval_all (cols 1 n) (params ∷ raw_row e ∷ []))
 
 row_filled : (params : Row) (n : ℕ) (e : ℤ × Row) → length e.1 ≤ n → Alike (raw_row e) (raw_row (filled params n e))
 row_filled params n e short zero = refl
-row_filled params n e short (suc c) = let next : 1 + c ≡ suc c = omega arith in sym (shown_column params (raw_row e) 1 n c (omega (arith, short)) ∙ ap (column (raw_row e)) next)
+row_filled params n e short (suc c) = let next : 1 + c ≡ suc c =
+    omega arith in sym (shown_column params (raw_row e) 1 n c (omega (arith, short)) ∙ ap (column (raw_row e)) next)
 
-rows_filled : (params : Row) (n : ℕ) (raw : List (ℤ × Row)) → AllByRecursion (λ (e : ℤ × Row). length e.1 ≤ n) raw → AreAlike (map raw_row raw) (map raw_row (map (filled params n) raw))
+rows_filled : (params : Row) (n : ℕ) (raw : List (ℤ × Row)) → AllByRecursion (λ (e : ℤ × Row). length e.1 ≤ n) raw
+    → AreAlike (map raw_row raw) (map raw_row (map (filled params n) raw))
 rows_filled params n [] all = tt
 rows_filled params n (e ∷ raw) all = (row_filled params n e all.0, rows_filled params n raw all.1)
 
-rows_shown : (params : Row) (n : ℕ) (raw : List (ℤ × Row)) → map (λ r. eval_all (cols 1 n) (params ∷ r ∷ [])) (map raw_row raw) ≡ map (λ (e : ℤ × Row). e.1) (map (filled params n) raw)
+rows_shown : (params : Row) (n : ℕ) (raw : List (ℤ × Row)) → map (λ r. eval_all (cols 1 n) (params ∷ r ∷ []))
+    (map raw_row raw) ≡ map (λ (e : ℤ × Row). e.1) (map (filled params n) raw)
 rows_shown params n [] = refl
 rows_shown params n (e ∷ raw) = ap (λ l. eval_all (cols 1 n) (params ∷ raw_row e ∷ []) ∷ l) (rows_shown params n raw)
 
 -- the rowids stay apart
-none_filled : (params : Row) (n : ℕ) (a : ℤ) (raw : List (ℤ × Row)) → AllByRecursion (λ (b : ℤ × Row). same_id a b.0 ≡ false) raw → AllByRecursion (λ (b : ℤ × Row). same_id a b.0 ≡ false) (map (filled params n) raw)
+none_filled : (params : Row) (n : ℕ) (a : ℤ) (raw : List (ℤ × Row)) → AllByRecursion (λ (b : ℤ × Row). same_id a b.0
+    ≡ false) raw → AllByRecursion (λ (b : ℤ × Row). same_id a b.0 ≡ false) (map (filled params n) raw)
 none_filled params n a [] all = tt
 none_filled params n a (e ∷ raw) all = (all.0, none_filled params n a raw all.1)
 
-apart_filled : (params : Row) (n : ℕ) (raw : List (ℤ × Row)) → IsAscending (λ (a b : ℤ × Row). same_id a.0 b.0 ≡ false) raw → IsAscending (λ (a b : ℤ × Row). same_id a.0 b.0 ≡ false) (map (filled params n) raw)
+apart_filled : (params : Row) (n : ℕ) (raw : List (ℤ × Row)) → IsAscending (λ (a b : ℤ × Row). same_id a.0 b.0 ≡ false)
+    raw → IsAscending (λ (a b : ℤ × Row). same_id a.0 b.0 ≡ false) (map (filled params n) raw)
 apart_filled params n [] up = tt
 apart_filled params n (e ∷ raw) up = (none_filled params n e.0 raw up.0, apart_filled params n raw up.1)
 
@@ -72,15 +80,21 @@ filter_true [] = refl
 filter_true (x ∷ xs) = ap (λ l. x ∷ l) (filter_true xs)
 
 -- each row of the tree is shown, in some order
-pub shown_all : (at : ℕ) (project : List Term) (order : List (Term × Key)) (params : Row) (db : Trees) (rows : List Row) → IsAnswerAs Null (scan at [] project order) db params rows → IsPermutation (map (λ r. eval_all project (params ∷ r ∷ [])) (db at)) rows
+pub shown_all : (at : ℕ) (project : List Term) (order : List (Term × Key)) (params : Row) (db : Trees) (rows : List Row)
+    → IsAnswerAs Null (scan at [] project order) db params rows
+    → IsPermutation (map (λ r. eval_all project (params ∷ r ∷ [])) (db at)) rows
 shown_all at project order params db rows a =
     let q = scan at [] project order in
     let staged : a.staged ≡ map (λ r. params ∷ r ∷ []) (db at) =
-    a.grouped ∙ flat_map_if (λ r. list_all (holds (params ∷ r ∷ [])) []) (λ r. params ∷ r ∷ []) (db at) ∙ ap (map (λ r. params ∷ r ∷ [])) (filter_true (db at)) in
-    let kept : a.kept ≡ map (λ r. output q (params ∷ r ∷ [])) (db at) = a.distinct ∙ ap (map (output q)) staged ∙ map-map (output q) (λ r. params ∷ r ∷ []) (db at) in
+    a.grouped ∙ flat_map_if (λ r. list_all (holds (params ∷ r ∷ [])) []) (λ r. params ∷ r ∷ []) (db at)
+    ∙ ap (map (λ r. params ∷ r ∷ [])) (filter_true (db at)) in
+    let kept : a.kept ≡ map (λ r. output q (params ∷ r ∷ [])) (db at) =
+    a.distinct ∙ ap (map (output q)) staged ∙ map-map (output q) (λ r. params ∷ r ∷ []) (db at) in
     let both = IsPermutation-map (λ (o : Output). o.1) a.kept a.ordered a.same in
-    let left : map (λ (o : Output). o.1) a.kept ≡ map (λ r. eval_all project (params ∷ r ∷ [])) (db at) = ap (map (λ (o : Output). o.1)) kept ∙ map-map (λ (o : Output). o.1) (λ r. output q (params ∷ r ∷ [])) (db at) in
-    subst (λ l. IsPermutation (map (λ r. eval_all project (params ∷ r ∷ [])) (db at)) l) (sym a.shown) (subst (λ l. IsPermutation l (map (λ (o : Output). o.1) a.ordered)) left both)
+    let left : map (λ (o : Output). o.1) a.kept ≡ map (λ r. eval_all project (params ∷ r ∷ [])) (db at) =
+    ap (map (λ (o : Output). o.1)) kept ∙ map-map (λ (o : Output). o.1) (λ r. output q (params ∷ r ∷ [])) (db at) in
+    subst (λ l. IsPermutation (map (λ r. eval_all project (params ∷ r ∷ [])) (db at)) l) (sym a.shown)
+    (subst (λ l. IsPermutation l (map (λ (o : Output). o.1) a.ordered)) left both)
 
 all_at : {X : Type 0} (P : X → Type 0) (xs : List X) (x : X) → Has xs x → AllByRecursion P xs → P x
 all_at P [] x h all = absurd h
@@ -92,50 +106,75 @@ pub record AsksAll (schema : Schema) (table : Table) (order : List (Term × Key)
   pub plain : IsPlain (understood schema sql)
   pub unlisted : reads_listing schema sql ≡ false
   pub names : List (List ℕ)
-  pub is : command_of (understood schema sql) ≡ Select (record { lets = []; body = scan table.tree [] (cols 1 (length table.columns)) order }) names
+  pub is : command_of (understood schema sql)
+      ≡ Select (record { lets = []; body = scan table.tree [] (cols 1 (length table.columns)) order }) names
 
-module _ {X : Type 0} (stored : X → Row) (cmp : X → X → Ordering) (schema : Schema) (table : Table) (there : Has schema.tables table) (keyless : table.key ≡ None) (order : List (Term × Key)) (sql : List ℕ) (asks : AsksAll schema table order sql)
+module _ {X : Type 0} (stored : X → Row) (cmp : X → X → Ordering) (schema : Schema) (table : Table)
+    (there : Has schema.tables table) (keyless : table.key ≡ None) (order : List (Term × Key)) (sql : List ℕ)
+    (asks : AsksAll schema table order sql)
     (under : (trees : Trees) → overlay trees [] table.tree ≡ trees table.tree) where
   abbrev n : ℕ
   n = length table.columns
 
   -- a table with its rowids in order whose rows are shown as those of items that rise by key keeps the items
-  kept_by_answer : (db : Database) (rows : List Row) (items : List X) → db.schema ≡ schema → IsSound schema db.trees → HasRowids (db.trees table.tree) → Answers sql [] db rows → rows ≡ map stored items
+  kept_by_answer : (db : Database) (rows : List Row) (items : List X) → db.schema ≡ schema → IsSound schema db.trees
+      → HasRowids (db.trees table.tree) → Answers sql [] db rows → rows ≡ map stored items
       → IsAscending (λ a b. cmp a b ≡ Less) items → Keeps stored cmp (db.trees table.tree) items
   kept_by_answer db rows items has sound whole h are rising =
-      let read = subst (λ c. Reads c db [] rows) (ap (λ s. command_of (understood s sql)) has ∙ asks.is) (h (subst (λ s. IsPlain (understood s sql)) (sym has) asks.plain) (ap (λ s. reads_listing s sql) has ∙ asks.unlisted)) in
+      let read = subst (λ c. Reads c db [] rows) (ap (λ s. command_of (understood s sql)) has ∙ asks.is)
+      (h (subst (λ s. IsPlain (understood s sql)) (sym has) asks.plain) (ap (λ s. reads_listing s sql) has
+      ∙ asks.unlisted)) in
       let tree = db.trees table.tree in
       let show = λ (r : Row). eval_all (cols 1 n) ([] ∷ r ∷ []) in
-      let seen : IsPermutation (map show tree) rows = subst (λ t. IsPermutation (map show t) rows) (under db.trees) (shown_all table.tree (cols 1 n) order [] (overlay db.trees []) rows (read.answer Null)) in
+      let seen : IsPermutation (map show tree) rows = subst (λ t. IsPermutation (map show t) rows) (under db.trees)
+      (shown_all table.tree (cols 1 n) order [] (overlay db.trees []) rows (read.answer Null)) in
       let raw = raw_of tree whole in
-      let typed = all_at (λ (t : Table). AllByRecursion (λ row. Rattle.sqlite_schema.specs.Rules.passes Datatype schema db.trees t row ≡ true) (db.trees t.tree)) schema.tables table there (sound.obeys.rules Datatype) in
+      let typed = all_at (λ (t : Table). AllByRecursion (λ row. Rattle.sqlite_schema.specs.Rules.passes Datatype schema
+      db.trees t row ≡ true) (db.trees t.tree)) schema.tables table there (sound.obeys.rules Datatype) in
       let short = row_columns schema table db.trees raw.0 keyless (subst (AllByRecursion _) raw.1 typed) in
-      let near : AreAlike tree (map raw_row (map (filled [] n) raw.0)) = subst (λ l. AreAlike l (map raw_row (map (filled [] n) raw.0))) (sym raw.1) (rows_filled [] n raw.0 short) in
-      let shown : IsPermutation (map (λ (e : ℤ × Row). e.1) (map (filled [] n) raw.0)) rows = subst (λ l. IsPermutation l rows) (ap (map show) raw.1 ∙ rows_shown [] n raw.0) seen in
-      kept_by_rows stored cmp tree (map (filled [] n) raw.0) rows items near (apart_filled [] n raw.0 raw.2) shown are rising
+      let near : AreAlike tree (map raw_row (map (filled [] n) raw.0)) =
+      subst (λ l. AreAlike l (map raw_row (map (filled [] n) raw.0))) (sym raw.1) (rows_filled [] n raw.0 short) in
+      let shown : IsPermutation (map (λ (e : ℤ × Row). e.1) (map (filled [] n) raw.0)) rows =
+      subst (λ l. IsPermutation l rows) (ap (map show) raw.1 ∙ rows_shown [] n raw.0) seen in
+      kept_by_rows stored cmp tree (map (filled [] n) raw.0) rows items near (apart_filled [] n raw.0 raw.2) shown are
+      rising
 
-  pub shows_table : (key : X → Row) → ((id : ℤ) (x : X) → output (scan table.tree [] (cols 1 n) order) ([] ∷ (Int id ∷ stored x) ∷ []) ≡ (key x, stored x))
+  pub shows_table : (key : X → Row) → ((id : ℤ) (x : X) → output (scan table.tree [] (cols 1 n) order)
+      ([] ∷ (Int id ∷ stored x) ∷ []) ≡ (key x, stored x))
       → ((a b : X) → output_cmp (scan table.tree [] (cols 1 n) order) (key a, stored a) (key b, stored b) ≡ cmp a b)
-      → (db : Database) (rows : List Row) → db.schema ≡ schema → IsSound schema db.trees → Answers sql [] db rows → ShowsTable stored cmp (db.trees table.tree) rows
+      → (db : Database) (rows : List Row) → db.schema ≡ schema → IsSound schema db.trees → Answers sql [] db rows
+      → ShowsTable stored cmp (db.trees table.tree) rows
   shows_table key out ranks db rows has sound h = record {
-    shows = λ items k. shown_kept stored cmp schema table.tree sql asks.plain asks.unlisted [] (cols 1 n) order asks.names asks.is [] (λ x. true) (λ id x. refl) key stored out ranks under db items rows has k h ∙ ap (map stored) (filter_true items);
+    shows = λ items k. shown_kept stored cmp schema table.tree sql asks.plain asks.unlisted [] (cols 1 n) order
+        asks.names asks.is [] (λ x. true) (λ id x. refl) key stored out ranks under db items rows has k h
+        ∙ ap (map stored) (filter_true items);
     keeps = λ whole items rising are. kept_by_answer db rows items has sound whole h are rising;
   }
 
 -- a text that asks for the whole table under the schema of today alone
-pub plain_present : (table : Table) (order : List (Term × Key)) (sql : List ℕ) → AsksAll schema table order sql → (k : Schema) → IsPresent k → IsPlain (understood k sql)
+pub plain_present : (table : Table) (order : List (Term × Key)) (sql : List ℕ) → AsksAll schema table order sql
+    → (k : Schema) → IsPresent k → IsPlain (understood k sql)
 plain_present table order sql now k is = subst (λ s. IsPlain (understood s sql)) (sym is) now.plain
 
 -- a text that asks for the whole table under either schema
-module _ (table : Table) (order : List (Term × Key)) (sql : List ℕ) (now : AsksAll schema table order sql) (first : AsksAll first_schema table order sql) where
+module _ (table : Table) (order : List (Term × Key)) (sql : List ℕ) (now : AsksAll schema table order sql)
+    (first : AsksAll first_schema table order sql) where
   pub plain_known : (k : Schema) → IsKnown k → IsPlain (understood k sql)
   plain_known k (inl is) = subst (λ s. IsPlain (understood s sql)) (sym is) now.plain
   plain_known k (inr is) = subst (λ s. IsPlain (understood s sql)) (sym is) first.plain
 
-module _ {X : Type 0} (stored : X → Row) (cmp : X → X → Ordering) (table : Table) (there : Has schema.tables table) (there_first : Has first_schema.tables table) (keyless : table.key ≡ None) (order : List (Term × Key)) (sql : List ℕ)
-    (now : AsksAll schema table order sql) (first : AsksAll first_schema table order sql) (under : (trees : Trees) → overlay trees [] table.tree ≡ trees table.tree) (key : X → Row)
-    (out : (id : ℤ) (x : X) → output (scan table.tree [] (cols 1 (length table.columns)) order) ([] ∷ (Int id ∷ stored x) ∷ []) ≡ (key x, stored x))
-    (ranks : (a b : X) → output_cmp (scan table.tree [] (cols 1 (length table.columns)) order) (key a, stored a) (key b, stored b) ≡ cmp a b) where
-  pub shows_known : (db : Database) (rows : List Row) → IsKnown db.schema → IsSound db.schema db.trees → Answers sql [] db rows → ShowsTable stored cmp (db.trees table.tree) rows
-  shows_known db rows (inl is) sound = shows_table stored cmp schema table there keyless order sql now under key out ranks db rows is (subst (λ k. IsSound k db.trees) is sound)
-  shows_known db rows (inr is) sound = shows_table stored cmp first_schema table there_first keyless order sql first under key out ranks db rows is (subst (λ k. IsSound k db.trees) is sound)
+module _ {X : Type 0} (stored : X → Row) (cmp : X → X → Ordering) (table : Table) (there : Has schema.tables table)
+    (there_first : Has first_schema.tables table) (keyless : table.key ≡ None) (order : List (Term × Key))
+    (sql : List ℕ)
+    (now : AsksAll schema table order sql) (first : AsksAll first_schema table order sql) (under : (trees : Trees)
+    → overlay trees [] table.tree ≡ trees table.tree) (key : X → Row)
+    (out : (id : ℤ) (x : X) → output (scan table.tree [] (cols 1 (length table.columns)) order)
+    ([] ∷ (Int id ∷ stored x) ∷ []) ≡ (key x, stored x))
+    (ranks : (a b : X) → output_cmp (scan table.tree [] (cols 1 (length table.columns)) order) (key a, stored a)
+    (key b, stored b) ≡ cmp a b) where
+  pub shows_known : (db : Database) (rows : List Row) → IsKnown db.schema → IsSound db.schema db.trees
+      → Answers sql [] db rows → ShowsTable stored cmp (db.trees table.tree) rows
+  shows_known db rows (inl is) sound = shows_table stored cmp schema table there keyless order sql now under key out
+      ranks db rows is (subst (λ k. IsSound k db.trees) is sound)
+  shows_known db rows (inr is) sound = shows_table stored cmp first_schema table there_first keyless order sql first
+      under key out ranks db rows is (subst (λ k. IsSound k db.trees) is sound)

@@ -35,4 +35,5 @@ pub record ShowsTable {X : Type 0} (stored : X → Row) (cmp : X → X → Order
   -- where the table keeps items, the rows are theirs
   pub shows : (items : List X) → Keeps stored cmp tree items → rows ≡ map stored items
   -- a table with its rowids in order keeps the items whose rows are shown, if these rise by key
-  pub keeps : HasRowids tree → (items : List X) → IsAscending (λ a b. cmp a b ≡ Less) items → rows ≡ map stored items → Keeps stored cmp tree items
+  pub keeps : HasRowids tree → (items : List X) → IsAscending (λ a b. cmp a b ≡ Less) items → rows ≡ map stored items
+      → Keeps stored cmp tree items

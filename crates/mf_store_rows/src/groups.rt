@@ -38,7 +38,8 @@ pub trait Group: Sized {
 
     /// What the tables keep, and none where they keep nothing that records can hold. Each table that is read is told.
     ///
-    /// The clauses on what is read speak of a connection whose tables are those of a schema with these tables, whatever rows stand there.
+    /// The clauses on what is read speak of a connection whose tables are those of a schema with these tables, whatever
+    /// rows stand there.
     fn read_group<S: Alter, P: Progress>(
         alloc: Global,
         connection: &mut Connection<S>,
@@ -47,13 +48,18 @@ pub trait Group: Sized {
         requires alone { connection.old.in_transaction ≡ false }
         ensures kept { IsUnchangedUnder IsUnder (state S.Store connection.old) (state S.Store connection.new) }
         ensures gives_up { IfErr result (λ fault. fault ≡ F20) }
-        ensures open { HasCleanDisk (state S.Store connection.new) → OnOk result (IsTrue (state S.Store connection.new).is_open) }
+        ensures open { HasCleanDisk (state S.Store connection.new)
+            → OnOk result (IsTrue (state S.Store connection.new).is_open) }
         ensures only { HasCleanDisk (state S.Store connection.new) → IsUnder (state S.Store connection.old).now.schema
-            → IfOk result (λ x. IfSome x (λ group. (kept : Rows) → Keeps (state S.Store connection.old).now.trees kept → rows group ≡ kept)) }
-        ensures keeps { HasCleanDisk (state S.Store connection.new) → IsUnder (state S.Store connection.old).now.schema → HaveRowids (state S.Store connection.old).now.trees
-            → IfOk result (λ x. IfSome x (λ group. DoRise (rows group) → Keeps (state S.Store connection.old).now.trees (rows group))) }
+            → IfOk result (λ x. IfSome x (λ group. (kept : Rows) → Keeps (state S.Store connection.old).now.trees kept
+            → rows group ≡ kept)) }
+        ensures keeps { HasCleanDisk (state S.Store connection.new) → IsUnder (state S.Store connection.old).now.schema
+            → HaveRowids (state S.Store connection.old).now.trees
+            → IfOk result (λ x. IfSome x (λ group. DoRise (rows group) → Keeps (state S.Store connection.old).now.trees
+            (rows group))) }
         ensures none { HasCleanDisk (state S.Store connection.new) → IsUnder (state S.Store connection.old).now.schema
-            → IfOk result (λ x. IfNone x ((kept : Rows) → CanBeHeld kept → ¬ Keeps (state S.Store connection.old).now.trees kept)) }
+            → IfOk result (λ x. IfNone x ((kept : Rows) → CanBeHeld kept
+            → ¬ Keeps (state S.Store connection.old).now.trees kept)) }
         ensures mode { connection.new.in_transaction ≡ false };
 }
 

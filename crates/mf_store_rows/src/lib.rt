@@ -1,6 +1,7 @@
 //! The rows of the program's tables as records, whatever rows stand there: each table read whole.
 //!
-//! A row that no record can hold is distinguished from running out of memory. What institution the records are is left to the crate above.
+//! A row that no record can hold is distinguished from running out of memory. What institution the records are is left
+//! to the crate above.
 #![tactic(auto)]
 
 mod groups;

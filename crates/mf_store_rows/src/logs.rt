@@ -4,8 +4,8 @@ use std::fs;
 use std::io::{self, ErrorKind};
 use std::rt::HostRuntime;
 
-/// How long a log without a page is at most, in bytes: its header and the header of a page. That of a file that is being
-/// made is shorter.
+/// How long a log without a page is at most, in bytes: its header and the header of a page. That of a file that is
+/// being made is shorter.
 const WITHOUT_PAGE: u64 = 56;
 
 /// The path of the log beside a file; it lies where a link to the file leads.

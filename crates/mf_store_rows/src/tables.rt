@@ -92,7 +92,9 @@ impl Whole for ProductRow {
     ghost IsUnder = { IsKnown };
 
     fn every_text() -> &'static str {
-        "SELECT number, name, method, rate, frequency, every, principal_grace, interest_grace, min_principal, max_principal, min_periods, max_periods, strategy, disbursement_charge, instalment_charge, overdue_charge, retired FROM products ORDER BY number"
+        "SELECT number, name, method, rate, frequency, every, principal_grace, interest_grace, min_principal, \
+         max_principal, min_periods, max_periods, strategy, disbursement_charge, instalment_charge, overdue_charge, \
+         retired FROM products ORDER BY number"
     }
 }
 
@@ -107,7 +109,8 @@ impl Whole for LoanRow {
     ghost IsUnder = { IsKnown };
 
     fn every_text() -> &'static str {
-        "SELECT office, number, client, product, principal, periods, stage, approved, disbursed FROM loans ORDER BY office, number"
+        "SELECT office, number, client, product, principal, periods, stage, approved, \
+         disbursed FROM loans ORDER BY office, number"
     }
 }
 
@@ -122,7 +125,8 @@ impl Whole for EntryRow {
     ghost IsUnder = { IsKnown };
 
     fn every_text() -> &'static str {
-        "SELECT office, loan, seq, kind, day, amount, instalment, portion, receipt, staff, reversed FROM entries ORDER BY office, loan, seq"
+        "SELECT office, loan, seq, kind, day, amount, instalment, portion, receipt, staff, \
+         reversed FROM entries ORDER BY office, loan, seq"
     }
 }
 
@@ -152,7 +156,10 @@ impl Whole for InstalmentRow {
     ghost IsUnder = { IsPresent };
 
     fn every_text() -> &'static str {
-        "SELECT office, loan, number, due, owed_penalty, paid_penalty, waived_penalty, written_off_penalty, owed_fee, paid_fee, waived_fee, written_off_fee, owed_interest, paid_interest, waived_interest, written_off_interest, owed_principal, paid_principal, waived_principal, written_off_principal FROM instalments ORDER BY office, loan, number"
+        "SELECT office, loan, number, due, owed_penalty, paid_penalty, waived_penalty, written_off_penalty, \
+         owed_fee, paid_fee, waived_fee, written_off_fee, owed_interest, paid_interest, waived_interest, \
+         written_off_interest, owed_principal, paid_principal, waived_principal, \
+         written_off_principal FROM instalments ORDER BY office, loan, number"
     }
 }
 
@@ -167,6 +174,7 @@ impl Whole for ShareRow {
     ghost IsUnder = { IsPresent };
 
     fn every_text() -> &'static str {
-        "SELECT office, loan, seq, place, instalment, portion, how, amount FROM shares ORDER BY office, loan, seq, place"
+        "SELECT office, loan, seq, place, instalment, portion, how, amount FROM shares ORDER BY office, loan, seq, \
+         place"
     }
 }

@@ -41,13 +41,15 @@ pub trait Whole: Table {
     /// The text that shows the whole table in the order of its key, under each of these schemas.
     fn every_text() -> &'static str
         ensures plain { (k : Schema) → IsUnder k → IsPlain (understood k result.now) }
-        ensures shows { (db : Database) (rows : List SqlRow) → IsUnder db.schema → IsSound db.schema db.trees → Answers result.now [] db rows
+        ensures shows { (db : Database) (rows : List SqlRow) → IsUnder db.schema → IsSound db.schema db.trees
+            → Answers result.now [] db rows
             → ShowsTable Self.Table.stored by (db.trees tree) rows };
 }
 
 /// What the table keeps, and none where it keeps nothing that records can hold.
 ///
-/// The clauses on what is read speak of a connection whose tables are those of a schema with this table, whatever rows stand there.
+/// The clauses on what is read speak of a connection whose tables are those of a schema with this table, whatever rows
+/// stand there.
 pub fn every<T: Whole + Drop, S: Alter>(
     alloc: Global,
     connection: &mut Connection<S>,
@@ -55,15 +57,21 @@ pub fn every<T: Whole + Drop, S: Alter>(
     requires alone { connection.old.in_transaction ≡ false }
     ensures kept { IsUnchangedUnder T.IsUnder (state S.Store connection.old) (state S.Store connection.new) }
     ensures gives_up { IfErr result (λ fault. fault ≡ F20) }
-    ensures open { HasCleanDisk (state S.Store connection.new) → OnOk result (IsTrue (state S.Store connection.new).is_open) }
+    ensures open { HasCleanDisk (state S.Store connection.new)
+        → OnOk result (IsTrue (state S.Store connection.new).is_open) }
 
     // What the table keeps is this; and a table whose rowids are in order keeps this, if it rises by key.
     ensures only { HasCleanDisk (state S.Store connection.new) → T.IsUnder (state S.Store connection.old).now.schema
-        → IfOk result (λ x. IfSome x (λ rs. (items : List T) → Keeps T.Table.stored T.by ((state S.Store connection.old).now.trees T.tree) items → rs.items ≡ items)) }
-    ensures keeps { HasCleanDisk (state S.Store connection.new) → T.IsUnder (state S.Store connection.old).now.schema → HasRowids ((state S.Store connection.old).now.trees T.tree)
-        → IfOk result (λ x. IfSome x (λ rs. IsAscending (λ a b. T.by a b ≡ Less) rs.items → Keeps T.Table.stored T.by ((state S.Store connection.old).now.trees T.tree) rs.items)) }
+        → IfOk result (λ x. IfSome x (λ rs. (items : List T)
+        → Keeps T.Table.stored T.by ((state S.Store connection.old).now.trees T.tree) items → rs.items ≡ items)) }
+    ensures keeps { HasCleanDisk (state S.Store connection.new) → T.IsUnder (state S.Store connection.old).now.schema
+        → HasRowids ((state S.Store connection.old).now.trees T.tree)
+        → IfOk result (λ x. IfSome x (λ rs. IsAscending (λ a b. T.by a b ≡ Less) rs.items
+        → Keeps T.Table.stored T.by ((state S.Store connection.old).now.trees T.tree) rs.items)) }
     ensures none { HasCleanDisk (state S.Store connection.new) → T.IsUnder (state S.Store connection.old).now.schema
-        → IfOk result (λ x. IfNone x ((items : List T) → AllByRecursion (HasFields T.Table.fields) (map T.Table.stored items) → ¬ Keeps T.Table.stored T.by ((state S.Store connection.old).now.trees T.tree) items)) }
+        → IfOk result (λ x. IfNone x ((items : List T) → AllByRecursion (HasFields T.Table.fields)
+        (map T.Table.stored items) → ¬ Keeps T.Table.stored T.by ((state S.Store connection.old).now.trees T.tree)
+        items)) }
     ensures mode { connection.new.in_transaction ≡ false }
 {
     let _schema = connection.schema();

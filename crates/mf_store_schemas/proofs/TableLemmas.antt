@@ -5,7 +5,8 @@ use Rattle.mf_store_schemas.specs.Described.{HasKeys, HasNoRules, column_of, tab
 use Rattle.mf_store_schemas.specs.declared.words.TableWords.{TableWords}
 
 module _ (w : TableWords) (found : Table) where
-  pub table_is : found.tree ≡ w.tree → found.name ≡ w.name.now → found.columns ≡ map column_of w.columns.now → HasKeys w found → HasNoRules found → found ≡ table_of w
+  pub table_is : found.tree ≡ w.tree → found.name ≡ w.name.now → found.columns ≡ map column_of w.columns.now
+      → HasKeys w found → HasNoRules found → found ≡ table_of w
   table_is tree name columns keys rules = λ t. record {
     name = name t;
     tree = tree t;
@@ -28,7 +29,11 @@ module _ (w : TableWords) (found : Table) where
   columns_are is = ap (λ (t : Table). t.columns) is
 
   pub keys_are : found ≡ table_of w → HasKeys w found
-  keys_are is = record { primary = ap (λ (t : Table). t.primary) is; uniques = ap (λ (t : Table). t.uniques) is; orders = ap (λ (t : Table). t.orders) is }
+  keys_are is = record {
+    primary = ap (λ (t : Table). t.primary) is;
+    uniques = ap (λ (t : Table). t.uniques) is;
+    orders = ap (λ (t : Table). t.orders) is;
+  }
 
   pub rules_are : found ≡ table_of w → HasNoRules found
   rules_are is = record {

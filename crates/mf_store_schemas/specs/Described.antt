@@ -22,7 +22,8 @@ column_of (MaybeText name) = maybe_text name.now
 
 -- a table with these columns and no rule but its keys
 abbrev pub table_of : TableWords → Table
-table_of w = table_with w.tree w.name.now (map column_of w.columns.now) w.primary.now (map (λ key. key.now) w.uniques.now)
+table_of w =
+    table_with w.tree w.name.now (map column_of w.columns.now) w.primary.now (map (λ key. key.now) w.uniques.now)
 
 -- the plain order, for each key
 abbrev pub plain_orders : List (Bor (List ℕ)) → List Order

@@ -74,8 +74,8 @@ fn are_indexes(found: &[Index], wanted: &[IndexWords]) -> bool
     }
 }
 
-/// Whether a schema is the one that the words describe: its tables, their columns, types, keys and rules, the indexes of the keys, and
-/// nothing else.
+/// Whether a schema is the one that the words describe: its tables, their columns, types, keys and rules, the indexes
+/// of the keys, and nothing else.
 pub fn is_schema(found: &Schema, tables: &[TableWords], indexes: &[IndexWords]) -> bool
     ensures { IsTrue result ↔ (found.now ≡ schema_of tables.now indexes.now) }
 {

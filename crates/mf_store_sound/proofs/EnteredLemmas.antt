@@ -1,5 +1,6 @@
 -- The entries of one loan, by their rows.
-use Rattle.std.proofs.Common.{◌≡◌, ◌<◌, ◌≤◌, ◌+◌, ◌∙◌, ℕ, zero, suc, Bool, List, [], ◌∷◌, map, length, IsTrue, sym, ap, subst, arith, All}
+use Rattle.std.proofs.Common.{◌≡◌, ◌<◌, ◌≤◌, ◌+◌, ◌∙◌, ℕ, zero, suc, Bool, List, [], ◌∷◌, map, length, IsTrue, sym, ap}
+use Rattle.std.proofs.Common.{subst, arith, All}
 use Rattle.std.specs.List.{AllByRecursion}
 use Rattle.std.proofs.lemmas.List.{length-map}
 use Rattle.std.proofs.lemmas.List.Elements.{All-nil, All-cons, All-head, All-tail}
@@ -18,16 +19,22 @@ use Rattle.mf_store_sound.proofs.EntryLemmas.{IsPlainEntry, gathered, parted}
 abbrev HasNumber : ℕ → Entry → Type 0
 HasNumber number e = e.seq ≡ number
 
-numbers_at : (first : ℕ) (es : List Entry) → AllFrom HasNumber first es → (i : ℕ) → i < length es → (entry_at es i).seq ≡ first + i
+numbers_at : (first : ℕ) (es : List Entry) → AllFrom HasNumber first es → (i : ℕ) → i < length es → (entry_at es i).seq
+    ≡ first + i
 numbers_at first [] all i below = absurd (omega (arith, below))
 numbers_at first (e ∷ es) all zero below = let own : e.seq ≡ first = all.0 in omega (arith, own)
-numbers_at first (e ∷ es) all (suc i) below = let more : (entry_at es i).seq ≡ (first + 1) + i = numbers_at (first + 1) es all.1 i (omega (arith, below)) in omega (arith, more)
+numbers_at first (e ∷ es) all (suc i) below = let more : (entry_at es i).seq ≡ (first + 1) + i =
+    numbers_at (first + 1) es all.1 i (omega (arith, below)) in omega (arith, more)
 
-numbers_from : (first : ℕ) (es : List Entry) → ((i : ℕ) → i < length es → (entry_at es i).seq ≡ first + i) → AllFrom HasNumber first es
+numbers_from : (first : ℕ) (es : List Entry) → ((i : ℕ) → i < length es → (entry_at es i).seq ≡ first + i)
+    → AllFrom HasNumber first es
 numbers_from first [] each = tt
 numbers_from first (e ∷ es) each =
-    let own : e.seq ≡ first + 0 = each 0 (omega arith) in
-    (omega (arith, own), numbers_from (first + 1) es (λ i below. let more : (entry_at es i).seq ≡ first + suc i = each (suc i) (omega (arith, below)) in omega (arith, more)))
+    let own : e.seq ≡ first + 0 = each 0 (omega arith) in (
+      omega (arith, own),
+      numbers_from (first + 1) es (λ i below. let more : (entry_at es i).seq ≡ first
+          + suc i = each (suc i) (omega (arith, below)) in omega (arith, more)),
+    )
 
 module _ (today day n : ℕ) where
   lawful_all : (es : List Entry) → AllByRecursion (IsPlainEntry today day n) es → All (IsEntry n day) es
@@ -36,12 +43,23 @@ module _ (today day n : ℕ) where
 
   entered_all : (es : List Entry) → AllByRecursion (IsPlainEntry today day n) es → AllByRecursion (IsEnteredBy today) es
   entered_all [] all = tt
-  entered_all (e ∷ es) all = (record { readable = all.0.readable; entered = all.0.entered; receipt = all.0.receipt }, entered_all es all.1)
+  entered_all (e ∷ es) all = (
+    record { readable = all.0.readable; entered = all.0.entered; receipt = all.0.receipt },
+    entered_all es all.1,
+  )
 
-  plain_all : (es : List Entry) → All (IsEntry n day) es → AllByRecursion (IsEnteredBy today) es → AllByRecursion (IsPlainEntry today day n) es
+  plain_all : (es : List Entry) → All (IsEntry n day) es → AllByRecursion (IsEnteredBy today) es
+      → AllByRecursion (IsPlainEntry today day n) es
   plain_all [] lawful all = tt
-  plain_all (e ∷ es) lawful all =
-      (record { readable = all.0.readable; lawful = All-head (IsEntry n day) e es lawful; entered = all.0.entered; receipt = all.0.receipt }, plain_all es (All-tail (IsEntry n day) e es lawful) all.1)
+  plain_all (e ∷ es) lawful all = (
+    record {
+      readable = all.0.readable;
+      lawful = All-head (IsEntry n day) e es lawful;
+      entered = all.0.entered;
+      receipt = all.0.receipt;
+    },
+    plain_all es (All-tail (IsEntry n day) e es lawful) all.1,
+  )
 
   readable_all : (es : List Entry) → AllByRecursion (IsPlainEntry today day n) es → AllByRecursion IsReadable es
   readable_all [] all = tt
@@ -50,7 +68,8 @@ module _ (today day n : ℕ) where
   module _ (x m : ℕ) (rows : List EntryRow) where
     -- what the test of the seals says of the entries
     abbrev Seals : Bool → Type 0
-    Seals b = (x m : ℕ) (entries : List Entry) → AllByRecursion IsReadable entries → map (entry_in x m) entries ≡ rows → b ≡ are_seals_last entries
+    Seals b = (x m : ℕ) (entries : List Entry) → AllByRecursion IsReadable entries → map (entry_in x m) entries ≡ rows
+        → b ≡ are_seals_last entries
 
     abbrev pub AreNumbered : Type 0
     AreNumbered = (length rows ≤ 9999) × AllFrom (IsEntryRow today day n x m) 1 rows
@@ -59,14 +78,16 @@ module _ (today day n : ℕ) where
     loan_entries b h seals t =
         let r = gathered today day n x m 1 rows h.1 in
         let many : length r.entries ≡ length rows = sym (length-map r.entries (entry_in x m)) ∙ ap length r.rows_are in
-        let numbers : (i : ℕ) → i < length r.entries → (entry_at r.entries i).seq ≡ i + 1 = λ i below. (let own = numbers_at 1 r.entries r.numbers i below in omega (arith, own)) in
+        let numbers : (i : ℕ) → i < length r.entries → (entry_at r.entries i).seq ≡ i + 1 =
+        λ i below. (let own = numbers_at 1 r.entries r.numbers i below in omega (arith, own)) in
         record {
           entries = r.entries;
           lawful = record {
             numbers = numbers;
             few = subst (λ k. k ≤ 9999) (sym many) h.0;
             each = lawful_all r.entries r.each;
-            seal_last = seals_last r.entries numbers (sym (seals x m r.entries (readable_all r.entries r.each) r.rows_are) ∙ t);
+            seal_last = seals_last r.entries numbers (sym (seals x m r.entries (readable_all r.entries r.each)
+                r.rows_are) ∙ t);
           };
           each = entered_all r.entries r.each;
           rows_are = r.rows_are;
@@ -85,4 +106,5 @@ module _ (today day n : ℕ) where
         )
 
     pub seals_of : (b : Bool) → Seals b → AreLoanEntries today day n x m rows → IsTrue b
-    seals_of b seals h = seals x m h.entries (readable_all h.entries (plain_all h.entries h.lawful.each h.each)) h.rows_are ∙ seals_pass h.entries h.lawful.numbers h.lawful.seal_last
+    seals_of b seals h = seals x m h.entries (readable_all h.entries (plain_all h.entries h.lawful.each h.each))
+        h.rows_are ∙ seals_pass h.entries h.lawful.numbers h.lawful.seal_last

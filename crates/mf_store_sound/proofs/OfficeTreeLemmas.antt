@@ -1,5 +1,6 @@
 -- Rows of offices that are a tree, told row by row.
-use Rattle.std.proofs.Common.{◌≡◌, ◌↔◌, ◌<◌, ◌≤◌, ◌∙◌, ℕ, Bool, true, false, cond, List, [], ◌∷◌, map, Option, Some, None, refl, sym, ap, subst, arith, ◌==◌, true≢false}
+use Rattle.std.proofs.Common.{◌≡◌, ◌↔◌, ◌<◌, ◌≤◌, ◌∙◌, ℕ, Bool, true, false, cond, List, [], ◌∷◌, map, Option, Some}
+use Rattle.std.proofs.Common.{None, refl, sym, ap, subst, arith, ◌==◌, true≢false}
 use Rattle.std.specs.List.{AllByRecursion}
 use Rattle.std.specs.Option.{is_some, option_map}
 use Rattle.std.proofs.lemmas.Bool.Decides.{nat_tests}
@@ -10,12 +11,14 @@ use Rattle.mf_model.specs.Institution.{office_at}
 use Rattle.mf_model.specs.Tree.{Above, Ascending, parent_of, is_there}
 use Rattle.mf_store_records.specs.declared.offices.OfficeRow.{OfficeRow}
 use Rattle.mf_store_accounts.specs.Flat.{above_of, office_under}
-use Rattle.mf_store_sound.specs.Offices.{IsNumberedAndNamed, AreOffices, AscendFrom, row_at, HasParentsText, IsOfficeRow, AreOfficeRows}
+use Rattle.mf_store_sound.specs.Offices.{IsNumberedAndNamed, AreOffices, AscendFrom, row_at, HasParentsText}
+use Rattle.mf_store_sound.specs.Offices.{IsOfficeRow, AreOfficeRows}
 use Rattle.mf_store_accounts.specs.Parts.{office_of}
 
 -- texts that grow by parents are the keys of a tree, and only they
 abbrev pub KeysLaw : Type 0
-KeysLaw = (there : ℕ → Bool) (parents : ℕ → Option ℕ) (text : ℕ → List ℕ) → GrowsByParents there parents text ↔ (IsTreeOf there parents × ((x : ℕ) → there x ≡ true → text x ≡ key_of parents x))
+KeysLaw = (there : ℕ → Bool) (parents : ℕ → Option ℕ) (text : ℕ → List ℕ) → GrowsByParents there parents text
+    ↔ (IsTreeOf there parents × ((x : ℕ) → there x ≡ true → text x ≡ key_of parents x))
 
 abbrev text_in : Option OfficeRow → List ℕ
 text_in None = []
@@ -25,7 +28,8 @@ office_found : (rows : List OfficeRow) (x : ℕ) → office_at x (map office_of 
 office_found [] x = refl
 office_found (r ∷ rs) x = go (r.number == x) (office_found rs x)
   where
-    go : (b : Bool) → office_at x (map office_of rs) ≡ option_map office_of (row_at x rs) → cond b (Some (office_of r)) (office_at x (map office_of rs)) ≡ option_map office_of (cond b (Some r) (row_at x rs))
+    go : (b : Bool) → office_at x (map office_of rs) ≡ option_map office_of (row_at x rs) → cond b (Some (office_of r))
+        (office_at x (map office_of rs)) ≡ option_map office_of (cond b (Some r) (row_at x rs))
     go true e = refl
     go false e = e
 
@@ -33,17 +37,21 @@ parent_found : (rows : List OfficeRow) (x : ℕ) → parent_of (map office_of ro
 parent_found [] x = refl
 parent_found (r ∷ rs) x = go (r.number == x) (parent_found rs x)
   where
-    go : (b : Bool) → parent_of (map office_of rs) x ≡ above_of (row_at x rs) → cond b r.parent (parent_of (map office_of rs) x) ≡ above_of (cond b (Some r) (row_at x rs))
+    go : (b : Bool) → parent_of (map office_of rs) x ≡ above_of (row_at x rs)
+        → cond b r.parent (parent_of (map office_of rs) x) ≡ above_of (cond b (Some r) (row_at x rs))
     go true e = refl
     go false e = e
 
 -- a row that is found is one of the rows
-row_found : (P : OfficeRow → Type 0) (rows : List OfficeRow) (x : ℕ) (r : OfficeRow) → AllByRecursion P rows → row_at x rows ≡ Some r → P r × (r.number ≡ x)
+row_found : (P : OfficeRow → Type 0) (rows : List OfficeRow) (x : ℕ) (r : OfficeRow) → AllByRecursion P rows
+    → row_at x rows ≡ Some r → P r × (r.number ≡ x)
 row_found P [] x r all e = absurd (cc)
 row_found P (o ∷ os) x r all e = go (o.number == x) refl (row_found P os x r all.1) e
   where
-    go : (b : Bool) → (o.number == x) ≡ b → (row_at x os ≡ Some r → P r × (r.number ≡ x)) → cond b (Some o) (row_at x os) ≡ Some r → P r × (r.number ≡ x)
-    go true t more e = let same : o ≡ r = cc in let its : o.number ≡ x = grind (arith, nat_tests) in (subst P same all.0, ap (λ (q : OfficeRow). q.number) (sym same) ∙ its)
+    go : (b : Bool) → (o.number == x) ≡ b → (row_at x os ≡ Some r → P r × (r.number ≡ x)) → cond b (Some o)
+        (row_at x os) ≡ Some r → P r × (r.number ≡ x)
+    go true t more e = let same : o ≡ r = cc in let its : o.number ≡ x =
+        grind (arith, nat_tests) in (subst P same all.0, ap (λ (q : OfficeRow). q.number) (sym same) ∙ its)
     go false t more e = more e
 
 some_row : (o : Option OfficeRow) → is_some o ≡ true → (r : OfficeRow) × (o ≡ Some r)
@@ -64,7 +72,8 @@ ascending_of : (n : ℕ) (rows : List OfficeRow) → AscendFrom n rows → Ascen
 ascending_of n [] up = tt
 ascending_of n (r ∷ rs) up = (rows_above r.number rs up.1, ascending_of r.number rs up.1)
 
-ascend_of : (n : ℕ) (rows : List OfficeRow) → Above n (map office_of rows) → Ascending (map office_of rows) → AscendFrom n rows
+ascend_of : (n : ℕ) (rows : List OfficeRow) → Above n (map office_of rows) → Ascending (map office_of rows)
+    → AscendFrom n rows
 ascend_of n [] low up = tt
 ascend_of n (r ∷ rs) low up = (low.0, ascend_of r.number rs up.0 up.1)
 
@@ -73,37 +82,44 @@ positive [] all = tt
 positive (r ∷ rs) all = (let some : 1 ≤ r.number = all.0.number.0 in omega arith, positive rs all.1)
 
 -- each row is found by its number
-found_later : (o : OfficeRow) (os zs : List OfficeRow) → Above o.number (map office_of zs) → AllByRecursion (λ (r : OfficeRow). row_at r.number os ≡ Some r) zs → AllByRecursion (λ (r : OfficeRow). row_at r.number (o ∷ os) ≡ Some r) zs
+found_later : (o : OfficeRow) (os zs : List OfficeRow) → Above o.number (map office_of zs)
+    → AllByRecursion (λ (r : OfficeRow). row_at r.number os ≡ Some r) zs
+    → AllByRecursion (λ (r : OfficeRow). row_at r.number (o ∷ os) ≡ Some r) zs
 found_later o os [] low all = tt
 found_later o os (z ∷ zs) low all =
     let lt : o.number < z.number = low.0 in
     let apart : (o.number == z.number) ≡ false = grind (arith, nat_tests) in
     (ap (λ b. cond b (Some o) (row_at z.number os)) apart ∙ all.0, found_later o os zs low.1 all.1)
 
-each_found : (rows : List OfficeRow) → Ascending (map office_of rows) → AllByRecursion (λ (r : OfficeRow). row_at r.number rows ≡ Some r) rows
+each_found : (rows : List OfficeRow) → Ascending (map office_of rows)
+    → AllByRecursion (λ (r : OfficeRow). row_at r.number rows ≡ Some r) rows
 each_found [] up = tt
 each_found (o ∷ os) up =
     let own : (o.number == o.number) ≡ true = grind (arith, nat_tests) in
     (ap (λ b. cond b (Some o) (row_at o.number os)) own, found_later o os os up.0 (each_found os up.1))
 
-all_with : (P Q : OfficeRow → Type 0) (rows : List OfficeRow) → ((r : OfficeRow) → P r → Q r) → AllByRecursion P rows → AllByRecursion Q rows
+all_with : (P Q : OfficeRow → Type 0) (rows : List OfficeRow) → ((r : OfficeRow) → P r → Q r) → AllByRecursion P rows
+    → AllByRecursion Q rows
 all_with P Q [] f all = tt
 all_with P Q (r ∷ rs) f all = (f r all.0, all_with P Q rs f all.1)
 
-all_with_both : (P Q R : OfficeRow → Type 0) (rows : List OfficeRow) → ((r : OfficeRow) → P r → Q r → R r) → AllByRecursion P rows → AllByRecursion Q rows → AllByRecursion R rows
+all_with_both : (P Q R : OfficeRow → Type 0) (rows : List OfficeRow) → ((r : OfficeRow) → P r → Q r → R r)
+    → AllByRecursion P rows → AllByRecursion Q rows → AllByRecursion R rows
 all_with_both P Q R [] f p q = tt
 all_with_both P Q R (r ∷ rs) f p q = (f r p.0 q.0, all_with_both P Q R rs f p.1 q.1)
 
 -- ---- texts
 
-texts_of : (parents : ℕ → Option ℕ) (rows : List OfficeRow) → map (office_under parents) (map office_of rows) ≡ rows → AllByRecursion (λ (r : OfficeRow). key_of parents r.number ≡ r.hkey) rows
+texts_of : (parents : ℕ → Option ℕ) (rows : List OfficeRow) → map (office_under parents) (map office_of rows) ≡ rows
+    → AllByRecursion (λ (r : OfficeRow). key_of parents r.number ≡ r.hkey) rows
 texts_of parents [] e = tt
 texts_of parents (r ∷ rs) e =
     let first : office_under parents (office_of r) ≡ r = cc in
     let others : map (office_under parents) (map office_of rs) ≡ rs = cc in
     (ap (λ (q : OfficeRow). q.hkey) first, texts_of parents rs others)
 
-keys_of : (parents : ℕ → Option ℕ) (rows : List OfficeRow) → AllByRecursion (λ (r : OfficeRow). key_of parents r.number ≡ r.hkey) rows → map (office_under parents) (map office_of rows) ≡ rows
+keys_of : (parents : ℕ → Option ℕ) (rows : List OfficeRow) → AllByRecursion (λ (r : OfficeRow). key_of parents r.number
+    ≡ r.hkey) rows → map (office_under parents) (map office_of rows) ≡ rows
 keys_of parents [] all = refl
 keys_of parents (r ∷ rs) all = λ t. record r { hkey = all.0 t } ∷ keys_of parents rs all.1 t
 
@@ -142,11 +158,14 @@ module _ (rows : List OfficeRow) where
       go (Some r) is h = there_row x r is
 
   module _ (each : AllByRecursion (IsOfficeRow rows) rows) where
-    its_row : (x : ℕ) → there x ≡ true → (r : OfficeRow) × (row_at x rows ≡ Some r) × IsOfficeRow rows r × (r.number ≡ x)
-    its_row x h = let a = row_there x h in let b = row_found (IsOfficeRow rows) rows x a.0 each a.1 in (a.0, a.1, b.0, b.1)
+    its_row : (x : ℕ) → there x ≡ true → (r : OfficeRow) × (row_at x rows ≡ Some r) × IsOfficeRow rows r
+        × (r.number ≡ x)
+    its_row x h = let a = row_there x h in let b =
+        row_found (IsOfficeRow rows) rows x a.0 each a.1 in (a.0, a.1, b.0, b.1)
 
     -- what the parent's text tells
-    no_parent : (o : Option ℕ) (r : OfficeRow) → HasParentsText rows o r → o ≡ None → (r.number ≡ 1) × (r.hkey ≡ head_key)
+    no_parent : (o : Option ℕ) (r : OfficeRow) → HasParentsText rows o r → o ≡ None → (r.number ≡ 1)
+        × (r.hkey ≡ head_key)
     no_parent None r h e = h
     no_parent (Some p) r h e = absurd (cc)
 
@@ -154,7 +173,8 @@ module _ (rows : List OfficeRow) where
     is_head None r h e = (refl, h.1)
     is_head (Some p) r h e = absurd (h.0 e)
 
-    a_parent : (o : Option ℕ) (r : OfficeRow) (p : ℕ) → HasParentsText rows o r → o ≡ Some p → (above : OfficeRow) × (row_at p rows ≡ Some above) × (r.hkey ≡ child_key above.hkey r.number)
+    a_parent : (o : Option ℕ) (r : OfficeRow) (p : ℕ) → HasParentsText rows o r → o ≡ Some p → (above : OfficeRow)
+        × (row_at p rows ≡ Some above) × (r.hkey ≡ child_key above.hkey r.number)
     a_parent None r p h e = absurd (cc)
     a_parent (Some q) r p h e = let same : q ≡ p = cc in (h.1, subst (λ n. row_at n rows ≡ Some h.1) same h.2, h.3)
 
@@ -167,10 +187,14 @@ module _ (rows : List OfficeRow) where
           numbered = λ x h. (let a = its_row x h in subst (IsNumberUpTo 9999) a.3 a.2.own.number);
           head_there = there_row 1 first.0 first.1;
           head = parent_row 1 first.0 first.1 ∙ top.0;
-          only_head = λ x h e. (let a = its_row x h in sym a.3 ∙ (no_parent a.0.parent a.0 a.2.text (sym (parent_row x a.0 a.1) ∙ e)).0);
-          parents_there = λ x p h e. (let a = its_row x h in let b = a_parent a.0.parent a.0 p a.2.text (sym (parent_row x a.0 a.1) ∙ e) in there_row p b.0 b.1);
+          only_head = λ x h e. (let a = its_row x h in sym a.3
+              ∙ (no_parent a.0.parent a.0 a.2.text (sym (parent_row x a.0 a.1) ∙ e)).0);
+          parents_there = λ x p h e. (let a = its_row x h in let b = a_parent a.0.parent a.0 p a.2.text
+              (sym (parent_row x a.0 a.1) ∙ e) in there_row p b.0 b.1);
           head_text = text_row 1 first.0 first.1 ∙ top.1;
-          child_text = λ x p h e. (let a = its_row x h in let b = a_parent a.0.parent a.0 p a.2.text (sym (parent_row x a.0 a.1) ∙ e) in text_row x a.0 a.1 ∙ b.2 ∙ (λ t. child_key (sym (text_row p b.0 b.1) t) (a.3 t)));
+          child_text = λ x p h e. (let a = its_row x h in let b = a_parent a.0.parent a.0 p a.2.text
+              (sym (parent_row x a.0 a.1) ∙ e) in text_row x a.0 a.1 ∙ b.2
+              ∙ (λ t. child_key (sym (text_row p b.0 b.1) t) (a.3 t)));
           depth = λ x h. (let a = its_row x h in subst (λ k. key_depth k ≤ 6) (sym (text_row x a.0 a.1)) a.2.depth);
         }
 
@@ -187,12 +211,15 @@ module _ (rows : List OfficeRow) where
           parents_there = λ x p e. tree.0.parents_there x p (parent_there x p e) e;
           all_below = tree.0.all_below;
         };
-        keys = keys_of parents rows (all_with (λ (r : OfficeRow). row_at r.number rows ≡ Some r) (λ (r : OfficeRow). key_of parents r.number ≡ r.hkey) rows (λ r e. sym (tree.1 r.number (there_row r.number r e)) ∙ text_row r.number r e) (each_found rows up));
+        keys = keys_of parents rows (all_with (λ (r : OfficeRow). row_at r.number rows ≡ Some r)
+            (λ (r : OfficeRow). key_of parents r.number ≡ r.hkey) rows
+            (λ r e. sym (tree.1 r.number (there_row r.number r e)) ∙ text_row r.number r e) (each_found rows up));
       }
 
   tree_of : AreOffices rows → IsTreeOf there parents
   tree_of h = record {
-    numbered = λ x e. (let a = row_there x e in let b = row_found IsNumberedAndNamed rows x a.0 h.each a.1 in subst (IsNumberUpTo 9999) b.1 b.0.number);
+    numbered = λ x e. (let a = row_there x e in let b = row_found IsNumberedAndNamed rows x a.0 h.each a.1 in
+        subst (IsNumberUpTo 9999) b.1 b.0.number);
     head_there = h.tree.head_there;
     head = h.tree.head;
     parents_there = λ x p e f. h.tree.parents_there x p f;
@@ -202,7 +229,8 @@ module _ (rows : List OfficeRow) where
   texts_are : AreOffices rows → (x : ℕ) → there x ≡ true → text x ≡ key_of parents x
   texts_are h x e =
       let a = row_there x e in
-      let b = row_found (λ (r : OfficeRow). key_of parents r.number ≡ r.hkey) rows x a.0 (texts_of parents rows h.keys) a.1 in
+      let b = row_found (λ (r : OfficeRow). key_of parents r.number ≡ r.hkey) rows x a.0 (texts_of parents rows h.keys)
+      a.1 in
       text_row x a.0 a.1 ∙ sym b.0 ∙ ap (key_of parents) b.1
 
   module _ (g : GrowsByParents there parents text) where
@@ -218,7 +246,8 @@ module _ (rows : List OfficeRow) where
           λ one. absurd (let n : None ≡ Some p = sym g.head ∙ ap parents (sym one) ∙ is in cc),
           above.0,
           above.1,
-          sym (text_row r.number r own) ∙ g.child_text r.number p here is ∙ ap (λ k. child_key k r.number) (text_row p above.0 above.1),
+          sym (text_row r.number r own) ∙ g.child_text r.number p here is ∙ ap (λ k. child_key k r.number)
+              (text_row p above.0 above.1),
         )
 
   pub rows_from_offices : KeysLaw → AreOffices rows → AreOfficeRows rows
@@ -226,8 +255,14 @@ module _ (rows : List OfficeRow) where
       let g = (law there parents text).1 (tree_of h, texts_are h) in
       record {
         ascend = ascend_of 0 rows (positive rows h.each) h.tree.ascending;
-        each = all_with_both IsNumberedAndNamed (λ (r : OfficeRow). row_at r.number rows ≡ Some r) (IsOfficeRow rows) rows
-            (λ r own e. record { own = own; text = has_text g r.parent r refl e; depth = subst (λ k. key_depth k ≤ 6) (text_row r.number r e) (g.depth r.number (there_row r.number r e)) })
+        each = all_with_both IsNumberedAndNamed (λ (r : OfficeRow). row_at r.number rows ≡ Some r) (IsOfficeRow rows)
+            rows
+            (λ r own e. record {
+              own = own;
+              text = has_text g r.parent r refl e;
+              depth = subst (λ k. key_depth k ≤ 6)
+                  (text_row r.number r e) (g.depth r.number (there_row r.number r e));
+            })
             h.each (each_found rows h.tree.ascending);
         head = (let a = row_there 1 h.tree.head_there in ap is_some a.1);
       }

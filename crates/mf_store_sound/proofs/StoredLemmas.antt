@@ -1,5 +1,6 @@
 -- Rows of values, one by one: how a loop over rows decides them.
-use Rattle.std.proofs.Common.{◌≡◌, ◌↔◌, ◌<◌, ◌≤◌, ◌+◌, ◌∙◌, ℕ, suc, Bool, false, List, [], ◌∷◌, length, get_or, drop, IsTrue, refl, sym, subst, true≢false, arith, ◌==◌}
+use Rattle.std.proofs.Common.{◌≡◌, ◌↔◌, ◌<◌, ◌≤◌, ◌+◌, ◌∙◌, ℕ, suc, Bool, false, List, [], ◌∷◌, length, get_or, drop}
+use Rattle.std.proofs.Common.{IsTrue, refl, sym, subst, true≢false, arith, ◌==◌}
 use Rattle.std.specs.List.{AllByRecursion}
 use Rattle.std.proofs.lemmas.Bool.Decides.{nat_tests}
 use Rattle.std.proofs.lemmas.List.{drop_all}
@@ -26,9 +27,15 @@ module _ {A R : Type 0} (make : ℕ → A → R) (Passes : A → Type 0) where
   gathered n [] all = record { values = []; pass = tt; rows_are = refl }
   gathered n (r ∷ rs) all =
       let more = gathered (n + 1) rs all.1 in
-      record { values = all.0.value ∷ more.values; pass = (all.0.passes, more.pass); rows_are = λ k. all.0.row_is k ∷ more.rows_are k }
+      record {
+        values = all.0.value ∷ more.values;
+        pass = (all.0.passes, more.pass);
+        rows_are = λ k. all.0.row_is k
+            ∷ more.rows_are k;
+      }
 
-  pub parted : (n : ℕ) (vs : List A) (rows : List R) → AllByRecursion Passes vs → numbered_from make n vs ≡ rows → AllFrom (IsRowOf make Passes) n rows
+  pub parted : (n : ℕ) (vs : List A) (rows : List R) → AllByRecursion Passes vs → numbered_from make n vs ≡ rows
+      → AllFrom (IsRowOf make Passes) n rows
   parted n [] [] p e = tt
   parted n [] (r ∷ rs) p e = absurd (cc)
   parted n (v ∷ vs) [] p e = absurd (cc)
@@ -41,11 +48,16 @@ module _ {A R : Type 0} (make : ℕ → A → R) (Passes : A → Type 0) where
 
 module _ {R : Type 0} (P : ℕ → R → Type 0) where
   -- the one at i has it, so all have it where those after it have
-  pub from_passed : (X : Type 0) (rows : List R) (i n : ℕ) (r : R) → i < length rows → r ≡ get_or rows i r → P n r → (X ↔ AllFrom P n (drop i rows)) → X ↔ AllFrom P (n + 1) (drop (i + 1) rows)
-  from_passed X rows i n r h is p so_far = (λ x. (subst (AllFrom P n) (at_row rows i r h is) (so_far.0 x)).1, λ more. so_far.1 (subst (AllFrom P n) (sym (at_row rows i r h is)) (p, more)))
+  pub from_passed : (X : Type 0) (rows : List R) (i n : ℕ) (r : R) → i < length rows → r ≡ get_or rows i r → P n r
+      → (X ↔ AllFrom P n (drop i rows)) → X ↔ AllFrom P (n + 1) (drop (i + 1) rows)
+  from_passed X rows i n r h is p so_far = (
+    λ x. (subst (AllFrom P n) (at_row rows i r h is) (so_far.0 x)).1,
+    λ more. so_far.1 (subst (AllFrom P n) (sym (at_row rows i r h is)) (p, more)),
+  )
 
   -- the one at i has not
-  pub from_refused : (X : Type 0) (rows : List R) (i n : ℕ) (r : R) → i < length rows → r ≡ get_or rows i r → (P n r → ⊥) → (X ↔ AllFrom P n (drop i rows)) → X → ⊥
+  pub from_refused : (X : Type 0) (rows : List R) (i n : ℕ) (r : R) → i < length rows → r ≡ get_or rows i r
+      → (P n r → ⊥) → (X ↔ AllFrom P n (drop i rows)) → X → ⊥
   from_refused X rows i n r h is none so_far x = none (subst (AllFrom P n) (at_row rows i r h is) (so_far.0 x)).0
 
   -- each had it

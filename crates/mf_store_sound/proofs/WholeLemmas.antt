@@ -18,27 +18,56 @@ use Rattle.mf_store_sound.proofs.SoundLemmas.{charges_are, products_are, loans_u
 
 -- what is told of rows of accounts, by the rows of the others
 abbrev pub Told : (List InstalmentRow → List ShareRow → Catalogue → List PlacedLoan → Type 0) → Lists → Type 0
-Told P t = (k : Catalogue) → IsSoundCatalogue k → numbered_from charge_as 1 k.charges ≡ t.charges → numbered_from product_as 1 k.products ≡ t.products → (ps : List PlacedLoan) → AreLoansOf k t.loans t.entries ps → P t.instalments t.shares k ps
+Told P t = (k : Catalogue) → IsSoundCatalogue k → numbered_from charge_as 1 k.charges ≡ t.charges
+    → numbered_from product_as 1 k.products ≡ t.products → (ps : List PlacedLoan) → AreLoansOf k t.loans t.entries ps
+    → P t.instalments t.shares k ps
 
-pub told_of_parts : (P : List InstalmentRow → List ShareRow → Catalogue → List PlacedLoan → Type 0) (t inside : Lists) (view : inside ≡ t) (charges : List ChargeRow) (products : List ProductRow) (loans : List LoanRow) (entries : List EntryRow) (instalments : List InstalmentRow) (shares : List ShareRow)
-    → charges ≡ inside.charges → products ≡ inside.products → loans ≡ inside.loans → entries ≡ inside.entries → instalments ≡ inside.instalments → shares ≡ inside.shares
-    → Told P (record t { charges = charges; products = products; loans = loans; entries = entries; instalments = instalments; shares = shares }) → Told P t
+pub told_of_parts : (P : List InstalmentRow → List ShareRow → Catalogue → List PlacedLoan → Type 0) (t inside : Lists)
+    (view : inside ≡ t) (charges : List ChargeRow) (products : List ProductRow) (loans : List LoanRow)
+    (entries : List EntryRow) (instalments : List InstalmentRow) (shares : List ShareRow)
+    → charges ≡ inside.charges → products ≡ inside.products → loans ≡ inside.loans → entries ≡ inside.entries
+    → instalments ≡ inside.instalments → shares ≡ inside.shares
+    → Told P (record t {
+      charges = charges;
+      products = products;
+      loans = loans;
+      entries = entries;
+      instalments = instalments;
+      shares = shares;
+    }) → Told P t
 told_of_parts P t inside view charges products loans entries instalments shares c p l e i s told =
-    subst (λ (lists : Lists). Told P lists) (λ z. record t { charges = (c ∙ (λ y. (view y).charges)) z; products = (p ∙ (λ y. (view y).products)) z; loans = (l ∙ (λ y. (view y).loans)) z; entries = (e ∙ (λ y. (view y).entries)) z; instalments = (i ∙ (λ y. (view y).instalments)) z; shares = (s ∙ (λ y. (view y).shares)) z }) told
+    subst (λ (lists : Lists). Told P lists) (λ z. record t {
+      charges = (c ∙ (λ y. (view y).charges)) z;
+      products = (p ∙ (λ y. (view y).products)) z;
+      loans = (l ∙ (λ y. (view y).loans)) z;
+      entries = (e ∙ (λ y. (view y).entries)) z;
+      instalments = (i ∙ (λ y. (view y).instalments)) z;
+      shares =
+          (s ∙ (λ y. (view y).shares)) z;
+    }) told
 
 -- what is told, at the institution whose rows these are
-told_at : (P : List InstalmentRow → List ShareRow → Catalogue → List PlacedLoan → Type 0) (schema : ℕ) (t : Lists) (u : AreUnder schema t) → Told P t → P t.instalments t.shares u.institution.catalogue (all_placed u.institution.offices)
+told_at : (P : List InstalmentRow → List ShareRow → Catalogue → List PlacedLoan → Type 0) (schema : ℕ) (t : Lists)
+    (u : AreUnder schema t) → Told P t → P t.instalments t.shares u.institution.catalogue
+    (all_placed u.institution.offices)
 told_at P schema t u told =
-    told u.institution.catalogue u.sound.catalogue (charges_are schema t u) (products_are schema t u) (all_placed u.institution.offices) (loans_under schema t u)
+    told u.institution.catalogue u.sound.catalogue (charges_are schema t u) (products_are schema t u)
+    (all_placed u.institution.offices) (loans_under schema t u)
 
 -- rows of accounts that are those of an institution
 abbrev HasRows : Institution → List InstalmentRow → List ShareRow → Type 0
 HasRows i instalments shares = (instalments ≡ (tables_of i).instalments) × (shares ≡ (tables_of i).shares)
 
-accounts_are : (i : Institution) (instalments : List InstalmentRow) (shares : List ShareRow) → AreAccounts i.catalogue (all_placed i.offices) instalments shares → HasRows i instalments shares
-accounts_are i instalments shares a = (sym a.instalments_are ∙ all_rows_of instalment_in (instalments_of i.catalogue) i.offices, sym a.shares_are ∙ all_rows_of share_in (shares_of i.catalogue) i.offices)
+accounts_are : (i : Institution) (instalments : List InstalmentRow) (shares : List ShareRow)
+    → AreAccounts i.catalogue (all_placed i.offices) instalments shares → HasRows i instalments shares
+accounts_are i instalments shares a = (
+  sym a.instalments_are ∙ all_rows_of instalment_in (instalments_of i.catalogue)
+      i.offices,
+  sym a.shares_are ∙ all_rows_of share_in (shares_of i.catalogue) i.offices,
+)
 
-are_accounts : (i : Institution) (instalments : List InstalmentRow) (shares : List ShareRow) → HasRows i instalments shares → AreAccounts i.catalogue (all_placed i.offices) instalments shares
+are_accounts : (i : Institution) (instalments : List InstalmentRow) (shares : List ShareRow)
+    → HasRows i instalments shares → AreAccounts i.catalogue (all_placed i.offices) instalments shares
 are_accounts i instalments shares has = record {
   instalments_are = all_rows_of instalment_in (instalments_of i.catalogue) i.offices ∙ sym has.0;
   shares_are = all_rows_of share_in (shares_of i.catalogue) i.offices ∙ sym has.1;
@@ -47,30 +76,49 @@ are_accounts i instalments shares has = record {
 -- ---- both schemas
 
 pub under_of_whole : (t : Lists) → AreOfSound t → AreUnder 2 t
-under_of_whole t h = record { institution = h.institution; sound = h.sound; rows_are = λ z. without_accounts (h.rows_are z) }
+under_of_whole t h =
+    record { institution = h.institution; sound = h.sound; rows_are = λ z. without_accounts (h.rows_are z) }
 
-pub whole_is : (t : Lists) (B : Type 0) → AreUnder 2 t → Told (λ instalments shares k ps. B ↔ AreAccounts k ps instalments shares) t → B ↔ AreOfSound t
+pub whole_is : (t : Lists) (B : Type 0) → AreUnder 2 t → Told (λ instalments shares k ps. B
+    ↔ AreAccounts k ps instalments shares) t → B ↔ AreOfSound t
 unfolding under_of_whole
 whole_is t B u told = (
   λ yes.
-      let kept = accounts_are u.institution t.instalments t.shares ((told_at (λ instalments shares k ps. B ↔ AreAccounts k ps instalments shares) 2 t u told).0 yes) in
-      record { institution = u.institution; sound = u.sound; rows_are = λ z. record (u.rows_are z) { instalments = sym kept.0 z; shares = sym kept.1 z } },
+      let kept = accounts_are u.institution t.instalments t.shares
+      ((told_at (λ instalments shares k ps. B ↔ AreAccounts k ps instalments shares) 2 t u told).0 yes) in
+      record {
+        institution = u.institution;
+        sound = u.sound;
+        rows_are = λ z. record (u.rows_are z) { instalments = sym kept.0 z; shares = sym kept.1 z };
+      },
   λ h.
       (told_at (λ instalments shares k ps. B ↔ AreAccounts k ps instalments shares) 2 t (under_of_whole t h) told).1
-      (are_accounts h.institution t.instalments t.shares (ap (λ (l : Lists). l.instalments) (sym h.rows_are), ap (λ (l : Lists). l.shares) (sym h.rows_are))),
+      (are_accounts h.institution t.instalments t.shares (
+        ap (λ (l : Lists). l.instalments) (sym h.rows_are),
+        ap (λ (l : Lists). l.shares) (sym h.rows_are),
+      )),
 )
 
 -- ---- the first schema
 
-pub first_is : (t : Lists) (B : Type 0) → t.instalments ≡ [] → t.shares ≡ [] → (B ↔ AreUnder 1 t) → B ↔ AreOfSoundFirst t
+pub first_is : (t : Lists) (B : Type 0) → t.instalments ≡ [] → t.shares ≡ [] → (B ↔ AreUnder 1 t) → B
+    ↔ AreOfSoundFirst t
 first_is t B no_instalments no_shares h = (
-  λ yes. let u = h.0 yes in record { institution = u.institution; sound = u.sound; rows_are = u.rows_are ∙ (λ z. record t { instalments = sym no_instalments z; shares = sym no_shares z }) },
+  λ yes. let u = h.0 yes in record {
+    institution = u.institution;
+    sound = u.sound;
+    rows_are = u.rows_are
+        ∙ (λ z. record t { instalments = sym no_instalments z; shares = sym no_shares z });
+  },
   λ f. h.1 (record { institution = f.institution; sound = f.sound; rows_are = λ z. without_accounts (f.rows_are z) }),
 )
 
 pub first_has_none : (t : Lists) → AreOfSoundFirst t → (t.instalments ≡ []) × (t.shares ≡ [])
 first_has_none t f = (ap (λ (l : Lists). l.instalments) (sym f.rows_are), ap (λ (l : Lists). l.shares) (sym f.rows_are))
 
-pub rows_are_of : (t : Lists) (instalments : List InstalmentRow) (shares : List ShareRow) → Told (λ none other k ps. AreAccounts k ps instalments shares) t → (i : Institution) → IsSound i → first_tables_of i ≡ t → HasRows i instalments shares
+pub rows_are_of : (t : Lists) (instalments : List InstalmentRow) (shares : List ShareRow)
+    → Told (λ none other k ps. AreAccounts k ps instalments shares) t → (i : Institution) → IsSound i
+    → first_tables_of i ≡ t → HasRows i instalments shares
 rows_are_of t instalments shares told i sound is =
-    accounts_are i instalments shares (told_at (λ none other k ps. AreAccounts k ps instalments shares) 1 t (record { institution = i; sound = sound; rows_are = λ z. without_accounts (is z) }) told)
+    accounts_are i instalments shares (told_at (λ none other k ps. AreAccounts k ps instalments shares) 1 t
+    (record { institution = i; sound = sound; rows_are = λ z. without_accounts (is z) }) told)

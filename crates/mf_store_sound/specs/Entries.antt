@@ -8,7 +8,8 @@ use Rattle.mf_store_records.specs.declared.entries.EntryRow.{EntryRow}
 use Rattle.mf_store_accounts.specs.Flat.{entry_in}
 use Rattle.mf_store_accounts.specs.Ledgers.{IsReadable, IsEnteredBy}
 
--- the row is that of an entry under this number, of a loan of n instalments that was disbursed on a day, whoever entered it
+-- the row is that of an entry under this number, of a loan of n instalments that was disbursed on a day, whoever
+-- entered it
 pub record IsEntryRow (today day n office loan number : ℕ) (row : EntryRow) : Type 0 where
   pub entry : Entry
   pub readable : IsReadable entry
@@ -18,7 +19,8 @@ pub record IsEntryRow (today day n office loan number : ℕ) (row : EntryRow) : 
   pub receipt : IfSome entry.receipt IsReceipt
   pub row_is : entry_in office loan entry ≡ row
 
--- the rows are those of the entries of one loan of n instalments that was disbursed on a day; that their callers are there is left open
+-- the rows are those of the entries of one loan of n instalments that was disbursed on a day; that their callers are
+-- there is left open
 pub record AreLoanEntries (today day n office loan : ℕ) (rows : List EntryRow) : Type 0 where
   pub entries : List Entry
   pub lawful : AreEntries n day entries

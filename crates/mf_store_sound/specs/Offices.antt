@@ -32,7 +32,8 @@ row_at x rows = find (λ r. r.number == x) rows
 -- an office with no parent is the head; another's text is its parent's, its own number and a dot
 abbrev pub HasParentsText : List OfficeRow → Option ℕ → OfficeRow → Type 0
 HasParentsText rows None r = (r.number ≡ 1) × (r.hkey ≡ head_key)
-HasParentsText rows (Some p) r = (r.number ≢ 1) × (above : OfficeRow) × (row_at p rows ≡ Some above) × (r.hkey ≡ child_key above.hkey r.number)
+HasParentsText rows (Some p) r = (r.number ≢ 1) × (above : OfficeRow) × (row_at p rows ≡ Some above)
+    × (r.hkey ≡ child_key above.hkey r.number)
 
 -- what a row of such offices keeps
 pub record IsOfficeRow (rows : List OfficeRow) (r : OfficeRow) : Type 0 where
@@ -40,6 +41,7 @@ pub record IsOfficeRow (rows : List OfficeRow) (r : OfficeRow) : Type 0 where
   pub text : HasParentsText rows r.parent r
   pub depth : key_depth r.hkey ≤ 6
 
+-- rows of offices in the order of their numbers, one tree
 pub record AreOfficeRows (rows : List OfficeRow) : Type 0 where
   pub ascend : AscendFrom 0 rows
   pub each : AllByRecursion (IsOfficeRow rows) rows

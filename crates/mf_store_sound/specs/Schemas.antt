@@ -16,7 +16,11 @@ without_accounts lists = record lists { instalments = []; shares = [] }
 
 -- what nine tables hold of an institution, under this schema's number
 abbrev pub tables_under : ℕ → Institution → Lists
-tables_under schema i = record (tables_of i) { meta = meta_under schema i.catalogue.day ∷ []; instalments = []; shares = [] }
+tables_under schema i = record (tables_of i) {
+  meta = meta_under schema i.catalogue.day ∷ [];
+  instalments = [];
+  shares = [];
+}
 
 -- what the tables of the first schema hold of an institution
 abbrev pub first_tables_of : Institution → Lists

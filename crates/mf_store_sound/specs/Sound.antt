@@ -9,20 +9,23 @@ use Rattle.mf_store_records.specs.declared.entries.EntryRow.{EntryRow}
 use Rattle.mf_store_records.specs.declared.loans.LoanRow.{LoanRow}
 use Rattle.mf_store_records.specs.declared.offices.OfficeRow.{OfficeRow}
 use Rattle.mf_store_records.specs.declared.staff.StaffRow.{StaffRow}
-use Rattle.mf_store_accounts.specs.Flat.{numbered_from, all_rows, rows_of_loans, entry_rows, own_entries, loans_of, staff_in, client_in, loan_in, entry_in, tables_of}
+use Rattle.mf_store_accounts.specs.Flat.{numbered_from, all_rows, rows_of_loans, entry_rows, own_entries, loans_of}
+use Rattle.mf_store_accounts.specs.Flat.{staff_in, client_in, loan_in, entry_in, tables_of}
 use Rattle.mf_store_accounts.specs.Ledgers.{IsPlainLoan}
 use Rattle.mf_store_sound.specs.Schemas.{first_tables_of, tables_under, without_accounts}
 use Rattle.mf_store_accounts.specs.Parts.{bare, office_of}
 
 -- the rows are those of one loan of an office, and of its entries
-pub record IsLoanPart (k : Catalogue) (clients : List (List ℕ)) (office number : ℕ) (row : LoanRow) (entries : List EntryRow) : Type 0 where
+pub record IsLoanPart (k : Catalogue) (clients : List (List ℕ)) (office number : ℕ) (row : LoanRow)
+    (entries : List EntryRow) : Type 0 where
   pub ledger : Ledger
   pub plain : IsPlainLoan k clients ledger
   pub row_is : loan_in office number ledger.loan ≡ row
   pub entries_are : map (entry_in office number) ledger.entries ≡ entries
 
 -- the rows are those of loans of an office and of their entries, loan by loan, the first with this number
-pub record AreLoanParts (k : Catalogue) (clients : List (List ℕ)) (office first : ℕ) (loans : List LoanRow) (entries : List EntryRow) : Type 0 where
+pub record AreLoanParts (k : Catalogue) (clients : List (List ℕ)) (office first : ℕ) (loans : List LoanRow)
+    (entries : List EntryRow) : Type 0 where
   pub ledgers : List Ledger
   pub each : AllByRecursion (IsPlainLoan k clients) ledgers
   pub loans_are : numbered_from (loan_in office) first (map (λ (l : Ledger). l.loan) ledgers) ≡ loans
@@ -38,7 +41,8 @@ pub record IsPlainRows (k : Catalogue) (rows : Rows) : Type 0 where
   pub loans : AllByRecursion (IsPlainLoan k rows.clients) rows.loans
 
 -- the rows are those of one office's staff, clients, loans and entries
-pub record IsOfficePart (k : Catalogue) (office : ℕ) (staff : List StaffRow) (clients : List ClientRow) (loans : List LoanRow) (entries : List EntryRow) : Type 0 where
+pub record IsOfficePart (k : Catalogue) (office : ℕ) (staff : List StaffRow) (clients : List ClientRow)
+    (loans : List LoanRow) (entries : List EntryRow) : Type 0 where
   pub rows : Rows
   pub plain : IsPlainRows k rows
   pub staff_are : numbered_from (staff_in office) 1 rows.staff ≡ staff
@@ -47,7 +51,8 @@ pub record IsOfficePart (k : Catalogue) (office : ℕ) (staff : List StaffRow) (
   pub entries_are : rows_of_loans entry_in own_entries office 1 rows.loans ≡ entries
 
 -- the rows are those of these offices' staff, clients, loans and entries, office by office
-pub record AreOfficeParts (k : Catalogue) (rows : List OfficeRow) (staff : List StaffRow) (clients : List ClientRow) (loans : List LoanRow) (entries : List EntryRow) : Type 0 where
+pub record AreOfficeParts (k : Catalogue) (rows : List OfficeRow) (staff : List StaffRow) (clients : List ClientRow)
+    (loans : List LoanRow) (entries : List EntryRow) : Type 0 where
   pub offices : List Office
   pub theirs : map bare offices ≡ map office_of rows
   pub plain : AllByRecursion (λ (f : Office). IsPlainRows k f.rows) offices

@@ -14,11 +14,13 @@ IsApproval today text = (day : ℕ) × (day ≤ today) × (text ≡ day_text day
 
 -- the texts of two days, the first not after the second, up to this one
 abbrev pub IsDisbursal : ℕ → List ℕ → List ℕ → Type 0
-IsDisbursal today approved disbursed = (first : ℕ) × (second : ℕ) × (first ≤ second) × (second ≤ today) × (approved ≡ day_text first) × (disbursed ≡ day_text second)
+IsDisbursal today approved disbursed = (first : ℕ) × (second : ℕ) × (first ≤ second) × (second ≤ today)
+    × (approved ≡ day_text first) × (disbursed ≡ day_text second)
 
 -- a stage that a loan can have reached on this day has this number and these texts
 abbrev pub IsStageOf : ℕ → ℕ → Option (List ℕ) → Option (List ℕ) → Type 0
-IsStageOf today number approved disbursed = (s : Stage) × IsStageBy today s × (stage_number s ≡ number) × (approval_text s ≡ approved) × (disbursal_text s ≡ disbursed)
+IsStageOf today number approved disbursed = (s : Stage) × IsStageBy today s × (stage_number s ≡ number)
+    × (approval_text s ≡ approved) × (disbursal_text s ≡ disbursed)
 
 -- a loan that is not disbursed has no rows of entries
 abbrev pub AreEntriesOf : ℕ → ℕ → Option ℕ → ℕ → ℕ → List EntryRow → Type 0

@@ -1,3 +1,5 @@
+//! Whether a number that is kept is an amount in cents.
+
 ghost use Rattle.std.specs.Prelude.{◌≡◌, ℕ, pos, ◌≤◌, ◌↔◌, IsTrue, ◌^◌};
 
 use mf_catalog::GREATEST_AMOUNT;

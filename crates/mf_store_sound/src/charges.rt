@@ -1,3 +1,5 @@
+//! Whether a row is that of a charge with its number.
+
 ghost use Rattle.std.specs.Prelude.{◌↔◌, IsTrue};
 ghost use Rattle.mf_model.specs.Sound.{IsSoundCharge, IsValue};
 ghost use Rattle.mf_store_accounts.specs.Flat.{charge_as};

@@ -1,3 +1,5 @@
+//! Whether a row is that of a client with its number.
+
 ghost use Rattle.mf_model.specs.Sound.{IsName};
 ghost use Rattle.mf_store_accounts.specs.Flat.{client_in};
 ghost use Rattle.mf_store_sound.specs.Stored.{IsRowOf};

@@ -9,8 +9,8 @@ use crate::seals::are_seals_last;
 use mf_account::MOST_ENTRIES;
 use mf_store_records::EntryRow;
 
-/// Whether the rows are those of the entries of a loan: numbered from 1, none before its disbursement or after today, and
-/// a standing write-off or refund the last. It does not check that the staff who entered them exist.
+/// Whether the rows are those of the entries of a loan: numbered from 1, none before its disbursement or after today,
+/// and a standing write-off or refund the last. It does not check that the staff who entered them exist.
 pub(crate) fn are_loan_entries(loan: DisbursedLoan, rows: &[EntryRow]) -> bool
     ensures { IsTrue result ↔ AreLoanEntries loan.today loan.day loan.periods loan.office loan.number rows.now }
 {

@@ -106,7 +106,8 @@ fn is_sealing(row: &EntryRow) -> bool
 
 /// Whether a row's columns are those of an entry of its kind, on a loan of so many instalments.
 fn has_columns(periods: u32, row: &EntryRow) -> bool
-    ensures { (e : Entry) → entry_in row.now.office row.now.loan e ≡ row.now → IsTrue result ↔ HasColumns e.kind periods e }
+    ensures { (e : Entry) → entry_in row.now.office row.now.loan e ≡ row.now → IsTrue result
+        ↔ HasColumns e.kind periods e }
 {
     match kind_from(row.kind) {
         Some(Kind::Repay) => is_repayment(row),

@@ -1,5 +1,5 @@
-//! Whether the rows of the tables are those of a sound institution, and what is missing of them under the first schema. It
-//! knows rows and no database.
+//! Whether the rows of the tables are those of a sound institution, and what is missing of them under the first schema.
+//! It knows rows and no database.
 #![tactic(auto)]
 
 mod amounts;

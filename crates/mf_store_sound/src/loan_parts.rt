@@ -14,7 +14,8 @@ use mf_store_records::{EntryRow, LoanRow};
 /// Whether the rows are those of a loan of this office with this number and of its entries.
 fn is_loan_part(lender: &Lender, number: u32, row: &LoanRow, entries: &[EntryRow]) -> bool
     requires { lender.now.today ≤ last_entered_day }
-    ensures { (k : Catalogue) → k.day ≡ lender.now.today → numbered_from product_as 1 k.products ≡ lender.now.products.now →
+    ensures { (k : Catalogue) → k.day ≡ lender.now.today → numbered_from product_as 1 k.products
+        ≡ lender.now.products.now →
         (names : List (List ℕ)) → length names ≡ lender.now.clients →
         IsTrue result ↔ IsLoanPart k names lender.now.office number row.now entries.now }
 {
@@ -27,7 +28,8 @@ fn is_loan_part(lender: &Lender, number: u32, row: &LoanRow, entries: &[EntryRow
 /// Whether the rows are those of this office's loans and of their entries, loan by loan, by number from 1.
 pub(crate) fn are_loans(lender: &Lender, loans: &[LoanRow], entries: &[EntryRow]) -> bool
     requires { lender.now.today ≤ last_entered_day }
-    ensures { (k : Catalogue) → k.day ≡ lender.now.today → numbered_from product_as 1 k.products ≡ lender.now.products.now →
+    ensures { (k : Catalogue) → k.day ≡ lender.now.today → numbered_from product_as 1 k.products
+        ≡ lender.now.products.now →
         (names : List (List ℕ)) → length names ≡ lender.now.clients →
         IsTrue result ↔ ((length loans.now ≤ 999999) × AreLoanParts k names lender.now.office 1 loans.now entries.now) }
 {

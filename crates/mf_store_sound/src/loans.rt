@@ -83,7 +83,8 @@ fn is_row_of_loan(today: Day, office: u32, number: u32, row: &LoanRow) -> bool
 
 /// Whether the client of the row's loan exists: clients are numbered up to this count.
 fn is_client_there(clients: usize, row: &LoanRow) -> bool
-    ensures { (l : Loan) → loan_in row.now.office row.now.number l ≡ row.now → (names : List (List ℕ)) → length names ≡ clients →
+    ensures { (l : Loan) → loan_in row.now.office row.now.number l ≡ row.now → (names : List (List ℕ)) → length names
+        ≡ clients →
         result ≡ is_some (item_numbered names l.client) }
 {
     row.client >= 1 && row.client as usize <= clients
@@ -116,7 +117,8 @@ fn does_lend(products: &[ProductRow], row: &LoanRow) -> bool
 /// Whether a row is that of a loan of this office with this number. It does not check its entries.
 pub(crate) fn is_loan(lender: &Lender, number: u32, row: &LoanRow) -> bool
     requires { lender.now.today ≤ last_entered_day }
-    ensures { (k : Catalogue) → k.day ≡ lender.now.today → numbered_from product_as 1 k.products ≡ lender.now.products.now →
+    ensures { (k : Catalogue) → k.day ≡ lender.now.today → numbered_from product_as 1 k.products
+        ≡ lender.now.products.now →
         (names : List (List ℕ)) → length names ≡ lender.now.clients →
         IsTrue result ↔ IsRowOf (loan_in lender.now.office) (IsOwnLoan k names) number row.now }
 {
@@ -130,7 +132,8 @@ pub(crate) fn is_loan(lender: &Lender, number: u32, row: &LoanRow) -> bool
 pub(crate) fn are_entries_of(lender: &Lender, number: u32, row: &LoanRow, own: &[EntryRow]) -> bool
     requires { lender.now.today ≤ last_entered_day }
     ensures { (l : Loan) → loan_in lender.now.office number l ≡ row.now → IsStageBy lender.now.today l.stage →
-        IsTrue result ↔ AreEntriesOf lender.now.today l.periods (disbursed_on l.stage) lender.now.office number own.now }
+        IsTrue result ↔ AreEntriesOf lender.now.today l.periods (disbursed_on l.stage) lender.now.office number
+        own.now }
 {
     let Some(text) = &row.disbursed else {
         return own.is_empty();

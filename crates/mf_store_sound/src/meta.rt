@@ -1,3 +1,5 @@
+//! The business day that the table meta keeps, where it keeps one.
+
 ghost use Rattle.std.specs.Prelude.{◌≡◌, ℕ, [], ◌∷◌, ◌≤◌, Some, IfSome};
 ghost use Rattle.mf_base.specs.DayText.{last_entered_day, day_text};
 ghost use Rattle.mf_store_sound.specs.Schemas.{meta_under};

@@ -22,7 +22,8 @@ pub(crate) fn are_numbered<Owner: Copy, R: NumberedRow<Owner>>(
     rows: &[R],
     most: u32,
 ) -> bool
-    ensures { (of : R.Setting owner) → IsTrue result ↔ ((length rows.now ≤ most) × AllFrom (R.IsNumbered owner of) 1 rows.now) }
+    ensures { (of : R.Setting owner) → IsTrue result ↔ ((length rows.now ≤ most)
+        × AllFrom (R.IsNumbered owner of) 1 rows.now) }
 {
     if rows.len() > most as usize {
         return false;

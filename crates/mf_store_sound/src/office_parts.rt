@@ -58,7 +58,8 @@ impl<'a> Belongings<'a> {
 
     /// Whether there are no rows.
     fn is_empty(self) -> bool
-        ensures { IsTrue result ↔ ((self.entry.staff.now ≡ []) × (self.entry.clients.now ≡ []) × (self.entry.loans.now ≡ []) × (self.entry.entries.now ≡ [])) }
+        ensures { IsTrue result ↔ ((self.entry.staff.now ≡ []) × (self.entry.clients.now ≡ [])
+            × (self.entry.loans.now ≡ []) × (self.entry.entries.now ≡ [])) }
     {
         self.staff.is_empty()
             && self.clients.is_empty()
@@ -72,7 +73,8 @@ impl<'a> Belongings<'a> {
 fn is_office_part(today: Day, products: &[ProductRow], office: u32, own: Belongings) -> bool
     requires { today ≤ last_entered_day }
     ensures { (k : Catalogue) → k.day ≡ today → numbered_from product_as 1 k.products ≡ products.now →
-        IsTrue result ↔ IsOfficePart k office own.entry.staff.now own.entry.clients.now own.entry.loans.now own.entry.entries.now }
+        IsTrue result ↔ IsOfficePart k office own.entry.staff.now own.entry.clients.now own.entry.loans.now
+        own.entry.entries.now }
 {
     if !are_numbered(office, own.staff, StaffNo::MAX) {
         return false;
@@ -100,7 +102,8 @@ pub(crate) fn are_office_parts(
     requires { today ≤ last_entered_day }
     ensures { (k : Catalogue) → k.day ≡ today → numbered_from product_as 1 k.products ≡ products.now →
         Ascending (map office_of offices.now) →
-        IsTrue result ↔ AreOfficeParts k offices.now all.entry.staff.now all.entry.clients.now all.entry.loans.now all.entry.entries.now }
+        IsTrue result ↔ AreOfficeParts k offices.now all.entry.staff.now all.entry.clients.now all.entry.loans.now
+        all.entry.entries.now }
 {
     let mut left = all;
     for office in offices {

@@ -104,8 +104,8 @@ fn are_all_offices(alloc: Global, offices: &[OfficeRow]) -> Result<bool, Fault>
     Ok(true)
 }
 
-/// Whether the numbers ascend, the head office exists, and each row is that of an office, with the hierarchy text that its
-/// parent gives.
+/// Whether the numbers ascend, the head office exists, and each row is that of an office, with the hierarchy text that
+/// its parent gives.
 fn are_office_rows(alloc: Global, offices: &[OfficeRow]) -> Result<bool, Fault>
     ensures rows { IfOk result (λ yes. IsTrue yes ↔ AreOfficeRows offices.now) }
     ensures gives_up { IfErr result (λ fault. fault ≡ F20) }

@@ -1,3 +1,5 @@
+//! Whether a row is that of a product with its number, over the charges that there are.
+
 ghost use Rattle.std.specs.Prelude.{◌≡◌, ℕ, pos, ◌≤◌, ◌↔◌, IsTrue, length, option_copied};
 ghost use Rattle.mf_base.specs.declared.day.Freq.{Freq as AnyFreq};
 ghost use Rattle.mf_catalog.specs.declared.limits.TheConstants.{MOST_PERIODS};
@@ -80,7 +82,8 @@ fn do_limits_agree(row: &ProductRow) -> bool
 
 /// Whether the charge that is named, if one is, exists and is of this kind.
 fn is_of_kind(charges: &[ChargeRow], kind: ChargeKind, named: Option<u32>) -> bool
-    ensures { (k : Catalogue) → numbered_from charge_as 1 k.charges ≡ charges.now → result ≡ is_of_kind (charge_in k) kind named }
+    ensures { (k : Catalogue) → numbered_from charge_as 1 k.charges ≡ charges.now
+        → result ≡ is_of_kind (charge_in k) kind named }
 {
     let Some(number) = named else {
         return true;

@@ -15,7 +15,8 @@ use mf_store_records::EntryRow;
 
 /// Whether the entry of a row comes before that of another: by day, then by number.
 fn is_before(row: &EntryRow, last: &EntryRow) -> bool
-    ensures { (x m : ℕ) (f e : Entry) → IsReadable f → entry_in x m f ≡ row.now → IsReadable e → entry_in x m e ≡ last.now →
+    ensures { (x m : ℕ) (f e : Entry) → IsReadable f → entry_in x m f ≡ row.now → IsReadable e → entry_in x m e
+        ≡ last.now →
         result ≡ comes_before f e }
 {
     let Some(day) = Day::parse(row.day.as_str().as_bytes()) else {
@@ -46,7 +47,8 @@ fn is_reversed(row: &EntryRow) -> bool
 
 /// Whether the entry of a row is reversed, or the same as another, or comes before it.
 fn is_past(row: &EntryRow, last: &EntryRow) -> bool
-    ensures { (x m : ℕ) (f e : Entry) → IsReadable f → entry_in x m f ≡ row.now → IsReadable e → entry_in x m e ≡ last.now →
+    ensures { (x m : ℕ) (f e : Entry) → IsReadable f → entry_in x m f ≡ row.now → IsReadable e → entry_in x m e
+        ≡ last.now →
         result ≡ (f.reversed || ((f.seq == e.seq) || comes_before f e)) }
 {
     is_reversed(row) || row.seq == last.seq || is_before(row, last)
@@ -78,7 +80,8 @@ fn is_in_order(rows: &[EntryRow], row: &EntryRow) -> bool
 /// Whether a write-off or a refund that stands is the last of the standing entries. At most two rows are held against
 /// all others, since no two can both be the last.
 pub(crate) fn are_seals_last(rows: &[EntryRow]) -> bool
-    ensures { (x m : ℕ) (entries : List Entry) → AllByRecursion IsReadable entries → map (entry_in x m) entries ≡ rows.now →
+    ensures { (x m : ℕ) (entries : List Entry) → AllByRecursion IsReadable entries → map (entry_in x m) entries
+        ≡ rows.now →
         result ≡ are_all_seals_last entries }
 {
     for row in rows {

@@ -82,8 +82,8 @@ pub fn is_sound(alloc: Global, tables: &Tables) -> Result<bool, Fault>
     )
 }
 
-/// Whether there is a sound institution whose rows these are under the first schema, which keeps no rows of accounts. The
-/// error is F20, out of memory.
+/// Whether there is a sound institution whose rows these are under the first schema, which keeps no rows of accounts.
+/// The error is F20, out of memory.
 pub fn is_sound_first(alloc: Global, tables: &Tables) -> Result<bool, Fault>
     ensures exact { IfOk result (λ yes. IsTrue yes ↔ AreOfSoundFirst tables.now) }
     ensures gives_up { IfErr result (λ fault. fault ≡ F20) }
@@ -94,8 +94,8 @@ pub fn is_sound_first(alloc: Global, tables: &Tables) -> Result<bool, Fault>
     are_under(alloc, FIRST_SCHEMA, tables)
 }
 
-/// The rows of instalments and of shares that the accounts of an institution have, by its rows under the first schema. The
-/// error is F20, out of memory.
+/// The rows of instalments and of shares that the accounts of an institution have, by its rows under the first schema.
+/// The error is F20, out of memory.
 pub fn account_rows(
     alloc: Global,
     tables: &Tables,

@@ -1,3 +1,5 @@
+//! Whether a row is that of a member of staff with its number.
+
 ghost use Rattle.mf_model.specs.Sound.{IsName};
 ghost use Rattle.mf_model.specs.Institution.{Staff};
 ghost use Rattle.mf_store_accounts.specs.Flat.{staff_in};

@@ -1,3 +1,5 @@
+//! The rows of all tables, as they were read.
+
 use mf_store_records::{
     ChargeRow, ClientRow, EntryRow, InstalmentRow, LoanRow, MetaRow, OfficeRow, ProductRow,
     ReceiptRow, ShareRow, StaffRow,

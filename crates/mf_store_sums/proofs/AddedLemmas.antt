@@ -1,5 +1,6 @@
 -- Sums of one loan more, and of one office more.
-use Rattle.std.proofs.Common.{◌≡◌, ◌+◌, ◌<◌, ◌∙◌, ◌==◌, ℕ, Bool, true, false, cond, not, List, [], ◌∷◌, length, get_or, take, refl, sym, arith}
+use Rattle.std.proofs.Common.{◌≡◌, ◌+◌, ◌<◌, ◌∙◌, ◌==◌, ℕ, Bool, true, false, cond, not, List, [], ◌∷◌, length, get_or}
+use Rattle.std.proofs.Common.{take, refl, sym, arith}
 use Rattle.std.specs.Prelude.{sum, sum_by, filter, slice_index}
 use Rattle.std.specs.List.{AllByRecursion}
 use Rattle.std.proofs.lemmas.List.Sums.{sum_by-cons, sum_by_more}
@@ -18,10 +19,12 @@ module _ {X : Type 0} where
       let all = sum_by-cons f x xs in
       omega (arith, one, all)
 
-  count_more : (p : X → Bool) (s : ℕ) (x : X) (xs : List X) → s + length (filter p (x ∷ [])) + length (filter p xs) ≡ s + length (filter p (x ∷ xs))
+  count_more : (p : X → Bool) (s : ℕ) (x : X) (xs : List X) → s + length (filter p (x ∷ [])) + length (filter p xs) ≡ s
+      + length (filter p (x ∷ xs))
   count_more p s x xs = go (p x)
     where
-      go : (b : Bool) → s + length (cond b (x ∷ []) []) + length (filter p xs) ≡ s + length (cond b (x ∷ filter p xs) (filter p xs))
+      go : (b : Bool) → s + length (cond b (x ∷ []) []) + length (filter p xs) ≡ s + length (cond b (x ∷ filter p xs)
+          (filter p xs))
       go true = omega arith
       go false = omega arith
 
@@ -30,7 +33,8 @@ module _ {X : Type 0} where
   alone f x n e = omega (arith, e)
 
   -- what is three parts of each is three parts of all
-  pub in_three : (f g h q : X → ℕ) (xs : List X) → AllByRecursion (λ x. f x ≡ g x + h x + q x) xs → sum_by f xs ≡ sum_by g xs + sum_by h xs + sum_by q xs
+  pub in_three : (f g h q : X → ℕ) (xs : List X) → AllByRecursion (λ x. f x ≡ g x + h x + q x) xs
+      → sum_by f xs ≡ sum_by g xs + sum_by h xs + sum_by q xs
   in_three f g h q [] all = refl
   in_three f g h q (x ∷ xs) all =
       let first = all.0 in
@@ -49,10 +53,13 @@ none_and n = omega arith
 
 -- ---- loans
 
-pub more_added : (k : Catalogue) (s : Sums) (l : Ledger) (ls : List Ledger) → added (added s (sums_by_loan k 0 (l ∷ []))) (sums_by_loan k 0 ls) ≡ added s (sums_by_loan k 0 (l ∷ ls))
+pub more_added : (k : Catalogue) (s : Sums) (l : Ledger) (ls : List Ledger)
+    → added (added s (sums_by_loan k 0 (l ∷ []))) (sums_by_loan k 0 ls) ≡ added s (sums_by_loan k 0 (l ∷ ls))
 more_added k s l ls =
-    let at : (status n : ℕ) → n + loans_at k (l ∷ []) status + loans_at k ls status ≡ n + loans_at k (l ∷ ls) status = λ status n. count_more (λ (m : Ledger). status_in k m == status) n l ls in
-    let by : (f : Ledger → ℕ) (n : ℕ) → n + sum_by f (l ∷ []) + sum_by f ls ≡ n + sum_by f (l ∷ ls) = λ f n. sum_more f n l ls in
+    let at : (status n : ℕ) → n + loans_at k (l ∷ []) status + loans_at k ls status ≡ n + loans_at k (l ∷ ls) status =
+    λ status n. count_more (λ (m : Ledger). status_in k m == status) n l ls in
+    let by : (f : Ledger → ℕ) (n : ℕ) → n + sum_by f (l ∷ []) + sum_by f ls ≡ n + sum_by f (l ∷ ls) =
+    λ f n. sum_more f n l ls in
     λ t. record {
       clients = and_none (s.clients + 0) t;
       loans = record {
@@ -113,7 +120,8 @@ none_added k s = λ t. record {
 }
 
 -- sums of so many clients, with loans added
-first_added : (clients : ℕ) (s : Sums) → added (record (total_of []) { clients = clients }) s ≡ record s { clients = clients + s.clients }
+first_added : (clients : ℕ) (s : Sums) → added (record (total_of []) { clients = clients }) s
+    ≡ record s { clients = clients + s.clients }
 first_added clients s = λ t. record {
   clients = clients + s.clients;
   loans = record {
@@ -141,14 +149,17 @@ first_added clients s = λ t. record {
   };
 }
 
-pub clients_first : (k : Catalogue) (clients : ℕ) (ls : List Ledger) → added (record (total_of []) { clients = clients }) (sums_by_loan k 0 ls) ≡ sums_by_loan k clients ls
+pub clients_first : (k : Catalogue) (clients : ℕ) (ls : List Ledger)
+    → added (record (total_of []) { clients = clients }) (sums_by_loan k 0 ls) ≡ sums_by_loan k clients ls
 clients_first k clients ls = first_added clients (sums_by_loan k 0 ls) ∙ (λ t. sums_by_loan k (and_none clients t) ls)
 
 -- ---- offices
 
-pub office_added : (os : List OfficeSums) (i : ℕ) (d : OfficeSums) → i < length os → added (total_of (take i os)) (get_or os i d).sums ≡ total_of (take (i + 1) os)
+pub office_added : (os : List OfficeSums) (i : ℕ) (d : OfficeSums) → i < length os → added (total_of (take i os))
+    (get_or os i d).sums ≡ total_of (take (i + 1) os)
 office_added os i d low =
-    let by : (f : OfficeSums → ℕ) → sum_by f (take i os) + f (get_or os i d) ≡ sum_by f (take (i + 1) os) = λ f. sym (sum_by_more f os i d low) in
+    let by : (f : OfficeSums → ℕ) → sum_by f (take i os) + f (get_or os i d) ≡ sum_by f (take (i + 1) os) =
+    λ f. sym (sum_by_more f os i d low) in
     λ t. record {
       clients = by (λ (x : OfficeSums). x.sums.clients) t;
       loans = record {

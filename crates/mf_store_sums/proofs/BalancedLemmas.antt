@@ -19,7 +19,8 @@ use Rattle.mf_store_sums.proofs.LoanLemmas.{not_disbursed}
 
 -- the two laws of a loan
 record IsLoanBalanced (k : Catalogue) (l : Ledger) : Type 0 where
-  principal : lent_on k l ≡ slice_index (balances_in k l).paid 3 + slice_index (balances_in k l).written_off 3 + slice_index (balances_in k l).outstanding 3
+  principal : lent_on k l ≡ slice_index (balances_in k l).paid 3 + slice_index (balances_in k l).written_off 3
+      + slice_index (balances_in k l).outstanding 3
   money : sum_repaid l.entries ≡ sum (balances_in k l).paid + (balances_in k l).overpaid + (balances_in k l).refunded
 
 -- both sides of each, by the account
@@ -28,10 +29,12 @@ lent_by o = of_account {A = ℕ} 0 (λ (a : Running). a.principal) o
 
 abbrev principal_in : Option Running → ℕ
 principal_in o =
-    slice_index (of_account no_balances balances_of o).paid 3 + slice_index (of_account no_balances balances_of o).written_off 3 + slice_index (of_account no_balances balances_of o).outstanding 3
+    slice_index (of_account no_balances balances_of o).paid 3 + slice_index (of_account no_balances balances_of
+    o).written_off 3 + slice_index (of_account no_balances balances_of o).outstanding 3
 
 abbrev money_in : Option Running → ℕ
-money_in o = sum (of_account no_balances balances_of o).paid + (of_account no_balances balances_of o).overpaid + (of_account no_balances balances_of o).refunded
+money_in o = sum (of_account no_balances balances_of o).paid + (of_account no_balances balances_of o).overpaid
+    + (of_account no_balances balances_of o).refunded
 
 module _ (k : Catalogue) (staffed : Caller → Bool) (sound : IsSoundCatalogue k) where
   none_entered : (n : ℕ) (o : Option ℕ) (es : List Entry) → o ≡ None → AreEntriesBy k.day staffed n o es → es ≡ []
@@ -43,7 +46,8 @@ module _ (k : Catalogue) (staffed : Caller → Bool) (sound : IsSoundCatalogue k
     where
       go : (o : Option Running) → account_in k l ≡ o → IsLoanBalanced k l
       go None e =
-          let empty = none_entered l.loan.periods (disbursed_on l.loan.stage) l.entries (not_disbursed k l s.product e) s.entries in
+          let empty = none_entered l.loan.periods (disbursed_on l.loan.stage) l.entries (not_disbursed k l s.product e)
+          s.entries in
           record {
             principal = ap lent_by e ∙ sym (ap principal_in e);
             money = ap sum_repaid empty ∙ sym (ap money_in e);
@@ -53,46 +57,70 @@ module _ (k : Catalogue) (staffed : Caller → Bool) (sound : IsSoundCatalogue k
           let of = account_is k l a e in
           record {
             principal = ap lent_by e ∙ sym (balances-principal a right) ∙ sym (ap principal_in e);
-            money = ap (λ (r : Running). sum_repaid r.entries) of.account_is ∙ sym (balances-repaid a right) ∙ sym (ap money_in e);
+            money = ap (λ (r : Running). sum_repaid r.entries) of.account_is ∙ sym (balances-repaid a right)
+                ∙ sym (ap money_in e);
           }
 
-  loans_balanced : (names : List (List ℕ)) (ls : List Ledger) → AllByRecursion (IsSoundLoan k staffed names) ls → AllByRecursion (IsLoanBalanced k) ls
+  loans_balanced : (names : List (List ℕ)) (ls : List Ledger) → AllByRecursion (IsSoundLoan k staffed names) ls
+      → AllByRecursion (IsLoanBalanced k) ls
   loans_balanced names [] all = tt
   loans_balanced names (l ∷ ls) all = (loan_balanced names l all.0, loans_balanced names ls all.1)
 
-  each_principal : (ls : List Ledger) → AllByRecursion (IsLoanBalanced k) ls → AllByRecursion (λ (l : Ledger). lent_on k l ≡ slice_index (balances_in k l).paid 3 + slice_index (balances_in k l).written_off 3 + slice_index (balances_in k l).outstanding 3) ls
+  each_principal : (ls : List Ledger) → AllByRecursion (IsLoanBalanced k) ls
+      → AllByRecursion (λ (l : Ledger). lent_on k l ≡ slice_index (balances_in k l).paid 3
+      + slice_index (balances_in k l).written_off 3 + slice_index (balances_in k l).outstanding 3) ls
   each_principal [] all = tt
   each_principal (l ∷ ls) all = (all.0.principal, each_principal ls all.1)
 
-  each_money : (ls : List Ledger) → AllByRecursion (IsLoanBalanced k) ls → AllByRecursion (λ (l : Ledger). sum_repaid l.entries ≡ sum (balances_in k l).paid + (balances_in k l).overpaid + (balances_in k l).refunded) ls
+  each_money : (ls : List Ledger) → AllByRecursion (IsLoanBalanced k) ls → AllByRecursion (λ (l : Ledger).
+      sum_repaid l.entries ≡ sum (balances_in k l).paid + (balances_in k l).overpaid + (balances_in k l).refunded) ls
   each_money [] all = tt
   each_money (l ∷ ls) all = (all.0.money, each_money ls all.1)
 
-  sums_balanced : (clients : ℕ) (ls : List Ledger) → AllByRecursion (IsLoanBalanced k) ls → IsBalanced (sums_by_loan k clients ls)
+  sums_balanced : (clients : ℕ) (ls : List Ledger) → AllByRecursion (IsLoanBalanced k) ls
+      → IsBalanced (sums_by_loan k clients ls)
   sums_balanced clients ls all = record {
-    principal = in_three (lent_on k) (λ (l : Ledger). slice_index (balances_in k l).paid 3) (λ (l : Ledger). slice_index (balances_in k l).written_off 3) (λ (l : Ledger). slice_index (balances_in k l).outstanding 3) ls (each_principal ls all);
-    money = in_three (λ (l : Ledger). sum_repaid l.entries) (λ (l : Ledger). sum (balances_in k l).paid) (λ (l : Ledger). (balances_in k l).overpaid) (λ (l : Ledger). (balances_in k l).refunded) ls (each_money ls all);
+    principal = in_three (lent_on k) (λ (l : Ledger). slice_index (balances_in k l).paid 3)
+        (λ (l : Ledger). slice_index (balances_in k l).written_off 3)
+        (λ (l : Ledger). slice_index (balances_in k l).outstanding 3) ls (each_principal ls all);
+    money = in_three (λ (l : Ledger). sum_repaid l.entries) (λ (l : Ledger). sum (balances_in k l).paid)
+        (λ (l : Ledger). (balances_in k l).overpaid) (λ (l : Ledger). (balances_in k l).refunded) ls
+        (each_money ls all);
   }
 
-  offices_balanced : (fs : List Office) → AllByRecursion (IsSoundOffice k staffed) fs → AllByRecursion (λ (o : OfficeSums). IsBalanced o.sums) (map (sums_of k) fs)
+  offices_balanced : (fs : List Office) → AllByRecursion (IsSoundOffice k staffed) fs
+      → AllByRecursion (λ (o : OfficeSums). IsBalanced o.sums) (map (sums_of k) fs)
   offices_balanced [] all = tt
-  offices_balanced (f ∷ fs) all = (sums_balanced (length f.rows.clients) f.rows.loans (loans_balanced f.rows.clients f.rows.loans all.0.rows.loans), offices_balanced fs all.1)
+  offices_balanced (f ∷ fs) all = (
+    sums_balanced (length f.rows.clients) f.rows.loans (loans_balanced f.rows.clients
+        f.rows.loans all.0.rows.loans),
+    offices_balanced fs all.1,
+  )
 
-pub all_balanced : (i : Institution) → IsSound i → AllByRecursion (λ (o : OfficeSums). IsBalanced o.sums) (map (sums_of i.catalogue) i.offices)
+pub all_balanced : (i : Institution) → IsSound i → AllByRecursion (λ (o : OfficeSums). IsBalanced o.sums)
+    (map (sums_of i.catalogue) i.offices)
 all_balanced i sound = offices_balanced i.catalogue (is_staff i.offices) sound.catalogue i.offices sound.each
 
 -- ---- of all offices
 
-office_principal : (os : List OfficeSums) → AllByRecursion (λ (o : OfficeSums). IsBalanced o.sums) os → AllByRecursion (λ (o : OfficeSums). o.sums.principal.disbursed ≡ o.sums.principal.paid + o.sums.principal.written_off + o.sums.principal.outstanding) os
+office_principal : (os : List OfficeSums) → AllByRecursion (λ (o : OfficeSums). IsBalanced o.sums) os
+    → AllByRecursion (λ (o : OfficeSums). o.sums.principal.disbursed ≡ o.sums.principal.paid
+    + o.sums.principal.written_off + o.sums.principal.outstanding) os
 office_principal [] all = tt
 office_principal (o ∷ os) all = (all.0.principal, office_principal os all.1)
 
-office_money : (os : List OfficeSums) → AllByRecursion (λ (o : OfficeSums). IsBalanced o.sums) os → AllByRecursion (λ (o : OfficeSums). o.sums.money.repaid ≡ o.sums.money.paid + o.sums.money.overpaid + o.sums.money.refunded) os
+office_money : (os : List OfficeSums) → AllByRecursion (λ (o : OfficeSums). IsBalanced o.sums) os
+    → AllByRecursion (λ (o : OfficeSums). o.sums.money.repaid ≡ o.sums.money.paid + o.sums.money.overpaid
+    + o.sums.money.refunded) os
 office_money [] all = tt
 office_money (o ∷ os) all = (all.0.money, office_money os all.1)
 
-pub total_balanced : (os : List OfficeSums) → AllByRecursion (λ (o : OfficeSums). IsBalanced o.sums) os → IsBalanced (total_of os)
+pub total_balanced : (os : List OfficeSums) → AllByRecursion (λ (o : OfficeSums). IsBalanced o.sums) os
+    → IsBalanced (total_of os)
 total_balanced os all = record {
-  principal = in_three (λ (o : OfficeSums). o.sums.principal.disbursed) (λ (o : OfficeSums). o.sums.principal.paid) (λ (o : OfficeSums). o.sums.principal.written_off) (λ (o : OfficeSums). o.sums.principal.outstanding) os (office_principal os all);
-  money = in_three (λ (o : OfficeSums). o.sums.money.repaid) (λ (o : OfficeSums). o.sums.money.paid) (λ (o : OfficeSums). o.sums.money.overpaid) (λ (o : OfficeSums). o.sums.money.refunded) os (office_money os all);
+  principal = in_three (λ (o : OfficeSums). o.sums.principal.disbursed) (λ (o : OfficeSums). o.sums.principal.paid)
+      (λ (o : OfficeSums). o.sums.principal.written_off) (λ (o : OfficeSums). o.sums.principal.outstanding) os
+      (office_principal os all);
+  money = in_three (λ (o : OfficeSums). o.sums.money.repaid) (λ (o : OfficeSums). o.sums.money.paid)
+      (λ (o : OfficeSums). o.sums.money.overpaid) (λ (o : OfficeSums). o.sums.money.refunded) os (office_money os all);
 }

@@ -7,7 +7,8 @@ use Rattle.mf_store_sums.specs.declared.totals.Sums.{Sums}
 use Rattle.mf_store_sums.specs.Sums.{Fit, added, total_of}
 use Rattle.mf_store_sums.proofs.AddedLemmas.{office_added}
 
-under : (os : List OfficeSums) (i : ℕ) (f : OfficeSums → ℕ) (most : ℕ) → sum_by f os < most → sum_by f (take i os) < most
+under : (os : List OfficeSums) (i : ℕ) (f : OfficeSums → ℕ) (most : ℕ) → sum_by f os < most → sum_by f (take i os)
+    < most
 under os i f most low = let less = sum_by-take-le f os i in omega (arith, less, low)
 
 pub fit_before : (os : List OfficeSums) (i : ℕ) → Fit (total_of os) → Fit (total_of (take i os))
@@ -41,7 +42,8 @@ fit_before os i all = record {
   };
 }
 
-module _ (os : List OfficeSums) (i : ℕ) (d : OfficeSums) (so_far : Sums) (low : i < length os) (is : so_far ≡ total_of (take i os)) where
+module _ (os : List OfficeSums) (i : ℕ) (d : OfficeSums) (so_far : Sums) (low : i < length os)
+    (is : so_far ≡ total_of (take i os)) where
   next : added so_far (get_or os i d).sums ≡ total_of (take (i + 1) os)
   next = (λ t. added (is t) (get_or os i d).sums) ∙ office_added os i d low
 

@@ -1,5 +1,6 @@
 -- What a sound institution comes to is far within 64 bits for counts and 128 bits for sums.
-use Rattle.std.proofs.Common.{◌≡◌, ◌+◌, ◌*◌, ◌^◌, ◌<◌, ◌≤◌, ◌==◌, ℕ, Bool, true, false, cond, not, List, [], ◌∷◌, map, length, get_or, Option, Some, None, refl, sym, ap, subst, arith}
+use Rattle.std.proofs.Common.{◌≡◌, ◌+◌, ◌*◌, ◌^◌, ◌<◌, ◌≤◌, ◌==◌, ℕ, Bool, true, false, cond, not, List, [], ◌∷◌, map}
+use Rattle.std.proofs.Common.{length, get_or, Option, Some, None, refl, sym, ap, subst, arith}
 use Rattle.std.specs.Prelude.{sum_by, filter}
 use Rattle.std.specs.List.{AllByRecursion}
 use Rattle.std.proofs.lemmas.List.Sums.{sum_by-cons, sum_by-le, length-filter, count_by-le-length}
@@ -22,7 +23,8 @@ use Rattle.mf_store_sums.proofs.BalancedLemmas.{all_balanced, total_balanced}
 use Rattle.mf_store_sums.proofs.LoanLemmas.{brought_by, brought_is}
 
 -- a sum of numbers up to a most
-sum_bound : {X : Type 0} (f : X → ℕ) (m : ℕ) (xs : List X) → AllByRecursion (λ x. f x ≤ m) xs → sum_by f xs ≤ length xs * m
+sum_bound : {X : Type 0} (f : X → ℕ) (m : ℕ) (xs : List X) → AllByRecursion (λ x. f x ≤ m) xs
+    → sum_by f xs ≤ length xs * m
 sum_bound f m [] all = omega arith
 sum_bound f m (x ∷ xs) all =
     let first = all.0 in
@@ -64,16 +66,22 @@ module _ (k : Catalogue) (staffed : Caller → Bool) (sound : IsSoundCatalogue k
   few_of n None es are = let none : length es ≡ 0 = ap length are in omega (arith, none)
   few_of n (Some day) es are = are.lawful.few
 
-  brought_of : (n : ℕ) (o : Option ℕ) (es : List Entry) → AreEntriesBy k.day staffed n o es → sum_by brought_by es ≤ length es * 10 ^ 12
-  brought_of n None es are = subst (λ (xs : List Entry). sum_by brought_by xs ≤ length xs * 10 ^ 12) (sym are) (omega arith)
-  brought_of n (Some day) es are = sum_by-le brought_by (10 ^ 12) es (λ i d low. brought_bound n (get_or es i d) (are.lawful.each i d low).columns)
+  brought_of : (n : ℕ) (o : Option ℕ) (es : List Entry) → AreEntriesBy k.day staffed n o es → sum_by brought_by es
+      ≤ length es * 10 ^ 12
+  brought_of n None es are = subst (λ (xs : List Entry). sum_by brought_by xs ≤ length xs * 10 ^ 12) (sym are)
+      (omega arith)
+  brought_of n (Some day) es are =
+      sum_by-le brought_by (10 ^ 12) es (λ i d low. brought_bound n (get_or es i d) (are.lawful.each i d low).columns)
 
   lent_of : (names : List (List ℕ)) (l : Ledger) → IsSoundLoan k staffed names l → lent_on k l ≤ 10 ^ 12
   lent_of names l s = go (account_in k l) refl
     where
-      go : (o : Option Running) → account_in k l ≡ o → of_account {A = ℕ} 0 (λ (a : Running). a.principal) (account_in k l) ≤ 10 ^ 12
-      go None e = subst (λ (o : Option Running). of_account {A = ℕ} 0 (λ (a : Running). a.principal) o ≤ 10 ^ 12) (sym e) (omega arith)
-      go (Some a) e = subst (λ (o : Option Running). of_account {A = ℕ} 0 (λ (a : Running). a.principal) o ≤ 10 ^ 12) (sym e) (account_sound k staffed names l a sound s e).limits.most_principal
+      go : (o : Option Running) → account_in k l ≡ o → of_account {A = ℕ} 0 (λ (a : Running). a.principal)
+          (account_in k l) ≤ 10 ^ 12
+      go None e = subst (λ (o : Option Running). of_account {A = ℕ} 0 (λ (a : Running). a.principal) o ≤ 10 ^ 12)
+          (sym e) (omega arith)
+      go (Some a) e = subst (λ (o : Option Running). of_account {A = ℕ} 0 (λ (a : Running). a.principal) o ≤ 10 ^ 12)
+          (sym e) (account_sound k staffed names l a sound s e).limits.most_principal
 
   loan_bound : (names : List (List ℕ)) (l : Ledger) → IsSoundLoan k staffed names l → IsLoanBound k l
   loan_bound names l s =
@@ -82,13 +90,15 @@ module _ (k : Catalogue) (staffed : Caller → Bool) (sound : IsSoundCatalogue k
       let is = brought_is l.entries in
       record { few = few; lent = lent_of names l s; repaid = omega (arith, few, brought, is) }
 
-  each_loan : (f : Ledger → ℕ) (m : ℕ) → ((l : Ledger) → IsLoanBound k l → f l ≤ m) → (names : List (List ℕ)) (ls : List Ledger) → AllByRecursion (IsSoundLoan k staffed names) ls → AllByRecursion (λ l. f l ≤ m) ls
+  each_loan : (f : Ledger → ℕ) (m : ℕ) → ((l : Ledger) → IsLoanBound k l → f l ≤ m) → (names : List (List ℕ))
+      (ls : List Ledger) → AllByRecursion (IsSoundLoan k staffed names) ls → AllByRecursion (λ l. f l ≤ m) ls
   each_loan f m bound names [] all = tt
   each_loan f m bound names (l ∷ ls) all = (bound l (loan_bound names l all.0), each_loan f m bound names ls all.1)
 
   -- ---- one office
 
-  office_bound : (f : Ledger → ℕ) (m : ℕ) → ((l : Ledger) → IsLoanBound k l → f l ≤ m) → (o : Office) → IsSoundOffice k staffed o → sum_by f o.rows.loans ≤ length o.rows.loans * m
+  office_bound : (f : Ledger → ℕ) (m : ℕ) → ((l : Ledger) → IsLoanBound k l → f l ≤ m) → (o : Office)
+      → IsSoundOffice k staffed o → sum_by f o.rows.loans ≤ length o.rows.loans * m
   office_bound f m bound o s = sum_bound f m o.rows.loans (each_loan f m bound o.rows.clients o.rows.loans s.rows.loans)
 
   loans_bound : (o : Office) → IsSoundOffice k staffed o → (status : ℕ) → loans_at k o.rows.loans status ≤ 10 ^ 6
@@ -97,9 +107,11 @@ module _ (k : Catalogue) (staffed : Caller → Bool) (sound : IsSoundCatalogue k
       let most = s.rows.loan_limit in
       omega (arith, few, most)
 
-  entries_bound : (p : Entry → Bool) (o : Office) → IsSoundOffice k staffed o → sum_by (λ (l : Ledger). length (filter p l.entries)) o.rows.loans ≤ 10 ^ 10
+  entries_bound : (p : Entry → Bool) (o : Office) → IsSoundOffice k staffed o
+      → sum_by (λ (l : Ledger). length (filter p l.entries)) o.rows.loans ≤ 10 ^ 10
   entries_bound p o s =
-      let sum = office_bound (λ (l : Ledger). length (filter p l.entries)) 9999 (λ l b. (let few = b.few in let some = filter_bound p l.entries in omega (arith, few, some))) o s in
+      let sum = office_bound (λ (l : Ledger). length (filter p l.entries)) 9999
+      (λ l b. (let few = b.few in let some = filter_bound p l.entries in omega (arith, few, some))) o s in
       let most = s.rows.loan_limit in
       omega (arith, sum, most)
 
@@ -109,7 +121,8 @@ module _ (k : Catalogue) (staffed : Caller → Bool) (sound : IsSoundCatalogue k
       let most = s.rows.loan_limit in
       omega (arith, sum, most)
 
-  repaid_bound : (o : Office) → IsSoundOffice k staffed o → sum_by (λ (l : Ledger). sum_repaid l.entries) o.rows.loans ≤ 10 ^ 22
+  repaid_bound : (o : Office) → IsSoundOffice k staffed o → sum_by (λ (l : Ledger). sum_repaid l.entries) o.rows.loans
+      ≤ 10 ^ 22
   repaid_bound o s =
       let sum = office_bound (λ (l : Ledger). sum_repaid l.entries) (10 ^ 16) (λ l b. b.repaid) o s in
       let most = s.rows.loan_limit in
@@ -117,14 +130,16 @@ module _ (k : Catalogue) (staffed : Caller → Bool) (sound : IsSoundCatalogue k
 
   -- ---- all offices
 
-  few_offices : (n : ℕ) (fs : List Office) → Above n fs → Ascending fs → AllByRecursion (IsSoundOffice k staffed) fs → n ≤ 9999 → n + length fs ≤ 9999
+  few_offices : (n : ℕ) (fs : List Office) → Above n fs → Ascending fs → AllByRecursion (IsSoundOffice k staffed) fs
+      → n ≤ 9999 → n + length fs ≤ 9999
   few_offices n [] above up all low = omega (arith, low)
   few_offices n (o ∷ fs) above up all low =
       let first = above.0 in
       let rest = few_offices o.number fs up.0 up.1 all.1 all.0.number.1 in
       omega (arith, first, rest)
 
-  every_office : (f : OfficeSums → ℕ) (m : ℕ) → ((o : Office) → IsSoundOffice k staffed o → f (sums_of k o) ≤ m) → (fs : List Office) → AllByRecursion (IsSoundOffice k staffed) fs → sum_by f (map (sums_of k) fs) ≤ length fs * m
+  every_office : (f : OfficeSums → ℕ) (m : ℕ) → ((o : Office) → IsSoundOffice k staffed o → f (sums_of k o) ≤ m)
+      → (fs : List Office) → AllByRecursion (IsSoundOffice k staffed) fs → sum_by f (map (sums_of k) fs) ≤ length fs * m
   every_office f m bound [] all = omega arith
   every_office f m bound (o ∷ fs) all =
       let first = bound o all.0 in
@@ -133,24 +148,33 @@ module _ (k : Catalogue) (staffed : Caller → Bool) (sound : IsSoundCatalogue k
       omega (arith, first, rest, whole)
 
   -- counts of all offices, and sums
-  count_fits : (f : OfficeSums → ℕ) → ((o : Office) → IsSoundOffice k staffed o → f (sums_of k o) ≤ 10 ^ 10) → (fs : List Office) → AllByRecursion (IsSoundOffice k staffed) fs → length fs ≤ 9999 → sum_by f (map (sums_of k) fs) < 2 ^ 64
+  count_fits : (f : OfficeSums → ℕ) → ((o : Office) → IsSoundOffice k staffed o → f (sums_of k o) ≤ 10 ^ 10)
+      → (fs : List Office) → AllByRecursion (IsSoundOffice k staffed) fs → length fs ≤ 9999
+      → sum_by f (map (sums_of k) fs) < 2 ^ 64
   count_fits f bound fs all few = let most = every_office f (10 ^ 10) bound fs all in omega (arith, most, few)
 
-  sum_fits : (f : OfficeSums → ℕ) → ((o : Office) → IsSoundOffice k staffed o → f (sums_of k o) ≤ 10 ^ 22) → (fs : List Office) → AllByRecursion (IsSoundOffice k staffed) fs → length fs ≤ 9999 → sum_by f (map (sums_of k) fs) < 2 ^ 128
+  sum_fits : (f : OfficeSums → ℕ) → ((o : Office) → IsSoundOffice k staffed o → f (sums_of k o) ≤ 10 ^ 22)
+      → (fs : List Office) → AllByRecursion (IsSoundOffice k staffed) fs → length fs ≤ 9999
+      → sum_by f (map (sums_of k) fs) < 2 ^ 128
   sum_fits f bound fs all few = let most = every_office f (10 ^ 22) bound fs all in omega (arith, most, few)
 
-  loans_fit : (f : OfficeSums → ℕ) (status : ℕ) → ((o : Office) → f (sums_of k o) ≡ loans_at k o.rows.loans status) → (fs : List Office) → AllByRecursion (IsSoundOffice k staffed) fs → length fs ≤ 9999 → sum_by f (map (sums_of k) fs) < 2 ^ 64
-  loans_fit f status is fs all few = count_fits f (λ o s. (let same = is o in let most = loans_bound o s status in omega (arith, same, most))) fs all few
+  loans_fit : (f : OfficeSums → ℕ) (status : ℕ) → ((o : Office) → f (sums_of k o) ≡ loans_at k o.rows.loans status)
+      → (fs : List Office) → AllByRecursion (IsSoundOffice k staffed) fs → length fs ≤ 9999
+      → sum_by f (map (sums_of k) fs) < 2 ^ 64
+  loans_fit f status is fs all few = count_fits f (λ o s. (let same = is o in let most = loans_bound o s status in
+      omega (arith, same, most))) fs all few
 
   -- what is left over or went elsewhere is no more than all of it
-  all_fit : (fs : List Office) → AllByRecursion (IsSoundOffice k staffed) fs → length fs ≤ 9999 → IsBalanced (total_of (map (sums_of k) fs)) → Fit (total_of (map (sums_of k) fs))
+  all_fit : (fs : List Office) → AllByRecursion (IsSoundOffice k staffed) fs → length fs ≤ 9999
+      → IsBalanced (total_of (map (sums_of k) fs)) → Fit (total_of (map (sums_of k) fs))
   all_fit fs all few balanced =
       let lent = sum_fits (λ (x : OfficeSums). x.sums.principal.disbursed) lent_bound fs all few in
       let brought = sum_fits (λ (x : OfficeSums). x.sums.money.repaid) repaid_bound fs all few in
       let principal = balanced.principal in
       let money = balanced.money in
       record {
-        clients = count_fits (λ (x : OfficeSums). x.sums.clients) (λ o s. (let most = s.rows.client_limit in omega (arith, most))) fs all few;
+        clients = count_fits (λ (x : OfficeSums). x.sums.clients)
+            (λ o s. (let most = s.rows.client_limit in omega (arith, most))) fs all few;
         loans = record {
           submitted = loans_fit (λ (x : OfficeSums). x.sums.loans.submitted) 100 (λ o. refl) fs all few;
           approved = loans_fit (λ (x : OfficeSums). x.sums.loans.approved) 200 (λ o. refl) fs all few;
@@ -162,22 +186,37 @@ module _ (k : Catalogue) (staffed : Caller → Bool) (sound : IsSoundCatalogue k
           overpaid = loans_fit (λ (x : OfficeSums). x.sums.loans.overpaid) 700 (λ o. refl) fs all few;
         };
         entries = record {
-          standing = count_fits (λ (x : OfficeSums). x.sums.entries.standing) (λ o s. entries_bound (λ (e : Entry). not e.reversed) o s) fs all few;
-          reversed = count_fits (λ (x : OfficeSums). x.sums.entries.reversed) (λ o s. entries_bound (λ (e : Entry). e.reversed) o s) fs all few;
+          standing = count_fits (λ (x : OfficeSums). x.sums.entries.standing)
+              (λ o s. entries_bound (λ (e : Entry). not e.reversed) o s) fs all few;
+          reversed = count_fits (λ (x : OfficeSums). x.sums.entries.reversed)
+              (λ o s. entries_bound (λ (e : Entry). e.reversed) o s) fs all few;
         };
-        principal = record { disbursed = lent; paid = omega (arith, lent, principal); written_off = omega (arith, lent, principal); outstanding = omega (arith, lent, principal) };
-        money = record { repaid = brought; paid = omega (arith, brought, money); overpaid = omega (arith, brought, money); refunded = omega (arith, brought, money) };
+        principal = record {
+          disbursed = lent;
+          paid = omega (arith, lent, principal);
+          written_off = omega (arith, lent, principal);
+          outstanding = omega (arith, lent, principal);
+        };
+        money = record {
+          repaid = brought;
+          paid = omega (arith, brought, money);
+          overpaid = omega (arith, brought, money);
+          refunded = omega (arith, brought, money);
+        };
       }
 
 pub sound_fits : (i : Institution) → IsSound i → Fit (total_of (map (sums_of i.catalogue) i.offices))
 sound_fits i sound =
     let fs = i.offices in
-    all_fit i.catalogue (is_staff i.offices) sound.catalogue i.offices sound.each (few i.offices sound.tree.ascending sound.each)
+    all_fit i.catalogue (is_staff i.offices) sound.catalogue i.offices sound.each (few i.offices sound.tree.ascending
+    sound.each)
     (total_balanced (map (sums_of i.catalogue) i.offices) (all_balanced i sound))
   where
-    few : (fs : List Office) → Ascending fs → AllByRecursion (IsSoundOffice i.catalogue (is_staff i.offices)) fs → length fs ≤ 9999
+    few : (fs : List Office) → Ascending fs → AllByRecursion (IsSoundOffice i.catalogue (is_staff i.offices)) fs
+        → length fs ≤ 9999
     few [] up all = omega arith
     few (o ∷ fs) up all =
-        let rest = few_offices i.catalogue (is_staff i.offices) sound.catalogue o.number fs up.0 up.1 all.1 all.0.number.1 in
+        let rest = few_offices i.catalogue (is_staff i.offices) sound.catalogue o.number fs up.0 up.1 all.1
+        all.0.number.1 in
         let some = all.0.number.0 in
         omega (arith, rest, some)

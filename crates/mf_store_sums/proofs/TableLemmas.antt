@@ -21,17 +21,21 @@ use Rattle.mf_store_sound.proofs.SoundLemmas.{loans_under}
 use Rattle.mf_store_sums.specs.Offices.{IsPlain, AreRowsOfOffices}
 
 module _ (k : Catalogue) where
-  plain_placed : (x n : ℕ) (ls : List Ledger) (ps : List PlacedLoan) → AllByRecursion (IsPlainPlaced k) (placed_loans x n ls ++ ps) → AllByRecursion (IsPlain k) ls × AllByRecursion (IsPlainPlaced k) ps
+  plain_placed : (x n : ℕ) (ls : List Ledger) (ps : List PlacedLoan) → AllByRecursion (IsPlainPlaced k)
+      (placed_loans x n ls ++ ps) → AllByRecursion (IsPlain k) ls × AllByRecursion (IsPlainPlaced k) ps
   plain_placed x n [] ps all = (tt, all)
   plain_placed x n (l ∷ ls) ps all =
       let more = plain_placed x (n + 1) ls ps all.1 in
       ((record { names = all.0.clients; plain = all.0.plain }, more.0), more.1)
 
-  plain_offices : (fs : List Office) → AllByRecursion (IsPlainPlaced k) (all_placed fs) → AllByRecursion (λ (f : Office). AllByRecursion (IsPlain k) f.rows.loans) fs
+  plain_offices : (fs : List Office) → AllByRecursion (IsPlainPlaced k) (all_placed fs)
+      → AllByRecursion (λ (f : Office). AllByRecursion (IsPlain k) f.rows.loans) fs
   plain_offices [] all = tt
-  plain_offices (f ∷ fs) all = let both = plain_placed f.number 1 f.rows.loans (all_placed fs) all in (both.0, plain_offices fs both.1)
+  plain_offices (f ∷ fs) all = let both =
+      plain_placed f.number 1 f.rows.loans (all_placed fs) all in (both.0, plain_offices fs both.1)
 
-rows_of : (schema : ℕ) (t : Lists) (i : Institution) → IsSound i → tables_under schema i ≡ without_accounts t → AreRowsOfOffices i.catalogue t.offices t.clients t.loans t.entries i.offices
+rows_of : (schema : ℕ) (t : Lists) (i : Institution) → IsSound i → tables_under schema i ≡ without_accounts t
+    → AreRowsOfOffices i.catalogue t.offices t.clients t.loans t.entries i.offices
 rows_of schema t i sound is =
     let under : AreUnder schema t = record { institution = i; sound = sound; rows_are = is } in
     record {
@@ -45,15 +49,37 @@ rows_of schema t i sound is =
 
 -- what is told of offices, by the rows of the tables
 abbrev pub Told : (Catalogue → List Office → Type 0) → Lists → Type 0
-Told P t = (k : Catalogue) → IsSoundCatalogue k → numbered_from charge_as 1 k.charges ≡ t.charges → numbered_from product_as 1 k.products ≡ t.products → (fs : List Office) → AreRowsOfOffices k t.offices t.clients t.loans t.entries fs → P k fs
+Told P t = (k : Catalogue) → IsSoundCatalogue k → numbered_from charge_as 1 k.charges ≡ t.charges
+    → numbered_from product_as 1 k.products ≡ t.products → (fs : List Office) → AreRowsOfOffices k t.offices t.clients
+    t.loans t.entries fs → P k fs
 
 -- the parts of the lists, for the lists
-pub told_of_parts : (P : Catalogue → List Office → Type 0) (t inside : Lists) (view : inside ≡ t) (charges : List ChargeRow) (products : List ProductRow) (offices : List OfficeRow) (clients : List ClientRow) (loans : List LoanRow) (entries : List EntryRow)
-    → charges ≡ inside.charges → products ≡ inside.products → offices ≡ inside.offices → clients ≡ inside.clients → loans ≡ inside.loans → entries ≡ inside.entries
-    → Told P (record t { charges = charges; products = products; offices = offices; clients = clients; loans = loans; entries = entries }) → Told P t
+pub told_of_parts : (P : Catalogue → List Office → Type 0) (t inside : Lists) (view : inside ≡ t)
+    (charges : List ChargeRow) (products : List ProductRow) (offices : List OfficeRow) (clients : List ClientRow)
+    (loans : List LoanRow) (entries : List EntryRow)
+    → charges ≡ inside.charges → products ≡ inside.products → offices ≡ inside.offices → clients ≡ inside.clients
+    → loans ≡ inside.loans → entries ≡ inside.entries
+    → Told P (record t {
+      charges = charges;
+      products = products;
+      offices = offices;
+      clients = clients;
+      loans = loans;
+      entries = entries;
+    }) → Told P t
 told_of_parts P t inside view charges products offices clients loans entries c p o s l e told =
-    subst (λ (lists : Lists). Told P lists) (λ z. record t { charges = (c ∙ (λ y. (view y).charges)) z; products = (p ∙ (λ y. (view y).products)) z; offices = (o ∙ (λ y. (view y).offices)) z; clients = (s ∙ (λ y. (view y).clients)) z; loans = (l ∙ (λ y. (view y).loans)) z; entries = (e ∙ (λ y. (view y).entries)) z }) told
+    subst (λ (lists : Lists). Told P lists) (λ z. record t {
+      charges = (c ∙ (λ y. (view y).charges)) z;
+      products = (p ∙ (λ y. (view y).products)) z;
+      offices = (o ∙ (λ y. (view y).offices)) z;
+      clients = (s ∙ (λ y. (view y).clients)) z;
+      loans = (l ∙ (λ y. (view y).loans)) z;
+      entries =
+          (e ∙ (λ y. (view y).entries)) z;
+    }) told
 
 -- what is told, at the institution whose rows these are
-pub told_at : (P : Catalogue → List Office → Type 0) (t : Lists) → Told P t → (schema : ℕ) (i : Institution) → IsSound i → tables_under schema i ≡ without_accounts t → P i.catalogue i.offices
-told_at P t told schema i sound is = told i.catalogue sound.catalogue (ap (λ (l : Lists). l.charges) is) (ap (λ (l : Lists). l.products) is) i.offices (rows_of schema t i sound is)
+pub told_at : (P : Catalogue → List Office → Type 0) (t : Lists) → Told P t → (schema : ℕ) (i : Institution) → IsSound i
+    → tables_under schema i ≡ without_accounts t → P i.catalogue i.offices
+told_at P t told schema i sound is = told i.catalogue sound.catalogue (ap (λ (l : Lists). l.charges) is)
+    (ap (λ (l : Lists). l.products) is) i.offices (rows_of schema t i sound is)

@@ -1,5 +1,6 @@
--- A worked row: an office with two loans, computed from the definition. Each lends 100000 cents at 12 percent for three months
--- by equal principal from 2024-01-31, so 2000 of interest. Of the first 70000 are repaid, of the second 3000 too much.
+-- A worked row: an office with two loans, computed from the definition. Each lends 100000 cents at 12 percent for three
+-- months by equal principal from 2024-01-31, so 2000 of interest. Of the first 70000 are repaid, of the second 3000 too
+-- much.
 use Rattle.std.proofs.Common.{◌≡◌, ℕ, Bool, true, false, List, [], ◌∷◌, refl, Some, None}
 use Rattle.std.specs.Prelude.{codes}
 use Rattle.mf_base.specs.Calendar.{day_of, date_of}
@@ -17,7 +18,16 @@ abbrev catalogue : Catalogue
 catalogue = record { day = march; charges = []; products = record { members = usual None; retired = false } ∷ [] }
 
 abbrev lent : List Entry → Ledger
-lent entries = record { loan = record { client = 1; product = 1; principal = 100000; periods = 3; stage = Disbursed january january }; entries = entries }
+lent entries = record {
+  loan = record {
+    client = 1;
+    product = 1;
+    principal = 100000;
+    periods = 3;
+    stage = Disbursed january january;
+  };
+  entries = entries;
+}
 
 abbrev repayment : ℕ → ℕ → ℕ → Bool → Entry
 repayment seq day amount reversed = record {
@@ -40,7 +50,8 @@ office = record {
   rows = record {
     staff = [];
     clients = codes "Amina" ∷ [];
-    loans = lent (repayment 1 february 20000 false ∷ repayment 2 march 700 true ∷ repayment 3 march 50000 false ∷ []) ∷ lent (repayment 1 february 105000 false ∷ []) ∷ [];
+    loans = lent (repayment 1 february 20000 false ∷ repayment 2 march 700 true ∷ repayment 3 march 50000 false ∷ [])
+        ∷ lent (repayment 1 february 105000 false ∷ []) ∷ [];
   };
 }
 
@@ -49,7 +60,16 @@ expected = record {
   office = 2;
   sums = record {
     clients = 1;
-    loans = record { submitted = 0; approved = 0; active = 1; withdrawn = 0; rejected = 0; closed = 0; written_off = 0; overpaid = 1 };
+    loans = record {
+      submitted = 0;
+      approved = 0;
+      active = 1;
+      withdrawn = 0;
+      rejected = 0;
+      closed = 0;
+      written_off = 0;
+      overpaid = 1;
+    };
     entries = record { standing = 3; reversed = 1 };
     principal = record { disbursed = 200000; paid = 168000; written_off = 0; outstanding = 32000 };
     money = record { repaid = 175000; paid = 172000; overpaid = 3000; refunded = 0 };

@@ -17,7 +17,8 @@ pub record IsPlain (k : Catalogue) (l : Ledger) : Type 0 where
   pub plain : IsPlainLoan k names l
 
 -- the rows are those of these offices, of their clients, loans and entries, office by office
-pub record AreRowsOfOffices (k : Catalogue) (offices : List OfficeRow) (clients : List ClientRow) (loans : List LoanRow) (entries : List EntryRow) (fs : List Office) : Type 0 where
+pub record AreRowsOfOffices (k : Catalogue) (offices : List OfficeRow) (clients : List ClientRow) (loans : List LoanRow)
+    (entries : List EntryRow) (fs : List Office) : Type 0 where
   pub ascending : Ascending fs
   pub theirs : map bare fs ≡ map office_of offices
   pub plain : AllByRecursion (λ (f : Office). AllByRecursion (IsPlain k) f.rows.loans) fs

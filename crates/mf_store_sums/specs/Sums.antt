@@ -16,6 +16,7 @@ use Rattle.mf_store_sums.specs.declared.totals.OfficeSums.{OfficeSums}
 abbrev pub loans_at : Catalogue → List Ledger → ℕ → ℕ
 loans_at k ls status = length (filter (λ (l : Ledger). status_in k l == status) ls)
 
+-- how many loans have which status
 abbrev pub loan_counts : Catalogue → List Ledger → LoanCounts
 loan_counts k ls = record {
   submitted = loans_at k ls 100;
@@ -71,7 +72,8 @@ sums_by_loan k clients ls = record {
 abbrev pub sums_of : Catalogue → Office → OfficeSums
 sums_of k f = record { office = f.number; sums = sums_by_loan k (length f.rows.clients) f.rows.loans }
 
--- all that was lent is paid, written off or outstanding, and all that was repaid has paid something, is overpaid or was refunded
+-- all that was lent is paid, written off or outstanding, and all that was repaid has paid something, is overpaid or was
+-- refunded
 pub record IsBalanced (s : Sums) : Type 0 where
   pub principal : s.principal.disbursed ≡ s.principal.paid + s.principal.written_off + s.principal.outstanding
   pub money : s.money.repaid ≡ s.money.paid + s.money.overpaid + s.money.refunded
@@ -89,6 +91,7 @@ all_loans os = record {
   overpaid = sum_by (λ (o : OfficeSums). o.sums.loans.overpaid) os;
 }
 
+-- the sums of principal of all offices
 abbrev pub all_principal : List OfficeSums → PrincipalSums
 all_principal os = record {
   disbursed = sum_by (λ (o : OfficeSums). o.sums.principal.disbursed) os;
@@ -97,6 +100,7 @@ all_principal os = record {
   outstanding = sum_by (λ (o : OfficeSums). o.sums.principal.outstanding) os;
 }
 
+-- the sums of repayments of all offices
 abbrev pub all_money : List OfficeSums → MoneySums
 all_money os = record {
   repaid = sum_by (λ (o : OfficeSums). o.sums.money.repaid) os;
@@ -105,6 +109,7 @@ all_money os = record {
   refunded = sum_by (λ (o : OfficeSums). o.sums.money.refunded) os;
 }
 
+-- the sums of all offices
 abbrev pub total_of : List OfficeSums → Sums
 total_of os = record {
   clients = sum_by (λ (o : OfficeSums). o.sums.clients) os;
@@ -130,9 +135,11 @@ loans_added a b = record {
   overpaid = a.overpaid + b.overpaid;
 }
 
+-- two counts of entries, added
 abbrev pub entries_added : EntryCounts → EntryCounts → EntryCounts
 entries_added a b = record { standing = a.standing + b.standing; reversed = a.reversed + b.reversed }
 
+-- two sums of principal, added
 abbrev pub principal_added : PrincipalSums → PrincipalSums → PrincipalSums
 principal_added a b = record {
   disbursed = a.disbursed + b.disbursed;
@@ -141,6 +148,7 @@ principal_added a b = record {
   outstanding = a.outstanding + b.outstanding;
 }
 
+-- two sums of repayments, added
 abbrev pub money_added : MoneySums → MoneySums → MoneySums
 money_added a b = record {
   repaid = a.repaid + b.repaid;
@@ -149,6 +157,7 @@ money_added a b = record {
   refunded = a.refunded + b.refunded;
 }
 
+-- two offices' sums, added
 abbrev pub added : Sums → Sums → Sums
 added a b = record {
   clients = a.clients + b.clients;
@@ -169,22 +178,26 @@ pub record FitLoans (s : LoanCounts) : Type 0 where
   pub written_off : s.written_off < 2 ^ 64
   pub overpaid : s.overpaid < 2 ^ 64
 
+-- the counts have room in 64 bits
 pub record FitEntries (s : EntryCounts) : Type 0 where
   pub standing : s.standing < 2 ^ 64
   pub reversed : s.reversed < 2 ^ 64
 
+-- the sums of principal have room in 128 bits
 pub record FitPrincipal (s : PrincipalSums) : Type 0 where
   pub disbursed : s.disbursed < 2 ^ 128
   pub paid : s.paid < 2 ^ 128
   pub written_off : s.written_off < 2 ^ 128
   pub outstanding : s.outstanding < 2 ^ 128
 
+-- the sums of repayments have room in 128 bits
 pub record FitMoney (s : MoneySums) : Type 0 where
   pub repaid : s.repaid < 2 ^ 128
   pub paid : s.paid < 2 ^ 128
   pub overpaid : s.overpaid < 2 ^ 128
   pub refunded : s.refunded < 2 ^ 128
 
+-- all counts and sums have room
 pub record Fit (s : Sums) : Type 0 where
   pub clients : s.clients < 2 ^ 64
   pub loans : FitLoans s.loans

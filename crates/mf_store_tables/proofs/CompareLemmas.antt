@@ -1,5 +1,7 @@
 -- SQL's comparisons and casts of the values that items are stored as.
-use Rattle.std.proofs.Common.{◌≡◌, ℕ, ℤ, pos, Bool, true, false, ◌&&◌, ◌||◌, cond, List, [], ◌∷◌, refl, sym, ap, ap₂, ◌∙◌, arith, Ordering, Less, Equal, Greater, is_eq, is_ge, is_lt, is_gt, nat_cmp, string_bytes, String, Option, None, Some, option_map}
+use Rattle.std.proofs.Common.{◌≡◌, ℕ, ℤ, pos, Bool, true, false, ◌&&◌, ◌||◌, cond, List, [], ◌∷◌, refl, sym, ap, ap₂}
+use Rattle.std.proofs.Common.{◌∙◌, arith, Ordering, Less, Equal, Greater, is_eq, is_ge, is_lt, is_gt, nat_cmp}
+use Rattle.std.proofs.Common.{string_bytes, String, Option, None, Some, option_map}
 use Rattle.std.specs.Ordering.{ordering_then}
 use Rattle.std.proofs.lemmas.Bool.{and_parts, and_from}
 use Rattle.std.proofs.lemmas.Bool.Decides.{nat_tests}
@@ -35,7 +37,8 @@ pub equals : (a b : ℕ) → is_true (binary (Compare Eq Binary) (Int (pos a)) (
 unfolding binary
 equals a b = truth_back _ ∙ ap is_eq (int_cmp-pos a b)
 
-pub equals_text : (a b : List ℕ) → is_true (binary (Compare Eq Binary) (Text a) (Text b)) ≡ is_eq (slice_cmp nat_cmp a b)
+pub equals_text : (a b : List ℕ) → is_true (binary (Compare Eq Binary) (Text a) (Text b))
+    ≡ is_eq (slice_cmp nat_cmp a b)
 unfolding binary
 equals_text a b = truth_back _ ∙ ap is_eq (value_cmp-Text a b)
 
@@ -43,7 +46,8 @@ pub equals_id : (a b : ℤ) → is_true (binary (Compare Eq Binary) (Int a) (Int
 unfolding binary
 equals_id a b = truth_back _
 
-pub at_least_text : (a b : List ℕ) → is_true (binary (Compare Ge Binary) (Text a) (Text b)) ≡ is_ge (slice_cmp nat_cmp a b)
+pub at_least_text : (a b : List ℕ) → is_true (binary (Compare Ge Binary) (Text a) (Text b))
+    ≡ is_ge (slice_cmp nat_cmp a b)
 unfolding binary
 at_least_text a b = truth_back _ ∙ ap is_ge (value_cmp-Text a b)
 
@@ -122,9 +126,11 @@ cast_kept _ _ h = cc
 pub casts_kept : (cs : List Column) (vs : Row) → keeps_values cs vs ≡ true → cast_all cs vs ≡ vs
 casts_kept [] vs h = refl
 casts_kept (c ∷ cs) [] h = refl
-casts_kept (c ∷ cs) (v ∷ vs) h = let parts = and_parts _ _ h in ap₂ (λ w r. w ∷ r) (cast_kept c.kind v parts.0) (casts_kept cs vs parts.1)
+casts_kept (c ∷ cs) (v ∷ vs) h = let parts = and_parts _ _ h in ap₂ (λ w r. w ∷ r) (cast_kept c.kind v parts.0)
+    (casts_kept cs vs parts.1)
 
-pub row_kept : (table : Table) (v : Value) (vs : Row) → keeps_values table.columns vs ≡ true → cast_row table (v ∷ vs) ≡ cast kind.Integer v ∷ vs
+pub row_kept : (table : Table) (v : Value) (vs : Row) → keeps_values table.columns vs ≡ true → cast_row table (v ∷ vs)
+    ≡ cast kind.Integer v ∷ vs
 row_kept table v vs h = ap (λ r. cast kind.Integer v ∷ r) (casts_kept table.columns vs h)
 
 -- the same column by column, where some values may be absent
@@ -138,7 +144,8 @@ all_kept_test [] vs h = refl
 all_kept_test (c ∷ cs) [] h = refl
 all_kept_test (c ∷ cs) (v ∷ vs) h = and_from _ _ h.0 (all_kept_test cs vs h.1)
 
-pub each_kept : (table : Table) (v : Value) (vs : Row) → AllKept table.columns vs → cast_row table (v ∷ vs) ≡ cast kind.Integer v ∷ vs
+pub each_kept : (table : Table) (v : Value) (vs : Row) → AllKept table.columns vs → cast_row table (v ∷ vs)
+    ≡ cast kind.Integer v ∷ vs
 each_kept table v vs h = row_kept table v vs (all_kept_test table.columns vs h)
 
 pub null_kept : (n : Option ℕ) → keeps_value kind.Integer (or_null n) ≡ true
@@ -166,7 +173,8 @@ bound_number None = refl
 bound_number (Some k) = refl
 
 -- and so is an absent text
-pub bound_text : {Z : Type 0} (t : Option (String Z)) → bound_value (sql.or_null (λ s. Text (string_bytes s)) t) ≡ or_text (option_map string_bytes t)
+pub bound_text : {Z : Type 0} (t : Option (String Z)) → bound_value (sql.or_null (λ s. Text (string_bytes s)) t)
+    ≡ or_text (option_map string_bytes t)
 bound_text None = refl
 bound_text (Some t) = refl
 

@@ -15,7 +15,8 @@ use Rattle.sqlite_catalog.specs.Listing.{IsSound}
 use Rattle.mf_store_tables.specs.Making.{IsEmpty, Defines}
 use Rattle.mf_store_tables.proofs.WriteLemmas.{went, same_value}
 
-pub makes_one : (before : Schema) (table : Table) (sql : List ℕ) (old new : State) (count : ℕ) → Defines before sql table → IsEmpty before old.now → Executes sql [] old new (Ok count) → IsEmpty (created before table) new.now
+pub makes_one : (before : Schema) (table : Table) (sql : List ℕ) (old new : State) (count : ℕ) → Defines before sql
+    table → IsEmpty before old.now → Executes sql [] old new (Ok count) → IsEmpty (created before table) new.now
 makes_one before table sql old new count d was h =
     let has = was.schema_is in
     let text = statement_of sql (understood before sql) in
@@ -25,10 +26,20 @@ makes_one before table sql old new count d was h =
     let made = first.1 in
     let both : Ok made.table ≡ Ok table = sym made.defined ∙ d.table_is in
     let same : made.table ≡ table = cc in
-    let after : first.0.schema ≡ created before table = made.is ∙ ap (λ s. created s made.table) has ∙ ap (created before) same in
+    let after : first.0.schema ≡ created before table =
+    made.is ∙ ap (λ s. created s made.table) has ∙ ap (created before) same in
     let plain : lacks_sequence first.0.schema ≡ false = ap lacks_sequence after ∙ d.uncounted in
-    let now : new.now ≡ first.0 = ap (λ (p : Tally × Database). p.1) (same_value all.2) ∙ same_value (rw plain at first.2) in
+    let now : new.now ≡ first.0 = ap (λ (p : Tally × Database). p.1) (same_value all.2)
+    ∙ same_value (rw plain at first.2) in
     let fresh : first.0.trees (next_tree before) ≡ [] = subst (λ s. first.0.trees (next_tree s) ≡ []) has made.empty in
-    let kept = subst (λ (s : Schema). AllByRecursion (λ (t : Table). first.0.trees t.tree ≡ old.now.trees t.tree) s.tables) has made.others in
-    let olds = all_both (λ (t : Table). first.0.trees t.tree ≡ old.now.trees t.tree) (λ (t : Table). old.now.trees t.tree ≡ []) (λ (t : Table). first.0.trees t.tree ≡ []) (λ t p q. p ∙ q) before.tables kept was.empty in
-    subst (IsEmpty (created before table)) (sym now) (record { schema_is = after; sound = subst (λ d. IsSound (created before table) d) (ap (λ (d : Database). d.trees) now) (subst (λ s. IsSound s new.now.trees) (ap (λ (d : Database). d.schema) now ∙ after) w.sound); empty = all-append (λ (t : Table). first.0.trees t.tree ≡ []) before.tables _ olds (fresh, tt) })
+    let kept = subst (λ (s : Schema). AllByRecursion (λ (t : Table). first.0.trees t.tree ≡ old.now.trees t.tree)
+    s.tables) has made.others in
+    let olds = all_both (λ (t : Table). first.0.trees t.tree ≡ old.now.trees t.tree) (λ (t : Table). old.now.trees
+    t.tree ≡ []) (λ (t : Table). first.0.trees t.tree ≡ []) (λ t p q. p ∙ q) before.tables kept was.empty in
+    subst (IsEmpty (created before table)) (sym now) (record {
+      schema_is = after;
+      sound = subst (λ d. IsSound (created before table) d) (ap (λ (d : Database). d.trees) now)
+          (subst (λ s. IsSound s new.now.trees) (ap (λ (d : Database). d.schema) now ∙ after) w.sound);
+      empty =
+          all-append (λ (t : Table). first.0.trees t.tree ≡ []) before.tables _ olds (fresh, tt);
+    })

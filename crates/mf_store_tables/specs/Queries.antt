@@ -8,4 +8,5 @@ use Rattle.sqlite.proofs.Callers.{command_of}
 
 -- the rows are the answer, over this database, of a plain text that does not ask for the list of tables
 abbrev pub Answers : List ℕ → Row → Database → List Row → Type 0
-Answers sql params db rows = IsPlain (understood db.schema sql) → reads_listing db.schema sql ≡ false → Reads (command_of (understood db.schema sql)) db params rows
+Answers sql params db rows = IsPlain (understood db.schema sql) → reads_listing db.schema sql ≡ false
+    → Reads (command_of (understood db.schema sql)) db params rows

@@ -9,19 +9,30 @@ use Rattle.sqlite.specs.Kind.TheVariants.{Integer, Text}
 use Rattle.sqlite_schema.specs.declared.schema.Column.{Column}
 use Rattle.sqlite_schema.specs.declared.schema.Index.{Index}
 
+-- a column of a STRICT table
 abbrev pub typed_column : Kind → Bool → List ℕ → Column
-typed_column kind not_null name = record { name = name; kind = kind; is_strict = true; not_null = not_null; default = Null; collation = Binary }
+typed_column kind not_null name = record {
+  name = name;
+  kind = kind;
+  is_strict = true;
+  not_null = not_null;
+  default = Null;
+  collation = Binary;
+}
 
 -- INTEGER NOT NULL, TEXT NOT NULL, INTEGER and TEXT
 abbrev pub int : List ℕ → Column
 int = typed_column Integer true
 
+-- a column of texts
 abbrev pub text : List ℕ → Column
 text = typed_column Text true
 
+-- a column of integers that may be NULL
 abbrev pub maybe_int : List ℕ → Column
 maybe_int = typed_column Integer false
 
+-- a column of texts that may be NULL
 abbrev pub maybe_text : List ℕ → Column
 maybe_text = typed_column Text false
 
@@ -42,15 +53,19 @@ table_with tree name columns key uniques = record {
   is_counted = false;
 }
 
+-- a table with a primary key and no other
 abbrev pub table_of : ℕ → List ℕ → List Column → List ℕ → Table
 table_of tree name columns key = table_with tree name columns key (key ∷ [])
 
+-- the index of a key
 abbrev pub index_on : ℕ → ℕ → List ℕ → List ℕ → Index
-index_on table tree name key = record { name = name; tree = tree; table = table; columns = key; order = record { digits = 0 }; is_unique = true }
+index_on table tree name key =
+    record { name = name; tree = tree; table = table; columns = key; order = record { digits = 0 }; is_unique = true }
 
 -- the index of a table that has one
 abbrev pub index_of : ℕ → List ℕ → List ℕ → Index
 index_of tree = index_on (tree - 1) tree
 
+-- no table, no index and no view
 abbrev pub no_schema : Schema
 no_schema = record { tables = []; indexes = []; views = [] }

@@ -14,7 +14,8 @@ pub record Ran (sql : List ℕ) (params : Row) (old new : State) : Type 0 where
   pub ran : Executes sql params old new (Ok count)
 
 -- the database has the schema of these lists, and its tables keep them
-pub record Serves {L : Type 0} (schema : L → Schema) (Holds : Trees → L → Type 0) (db : Database) (lists : L) : Type 0 where
+pub record Serves {L : Type 0} (schema : L → Schema) (Holds : Trees → L → Type 0) (db : Database) (lists : L) : Type
+    0 where
   pub schema_is : db.schema ≡ schema lists
   pub holds : Holds db.trees lists
 
@@ -33,7 +34,8 @@ abbrev pub Turns : {L : Type 0} → (Database → L → Type 0) → (L → Type 
 Turns {L} Stands Fits change old new = (lists : L) → Stands old lists → Fits lists → Stands new (change lists)
 
 -- the transaction goes on, and its tables are changed so
-pub record Steps {L : Type 0} (Stands : Database → L → Type 0) (Fits : L → Type 0) (change : L → L) (old new : State) : Type 0 where
+pub record Steps {L : Type 0} (Stands : Database → L → Type 0) (Fits : L → Type 0) (change : L → L)
+    (old new : State) : Type 0 where
   pub mode : new.in_transaction ≡ true
   pub was_open : IsTrue old.is_open
   pub turns : Turns Stands Fits change old.now new.now
@@ -44,6 +46,7 @@ pub record IsSettled (s : State) : Type 0 where
   pub committed : s.committed ≡ s.now
 
 -- the trees that a stop may leave keep these lists
-pub record MayHold {L : Type 0} (Stands : Database → L → Type 0) (Holds : Trees → L → Type 0) (Fits : L → Type 0) (change : L → L) (old : State) (trees : Trees) : Type 0 where
+pub record MayHold {L : Type 0} (Stands : Database → L → Type 0) (Holds : Trees → L → Type 0) (Fits : L → Type 0)
+    (change : L → L) (old : State) (trees : Trees) : Type 0 where
   pub was_open : IsTrue old.is_open
   pub holds : (lists : L) → Stands old.now lists → Fits lists → Holds trees (change lists)

@@ -37,9 +37,12 @@ pub trait Write {
     /// Makes the write, as a part of the transaction.
     fn write<S: Alter>(&self, tx: &mut Transaction<'_, S>) -> Result<(), Error>
         ensures same_reference { tx.new.conn.ghost_name ≡ tx.old.conn.ghost_name }
-        ensures ok { HasCleanDisk (state S.Store tx.new.conn.now) → IsTrue (state S.Store tx.old.conn.now).in_transaction
-            → OnOk result (Steps (Serves schema Holds) (Fits self.now) (after self.now) (state S.Store tx.old.conn.now) (state S.Store tx.new.conn.now)) }
-        ensures kept { HasCleanDisk (state S.Store tx.new.conn.now) → KeepsCommit (state S.Store tx.old.conn.now) (state S.Store tx.new.conn.now) }
+        ensures ok { HasCleanDisk (state S.Store tx.new.conn.now)
+            → IsTrue (state S.Store tx.old.conn.now).in_transaction
+            → OnOk result (Steps (Serves schema Holds) (Fits self.now) (after self.now) (state S.Store tx.old.conn.now)
+            (state S.Store tx.new.conn.now)) }
+        ensures kept { HasCleanDisk (state S.Store tx.new.conn.now) → KeepsCommit (state S.Store tx.old.conn.now)
+            (state S.Store tx.new.conn.now) }
         ensures survives { Survives (state S.Store tx.old.conn.now) (state S.Store tx.new.conn.now) (λ _. ⊥) };
 }
 
@@ -52,7 +55,8 @@ pub fn run<S: Alter>(
     ensures same_reference { tx.new.conn.ghost_name ≡ tx.old.conn.ghost_name }
     ensures ok { HasCleanDisk (state S.Store tx.new.conn.now) → IsTrue (state S.Store tx.old.conn.now).in_transaction
         → OnOk result (Ran sql.now (bound params.now) (state S.Store tx.old.conn.now) (state S.Store tx.new.conn.now)) }
-    ensures kept { HasCleanDisk (state S.Store tx.new.conn.now) → KeepsCommit (state S.Store tx.old.conn.now) (state S.Store tx.new.conn.now) }
+    ensures kept { HasCleanDisk (state S.Store tx.new.conn.now) → KeepsCommit (state S.Store tx.old.conn.now)
+        (state S.Store tx.new.conn.now) }
     ensures survives { Survives (state S.Store tx.old.conn.now) (state S.Store tx.new.conn.now) (λ _. ⊥) }
 {
     tx.execute(sql, params)?;
@@ -64,14 +68,21 @@ pub fn apply<S: Alter, W: Write>(connection: &mut Connection<S>, writes: &[W]) -
     requires alone { connection.old.in_transaction ≡ false }
     requires some { 0 < length writes.now }
 
-    ensures ok { HasCleanDisk (state S.Store connection.new) → OnOk result (Turns (Serves W.schema W.Holds) (AllFit W.after W.Fits writes.now) (after_all W.after writes.now) (state S.Store connection.old).now (state S.Store connection.new).now) }
-    ensures settled { HasCleanDisk (state S.Store connection.new) → OnOk result (IsSettled (state S.Store connection.new)) }
-    ensures err { HasCleanDisk (state S.Store connection.new) → IsTrue (state S.Store connection.new).is_open → OnErr result ((state S.Store connection.new).now ≡ (state S.Store connection.old).now) }
-    ensures was_open { HasCleanDisk (state S.Store connection.new) → IsTrue (state S.Store connection.new).is_open → IsTrue (state S.Store connection.old).is_open }
+    ensures ok { HasCleanDisk (state S.Store connection.new) → OnOk result (Turns (Serves W.schema W.Holds)
+        (AllFit W.after W.Fits writes.now) (after_all W.after writes.now) (state S.Store connection.old).now
+        (state S.Store connection.new).now) }
+    ensures settled { HasCleanDisk (state S.Store connection.new)
+        → OnOk result (IsSettled (state S.Store connection.new)) }
+    ensures err { HasCleanDisk (state S.Store connection.new) → IsTrue (state S.Store connection.new).is_open
+        → OnErr result ((state S.Store connection.new).now ≡ (state S.Store connection.old).now) }
+    ensures was_open { HasCleanDisk (state S.Store connection.new) → IsTrue (state S.Store connection.new).is_open
+        → IsTrue (state S.Store connection.old).is_open }
     ensures mode { connection.new.in_transaction ≡ false }
 
     // A stop leaves the lists before or those after all writes, and never a part.
-    ensures crash { Survives (state S.Store connection.old) (state S.Store connection.new) (MayHold (Serves W.schema W.Holds) W.Holds (AllFit W.after W.Fits writes.now) (after_all W.after writes.now) (state S.Store connection.old)) }
+    ensures crash { Survives (state S.Store connection.old) (state S.Store connection.new)
+        (MayHold (Serves W.schema W.Holds) W.Holds (AllFit W.after W.Fits writes.now) (after_all W.after writes.now)
+        (state S.Store connection.old)) }
 {
     // With nothing to commit a stop leaves just the tables as they are; the call brings that into the proof.
     let _settled = connection.is_autocommit();
@@ -90,19 +101,26 @@ pub fn query<S: Alter>(
 ) -> Result<Vec<Row>, Error>
     requires { connection.old.in_transaction ≡ false }
 
-    ensures rows { HasCleanDisk (state S.Store connection.new) → IfOk result (λ rows. Answers sql.now (bound params.now) (state S.Store connection.old).now rows.items) }
-    ensures ok_open { HasCleanDisk (state S.Store connection.new) → OnOk result (IsTrue (state S.Store connection.old).is_open) }
-    ensures still_open { HasCleanDisk (state S.Store connection.new) → OnOk result (IsTrue (state S.Store connection.new).is_open) }
-    ensures same { HasCleanDisk (state S.Store connection.new) → IsTrue (state S.Store connection.new).is_open → IsPlain (understood (state S.Store connection.old).now.schema sql.now)
+    ensures rows { HasCleanDisk (state S.Store connection.new) → IfOk result (λ rows. Answers sql.now (bound params.now)
+        (state S.Store connection.old).now rows.items) }
+    ensures ok_open { HasCleanDisk (state S.Store connection.new)
+        → OnOk result (IsTrue (state S.Store connection.old).is_open) }
+    ensures still_open { HasCleanDisk (state S.Store connection.new)
+        → OnOk result (IsTrue (state S.Store connection.new).is_open) }
+    ensures same { HasCleanDisk (state S.Store connection.new) → IsTrue (state S.Store connection.new).is_open
+        → IsPlain (understood (state S.Store connection.old).now.schema sql.now)
         → (state S.Store connection.new).now ≡ (state S.Store connection.old).now }
-    ensures was_open { HasCleanDisk (state S.Store connection.new) → IsTrue (state S.Store connection.new).is_open → IsTrue (state S.Store connection.old).is_open }
+    ensures was_open { HasCleanDisk (state S.Store connection.new) → IsTrue (state S.Store connection.new).is_open
+        → IsTrue (state S.Store connection.old).is_open }
     ensures mode { connection.new.in_transaction ≡ false }
-    ensures crash { Survives (state S.Store connection.old) (state S.Store connection.new) (λ _. IsTrue (state S.Store connection.old).is_open × ¬ IsPlain (understood (state S.Store connection.old).now.schema sql.now)) }
+    ensures crash { Survives (state S.Store connection.old) (state S.Store connection.new)
+        (λ _. IsTrue (state S.Store connection.old).is_open
+        × ¬ IsPlain (understood (state S.Store connection.old).now.schema sql.now)) }
 {
     // As in `apply`: a stop leaves just the tables as they are.
     let _settled = connection.is_autocommit();
-    // An empty statement is refused where the connection is shut, so from here on it is open, which the clauses rest on; a
-    // statement of the text itself would copy it at each query.
+    // An empty statement is refused where the connection is shut, so from here on it is open, which the clauses rest
+    // on; a statement of the text itself would copy it at each query.
     connection.prepare("")?;
     connection.query_all(sql, params)
 }

@@ -9,35 +9,46 @@ use Rattle.mf_store_records.specs.Writes.{Holds as HoldsOwn}
 use Rattle.mf_store_records.specs.declared.instalments.InstalmentRow.{InstalmentRow}
 use Rattle.mf_store_records.specs.declared.meta.MetaRow.{MetaRow}
 use Rattle.mf_store_records.specs.declared.shares.ShareRow.{ShareRow}
-use Rattle.mf_store_upgrade.specs.Upgrade.{First, Own, schema_kept, Holds, Fits, after, upgrade_writes, upgraded_lists, CanUpgrade}
+use Rattle.mf_store_upgrade.specs.Upgrade.{First, Own, schema_kept, Holds, Fits, after, upgrade_writes, upgraded_lists}
+use Rattle.mf_store_upgrade.specs.Upgrade.{CanUpgrade}
 use Rattle.mf_store_upgrade.specs.Upgraded.{IsKeepingFirst, IsUpgradedTo}
 use Rattle.mf_store_upgrade.specs.declared.UpgradeWrite.{UpgradeWrite}
 use Rattle.mf_store_upgrade.proofs.LawLemmas.{upgrades_first}
 
-module _ (was is : State) (meta : MetaRow) (instalments : List InstalmentRow) (shares : List ShareRow) (writes : List UpgradeWrite) (made : writes ≡ upgrade_writes meta instalments shares)
+module _ (was is : State) (meta : MetaRow) (instalments : List InstalmentRow) (shares : List ShareRow)
+    (writes : List UpgradeWrite) (made : writes ≡ upgrade_writes meta instalments shares)
     (lists : Lists) (can : CanUpgrade meta instalments shares lists) (keeping : IsKeepingFirst was lists) where
   abbrev target : Lists
   target = upgraded_lists meta instalments shares lists
 
   fit : AllFit after Fits writes (First lists)
-  fit = subst (λ ws. AllFit after Fits ws (First lists)) (sym made) (upgrades_first meta instalments shares lists can).fit
+  fit = subst (λ ws. AllFit after Fits ws (First lists)) (sym made) (upgrades_first meta instalments shares lists
+      can).fit
 
   become : after_all after writes (First lists) ≡ Own (Some target)
   become = ap (λ ws. after_all after ws (First lists)) made ∙ (upgrades_first meta instalments shares lists can).become
 
-  pub upgraded_to : (IsTrue is.is_open → IsTrue was.is_open) → Turns (Serves schema_kept Holds) (AllFit after Fits writes) (after_all after writes) was.now is.now → ((trees : Trees) → IsTrue is.is_open → is.may_leave trees → trees ≡ is.committed.trees)
+  pub upgraded_to : (IsTrue is.is_open → IsTrue was.is_open) → Turns (Serves schema_kept Holds)
+      (AllFit after Fits writes) (after_all after writes) was.now is.now → ((trees : Trees) → IsTrue is.is_open
+      → is.may_leave trees → trees ≡ is.committed.trees)
       → IsSettled is → IsUpgradedTo is target
   upgraded_to was_open turns settled rests =
-      let serves = subst (λ kept. Serves schema_kept Holds is.now kept) become (turns (First lists) (keeping (was_open rests.is_open)) fit) in
+      let serves = subst (λ kept. Serves schema_kept Holds is.now kept) become (turns (First lists)
+      (keeping (was_open rests.is_open)) fit) in
       record {
         serves = record { schema_is = serves.schema_is; holds = serves.holds };
-        leaves = λ trees may. subst (λ t. HoldsOwn t (Some target)) (sym (settled trees rests.is_open may ∙ ap (λ (d : Database). d.trees) rests.committed)) serves.holds;
+        leaves = λ trees may. subst (λ t. HoldsOwn t (Some target)) (sym (settled trees rests.is_open may
+            ∙ ap (λ (d : Database). d.trees) rests.committed)) serves.holds;
       }
 
-  may_be_upgraded : (trees : Trees) → MayHold (Serves schema_kept Holds) Holds (AllFit after Fits writes) (after_all after writes) was trees → HoldsOwn trees (Some target)
-  may_be_upgraded trees wrote = subst (λ kept. Holds trees kept) become (wrote.holds (First lists) (keeping wrote.was_open) fit)
+  may_be_upgraded : (trees : Trees) → MayHold (Serves schema_kept Holds) Holds (AllFit after Fits writes)
+      (after_all after writes) was trees → HoldsOwn trees (Some target)
+  may_be_upgraded trees wrote =
+      subst (λ kept. Holds trees kept) become (wrote.holds (First lists) (keeping wrote.was_open) fit)
 
-  pub stop : Survives was is (MayHold (Serves schema_kept Holds) Holds (AllFit after Fits writes) (after_all after writes) was) → HasCleanDisk is → (trees : Trees) → is.may_leave trees → was.may_leave trees ⊎ HoldsOwn trees (Some target)
+  pub stop : Survives was is (MayHold (Serves schema_kept Holds) Holds (AllFit after Fits writes)
+      (after_all after writes) was) → HasCleanDisk is → (trees : Trees) → is.may_leave trees → was.may_leave trees
+      ⊎ HoldsOwn trees (Some target)
   stop survives clean trees may = elim (survives.crash clean trees may) [
     | inl before ↦ inl before
     | inr wrote ↦ inr (may_be_upgraded trees wrote)

@@ -1,5 +1,6 @@
 -- Rows that are put in the order of their key into a list that has none.
-use Rattle.std.proofs.Common.{◌≡◌, ◌∙◌, List, [], ◌∷◌, ◌++◌, map, Some, Ordering, Less, Equal, Greater, refl, sym, ap, append_assoc, nat_cmp, not, cond, is_eq, is_gt}
+use Rattle.std.proofs.Common.{◌≡◌, ◌∙◌, List, [], ◌∷◌, ◌++◌, map, Some, Ordering, Less, Equal, Greater, refl, sym, ap}
+use Rattle.std.proofs.Common.{append_assoc, nat_cmp, not, cond, is_eq, is_gt}
 use Rattle.std.specs.Cmp.{IsTotalOrder}
 use Rattle.std.specs.List.{AllByRecursion}
 use Rattle.std.specs.Ordering.{ordering_reverse}
@@ -30,9 +31,11 @@ module _ {R : Type 0} (cmp : R → R → Ordering) (total : IsTotalOrder cmp) wh
   put_last r (y ∷ rows) all =
       let above : cmp r y ≡ Greater = total.antisymm r y ∙ ap ordering_reverse all.0 in
       (λ t. insert_sorted cmp r (cond (not (is_eq (above t))) (y ∷ drop_item cmp r rows) (drop_item cmp r rows)))
-      ∙ (λ t. cond (is_gt (above t)) (y ∷ insert_sorted cmp r (drop_item cmp r rows)) (r ∷ y ∷ drop_item cmp r rows)) ∙ ap (λ l. y ∷ l) (put_last r rows all.1)
+      ∙ (λ t. cond (is_gt (above t)) (y ∷ insert_sorted cmp r (drop_item cmp r rows)) (r ∷ y ∷ drop_item cmp r rows))
+      ∙ ap (λ l. y ∷ l) (put_last r rows all.1)
 
-  below_more : (rows : List R) (r q : R) → AllByRecursion (λ y. cmp y q ≡ Less) rows → cmp r q ≡ Less → AllByRecursion (λ y. cmp y q ≡ Less) (rows ++ r ∷ [])
+  below_more : (rows : List R) (r q : R) → AllByRecursion (λ y. cmp y q ≡ Less) rows → cmp r q ≡ Less
+      → AllByRecursion (λ y. cmp y q ≡ Less) (rows ++ r ∷ [])
   below_more [] r q all one = (one, tt)
   below_more (y ∷ rows) r q all one = (all.0, below_more rows r q all.1 one)
 
@@ -40,13 +43,16 @@ module _ {R : Type 0} (cmp : R → R → Ordering) (total : IsTotalOrder cmp) wh
   abbrev AreAfter : List R → List R → Type 0
   AreAfter rs rows = AllByRecursion (λ q. AllByRecursion (λ y. cmp y q ≡ Less) rows) rs
 
-  after_more : (r : R) (rs rows : List R) → AreAfter rs rows → AllByRecursion (λ q. cmp r q ≡ Less) rs → AreAfter rs (rows ++ r ∷ [])
+  after_more : (r : R) (rs rows : List R) → AreAfter rs rows → AllByRecursion (λ q. cmp r q ≡ Less) rs
+      → AreAfter rs (rows ++ r ∷ [])
   after_more r [] rows all up = tt
   after_more r (q ∷ rs) rows all up = (below_more rows r q all.0 up.0, after_more r rs rows all.1 up.1)
 
-  put_behind : (rs rows : List R) → AreAfter rs rows → IsAscending (λ a b. cmp a b ≡ Less) rs → put_each rs rows ≡ rows ++ rs
+  put_behind : (rs rows : List R) → AreAfter rs rows → IsAscending (λ a b. cmp a b ≡ Less) rs → put_each rs rows ≡ rows
+      ++ rs
   put_behind [] rows all up = sym (append-nil rows)
-  put_behind (r ∷ rs) rows all up = ap (put_each rs) (put_last r rows all.0) ∙ put_behind rs (rows ++ r ∷ []) (after_more r rs rows all.1 up.0) up.1 ∙ append_assoc rows (r ∷ []) rs
+  put_behind (r ∷ rs) rows all up = ap (put_each rs) (put_last r rows all.0) ∙ put_behind rs (rows ++ r ∷ [])
+      (after_more r rs rows all.1 up.0) up.1 ∙ append_assoc rows (r ∷ []) rs
 
   after_none : (rs : List R) → AreAfter rs []
   after_none [] = tt
@@ -63,28 +69,54 @@ meta_put meta old same =
 -- ---- the writes in turn
 
 module _ (rest : List UpgradeWrite) where
-  instalments_become : (is : List InstalmentRow) (m : Lists) → after_all after (map (λ x. Put (PutInstalment x)) is ++ rest) (Own (Some m)) ≡ after_all after rest (Own (Some (record m { instalments = put_each by_instalment by_instalment_total is m.instalments })))
+  instalments_become : (is : List InstalmentRow) (m : Lists) → after_all after (map (λ x. Put (PutInstalment x)) is
+      ++ rest) (Own (Some m)) ≡ after_all after rest
+      (Own (Some (record m { instalments = put_each by_instalment by_instalment_total is m.instalments })))
   instalments_become [] m = refl
-  instalments_become (x ∷ is) m = instalments_become is (record m { instalments = put_item by_instalment x m.instalments })
+  instalments_become (x ∷ is) m =
+      instalments_become is (record m { instalments = put_item by_instalment x m.instalments })
 
-  instalments_fit : (is : List InstalmentRow) (m : Lists) → ((more : List InstalmentRow) → AllFit after Fits rest (Own (Some (record m { instalments = more })))) → AllFit after Fits (map (λ x. Put (PutInstalment x)) is ++ rest) (Own (Some m))
+  instalments_fit : (is : List InstalmentRow) (m : Lists) → ((more : List InstalmentRow)
+      → AllFit after Fits rest (Own (Some (record m { instalments = more }))))
+      → AllFit after Fits (map (λ x. Put (PutInstalment x)) is ++ rest) (Own (Some m))
   instalments_fit [] m fit = fit m.instalments
-  instalments_fit (x ∷ is) m fit = (refl, instalments_fit is (record m { instalments = put_item by_instalment x m.instalments }) fit)
+  instalments_fit (x ∷ is) m fit =
+      (refl, instalments_fit is (record m { instalments = put_item by_instalment x m.instalments }) fit)
 
-  shares_become : (ss : List ShareRow) (m : Lists) → after_all after (map (λ x. Put (PutShare x)) ss ++ rest) (Own (Some m)) ≡ after_all after rest (Own (Some (record m { shares = put_each by_share by_share_total ss m.shares })))
+  shares_become : (ss : List ShareRow) (m : Lists) → after_all after (map (λ x. Put (PutShare x)) ss ++ rest)
+      (Own (Some m)) ≡ after_all after rest
+      (Own (Some (record m { shares = put_each by_share by_share_total ss m.shares })))
   shares_become [] m = refl
   shares_become (x ∷ ss) m = shares_become ss (record m { shares = put_item by_share x m.shares })
 
-  shares_fit : (ss : List ShareRow) (m : Lists) → ((more : List ShareRow) → AllFit after Fits rest (Own (Some (record m { shares = more })))) → AllFit after Fits (map (λ x. Put (PutShare x)) ss ++ rest) (Own (Some m))
+  shares_fit : (ss : List ShareRow) (m : Lists)
+      → ((more : List ShareRow) → AllFit after Fits rest (Own (Some (record m { shares = more }))))
+      → AllFit after Fits (map (λ x. Put (PutShare x)) ss ++ rest) (Own (Some m))
   shares_fit [] m fit = fit m.shares
   shares_fit (x ∷ ss) m fit = (refl, shares_fit ss (record m { shares = put_item by_share x m.shares }) fit)
 
 pub upgrades_first : UpgradesFirst
 upgrades_first meta is ss lists can =
     record {
-      fit = (tt, instalments_fit (map (λ x. Put (PutShare x)) ss ++ (Put (PutMeta meta) ∷ [])) is (record lists { instalments = []; shares = [] }) (λ more. shares_fit (Put (PutMeta meta) ∷ []) ss (record lists { instalments = more; shares = [] }) (λ others. (refl, tt))));
+      fit = (
+        tt,
+        instalments_fit (map (λ x. Put (PutShare x)) ss ++ (Put (PutMeta meta) ∷ [])) is
+            (record lists { instalments = []; shares = [] }) (λ more. shares_fit (Put (PutMeta meta) ∷ []) ss
+            (record lists { instalments = more; shares = [] }) (λ others. (refl, tt))),
+      );
       become =
-          instalments_become (map (λ x. Put (PutShare x)) ss ++ (Put (PutMeta meta) ∷ [])) is (record lists { instalments = []; shares = [] })
-          ∙ shares_become (Put (PutMeta meta) ∷ []) ss (record lists { instalments = put_each by_instalment by_instalment_total is []; shares = [] })
-          ∙ (λ t. Own (Some (record lists { meta = (ap (put_item by_meta meta) can.one ∙ meta_put meta can.old can.same_key) t; instalments = put_all by_instalment by_instalment_total is can.instalments_rise t; shares = put_all by_share by_share_total ss can.shares_rise t })));
+          instalments_become (map (λ x. Put (PutShare x)) ss ++ (Put (PutMeta meta) ∷ [])) is
+          (record lists { instalments = []; shares = [] })
+          ∙ shares_become (Put (PutMeta meta) ∷ []) ss (record lists {
+            instalments = put_each by_instalment
+                by_instalment_total is [];
+            shares = [];
+          })
+          ∙ (λ t. Own (Some (record lists {
+            meta = (ap (put_item by_meta meta) can.one
+                ∙ meta_put meta can.old can.same_key) t;
+            instalments = put_all by_instalment by_instalment_total is
+                can.instalments_rise t;
+            shares = put_all by_share by_share_total ss can.shares_rise t;
+          })));
     }

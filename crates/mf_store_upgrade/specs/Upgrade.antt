@@ -1,4 +1,5 @@
--- The tables of the first schema, which has none of instalments and of shares, and the writes that bring them to the second.
+-- The tables of the first schema, which has none of instalments and of shares, and the writes that bring them to the
+-- second.
 use Rattle.std.specs.Prelude.{◌≡◌, List, [], ◌∷◌, ◌++◌, map, Option, Some}
 use Rattle.std.specs.declared.cmp.Ordering.TheVariants.{Less}
 use Rattle.sqlite.specs.Schema.{Schema}
@@ -7,7 +8,9 @@ use Rattle.sqlite_catalog.specs.Listing.{IsSound}
 use Rattle.sqlite_trees.specs.Tree.{IsAscending}
 use Rattle.mf_store_tables.specs.Keep.{Keeps}
 use Rattle.mf_store_tables.specs.Writes.{AllFit, after_all}
-use Rattle.mf_store_records.specs.Rows.{Lists, meta_row, office_row, staff_row, client_row, charge_row, product_row, loan_row, entry_row, receipt_row, by_meta, by_office, by_staff, by_client, by_charge, by_product, by_loan, by_entry, by_receipt, by_instalment, by_share}
+use Rattle.mf_store_records.specs.Rows.{Lists, meta_row, office_row, staff_row, client_row, charge_row, product_row}
+use Rattle.mf_store_records.specs.Rows.{loan_row, entry_row, receipt_row, by_meta, by_office, by_staff, by_client}
+use Rattle.mf_store_records.specs.Rows.{by_charge, by_product, by_loan, by_entry, by_receipt, by_instalment, by_share}
 use Rattle.mf_store_records.specs.declared.instalments.InstalmentRow.{InstalmentRow}
 use Rattle.mf_store_records.specs.declared.meta.MetaRow.{MetaRow}
 use Rattle.mf_store_records.specs.declared.shares.ShareRow.{ShareRow}
@@ -35,10 +38,12 @@ pub data KeptLists : Type 0 where
   First : Lists → KeptLists
   Own : Option Lists → KeptLists
 
+-- the schema of a database while it is brought up
 abbrev pub schema_kept : KeptLists → Schema
 schema_kept (First lists) = first_schema
 schema_kept (Own lists) = schema_of lists
 
+-- the trees keep these lists and nothing else, by the schema of the moment
 abbrev pub Holds : Trees → KeptLists → Type 0
 Holds trees (First lists) = HoldsFirst trees lists
 Holds trees (Own lists) = HoldsOwn trees lists
@@ -50,6 +55,7 @@ Fits MakeAccountTables (Own lists) = ⊥
 Fits (Put write) (First lists) = ⊥
 Fits (Put write) (Own lists) = FitsOwn write lists
 
+-- the lists after a write
 abbrev pub after : UpgradeWrite → KeptLists → KeptLists
 after MakeAccountTables (First lists) = Own (Some (record lists { instalments = []; shares = [] }))
 after MakeAccountTables (Own lists) = Own lists
@@ -58,14 +64,17 @@ after (Put write) (Own lists) = Own (after_own write lists)
 
 -- the writes that bring the first schema to the second: the two tables, their rows, and the row of meta
 abbrev pub upgrade_writes : MetaRow → List InstalmentRow → List ShareRow → List UpgradeWrite
-upgrade_writes meta instalments shares = MakeAccountTables ∷ (map (λ x. Put (PutInstalment x)) instalments ++ (map (λ x. Put (PutShare x)) shares ++ Put (PutMeta meta) ∷ []))
+upgrade_writes meta instalments shares = MakeAccountTables ∷ (map (λ x. Put (PutInstalment x)) instalments
+    ++ (map (λ x. Put (PutShare x)) shares ++ Put (PutMeta meta) ∷ []))
 
 -- the lists once these are made
 abbrev pub upgraded_lists : MetaRow → List InstalmentRow → List ShareRow → Lists → Lists
-upgraded_lists meta instalments shares lists = record lists { meta = meta ∷ []; instalments = instalments; shares = shares }
+upgraded_lists meta instalments shares lists =
+    record lists { meta = meta ∷ []; instalments = instalments; shares = shares }
 
 -- the rows rise by key, and the row of meta stands in place of the only one
-pub record CanUpgrade (meta : MetaRow) (instalments : List InstalmentRow) (shares : List ShareRow) (lists : Lists) : Type 0 where
+pub record CanUpgrade (meta : MetaRow) (instalments : List InstalmentRow) (shares : List ShareRow)
+    (lists : Lists) : Type 0 where
   pub old : MetaRow
   pub one : lists.meta ≡ old ∷ []
   pub same_key : meta.one ≡ old.one
@@ -73,9 +82,13 @@ pub record CanUpgrade (meta : MetaRow) (instalments : List InstalmentRow) (share
   pub shares_rise : IsAscending (λ a b. by_share a b ≡ Less) shares
 
 -- these writes can be made over the lists of the first schema, and bring them there
-pub record DoUpgrade (meta : MetaRow) (instalments : List InstalmentRow) (shares : List ShareRow) (lists : Lists) : Type 0 where
+pub record DoUpgrade (meta : MetaRow) (instalments : List InstalmentRow) (shares : List ShareRow) (lists : Lists) : Type
+    0 where
   pub fit : AllFit after Fits (upgrade_writes meta instalments shares) (First lists)
-  pub become : after_all after (upgrade_writes meta instalments shares) (First lists) ≡ Own (Some (upgraded_lists meta instalments shares lists))
+  pub become : after_all after (upgrade_writes meta instalments shares) (First lists)
+      ≡ Own (Some (upgraded_lists meta instalments shares lists))
 
+-- the writes bring the first schema to the second, and keep its rows
 abbrev pub UpgradesFirst : Type 0
-UpgradesFirst = (meta : MetaRow) (instalments : List InstalmentRow) (shares : List ShareRow) (lists : Lists) → CanUpgrade meta instalments shares lists → DoUpgrade meta instalments shares lists
+UpgradesFirst = (meta : MetaRow) (instalments : List InstalmentRow) (shares : List ShareRow) (lists : Lists)
+    → CanUpgrade meta instalments shares lists → DoUpgrade meta instalments shares lists

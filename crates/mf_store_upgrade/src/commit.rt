@@ -40,8 +40,8 @@ fn all_writes(
     Ok(writes)
 }
 
-/// Brings tables of the first schema to the second, in one commit: tables of instalments and of shares with these rows, and this
-/// row of meta in place of the old one.
+/// Brings tables of the first schema to the second, in one commit: tables of instalments and of shares with these rows,
+/// and this row of meta in place of the old one.
 ///
 /// The clauses speak of rows that rise by key, and of one row of meta under the key of the new one. The error is F20.
 pub fn upgrade<S: Alter>(
@@ -55,16 +55,22 @@ pub fn upgrade<S: Alter>(
     ensures premise { HasCleanDisk (state S.Store connection.new) → HasCleanDisk (state S.Store connection.old) }
     ensures gives_up { IfErr result (λ fault. fault ≡ F20) }
     ensures shuts { OnlyFaultsShut (state S.Store connection.old) (state S.Store connection.new) }
-    ensures open { HasCleanDisk (state S.Store connection.new) → OnOk result (IsTrue (state S.Store connection.new).is_open) }
-    ensures was_open { HasCleanDisk (state S.Store connection.new) → IsTrue (state S.Store connection.new).is_open → IsTrue (state S.Store connection.old).is_open }
+    ensures open { HasCleanDisk (state S.Store connection.new)
+        → OnOk result (IsTrue (state S.Store connection.new).is_open) }
+    ensures was_open { HasCleanDisk (state S.Store connection.new) → IsTrue (state S.Store connection.new).is_open
+        → IsTrue (state S.Store connection.old).is_open }
 
-    ensures made { HasCleanDisk (state S.Store connection.new) → OnOk result ((lists : Lists) → CanUpgrade meta instalments.items shares.items lists → IsKeepingFirst (state S.Store connection.old) lists
+    ensures made { HasCleanDisk (state S.Store connection.new) → OnOk result ((lists : Lists)
+        → CanUpgrade meta instalments.items shares.items lists → IsKeepingFirst (state S.Store connection.old) lists
         → IsUpgradedTo (state S.Store connection.new) (upgraded_lists meta instalments.items shares.items lists)) }
-    ensures same { HasCleanDisk (state S.Store connection.new) → IsTrue (state S.Store connection.new).is_open → OnErr result ((state S.Store connection.new).now ≡ (state S.Store connection.old).now) }
+    ensures same { HasCleanDisk (state S.Store connection.new) → IsTrue (state S.Store connection.new).is_open
+        → OnErr result ((state S.Store connection.new).now ≡ (state S.Store connection.old).now) }
 
     // A stop leaves what it could leave before, or the second schema whole.
-    ensures stop { HasCleanDisk (state S.Store connection.new) → (lists : Lists) → CanUpgrade meta instalments.items shares.items lists → IsKeepingFirst (state S.Store connection.old) lists
-        → (trees : Trees) → (state S.Store connection.new).may_leave trees → (state S.Store connection.old).may_leave trees ⊎ HoldsOwn trees (Some (upgraded_lists meta instalments.items shares.items lists)) }
+    ensures stop { HasCleanDisk (state S.Store connection.new) → (lists : Lists) → CanUpgrade meta instalments.items
+        shares.items lists → IsKeepingFirst (state S.Store connection.old) lists
+        → (trees : Trees) → (state S.Store connection.new).may_leave trees → (state S.Store connection.old).may_leave
+        trees ⊎ HoldsOwn trees (Some (upgraded_lists meta instalments.items shares.items lists)) }
     ensures mode { connection.new.in_transaction ≡ false }
 {
     // With nothing to commit a stop leaves just the tables as they are; the call brings that into the proof.

@@ -12,7 +12,8 @@ use Rattle.mf_store_records.specs.declared.charges.ChargeRow.{ChargeRow}
 use Rattle.mf_store_records.specs.declared.products.ProductRow.{ProductRow}
 use Rattle.mf_store_accounts.specs.Flat.{charge_as, product_as, flag_number}
 
-pub choice_is : {A : Type 0} (number : A → ℕ) (found : Option A) (a b : A) (n : ℕ) → ((x : A) → n ≡ number x → found ≡ Some x) → found ≡ Some a → n ≡ number b → a ≡ b
+pub choice_is : {A : Type 0} (number : A → ℕ) (found : Option A) (a b : A) (n : ℕ)
+    → ((x : A) → n ≡ number x → found ≡ Some x) → found ≡ Some a → n ≡ number b → a ≡ b
 choice_is number found a b n every is e = let same : Some a ≡ Some b = sym is ∙ every b e in cc
 
 abbrev flag_at : ℕ → Bool
@@ -28,8 +29,10 @@ flag_is a b e = sym (flag_back a) ∙ ap flag_at e ∙ flag_back b
 pub amount_is : (a b : ℕ) → pos a ≡ pos b → a ≡ b
 amount_is a b e = cc
 
-pub charge_is : (row : ChargeRow) (name : List ℕ) (kind : ChargeKind) (calc : Calc) (value n : ℕ) (c : Charge) → row ≡ charge_as n c → name ≡ row.name → kind ≡ c.kind → calc ≡ c.calc → pos value ≡ row.value
-    → ◌≡◌ {A = ChargeDef} (record { number = row.number; name = name; kind = kind; calc = calc; value = value }) (charge_def n c)
+pub charge_is : (row : ChargeRow) (name : List ℕ) (kind : ChargeKind) (calc : Calc) (value n : ℕ) (c : Charge)
+    → row ≡ charge_as n c → name ≡ row.name → kind ≡ c.kind → calc ≡ c.calc → pos value ≡ row.value
+    → ◌≡◌ {A = ChargeDef} (record { number = row.number; name = name; kind = kind; calc = calc; value = value })
+    (charge_def n c)
 charge_is row name kind calc value n c e a b d v = λ k. record {
   number = ap (λ (r : ChargeRow). r.number) e k;
   name = (a ∙ ap (λ (r : ChargeRow). r.name) e) k;
@@ -38,8 +41,10 @@ charge_is row name kind calc value n c e a b d v = λ k. record {
   value = amount_is value c.value (v ∙ ap (λ (r : ChargeRow). r.value) e) k;
 }
 
-pub product_is : (row : ProductRow) (name : List ℕ) (method : Method) (freq : Freq) (strategy : StrategyName) (least most : ℕ) (retired : Bool) (n : ℕ) (p : Offer) → row ≡ product_as n p
-    → name ≡ row.name → method ≡ p.members.method → freq ≡ p.members.freq → strategy ≡ p.members.strategy → pos least ≡ row.min_principal → pos most ≡ row.max_principal → flag_number retired ≡ row.retired
+pub product_is : (row : ProductRow) (name : List ℕ) (method : Method) (freq : Freq) (strategy : StrategyName)
+    (least most : ℕ) (retired : Bool) (n : ℕ) (p : Offer) → row ≡ product_as n p
+    → name ≡ row.name → method ≡ p.members.method → freq ≡ p.members.freq → strategy ≡ p.members.strategy
+    → pos least ≡ row.min_principal → pos most ≡ row.max_principal → flag_number retired ≡ row.retired
     → ◌≡◌ {A = Product} (record {
       number = row.number;
       members = record {

@@ -14,7 +14,8 @@ same_amounts (x ∷ xs) (y ∷ ys) e =
     λ t. amount_is x y first t ∷ same_amounts xs ys rest t
 
 -- four of them, one by one
-pub same_four : (xs ys : List ℕ) → length ys ≡ 4 → map pos xs ≡ pos (slice_index ys 0) ∷ pos (slice_index ys 1) ∷ pos (slice_index ys 2) ∷ pos (slice_index ys 3) ∷ [] → xs ≡ ys
+pub same_four : (xs ys : List ℕ) → length ys ≡ 4 → map pos xs ≡ pos (slice_index ys 0) ∷ pos (slice_index ys 1)
+    ∷ pos (slice_index ys 2) ∷ pos (slice_index ys 3) ∷ [] → xs ≡ ys
 same_four xs [] four e = absurd (omega (arith, four))
 same_four xs (a ∷ []) four e = absurd (omega (arith, four))
 same_four xs (a ∷ b ∷ []) four e = absurd (omega (arith, four))

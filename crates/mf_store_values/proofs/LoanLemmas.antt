@@ -10,14 +10,16 @@ use Rattle.mf_store_accounts.specs.Flat.{loan_in, approval_text, disbursal_text}
 use Rattle.mf_store_values.proofs.CatalogueLemmas.{amount_is}
 
 -- a number and the texts of two days tell the stage
-pub stage_is : ((one other : ℕ) → day_text one ≡ day_text other → one ≡ other) → (s t : Stage) → stage_number s ≡ stage_number t → approval_text s ≡ approval_text t → disbursal_text s ≡ disbursal_text t → s ≡ t
+pub stage_is : ((one other : ℕ) → day_text one ≡ day_text other → one ≡ other) → (s t : Stage) → stage_number s
+    ≡ stage_number t → approval_text s ≡ approval_text t → disbursal_text s ≡ disbursal_text t → s ≡ t
 stage_is apart Submitted Submitted e h j = refl
 stage_is apart Submitted (Approved b) e h j = absurd (omega arith)
 stage_is apart Submitted (Disbursed b d) e h j = absurd (omega arith)
 stage_is apart Submitted Withdrawn e h j = absurd (omega arith)
 stage_is apart Submitted Rejected e h j = absurd (omega arith)
 stage_is apart (Approved a) Submitted e h j = absurd (omega arith)
-stage_is apart (Approved a) (Approved b) e h j = ap Approved (apart a b (let k : Some (day_text a) ≡ Some (day_text b) = h in cc))
+stage_is apart (Approved a) (Approved b) e h j =
+    ap Approved (apart a b (let k : Some (day_text a) ≡ Some (day_text b) = h in cc))
 stage_is apart (Approved a) (Disbursed b d) e h j = absurd (omega arith)
 stage_is apart (Approved a) Withdrawn e h j = absurd (omega arith)
 stage_is apart (Approved a) Rejected e h j = absurd (omega arith)
@@ -40,12 +42,21 @@ stage_is apart Rejected (Disbursed b d) e h j = absurd (omega arith)
 stage_is apart Rejected Withdrawn e h j = absurd (omega arith)
 stage_is apart Rejected Rejected e h j = refl
 
-pub loan_is : (row : LoanRow) (client principal : ℕ) (stage : Stage) (x n : ℕ) (l : Loan) → row ≡ loan_in x n l → client ≡ row.client → pos principal ≡ row.principal → ((s : Stage) → stage_number s ≡ row.stage → approval_text s ≡ row.approved → disbursal_text s ≡ row.disbursed → stage ≡ s)
-    → ◌≡◌ {A = Loan} (record { client = client; product = row.product; principal = principal; periods = row.periods; stage = stage }) l
+pub loan_is : (row : LoanRow) (client principal : ℕ) (stage : Stage) (x n : ℕ) (l : Loan) → row ≡ loan_in x n l
+    → client ≡ row.client → pos principal ≡ row.principal → ((s : Stage) → stage_number s ≡ row.stage → approval_text s
+    ≡ row.approved → disbursal_text s ≡ row.disbursed → stage ≡ s)
+    → ◌≡◌ {A = Loan} (record {
+      client = client;
+      product = row.product;
+      principal = principal;
+      periods = row.periods;
+      stage = stage;
+    }) l
 loan_is row client principal stage x n l e a b s = λ k. record {
   client = (a ∙ ap (λ (r : LoanRow). r.client) e) k;
   product = ap (λ (r : LoanRow). r.product) e k;
   principal = amount_is principal l.principal (b ∙ ap (λ (r : LoanRow). r.principal) e) k;
   periods = ap (λ (r : LoanRow). r.periods) e k;
-  stage = s l.stage (sym (ap (λ (r : LoanRow). r.stage) e)) (sym (ap (λ (r : LoanRow). r.approved) e)) (sym (ap (λ (r : LoanRow). r.disbursed) e)) k;
+  stage = s l.stage (sym (ap (λ (r : LoanRow). r.stage) e)) (sym (ap (λ (r : LoanRow). r.approved) e))
+      (sym (ap (λ (r : LoanRow). r.disbursed) e)) k;
 }

@@ -20,7 +20,8 @@ line_at i f = line_of f.number (active_in i.catalogue (rows_at f.number i).loans
 
 -- a loan as the report counts it, by its instalments; none where nothing is outstanding
 abbrev pub aged_rows : ℕ → List Sums → List Aged
-aged_rows today rows = cond (list_any is_open rows) (record { principal = open_in 3 rows; days = pos (days_overdue rows today) } ∷ []) []
+aged_rows today rows =
+    cond (list_any is_open rows) (record { principal = open_in 3 rows; days = pos (days_overdue rows today) } ∷ []) []
 
 -- a loan by its number, with its instalments and their numbers
 abbrev pub NumberedLoan : Type 0
@@ -49,4 +50,6 @@ aged_loans today loans = flat_map (λ loan. aged_rows today (map (λ item. item.
 
 -- rows that are those of an office's instalments make of an empty line the line of its loans on that day
 abbrev pub IsLineOf : ℕ → List Row → Line → Line → Type 0
-IsLineOf today rows empty line = (office : ℕ) (loans : List NumberedLoan) → AreAbove 0 loans → AreWholeLoans loans → rows ≡ map instalment_stored (rows_of_office office loans) → empty ≡ line_of office [] → line ≡ line_of office (aged_loans today loans)
+IsLineOf today rows empty line = (office : ℕ) (loans : List NumberedLoan) → AreAbove 0 loans → AreWholeLoans loans
+    → rows ≡ map instalment_stored (rows_of_office office loans) → empty ≡ line_of office []
+    → line ≡ line_of office (aged_loans today loans)

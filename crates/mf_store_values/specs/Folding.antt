@@ -1,5 +1,6 @@
 -- What is known of rows that a query gives one at a time, and of the line that is made of them.
-use Rattle.std.specs.Prelude.{◌≡◌, ◌⊎◌, ℕ, ◌+◌, ◌^◌, ◌≤◌, cond, ◌==◌, List, [], ◌∷◌, ◌++◌, map, length, pos, Option, None, Some, Result, OnOk, IsTrue}
+use Rattle.std.specs.Prelude.{◌≡◌, ◌⊎◌, ℕ, ◌+◌, ◌^◌, ◌≤◌, cond, ◌==◌, List, [], ◌∷◌, ◌++◌, map, length, pos, Option}
+use Rattle.std.specs.Prelude.{None, Some, Result, OnOk, IsTrue}
 use Rattle.std.specs.List.{AllByRecursion}
 use Rattle.sqlite.specs.Order.{Row}
 use Rattle.sqlite.specs.Given.{HasGiven, Advances, FailsToAdvance}
@@ -20,14 +21,19 @@ use Rattle.mf_store_values.specs.declared.fold.NoLine.TheVariants.{TooGreat}
 
 -- ---- one loan
 
--- a loan as the report counts it, by the earliest due day of an instalment with something outstanding; none where there is none
+-- a loan as the report counts it, by the earliest due day of an instalment with something outstanding; none where there
+-- is none
 abbrev pub aged_by : ℕ → ℕ → Option ℕ → List Aged
 aged_by today principal None = []
 aged_by today principal (Some due) = record { principal = principal; days = pos (days_since today (Some due)) } ∷ []
 
 -- what is read of a loan, with one instalment more
 abbrev pub with_row : LoanSoFar → Sums → LoanSoFar
-with_row read row = record read { principal = read.principal + open_at row 3; due = cond (is_open row) (earlier read.due row.due) read.due }
+with_row read row = record read {
+  principal = read.principal + open_at row 3;
+  due = cond (is_open row)
+      (earlier read.due row.due) read.due;
+}
 
 -- ---- the loans of an office, an instalment at a time
 
@@ -39,7 +45,8 @@ pub record Progress : Type 0 where
 
 -- an instalment more, with the number of its loan; one of another loan ends the loan before
 abbrev pub step : ℕ → Progress → ℕ × Sums → Progress
-step today p item = cond (item.0 == p.loan) (record p { rows = p.rows ++ item.1 ∷ [] }) (record { counted = p.counted ++ aged_rows today p.rows; loan = item.0; rows = item.1 ∷ [] })
+step today p item = cond (item.0 == p.loan) (record p { rows = p.rows ++ item.1 ∷ [] })
+    (record { counted = p.counted ++ aged_rows today p.rows; loan = item.0; rows = item.1 ∷ [] })
 
 -- what is read of a loan, and its office's line, are so far
 pub record IsAt (office : ℕ) (p : Progress) (read : LoanSoFar) (line : Line) : Type 0 where
@@ -66,50 +73,64 @@ pub record IsLow (p : Progress) : Type 0 where
 
 -- the rows begin those of no office whose loans are within
 abbrev pub IsOver : List Row → Line → Type 0
-IsOver rows empty = (office : ℕ) (loans : List NumberedLoan) (rest : List Row) → AreAbove 0 loans → AreWholeLoans loans → AreWithinSums loans → rows ++ rest ≡ map instalment_stored (rows_of_office office loans) → empty ≡ line_of office [] → ⊥
+IsOver rows empty = (office : ℕ) (loans : List NumberedLoan) (rest : List Row) → AreAbove 0 loans → AreWholeLoans loans
+    → AreWithinSums loans → rows ++ rest ≡ map instalment_stored (rows_of_office office loans)
+    → empty ≡ line_of office [] → ⊥
 
 -- ---- rows of a query
 
 -- the row is read as an instalment with the number of its loan
 abbrev pub IsReadAs : Row → ℕ × Sums → Type 0
-IsReadAs row found = (office loan number : ℕ) (sums : Sums) → IsWhole sums → row ≡ instalment_stored (instalment_in office loan (number, sums)) → found ≡ (loan, sums)
+IsReadAs row found = (office loan number : ℕ) (sums : Sums) → IsWhole sums
+    → row ≡ instalment_stored (instalment_in office loan (number, sums)) → found ≡ (loan, sums)
 
 module _ {S : Type 0} (g : Ghosts S) where
   -- while the connection is open, the tables are as they were, or as the last commit left them, which stays
   pub record IsKept (old new : Held S) : Type 0 where
     pub was_open : IsTrue (state g new).is_open → IsTrue (state g old).is_open
     pub committed : IsTrue (state g new).is_open → (state g new).committed ≡ (state g old).committed
-    pub now_is : IsTrue (state g new).is_open → ((state g new).now ≡ (state g old).now) ⊎ ((state g new).now ≡ (state g old).committed)
+    pub now_is : IsTrue (state g new).is_open → ((state g new).now ≡ (state g old).now)
+        ⊎ ((state g new).now ≡ (state g old).committed)
 
   -- the next row is taken and read as this instalment, or none is left
   abbrev pub Takes : Held S → Held S → Option (ℕ × Sums) → Type 0
   Takes old new None = HasCleanDisk (state g new) → Advances g old new None
-  Takes old new (Some found) = (row : Row) × (HasCleanDisk (state g new) → Advances g old new (Some row)) × IsReadAs row found
+  Takes old new (Some found) = (row : Row) × (HasCleanDisk (state g new) → Advances g old new (Some row))
+      × IsReadAs row found
 
   -- the next row is taken and is no instalment's, or the query fails
   abbrev pub Refuses : Held S → Held S → Type 0
   Refuses old new =
-      ((row : Row) × (HasCleanDisk (state g new) → Advances g old new (Some row) × IsUnchanged (state g old) (state g new)))
+      ((row : Row) × (HasCleanDisk (state g new) → Advances g old new (Some row) × IsUnchanged (state g old)
+      (state g new)))
       ⊎ (HasCleanDisk (state g new) → (e : Error) × FailsToAdvance g old new e)
 
   -- the query gave these rows and no more: it failed when it was asked for the next
   abbrev pub HasFailed : List ℕ → Row → List Row → Held S → Held S → Type 0
   HasFailed sql params taken old new =
-      (last : Held S) × HasGiven g sql params last taken × IsUnchanged (state g old) (state g last) × ((e : Error) × FailsToQuery sql params (state g last) (state g new) e)
+      (last : Held S) × HasGiven g sql params last taken × IsUnchanged (state g old) (state g last)
+      × ((e : Error) × FailsToQuery sql params (state g last) (state g new) e)
 
   -- how a query is left that has given these rows: under way, at its end, or failed
   abbrev pub HasTaken : List ℕ → Row → List Row → Held S → Held S → Type 0
-  HasTaken sql params taken old new = HasGiven g sql params new taken ⊎ (Shown sql params (state g old) (state g new) taken ⊎ HasFailed sql params taken old new)
+  HasTaken sql params taken old new = HasGiven g sql params new taken
+      ⊎ (Shown sql params (state g old) (state g new) taken ⊎ HasFailed sql params taken old new)
 
-  -- The rows that are taken begin the answer of the query that gives them, and it has given no others; at Ok they are all of it, and the line is that of the loans whose rows they are.
-  pub record Folds (today : ℕ) (old new : Held S) (empty line : Line) {A E : Type 0} (result : Result A E) : Type 0 where
+  -- The rows that are taken begin the answer of the query that gives them, and it has given no others; at Ok they are
+  -- all of it, and the line is that of the loans whose rows they are.
+  pub record Folds (today : ℕ) (old new : Held S) (empty line : Line) {A E : Type 0} (result : Result A E) : Type
+      0 where
     pub taken : List Row
-    pub given : HasCleanDisk (state g new) → (sql : List ℕ) (params : Row) → HasGiven g sql params old [] → HasTaken sql params taken old new
-    pub begins : HasCleanDisk (state g new) → (sql : List ℕ) (params : Row) → HasGiven g sql params old [] → Begins sql params (state g old) taken
-    pub whole : HasCleanDisk (state g new) → (sql : List ℕ) (params : Row) → HasGiven g sql params old [] → OnOk result (Shown sql params (state g old) (state g new) taken)
+    pub given : HasCleanDisk (state g new) → (sql : List ℕ) (params : Row) → HasGiven g sql params old []
+        → HasTaken sql params taken old new
+    pub begins : HasCleanDisk (state g new) → (sql : List ℕ) (params : Row) → HasGiven g sql params old []
+        → Begins sql params (state g old) taken
+    pub whole : HasCleanDisk (state g new) → (sql : List ℕ) (params : Row) → HasGiven g sql params old []
+        → OnOk result (Shown sql params (state g old) (state g new) taken)
     pub line_is : OnOk result (IsLineOf today taken empty line)
 
   -- where they come to too much, the rows that were taken do, which begin the answer
   abbrev pub IsTooGreat : Held S → Held S → Line → NoLine → Type 0
   IsTooGreat old new empty why =
-      why ≡ TooGreat → HasCleanDisk (state g new) → (sql : List ℕ) (params : Row) → HasGiven g sql params old [] → (taken : List Row) × Begins sql params (state g old) taken × IsOver taken empty
+      why ≡ TooGreat → HasCleanDisk (state g new) → (sql : List ℕ) (params : Row) → HasGiven g sql params old []
+      → (taken : List Row) × Begins sql params (state g old) taken × IsOver taken empty

@@ -7,6 +7,7 @@ use Rattle.mf_account.specs.declared.entry.Kind.{Kind}
 use Rattle.mf_account.specs.declared.entry.Kind.TheVariants.{Repay, Fee, Penalty, Waive, WriteOff, Refund}
 use Rattle.mf_account.specs.Kinds.{is_write_off, money_in}
 
+-- an entry of this kind refunds
 abbrev pub is_refund : Kind → Bool
 is_refund Refund = true
 is_refund Repay = false
@@ -35,6 +36,7 @@ repaid_in_all entries = sum_by repaid_by entries
 abbrev pub paid_of : Sums → ℕ
 paid_of row = sum row.paid
 
+-- all that is paid of rows
 abbrev pub paid_in_all : List Sums → ℕ
 paid_in_all rows = sum_by paid_of rows
 
@@ -42,6 +44,7 @@ paid_in_all rows = sum_by paid_of rows
 abbrev pub is_overpaid : List Entry → List Sums → Bool
 is_overpaid entries rows = not (any_stands is_refund entries) && nat_lt (paid_in_all rows) (repaid_in_all entries)
 
+-- the status of a loan, read off its entries and its rows
 abbrev pub status_told : List Entry → List Sums → ℕ
 status_told entries rows =
     if any_stands is_write_off entries then 601

@@ -13,7 +13,8 @@ use mf_store_records::{ChargeRow, ProductRow};
 
 /// The charge of a row.
 pub fn charge_from(row: ChargeRow) -> Result<ChargeDef, Fault>
-    ensures charge { IfOk result (λ charge. (number : ℕ) (c : Charge) → row ≡ charge_as number c → charge ≡ charge_def number c) }
+    ensures charge { IfOk result (λ charge. (number : ℕ) (c : Charge) → row ≡ charge_as number c
+        → charge ≡ charge_def number c) }
     ensures gives_up { IfErr result (λ fault. fault ≡ F20) }
 {
     let kind = stored(ChargeKind::from_number(row.kind))?;
@@ -30,7 +31,8 @@ pub fn charge_from(row: ChargeRow) -> Result<ChargeDef, Fault>
 
 /// The product of a row.
 pub fn product_from(row: ProductRow) -> Result<Product, Fault>
-    ensures product { IfOk result (λ product. (number : ℕ) (p : Offer) → row ≡ product_as number p → product ≡ product_numbered number p) }
+    ensures product { IfOk result (λ product. (number : ℕ) (p : Offer) → row ≡ product_as number p
+        → product ≡ product_numbered number p) }
     ensures gives_up { IfErr result (λ fault. fault ≡ F20) }
 {
     let method = stored(Method::from_number(row.method))?;

@@ -32,7 +32,8 @@ fn receipt_from(text: Option<Text>) -> Option<Receipt>
 
 /// The member of staff whose text this is.
 fn caller_from(text: &Text) -> Result<Caller, Fault>
-    ensures caller { IfOk result (λ caller. (c : ModelCaller) → IsCaller c → text.now ≡ caller_text c.office c.staff → caller ≡ c) }
+    ensures caller { IfOk result (λ caller. (c : ModelCaller) → IsCaller c → text.now ≡ caller_text c.office c.staff
+        → caller ≡ c) }
     ensures gives_up { IfErr result (λ fault. fault ≡ F20) }
 {
     match Caller::parse(text.as_str().as_bytes()) {
@@ -43,7 +44,8 @@ fn caller_from(text: &Text) -> Result<Caller, Fault>
 
 /// The entry of a row.
 fn entry_from(row: EntryRow) -> Result<Entry, Fault>
-    ensures entry { IfOk result (λ entry. (office loan : ℕ) (e : ModelEntry) → IsCaller e.staff → row ≡ entry_in office loan e → entry ≡ e) }
+    ensures entry { IfOk result (λ entry. (office loan : ℕ) (e : ModelEntry) → IsCaller e.staff
+        → row ≡ entry_in office loan e → entry ≡ e) }
     ensures gives_up { IfErr result (λ fault. fault ≡ F20) }
 {
     let kind = stored(kind_from(row.kind))?;
@@ -67,7 +69,8 @@ fn entry_from(row: EntryRow) -> Result<Entry, Fault>
 
 /// The entry of a row as the tables give it.
 fn entry_in_row(row: &Row) -> Result<Entry, Fault>
-    ensures entry { IfOk result (λ entry. (office loan : ℕ) (e : ModelEntry) → IsCaller e.staff → row.now ≡ entry_stored (entry_in office loan e) → entry ≡ e) }
+    ensures entry { IfOk result (λ entry. (office loan : ℕ) (e : ModelEntry) → IsCaller e.staff
+        → row.now ≡ entry_stored (entry_in office loan e) → entry ≡ e) }
     ensures gives_up { IfErr result (λ fault. fault ≡ F20) }
 {
     let found = read_row::<EntryRow>(row)?;
@@ -76,7 +79,9 @@ fn entry_in_row(row: &Row) -> Result<Entry, Fault>
 
 /// The entries of the rows, in order.
 pub fn entries_from(alloc: Global, rows: &[Row]) -> Result<Vec<Entry>, Fault>
-    ensures entries { IfOk result (λ list. (office loan : ℕ) (es : List ModelEntry) → AllByRecursion (λ e. IsCaller e.staff) es → rows.now ≡ map (λ e. entry_stored (entry_in office loan e)) es → list.items ≡ es) }
+    ensures entries { IfOk result (λ list. (office loan : ℕ) (es : List ModelEntry)
+        → AllByRecursion (λ e. IsCaller e.staff) es → rows.now ≡ map (λ e. entry_stored (entry_in office loan e)) es
+        → list.items ≡ es) }
     ensures gives_up { IfErr result (λ fault. fault ≡ F20) }
 {
     let mut entries = Vec::new(alloc);

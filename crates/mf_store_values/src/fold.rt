@@ -1,13 +1,15 @@
 //! An office's line of arrears from the rows of its loans' instalments, which a query gives by loan and number: one row
 //! is held at a time, and of the loan that is read what is outstanding of its principal and the earliest due day.
 
-ghost use Rattle.std.specs.Prelude.{◌≡◌, ◌⊎◌, ◌+◌, ◌^◌, ◌<◌, ◌≤◌, false, ℕ, List, ◌++◌, None, IsTrue, OnOk, OnErr, IfOk, IfErr};
+ghost use Rattle.std.specs.Prelude.{◌≡◌, ◌⊎◌, ◌+◌, ◌^◌, ◌<◌, ◌≤◌, false, ℕ, List, ◌++◌, None, IsTrue, OnOk, OnErr};
+ghost use Rattle.std.specs.Prelude.{IfOk, IfErr};
 ghost use Rattle.mf_base.specs.declared.fault.Fault.TheVariants.{F20};
 ghost use Rattle.mf_alloc.specs.Sums.{open_at};
 ghost use Rattle.mf_arrears.specs.Line.{Loan as Aged, line_of as line_of_loans};
 ghost use Rattle.sqlite.specs.State.{HasCleanDisk, IsUnchanged, Survives};
 ghost use Rattle.sqlite.specs.Held.{state};
-ghost use Rattle.mf_store_values.specs.Folding.{aged_by, with_row, Progress, step, IsLow, IsAt, IsReadAs, IsKept, Takes, Refuses, Folds, IsTooGreat};
+ghost use Rattle.mf_store_values.specs.Folding.{aged_by, with_row, Progress, step, IsLow, IsAt, IsReadAs, IsKept};
+ghost use Rattle.mf_store_values.specs.Folding.{Takes, Refuses, Folds, IsTooGreat};
 
 use crate::instalments::instalment_from;
 use mf_alloc::{Portion, Row as Instalment};
@@ -50,7 +52,8 @@ impl LoanSoFar {
     /// Takes in an instalment of this loan.
     fn add(&mut self, row: Instalment) -> Result<(), NoLine>
         ensures value { OnOk result (self.new ≡ with_row self.old row) }
-        ensures too_great { IfErr result (λ why. (why ≡ NoLine.TooGreat) × (2 ^ 64 ≤ self.old.principal + open_at row 3)) }
+        ensures too_great { IfErr result (λ why. (why ≡ NoLine.TooGreat)
+            × (2 ^ 64 ≤ self.old.principal + open_at row 3)) }
     {
         let principal = row.outstanding(Portion::Principal);
         let Some(sum) = self.principal.checked_add(principal) else {
@@ -65,8 +68,10 @@ impl LoanSoFar {
 
     /// Adds the loan to its office's line, where something is outstanding.
     fn count(&self, today: Day, line: &mut OfficeLine) -> Result<(), NoLine>
-        ensures line { OnOk result ((office : ℕ) (loans : List Aged) → line.old ≡ line_of_loans office loans → line.new ≡ line_of_loans office (loans ++ aged_by today self.now.principal self.now.due)) }
-        ensures too_great { IfErr result (λ why. (why ≡ NoLine.TooGreat) × ((10 ^ 12 < self.now.principal) ⊎ (10 ^ 10 ≤ line.old.loans))) }
+        ensures line { OnOk result ((office : ℕ) (loans : List Aged) → line.old ≡ line_of_loans office loans
+            → line.new ≡ line_of_loans office (loans ++ aged_by today self.now.principal self.now.due)) }
+        ensures too_great { IfErr result (λ why. (why ≡ NoLine.TooGreat) × ((10 ^ 12 < self.now.principal)
+            ⊎ (10 ^ 10 ≤ line.old.loans))) }
     {
         let Some(due) = self.due else {
             return Ok(());
@@ -78,16 +83,18 @@ impl LoanSoFar {
         Ok(())
     }
 
-    /// Takes in an instalment with the number of its loan: of this loan, or the first of the next, before which this one
-    /// is added to its office's line.
+    /// Takes in an instalment with the number of its loan: of this loan, or the first of the next, before which this
+    /// one is added to its office's line.
     fn take(
         &mut self,
         found: (u32, Instalment),
         today: Day,
         line: &mut OfficeLine,
     ) -> Result<(), NoLine>
-        ensures value { OnOk result ((office : ℕ) (p : Progress) → IsAt office p self.old line.old → IsAt office (step today p found) self.new line.new) }
-        ensures too_great { IfErr result (λ why. (why ≡ NoLine.TooGreat) × ((office : ℕ) (p : Progress) → IsAt office p self.old line.old → IsLow p → IsLow (step today p found) → ⊥)) }
+        ensures value { OnOk result ((office : ℕ) (p : Progress) → IsAt office p self.old line.old
+            → IsAt office (step today p found) self.new line.new) }
+        ensures too_great { IfErr result (λ why. (why ≡ NoLine.TooGreat) × ((office : ℕ) (p : Progress)
+            → IsAt office p self.old line.old → IsLow p → IsLow (step today p found) → ⊥)) }
     {
         let (loan, row) = found;
         if loan != self.loan {
@@ -113,7 +120,8 @@ fn next_instalment<S: Alter>(rows: &mut Rows<'_, S>) -> Result<Option<(u32, Inst
     ensures same_reference { rows.new.conn.ghost_name ≡ rows.old.conn.ghost_name }
     ensures takes { IfOk result (λ found. Takes S.Store rows.old.conn.now rows.new.conn.now found) }
     ensures refuses { OnErr result (Refuses S.Store rows.old.conn.now rows.new.conn.now) }
-    ensures same { HasCleanDisk (state S.Store rows.new.conn.now) → OnOk result (IsUnchanged (state S.Store rows.old.conn.now) (state S.Store rows.new.conn.now)) }
+    ensures same { HasCleanDisk (state S.Store rows.new.conn.now)
+        → OnOk result (IsUnchanged (state S.Store rows.old.conn.now) (state S.Store rows.new.conn.now)) }
     ensures kept { HasCleanDisk (state S.Store rows.new.conn.now) → IsKept S.Store rows.old.conn.now rows.new.conn.now }
     ensures unread { IfErr result (λ why. why ≡ NoLine.Unread) }
     ensures mode { rows.old.conn.now.in_transaction ≡ false → rows.new.conn.now.in_transaction ≡ false }
@@ -131,8 +139,8 @@ fn next_instalment<S: Alter>(rows: &mut Rows<'_, S>) -> Result<Option<(u32, Inst
     }
 }
 
-/// Makes of a new line the line of an office's loans on a day, from the rows of its instalments by loan and number, none
-/// of which was taken. It takes them one at a time. At an error it takes no more, and the line says nothing.
+/// Makes of a new line the line of an office's loans on a day, from the rows of its instalments by loan and number,
+/// none of which was taken. It takes them one at a time. At an error it takes no more, and the line says nothing.
 pub(crate) fn fold_instalments<S: Alter>(
     rows: &mut Rows<'_, S>,
     day: Day,
@@ -141,7 +149,8 @@ pub(crate) fn fold_instalments<S: Alter>(
     ensures same_reference { rows.new.conn.ghost_name ≡ rows.old.conn.ghost_name }
     ensures folds { Folds S.Store day rows.old.conn.now rows.new.conn.now line.old line.new result }
     ensures kept { HasCleanDisk (state S.Store rows.new.conn.now) → IsKept S.Store rows.old.conn.now rows.new.conn.now }
-    ensures open { HasCleanDisk (state S.Store rows.new.conn.now) → OnOk result (IsTrue (state S.Store rows.new.conn.now).is_open) }
+    ensures open { HasCleanDisk (state S.Store rows.new.conn.now)
+        → OnOk result (IsTrue (state S.Store rows.new.conn.now).is_open) }
     ensures sums { IfErr result (IsTooGreat S.Store rows.old.conn.now rows.new.conn.now line.old) }
     ensures mode { rows.old.conn.now.in_transaction ≡ false → rows.new.conn.now.in_transaction ≡ false }
     ensures survives { Survives (state S.Store rows.old.conn.now) (state S.Store rows.new.conn.now) (λ _. ⊥) }

@@ -60,7 +60,13 @@ fn instalment_of(
     waived: [u64; 4],
     written_off: [u64; 4],
 ) -> Result<Instalment, Fault>
-    ensures row { IfOk result (λ found. (due : ℕ) → row.now.due ≡ day_text due → found ≡ record { due = due; owed = owed; paid = paid; waived = waived; written_off = written_off }) }
+    ensures row { IfOk result (λ found. (due : ℕ) → row.now.due ≡ day_text due → found ≡ record {
+      due = due;
+      owed = owed;
+      paid = paid;
+      waived = waived;
+      written_off = written_off;
+    }) }
     ensures within { IfOk result (λ found. IsWhole found × IsRowWithin found) }
     ensures gives_up { IfErr result (λ fault. fault ≡ F20) }
 {
@@ -79,7 +85,8 @@ fn instalment_of(
 
 /// The instalment of a row.
 pub(crate) fn instalment_from(row: &InstalmentRow) -> Result<Instalment, Fault>
-    ensures row { IfOk result (λ found. (office loan number : ℕ) (sums : Sums) → IsWhole sums → row.now ≡ instalment_in office loan (number, sums) → found ≡ sums) }
+    ensures row { IfOk result (λ found. (office loan number : ℕ) (sums : Sums) → IsWhole sums
+        → row.now ≡ instalment_in office loan (number, sums) → found ≡ sums) }
     ensures within { IfOk result (λ found. IsWhole found × IsRowWithin found) }
     ensures gives_up { IfErr result (λ fault. fault ≡ F20) }
 {
@@ -112,7 +119,8 @@ pub(crate) fn instalment_from(row: &InstalmentRow) -> Result<Instalment, Fault>
 
 /// The instalment of a row as the tables give it.
 fn instalment_in_row(row: &Row) -> Result<Instalment, Fault>
-    ensures row { IfOk result (λ found. (office loan number : ℕ) (sums : Sums) → IsWhole sums → row.now ≡ instalment_stored (instalment_in office loan (number, sums)) → found ≡ sums) }
+    ensures row { IfOk result (λ found. (office loan number : ℕ) (sums : Sums) → IsWhole sums
+        → row.now ≡ instalment_stored (instalment_in office loan (number, sums)) → found ≡ sums) }
     ensures within { IfOk result (λ found. IsWhole found × IsRowWithin found) }
     ensures gives_up { IfErr result (λ fault. fault ≡ F20) }
 {
@@ -122,8 +130,10 @@ fn instalment_in_row(row: &Row) -> Result<Instalment, Fault>
 
 /// The instalments of the rows, in order.
 pub fn instalments_from(alloc: Global, rows: &[Row]) -> Result<Vec<Instalment>, Fault>
-    ensures rows { IfOk result (λ list. (office loan : ℕ) (all : List (ℕ × Sums)) → AllByRecursion (λ item. IsWhole item.1) all
-        → rows.now ≡ map (λ item. instalment_stored (instalment_in office loan item)) all → list.items ≡ map (λ item. item.1) all) }
+    ensures rows { IfOk result (λ list. (office loan : ℕ) (all : List (ℕ × Sums))
+        → AllByRecursion (λ item. IsWhole item.1) all
+        → rows.now ≡ map (λ item. instalment_stored (instalment_in office loan item)) all
+        → list.items ≡ map (λ item. item.1) all) }
     ensures whole { IfOk result (λ list. AreWhole list.items) }
     ensures within { IfOk result (λ list. AreWithin list.items) }
     ensures gives_up { IfErr result (λ fault. fault ≡ F20) }

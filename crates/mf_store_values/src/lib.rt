@@ -1,5 +1,5 @@
-//! What the rows of the tables stand for: charges, products, loans, entries, instalments, offices. A row that can be none of
-//! these is F20. And what is told by such rows alone: a loan's status, an office's line of arrears.
+//! What the rows of the tables stand for: charges, products, loans, entries, instalments, offices. A row that can be
+//! none of these is F20. And what is told by such rows alone: a loan's status, an office's line of arrears.
 #![tactic(auto)]
 
 mod catalogue;

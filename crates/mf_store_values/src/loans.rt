@@ -31,7 +31,8 @@ pub(crate) fn day_from(text: &Text) -> Result<Day, Fault>
 
 /// The stage that a number and the days of approval and disbursement stand for.
 fn stage_from(number: u32, approved: Option<Text>, disbursed: Option<Text>) -> Result<Stage, Fault>
-    ensures stage { IfOk result (λ stage. (s : ModelStage) → stage_number s ≡ number → approval_text s ≡ approved → disbursal_text s ≡ disbursed → stage ≡ s) }
+    ensures stage { IfOk result (λ stage. (s : ModelStage) → stage_number s ≡ number → approval_text s ≡ approved
+        → disbursal_text s ≡ disbursed → stage ≡ s) }
     ensures gives_up { IfErr result (λ fault. fault ≡ F20) }
 {
     match (number, approved, disbursed) {
@@ -60,7 +61,8 @@ pub(crate) fn account_number(number: u32) -> Result<AccountNo, Fault>
 
 /// The loan of a row.
 pub fn loan_from(row: LoanRow) -> Result<Loan, Fault>
-    ensures loan { IfOk result (λ loan. (office number : ℕ) (l : ModelLoan) → row ≡ loan_in office number l → loan ≡ l) }
+    ensures loan { IfOk result (λ loan. (office number : ℕ) (l : ModelLoan) → row ≡ loan_in office number l
+        → loan ≡ l) }
     ensures gives_up { IfErr result (λ fault. fault ≡ F20) }
 {
     let client = account_number(row.client)?;
@@ -77,7 +79,8 @@ pub fn loan_from(row: LoanRow) -> Result<Loan, Fault>
 
 /// The loan of a row as the tables give it, with its number.
 pub fn loan_in_row(row: &Row) -> Result<(Account, Loan), Fault>
-    ensures loan { IfOk result (λ found. (office number : ℕ) (l : ModelLoan) → row.now ≡ loan_stored (loan_in office number l) → (found.0 ≡ record { office = office; number = number }) × (found.1 ≡ l)) }
+    ensures loan { IfOk result (λ found. (office number : ℕ) (l : ModelLoan) → row.now ≡ loan_stored
+        (loan_in office number l) → (found.0 ≡ record { office = office; number = number }) × (found.1 ≡ l)) }
     ensures gives_up { IfErr result (λ fault. fault ≡ F20) }
 {
     let found = read_row::<LoanRow>(row)?;

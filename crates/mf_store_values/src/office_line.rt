@@ -10,7 +10,8 @@ ghost use Rattle.sqlite.specs.State.{HasCleanDisk, Survives, Shown, Begins, Comm
 ghost use Rattle.sqlite.specs.Values.{bound};
 ghost use Rattle.mf_store_records.specs.Calls.{IsUnchanged, IsKeeping};
 ghost use Rattle.mf_store_records.specs.Rows.{Lists, is_instalment_in};
-ghost use Rattle.mf_store_values.specs.Arrears.{NumberedLoan, AreAbove, AreWholeLoans, rows_of_office, aged_loans, IsLineOf};
+ghost use Rattle.mf_store_values.specs.Arrears.{NumberedLoan, AreAbove, AreWholeLoans, rows_of_office, aged_loans};
+ghost use Rattle.mf_store_values.specs.Arrears.{IsLineOf};
 ghost use Rattle.mf_store_values.specs.Folding.{AreWithinSums, IsOver};
 
 use crate::fold::{NoLine, fold_instalments};
@@ -29,14 +30,21 @@ fn fold_answer<S: Alter>(
     line: &mut OfficeLine,
 ) -> Result<(), NoLine>
     ensures line { HasCleanDisk (state S.Store connection.new) → IsPlain (understood connection.old.schema sql.now)
-        → OnOk result ((taken : List SqlRow) × Shown sql.now (bound params.now) (state S.Store connection.old) (state S.Store connection.new) taken × IsLineOf today taken line.old line.new) }
-    ensures same { HasCleanDisk (state S.Store connection.new) → IsPlain (understood connection.old.schema sql.now) → (IsTrue (state S.Store connection.old).is_open → (state S.Store connection.old).now ≡ (state S.Store connection.old).committed)
-        → IsTrue (state S.Store connection.new).is_open → (state S.Store connection.new).now ≡ (state S.Store connection.old).now }
-    ensures open { HasCleanDisk (state S.Store connection.new) → OnOk result (IsTrue (state S.Store connection.new).is_open) }
+        → OnOk result ((taken : List SqlRow) × Shown sql.now (bound params.now) (state S.Store connection.old)
+        (state S.Store connection.new) taken × IsLineOf today taken line.old line.new) }
+    ensures same { HasCleanDisk (state S.Store connection.new) → IsPlain (understood connection.old.schema sql.now)
+        → (IsTrue (state S.Store connection.old).is_open → (state S.Store connection.old).now
+        ≡ (state S.Store connection.old).committed)
+        → IsTrue (state S.Store connection.new).is_open → (state S.Store connection.new).now
+        ≡ (state S.Store connection.old).now }
+    ensures open { HasCleanDisk (state S.Store connection.new)
+        → OnOk result (IsTrue (state S.Store connection.new).is_open) }
     ensures sums { HasCleanDisk (state S.Store connection.new) → IsPlain (understood connection.old.schema sql.now)
-        → IfErr result (λ why. why ≡ NoLine.TooGreat → (taken : List SqlRow) × Begins sql.now (bound params.now) (state S.Store connection.old) taken × IsOver taken line.old) }
+        → IfErr result (λ why. why ≡ NoLine.TooGreat → (taken : List SqlRow) × Begins sql.now (bound params.now)
+        (state S.Store connection.old) taken × IsOver taken line.old) }
     ensures mode { connection.old.in_transaction ≡ false → connection.new.in_transaction ≡ false }
-    ensures survives { Survives (state S.Store connection.old) (state S.Store connection.new) (CommitsShowing sql.now (bound params.now) (state S.Store connection.old)) }
+    ensures survives { Survives (state S.Store connection.old) (state S.Store connection.new)
+        (CommitsShowing sql.now (bound params.now) (state S.Store connection.old)) }
 {
     match connection.query(sql, params) {
         Ok(mut rows) => fold_instalments(&mut rows, today, line),
@@ -44,8 +52,8 @@ fn fold_answer<S: Alter>(
     }
 }
 
-/// The line of an office's loans on a day, from the instalments that are kept of them. It is never `TooGreat` for an office
-/// that has at most 999,999 loans, none of over 10^12 cents.
+/// The line of an office's loans on a day, from the instalments that are kept of them. It is never `TooGreat` for an
+/// office that has at most 999,999 loans, none of over 10^12 cents.
 pub fn line_of_office<S: Alter>(
     connection: &mut Connection<S>,
     office: OfficeNo,
@@ -53,11 +61,18 @@ pub fn line_of_office<S: Alter>(
 ) -> Result<OfficeLine, NoLine>
     requires alone { connection.old.in_transaction ≡ false }
     ensures kept { IsUnchanged (state S.Store connection.old) (state S.Store connection.new) }
-    ensures sums { HasCleanDisk (state S.Store connection.new) → (lists : Lists) → IsKeeping (state S.Store connection.old) lists → (loans : List NumberedLoan) → AreAbove 0 loans → AreWholeLoans loans → AreWithinSums loans
-        → filter (is_instalment_in office) lists.instalments ≡ rows_of_office office loans → IfErr result (λ why. why ≡ NoLine.Unread) }
-    ensures open { HasCleanDisk (state S.Store connection.new) → OnOk result (IsTrue (state S.Store connection.new).is_open) }
-    ensures line { HasCleanDisk (state S.Store connection.new) → (lists : Lists) → IsKeeping (state S.Store connection.old) lists → (loans : List NumberedLoan) → AreAbove 0 loans → AreWholeLoans loans
-        → filter (is_instalment_in office) lists.instalments ≡ rows_of_office office loans → IfOk result (λ line. line ≡ line_of_loans office (aged_loans today loans)) }
+    ensures sums { HasCleanDisk (state S.Store connection.new) → (lists : Lists)
+        → IsKeeping (state S.Store connection.old) lists → (loans : List NumberedLoan) → AreAbove 0 loans
+        → AreWholeLoans loans → AreWithinSums loans
+        → filter (is_instalment_in office) lists.instalments ≡ rows_of_office office loans
+        → IfErr result (λ why. why ≡ NoLine.Unread) }
+    ensures open { HasCleanDisk (state S.Store connection.new)
+        → OnOk result (IsTrue (state S.Store connection.new).is_open) }
+    ensures line { HasCleanDisk (state S.Store connection.new) → (lists : Lists)
+        → IsKeeping (state S.Store connection.old) lists → (loans : List NumberedLoan) → AreAbove 0 loans
+        → AreWholeLoans loans
+        → filter (is_instalment_in office) lists.instalments ≡ rows_of_office office loans
+        → IfOk result (λ line. line ≡ line_of_loans office (aged_loans today loans)) }
     ensures mode { connection.new.in_transaction ≡ false }
 {
     // With nothing to commit a stop leaves just the tables as they are; the call brings that into the proof.
@@ -70,7 +85,10 @@ pub fn line_of_office<S: Alter>(
     let number = office.get();
     fold_answer(
         connection,
-        "SELECT office, loan, number, due, owed_penalty, paid_penalty, waived_penalty, written_off_penalty, owed_fee, paid_fee, waived_fee, written_off_fee, owed_interest, paid_interest, waived_interest, written_off_interest, owed_principal, paid_principal, waived_principal, written_off_principal FROM instalments WHERE office = ?1 ORDER BY office, loan, number",
+        "SELECT office, loan, number, due, owed_penalty, paid_penalty, waived_penalty, written_off_penalty, \
+         owed_fee, paid_fee, waived_fee, written_off_fee, owed_interest, paid_interest, waived_interest, \
+         written_off_interest, owed_principal, paid_principal, waived_principal, \
+         written_off_principal FROM instalments WHERE office = ?1 ORDER BY office, loan, number",
         params![number],
         today,
         &mut line,

@@ -98,7 +98,8 @@ impl OfficeRows {
 
 /// The member of staff of a row.
 fn member_from(row: &Row) -> Result<StaffMember, Fault>
-    ensures member { IfOk result (λ member. (office number : ℕ) (s : Staff) → row.now ≡ staff_row (staff_in office number s) → member ≡ s) }
+    ensures member { IfOk result (λ member. (office number : ℕ) (s : Staff)
+        → row.now ≡ staff_row (staff_in office number s) → member ≡ s) }
     ensures gives_up { IfErr result (λ fault. fault ≡ F20) }
 {
     let found = read_row::<StaffRow>(row)?;
@@ -111,7 +112,8 @@ fn member_from(row: &Row) -> Result<StaffMember, Fault>
 
 /// The staff of the rows, in order.
 pub fn staff_from(alloc: Global, rows: &[Row]) -> Result<Vec<StaffMember>, Fault>
-    ensures staff { IfOk result (λ list. (office : ℕ) (staff : List Staff) → rows.now ≡ numbered_from (λ number s. staff_row (staff_in office number s)) 1 staff → list.items ≡ staff) }
+    ensures staff { IfOk result (λ list. (office : ℕ) (staff : List Staff)
+        → rows.now ≡ numbered_from (λ number s. staff_row (staff_in office number s)) 1 staff → list.items ≡ staff) }
     ensures gives_up { IfErr result (λ fault. fault ≡ F20) }
 {
     let mut staff = Vec::new(alloc);
@@ -123,7 +125,8 @@ pub fn staff_from(alloc: Global, rows: &[Row]) -> Result<Vec<StaffMember>, Fault
 
 /// The name of a client's row.
 fn name_from(row: &Row) -> Result<Name, Fault>
-    ensures name { IfOk result (λ found. (office number : ℕ) (name : List ℕ) → row.now ≡ client_row (client_in office number name) → found ≡ name) }
+    ensures name { IfOk result (λ found. (office number : ℕ) (name : List ℕ)
+        → row.now ≡ client_row (client_in office number name) → found ≡ name) }
     ensures gives_up { IfErr result (λ fault. fault ≡ F20) }
 {
     let found = read_row::<ClientRow>(row)?;
@@ -132,7 +135,8 @@ fn name_from(row: &Row) -> Result<Name, Fault>
 
 /// The names of the rows, in order.
 pub fn names_from(alloc: Global, rows: &[Row]) -> Result<Vec<Name>, Fault>
-    ensures names { IfOk result (λ list. (office : ℕ) (names : List (List ℕ)) → rows.now ≡ numbered_from (λ number name. client_row (client_in office number name)) 1 names → list.items ≡ names) }
+    ensures names { IfOk result (λ list. (office : ℕ) (names : List (List ℕ)) → rows.now ≡ numbered_from (λ number name.
+        client_row (client_in office number name)) 1 names → list.items ≡ names) }
     ensures gives_up { IfErr result (λ fault. fault ≡ F20) }
 {
     let mut names = Vec::new(alloc);

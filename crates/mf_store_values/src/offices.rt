@@ -38,7 +38,8 @@ fn parent_number(number: Option<u32>) -> Result<Option<OfficeNo>, Fault>
 
 /// The office of a row.
 fn office_from(row: &Row) -> Result<Office, Fault>
-    ensures office { IfOk result (λ office. (parents : ℕ → Option ℕ) (f : ModelOffice) → row.now ≡ office_row (office_under parents f) → office ≡ line_of f) }
+    ensures office { IfOk result (λ office. (parents : ℕ → Option ℕ) (f : ModelOffice)
+        → row.now ≡ office_row (office_under parents f) → office ≡ line_of f) }
     ensures gives_up { IfErr result (λ fault. fault ≡ F20) }
 {
     let found = read_row::<OfficeRow>(row)?;
@@ -53,7 +54,8 @@ fn office_from(row: &Row) -> Result<Office, Fault>
 
 /// The offices of the rows, in order.
 pub fn offices_from(alloc: Global, rows: &[Row]) -> Result<OfficeList, Fault>
-    ensures offices { IfOk result (λ list. (parents : ℕ → Option ℕ) (fs : List ModelOffice) → rows.now ≡ map (λ f. office_row (office_under parents f)) fs → list ≡ map line_of fs) }
+    ensures offices { IfOk result (λ list. (parents : ℕ → Option ℕ) (fs : List ModelOffice)
+        → rows.now ≡ map (λ f. office_row (office_under parents f)) fs → list ≡ map line_of fs) }
     ensures gives_up { IfErr result (λ fault. fault ≡ F20) }
 {
     let mut offices = Vec::new(alloc);

@@ -17,7 +17,8 @@ use std::alloc::Global;
 
 /// The part of a row as the tables give it.
 fn part_in_row(row: &Row) -> Result<Settled, Fault>
-    ensures part { IfOk result (λ part. (office loan : ℕ) (placed : ℕ × (ℕ × Part)) → row.now ≡ share_stored (share_in office loan placed) → part ≡ part_told placed) }
+    ensures part { IfOk result (λ part. (office loan : ℕ) (placed : ℕ × (ℕ × Part))
+        → row.now ≡ share_stored (share_in office loan placed) → part ≡ part_told placed) }
     ensures gives_up { IfErr result (λ fault. fault ≡ F20) }
 {
     let found = read_row::<ShareRow>(row)?;
@@ -26,7 +27,8 @@ fn part_in_row(row: &Row) -> Result<Settled, Fault>
 
 /// The parts of the rows, in order.
 pub fn parts_from(alloc: Global, rows: &[Row]) -> Result<Vec<Settled>, Fault>
-    ensures parts { IfOk result (λ list. (office loan : ℕ) (all : List (ℕ × (ℕ × Part))) → rows.now ≡ map (λ item. share_stored (share_in office loan item)) all → list.items ≡ map part_told all) }
+    ensures parts { IfOk result (λ list. (office loan : ℕ) (all : List (ℕ × (ℕ × Part)))
+        → rows.now ≡ map (λ item. share_stored (share_in office loan item)) all → list.items ≡ map part_told all) }
     ensures gives_up { IfErr result (λ fault. fault ≡ F20) }
 {
     let mut parts = Vec::new(alloc);

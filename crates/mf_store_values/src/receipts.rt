@@ -15,7 +15,8 @@ use mf_store_records::{EntryRow, ReceiptRow};
 
 /// What the rows of a receipt and of the entry that carries it stand for.
 pub fn use_from(receipt: ReceiptRow, entry: EntryRow) -> Result<ReceiptUse, Fault>
-    ensures found { IfOk result (λ found. (office : ℕ) (u : Use) (e : ModelEntry) → receipt ≡ receipt_in office u → entry ≡ entry_in office u.by.loan e → u.by ≡ use_by u.by.loan e → found ≡ u.by) }
+    ensures found { IfOk result (λ found. (office : ℕ) (u : Use) (e : ModelEntry) → receipt ≡ receipt_in office u
+        → entry ≡ entry_in office u.by.loan e → u.by ≡ use_by u.by.loan e → found ≡ u.by) }
     ensures gives_up { IfErr result (λ fault. fault ≡ F20) }
 {
     let loan = account_number(receipt.loan)?;

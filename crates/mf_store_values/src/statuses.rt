@@ -5,7 +5,8 @@ ghost use Rattle.std.specs.List.{list_any};
 ghost use Rattle.mf_base.specs.declared.fault.Fault.TheVariants.{F20};
 ghost use Rattle.mf_alloc.specs.Sums.{is_open};
 ghost use Rattle.mf_account.specs.Kinds.{is_write_off};
-ghost use Rattle.mf_store_values.specs.Statuses.{any_stands, is_overpaid as is_told_overpaid, is_refund, paid_in_all, repaid_by as repaid_by_entry, repaid_in_all, stands_by, status_told};
+ghost use Rattle.mf_store_values.specs.Statuses.{any_stands, is_overpaid as is_told_overpaid, is_refund, paid_in_all};
+ghost use Rattle.mf_store_values.specs.Statuses.{repaid_by as repaid_by_entry, repaid_in_all, stands_by, status_told};
 
 use crate::values::stored;
 use mf_account::status::{CLOSED, OVERPAID, WRITTEN_OFF};

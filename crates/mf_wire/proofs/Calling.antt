@@ -1,5 +1,6 @@
 -- From the desk's answer to the text of a reply.
-use Rattle.std.proofs.Common.{◌≡◌, ℕ, ◌≤◌, nat_le, Bool, true, false, cond, List, Option, Some, None, Result, Err, sym, ap, ◌∙◌, subst}
+use Rattle.std.proofs.Common.{◌≡◌, ℕ, ◌≤◌, nat_le, Bool, true, false, cond, List, Option, Some, None, Result, Err, sym}
+use Rattle.std.proofs.Common.{ap, ◌∙◌, subst}
 use Rattle.std.specs.Prelude.{◌&&◌, is_some, option_map, option_and_then, length, ◌∷◌}
 use Rattle.std.proofs.lemmas.Bool.{le-leb}
 use Rattle.mf_base.specs.declared.fault.Fault.{Fault}
@@ -24,9 +25,11 @@ use Rattle.mf_wire.specs.Runs.{Calls}
 
 module _ {S : Type 0} (store : Ghosts S) where
   -- what reads as no request is refused, and nothing is changed
-  pub told_malformed : (told : Result Reply Fault → Type 0) (call : Call) (s : S) (flaw : Flaw) → call.request ≡ Unreadable flaw → told (Err (flaw_fault flaw)) → Calls store told call s s
+  pub told_malformed : (told : Result Reply Fault → Type 0) (call : Call) (s : S) (flaw : Flaw) → call.request
+      ≡ Unreadable flaw → told (Err (flaw_fault flaw)) → Calls store told call s s
   told_malformed told call s flaw e t =
-      let o : (i : Institution) → outcome call i ≡ Err (flaw_fault flaw) = λ i. ap (λ (r : Request). outcome (record { caller = call.caller; request = r }) i) e in
+      let o : (i : Institution) → outcome call i ≡ Err (flaw_fault flaw) =
+      λ i. ap (λ (r : Request). outcome (record { caller = call.caller; request = r }) i) e in
       record {
         premise = λ c. c;
         answered = λ c i h. (
@@ -40,46 +43,70 @@ module _ {S : Type 0} (store : Ghosts S) where
       }
 
   -- a call that was given up before anything was looked at
-  pub told_given_up : (told : Result Reply Fault → Type 0) (call : Call) (s : S) → ((i : Institution) (is : List Institution) → store.leaves s is → store.leaves s (i ∷ is)) → told (Err F20) → Calls store told call s s
+  pub told_given_up : (told : Result Reply Fault → Type 0) (call : Call) (s : S)
+      → ((i : Institution) (is : List Institution) → store.leaves s is → store.leaves s (i ∷ is)) → told (Err F20)
+      → Calls store told call s s
   told_given_up told call s more t = record {
     premise = λ c. c;
-    answered = λ c i h. (true, record { replied = t; follows = h; stop = λ is l. left (change_in (outcome call i)) i is l });
+    answered = λ c i h. (
+      true,
+      record {
+        replied = t;
+        follows = h;
+        stop = λ is l. left (change_in (outcome call i)) i is
+            l;
+      },
+    );
   }
     where
-      left : (change : Option Change) (i : Institution) (is : List Institution) → store.leaves s is → store.leaves s (left_by change true i is)
+      left : (change : Option Change) (i : Institution) (is : List Institution) → store.leaves s is
+          → store.leaves s (left_by change true i is)
       left None i is l = l
       left (Some change) i is l = more (after change i) is l
 
-caller_in : (line : List ℕ) (p : Parts) → Some p ≡ parts_of line → option_and_then (λ q. caller_of q.0) (split_space line) ≡ caller_of p.caller
+caller_in : (line : List ℕ) (p : Parts) → Some p ≡ parts_of line → option_and_then (λ q. caller_of q.0)
+    (split_space line) ≡ caller_of p.caller
 caller_in line p e = at (split_space line) e
   where
-    rest : (first : List ℕ × List ℕ) (second : Option (List ℕ × List ℕ)) → Some p ≡ option_map (after_caller first) second → caller_of first.0 ≡ caller_of p.caller
+    rest : (first : List ℕ × List ℕ) (second : Option (List ℕ × List ℕ)) → Some p ≡ option_map (after_caller first)
+        second → caller_of first.0 ≡ caller_of p.caller
     rest first None e = absurd (cc)
     rest first (Some s) e = ap (λ (o : Option Parts). option_and_then (λ q. caller_of q.caller) o) (sym e)
 
-    at : (first : Option (List ℕ × List ℕ)) → Some p ≡ parts_after first → option_and_then (λ q. caller_of q.0) first ≡ caller_of p.caller
+    at : (first : Option (List ℕ × List ℕ)) → Some p ≡ parts_after first → option_and_then (λ q. caller_of q.0) first
+        ≡ caller_of p.caller
     at None e = absurd (cc)
     at (Some first) e = rest first (split_space first.1) e
 
-pub call_in_parts : (line : List ℕ) (p : Parts) → length line ≤ 65536 → Some p ≡ parts_of line → call_of_parts p ≡ call_of line
+pub call_in_parts : (line : List ℕ) (p : Parts) → length line ≤ 65536 → Some p ≡ parts_of line → call_of_parts p
+    ≡ call_of line
 call_in_parts line p fits e =
     let c = caller_in line p e in
-    let r : cond (nat_le (length line) 65536) (asked_in (parts_of line)) (Unreadable Malformed) ≡ asked_in (Some p) = ap (λ b. cond b (asked_in (parts_of line)) (Unreadable Malformed)) (le-leb (length line) 65536 fits) ∙ ap asked_in (sym e) in
-    sym (ap (λ (x : Option Caller). record { caller = x; request = (call_of line).request }) c ∙ ap (λ (x : Request). record { caller = caller_of p.caller; request = x }) r)
+    let r : cond (nat_le (length line) 65536) (asked_in (parts_of line)) (Unreadable Malformed) ≡ asked_in (Some p) =
+    ap (λ b. cond b (asked_in (parts_of line)) (Unreadable Malformed)) (le-leb (length line) 65536 fits)
+    ∙ ap asked_in (sym e) in
+    sym (ap (λ (x : Option Caller). record { caller = x; request = (call_of line).request }) c
+    ∙ ap (λ (x : Request). record { caller = caller_of p.caller; request = x }) r)
 
-pub no_parts : (line : List ℕ) → length line ≤ 65536 → None ≡ parts_of line → (call_of line).request ≡ Unreadable Malformed
-no_parts line fits e = ap (λ b. cond b (asked_in (parts_of line)) (Unreadable Malformed)) (le-leb (length line) 65536 fits) ∙ ap asked_in (sym e)
+pub no_parts : (line : List ℕ) → length line ≤ 65536 → None ≡ parts_of line → (call_of line).request
+    ≡ Unreadable Malformed
+no_parts line fits e = ap (λ b. cond b (asked_in (parts_of line)) (Unreadable Malformed))
+    (le-leb (length line) 65536 fits) ∙ ap asked_in (sym e)
 
 pub too_long : (line : List ℕ) → nat_le (length line) 65536 ≡ false → (call_of line).request ≡ Unreadable Malformed
 too_long line e = ap (λ b. cond b (asked_in (parts_of line)) (Unreadable Malformed)) e
 
-pub sent_parts : (p : Parts) (caller : Caller) (request : Request) → Some caller ≡ caller_of p.caller → is_token p.method ≡ true → request_of p.method p.path p.body ≡ request → call_by caller request ≡ call_of_parts p
+pub sent_parts : (p : Parts) (caller : Caller) (request : Request) → Some caller ≡ caller_of p.caller
+    → is_token p.method ≡ true → request_of p.method p.path p.body ≡ request → call_by caller request ≡ call_of_parts p
 sent_parts p caller request c t r =
     ap (λ (x : Option Caller). record { caller = x; request = request }) c
     ∙ ap (λ (x : Request). record { caller = caller_of p.caller; request = x }) (sym (
-    ap (λ (o : Option Caller). cond (is_some o && is_token p.method) (request_of p.method p.path p.body) (Unreadable Malformed)) (sym c)
+    ap (λ (o : Option Caller). cond (is_some o && is_token p.method) (request_of p.method p.path p.body)
+    (Unreadable Malformed)) (sym c)
     ∙ ap (λ (b : Bool). cond b (request_of p.method p.path p.body) (Unreadable Malformed)) t ∙ r
     ))
 
-pub told_as : {S : Type 0} (store : Ghosts S) {T : Type 0} (shows : Reply → Result T Fault → Type 0) (a b : Call) (old new : S) (result : Result T Fault) → a ≡ b → Tells store shows (reply a) old new result → Tells store shows (reply b) old new result
+pub told_as : {S : Type 0} (store : Ghosts S) {T : Type 0} (shows : Reply → Result T Fault → Type 0) (a b : Call)
+    (old new : S) (result : Result T Fault) → a ≡ b → Tells store shows (reply a) old new result
+    → Tells store shows (reply b) old new result
 told_as store shows a b old new result e t = subst (λ (call : Call). Tells store shows (reply call) old new result) e t

@@ -31,17 +31,26 @@ no_endpoint (Post post) = refl
 no_endpoint (GetAndPost get post) = refl
 no_endpoint (GetAndPut get put) = refl
 
-on_no_route : (route : Option (RouteOf Methods)) (method path body : List ℕ) → method_of method ≡ Other → IsUnreadable (asked_on route method path body)
+on_no_route : (route : Option (RouteOf Methods)) (method path body : List ℕ) → method_of method ≡ Other
+    → IsUnreadable (asked_on route method path body)
 on_no_route None method path body e = (NoRoute, refl)
-on_no_route (Some route) method path body e = (NoMethod, ap (λ (endpoint : Option Endpoint). asked_of endpoint (parts_on route path) body) (ap (endpoint_of route.value) e ∙ no_endpoint route.value))
+on_no_route (Some route) method path body e = (
+  NoMethod,
+  ap (λ (endpoint : Option Endpoint).
+      asked_of endpoint (parts_on route path) body) (ap (endpoint_of route.value) e ∙ no_endpoint route.value),
+)
 
 asked_of_head : (method path body : List ℕ) → method_of method ≡ Other → IsUnreadable (request_of method path body)
 unfolding request_of
 asked_of_head method path body e = on_no_route (route_at path) method path body e
 
-either : (sent : Bool) (request : Request) → IsUnreadable request → IsUnreadable (cond sent request (Unreadable Malformed))
+either : (sent : Bool) (request : Request) → IsUnreadable request
+    → IsUnreadable (cond sent request (Unreadable Malformed))
 either true request h = h
 either false request h = (Malformed, refl)
 
-pub head_refused : (message : Message) → is_head message.method ≡ true → (flaw : Flaw) × ((call_of_message (Some message)).request ≡ Unreadable flaw)
-head_refused message e = either (is_some (caller_of message.staff) && is_token message.method) (request_of message.method message.target message.body) (asked_of_head message.method message.target message.body (is_other message.method e))
+pub head_refused : (message : Message) → is_head message.method ≡ true → (flaw : Flaw)
+    × ((call_of_message (Some message)).request ≡ Unreadable flaw)
+head_refused message e = either (is_some (caller_of message.staff) && is_token message.method)
+    (request_of message.method message.target message.body) (asked_of_head message.method message.target message.body
+    (is_other message.method e))

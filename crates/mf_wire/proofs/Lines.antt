@@ -1,15 +1,18 @@
 -- Each reply's text is one line.
-use Rattle.std.proofs.Common.{◌≡◌, ◌≢◌, ℕ, zero, suc, ◌+◌, ◌/◌, ◌%◌, Bool, true, false, cond, List, [], ◌∷◌, ◌++◌, Result, Ok, Err, refl, sym, ap, ap₂, ◌∙◌, arith, append_assoc}
+use Rattle.std.proofs.Common.{◌≡◌, ◌≢◌, ℕ, zero, suc, ◌+◌, ◌/◌, ◌%◌, Bool, true, false, cond, List, [], ◌∷◌, ◌++◌}
+use Rattle.std.proofs.Common.{Result, Ok, Err, refl, sym, ap, ap₂, ◌∙◌, arith, append_assoc}
 use Rattle.std.specs.Prelude.{◌==◌, ◌&&◌, ◌||◌, not, nat_lt, decimal, pos, negsuc, if◌then◌else◌}
 use Rattle.std.specs.Fmt.{digits, digits_onto, digit_glyph}
 use Rattle.std.specs.List.{AllByRecursion, concat, list_all}
 use Rattle.std.proofs.lemmas.Bool.Decides.{nat_tests}
 use Rattle.std.specs.Char.{digit_char}
 use Rattle.json.specs.Print.{escape_byte, escape_letter, escape, quoted}
-use Rattle.serde_json.specs.Data.{Num, unsigned, negative, float, Data, null, boolean, number, string, array, object, Items, no_items, item, Members, no_members, member}
+use Rattle.serde_json.specs.Data.{Num, unsigned, negative, float, Data, null, boolean, number, string, array, object}
+use Rattle.serde_json.specs.Data.{Items, no_items, item, Members, no_members, member}
 use Rattle.serde_json.specs.Written.{number_text, compact_text, items_text, members_text, comma_if}
 use Rattle.mf_base.specs.declared.fault.Fault.{Fault}
-use Rattle.mf_base.specs.declared.fault.Fault.TheVariants.{F1, F2, F3, F4, F5, F6, F7, F8, F9, F10, F11, F12, F13, F14, F15, F16, F17, F18, F19, F20}
+use Rattle.mf_base.specs.declared.fault.Fault.TheVariants.{F1, F2, F3, F4, F5, F6, F7, F8, F9, F10, F11, F12, F13, F14}
+use Rattle.mf_base.specs.declared.fault.Fault.TheVariants.{F15, F16, F17, F18, F19, F20}
 use Rattle.mf_model.specs.declared.reply.Reply.{Reply}
 use Rattle.mf_model.specs.Institution.{Institution}
 use Rattle.mf_model.specs.Run.{Line, answer, next}
@@ -30,7 +33,8 @@ feedless : (bytes : List ℕ) → list_all (λ b. not (b == 10)) bytes ≡ true 
 feedless [] h = tt
 feedless (b ∷ bytes) h = at (b == 10) refl h (λ k. feedless bytes k)
   where
-    at : (t : Bool) → (b == 10) ≡ t → (not t && list_all (λ x. not (x == 10)) bytes) ≡ true → (list_all (λ x. not (x == 10)) bytes ≡ true → HasNoLineFeed bytes) → HasNoLineFeed (b ∷ bytes)
+    at : (t : Bool) → (b == 10) ≡ t → (not t && list_all (λ x. not (x == 10)) bytes) ≡ true
+        → (list_all (λ x. not (x == 10)) bytes ≡ true → HasNoLineFeed bytes) → HasNoLineFeed (b ∷ bytes)
     at true e k more = absurd (cc)
     at false e k more = (no_feed b e, more k)
 
@@ -49,7 +53,8 @@ either false xs ys h k = k
 digits_are : (k n : ℕ) (acc : List ℕ) → HasNoLineFeed acc → HasNoLineFeed (digits_onto k 10 false n acc)
 digits_are zero n acc h = h
 digits_are (suc k) n acc h =
-    either (n / 10 == 0) (digit_glyph false (n % 10) ∷ acc) (digits_onto k 10 false (n / 10) (digit_glyph false (n % 10) ∷ acc))
+    either (n / 10 == 0) (digit_glyph false (n % 10) ∷ acc) (digits_onto k 10 false (n / 10) (digit_glyph false (n % 10)
+    ∷ acc))
     (glyph_is (n % 10), h) (digits_are k (n / 10) (digit_glyph false (n % 10) ∷ acc) (glyph_is (n % 10), h))
 
 decimal_is : (n : ℕ) → HasNoLineFeed (decimal n)
@@ -64,7 +69,8 @@ char_is d e = at (nat_lt d 10) e
     at true e = omega arith
     at false e = omega arith
 
-letter_at : (x : ℕ) (mark back form feed return tab : Bool) → (mark ≡ true → x ≢ 10) → cond mark x (cond back 98 (cond form 102 (cond feed 110 (cond return 114 (cond tab 116 0))))) ≢ 10
+letter_at : (x : ℕ) (mark back form feed return tab : Bool) → (mark ≡ true → x ≢ 10)
+    → cond mark x (cond back 98 (cond form 102 (cond feed 110 (cond return 114 (cond tab 116 0))))) ≢ 10
 letter_at x true back form feed return tab h e = h refl e
 letter_at x false true form feed return tab h e = no_feed 98 refl e
 letter_at x false false true feed return tab h e = no_feed 102 refl e
@@ -82,11 +88,16 @@ escaped : (x : ℕ) → HasNoLineFeed (escape_byte x)
 unfolding escape_byte
 escaped x = at (nat_lt 0 (escape_letter x)) refl
   where
-    other : (b : Bool) → nat_lt x 32 ≡ b → HasNoLineFeed (cond b (92 ∷ 117 ∷ 48 ∷ 48 ∷ digit_char (x / 16) ∷ digit_char (x % 16) ∷ []) (x ∷ []))
-    other true e = (no_feed 92 refl, (no_feed 117 refl, (no_feed 48 refl, (no_feed 48 refl, (char_is (x / 16), (char_is (x % 16), tt))))))
+    other : (b : Bool) → nat_lt x 32 ≡ b → HasNoLineFeed (cond b (92 ∷ 117 ∷ 48 ∷ 48 ∷ digit_char (x / 16)
+        ∷ digit_char (x % 16) ∷ []) (x ∷ []))
+    other true e = (
+      no_feed 92 refl,
+      (no_feed 117 refl, (no_feed 48 refl, (no_feed 48 refl, (char_is (x / 16), (char_is (x % 16), tt))))),
+    )
     other false e = ((λ z. let low : nat_lt x 32 ≡ true = ap (λ (y : ℕ). nat_lt y 32) z in absurd (cc)), tt)
 
-    at : (b : Bool) → nat_lt 0 (escape_letter x) ≡ b → HasNoLineFeed (cond b (92 ∷ escape_letter x ∷ []) (cond (nat_lt x 32) (92 ∷ 117 ∷ 48 ∷ 48 ∷ digit_char (x / 16) ∷ digit_char (x % 16) ∷ []) (x ∷ [])))
+    at : (b : Bool) → nat_lt 0 (escape_letter x) ≡ b → HasNoLineFeed (cond b (92 ∷ escape_letter x ∷ [])
+        (cond (nat_lt x 32) (92 ∷ 117 ∷ 48 ∷ 48 ∷ digit_char (x / 16) ∷ digit_char (x % 16) ∷ []) (x ∷ [])))
     at true e = (no_feed 92 refl, (letter_is x, tt))
     at false e = other (nat_lt x 32) refl
 
@@ -111,7 +122,8 @@ mutual
   data_is : (d : Data) → HasNoLineFeed (compact_text d)
   data_is null = (no_feed 110 refl, (no_feed 117 refl, (no_feed 108 refl, (no_feed 108 refl, tt))))
   data_is (boolean true) = (no_feed 116 refl, (no_feed 114 refl, (no_feed 117 refl, (no_feed 101 refl, tt))))
-  data_is (boolean false) = (no_feed 102 refl, (no_feed 97 refl, (no_feed 108 refl, (no_feed 115 refl, (no_feed 101 refl, tt)))))
+  data_is (boolean false) =
+      (no_feed 102 refl, (no_feed 97 refl, (no_feed 108 refl, (no_feed 115 refl, (no_feed 101 refl, tt)))))
   data_is (number n) = number_is n
   data_is (string s) = quoted_is s
   data_is (array ds) = (no_feed 91 refl, items_are false ds)
@@ -119,11 +131,13 @@ mutual
 
   items_are : (later : Bool) (ds : Items) → HasNoLineFeed (items_text later ds)
   items_are later no_items = (no_feed 93 refl, tt)
-  items_are later (item d ds) = joined (comma_if later) _ (comma_is later) (joined (compact_text d) _ (data_is d) (items_are true ds))
+  items_are later (item d ds) =
+      joined (comma_if later) _ (comma_is later) (joined (compact_text d) _ (data_is d) (items_are true ds))
 
   members_are : (later : Bool) (ms : Members) → HasNoLineFeed (members_text later ms)
   members_are later no_members = (no_feed 125 refl, tt)
-  members_are later (member k d ms) = joined (comma_if later) _ (comma_is later) (joined (quoted k) _ (quoted_is k) (no_feed 58 refl, joined (compact_text d) _ (data_is d) (members_are true ms)))
+  members_are later (member k d ms) = joined (comma_if later) _ (comma_is later) (joined (quoted k) _ (quoted_is k)
+      (no_feed 58 refl, joined (compact_text d) _ (data_is d) (members_are true ms)))
 
 -- a reply's line
 line_is : (status : ℕ) (body : List ℕ) → HasNoLineFeed body → IsOneLine (reply_line status body)
@@ -185,13 +199,17 @@ not_none (x ∷ f) rest e = absurd (cc)
 ended_by : (f rest : List ℕ) → (f ++ 10 ∷ []) ++ rest ≡ f ++ 10 ∷ rest
 ended_by f rest = append_assoc f (10 ∷ []) rest
 
-pub lines_by_bytes : (ts us : List (List ℕ)) → AllByRecursion IsOneLine ts → AllByRecursion IsOneLine us → concat ts ≡ concat us → ts ≡ us
+pub lines_by_bytes : (ts us : List (List ℕ)) → AllByRecursion IsOneLine ts → AllByRecursion IsOneLine us
+    → concat ts ≡ concat us → ts ≡ us
 lines_by_bytes [] [] h k e = refl
-lines_by_bytes [] (u ∷ us) h k e = absurd (not_none k.0.front (concat us) (sym (e ∙ ap (λ t. t ++ concat us) k.0.whole ∙ ended_by k.0.front (concat us))))
-lines_by_bytes (t ∷ ts) [] h k e = absurd (not_none h.0.front (concat ts) (sym (ended_by h.0.front (concat ts)) ∙ ap (λ u. u ++ concat ts) (sym h.0.whole) ∙ e))
+lines_by_bytes [] (u ∷ us) h k e = absurd (not_none k.0.front (concat us) (sym (e ∙ ap (λ t. t ++ concat us) k.0.whole
+    ∙ ended_by k.0.front (concat us))))
+lines_by_bytes (t ∷ ts) [] h k e = absurd (not_none h.0.front (concat ts) (sym (ended_by h.0.front (concat ts))
+    ∙ ap (λ u. u ++ concat ts) (sym h.0.whole) ∙ e))
 lines_by_bytes (t ∷ ts) (u ∷ us) h k e =
     let both : h.0.front ++ 10 ∷ concat ts ≡ k.0.front ++ 10 ∷ concat us =
-    sym (ap (λ x. x ++ concat ts) h.0.whole ∙ ended_by h.0.front (concat ts)) ∙ e ∙ ap (λ x. x ++ concat us) k.0.whole ∙ ended_by k.0.front (concat us) in
+    sym (ap (λ x. x ++ concat ts) h.0.whole ∙ ended_by h.0.front (concat ts)) ∙ e ∙ ap (λ x. x ++ concat us) k.0.whole
+    ∙ ended_by k.0.front (concat us) in
     let halved = halves h.0.front k.0.front (concat ts) (concat us) h.0.only k.0.only both in
     let this : t ≡ u = h.0.whole ∙ ap (λ f. f ++ 10 ∷ []) halved.first ∙ sym k.0.whole in
     ap₂ (λ (x : List ℕ) (xs : List (List ℕ)). x ∷ xs) this (lines_by_bytes ts us h.1 k.1 halved.rest)

@@ -22,8 +22,10 @@ message_in_range (Some message) = parts_in_range (parts_of_message message)
 
 module _ {S : Type 0} (store : Ghosts S) where
   -- a request was received
-  pub answered_request : (bytes : List ℕ) (message : Message) (to_head : Bool) (text : List ℕ) (old new : S) → to_head ≡ is_head message.method
-      → Calls store (λ r. text ≡ shown_response to_head r) (call_of_message (Some message)) old new → Tells bytes (arrival.Received message) → AnswersMessage store bytes old text new
+  pub answered_request : (bytes : List ℕ) (message : Message) (to_head : Bool) (text : List ℕ) (old new : S)
+      → to_head ≡ is_head message.method
+      → Calls store (λ r. text ≡ shown_response to_head r) (call_of_message (Some message)) old new
+      → Tells bytes (arrival.Received message) → AnswersMessage store bytes old text new
   answered_request bytes message to_head text old new e calls t = record {
     message = Some message;
     to_head = to_head;
@@ -33,13 +35,16 @@ module _ {S : Type 0} (store : Ghosts S) where
   }
 
   -- what had no room is given up
-  pub answered_without_room : (bytes : List ℕ) (to_head : Bool) (s : S) → ((i : Institution) (is : List Institution) → store.leaves s is → store.leaves s (i ∷ is)) → Tells bytes (arrival.NoRoom to_head) → AnswersMessage store bytes s (refusal F20 to_head) s
+  pub answered_without_room : (bytes : List ℕ) (to_head : Bool) (s : S) → ((i : Institution) (is : List Institution)
+      → store.leaves s is → store.leaves s (i ∷ is)) → Tells bytes (arrival.NoRoom to_head)
+      → AnswersMessage store bytes s (refusal F20 to_head) s
   answered_without_room bytes to_head s more t = record {
     message = request_of t.0 t.1;
     to_head = to_head;
     is = inr (t.0, t.1, t.2, refl, t.4);
     in_range = message_in_range (request_of t.0 t.1);
-    answered = told_given_up store (λ r. refusal F20 to_head ≡ shown_response to_head r) (call_of_message (request_of t.0 t.1)) s more refl;
+    answered = told_given_up store (λ r. refusal F20 to_head ≡ shown_response to_head r)
+        (call_of_message (request_of t.0 t.1)) s more refl;
   }
 
 ended : (left : Option (List ℕ)) → bytes_left left ≡ [] → IsAtEnd left
@@ -47,6 +52,7 @@ ended None e = tt
 ended (Some bytes) e = e
 
 -- where nothing was read and nothing follows, the stream was at its end
-pub nothing_read : (unread left : Option (List ℕ)) (read : List ℕ) → Consumes unread left read → read ++ bytes_left left ≡ [] → Consumes unread left [] × IsAtEnd left
+pub nothing_read : (unread left : Option (List ℕ)) (read : List ℕ) → Consumes unread left read → read ++ bytes_left left
+    ≡ [] → Consumes unread left [] × IsAtEnd left
 nothing_read unread left [] c e = (c, ended left e)
 nothing_read unread left (x ∷ read) c e = absurd (cc)

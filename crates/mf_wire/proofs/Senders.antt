@@ -1,5 +1,6 @@
 -- Lines by the bytes of their senders are the lines of a run by its callers.
-use Rattle.std.proofs.Common.{◌≡◌, ◌≢◌, ℕ, Bool, true, false, cond, List, [], ◌∷◌, map, Option, Some, None, Result, Err, refl, sym, ap, ap₂, ◌∙◌, arith}
+use Rattle.std.proofs.Common.{◌≡◌, ◌≢◌, ℕ, Bool, true, false, cond, List, [], ◌∷◌, map, Option, Some, None, Result, Err}
+use Rattle.std.proofs.Common.{refl, sym, ap, ap₂, ◌∙◌, arith}
 use Rattle.std.specs.Prelude.{◌==◌, ◌&&◌, option_map, option_and_then}
 use Rattle.std.specs.Str.{bytes_eq}
 use Rattle.std.proofs.lemmas.Bool.Decides.{nat_tests}
@@ -50,25 +51,32 @@ caller_by c None h = absurd (cc)
 caller_by c (Some d) h = ap Some (same_caller c d h)
 
 -- the bytes are a caller's text where they name that caller
-named_by : (c : Caller) → IsCaller c → (sender : Option (List ℕ)) → is_text (caller_text c.office c.staff) sender ≡ model.is_by c (option_and_then caller_of sender)
+named_by : (c : Caller) → IsCaller c → (sender : Option (List ℕ)) → is_text (caller_text c.office c.staff) sender
+    ≡ model.is_by c (option_and_then caller_of sender)
 named_by c range None = refl
 named_by c range (Some bytes) =
     both_ways (bytes_eq bytes (caller_text c.office c.staff)) (model.is_by c (caller_of bytes))
-    (λ h. by_caller c (caller_of bytes) ((caller_exact bytes (caller_of bytes) refl c range).1 ((bytes_eq-Decides bytes (caller_text c.office c.staff)).0 h)))
-    (λ h. (bytes_eq-Decides bytes (caller_text c.office c.staff)).1 ((caller_exact bytes (caller_of bytes) refl c range).0 (caller_by c (caller_of bytes) h)))
+    (λ h. by_caller c (caller_of bytes) ((caller_exact bytes (caller_of bytes) refl c range).1
+    ((bytes_eq-Decides bytes (caller_text c.office c.staff)).0 h)))
+    (λ h. (bytes_eq-Decides bytes (caller_text c.office c.staff)).1
+    ((caller_exact bytes (caller_of bytes) refl c range).0 (caller_by c (caller_of bytes) h)))
 
-caller_of_sender : (first : Option (List ℕ × List ℕ)) → option_and_then caller_of (option_map (λ p. p.0) first) ≡ option_and_then (λ p. caller_of p.0) first
+caller_of_sender : (first : Option (List ℕ × List ℕ)) → option_and_then caller_of (option_map (λ p. p.0) first)
+    ≡ option_and_then (λ p. caller_of p.0) first
 caller_of_sender None = refl
 caller_of_sender (Some p) = refl
 
-pub sent_by_is : (c : Caller) → IsCaller c → (line : List ℕ) → is_sent_by (caller_text c.office c.staff) line ≡ from_caller c (call_of line)
+pub sent_by_is : (c : Caller) → IsCaller c → (line : List ℕ) → is_sent_by (caller_text c.office c.staff) line
+    ≡ from_caller c (call_of line)
 sent_by_is c range line = named_by c range (sender_of line) ∙ ap (model.is_by c) (caller_of_sender (split_space line))
 
 pub sent_from_is : (o : ℕ) (line : List ℕ) → is_sent_from o line ≡ from_office o (call_of line)
 sent_from_is o line = ap (model.is_of o) (caller_of_sender (split_space line))
 
 -- the texts for the lines that pass are those told to the calls that are meant
-pub texts_for-told : (passes : List ℕ → Bool) (meant : Call → Bool) → ((line : List ℕ) → passes line ≡ meant (call_of line)) → (run : List Line) (lines texts : List (List ℕ)) → map (λ l. l.call) run ≡ map call_of lines → texts_for passes lines texts ≡ replies_to meant run texts
+pub texts_for-told : (passes : List ℕ → Bool) (meant : Call → Bool)
+    → ((line : List ℕ) → passes line ≡ meant (call_of line)) → (run : List Line) (lines texts : List (List ℕ))
+    → map (λ l. l.call) run ≡ map call_of lines → texts_for passes lines texts ≡ replies_to meant run texts
 texts_for-told passes meant same [] [] texts e = refl
 texts_for-told passes meant same [] (line ∷ lines) texts e = absurd (cc)
 texts_for-told passes meant same (l ∷ run) [] texts e = absurd (cc)
@@ -77,37 +85,45 @@ texts_for-told passes meant same (l ∷ run) (line ∷ lines) (text ∷ texts) e
     let first : l.call ≡ call_of line = cc in
     let rest : map (λ (k : Line). k.call) run ≡ map call_of lines = cc in
     let test : passes line ≡ meant l.call = same line ∙ ap meant (sym first) in
-    let more : texts_for passes lines texts ≡ replies_to meant run texts = texts_for-told passes meant same run lines texts rest in
+    let more : texts_for passes lines texts ≡ replies_to meant run texts =
+    texts_for-told passes meant same run lines texts rest in
     ap (λ b. cond b (text ∷ texts_for passes lines texts) (texts_for passes lines texts)) test
     ∙ ap (λ ts. cond (meant l.call) (text ∷ ts) ts) more
 
 -- where a text isn't F20's, its line was not given up
 not_given_up : (l : Line) (i : Institution) → shown_line (answer l i) ≢ fault_line F20 → l.given_up ≡ false
-not_given_up l i other = at l.given_up (λ e. other (ap (λ b. shown_line (cond b (Err F20) (model.answer (record { call = l.call; given_up = false }) i))) e))
+not_given_up l i other = at l.given_up (λ e.
+    other (ap (λ b. shown_line (cond b (Err F20) (model.answer (record { call = l.call; given_up = false }) i))) e))
   where
     at : (b : Bool) → (b ≡ true → ⊥) → b ≡ false
     at true h = absurd (h refl)
     at false h = refl
 
 -- where none of the texts that are told is F20's, none of their lines was given up
-pub all_told : (meant : Call → Bool) (run : List Line) (i : Institution) (rs : List (Result Reply Fault)) → NoneIsF20 (replies_to meant run (texts_of run i)) → but_given_up (given_up meant run) rs ≡ rs
+pub all_told : (meant : Call → Bool) (run : List Line) (i : Institution) (rs : List (Result Reply Fault))
+    → NoneIsF20 (replies_to meant run (texts_of run i)) → but_given_up (given_up meant run) rs ≡ rs
 all_told meant [] i rs h = refl
 all_told meant (l ∷ run) i rs h = step (meant l.call) rs h (λ qs k. all_told meant run (next l i) qs k)
   where
-    step : (own : Bool) (rs : List (Result Reply Fault)) → NoneIsF20 (cond own (shown_line (answer l i) ∷ replies_to meant run (texts_of run (next l i))) (replies_to meant run (texts_of run (next l i))))
-        → ((qs : List (Result Reply Fault)) → NoneIsF20 (replies_to meant run (texts_of run (next l i))) → but_given_up (given_up meant run) qs ≡ qs)
+    step : (own : Bool) (rs : List (Result Reply Fault)) → NoneIsF20 (cond own (shown_line (answer l i)
+        ∷ replies_to meant run (texts_of run (next l i))) (replies_to meant run (texts_of run (next l i))))
+        → ((qs : List (Result Reply Fault)) → NoneIsF20 (replies_to meant run (texts_of run (next l i)))
+        → but_given_up (given_up meant run) qs ≡ qs)
         → but_given_up (cond own (l.given_up ∷ given_up meant run) (given_up meant run)) rs ≡ rs
     step false rs h more = more rs h
     step true [] h more = refl
-    step true (r ∷ rs) h more = ap (λ g. cond g (Err F20) r ∷ but_given_up (given_up meant run) rs) (not_given_up l i h.0) ∙ ap (λ qs. r ∷ qs) (more rs h.1)
+    step true (r ∷ rs) h more = ap (λ g. cond g (Err F20) r ∷ but_given_up (given_up meant run) rs)
+        (not_given_up l i h.0) ∙ ap (λ qs. r ∷ qs) (more rs h.1)
 
 -- where no text is F20's, nothing was given up
-pub all_answered_run : (run : List Line) (lines : List (List ℕ)) (i : Institution) → map (λ l. l.call) run ≡ map call_of lines → NoneIsF20 (texts_of run i) → run ≡ all_answered (map call_of lines)
+pub all_answered_run : (run : List Line) (lines : List (List ℕ)) (i : Institution) → map (λ l. l.call) run
+    ≡ map call_of lines → NoneIsF20 (texts_of run i) → run ≡ all_answered (map call_of lines)
 all_answered_run [] [] i e h = refl
 all_answered_run [] (line ∷ lines) i e h = absurd (cc)
 all_answered_run (l ∷ run) [] i e h = absurd (cc)
 all_answered_run (l ∷ run) (line ∷ lines) i e h =
     let first : l.call ≡ call_of line = cc in
     let rest : map (λ (k : Line). k.call) run ≡ map call_of lines = cc in
-    let this : l ≡ record { call = call_of line; given_up = false } = ap₂ (λ c g. let k : Line = record { call = c; given_up = g } in k) first (not_given_up l i h.0) in
+    let this : l ≡ record { call = call_of line; given_up = false } =
+    ap₂ (λ c g. let k : Line = record { call = c; given_up = g } in k) first (not_given_up l i h.0) in
     ap₂ (λ (k : Line) (ks : List Line). k ∷ ks) this (all_answered_run run lines (next l i) rest h.1)

@@ -27,8 +27,17 @@ module _ {S : Type 0} (store : Ghosts S) where
     pub follows : store.stands new (last run i)
     pub stop : (is : List Institution) → store.leaves old is → store.leaves new (left_after run i is)
 
-  ran : (old : S) (es : List Exchange) (new : S) (i : Institution) → AnswersAll store old es new → store.clean new → store.stands old i → RanOn i es old new
-  ran old [] new i h c s = subst (λ (n : S). RanOn i [] old n) (sym h) (record { run = []; to_heads = []; calls = tt; in_range = tt; replied = refl; follows = s; stop = λ is l. l })
+  ran : (old : S) (es : List Exchange) (new : S) (i : Institution) → AnswersAll store old es new → store.clean new
+      → store.stands old i → RanOn i es old new
+  ran old [] new i h c s = subst (λ (n : S). RanOn i [] old n) (sym h) (record {
+    run = [];
+    to_heads = [];
+    calls = tt;
+    in_range = tt;
+    replied = refl;
+    follows = s;
+    stop = λ is l. l;
+  })
   ran old (e ∷ es) new i h c s =
       let one = h.1 in
       let w = one.answered.answered (premise h.0 es new h.2 c) i s in
@@ -43,7 +52,8 @@ module _ {S : Type 0} (store : Ghosts S) where
         stop = λ is k. r.stop (left_by (change_in (outcome l.call i)) w.0 i is) (w.1.stop is k);
       }
 
-  pub serves_on : IsolationLaw → (old : S) (es : List Exchange) (new : S) (i : Institution) → IsTree i.offices → AnswersAll store old es new → store.clean new → store.stands old i → ServesOn store i es old new
+  pub serves_on : IsolationLaw → (old : S) (es : List Exchange) (new : S) (i : Institution) → IsTree i.offices
+      → AnswersAll store old es new → store.clean new → store.stands old i → ServesOn store i es old new
   serves_on law old es new i tree h c s =
       let r = ran old es new i h c s in record {
         run = r.run;

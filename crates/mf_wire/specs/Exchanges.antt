@@ -17,7 +17,8 @@ pub record Exchange : Type 0 where
 
 -- the line is the call of the message that the bytes are
 abbrev pub IsLineOf : List ℕ → Line → Bool → Type 0
-IsLineOf bytes l to_head = (message : Option Message) × IsMessage bytes message to_head × (l.call ≡ call_of_message message)
+IsLineOf bytes l to_head = (message : Option Message) × IsMessage bytes message to_head
+    × (l.call ≡ call_of_message message)
 
 -- the same of each of the streams
 abbrev pub AreLinesOf : List Exchange → List Line → List Bool → Type 0
@@ -36,7 +37,8 @@ module _ {S : Type 0} (store : Ghosts S) where
   AnswersAll old [] new = new ≡ old
   AnswersAll old (e ∷ es) new = (mid : S) × AnswersMessage store e.bytes old e.text mid × AnswersAll mid es new
 
-  -- The messages are the lines of a run on the institution, with their members in range, the responses are those of its replies, and the store stands for what follows. What each office sees and is told is isolated.
+  -- The messages are the lines of a run on the institution, with their members in range, the responses are those of its
+  -- replies, and the store stands for what follows. What each office sees and is told is isolated.
   pub record ServesOn (i : Institution) (es : List Exchange) (old new : S) : Type 0 where
     pub run : List Line
     pub to_heads : List Bool

@@ -18,9 +18,12 @@ alone call given_up = record { call = call; given_up = given_up }
 abbrev pub or_given_up : Bool → Result Reply Fault → Result Reply Fault
 or_given_up given_up r = cond given_up (Err F20) r
 
--- What is told is told of the reply of what the caller's office sees, or of F20 where the call is given up. What an office sees afterwards is what the call, where it touches the office, makes of what it saw.
-pub record IsIsolatedCall {S : Type 0} (stands : S → Institution → Type 0) (told : Result Reply Fault → Type 0) (call : Call) (i : Institution) (new : S) : Type 0 where
+-- What is told is told of the reply of what the caller's office sees, or of F20 where the call is given up. What an
+-- office sees afterwards is what the call, where it touches the office, makes of what it saw.
+pub record IsIsolatedCall {S : Type 0} (stands : S → Institution → Type 0) (told : Result Reply Fault → Type 0)
+    (call : Call) (i : Institution) (new : S) : Type 0 where
   pub given_up : Bool
   pub own : (c : Caller) → call.caller ≡ Some c → told (or_given_up given_up (reply call (view c.office i)))
   pub follows : stands new (next (alone call given_up) i)
-  pub views : (o : ℕ) → view o (next (alone call given_up) i) ≡ play (touching_list o (alone call given_up ∷ []) i) (view o i)
+  pub views : (o : ℕ) → view o (next (alone call given_up) i) ≡ play (touching_list o (alone call given_up ∷ []) i)
+      (view o i)

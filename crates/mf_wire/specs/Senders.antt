@@ -1,5 +1,6 @@
 -- Whose line it is by its bytes, and which of the texts that are written are told to whom.
-use Rattle.std.specs.Prelude.{◌≡◌, ◌≢◌, ℕ, Bool, false, cond, List, [], ◌∷◌, ◌++◌, Option, Some, None, option_map, option_and_then}
+use Rattle.std.specs.Prelude.{◌≡◌, ◌≢◌, ℕ, Bool, false, cond, List, [], ◌∷◌, ◌++◌, Option, Some, None, option_map}
+use Rattle.std.specs.Prelude.{option_and_then}
 use Rattle.std.specs.List.{AllByRecursion}
 use Rattle.std.specs.Str.{bytes_eq}
 use Rattle.mf_base.specs.declared.fault.Fault.TheVariants.{F20}
@@ -12,6 +13,7 @@ use Rattle.mf_wire_requests.specs.RequestLine.{split_space}
 abbrev pub sender_of : List ℕ → Option (List ℕ)
 sender_of line = option_map (λ p. p.0) (split_space line)
 
+-- the caller's text is this one
 abbrev pub is_text : List ℕ → Option (List ℕ) → Bool
 is_text text None = false
 is_text text (Some bytes) = bytes_eq bytes text
@@ -28,7 +30,8 @@ is_sent_from o line = run.is_of o (option_and_then caller_of (sender_of line))
 abbrev pub texts_for : (List ℕ → Bool) → List (List ℕ) → List (List ℕ) → List (List ℕ)
 texts_for passes [] texts = []
 texts_for passes (line ∷ lines) [] = []
-texts_for passes (line ∷ lines) (text ∷ texts) = cond (passes line) (text ∷ texts_for passes lines texts) (texts_for passes lines texts)
+texts_for passes (line ∷ lines) (text ∷ texts) =
+    cond (passes line) (text ∷ texts_for passes lines texts) (texts_for passes lines texts)
 
 -- none of the texts is that of F20
 abbrev pub NoneIsF20 : List (List ℕ) → Type 0

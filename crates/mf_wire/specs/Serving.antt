@@ -1,5 +1,6 @@
 -- HTTP messages over a store: which call a message is, and what answers it.
-use Rattle.std.specs.Prelude.{◌≡◌, ◌≢◌, ℕ, Bool, true, false, List, [], ◌++◌, Option, Some, None, String, string_bytes, Result, Ok, Err}
+use Rattle.std.specs.Prelude.{◌≡◌, ◌≢◌, ℕ, Bool, true, false, List, [], ◌++◌, Option, Some, None, String, string_bytes}
+use Rattle.std.specs.Prelude.{Result, Ok, Err}
 use Rattle.std.specs.Io.KnownBytes.{Appends, Consumes, IsAtEnd}
 use Rattle.mf_base.specs.declared.fault.Cause.{Cause}
 use Rattle.mf_base.specs.declared.fault.Cause.TheVariants.{Read, Write, Memory}
@@ -49,8 +50,10 @@ abbrev pub text_response : {Z : Type 0} → Bool → Result (ℕ × String Z) Fa
 text_response to_head (Ok text) = response text.0 (string_bytes text.1) to_head
 text_response to_head (Err fault) = refusal fault to_head
 
--- A store answered the message that a stream of these bytes is by that response: the reply to its call, which is the only one that was made and has its members in range.
-pub record AnswersMessage {S : Type 0} (store : Ghosts S) (bytes : List ℕ) (old : S) (text : List ℕ) (new : S) : Type 0 where
+-- A store answered the message that a stream of these bytes is by that response: the reply to its call, which is the
+-- only one that was made and has its members in range.
+pub record AnswersMessage {S : Type 0} (store : Ghosts S) (bytes : List ℕ) (old : S) (text : List ℕ)
+    (new : S) : Type 0 where
   pub message : Option Message
   pub to_head : Bool
   pub is : IsMessage bytes message to_head
@@ -87,7 +90,8 @@ module _ {S : Type 0} (answers : List ℕ → S → List ℕ → S → Type 0) (
     pub source : streams.source.faults_after ≢ streams.source.faults_before
     pub untouched : Untouched
 
-  -- the sink failed in this call: the stream's message was answered, and only a beginning of its response was written; the source did not fail
+  -- the sink failed in this call: the stream's message was answered, and only a beginning of its response was written;
+  -- the source did not fail
   pub record FailedWriting (count : ℕ) : Type 0 where
     pub counted : count ≡ 0
     pub read : List ℕ

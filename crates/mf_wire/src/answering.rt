@@ -29,9 +29,11 @@ fn answer_parts<S: InstitutionStore, T: Drop, F: FnOnce(&Reply) -> Result<T, Fau
     show: F,
 ) -> Result<T, Fault>
     requires { F.IsAlwaysCallable show }
-    ensures told { Tells S.InstitutionStore (FnOnceReturnsAt F.FnOnce show) (reply (call_of_parts (parts_now parts.entry))) store.old store.new result }
+    ensures told { Tells S.InstitutionStore (FnOnceReturnsAt F.FnOnce show)
+        (reply (call_of_parts (parts_now parts.entry))) store.old store.new result }
     ensures changes { Changes S.InstitutionStore (call_of_parts (parts_now parts.entry)) store.old store.new result }
-    ensures refusal { IfErr result (λ f. (f ≢ Fault.F19) ⊎ ((reply : Reply) × FnOnceReturnsAt F.FnOnce show reply (Err f))) }
+    ensures refusal { IfErr result (λ f. (f ≢ Fault.F19)
+        ⊎ ((reply : Reply) × FnOnceReturnsAt F.FnOnce show reply (Err f))) }
 {
     let Some(caller) = Caller::parse(parts.caller) else {
         return Err(Fault::F1);
@@ -50,7 +52,8 @@ fn answer_line_parts<S: InstitutionStore>(
     store: &mut S,
     parts: LineParts<'_>,
 ) -> Result<String, Fault>
-    ensures calls { Calls S.InstitutionStore (λ r. line_of result ≡ shown_line r) (call_of_parts (parts_now parts.entry)) store.old store.new }
+    ensures calls { Calls S.InstitutionStore (λ r. line_of result ≡ shown_line r)
+        (call_of_parts (parts_now parts.entry)) store.old store.new }
     ensures refusal { IfErr result (λ f. f ≢ Fault.F19) }
 {
     answer_parts(
@@ -59,7 +62,8 @@ fn answer_line_parts<S: InstitutionStore>(
         store,
         parts,
         |reply: &Reply| -> Result<String, Fault>
-            ensures ok { IfOk result (λ s. string_bytes s ≡ reply_line (reply_status reply.now) (reply_body reply.now)) }
+            ensures ok { IfOk result (λ s. string_bytes s ≡ reply_line (reply_status reply.now)
+                (reply_body reply.now)) }
             ensures err { IfErr result (λ f. f ≡ Fault.F20) }
         { line_text(alloc, reply) },
     )
@@ -80,7 +84,8 @@ pub(crate) fn answer_text_parts<S: InstitutionStore>(
     store: &mut S,
     parts: LineParts<'_>,
 ) -> Result<(u16, String), Fault>
-    ensures calls { Calls S.InstitutionStore (IsText result) (call_of_parts (parts_now parts.entry)) store.old store.new }
+    ensures calls { Calls S.InstitutionStore (IsText result) (call_of_parts (parts_now parts.entry)) store.old
+        store.new }
     ensures refusal { IfErr result (λ f. f ≢ Fault.F19) }
 {
     answer_parts(
@@ -106,7 +111,8 @@ pub fn answer_text<S: InstitutionStore>(
     body: &[u8],
 ) -> Result<(u16, String), Fault>
     ensures calls { Calls S.InstitutionStore (IsText result)
-        (call_of_parts (record { caller = caller.now; method = method.now; path = path.now; body = body.now })) store.old store.new }
+        (call_of_parts (record { caller = caller.now; method = method.now; path = path.now; body = body.now }))
+        store.old store.new }
     ensures refusal { IfErr result (λ f. f ≢ Fault.F19) }
 {
     let Ok(routes) = Routes::new(alloc) else {

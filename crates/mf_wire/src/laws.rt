@@ -32,7 +32,8 @@ use mf_model::{InstitutionStore, laws};
 pub fn texts_are_lines()
     ensures one_line { (r : Result Reply Fault) → IsOneLine (shown_line r) }
     ensures of_run { (run : List Line) (i : Institution) → AllByRecursion IsOneLine (texts_of run i) }
-    ensures determined { (texts others : List (List ℕ)) → AllByRecursion IsOneLine texts → AllByRecursion IsOneLine others →
+    ensures determined { (texts others : List (List ℕ)) → AllByRecursion IsOneLine texts
+        → AllByRecursion IsOneLine others →
         concat texts ≡ concat others → texts ≡ others }
 {}
 
@@ -41,8 +42,10 @@ pub fn texts_are_lines()
 /// touches that office is the same in both runs, its callers are told the same bytes, each member of staff for
 /// themselves too, and the two agree on those rows afterwards, whatever else they hold and whatever else happens.
 pub fn two_runs_agree<S: InstitutionStore, T: InstitutionStore>()
-    ensures { (o : ℕ) (i j : Institution) (lines texts others replies : List (List ℕ)) (old new : S) (before after : T) →
-        (run : RunsOn S.InstitutionStore i lines old texts new) (other : RunsOn T.InstitutionStore j others before replies after) →
+    ensures { (o : ℕ) (i j : Institution) (lines texts others replies : List (List ℕ)) (old new : S) (before after : T)
+        →
+        (run : RunsOn S.InstitutionStore i lines old texts new) (other : RunsOn T.InstitutionStore j others before
+        replies after) →
         Alike o i j run.run other.run → Agree o
         (record { institution = i; run = run.run; lines = lines; texts = texts })
         (record { institution = j; run = other.run; lines = others; texts = replies }) }
@@ -52,11 +55,15 @@ pub fn two_runs_agree<S: InstitutionStore, T: InstitutionStore>()
 /// that isn't there, and a message the same response.
 pub fn hidden_and_missing_read_alike()
     ensures lines { (asked : Asked) (a b : Account) (c : Caller) (i : Institution) (line other : List ℕ) →
-        IsUnseen c asked a i → IsUnseen c asked b i → call_of line ≡ call_from c (asked_of asked a) → call_of other ≡ call_from c (asked_of asked b) →
+        IsUnseen c asked a i → IsUnseen c asked b i → call_of line ≡ call_from c (asked_of asked a) → call_of other
+        ≡ call_from c (asked_of asked b) →
         shown_line (reply (call_of line) i) ≡ shown_line (reply (call_of other) i) }
-    ensures messages { (asked : Asked) (a b : Account) (c : Caller) (i : Institution) (message other : Message) (to_head : Bool) →
-        IsUnseen c asked a i → IsUnseen c asked b i → call_of_message (Some message) ≡ call_from c (asked_of asked a) → call_of_message (Some other) ≡ call_from c (asked_of asked b) →
-        shown_response to_head (reply (call_of_message (Some message)) i) ≡ shown_response to_head (reply (call_of_message (Some other)) i) }
+    ensures messages { (asked : Asked) (a b : Account) (c : Caller) (i : Institution) (message other : Message)
+        (to_head : Bool) →
+        IsUnseen c asked a i → IsUnseen c asked b i → call_of_message (Some message) ≡ call_from c (asked_of asked a)
+        → call_of_message (Some other) ≡ call_from c (asked_of asked b) →
+        shown_response to_head (reply (call_of_message (Some message)) i) ≡ shown_response to_head
+        (reply (call_of_message (Some other)) i) }
 {
     laws::hidden_is_missing();
 }
@@ -82,10 +89,12 @@ pub fn one_text_is_isolated<S: InstitutionStore>(answered: &Result<(u16, String)
 }
 
 /// Messages that are answered one after another, as a server answers them, are a run: what each office sees in the end
-/// is its touching list played on what it saw first, and its callers are told by their responses what that play answers.
+/// is its touching list played on what it saw first, and its callers are told by their responses what that play
+/// answers.
 pub fn served_messages_are_isolated<S: InstitutionStore>()
     ensures { (i : Institution) (exchanges : List Exchange) (old new : S) →
-        AnswersAll S.InstitutionStore old exchanges new → S.clean new → S.stands old i → ServesOn S.InstitutionStore i exchanges old new }
+        AnswersAll S.InstitutionStore old exchanges new → S.clean new → S.stands old i
+        → ServesOn S.InstitutionStore i exchanges old new }
 {
     laws::isolation();
 }
@@ -94,7 +103,8 @@ pub fn served_messages_are_isolated<S: InstitutionStore>()
 /// bytes, whatever else they hold, unless one gives up.
 pub fn two_messages_agree<S: InstitutionStore, T: InstitutionStore>()
     ensures { (c : Caller) (i j : Institution) (bytes text other : List ℕ) (old new : S) (before after : T) →
-        (one : AnswersMessage S.InstitutionStore bytes old text new) → AnswersMessage T.InstitutionStore bytes before other after →
+        (one : AnswersMessage S.InstitutionStore bytes old text new) → AnswersMessage T.InstitutionStore bytes before
+        other after →
         S.clean new → S.stands old i → T.clean after → T.stands before j →
         (call_of_message one.message).caller ≡ Some c → view c.office i ≡ view c.office j →
         text ≢ refusal Fault.F20 one.to_head → other ≢ refusal Fault.F20 one.to_head → text ≡ other }
@@ -111,12 +121,14 @@ pub fn messages_and_texts_agree<S: InstitutionStore, T: InstitutionStore>(
         Calls T.InstitutionStore (IsText answered.now) (call_of_message one.message) before after →
         S.clean new → S.stands old i → T.clean after → T.stands before j →
         (call_of_message one.message).caller ≡ Some c → view c.office i ≡ view c.office j →
-        text ≢ refusal Fault.F20 one.to_head → answered.now ≢ Err Fault.F20 → text ≡ text_response one.to_head answered.now }
+        text ≢ refusal Fault.F20 one.to_head → answered.now ≢ Err Fault.F20
+        → text ≡ text_response one.to_head answered.now }
 {
     laws::isolation();
 }
 
 /// HEAD is a method of no route: a message to it is refused as malformed, for want of a route or for its method.
 pub fn head_is_refused()
-    ensures { (message : Message) → is_head message.method ≡ true → (flaw : Flaw) × ((call_of_message (Some message)).request ≡ Unreadable flaw) }
+    ensures { (message : Message) → is_head message.method ≡ true → (flaw : Flaw)
+        × ((call_of_message (Some message)).request ≡ Unreadable flaw) }
 {}

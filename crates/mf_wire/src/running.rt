@@ -20,10 +20,10 @@ use std::alloc::Global;
 /// and one of over 65,536 bytes is refused as malformed. Each other line gets exactly one reply: a status, a space, a
 /// body and a line feed.
 ///
-/// What is read of a line is kept in a buffer that is made first: where it can't be, `Memory` is reported, and nothing is
-/// read, answered or written. After `Read` the unfinished line is not run. After `Write` the line whose reply was being
-/// written is the last that was run. `Read` and `Write` are reported only where the reader or the writer failed in this
-/// call, whatever it had done before, and `Read` also where 2^60 bytes came without an end.
+/// What is read of a line is kept in a buffer that is made first: where it can't be, `Memory` is reported, and nothing
+/// is read, answered or written. After `Read` the unfinished line is not run. After `Write` the line whose reply was
+/// being written is the last that was run. `Read` and `Write` are reported only where the reader or the writer failed
+/// in this call, whatever it had done before, and `Read` also where 2^60 bytes came without an end.
 pub fn run<S: InstitutionStore, R: Source, W: Sink>(
     alloc: Global,
     store: &mut S,
@@ -31,7 +31,8 @@ pub fn run<S: InstitutionStore, R: Source, W: Sink>(
     sink: &mut W,
 ) -> Result<u64, StreamFault>
     ensures ends { Ends (RunsLines S.InstitutionStore) store.old store.new
-        (streams_of (stream_of R.unread R.faults source.old source.new) (stream_of W.written W.faults sink.old sink.new)) result }
+        (streams_of (stream_of R.unread R.faults source.old source.new)
+        (stream_of W.written W.faults sink.old sink.new)) result }
     ensures memory { IfErr result (λ f. f.cause ≡ cause.Memory → (source.new ≡ source.old) × (sink.new ≡ sink.old)) }
 {
     laws::isolation();

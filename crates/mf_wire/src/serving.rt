@@ -32,7 +32,8 @@ fn answer_message<S: InstitutionStore>(
     store: &mut S,
     message: &Message,
 ) -> Response
-    ensures calls { Calls S.InstitutionStore (λ r. text_response result.to_head result.text ≡ shown_response result.to_head r) (call_of_message (Some message.now)) store.old store.new }
+    ensures calls { Calls S.InstitutionStore (λ r. text_response result.to_head result.text
+        ≡ shown_response result.to_head r) (call_of_message (Some message.now)) store.old store.new }
     ensures to_head { result.to_head ≡ is_head message.now.method }
     ensures refusal { IfErr result.text (λ f. f ≢ Fault.F19) }
 {
@@ -82,8 +83,10 @@ fn put_response<W: Sink>(
     response: &Response,
 ) -> Result<(), WriteFault>
     requires { IfErr response.now.text (λ f. f ≢ Fault.F19) }
-    ensures ok { OnOk result (Appends (W.written sink.old) (W.written sink.new) (text_response response.now.to_head response.now.text)) }
-    ensures err { OnErr result (IsCut (W.written sink.old) (W.written sink.new) (text_response response.now.to_head response.now.text)) }
+    ensures ok { OnOk result (Appends (W.written sink.old) (W.written sink.new)
+        (text_response response.now.to_head response.now.text)) }
+    ensures err { OnErr result (IsCut (W.written sink.old) (W.written sink.new)
+        (text_response response.now.to_head response.now.text)) }
     ensures sound { OnOk result (W.faults sink.new ≡ W.faults sink.old) }
     ensures fault { OnErr result (W.faults sink.new ≢ W.faults sink.old) }
 {
@@ -105,9 +108,9 @@ fn put_response<W: Sink>(
 /// To HEAD the body of the reply is left off, where the head was read.
 ///
 /// The rooms for the head and for the response are made first: where one can't be, `Memory` is reported, and nothing is
-/// read, answered or written.
-/// After `Read` nothing was answered or written. After `Write` the message was answered, and a beginning of its response
-/// was written. `Read` and `Write` are reported only where the reader or the writer failed in this call.
+/// read, answered or written. After `Read` nothing was answered or written. After `Write` the message was answered, and
+/// a beginning of its response was written. `Read` and `Write` are reported only where the reader or the writer failed
+/// in this call.
 pub fn serve_one<S: InstitutionStore, R: Source, W: Sink>(
     alloc: Global,
     desk: &Desk,
@@ -116,7 +119,8 @@ pub fn serve_one<S: InstitutionStore, R: Source, W: Sink>(
     sink: &mut W,
 ) -> Result<bool, StreamFault>
     ensures ends { EndsMessage (AnswersMessage S.InstitutionStore) store.old store.new
-        (streams_of (stream_of R.unread R.faults source.old source.new) (stream_of W.written W.faults sink.old sink.new)) result }
+        (streams_of (stream_of R.unread R.faults source.old source.new)
+        (stream_of W.written W.faults sink.old sink.new)) result }
     ensures silent { IfOk result (λ served. served ≡ false → sink.new ≡ sink.old) }
     ensures unwritten { IfErr result (λ f. f.cause ≢ cause.Write → sink.new ≡ sink.old) }
     ensures memory { IfErr result (λ f. f.cause ≡ cause.Memory → source.new ≡ source.old) }

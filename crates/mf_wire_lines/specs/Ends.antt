@@ -18,7 +18,8 @@ module _ {S : Type 0} (runs : S → List (List ℕ) → List (List ℕ) → S �
     pub source : streams.source.faults_after ≡ streams.source.faults_before
     pub sink : streams.sink.faults_after ≡ streams.sink.faults_before
 
-  -- The source failed in this run, or 2^60 bytes came without an end. The lines that had ended were answered, and the unfinished one was not run; the sink did not fail.
+  -- The source failed in this run, or 2^60 bytes came without an end. The lines that had ended were answered, and the
+  -- unfinished one was not run; the sink did not fail.
   pub record EndsReading (count : ℕ) : Type 0 where
     pub bytes : List ℕ
     pub consumed : Consumes streams.source.before streams.source.after bytes
@@ -26,12 +27,14 @@ module _ {S : Type 0} (runs : S → List (List ℕ) → List (List ℕ) → S �
     pub failed : (streams.source.faults_after ≢ streams.source.faults_before) ⊎ (2 ^ 60 ≤ length bytes)
     pub sink : streams.sink.faults_after ≡ streams.sink.faults_before
 
-  -- The sink failed in this run: a beginning of the lines was run, and of the last one's reply only a part was written. The line that the source's end would end is among them only at the end. The source did not fail.
+  -- The sink failed in this run: a beginning of the lines was run, and of the last one's reply only a part was written.
+  -- The line that the source's end would end is among them only at the end. The source did not fail.
   pub record EndsWriting (count : ℕ) : Type 0 where
     pub bytes : List ℕ
     pub consumed : Consumes streams.source.before streams.source.after bytes
     pub broken : Broken runs old new (ended_lines bytes) streams.sink.before streams.sink.after count
-        ⊎ (IsAtEnd streams.source.after × Broken runs old new (request_lines bytes) streams.sink.before streams.sink.after count)
+        ⊎ (IsAtEnd streams.source.after × Broken runs old new (request_lines bytes) streams.sink.before
+        streams.sink.after count)
     pub source : streams.source.faults_after ≡ streams.source.faults_before
     pub sink : streams.sink.faults_after ≢ streams.sink.faults_before
 

@@ -1,7 +1,8 @@
 -- The texts of replies.
 use Rattle.std.specs.Prelude.{ℕ, List, [], ◌∷◌, ◌++◌, codes, decimal, string_bytes, String, Result, Ok, Err}
 use Rattle.mf_base.specs.declared.fault.Fault.{Fault}
-use Rattle.mf_base.specs.declared.fault.Fault.TheVariants.{F1, F2, F3, F4, F5, F6, F7, F8, F9, F10, F11, F12, F13, F14, F15, F16, F17, F18, F19, F20}
+use Rattle.mf_base.specs.declared.fault.Fault.TheVariants.{F1, F2, F3, F4, F5, F6, F7, F8, F9, F10, F11, F12, F13, F14}
+use Rattle.mf_base.specs.declared.fault.Fault.TheVariants.{F15, F16, F17, F18, F19, F20}
 
 -- the HTTP status of a refusal. What names no institution is never replied
 abbrev pub fault_status : Fault → ℕ

@@ -6,26 +6,31 @@ use Rattle.mf_base.specs.declared.fault.Fault.TheVariants.{F1}
 use Rattle.mf_wire_lines.specs.Cut.{request}
 use Rattle.mf_wire_lines.specs.Replies.{fault_line}
 
--- From old, the desk may answer the line with the text and go on to new. A line that is too long is refused and changes nothing.
+-- From old, the desk may answer the line with the text and go on to new. A line that is too long is refused and changes
+-- nothing.
 abbrev pub LineStep : {S : Type 0} → (S → List ℕ → List ℕ → S → Type 0) → S → List ℕ → List ℕ → S → Type 0
-LineStep step old line text new = MatchBool (nat_le (length line) 65536) (step old line text new) ((text ≡ fault_line F1) × (new ≡ old))
+LineStep step old line text new =
+    MatchBool (nat_le (length line) 65536) (step old line text new) ((text ≡ fault_line F1) × (new ≡ old))
 
 -- the desk may give these texts to these lines, one after another
 abbrev pub Run : {S : Type 0} → (S → List ℕ → List ℕ → S → Type 0) → S → List (List ℕ) → List (List ℕ) → S → Type 0
 Run step old [] [] new = new ≡ old
-Run {S = S} step old (line ∷ lines) (text ∷ texts) new = (mid : S) × LineStep step old line text mid × Run step mid lines texts new
+Run {S = S} step old (line ∷ lines) (text ∷ texts) new =
+    (mid : S) × LineStep step old line text mid × Run step mid lines texts new
 Run step old [] (text ∷ texts) new = ⊥
 Run step old (line ∷ lines) [] new = ⊥
 
 -- these lines were answered in a run, and each reply was written whole
-pub record Answered {S : Type 0} (run : S → List (List ℕ) → List (List ℕ) → S → Type 0) (old new : S) (lines : List (List ℕ)) (before after : Option (List ℕ)) (count : ℕ) : Type 0 where
+pub record Answered {S : Type 0} (run : S → List (List ℕ) → List (List ℕ) → S → Type 0) (old new : S)
+    (lines : List (List ℕ)) (before after : Option (List ℕ)) (count : ℕ) : Type 0 where
   pub texts : List (List ℕ)
   pub ran : run old lines texts new
   pub written : Appends before after (concat texts)
   pub counted : count ≡ length texts
 
 -- a beginning of these lines was answered in a run, and of the last reply only a beginning was written
-pub record Broken {S : Type 0} (run : S → List (List ℕ) → List (List ℕ) → S → Type 0) (old new : S) (lines : List (List ℕ)) (before after : Option (List ℕ)) (count : ℕ) : Type 0 where
+pub record Broken {S : Type 0} (run : S → List (List ℕ) → List (List ℕ) → S → Type 0) (old new : S)
+    (lines : List (List ℕ)) (before after : Option (List ℕ)) (count : ℕ) : Type 0 where
   pub done : List (List ℕ)
   pub line : List ℕ
   pub rest : List (List ℕ)
@@ -39,7 +44,8 @@ pub record Broken {S : Type 0} (run : S → List (List ℕ) → List (List ℕ) 
   pub counted : count ≡ length texts
 
 -- a request line was answered, and of its reply only a beginning was written
-pub record Half {S : Type 0} (step : S → List ℕ → List ℕ → S → Type 0) (old new : S) (line : List ℕ) (before after : Option (List ℕ)) : Type 0 where
+pub record Half {S : Type 0} (step : S → List ℕ → List ℕ → S → Type 0) (old new : S) (line : List ℕ)
+    (before after : Option (List ℕ)) : Type 0 where
   pub asks : request line ≡ line ∷ []
   pub text : List ℕ
   pub stepped : LineStep step old line text new

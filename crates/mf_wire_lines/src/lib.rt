@@ -1,8 +1,8 @@
 //! A stream of request lines, answered one by one: which lines it holds, and the bytes that are written for each.
 //!
-//! What answers a line is any `LineDesk`. Readers and writers count their faults, so that each fault that is reported was
-//! theirs, and of that call. The texts of refusals stand here too, since a line that is too long is refused before any
-//! desk hears it.
+//! What answers a line is any `LineDesk`. Readers and writers count their faults, so that each fault that is reported
+//! was theirs, and of that call. The texts of refusals stand here too, since a line that is too long is refused before
+//! any desk hears it.
 #![tactic(auto)]
 
 mod line_buffer;

@@ -58,7 +58,8 @@ fn answer_line<S, D: LineDesk<S>, W: Sink>(
     sink: &mut W,
     line: &[u8],
 ) -> Result<u64, WriteFault>
-    ensures ok { IfOk result (λ n. (n ≤ 1) × Answered (Run (D.may_answer desk.now)) state.old state.new (request line.now)
+    ensures ok { IfOk result (λ n. (n ≤ 1) × Answered (Run (D.may_answer desk.now)) state.old state.new
+        (request line.now)
         (W.written sink.old) (W.written sink.new) n) }
     ensures err { IfErr result (λ _. Half (D.may_answer desk.now) state.old state.new line.now
         (W.written sink.old) (W.written sink.new)) }
@@ -97,10 +98,12 @@ fn feed<S, D: LineDesk<S>, W: Sink>(
     requires { length piece.now < 2 ^ 60 }
     ensures ok { IfOk result (λ n. (begun : List ℕ) → held.old ≡ take 65538 begun
         → (n ≤ length piece.now) × (held.new ≡ take 65538 (begun_from begun piece.now))
-        × Answered (Run (D.may_answer desk.now)) state.old state.new (ended_from begun piece.now) (W.written sink.old) (W.written sink.new) n) }
+        × Answered (Run (D.may_answer desk.now)) state.old state.new (ended_from begun piece.now) (W.written sink.old)
+        (W.written sink.new) n) }
     ensures err { IfErr result (λ n. (begun : List ℕ) → held.old ≡ take 65538 begun
         → (n ≤ length piece.now)
-        × Broken (Run (D.may_answer desk.now)) state.old state.new (ended_from begun piece.now) (W.written sink.old) (W.written sink.new) n) }
+        × Broken (Run (D.may_answer desk.now)) state.old state.new (ended_from begun piece.now) (W.written sink.old)
+        (W.written sink.new) n) }
     ensures sound { OnOk result (W.faults sink.new ≡ W.faults sink.old) }
     ensures fault { IfErr result (λ _. W.faults sink.new ≢ W.faults sink.old) }
 {
@@ -139,7 +142,8 @@ pub fn run_lines<S, D: LineDesk<S>, R: Source, W: Sink>(
     sink: &mut W,
 ) -> Result<u64, StreamFault>
     ensures ends { Ends (Run (D.may_answer desk.now)) state.old state.new
-        (streams_of (stream_of R.unread R.faults source.old source.new) (stream_of W.written W.faults sink.old sink.new)) result }
+        (streams_of (stream_of R.unread R.faults source.old source.new)
+        (stream_of W.written W.faults sink.old sink.new)) result }
     ensures memory { IfErr result (λ f. f.cause ≡ cause.Memory → (source.new ≡ source.old) × (sink.new ≡ sink.old)) }
 {
     let memory = StreamFault {
@@ -176,7 +180,8 @@ fn serve_lines<S, D: LineDesk<S>, R: Source, W: Sink>(
     requires empty { held.old ≡ [] }
     requires room { length room.old ≡ 65536 }
     ensures ends { Ends (Run (D.may_answer desk.now)) state.old state.new
-        (streams_of (stream_of R.unread R.faults source.old source.new) (stream_of W.written W.faults sink.old sink.new)) result }
+        (streams_of (stream_of R.unread R.faults source.old source.new)
+        (stream_of W.written W.faults sink.old sink.new)) result }
     ensures memory { IfErr result (λ f. f.cause ≢ cause.Memory) }
 {
     let mut answered = 0u64;

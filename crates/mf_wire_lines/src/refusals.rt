@@ -1,10 +1,12 @@
+//! The text of a refusal.
+
 ghost use Rattle.std.specs.Prelude.{◌≡◌, ◌≢◌};
 ghost use Rattle.mf_wire_lines.specs.Replies.{fault_status, fault_body};
 
 use mf_base::Fault;
 
-/// The HTTP status and the body of a refusal. It takes no memory, so F20 can be answered when there is none. A file that
-/// holds no institution (`F19`) is refused on opening only, and has no reply.
+/// The HTTP status and the body of a refusal. It takes no memory, so F20 can be answered when there is none. A file
+/// that holds no institution (`F19`) is refused on opening only, and has no reply.
 pub fn fault_text(fault: Fault) -> (u16, &'static str)
     requires { fault ≢ Fault.F19 }
     ensures status { result.0 ≡ fault_status fault }

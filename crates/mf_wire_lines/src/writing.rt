@@ -11,7 +11,8 @@ use mf_base::Fault;
 /// Writes all the bytes, or a beginning of them.
 pub fn put<W: Sink>(sink: &mut W, bytes: &[u8]) -> Result<(), WriteFault>
     ensures ok { OnOk result (Appends (W.written sink.old) (W.written sink.new) bytes.now) }
-    ensures err { OnErr result ((n : ℕ) × (n < length bytes.now) × Appends (W.written sink.old) (W.written sink.new) (take n bytes.now)) }
+    ensures err { OnErr result ((n : ℕ) × (n < length bytes.now) × Appends (W.written sink.old) (W.written sink.new)
+        (take n bytes.now)) }
     ensures sound { OnOk result (W.faults sink.new ≡ W.faults sink.old) }
     ensures fault { OnErr result (W.faults sink.new ≢ W.faults sink.old) }
 {
@@ -40,7 +41,8 @@ fn status_text(status: u16) -> [u8; 4]
 fn put_refusal<W: Sink>(sink: &mut W, fault: Fault) -> Result<(), WriteFault>
     requires { fault ≢ Fault.F19 }
     ensures ok { OnOk result (Appends (W.written sink.old) (W.written sink.new) (fault_line fault)) }
-    ensures err { OnErr result ((n : ℕ) × (n < length (fault_line fault)) × Appends (W.written sink.old) (W.written sink.new) (take n (fault_line fault))) }
+    ensures err { OnErr result ((n : ℕ) × (n < length (fault_line fault)) × Appends (W.written sink.old)
+        (W.written sink.new) (take n (fault_line fault))) }
     ensures sound { OnOk result (W.faults sink.new ≡ W.faults sink.old) }
     ensures fault { OnErr result (W.faults sink.new ≢ W.faults sink.old) }
 {
@@ -58,7 +60,8 @@ fn put_refusal<W: Sink>(sink: &mut W, fault: Fault) -> Result<(), WriteFault>
 pub fn put_reply<W: Sink>(sink: &mut W, reply: &Result<String, Fault>) -> Result<(), WriteFault>
     requires { IfErr reply.now (λ f. f ≢ Fault.F19) }
     ensures ok { OnOk result (Appends (W.written sink.old) (W.written sink.new) (line_of reply.now)) }
-    ensures err { OnErr result ((n : ℕ) × (n < length (line_of reply.now)) × Appends (W.written sink.old) (W.written sink.new) (take n (line_of reply.now))) }
+    ensures err { OnErr result ((n : ℕ) × (n < length (line_of reply.now)) × Appends (W.written sink.old)
+        (W.written sink.new) (take n (line_of reply.now))) }
     ensures sound { OnOk result (W.faults sink.new ≡ W.faults sink.old) }
     ensures fault { OnErr result (W.faults sink.new ≢ W.faults sink.old) }
 {

@@ -1,16 +1,19 @@
 -- The values of the fields of a name.
-use Rattle.std.proofs.Common.{◌≡◌, ◌<◌, ◌+◌, ℕ, Bool, true, false, cond, List, [], ◌∷◌, ◌++◌, refl, ap, ◌∙◌, length, take, map, get_or, append-nil}
+use Rattle.std.proofs.Common.{◌≡◌, ◌<◌, ◌+◌, ℕ, Bool, true, false, cond, List, [], ◌∷◌, ◌++◌, refl, ap, ◌∙◌, length}
+use Rattle.std.proofs.Common.{take, map, get_or, append-nil}
 use Rattle.std.proofs.lemmas.List.{map_more}
 use Rattle.std.specs.Str.{str_eq_ignore_ascii_case}
 use Rattle.httparse.specs.Spans.{span_bytes, header_bytes}
 use Rattle.httparse.specs.declared.spans.HeaderSpan.{HeaderSpan}
 use Rattle.mf_wire_messages.specs.Messages.{values_of}
 
-cond-append : (t : Bool) (x : List ℕ) (xs ys : List (List ℕ)) → cond t (x ∷ (xs ++ ys)) (xs ++ ys) ≡ cond t (x ∷ xs) xs ++ ys
+cond-append : (t : Bool) (x : List ℕ) (xs ys : List (List ℕ)) → cond t (x ∷ (xs ++ ys)) (xs ++ ys) ≡ cond t (x ∷ xs) xs
+    ++ ys
 cond-append true x xs ys = refl
 cond-append false x xs ys = refl
 
-pub values_of-append : (name : List ℕ) (xs ys : List (List ℕ × List ℕ)) → values_of name (xs ++ ys) ≡ values_of name xs ++ values_of name ys
+pub values_of-append : (name : List ℕ) (xs ys : List (List ℕ × List ℕ)) → values_of name (xs ++ ys) ≡ values_of name xs
+    ++ values_of name ys
 values_of-append name [] ys = refl
 values_of-append name (x ∷ xs) ys =
     ap (λ vs. cond (str_eq_ignore_ascii_case x.0 name) (x.1 ∷ vs) vs) (values_of-append name xs ys)
@@ -19,20 +22,24 @@ values_of-append name (x ∷ xs) ys =
 values_of-more : (head name : List ℕ) (fields : List HeaderSpan) (i : ℕ) (d : HeaderSpan) (t : Bool) → i < length fields
     → str_eq_ignore_ascii_case (span_bytes head (get_or fields i d).name) name ≡ t
     → values_of name (map (header_bytes head) (take (i + 1) fields))
-    ≡ values_of name (map (header_bytes head) (take i fields)) ++ cond t (span_bytes head (get_or fields i d).value ∷ []) []
+    ≡ values_of name (map (header_bytes head) (take i fields)) ++ cond t (span_bytes head (get_or fields i d).value
+    ∷ []) []
 values_of-more head name fields i d t lt e =
     ap (values_of name) (map_more (header_bytes head) fields i d lt)
     ∙ values_of-append name (map (header_bytes head) (take i fields)) (header_bytes head (get_or fields i d) ∷ [])
-    ∙ ap (λ b. values_of name (map (header_bytes head) (take i fields)) ++ cond b (span_bytes head (get_or fields i d).value ∷ []) []) e
+    ∙ ap (λ b. values_of name (map (header_bytes head) (take i fields))
+    ++ cond b (span_bytes head (get_or fields i d).value ∷ []) []) e
 
 -- the field has the name
 pub values_of-named : (head name : List ℕ) (fields : List HeaderSpan) (i : ℕ) (d : HeaderSpan) → i < length fields
     → str_eq_ignore_ascii_case (span_bytes head (get_or fields i d).name) name ≡ true
-    → values_of name (map (header_bytes head) (take (i + 1) fields)) ≡ values_of name (map (header_bytes head) (take i fields)) ++ span_bytes head (get_or fields i d).value ∷ []
+    → values_of name (map (header_bytes head) (take (i + 1) fields)) ≡ values_of name (map (header_bytes head)
+    (take i fields)) ++ span_bytes head (get_or fields i d).value ∷ []
 values_of-named head name fields i d lt e = values_of-more head name fields i d true lt e
 
 -- the field has another name
 pub values_of-other : (head name : List ℕ) (fields : List HeaderSpan) (i : ℕ) (d : HeaderSpan) → i < length fields
     → str_eq_ignore_ascii_case (span_bytes head (get_or fields i d).name) name ≡ false
-    → values_of name (map (header_bytes head) (take (i + 1) fields)) ≡ values_of name (map (header_bytes head) (take i fields))
+    → values_of name (map (header_bytes head) (take (i + 1) fields)) ≡ values_of name (map (header_bytes head)
+    (take i fields))
 values_of-other head name fields i d lt e = values_of-more head name fields i d false lt e ∙ append-nil _

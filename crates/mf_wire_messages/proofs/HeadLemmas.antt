@@ -1,5 +1,7 @@
 -- A head that is read piece by piece.
-use Rattle.std.proofs.Common.{◌≡◌, ◌≢◌, ◌==◌, ℕ, ◌+◌, ◌-◌, ◌<◌, ◌≤◌, List, [], ◌∷◌, ◌++◌, refl, sym, ap, ◌∙◌, subst, arith, length, length-append, length-drop, take, drop, Option, None, Some, take-append-drop, append-nil, if◌then◌else◌, Bool, true, false}
+use Rattle.std.proofs.Common.{◌≡◌, ◌≢◌, ◌==◌, ℕ, ◌+◌, ◌-◌, ◌<◌, ◌≤◌, List, [], ◌∷◌, ◌++◌, refl, sym, ap, ◌∙◌, subst}
+use Rattle.std.proofs.Common.{arith, length, length-append, length-drop, take, drop, Option, None, Some}
+use Rattle.std.proofs.Common.{take-append-drop, append-nil, if◌then◌else◌, Bool, true, false}
 use Rattle.std.proofs.lemmas.Bool.{eqb-true}
 use Rattle.std.proofs.lemmas.List.{take-append-le, length-take-le}
 use borrow.Rule.Slice.PartMut.{mid_of, put_mid, same_len_mid}
@@ -34,7 +36,8 @@ pub full : (bytes more : List ℕ) → 16384 ≤ length bytes → HasNoRequest b
 full bytes more long none head rest r =
     let size = length (print_request head) in
     let front : take size bytes ≡ print_request head =
-    sym (take-append-le size bytes more (omega (arith, r.short))) ∙ ap (take size) r.reads.1 ∙ take-append_seam (print_request head) rest in
+    sym (take-append-le size bytes more (omega (arith, r.short))) ∙ ap (take size) r.reads.1
+    ∙ take-append_seam (print_request head) rest in
     none head (drop size bytes) (r.reads.0, sym (take-append-drop size bytes) ∙ ap (λ l. l ++ drop size bytes) front)
 
 -- whatever follows, a head would have too many fields
@@ -46,45 +49,60 @@ none_follows None end = refl
 none_follows (Some bytes) end = end
 
 -- the stream ended, and no head was there
-pub ended : (bytes : List ℕ) (left : Option (List ℕ)) → IsAtEnd left → HasNoRequest bytes → HasNoHead (bytes ++ bytes_left left)
+pub ended : (bytes : List ℕ) (left : Option (List ℕ)) → IsAtEnd left → HasNoRequest bytes
+    → HasNoHead (bytes ++ bytes_left left)
 ended bytes left end none head rest r =
-    none head rest (subst (λ l. ReadsRequest l head rest) (ap (λ l. bytes ++ l) (none_follows left end) ∙ append-nil bytes) r.reads)
+    none head rest (subst (λ l. ReadsRequest l head rest) (ap (λ l. bytes ++ l) (none_follows left end)
+    ∙ append-nil bytes) r.reads)
 
 pub not_empty : (bytes : List ℕ) → 0 < length bytes → bytes ≢ []
 not_empty [] lt e = absurd (omega (arith, lt))
 not_empty (b ∷ bytes) lt e = absurd (omega (arith, ap length e))
 
 -- a piece keeps the length of the room
-pub kept : (size : ℕ) (room piece : List ℕ) → size ≤ length room → length piece ≡ length (mid_of size (length room - size) room) → length (put_mid size (length room - size) room piece) ≡ length room
+pub kept : (size : ℕ) (room piece : List ℕ) → size ≤ length room → length piece ≡ length
+    (mid_of size (length room - size) room) → length (put_mid size (length room - size) room piece) ≡ length room
 kept size room piece within e = same_len_mid size (length room - size) room piece e
 
-pub piece_fits : (size : ℕ) (room piece : List ℕ) → size ≤ length room → length piece ≡ length (mid_of size (length room - size) room) → size + length piece ≡ length room
+pub piece_fits : (size : ℕ) (room piece : List ℕ) → size ≤ length room → length piece
+    ≡ length (mid_of size (length room - size) room) → size + length piece ≡ length room
 piece_fits size room piece within e =
     let rest : length (drop size room) ≡ length room - size = length-drop size room in
     omega (arith, e, length-take-le (length room - size) (drop size room) (omega (arith, rest)))
 
-pub some_taken : (size n : ℕ) (room piece : List ℕ) → size ≤ length room → n ≤ length piece → (n ≡ 0 → ⊥) → take (size + n) (put_mid size (length room - size) room piece) ≢ []
+pub some_taken : (size n : ℕ) (room piece : List ℕ) → size ≤ length room → n ≤ length piece → (n ≡ 0 → ⊥)
+    → take (size + n) (put_mid size (length room - size) room piece) ≢ []
 some_taken size n room piece within bound some =
-    let long : length (take size room ++ take n piece) ≡ length (take size room) + length (take n piece) = length-append (take size room) (take n piece) in
+    let long : length (take size room ++ take n piece) ≡ length (take size room) + length (take n piece) =
+    length-append (take size room) (take n piece) in
     let pos : 0 < n = grind (arith, some) in
-    λ e. not_empty (take size room ++ take n piece) (omega (arith, long, length-take-le n piece bound, pos)) (sym (take_piece size n room piece within bound) ∙ e)
+    λ e. not_empty (take size room ++ take n piece) (omega (arith, long, length-take-le n piece bound, pos))
+    (sym (take_piece size n room piece within bound) ∙ e)
 
 above : (n : ℕ) → (n == 0) ≡ false → 0 < n
 above n e = grind arith
 
-ended_either : (t : Bool) (a b c : Option (List ℕ)) (size n : ℕ) (room piece after : List ℕ) (fields : List HeaderSpan) → (size == 0) ≡ t → size ≤ length room → n ≡ 0 → 0 < length piece
-    → Consumes a b (take size room) → Consumes b c (take n piece) → (n ≡ 0 → 0 < length piece → IsAtEnd c) → (0 < size → HasNoRequest (take size room))
+ended_either : (t : Bool) (a b c : Option (List ℕ)) (size n : ℕ) (room piece after : List ℕ) (fields : List HeaderSpan)
+    → (size == 0) ≡ t → size ≤ length room → n ≡ 0 → 0 < length piece
+    → Consumes a b (take size room) → Consumes b c (take n piece) → (n ≡ 0 → 0 < length piece → IsAtEnd c)
+    → (0 < size → HasNoRequest (take size room))
     → TellsHead a c after fields (if t then Nothing else Refused)
-ended_either true a b c size n room piece after fields h within e lt p q end none =
-    (Consumes-trans a b c [] [] (subst (λ k. Consumes a b (take k room)) (eqb-true size 0 h) p) (subst (λ k. Consumes b c (take k piece)) e q), end e lt)
+ended_either true a b c size n room piece after fields h within e lt p q end none = (
+  Consumes-trans a b c [] [] (subst (λ k. Consumes a b (take k room)) (eqb-true size 0 h) p)
+      (subst (λ k. Consumes b c (take k piece)) e q),
+  end e lt,
+)
 ended_either false a b c size n room piece after fields h within e lt p q end none = (
   take size room,
-  subst (Consumes a c) (append-nil (take size room)) (Consumes-trans a b c (take size room) [] p (subst (λ k. Consumes b c (take k piece)) e q)),
+  subst (Consumes a c) (append-nil (take size room))
+      (Consumes-trans a b c (take size room) [] p (subst (λ k. Consumes b c (take k piece)) e q)),
   not_empty (take size room) (omega (arith, length-take-le size room within, above size h)),
   ended (take size room) c (end e lt) (none (above size h)),
 )
 
-pub ended_reading : (a b c : Option (List ℕ)) (size n : ℕ) (room piece after : List ℕ) (fields : List HeaderSpan) → size ≤ length room → n ≡ 0 → 0 < length piece
-    → Consumes a b (take size room) → Consumes b c (take n piece) → (n ≡ 0 → 0 < length piece → IsAtEnd c) → (0 < size → HasNoRequest (take size room))
+pub ended_reading : (a b c : Option (List ℕ)) (size n : ℕ) (room piece after : List ℕ) (fields : List HeaderSpan)
+    → size ≤ length room → n ≡ 0 → 0 < length piece
+    → Consumes a b (take size room) → Consumes b c (take n piece) → (n ≡ 0 → 0 < length piece → IsAtEnd c)
+    → (0 < size → HasNoRequest (take size room))
     → TellsHead a c after fields (if size == 0 then Nothing else Refused)
 ended_reading a b c size n room piece after fields = ended_either (size == 0) a b c size n room piece after fields refl

@@ -2,7 +2,8 @@
 use Rattle.std.specs.Prelude.{ℕ, ◌≤◌, List, length}
 use Rattle.httparse.specs.Grammar.{RequestHead, print_request, ReadsRequest}
 
--- The bytes are that head and then the rest. It has at most 16,384 bytes, empty lines before it included, and 64 fields.
+-- The bytes are that head and then the rest. It has at most 16,384 bytes, empty lines before it included, and 64
+-- fields.
 pub record ReadsHead (bytes : List ℕ) (head : RequestHead) (rest : List ℕ) : Type 0 where
   pub reads : ReadsRequest bytes head rest
   pub short : length (print_request head) ≤ 16384

@@ -1,5 +1,6 @@
 -- What the fields of a head say, and the message that a head and the bytes after it are.
-use Rattle.std.specs.Prelude.{◌≡◌, ◌≢◌, ℕ, ◌⊎◌, Bool, false, ◌&&◌, cond, List, [], ◌∷◌, length, take, map, nat_le, codes, Option, Some, None, option_map, option_and_then}
+use Rattle.std.specs.Prelude.{◌≡◌, ◌≢◌, ℕ, ◌⊎◌, Bool, false, ◌&&◌, cond, List, [], ◌∷◌, length, take, map, nat_le}
+use Rattle.std.specs.Prelude.{codes, Option, Some, None, option_map, option_and_then}
 use Rattle.std.specs.Char.{is_ascii_digit}
 use Rattle.std.specs.List.{list_all}
 use Rattle.std.specs.Str.{bytes_eq, str_eq_ignore_ascii_case}
@@ -18,7 +19,8 @@ pub record Request : Type 0 where
 -- the values of the fields of that name, in their order; names are compared without case
 abbrev pub values_of : List ℕ → List (List ℕ × List ℕ) → List (List ℕ)
 values_of name [] = []
-values_of name (field ∷ fields) = cond (str_eq_ignore_ascii_case field.0 name) (field.1 ∷ values_of name fields) (values_of name fields)
+values_of name (field ∷ fields) = cond (str_eq_ignore_ascii_case field.0 name) (field.1 ∷ values_of name fields)
+    (values_of name fields)
 
 -- the value that stands alone
 abbrev pub alone : List (List ℕ) → Option (List ℕ)
@@ -32,7 +34,8 @@ allowed_length n = cond (nat_le n 1048576) (Some n) None
 
 -- the length of a body that 1 to 10 digits write
 abbrev pub length_of_digits : List ℕ → Option ℕ
-length_of_digits text = cond ((nat_le 1 (length text) && nat_le (length text) 10) && list_all is_ascii_digit text) (allowed_length (digits_value 10 text)) None
+length_of_digits text = cond ((nat_le 1 (length text) && nat_le (length text) 10) && list_all is_ascii_digit text)
+    (allowed_length (digits_value 10 text)) None
 
 -- the length that at most one value writes; without any the body is empty
 abbrev pub body_length : List (List ℕ) → Option ℕ
@@ -55,7 +58,12 @@ frame_of fields =
 -- the request, where as many bytes follow as its body has; those past it are not looked at
 abbrev pub request_within : RequestHead → List ℕ → List ℕ × ℕ → Option Request
 request_within head rest frame =
-    cond (nat_le frame.1 (length rest)) (Some (record { staff = frame.0; method = head.method; target = head.target; body = take frame.1 rest })) None
+    cond (nat_le frame.1 (length rest)) (Some (record {
+      staff = frame.0;
+      method = head.method;
+      target = head.target;
+      body = take frame.1 rest;
+    })) None
 
 -- the request that a head and the bytes after it are, where its fields are in order and its body is whole
 abbrev pub request_of : RequestHead → List ℕ → Option Request
@@ -65,8 +73,10 @@ request_of head rest = option_and_then (request_within head rest) (frame_of (map
 abbrev pub is_head : List ℕ → Bool
 is_head method = bytes_eq method (codes "HEAD")
 
--- Which message the bytes of a stream are, whatever follows it: a request, or none where it is malformed; and whether its reply is without its body. Bytes that begin no head are malformed, and are not to HEAD.
+-- Which message the bytes of a stream are, whatever follows it: a request, or none where it is malformed; and whether
+-- its reply is without its body. Bytes that begin no head are malformed, and are not to HEAD.
 abbrev pub IsMessage : List ℕ → Option Request → Bool → Type 0
 IsMessage bytes message to_head =
     ((bytes ≢ []) × HasNoHead bytes × (message ≡ None) × (to_head ≡ false))
-    ⊎ ((head : RequestHead) × (rest : List ℕ) × ReadsHead bytes head rest × (message ≡ request_of head rest) × (to_head ≡ is_head head.method))
+    ⊎ ((head : RequestHead) × (rest : List ℕ) × ReadsHead bytes head rest × (message ≡ request_of head rest)
+    × (to_head ≡ is_head head.method))

@@ -1,5 +1,6 @@
 -- Responses, as bytes.
-use Rattle.std.specs.Prelude.{◌≡◌, ℕ, ◌<◌, Bool, ◌&&◌, cond, List, [], ◌++◌, length, take, nat_le, nat_lt, codes, decimal, Option, unwrap_or}
+use Rattle.std.specs.Prelude.{◌≡◌, ℕ, ◌<◌, Bool, ◌&&◌, cond, List, [], ◌++◌, length, take, nat_le, nat_lt, codes}
+use Rattle.std.specs.Prelude.{decimal, Option, unwrap_or}
 use Rattle.std.specs.Io.KnownBytes.{Appends}
 use Rattle.http.specs.StatusCode.{reason_phrase}
 use Rattle.mf_base.specs.declared.fault.Fault.{Fault}

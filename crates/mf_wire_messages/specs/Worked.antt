@@ -17,7 +17,8 @@ request_head = record {
   target = codes "/clients";
   minor = 1;
   line_end = crlf;
-  fields = line (codes "Host") (codes "localhost") ∷ line (codes "X-Staff") (codes "1/1") ∷ line (codes "Content-Length") (codes "27") ∷ [];
+  fields = line (codes "Host") (codes "localhost") ∷ line (codes "X-Staff") (codes "1/1")
+      ∷ line (codes "Content-Length") (codes "27") ∷ [];
   last = crlf;
 }
 
@@ -27,11 +28,17 @@ request_body = codes "{\"office\":1,\"name\":\"Amina\"}"
 
 -- the head's bytes
 abbrev pub HeadIsWritten : Type 0
-HeadIsWritten = print_request request_head ≡ codes "POST /clients HTTP/1.1\r\nHost: localhost\r\nX-Staff: 1/1\r\nContent-Length: 27\r\n\r\n"
+HeadIsWritten = print_request request_head
+    ≡ codes "POST /clients HTTP/1.1\r\nHost: localhost\r\nX-Staff: 1/1\r\nContent-Length: 27\r\n\r\n"
 
 -- the request, whatever follows its body
 abbrev pub IsAsked : Type 0
-IsAsked = (more : List ℕ) → request_of request_head (request_body ++ more) ≡ Some (record { staff = codes "1/1"; method = codes "POST"; target = codes "/clients"; body = request_body })
+IsAsked = (more : List ℕ) → request_of request_head (request_body ++ more) ≡ Some (record {
+  staff = codes "1/1";
+  method = codes "POST";
+  target = codes "/clients";
+  body = request_body;
+})
 
 -- five bytes of the body are none
 abbrev pub CutIsRefused : Type 0
@@ -50,7 +57,10 @@ FieldsAreRefused =
 -- the fields of a head that are taken: any case of a name, the longest body, and no body
 abbrev pub FieldsAreTaken : Type 0
 FieldsAreTaken =
-    (frame_of ((codes "x-STAFF", codes "1/1") ∷ (codes "content-length", codes "1048576") ∷ []) ≡ Some (codes "1/1", 1048576))
+    (frame_of ((codes "x-STAFF", codes "1/1") ∷ (codes "content-length", codes "1048576") ∷ []) ≡ Some (
+      codes "1/1",
+      1048576,
+    ))
     × (frame_of ((codes "X-Staff", codes "9/9") ∷ []) ≡ Some (codes "9/9", 0))
 
 -- the response to the request, and that of a malformed message to HEAD
@@ -58,7 +68,8 @@ abbrev pub ResponsesAreWritten : Type 0
 ResponsesAreWritten =
     (response 201 (codes "{\"client\":\"0001-000001\"}") false
     ≡ codes "HTTP/1.1 201 Created\r\nContent-Type: application/json\r\nContent-Length: 24\r\nConnection: close\r\n\r\n{\"client\":\"0001-000001\"}")
-    × (refusal F1 true ≡ codes "HTTP/1.1 400 Bad Request\r\nContent-Type: application/json\r\nContent-Length: 14\r\nConnection: close\r\n\r\n")
+    × (refusal F1 true ≡ codes
+    "HTTP/1.1 400 Bad Request\r\nContent-Type: application/json\r\nContent-Length: 14\r\nConnection: close\r\n\r\n")
 
 -- the phrases of the statuses that replies have
 abbrev pub PhrasesAreWritten : Type 0

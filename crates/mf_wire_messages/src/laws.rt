@@ -2,7 +2,8 @@
 
 ghost use Rattle.std.specs.Prelude.{◌≡◌, ℕ, Bool, List, Option};
 ghost use Rattle.mf_wire_messages.specs.Messages.{Request, IsMessage};
-ghost use Rattle.mf_wire_messages.specs.Worked.{HeadIsWritten, IsAsked, CutIsRefused, FieldsAreRefused, FieldsAreTaken, PhrasesAreWritten, ResponsesAreWritten};
+ghost use Rattle.mf_wire_messages.specs.Worked.{HeadIsWritten, IsAsked, CutIsRefused, FieldsAreRefused, FieldsAreTaken};
+ghost use Rattle.mf_wire_messages.specs.Worked.{PhrasesAreWritten, ResponsesAreWritten};
 
 /// A message that asks for a new client, its response, the heads that are refused, and the phrases of responses.
 pub fn worked_messages()
@@ -18,5 +19,6 @@ pub fn worked_messages()
 /// The bytes of a stream are no two messages.
 pub fn one_message()
     ensures { (bytes : List ℕ) (message other : Option Request) (to_head other_to_head : Bool) →
-        IsMessage bytes message to_head → IsMessage bytes other other_to_head → (message ≡ other) × (to_head ≡ other_to_head) }
+        IsMessage bytes message to_head → IsMessage bytes other other_to_head → (message ≡ other)
+        × (to_head ≡ other_to_head) }
 {}

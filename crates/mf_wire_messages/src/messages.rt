@@ -20,9 +20,15 @@ pub struct Message {
 impl Model for Message {
     ghost Value = { Request };
 
-    ghost view = { λ m. record { staff = span_bytes m.bytes.items m.staff; method = span_bytes m.bytes.items m.method; target = span_bytes m.bytes.items m.target; body = m.body.items } };
+    ghost view = { λ m. record {
+      staff = span_bytes m.bytes.items m.staff;
+      method = span_bytes m.bytes.items m.method;
+      target = span_bytes m.bytes.items m.target;
+      body = m.body.items;
+    } };
 
-    ghost invariant = { λ m. IsWithin (length m.bytes.items) m.staff × IsWithin (length m.bytes.items) m.method × IsWithin (length m.bytes.items) m.target };
+    ghost invariant = { λ m. IsWithin (length m.bytes.items) m.staff × IsWithin (length m.bytes.items) m.method
+        × IsWithin (length m.bytes.items) m.target };
 }
 
 /// Whether the method asks for a reply without its body.
@@ -38,7 +44,12 @@ impl Message {
         requires staff { IsWithin (length bytes.items) staff }
         requires method { IsWithin (length bytes.items) method }
         requires target { IsWithin (length bytes.items) target }
-        ensures { result ≡ (record { staff = span_bytes bytes.items staff; method = span_bytes bytes.items method; target = span_bytes bytes.items target; body = body.items }) }
+        ensures { result ≡ (record {
+          staff = span_bytes bytes.items staff;
+          method = span_bytes bytes.items method;
+          target = span_bytes bytes.items target;
+          body = body.items;
+        }) }
     {
         Message {
             bytes,

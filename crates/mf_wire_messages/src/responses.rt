@@ -3,7 +3,8 @@
 ghost use Rattle.std.specs.Prelude.{◌≡◌, ◌≢◌, ◌+◌, ◌≤◌, ◌++◌, [], length, take, unwrap_or, IfOk, OnOk, OnErr};
 ghost use Rattle.http.specs.StatusCode.{reason_phrase};
 ghost use Rattle.std.specs.Io.KnownBytes.{Appends};
-ghost use Rattle.mf_wire_messages.specs.Responses.{phrase_of, status_line, sent_body, fields_and_body, response, refusal, Gathers, IsCut};
+ghost use Rattle.mf_wire_messages.specs.Responses.{phrase_of, status_line, sent_body, fields_and_body, response};
+ghost use Rattle.mf_wire_messages.specs.Responses.{refusal, Gathers, IsCut};
 
 use http::StatusCode;
 use itoa::Buffer;
@@ -30,8 +31,8 @@ fn hold(room: &mut [u8], held: usize, text: &[u8]) -> usize
     end
 }
 
-/// Gathers a text behind what is held in the room. Where the room is too small for it, what is held is written, and then the
-/// text. It gives how many bytes are held in the room afterwards.
+/// Gathers a text behind what is held in the room. Where the room is too small for it, what is held is written, and
+/// then the text. It gives how many bytes are held in the room afterwards.
 fn gather<W: Sink>(
     sink: &mut W,
     room: &mut [u8],
@@ -40,7 +41,8 @@ fn gather<W: Sink>(
 ) -> Result<usize, WriteFault>
     requires { held ≤ length room.old }
     ensures within { IfOk result (λ n. n ≤ length room.new) }
-    ensures ok { IfOk result (λ n. Gathers (W.written sink.old) (W.written sink.new) (take held room.old) text.now (take n room.new)) }
+    ensures ok { IfOk result (λ n. Gathers (W.written sink.old) (W.written sink.new) (take held room.old) text.now
+        (take n room.new)) }
     ensures err { OnErr result (IsCut (W.written sink.old) (W.written sink.new) (take held room.old ++ text.now)) }
     ensures sound { OnOk result (W.faults sink.new ≡ W.faults sink.old) }
     ensures fault { OnErr result (W.faults sink.new ≢ W.faults sink.old) }
@@ -69,8 +71,10 @@ fn gather_four<W: Sink>(
 ) -> Result<usize, WriteFault>
     requires { held ≤ length room.old }
     ensures within { IfOk result (λ n. n ≤ length room.new) }
-    ensures ok { IfOk result (λ n. Gathers (W.written sink.old) (W.written sink.new) (take held room.old) (first.now ++ (second.now ++ (third.now ++ fourth.now))) (take n room.new)) }
-    ensures err { OnErr result (IsCut (W.written sink.old) (W.written sink.new) (take held room.old ++ (first.now ++ (second.now ++ (third.now ++ fourth.now))))) }
+    ensures ok { IfOk result (λ n. Gathers (W.written sink.old) (W.written sink.new) (take held room.old)
+        (first.now ++ (second.now ++ (third.now ++ fourth.now))) (take n room.new)) }
+    ensures err { OnErr result (IsCut (W.written sink.old) (W.written sink.new) (take held room.old
+        ++ (first.now ++ (second.now ++ (third.now ++ fourth.now))))) }
     ensures sound { OnOk result (W.faults sink.new ≡ W.faults sink.old) }
     ensures fault { OnErr result (W.faults sink.new ≢ W.faults sink.old) }
 {
@@ -107,7 +111,8 @@ fn gather_status_line<W: Sink>(
     status: u16,
 ) -> Result<usize, WriteFault>
     ensures within { IfOk result (λ n. n ≤ length room.new) }
-    ensures ok { IfOk result (λ n. Gathers (W.written sink.old) (W.written sink.new) [] (status_line status) (take n room.new)) }
+    ensures ok { IfOk result (λ n. Gathers (W.written sink.old) (W.written sink.new) [] (status_line status)
+        (take n room.new)) }
     ensures err { OnErr result (IsCut (W.written sink.old) (W.written sink.new) (status_line status)) }
     ensures sound { OnOk result (W.faults sink.new ≡ W.faults sink.old) }
     ensures fault { OnErr result (W.faults sink.new ≢ W.faults sink.old) }
@@ -139,8 +144,10 @@ fn gather_fields_and_body<W: Sink>(
 ) -> Result<usize, WriteFault>
     requires { held ≤ length room.old }
     ensures within { IfOk result (λ n. n ≤ length room.new) }
-    ensures ok { IfOk result (λ n. Gathers (W.written sink.old) (W.written sink.new) (take held room.old) (fields_and_body body.now to_head) (take n room.new)) }
-    ensures err { OnErr result (IsCut (W.written sink.old) (W.written sink.new) (take held room.old ++ fields_and_body body.now to_head)) }
+    ensures ok { IfOk result (λ n. Gathers (W.written sink.old) (W.written sink.new) (take held room.old)
+        (fields_and_body body.now to_head) (take n room.new)) }
+    ensures err { OnErr result (IsCut (W.written sink.old) (W.written sink.new) (take held room.old
+        ++ fields_and_body body.now to_head)) }
     ensures sound { OnOk result (W.faults sink.new ≡ W.faults sink.old) }
     ensures fault { OnErr result (W.faults sink.new ≢ W.faults sink.old) }
 {
@@ -156,8 +163,8 @@ fn gather_fields_and_body<W: Sink>(
     )
 }
 
-/// Writes the response of that status and body, or a beginning of it. To HEAD its body is left off. What the room holds is
-/// written at once.
+/// Writes the response of that status and body, or a beginning of it. To HEAD its body is left off. What the room holds
+/// is written at once.
 pub fn write_reply<W: Sink>(
     sink: &mut W,
     room: &mut [u8],

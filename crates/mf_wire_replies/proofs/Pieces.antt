@@ -3,16 +3,24 @@ use Rattle.std.proofs.Common.{ℕ, List, ◌++◌, codes}
 
 -- sums by portion, by how these are written
 abbrev pub sums_by : (fees interest penalties principal : List ℕ) → List ℕ
-sums_by fees interest penalties principal = codes "{\"fees\":" ++ (fees ++ (codes ",\"interest\":" ++ (interest ++ (codes ",\"penalties\":" ++ (penalties ++ (codes ",\"principal\":" ++ (principal ++ codes "}")))))))
+sums_by fees interest penalties principal = codes "{\"fees\":" ++ (fees ++ (codes ",\"interest\":"
+    ++ (interest ++ (codes ",\"penalties\":" ++ (penalties ++ (codes ",\"principal\":" ++ (principal ++ codes "}")))))))
 
 -- a loan's members from product on, by how these are written
 abbrev pub end_of : (product refunded status waived written_off : List ℕ) → List ℕ
-end_of product refunded status waived written_off = codes ",\"product\":" ++ (product ++ (codes ",\"refunded\":" ++ (refunded ++ (codes ",\"status\":" ++ (status ++ (codes ",\"waived\":" ++ (waived ++ (codes ",\"written_off\":" ++ (written_off ++ codes "}")))))))))
+end_of product refunded status waived written_off = codes ",\"product\":"
+    ++ (product ++ (codes ",\"refunded\":"
+    ++ (refunded ++ (codes ",\"status\":" ++ (status
+    ++ (codes ",\"waived\":" ++ (waived ++ (codes ",\"written_off\":" ++ (written_off ++ codes "}")))))))))
 
 -- its members from outstanding on, by how these are written, and by the rest
 abbrev pub rest_of : (outstanding overpaid paid periods principal end : List ℕ) → List ℕ
-rest_of outstanding overpaid paid periods principal end = codes ",\"outstanding\":" ++ (outstanding ++ (codes ",\"overpaid\":" ++ (overpaid ++ (codes ",\"paid\":" ++ (paid ++ (codes ",\"periods\":" ++ (periods ++ (codes ",\"principal\":" ++ (principal ++ end)))))))))
+rest_of outstanding overpaid paid periods principal end = codes ",\"outstanding\":"
+    ++ (outstanding ++ (codes ",\"overpaid\":" ++ (overpaid ++ (codes ",\"paid\":"
+    ++ (paid ++ (codes ",\"periods\":" ++ (periods ++ (codes ",\"principal\":" ++ (principal ++ end)))))))))
 
 -- the whole of it, by how the two accounts, the day and the fee are written, and by the rest
 abbrev pub body_of : (client day fee account rest : List ℕ) → List ℕ
-body_of client day fee account rest = codes "{\"client\":" ++ (client ++ (codes ",\"day\":" ++ (day ++ (codes ",\"disbursement_fee\":" ++ (fee ++ (codes ",\"loan\":" ++ (account ++ rest)))))))
+body_of client day fee account rest = codes "{\"client\":"
+    ++ (client ++ (codes ",\"day\":"
+    ++ (day ++ (codes ",\"disbursement_fee\":" ++ (fee ++ (codes ",\"loan\":" ++ (account ++ rest)))))))

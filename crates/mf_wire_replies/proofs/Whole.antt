@@ -9,11 +9,15 @@ use Rattle.mf_arrears.specs.Line.{Line}
 use Rattle.mf_statement.specs.declared.lines.EntryLine.{EntryLine}
 use Rattle.mf_statement.specs.declared.lines.InstalmentLine.{InstalmentLine}
 use Rattle.mf_model.specs.declared.reply.Reply.{Reply}
-use Rattle.mf_model.specs.declared.reply.Reply.TheVariants.{OfficeMade, Offices, StaffMade, ClientMade, ClientShown, DayShown, DaySet, ChargeMade, ChargeShown, ProductMade, ProductShown, ProductRetired, LoanMade, Loan, LoansShown, ArrearsShown}
+use Rattle.mf_model.specs.declared.reply.Reply.TheVariants.{OfficeMade, Offices, StaffMade, ClientMade, ClientShown}
+use Rattle.mf_model.specs.declared.reply.Reply.TheVariants.{DayShown, DaySet, ChargeMade, ChargeShown, ProductMade}
+use Rattle.mf_model.specs.declared.reply.Reply.TheVariants.{ProductShown, ProductRetired, LoanMade, Loan, LoansShown}
+use Rattle.mf_model.specs.declared.reply.Reply.TheVariants.{ArrearsShown}
 use Rattle.mf_catalog.specs.declared.product.Product.{Product}
 use Rattle.mf_model.specs.declared.loan.LoanLine.{LoanLine}
 use Rattle.mf_model.specs.declared.reply.LoanReply.{LoanReply}
-use Rattle.mf_model.specs.declared.reply.LoanReply.TheVariants.{Shown, Instalments, Entries, Status, Entered, Repeated, Reversed}
+use Rattle.mf_model.specs.declared.reply.LoanReply.TheVariants.{Shown, Instalments, Entries, Status, Entered, Repeated}
+use Rattle.mf_model.specs.declared.reply.LoanReply.TheVariants.{Reversed}
 use Rattle.mf_wire_replies.specs.Catalogue.{product_data}
 use Rattle.mf_wire_replies.specs.Json.{whole_or_null, text_or_null}
 use Rattle.mf_wire_replies.specs.ArrearsTexts.{line_data as arrears_line}
@@ -33,7 +37,11 @@ whole_offices [] = refl
 whole_offices (line ∷ lines) = rw (whole_office line) (whole_offices lines)
 
 whole_product : (product : Product) → has_float (product_data product) ≡ false
-whole_product product = rw (no_fraction product.members.disbursement_charge, no_fraction product.members.instalment_charge, no_fraction product.members.overdue_charge) refl
+whole_product product = rw (
+  no_fraction product.members.disbursement_charge,
+  no_fraction product.members.instalment_charge,
+  no_fraction product.members.overdue_charge,
+) refl
 
 no_fraction_in : (t : Option (List ℕ)) → has_float (text_or_null t) ≡ false
 no_fraction_in None = refl
@@ -53,7 +61,12 @@ whole_shares (share ∷ shares) = whole_shares shares
 
 whole_entry : (line : EntryLine) → has_float (entry_data line) ≡ false
 whole_entry line =
-    rw (no_fraction (instalment_for line.entry.kind line.entry.instalment), no_fraction_in (portion_waived line.entry.kind line.entry.portion), no_fraction_in line.entry.receipt, whole_shares line.shares) refl
+    rw (
+      no_fraction (instalment_for line.entry.kind line.entry.instalment),
+      no_fraction_in (portion_waived line.entry.kind line.entry.portion),
+      no_fraction_in line.entry.receipt,
+      whole_shares line.shares,
+    ) refl
 
 whole_entries : (lines : List EntryLine) → items_have_float (items_of (map entry_data lines)) ≡ false
 whole_entries [] = refl

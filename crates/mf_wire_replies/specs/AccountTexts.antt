@@ -19,7 +19,8 @@ use Rattle.mf_wire_replies.specs.Json.{whole, whole_or_null, text_or_null}
 abbrev pub sum_of : Portion → List ℕ → Data
 sum_of portion sums = whole (slice_index sums (place_in_row portion))
 
--- an instalment as GET /loans/{loan}/schedule lists it: what is owed of each portion, and what is outstanding of all of them
+-- an instalment as GET /loans/{loan}/schedule lists it: what is owed of each portion, and what is outstanding of all of
+-- them
 abbrev pub instalment_data : InstalmentLine → Data
 instalment_data line = object
     (member (codes "due") (string (day_text line.due))

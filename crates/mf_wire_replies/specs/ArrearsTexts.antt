@@ -37,4 +37,5 @@ line_data line = object
 
 -- the report: the sums of the lines, and the lines
 abbrev pub arrears_data : List Line → Data
-arrears_data lines = object (member (codes "all") (all_data (total_of lines)) (member (codes "offices") (array (items_of (map line_data lines))) no_members))
+arrears_data lines = object (member (codes "all") (all_data (total_of lines))
+    (member (codes "offices") (array (items_of (map line_data lines))) no_members))

@@ -2,6 +2,7 @@
 use Rattle.std.specs.Prelude.{ℕ, List, Option, Some, None}
 use Rattle.serde_json.specs.Data.{Data, null, number, unsigned, string}
 
+-- a number without a sign
 abbrev pub whole : ℕ → Data
 whole n = number (unsigned n)
 

@@ -9,7 +9,8 @@ use Rattle.mf_alloc.specs.declared.row.Portion.TheVariants.{Penalty, Fee, Intere
 use Rattle.mf_model.specs.declared.loan.LoanLine.{LoanLine}
 use Rattle.mf_model.specs.declared.loan.Statement.{Statement}
 use Rattle.mf_model.specs.declared.reply.LoanReply.{LoanReply}
-use Rattle.mf_model.specs.declared.reply.LoanReply.TheVariants.{Shown, Instalments, Entries, Status, Entered, Repeated, Reversed}
+use Rattle.mf_model.specs.declared.reply.LoanReply.TheVariants.{Shown, Instalments, Entries, Status, Entered, Repeated}
+use Rattle.mf_model.specs.declared.reply.LoanReply.TheVariants.{Reversed}
 use Rattle.mf_wire_replies.specs.Json.{whole}
 use Rattle.mf_wire_replies.specs.AccountTexts.{sum_of, instalments_data, entries_data}
 
@@ -58,11 +59,13 @@ loan_by_texts client account loan = object
 
 -- A loan as GET /loans/{loan} shows it. Its client has the loan's office.
 abbrev pub loan_data : Account → Statement → Data
-loan_data account loan = loan_by_texts (account_text account.office loan.client) (account_text account.office account.number) loan
+loan_data account loan =
+    loan_by_texts (account_text account.office loan.client) (account_text account.office account.number) loan
 
 -- a loan and its status
 abbrev pub status_data : Account → ℕ → Data
-status_data account status = object (member (codes "loan") (account_data account) (member (codes "status") (whole status) no_members))
+status_data account status =
+    object (member (codes "loan") (account_data account) (member (codes "status") (whole status) no_members))
 
 -- an entry, by its number
 abbrev pub entered_data : ℕ → Data

@@ -8,7 +8,10 @@ use Rattle.mf_base.specs.declared.fault.Fault.{Fault}
 use Rattle.mf_office.specs.Written.{caller_text, account_text}
 use Rattle.mf_office.specs.declared.office.Office.{Office}
 use Rattle.mf_model.specs.declared.reply.Reply.{Reply}
-use Rattle.mf_model.specs.declared.reply.Reply.TheVariants.{OfficeMade, Offices, StaffMade, ClientMade, ClientShown, DayShown, DaySet, ChargeMade, ChargeShown, ProductMade, ProductShown, ProductRetired, LoanMade, Loan, LoansShown, ArrearsShown}
+use Rattle.mf_model.specs.declared.reply.Reply.TheVariants.{OfficeMade, Offices, StaffMade, ClientMade, ClientShown}
+use Rattle.mf_model.specs.declared.reply.Reply.TheVariants.{DayShown, DaySet, ChargeMade, ChargeShown, ProductMade}
+use Rattle.mf_model.specs.declared.reply.Reply.TheVariants.{ProductShown, ProductRetired, LoanMade, Loan, LoansShown}
+use Rattle.mf_model.specs.declared.reply.Reply.TheVariants.{ArrearsShown}
 use Rattle.mf_wire_replies.specs.declared.showing.Body.{Body}
 use Rattle.mf_wire_replies.specs.declared.showing.Body.TheVariants.{Value, Text}
 use Rattle.mf_wire_replies.specs.ArrearsTexts.{arrears_data}
@@ -19,15 +22,19 @@ use Rattle.mf_wire_lines.specs.Replies.{reply_line, fault_line}
 
 -- an office as GET /offices lists it
 abbrev pub office_data : Office → Data
-office_data line = object (member (codes "name") (string line.name) (member (codes "number") (whole line.number) (member (codes "parent") (whole_or_null line.parent) no_members)))
+office_data line = object (member (codes "name") (string line.name) (member (codes "number") (whole line.number)
+    (member (codes "parent") (whole_or_null line.parent) no_members)))
 
 -- the body of a success, as JSON
 abbrev pub reply_data : Reply → Data
 reply_data (OfficeMade office) = object (member (codes "office") (whole office) no_members)
 reply_data (Offices lines) = object (member (codes "offices") (array (items_of (map office_data lines))) no_members)
-reply_data (StaffMade staff) = object (member (codes "staff") (string (caller_text staff.office staff.staff)) no_members)
-reply_data (ClientMade client) = object (member (codes "client") (string (account_text client.office client.number)) no_members)
-reply_data (ClientShown client name) = object (member (codes "client") (string (account_text client.office client.number)) (member (codes "name") (string name) no_members))
+reply_data (StaffMade staff) =
+    object (member (codes "staff") (string (caller_text staff.office staff.staff)) no_members)
+reply_data (ClientMade client) =
+    object (member (codes "client") (string (account_text client.office client.number)) no_members)
+reply_data (ClientShown client name) = object (member (codes "client")
+    (string (account_text client.office client.number)) (member (codes "name") (string name) no_members))
 reply_data (DayShown day) = object (member (codes "day") (string (day_text day)) no_members)
 reply_data (DaySet day) = object (member (codes "day") (string (day_text day)) no_members)
 reply_data (ChargeMade charge) = object (member (codes "charge") (whole charge) no_members)

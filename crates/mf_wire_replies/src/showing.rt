@@ -52,7 +52,8 @@ impl Shown for Office {
 
 /// A body that is an object of one member.
 fn single(alloc: Global, name: &str, value: Value) -> Result<Body, Fault>
-    ensures ok { IfOk result (λ body. (reply : Reply) → object (member name.now (view value) no_members) ≡ reply_data reply → IsBodyOf reply body) }
+    ensures ok { IfOk result (λ body. (reply : Reply) → object (member name.now (view value) no_members)
+        ≡ reply_data reply → IsBodyOf reply body) }
     ensures err { IfErr result (λ f. f ≡ Fault.F20) }
 {
     let mut members = Members::new(alloc);

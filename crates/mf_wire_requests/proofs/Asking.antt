@@ -1,5 +1,6 @@
 -- What a request asks, step by step.
-use Rattle.std.proofs.Common.{◌≡◌, ◌⊎◌, inl, inr, ℕ, Bool, true, false, cond, List, [], Option, Some, None, Result, Ok, Err, sym, ap, ◌∙◌, subst}
+use Rattle.std.proofs.Common.{◌≡◌, ◌⊎◌, inl, inr, ℕ, Bool, true, false, cond, List, [], Option, Some, None, Result, Ok}
+use Rattle.std.proofs.Common.{Err, sym, ap, ◌∙◌, subst}
 use Rattle.std.specs.Prelude.{IfOk, IfErr}
 use Rattle.mf_base.specs.declared.fault.Fault.{Fault}
 use Rattle.mf_base.specs.declared.fault.Fault.TheVariants.{F20}
@@ -23,36 +24,50 @@ use Rattle.std.specs.Str.{is_utf8, IsAscii}
 use Rattle.mf_wire_requests.specs.PathParts.{PathParts, parts_of_params}
 use Rattle.mf_wire_requests.specs.Routes.{desk_routes, matched_route, route_at, parts_on}
 use Rattle.mf_wire_requests.specs.Bodies.{Gives}
-use Rattle.mf_wire_requests.specs.Requests.{method_of, endpoint_of, or_malformed, asked_of, asked_on, request_at, request_of}
+use Rattle.mf_wire_requests.specs.Requests.{method_of, endpoint_of, or_malformed, asked_of, asked_on, request_at}
+use Rattle.mf_wire_requests.specs.Requests.{request_of}
 use Rattle.mf_wire_requests.proofs.Matched.{ascii_bytes, walk_text, desk_text}
 
 pub no_route : (method path body : List ℕ) → None ≡ route_at path → request_of method path body ≡ Unreadable NoRoute
 unfolding request_of
 no_route method path body e = ap (λ r. asked_on r method path body) (sym e)
 
-pub on_route : (method path body : List ℕ) (route : RouteOf Methods) (named : Method) (end : Option Endpoint) → Some route ≡ route_at path → named ≡ method_of method → end ≡ endpoint_of route.value named → request_of method path body ≡ asked_of end (parts_on route path) body
+pub on_route : (method path body : List ℕ) (route : RouteOf Methods) (named : Method) (end : Option Endpoint)
+    → Some route ≡ route_at path → named ≡ method_of method → end ≡ endpoint_of route.value named
+    → request_of method path body ≡ asked_of end (parts_on route path) body
 unfolding request_of
 on_route method path body route named end e m d =
-    ap (λ r. asked_on r method path body) (sym e) ∙ ap (λ o. asked_of o (parts_on route path) body) (sym (d ∙ ap (endpoint_of route.value) m))
+    ap (λ r. asked_on r method path body) (sym e) ∙ ap (λ o. asked_of o (parts_on route path) body)
+    (sym (d ∙ ap (endpoint_of route.value) m))
 
-pub on_endpoint : (method path body : List ℕ) (route : RouteOf Methods) (named : Method) (endpoint : Endpoint) (parts : PathParts) → Some route ≡ route_at path → named ≡ method_of method → Some endpoint ≡ endpoint_of route.value named → parts_on route path ≡ parts → request_of method path body ≡ or_malformed (request_at endpoint parts body)
+pub on_endpoint : (method path body : List ℕ) (route : RouteOf Methods) (named : Method) (endpoint : Endpoint)
+    (parts : PathParts) → Some route ≡ route_at path → named ≡ method_of method → Some endpoint
+    ≡ endpoint_of route.value named → parts_on route path ≡ parts → request_of method path body
+    ≡ or_malformed (request_at endpoint parts body)
 on_endpoint method path body route named endpoint parts e m d q =
-    on_route method path body route named (Some endpoint) e m d ∙ ap (λ ps. or_malformed (request_at endpoint ps body)) q
+    on_route method path body route named (Some endpoint) e m d ∙ ap (λ ps. or_malformed (request_at endpoint ps body))
+    q
 
 -- what the parameters of a route took
-pub no_parts : (route : RouteOf Methods) (path : List ℕ) (p : Params) → list_all is_ascii path ≡ false → p.names.now ≡ [] → parts_on route path ≡ parts_of_params p
+pub no_parts : (route : RouteOf Methods) (path : List ℕ) (p : Params) → list_all is_ascii path ≡ false
+    → p.names.now ≡ [] → parts_on route path ≡ parts_of_params p
 no_parts route path p a n =
-    ap (λ b. cond b (walk route.pattern route.text path route.names 0 0) []) a ∙ sym (ap (λ names. walk p.pattern.now p.text.now p.path.now names 0 0) n)
+    ap (λ b. cond b (walk route.pattern route.text path route.names 0 0) []) a
+    ∙ sym (ap (λ names. walk p.pattern.now p.text.now p.path.now names 0 0) n)
 
-pub all_parts : (m : Match (Bor Methods)) (path : List ℕ) → list_all is_ascii path ≡ true → m.params.path.now ≡ path → parts_on (matched_route m) path ≡ parts_of_params m.params
+pub all_parts : (m : Match (Bor Methods)) (path : List ℕ) → list_all is_ascii path ≡ true → m.params.path.now ≡ path
+    → parts_on (matched_route m) path ≡ parts_of_params m.params
 all_parts m path a e =
-    ap (λ b. cond b (walk m.params.pattern.now m.params.text.now path m.params.names.now 0 0) []) a ∙ ap (λ p. walk m.params.pattern.now m.params.text.now p m.params.names.now 0 0) (sym e)
+    ap (λ b. cond b (walk m.params.pattern.now m.params.text.now path m.params.names.now 0 0) []) a
+    ∙ ap (λ p. walk m.params.pattern.now m.params.text.now p m.params.names.now 0 0) (sym e)
 
-found_among : (b : Bool) (route : RouteOf Methods) (r : Option (RouteOf Methods)) → Some route ≡ cond b r None → r ≡ Some route
+found_among : (b : Bool) (route : RouteOf Methods) (r : Option (RouteOf Methods)) → Some route ≡ cond b r None
+    → r ≡ Some route
 found_among true route r e = sym e
 found_among false route r e = absurd (cc)
 
-pub parts_text : (m : Match (Bor Methods)) (path : List ℕ) → list_all is_ascii path ≡ true → m.params.path.now ≡ path → Some (matched_route m) ≡ route_at path → AllText (parts_of_params m.params)
+pub parts_text : (m : Match (Bor Methods)) (path : List ℕ) → list_all is_ascii path ≡ true → m.params.path.now ≡ path
+    → Some (matched_route m) ≡ route_at path → AllText (parts_of_params m.params)
 unfolding route_at
 parts_text m path a e r =
     walk_text m.params.pattern.now m.params.text.now m.params.path.now m.params.names.now 0 0
@@ -63,16 +78,19 @@ parts_text m path a e r =
 abbrev pub IsFlawOf : Request → Fault → Type 0
 IsFlawOf a f = (f ≡ F20) ⊎ ((flaw : Flaw) × (f ≡ flaw_fault flaw) × (a ≡ Unreadable flaw))
 
-pub gives_ok : (there : Option Request) (r : Result Request Fault) (a : Request) → a ≡ or_malformed there → Gives there r → IfOk r (λ x. a ≡ x)
+pub gives_ok : (there : Option Request) (r : Result Request Fault) (a : Request) → a ≡ or_malformed there
+    → Gives there r → IfOk r (λ x. a ≡ x)
 gives_ok there (Ok x) a e h = e ∙ ap or_malformed h
 gives_ok there (Err f) a e h = tt
 
-refused : (there : Option Request) (f : Fault) (a : Request) → a ≡ or_malformed there → Gives {A = Request} there (Err f) → IsFlawOf a f
+refused : (there : Option Request) (f : Fault) (a : Request) → a ≡ or_malformed there
+    → Gives {A = Request} there (Err f) → IsFlawOf a f
 refused there f a e h = elim h [
   | inl g ↦ inl g
   | inr g ↦ inr (Malformed, g.0, e ∙ ap or_malformed g.1)
 ]
 
-pub gives_err : (there : Option Request) (r : Result Request Fault) (a : Request) → a ≡ or_malformed there → Gives there r → IfErr r (IsFlawOf a)
+pub gives_err : (there : Option Request) (r : Result Request Fault) (a : Request) → a ≡ or_malformed there
+    → Gives there r → IfErr r (IsFlawOf a)
 gives_err there (Ok x) a e h = tt
 gives_err there (Err f) a e h = refused there f a e h

@@ -10,7 +10,8 @@ use Rattle.mf_office.specs.Texts.{IsAccount, caller_of}
 use Rattle.mf_office.specs.declared.account.Account.{Account}
 use Rattle.mf_office.specs.declared.staff.Role.{Role}
 use Rattle.mf_account.specs.Receipts.{IsReceipt}
-use Rattle.mf_catalog.specs.Limits.{greatest_amount, greatest_rate, most_grace, most_periods, longest_step, greatest_value}
+use Rattle.mf_catalog.specs.Limits.{greatest_amount, greatest_rate, most_grace, most_periods, longest_step}
+use Rattle.mf_catalog.specs.Limits.{greatest_value}
 use Rattle.mf_catalog.specs.declared.charge.ChargeKind.{ChargeKind}
 use Rattle.mf_catalog.specs.declared.charge.Calc.{Calc}
 use Rattle.mf_catalog.specs.declared.terms.Method.{Method}
@@ -23,7 +24,8 @@ use Rattle.mf_model.specs.declared.request.Flaw.TheVariants.{Malformed}
 use Rattle.mf_model.specs.declared.request.LoanRequest.{LoanRequest}
 use Rattle.mf_model.specs.declared.request.LoanRequest.TheVariants.{Take, Repay, ChargeFee, Post, Reverse}
 use Rattle.mf_model.specs.declared.request.LoanStep.TheVariants.{Disburse}
-use Rattle.mf_model.specs.declared.request.OfficeRequest.TheVariants.{AddStaff, AddClient, ShowClient, SubmitLoan, ListLoans}
+use Rattle.mf_model.specs.declared.request.OfficeRequest.TheVariants.{AddStaff, AddClient, ShowClient, SubmitLoan}
+use Rattle.mf_model.specs.declared.request.OfficeRequest.TheVariants.{ListLoans}
 use Rattle.mf_model.specs.declared.request.Posting.TheVariants.{Penalty, Waiver}
 use Rattle.mf_model.specs.declared.request.Request.{Request}
 use Rattle.mf_model.specs.declared.request.Request.TheVariants.{Unreadable, Catalogue, Office, Loan, NewOffice}
@@ -37,47 +39,61 @@ use Rattle.mf_wire_requests.specs.declared.routes.Endpoint.TheVariants as endpoi
 use Rattle.mf_wire_requests.specs.declared.routes.LoanEndpoint.{LoanEndpoint}
 use Rattle.mf_wire_requests.specs.declared.routes.LoanEndpoint.TheVariants as on_loan
 use Rattle.mf_wire_requests.specs.declared.routes.Methods.{Methods}
-use Rattle.mf_wire_requests.specs.Bodies.{json_of, name_at, office_at, within, number_at, optional_receipt_at, account_at, day_at}
+use Rattle.mf_wire_requests.specs.Bodies.{json_of, name_at, office_at, within, number_at, optional_receipt_at}
+use Rattle.mf_wire_requests.specs.Bodies.{account_at, day_at}
 use Rattle.mf_wire_requests.specs.CatalogueRequests.{later_day, new_charge}
-use Rattle.mf_wire_requests.specs.LoanRequests.{new_loan, loans_at, disbursement, repayment, fee, instalment_at, penalty, waiver, reversal, loan_request, loan_at}
+use Rattle.mf_wire_requests.specs.LoanRequests.{new_loan, loans_at, disbursement, repayment, fee, instalment_at}
+use Rattle.mf_wire_requests.specs.LoanRequests.{penalty, waiver, reversal, loan_request, loan_at}
 use Rattle.mf_wire_requests.specs.Named.{role_at, kind_at, calc_at, method_at, freq_at, strategy_at, waivable_at}
 use Rattle.mf_wire_requests.specs.OfficeRequests.{new_office, new_staff, new_client, client_at}
 use Rattle.mf_wire_requests.specs.PathParts.{PathParts, number_in, account_in}
-use Rattle.mf_wire_requests.specs.ProductRequests.{step_at, planning_at, bounds_at, charged_at, members_of, new_product, IsStepInRange, IsPlanningInRange, AreBoundsInRange}
+use Rattle.mf_wire_requests.specs.ProductRequests.{step_at, planning_at, bounds_at, charged_at, members_of, new_product}
+use Rattle.mf_wire_requests.specs.ProductRequests.{IsStepInRange, IsPlanningInRange, AreBoundsInRange}
 use Rattle.mf_wire_requests.specs.RequestLine.{Parts, parts_of, is_token}
-use Rattle.mf_wire_requests.specs.Requests.{method_of, endpoint_of, request_at, or_malformed, asked_of, asked_on, asked_by, asked_in, request_of, call_of_parts, call_of}
+use Rattle.mf_wire_requests.specs.Requests.{method_of, endpoint_of, request_at, or_malformed, asked_of, asked_on}
+use Rattle.mf_wire_requests.specs.Requests.{asked_by, asked_in, request_of, call_of_parts, call_of}
 use Rattle.mf_wire_requests.specs.Routes.{route_at, parts_on}
-use Rattle.mf_wire_requests.proofs.Ranges.{IsWithin, IsEntered, IsOfNineDigits, name_range, office_range, within_range, number_range, receipt_range, account_range, day_range, number_in_range, account_in_range}
+use Rattle.mf_wire_requests.proofs.Ranges.{IsWithin, IsEntered, IsOfNineDigits, name_range, office_range, within_range}
+use Rattle.mf_wire_requests.proofs.Ranges.{number_range, receipt_range, account_range, day_range, number_in_range}
+use Rattle.mf_wire_requests.proofs.Ranges.{account_in_range}
 
 -- what bodies ask, whatever JSON they are
-of_body : {A : Type 0} (P : A → Type 0) (asks : Data → Option A) → ((d : Data) → IfSome (asks d) P) → (o : Option Data) → IfSome (option_and_then asks o) P
+of_body : {A : Type 0} (P : A → Type 0) (asks : Data → Option A) → ((d : Data) → IfSome (asks d) P) → (o : Option Data)
+    → IfSome (option_and_then asks o) P
 of_body P asks h None = tt
 of_body P asks h (Some d) = h d
 
 -- ---- offices, staff and clients
 
 new_office_in_range : (d : Data) → IfSome (new_office d) IsInRange
-new_office_in_range d = step (office_at (codes "number") d) (office_at (codes "parent") d) (name_at (codes "name") d) (office_range (codes "number") d) (office_range (codes "parent") d) (name_range (codes "name") d)
+new_office_in_range d = step (office_at (codes "number") d) (office_at (codes "parent") d) (name_at (codes "name") d)
+    (office_range (codes "number") d) (office_range (codes "parent") d) (name_range (codes "name") d)
   where
-    step : (number parent : Option ℕ) (name : Option (List ℕ)) → IfSome number (IsNumberUpTo 9999) → IfSome parent (IsNumberUpTo 9999) → IfSome name IsName
-        → IfSome (option_and_then (λ n. option_and_then (λ p. option_map (λ t. NewOffice n p t) name) parent) number) IsInRange
+    step : (number parent : Option ℕ) (name : Option (List ℕ)) → IfSome number (IsNumberUpTo 9999)
+        → IfSome parent (IsNumberUpTo 9999) → IfSome name IsName
+        → IfSome (option_and_then (λ n. option_and_then (λ p. option_map (λ t. NewOffice n p t) name) parent) number)
+        IsInRange
     step None parent name h k l = tt
     step (Some n) None name h k l = tt
     step (Some n) (Some p) None h k l = tt
     step (Some n) (Some p) (Some t) h k l = (h, k, l)
 
 new_staff_in_range : (d : Data) → IfSome (new_staff d) IsInRange
-new_staff_in_range d = step (office_at (codes "office") d) (role_at (codes "role") d) (name_at (codes "name") d) (office_range (codes "office") d) (name_range (codes "name") d)
+new_staff_in_range d = step (office_at (codes "office") d) (role_at (codes "role") d) (name_at (codes "name") d)
+    (office_range (codes "office") d) (name_range (codes "name") d)
   where
-    step : (office : Option ℕ) (role : Option Role) (name : Option (List ℕ)) → IfSome office (IsNumberUpTo 9999) → IfSome name IsName
-        → IfSome (option_and_then (λ o. option_and_then (λ r. option_map (λ t. Office o (AddStaff t r)) name) role) office) IsInRange
+    step : (office : Option ℕ) (role : Option Role) (name : Option (List ℕ)) → IfSome office (IsNumberUpTo 9999)
+        → IfSome name IsName
+        → IfSome (option_and_then (λ o. option_and_then (λ r. option_map (λ t. Office o (AddStaff t r)) name) role)
+        office) IsInRange
     step None role name h k = tt
     step (Some o) None name h k = tt
     step (Some o) (Some r) None h k = tt
     step (Some o) (Some r) (Some t) h k = (h, k)
 
 new_client_in_range : (d : Data) → IfSome (new_client d) IsInRange
-new_client_in_range d = step (office_at (codes "office") d) (name_at (codes "name") d) (office_range (codes "office") d) (name_range (codes "name") d)
+new_client_in_range d = step (office_at (codes "office") d) (name_at (codes "name") d) (office_range (codes "office") d)
+    (name_range (codes "name") d)
   where
     step : (office : Option ℕ) (name : Option (List ℕ)) → IfSome office (IsNumberUpTo 9999) → IfSome name IsName
         → IfSome (option_and_then (λ o. option_map (λ t. Office o (AddClient t)) name) office) IsInRange
@@ -88,7 +104,8 @@ new_client_in_range d = step (office_at (codes "office") d) (name_at (codes "nam
 client_in_range : (parts : PathParts) → IfSome (client_at parts) IsInRange
 client_in_range parts = step (account_in (codes "client") parts) (account_in_range (codes "client") parts)
   where
-    step : (client : Option Account) → IfSome client IsAccount → IfSome (option_map (λ c. Office c.office (ShowClient c.number)) client) IsInRange
+    step : (client : Option Account) → IfSome client IsAccount
+        → IfSome (option_map (λ c. Office c.office (ShowClient c.number)) client) IsInRange
     step None h = tt
     step (Some c) h = (h.0, h.1)
 
@@ -97,27 +114,34 @@ client_in_range parts = step (account_in (codes "client") parts) (account_in_ran
 later_day_in_range : (d : Data) → IfSome (later_day d) IsInRange
 later_day_in_range d = step (day_at (codes "day") d) (day_range (codes "day") d)
   where
-    step : (day : Option ℕ) → IfSome day IsEntered → IfSome (option_map (λ x. Catalogue (catalogue.SetDay x)) day) IsInRange
+    step : (day : Option ℕ) → IfSome day IsEntered → IfSome (option_map (λ x. Catalogue (catalogue.SetDay x)) day)
+        IsInRange
     step None h = tt
     step (Some x) h = h
 
 new_charge_in_range : (d : Data) → IfSome (new_charge d) IsInRange
 new_charge_in_range d =
-    step (kind_at (codes "kind") d) (calc_at (codes "calc") d) (λ calc. number_at 1 (greatest_value calc) (codes "value") d) (name_at (codes "name") d)
+    step (kind_at (codes "kind") d) (calc_at (codes "calc") d) (λ calc. number_at 1 (greatest_value calc)
+    (codes "value") d) (name_at (codes "name") d)
     (λ calc. number_range 1 (greatest_value calc) (codes "value") d) (name_range (codes "name") d)
   where
-    named : (kind : ChargeKind) (calc : Calc) (value : ℕ) (name : Option (List ℕ)) → IsWithin 1 (greatest_value calc) value → IfSome name IsName
+    named : (kind : ChargeKind) (calc : Calc) (value : ℕ) (name : Option (List ℕ))
+        → IsWithin 1 (greatest_value calc) value → IfSome name IsName
         → IfSome (option_map (λ t. Catalogue (catalogue.AddCharge t kind calc value)) name) IsInRange
     named kind calc value None h l = tt
     named kind calc value (Some t) h l = (l, record { some = h.0; most = h.1 })
 
-    valued : (kind : ChargeKind) (calc : Calc) (value : Option ℕ) (name : Option (List ℕ)) → IfSome value (IsWithin 1 (greatest_value calc)) → IfSome name IsName
-        → IfSome (option_and_then (λ v. option_map (λ t. Catalogue (catalogue.AddCharge t kind calc v)) name) value) IsInRange
+    valued : (kind : ChargeKind) (calc : Calc) (value : Option ℕ) (name : Option (List ℕ))
+        → IfSome value (IsWithin 1 (greatest_value calc)) → IfSome name IsName
+        → IfSome (option_and_then (λ v. option_map (λ t. Catalogue (catalogue.AddCharge t kind calc v)) name) value)
+        IsInRange
     valued kind calc None name h l = tt
     valued kind calc (Some v) name h l = named kind calc v name h l
 
-    step : (kind : Option ChargeKind) (calc : Option Calc) (value : Calc → Option ℕ) (name : Option (List ℕ)) → ((c : Calc) → IfSome (value c) (IsWithin 1 (greatest_value c))) → IfSome name IsName
-        → IfSome (option_and_then (λ k. option_and_then (λ c. option_and_then (λ v. option_map (λ t. Catalogue (catalogue.AddCharge t k c v)) name) (value c)) calc) kind) IsInRange
+    step : (kind : Option ChargeKind) (calc : Option Calc) (value : Calc → Option ℕ) (name : Option (List ℕ))
+        → ((c : Calc) → IfSome (value c) (IsWithin 1 (greatest_value c))) → IfSome name IsName
+        → IfSome (option_and_then (λ k. option_and_then (λ c. option_and_then
+        (λ v. option_map (λ t. Catalogue (catalogue.AddCharge t k c v)) name) (value c)) calc) kind) IsInRange
     step None calc value name h l = tt
     step (Some k) None value name h l = tt
     step (Some k) (Some c) value name h l = valued k c (value c) name (h c) l
@@ -125,23 +149,41 @@ new_charge_in_range d =
 step_in_range : (d : Data) → IfSome (step_at d) IsStepInRange
 step_in_range d = step (freq_at (codes "frequency") d)
   where
-    named : (freq : Freq) (every : Option ℕ) → IfSome every (IsWithin 1 (longest_step freq)) → IfSome (option_map (λ n. let s : Step = record { freq = freq; every = n } in s) every) IsStepInRange
+    named : (freq : Freq) (every : Option ℕ) → IfSome every (IsWithin 1 (longest_step freq))
+        → IfSome (option_map (λ n. let s : Step = record { freq = freq; every = n } in s) every) IsStepInRange
     named freq None h = tt
     named freq (Some n) h = record { some = h.0; longest = h.1 }
 
-    step : (freq : Option Freq) → IfSome (option_and_then (λ f. option_map (λ n. let s : Step = record { freq = f; every = n } in s) (number_at 1 (longest_step f) (codes "every") d)) freq) IsStepInRange
+    step : (freq : Option Freq) → IfSome (option_and_then (λ f. option_map (λ n. let s : Step = record {
+      freq = f;
+      every = n;
+    } in s) (number_at 1 (longest_step f) (codes "every") d)) freq) IsStepInRange
     step None = tt
-    step (Some f) = named f (number_at 1 (longest_step f) (codes "every") d) (number_range 1 (longest_step f) (codes "every") d)
+    step (Some f) =
+        named f (number_at 1 (longest_step f) (codes "every") d) (number_range 1 (longest_step f) (codes "every") d)
 
 planning_in_range : (d : Data) → IfSome (planning_at d) IsPlanningInRange
 planning_in_range d =
-    step (method_at (codes "method") d) (number_at 0 greatest_rate (codes "rate") d) (step_at d) (number_at 0 most_grace (codes "principal_grace") d) (number_at 0 most_grace (codes "interest_grace") d) (strategy_at (codes "strategy") d)
-    (number_range 0 greatest_rate (codes "rate") d) (step_in_range d) (number_range 0 most_grace (codes "principal_grace") d) (number_range 0 most_grace (codes "interest_grace") d)
+    step (method_at (codes "method") d) (number_at 0 greatest_rate (codes "rate") d) (step_at d)
+    (number_at 0 most_grace (codes "principal_grace") d) (number_at 0 most_grace (codes "interest_grace") d)
+    (strategy_at (codes "strategy") d)
+    (number_range 0 greatest_rate (codes "rate") d) (step_in_range d)
+    (number_range 0 most_grace (codes "principal_grace") d) (number_range 0 most_grace (codes "interest_grace") d)
   where
-    step : (method : Option Method) (rate : Option ℕ) (by : Option Step) (principal interest : Option ℕ) (strategy : Option StrategyName)
-        → IfSome rate (IsWithin 0 greatest_rate) → IfSome by IsStepInRange → IfSome principal (IsWithin 0 most_grace) → IfSome interest (IsWithin 0 most_grace)
-        → IfSome (option_and_then (λ m. option_and_then (λ r. option_and_then (λ s. option_and_then (λ p. option_and_then (λ i. option_map (λ y.
-        let planning : Planning = record { method = m; rate = r; step = s; principal_grace = p; interest_grace = i; strategy = y } in planning)
+    step : (method : Option Method) (rate : Option ℕ) (by : Option Step) (principal interest : Option ℕ)
+        (strategy : Option StrategyName)
+        → IfSome rate (IsWithin 0 greatest_rate) → IfSome by IsStepInRange → IfSome principal (IsWithin 0 most_grace)
+        → IfSome interest (IsWithin 0 most_grace)
+        → IfSome (option_and_then (λ m.
+        option_and_then (λ r. option_and_then (λ s. option_and_then (λ p. option_and_then (λ i. option_map (λ y.
+        let planning : Planning = record {
+          method = m;
+          rate = r;
+          step = s;
+          principal_grace = p;
+          interest_grace = i;
+          strategy = y;
+        } in planning)
         strategy) interest) principal) by) rate) method) IsPlanningInRange
     step None rate by principal interest strategy h k l n = tt
     step (Some m) None by principal interest strategy h k l n = tt
@@ -149,16 +191,25 @@ planning_in_range d =
     step (Some m) (Some r) (Some s) None interest strategy h k l n = tt
     step (Some m) (Some r) (Some s) (Some p) None strategy h k l n = tt
     step (Some m) (Some r) (Some s) (Some p) (Some i) None h k l n = tt
-    step (Some m) (Some r) (Some s) (Some p) (Some i) (Some y) h k l n = record { rate = h.1; step = k; principal_grace = l.1; interest_grace = n.1 }
+    step (Some m) (Some r) (Some s) (Some p) (Some i) (Some y) h k l n =
+        record { rate = h.1; step = k; principal_grace = l.1; interest_grace = n.1 }
 
 bounds_in_range : (d : Data) → IfSome (bounds_at d) AreBoundsInRange
 bounds_in_range d =
-    step (number_at 1 greatest_amount (codes "min_principal") d) (number_at 1 greatest_amount (codes "max_principal") d) (number_at 1 most_periods (codes "min_periods") d) (number_at 1 most_periods (codes "max_periods") d)
-    (number_range 1 greatest_amount (codes "min_principal") d) (number_range 1 greatest_amount (codes "max_principal") d) (number_range 1 most_periods (codes "min_periods") d) (number_range 1 most_periods (codes "max_periods") d)
+    step (number_at 1 greatest_amount (codes "min_principal") d) (number_at 1 greatest_amount (codes "max_principal") d)
+    (number_at 1 most_periods (codes "min_periods") d) (number_at 1 most_periods (codes "max_periods") d)
+    (number_range 1 greatest_amount (codes "min_principal") d) (number_range 1 greatest_amount (codes "max_principal")
+    d) (number_range 1 most_periods (codes "min_periods") d) (number_range 1 most_periods (codes "max_periods") d)
   where
-    step : (a b p q : Option ℕ) → IfSome a (IsWithin 1 greatest_amount) → IfSome b (IsWithin 1 greatest_amount) → IfSome p (IsWithin 1 most_periods) → IfSome q (IsWithin 1 most_periods)
+    step : (a b p q : Option ℕ) → IfSome a (IsWithin 1 greatest_amount) → IfSome b (IsWithin 1 greatest_amount)
+        → IfSome p (IsWithin 1 most_periods) → IfSome q (IsWithin 1 most_periods)
         → IfSome (option_and_then (λ least. option_and_then (λ most. option_and_then (λ few. option_map (λ many.
-        let bounds : Bounds = record { min_principal = least; max_principal = most; min_periods = few; max_periods = many } in bounds) q) p) b) a) AreBoundsInRange
+        let bounds : Bounds = record {
+          min_principal = least;
+          max_principal = most;
+          min_periods = few;
+          max_periods = many;
+        } in bounds) q) p) b) a) AreBoundsInRange
     step None b p q h k l n = tt
     step (Some x) None p q h k l n = tt
     step (Some x) (Some y) None q h k l n = tt
@@ -174,7 +225,8 @@ bounds_in_range d =
       most_max_periods = n.1;
     }
 
-members_in_range : (name : List ℕ) (planning : Planning) (bounds : Bounds) (charged : Charged) → IsName name → IsPlanningInRange planning → AreBoundsInRange bounds → AreMembers (members_of name planning bounds charged)
+members_in_range : (name : List ℕ) (planning : Planning) (bounds : Bounds) (charged : Charged) → IsName name
+    → IsPlanningInRange planning → AreBoundsInRange bounds → AreMembers (members_of name planning bounds charged)
 members_in_range name planning bounds charged n p b = record {
   name = n;
   limits = record {
@@ -195,34 +247,44 @@ members_in_range name planning bounds charged n p b = record {
 }
 
 new_product_in_range : (d : Data) → IfSome (new_product d) IsInRange
-new_product_in_range d = step (planning_at d) (bounds_at d) (charged_at d) (name_at (codes "name") d) (planning_in_range d) (bounds_in_range d) (name_range (codes "name") d)
+new_product_in_range d = step (planning_at d) (bounds_at d) (charged_at d) (name_at (codes "name") d)
+    (planning_in_range d) (bounds_in_range d) (name_range (codes "name") d)
   where
-    step : (planning : Option Planning) (bounds : Option Bounds) (charged : Option Charged) (name : Option (List ℕ)) → IfSome planning IsPlanningInRange → IfSome bounds AreBoundsInRange → IfSome name IsName
-        → IfSome (option_and_then (λ p. option_and_then (λ b. option_and_then (λ c. option_map (λ t. Catalogue (catalogue.AddProduct (members_of t p b c))) name) charged) bounds) planning) IsInRange
+    step : (planning : Option Planning) (bounds : Option Bounds) (charged : Option Charged) (name : Option (List ℕ))
+        → IfSome planning IsPlanningInRange → IfSome bounds AreBoundsInRange → IfSome name IsName
+        → IfSome (option_and_then
+        (λ p. option_and_then (λ b. option_and_then (λ c. option_map
+        (λ t. Catalogue (catalogue.AddProduct (members_of t p b c))) name) charged) bounds) planning) IsInRange
     step None bounds charged name h k l = tt
     step (Some p) None charged name h k l = tt
     step (Some p) (Some b) None name h k l = tt
     step (Some p) (Some b) (Some c) None h k l = tt
     step (Some p) (Some b) (Some c) (Some t) h k l = members_in_range t p b c l h k
 
-charge_in_range : (parts : PathParts) → IfSome (option_map (λ charge. Catalogue (catalogue.ShowCharge charge)) (number_in (codes "charge") parts)) IsInRange
+charge_in_range : (parts : PathParts) → IfSome (option_map (λ charge. Catalogue (catalogue.ShowCharge charge))
+    (number_in (codes "charge") parts)) IsInRange
 charge_in_range parts = step (number_in (codes "charge") parts) (number_in_range (codes "charge") parts)
   where
-    step : (charge : Option ℕ) → IfSome charge IsOfNineDigits → IfSome (option_map (λ n. Catalogue (catalogue.ShowCharge n)) charge) IsInRange
+    step : (charge : Option ℕ) → IfSome charge IsOfNineDigits
+        → IfSome (option_map (λ n. Catalogue (catalogue.ShowCharge n)) charge) IsInRange
     step None h = tt
     step (Some n) h = h
 
-product_in_range : (parts : PathParts) → IfSome (option_map (λ product. Catalogue (catalogue.ShowProduct product)) (number_in (codes "product") parts)) IsInRange
+product_in_range : (parts : PathParts) → IfSome (option_map (λ product. Catalogue (catalogue.ShowProduct product))
+    (number_in (codes "product") parts)) IsInRange
 product_in_range parts = step (number_in (codes "product") parts) (number_in_range (codes "product") parts)
   where
-    step : (product : Option ℕ) → IfSome product IsOfNineDigits → IfSome (option_map (λ n. Catalogue (catalogue.ShowProduct n)) product) IsInRange
+    step : (product : Option ℕ) → IfSome product IsOfNineDigits
+        → IfSome (option_map (λ n. Catalogue (catalogue.ShowProduct n)) product) IsInRange
     step None h = tt
     step (Some n) h = h
 
-retired_in_range : (parts : PathParts) → IfSome (option_map (λ product. Catalogue (catalogue.RetireProduct product)) (number_in (codes "product") parts)) IsInRange
+retired_in_range : (parts : PathParts) → IfSome (option_map (λ product. Catalogue (catalogue.RetireProduct product))
+    (number_in (codes "product") parts)) IsInRange
 retired_in_range parts = step (number_in (codes "product") parts) (number_in_range (codes "product") parts)
   where
-    step : (product : Option ℕ) → IfSome product IsOfNineDigits → IfSome (option_map (λ n. Catalogue (catalogue.RetireProduct n)) product) IsInRange
+    step : (product : Option ℕ) → IfSome product IsOfNineDigits
+        → IfSome (option_map (λ n. Catalogue (catalogue.RetireProduct n)) product) IsInRange
     step None h = tt
     step (Some n) h = h
 
@@ -230,13 +292,17 @@ retired_in_range parts = step (number_in (codes "product") parts) (number_in_ran
 
 new_loan_in_range : (d : Data) → IfSome (new_loan d) IsInRange
 new_loan_in_range d =
-    step (account_at (codes "client") d) (number_at 0 999999999 (codes "product") d) (number_at 1 greatest_amount (codes "principal") d) (number_at 1 most_periods (codes "periods") d)
-    (account_range (codes "client") d) (number_range 0 999999999 (codes "product") d) (number_range 1 greatest_amount (codes "principal") d) (number_range 1 most_periods (codes "periods") d)
+    step (account_at (codes "client") d) (number_at 0 999999999 (codes "product") d)
+    (number_at 1 greatest_amount (codes "principal") d) (number_at 1 most_periods (codes "periods") d)
+    (account_range (codes "client") d) (number_range 0 999999999 (codes "product") d)
+    (number_range 1 greatest_amount (codes "principal") d) (number_range 1 most_periods (codes "periods") d)
   where
     step : (client : Option Account) (product principal periods : Option ℕ)
-        → IfSome client IsAccount → IfSome product (IsWithin 0 999999999) → IfSome principal (IsWithin 1 greatest_amount) → IfSome periods (IsWithin 1 most_periods)
+        → IfSome client IsAccount → IfSome product (IsWithin 0 999999999)
+        → IfSome principal (IsWithin 1 greatest_amount) → IfSome periods (IsWithin 1 most_periods)
         → IfSome (option_and_then (λ c. option_and_then (λ p. option_and_then (λ a. option_map (λ n.
-        Office c.office (SubmitLoan (record { client = c.number; product = p; principal = a; periods = n }))) periods) principal) product) client) IsInRange
+        Office c.office (SubmitLoan (record { client = c.number; product = p; principal = a; periods = n }))) periods)
+        principal) product) client) IsInRange
     step None product principal periods h k l n = tt
     step (Some c) None principal periods h k l n = tt
     step (Some c) (Some p) None periods h k l n = tt
@@ -244,9 +310,11 @@ new_loan_in_range d =
     step (Some c) (Some p) (Some a) (Some m) h k l n = (h.0, (h.1, k.1, l, n))
 
 loans_in_range : (parts : PathParts) → IfSome (loans_at parts) IsInRange
-loans_in_range parts = step (number_in (codes "office") parts) (number_in (codes "after") parts) (number_in_range (codes "office") parts)
+loans_in_range parts = step (number_in (codes "office") parts) (number_in (codes "after") parts)
+    (number_in_range (codes "office") parts)
   where
-    listed : (office : ℕ) (after : Option ℕ) → IsOfNineDigits office → IfSome after (IsWithin 0 999999) → IfSome (option_map (λ n. Office office (ListLoans n)) after) IsInRange
+    listed : (office : ℕ) (after : Option ℕ) → IsOfNineDigits office → IfSome after (IsWithin 0 999999)
+        → IfSome (option_map (λ n. Office office (ListLoans n)) after) IsInRange
     listed office None h k = tt
     listed office (Some n) h k = (h, k.1)
 
@@ -255,7 +323,8 @@ loans_in_range parts = step (number_in (codes "office") parts) (number_in (codes
     limited (Some n) = within_range 0 999999 n
 
     step : (office after : Option ℕ) → IfSome office IsOfNineDigits
-        → IfSome (option_and_then (λ o. option_map (λ n. Office o (ListLoans n)) (option_and_then (within 0 999999) after)) office) IsInRange
+        → IfSome (option_and_then (λ o. option_map (λ n. Office o (ListLoans n))
+        (option_and_then (within 0 999999) after)) office) IsInRange
     step None after h = tt
     step (Some o) after h = listed o (option_and_then (within 0 999999) after) h (limited after)
 
@@ -268,20 +337,25 @@ disbursement_in_range d = step (day_at (codes "day") d) (day_range (codes "day")
 
 repayment_in_range : (d : Data) → IfSome (repayment d) IsLoanInRange
 repayment_in_range d =
-    step (number_at 1 greatest_amount (codes "amount") d) (day_at (codes "day") d) (optional_receipt_at (codes "receipt") d)
+    step (number_at 1 greatest_amount (codes "amount") d) (day_at (codes "day") d)
+    (optional_receipt_at (codes "receipt") d)
     (number_range 1 greatest_amount (codes "amount") d) (day_range (codes "day") d) (receipt_range (codes "receipt") d)
   where
-    step : (amount day : Option ℕ) (receipt : Option (Option (List ℕ))) → IfSome amount (IsWithin 1 greatest_amount) → IfSome day IsEntered → IfSome receipt (λ r. IfSome r IsReceipt)
-        → IfSome (option_and_then (λ a. option_and_then (λ x. option_map (λ r. Repay (record { amount = a; day = x; receipt = r })) receipt) day) amount) IsLoanInRange
+    step : (amount day : Option ℕ) (receipt : Option (Option (List ℕ))) → IfSome amount (IsWithin 1 greatest_amount)
+        → IfSome day IsEntered → IfSome receipt (λ r. IfSome r IsReceipt)
+        → IfSome (option_and_then (λ a. option_and_then (λ x.
+        option_map (λ r. Repay (record { amount = a; day = x; receipt = r })) receipt) day) amount) IsLoanInRange
     step None day receipt h k l = tt
     step (Some a) None receipt h k l = tt
     step (Some a) (Some x) None h k l = tt
     step (Some a) (Some x) (Some r) h k l = (h, k, l)
 
 fee_in_range : (d : Data) → IfSome (fee d) IsLoanInRange
-fee_in_range d = step (number_at 0 999999999 (codes "charge") d) (day_at (codes "due") d) (number_range 0 999999999 (codes "charge") d) (day_range (codes "due") d)
+fee_in_range d = step (number_at 0 999999999 (codes "charge") d) (day_at (codes "due") d)
+    (number_range 0 999999999 (codes "charge") d) (day_range (codes "due") d)
   where
-    step : (charge due : Option ℕ) → IfSome charge (IsWithin 0 999999999) → IfSome due IsEntered → IfSome (option_and_then (λ c. option_map (λ x. ChargeFee c x) due) charge) IsLoanInRange
+    step : (charge due : Option ℕ) → IfSome charge (IsWithin 0 999999999) → IfSome due IsEntered
+        → IfSome (option_and_then (λ c. option_map (λ x. ChargeFee c x) due) charge) IsLoanInRange
     step None due h k = tt
     step (Some c) None h k = tt
     step (Some c) (Some x) h k = (h.1, k)
@@ -289,14 +363,17 @@ fee_in_range d = step (number_at 0 999999999 (codes "charge") d) (day_at (codes 
 penalty_in_range : (d : Data) → IfSome (penalty d) IsLoanInRange
 penalty_in_range d = step (instalment_at d) (number_range 1 999999999 (codes "instalment") d)
   where
-    step : (instalment : Option ℕ) → IfSome instalment (IsWithin 1 999999999) → IfSome (option_map (λ n. Post (Penalty n)) instalment) IsLoanInRange
+    step : (instalment : Option ℕ) → IfSome instalment (IsWithin 1 999999999)
+        → IfSome (option_map (λ n. Post (Penalty n)) instalment) IsLoanInRange
     step None h = tt
     step (Some n) h = h
 
 waiver_in_range : (d : Data) → IfSome (waiver d) IsLoanInRange
-waiver_in_range d = step (instalment_at d) (waivable_at (codes "portion") d) (number_range 1 999999999 (codes "instalment") d)
+waiver_in_range d =
+    step (instalment_at d) (waivable_at (codes "portion") d) (number_range 1 999999999 (codes "instalment") d)
   where
-    step : (instalment : Option ℕ) (portion : Option Waivable) → IfSome instalment (IsWithin 1 999999999) → IfSome (option_and_then (λ n. option_map (λ p. Post (Waiver n p)) portion) instalment) IsLoanInRange
+    step : (instalment : Option ℕ) (portion : Option Waivable) → IfSome instalment (IsWithin 1 999999999)
+        → IfSome (option_and_then (λ n. option_map (λ p. Post (Waiver n p)) portion) instalment) IsLoanInRange
     step None portion h = tt
     step (Some n) None h = tt
     step (Some n) (Some p) h = h
@@ -308,12 +385,14 @@ reversal_in_range parts = step (number_in (codes "entry") parts) (number_in_rang
     step None h = tt
     step (Some n) h = h
 
-loan_request_in_range : (which : LoanEndpoint) (parts : PathParts) (body : List ℕ) → IfSome (loan_request which parts body) IsLoanInRange
+loan_request_in_range : (which : LoanEndpoint) (parts : PathParts) (body : List ℕ)
+    → IfSome (loan_request which parts body) IsLoanInRange
 loan_request_in_range on_loan.Show parts body = tt
 loan_request_in_range on_loan.ShowInstalments parts body = tt
 loan_request_in_range on_loan.ShowEntries parts body = tt
 loan_request_in_range (on_loan.Step step) parts body = tt
-loan_request_in_range on_loan.Disburse parts body = of_body IsLoanInRange disbursement disbursement_in_range (json_of body)
+loan_request_in_range on_loan.Disburse parts body =
+    of_body IsLoanInRange disbursement disbursement_in_range (json_of body)
 loan_request_in_range on_loan.Repay parts body = of_body IsLoanInRange repayment repayment_in_range (json_of body)
 loan_request_in_range on_loan.ChargeFee parts body = of_body IsLoanInRange fee fee_in_range (json_of body)
 loan_request_in_range on_loan.ChargePenalty parts body = of_body IsLoanInRange penalty penalty_in_range (json_of body)
@@ -323,16 +402,19 @@ loan_request_in_range on_loan.Refund parts body = tt
 loan_request_in_range on_loan.Reverse parts body = reversal_in_range parts
 
 loan_in_range : (which : LoanEndpoint) (parts : PathParts) (body : List ℕ) → IfSome (loan_at which parts body) IsInRange
-loan_in_range which parts body = step (account_in (codes "loan") parts) (loan_request which parts body) (account_in_range (codes "loan") parts) (loan_request_in_range which parts body)
+loan_in_range which parts body = step (account_in (codes "loan") parts) (loan_request which parts body)
+    (account_in_range (codes "loan") parts) (loan_request_in_range which parts body)
   where
-    step : (loan : Option Account) (asked : Option LoanRequest) → IfSome loan IsAccount → IfSome asked IsLoanInRange → IfSome (option_and_then (λ l. option_map (λ a. Loan l a) asked) loan) IsInRange
+    step : (loan : Option Account) (asked : Option LoanRequest) → IfSome loan IsAccount → IfSome asked IsLoanInRange
+        → IfSome (option_and_then (λ l. option_map (λ a. Loan l a) asked) loan) IsInRange
     step None asked h k = tt
     step (Some l) None h k = tt
     step (Some l) (Some a) h k = (h, k)
 
 -- ---- the request of an endpoint, of a method with a path and a body, and of a line
 
-endpoint_in_range : (which : Endpoint) (parts : PathParts) (body : List ℕ) → IfSome (request_at which parts body) IsInRange
+endpoint_in_range : (which : Endpoint) (parts : PathParts) (body : List ℕ) → IfSome (request_at which parts body)
+    IsInRange
 endpoint_in_range endpoint.ShowDay parts body = tt
 endpoint_in_range endpoint.SetDay parts body = of_body IsInRange later_day later_day_in_range (json_of body)
 endpoint_in_range endpoint.AddCharge parts body = of_body IsInRange new_charge new_charge_in_range (json_of body)
@@ -388,7 +470,8 @@ line_in_range line = short (nat_le (length line) 65536)
     short false = tt
 
 -- so do those of a run, whichever calls its lines are
-pub calls_in_range : {L : Type 0} (call_by : L → Call) → ((l : L) → IsInRange (call_by l).request) → (run : List Line) (lines : List L) → map (λ l. l.call) run ≡ map call_by lines → AreInRange run
+pub calls_in_range : {L : Type 0} (call_by : L → Call) → ((l : L) → IsInRange (call_by l).request) → (run : List Line)
+    (lines : List L) → map (λ l. l.call) run ≡ map call_by lines → AreInRange run
 calls_in_range call_by h [] lines e = tt
 calls_in_range call_by h (l ∷ run) [] e = absurd (cc)
 calls_in_range call_by h (l ∷ run) (b ∷ lines) e =

@@ -1,5 +1,6 @@
 -- What a body says, as JSON.
-use Rattle.std.specs.Prelude.{◌≡◌, ◌⊎◌, ℕ, ◌+◌, Bool, ◌&&◌, cond, List, length, nat_le, Option, Some, None, is_some, option_map, option_and_then, Result, MatchResult}
+use Rattle.std.specs.Prelude.{◌≡◌, ◌⊎◌, ℕ, ◌+◌, Bool, ◌&&◌, cond, List, length, nat_le, Option, Some, None, is_some}
+use Rattle.std.specs.Prelude.{option_map, option_and_then, Result, MatchResult}
 use Rattle.std.specs.List.{list_all, find, range_with_len}
 use Rattle.std.specs.Str.{is_utf8, chars, bytes_eq}
 use Rattle.serde_json.specs.Data.{Data}
@@ -28,7 +29,8 @@ text_at name d = option_and_then as_str (get name d)
 
 -- a name is a text of 1 to 100 characters, and no control character of ASCII among them
 abbrev pub is_name : List ℕ → Bool
-is_name text = is_utf8 text && nat_le 1 (length (chars text)) && nat_le (length (chars text)) 100 && list_all is_plain (chars text)
+is_name text = is_utf8 text && nat_le 1 (length (chars text)) && nat_le (length (chars text)) 100 && list_all is_plain
+    (chars text)
 
 -- a member that is a name
 abbrev pub name_at : List ℕ → Data → Option (List ℕ)
@@ -62,11 +64,13 @@ optional reading (Some d) = option_map (λ a. Some a) (reading d)
 
 -- a member that may be absent or null, and else is a whole number up to a greatest
 abbrev pub optional_number_at : ℕ → List ℕ → Data → Option (Option ℕ)
-optional_number_at greatest name d = optional (λ n. option_and_then (within 0 greatest) (option_and_then as_u64 (as_number n))) (present_at name d)
+optional_number_at greatest name d =
+    optional (λ n. option_and_then (within 0 greatest) (option_and_then as_u64 (as_number n))) (present_at name d)
 
 -- a member that may be absent or null, and else is a receipt
 abbrev pub optional_receipt_at : List ℕ → Data → Option (Option (List ℕ))
-optional_receipt_at name d = optional (λ r. option_and_then (λ text. cond (is_receipt text) (Some text) None) (as_str r)) (present_at name d)
+optional_receipt_at name d =
+    optional (λ r. option_and_then (λ text. cond (is_receipt text) (Some text) None) (as_str r)) (present_at name d)
 
 -- a member that is an account's text
 abbrev pub account_at : List ℕ → Data → Option Account

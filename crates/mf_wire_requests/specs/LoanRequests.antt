@@ -4,7 +4,8 @@ use Rattle.serde_json.specs.Data.{Data}
 use Rattle.mf_catalog.specs.Limits.{greatest_amount, most_periods}
 use Rattle.mf_model.specs.declared.request.OfficeRequest.TheVariants.{SubmitLoan, ListLoans}
 use Rattle.mf_model.specs.declared.request.LoanRequest.{LoanRequest}
-use Rattle.mf_model.specs.declared.request.LoanRequest.TheVariants.{Show, ShowInstalments, ShowEntries, Take, Repay, ChargeFee, Post, Reverse}
+use Rattle.mf_model.specs.declared.request.LoanRequest.TheVariants.{Show, ShowInstalments, ShowEntries, Take, Repay}
+use Rattle.mf_model.specs.declared.request.LoanRequest.TheVariants.{ChargeFee, Post, Reverse}
 use Rattle.mf_model.specs.declared.request.LoanStep.TheVariants.{Plain, Disburse}
 use Rattle.mf_model.specs.declared.request.Posting.TheVariants.{Penalty, Waiver, WriteOff, Refund}
 use Rattle.mf_model.specs.declared.request.Request.{Request}
@@ -21,7 +22,12 @@ new_loan d =
     option_and_then (λ client.
     option_and_then (λ product.
     option_and_then (λ principal.
-    option_map (λ periods. Office client.office (SubmitLoan (record { client = client.number; product = product; principal = principal; periods = periods }))) (number_at 1 most_periods (codes "periods") d))
+    option_map (λ periods. Office client.office (SubmitLoan (record {
+      client = client.number;
+      product = product;
+      principal = principal;
+      periods = periods;
+    }))) (number_at 1 most_periods (codes "periods") d))
     (number_at 1 greatest_amount (codes "principal") d))
     (number_at 0 999999999 (codes "product") d))
     (account_at (codes "client") d)
@@ -30,7 +36,8 @@ new_loan d =
 abbrev pub loans_at : PathParts → Option Request
 loans_at parts =
     option_and_then (λ office.
-    option_map (λ after. Office office (ListLoans after)) (option_and_then (within 0 999999) (number_in (codes "after") parts)))
+    option_map (λ after. Office office (ListLoans after)) (option_and_then (within 0 999999)
+    (number_in (codes "after") parts)))
     (number_in (codes "office") parts)
 
 -- a disbursement, by the member day
@@ -42,7 +49,8 @@ abbrev pub repayment : Data → Option LoanRequest
 repayment d =
     option_and_then (λ amount.
     option_and_then (λ day.
-    option_map (λ receipt. Repay (record { amount = amount; day = day; receipt = receipt })) (optional_receipt_at (codes "receipt") d))
+    option_map (λ receipt. Repay (record { amount = amount; day = day; receipt = receipt }))
+    (optional_receipt_at (codes "receipt") d))
     (day_at (codes "day") d))
     (number_at 1 greatest_amount (codes "amount") d)
 
@@ -89,4 +97,5 @@ loan_request endpoint.Reverse parts body = reversal parts
 
 -- what is asked of the loan that a path names
 abbrev pub loan_at : LoanEndpoint → PathParts → List ℕ → Option Request
-loan_at endpoint parts body = option_and_then (λ loan. option_map (λ asked. Loan loan asked) (loan_request endpoint parts body)) (account_in (codes "loan") parts)
+loan_at endpoint parts body = option_and_then (λ loan. option_map (λ asked. Loan loan asked)
+    (loan_request endpoint parts body)) (account_in (codes "loan") parts)

@@ -28,8 +28,10 @@ new_staff d =
 
 -- a new client, by the members office and name
 abbrev pub new_client : Data → Option Request
-new_client d = option_and_then (λ office. option_map (λ name. Office office (AddClient name)) (name_at (codes "name") d)) (office_at (codes "office") d)
+new_client d = option_and_then (λ office. option_map (λ name. Office office (AddClient name))
+    (name_at (codes "name") d)) (office_at (codes "office") d)
 
 -- the client that a path names
 abbrev pub client_at : PathParts → Option Request
-client_at parts = option_map (λ client. Office client.office (ShowClient client.number)) (account_in (codes "client") parts)
+client_at parts = option_map (λ client. Office client.office (ShowClient client.number))
+    (account_in (codes "client") parts)

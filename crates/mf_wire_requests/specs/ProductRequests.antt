@@ -20,7 +20,8 @@ step_at d =
     option_map (λ every. record { freq = freq; every = every }) (number_at 1 (longest_step freq) (codes "every") d))
     (freq_at (codes "frequency") d)
 
--- how schedules are planned, by the members method, rate, frequency, every, principal_grace, interest_grace and strategy
+-- how schedules are planned, by the members method, rate, frequency, every, principal_grace, interest_grace and
+-- strategy
 abbrev pub planning_at : Data → Option Planning
 planning_at d =
     option_and_then (λ method.
@@ -28,7 +29,14 @@ planning_at d =
     option_and_then (λ step.
     option_and_then (λ principal_grace.
     option_and_then (λ interest_grace.
-    option_map (λ strategy. record { method = method; rate = rate; step = step; principal_grace = principal_grace; interest_grace = interest_grace; strategy = strategy })
+    option_map (λ strategy. record {
+      method = method;
+      rate = rate;
+      step = step;
+      principal_grace = principal_grace;
+      interest_grace = interest_grace;
+      strategy = strategy;
+    })
     (strategy_at (codes "strategy") d))
     (number_at 0 most_grace (codes "interest_grace") d))
     (number_at 0 most_grace (codes "principal_grace") d))
@@ -42,7 +50,12 @@ bounds_at d =
     option_and_then (λ min_principal.
     option_and_then (λ max_principal.
     option_and_then (λ min_periods.
-    option_map (λ max_periods. record { min_principal = min_principal; max_principal = max_principal; min_periods = min_periods; max_periods = max_periods })
+    option_map (λ max_periods. record {
+      min_principal = min_principal;
+      max_principal = max_principal;
+      min_periods = min_periods;
+      max_periods = max_periods;
+    })
     (number_at 1 most_periods (codes "max_periods") d))
     (number_at 1 most_periods (codes "min_periods") d))
     (number_at 1 greatest_amount (codes "max_principal") d))

@@ -1,5 +1,6 @@
 -- What a request asks.
-use Rattle.std.specs.Prelude.{ℕ, ◌&&◌, cond, List, codes, is_some, nat_le, length, Option, Some, None, option_map, option_and_then}
+use Rattle.std.specs.Prelude.{ℕ, ◌&&◌, cond, List, codes, is_some, nat_le, length, Option, Some, None, option_map}
+use Rattle.std.specs.Prelude.{option_and_then}
 use Rattle.std.specs.Str.{bytes_eq}
 use Rattle.mf_office.specs.Texts.{caller_of}
 use Rattle.mf_model.specs.declared.request.CatalogueRequest.TheVariants as catalogue
@@ -8,7 +9,11 @@ use Rattle.mf_model.specs.declared.request.Request.{Request}
 use Rattle.mf_model.specs.declared.request.Request.TheVariants.{Unreadable, Catalogue, SeenOffices, SeenArrears}
 use Rattle.mf_model.specs.declared.request.Call.{Call}
 use Rattle.mf_wire_requests.specs.declared.routes.Endpoint.{Endpoint}
-use Rattle.mf_wire_requests.specs.declared.routes.Endpoint.TheVariants.{ShowDay, SetDay, AddCharge, ShowCharge, AddProduct, ShowProduct, RetireProduct, ListOffices, AddOffice, AddStaff, AddClient, ShowClient, SubmitLoan, ListLoans, ShowArrears, OnLoan}
+use Rattle.mf_wire_requests.specs.declared.routes.Endpoint.TheVariants.{ShowDay, SetDay, AddCharge, ShowCharge}
+use Rattle.mf_wire_requests.specs.declared.routes.Endpoint.TheVariants.{AddProduct, ShowProduct, RetireProduct}
+use Rattle.mf_wire_requests.specs.declared.routes.Endpoint.TheVariants.{ListOffices, AddOffice, AddStaff, AddClient}
+use Rattle.mf_wire_requests.specs.declared.routes.Endpoint.TheVariants.{ShowClient, SubmitLoan, ListLoans, ShowArrears}
+use Rattle.mf_wire_requests.specs.declared.routes.Endpoint.TheVariants.{OnLoan}
 use Rattle.mf_wire_requests.specs.declared.routes.Methods.{Methods}
 use Rattle.mf_wire_requests.specs.declared.routes.Methods.TheVariants.{Get, Post, GetAndPost, GetAndPut}
 use Rattle.mf_wire_requests.specs.declared.request.Method.{Method}
@@ -25,7 +30,8 @@ use Rattle.mf_wire_requests.specs.LoanRequests.{new_loan, loans_at, loan_at}
 
 -- a method by its text, which is in capitals
 abbrev pub method_of : List ℕ → Method
-method_of text = cond (bytes_eq text (codes "GET")) method.Get (cond (bytes_eq text (codes "POST")) method.Post (cond (bytes_eq text (codes "PUT")) method.Put method.Other))
+method_of text = cond (bytes_eq text (codes "GET")) method.Get (cond (bytes_eq text (codes "POST")) method.Post
+    (cond (bytes_eq text (codes "PUT")) method.Put method.Other))
 
 -- what a method of a path asks, if the path has it
 abbrev pub endpoint_of : Methods → Method → Option Endpoint
@@ -42,10 +48,13 @@ abbrev pub request_at : Endpoint → PathParts → List ℕ → Option Request
 request_at ShowDay parts body = Some (Catalogue catalogue.ShowDay)
 request_at SetDay parts body = option_and_then later_day (json_of body)
 request_at AddCharge parts body = option_and_then new_charge (json_of body)
-request_at ShowCharge parts body = option_map (λ charge. Catalogue (catalogue.ShowCharge charge)) (number_in (codes "charge") parts)
+request_at ShowCharge parts body =
+    option_map (λ charge. Catalogue (catalogue.ShowCharge charge)) (number_in (codes "charge") parts)
 request_at AddProduct parts body = option_and_then new_product (json_of body)
-request_at ShowProduct parts body = option_map (λ product. Catalogue (catalogue.ShowProduct product)) (number_in (codes "product") parts)
-request_at RetireProduct parts body = option_map (λ product. Catalogue (catalogue.RetireProduct product)) (number_in (codes "product") parts)
+request_at ShowProduct parts body =
+    option_map (λ product. Catalogue (catalogue.ShowProduct product)) (number_in (codes "product") parts)
+request_at RetireProduct parts body = option_map (λ product. Catalogue (catalogue.RetireProduct product))
+    (number_in (codes "product") parts)
 request_at ListOffices parts body = Some SeenOffices
 request_at AddOffice parts body = option_and_then new_office (json_of body)
 request_at AddStaff parts body = option_and_then new_staff (json_of body)
@@ -56,35 +65,43 @@ request_at ListLoans parts body = loans_at parts
 request_at ShowArrears parts body = Some SeenArrears
 request_at (OnLoan endpoint) parts body = loan_at endpoint parts body
 
+-- a request, or that there is none to read
 abbrev pub or_malformed : Option Request → Request
 or_malformed None = Unreadable Malformed
 or_malformed (Some request) = request
 
+-- what is asked at an endpoint, or that the route has no such method
 abbrev pub asked_of : Option Endpoint → PathParts → List ℕ → Request
 asked_of None parts body = Unreadable NoMethod
 asked_of (Some endpoint) parts body = or_malformed (request_at endpoint parts body)
 
+-- what is asked on a route, or that there is no such route
 abbrev pub asked_on : Option (RouteOf Methods) → List ℕ → List ℕ → List ℕ → Request
 asked_on None method path body = Unreadable NoRoute
-asked_on (Some route) method path body = asked_of (endpoint_of route.value (method_of method)) (parts_on route path) body
+asked_on (Some route) method path body =
+    asked_of (endpoint_of route.value (method_of method)) (parts_on route path) body
 
--- What a method, a path and a body ask: the route is looked for first, then its method, then the path's numbers and the members.
+-- What a method, a path and a body ask: the route is looked for first, then its method, then the path's numbers and the
+-- members.
 unfoldable pub request_of : List ℕ → List ℕ → List ℕ → Request
 request_of method path body = asked_on (route_at path) method path body
 
 -- the same of a caller's text, which is looked at first, as the method is
 abbrev pub asked_by : List ℕ → List ℕ → List ℕ → List ℕ → Request
-asked_by caller method path body = cond (is_some (caller_of caller) && is_token method) (request_of method path body) (Unreadable Malformed)
+asked_by caller method path body = cond (is_some (caller_of caller) && is_token method) (request_of method path body)
+    (Unreadable Malformed)
 
 -- a call in its four parts
 abbrev pub call_of_parts : Parts → Call
 call_of_parts p = record { caller = caller_of p.caller; request = asked_by p.caller p.method p.path p.body }
 
+-- what the parts of a line ask for
 abbrev pub asked_in : Option Parts → Request
 asked_in None = Unreadable Malformed
 asked_in (Some p) = asked_by p.caller p.method p.path p.body
 
--- Who sends a request line, by the text before its first space, and what it asks. A line of over 65,536 bytes asks nothing.
+-- Who sends a request line, by the text before its first space, and what it asks. A line of over 65,536 bytes asks
+-- nothing.
 abbrev pub call_of : List ℕ → Call
 call_of line = record {
   caller = option_and_then (λ p. caller_of p.0) (split_space line);

@@ -1,5 +1,6 @@
 -- Which route a path has: `matchit`'s word, over the table of paths and their methods.
-use Rattle.std.specs.Prelude.{ℕ, Bool, true, false, ◌&&◌, is_none, List, [], ◌∷◌, codes, cond, Result, Ok, Err, Option, None, fold}
+use Rattle.std.specs.Prelude.{ℕ, Bool, true, false, ◌&&◌, is_none, List, [], ◌∷◌, codes, cond, Result, Ok, Err, Option}
+use Rattle.std.specs.Prelude.{None, fold}
 use Rattle.std.specs.Borrow.{Bor}
 use Rattle.std.specs.Char.{is_ascii}
 use Rattle.std.specs.List.{list_all}
@@ -13,12 +14,19 @@ use Rattle.matchit.specs.Seek.{first}
 use Rattle.matchit.specs.declared.error.InsertError.{InsertError}
 use Rattle.matchit.specs.declared.router.Match.{Match}
 use Rattle.mf_model.specs.declared.request.PlainStep.TheVariants.{Approve, Reject, Withdraw, UndoApproval}
-use Rattle.mf_wire_requests.specs.declared.routes.Endpoint.TheVariants.{ShowDay, SetDay, AddCharge, ShowCharge, AddProduct, ShowProduct, RetireProduct, ListOffices, AddOffice, AddStaff, AddClient, ShowClient, SubmitLoan, ListLoans, ShowArrears, OnLoan}
-use Rattle.mf_wire_requests.specs.declared.routes.LoanEndpoint.TheVariants.{Show, ShowInstalments, ShowEntries, Step, Disburse, Repay, ChargeFee, ChargePenalty, Waive, WriteOff, Refund, Reverse}
+use Rattle.mf_wire_requests.specs.declared.routes.Endpoint.TheVariants.{ShowDay, SetDay, AddCharge, ShowCharge}
+use Rattle.mf_wire_requests.specs.declared.routes.Endpoint.TheVariants.{AddProduct, ShowProduct, RetireProduct}
+use Rattle.mf_wire_requests.specs.declared.routes.Endpoint.TheVariants.{ListOffices, AddOffice, AddStaff, AddClient}
+use Rattle.mf_wire_requests.specs.declared.routes.Endpoint.TheVariants.{ShowClient, SubmitLoan, ListLoans, ShowArrears}
+use Rattle.mf_wire_requests.specs.declared.routes.Endpoint.TheVariants.{OnLoan}
+use Rattle.mf_wire_requests.specs.declared.routes.LoanEndpoint.TheVariants.{Show, ShowInstalments, ShowEntries, Step}
+use Rattle.mf_wire_requests.specs.declared.routes.LoanEndpoint.TheVariants.{Disburse, Repay, ChargeFee, ChargePenalty}
+use Rattle.mf_wire_requests.specs.declared.routes.LoanEndpoint.TheVariants.{Waive, WriteOff, Refund, Reverse}
 use Rattle.mf_wire_requests.specs.declared.routes.Methods.{Methods}
 use Rattle.mf_wire_requests.specs.declared.routes.Methods.TheVariants.{Get, Post, GetAndPost, GetAndPut}
 use Rattle.mf_wire_requests.specs.PathParts.{PathParts}
 
+-- the routes with one more, where its text can be read
 abbrev pub with_parsed : Result Scan InsertError → Methods → RowsOf (RouteOf Methods) → RowsOf (RouteOf Methods)
 with_parsed (Ok s) value rows = placed (s.pattern, route_from s value) rows
 with_parsed (Err e) value rows = rows
@@ -36,6 +44,7 @@ abbrev pub takes_parsed : Result Scan InsertError → RowsOf (RouteOf Methods) �
 takes_parsed (Ok s) rows = is_none (nearest s.pattern rows)
 takes_parsed (Err e) rows = false
 
+-- a route can be added to these
 unfoldable pub takes_route : RowsOf (RouteOf Methods) → List ℕ × Methods → Bool
 takes_route rows route = takes_parsed (parse_route route.0) rows
 
@@ -87,7 +96,12 @@ route_at path = cond (is_utf8 path) (first desk_routes path) None
 
 -- the same as `matchit` gives it
 abbrev pub matched_route : Match (Bor Methods) → RouteOf Methods
-matched_route m = record { pattern = m.params.pattern.now; text = m.params.text.now; names = m.params.names.now; value = m.value.now }
+matched_route m = record {
+  pattern = m.params.pattern.now;
+  text = m.params.text.now;
+  names = m.params.names.now;
+  value = m.value.now;
+}
 
 -- what the parameters of a route took of a path; nothing where a byte of the path is not of ASCII
 abbrev pub parts_on : RouteOf Methods → List ℕ → PathParts

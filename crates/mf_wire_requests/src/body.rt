@@ -1,8 +1,11 @@
 //! A request's body, as JSON.
 
-ghost use Rattle.std.specs.Prelude.{◌≡◌, ◌≤◌, Some, None, option_map, option_and_then, IfOk, IfErr, IfSome, IsTrue, ◌⊎◌};
+ghost use Rattle.std.specs.Prelude.{◌≡◌, ◌≤◌, Some, None, option_map, option_and_then, IfOk, IfErr, IfSome, IsTrue};
+ghost use Rattle.std.specs.Prelude.{◌⊎◌};
 ghost use Rattle.serde_json.specs.View.{view};
-ghost use Rattle.mf_wire_requests.specs.Bodies.{json_of, whole_at, text_at, name_at, office_at, within as within_limits, number_at, present_at, optional_receipt_at, optional_number_at, account_at, day_named as day_of, day_at, Gives};
+ghost use Rattle.mf_wire_requests.specs.Bodies.{json_of, whole_at, text_at, name_at, office_at};
+ghost use Rattle.mf_wire_requests.specs.Bodies.{within as within_limits, number_at, present_at, optional_receipt_at};
+ghost use Rattle.mf_wire_requests.specs.Bodies.{optional_number_at, account_at, day_named as day_of, day_at, Gives};
 ghost use Rattle.mf_wire_requests.specs.Named.{choice_at};
 ghost use Rattle.mf_model.specs.Sound.{IsName};
 ghost use Rattle.mf_office.specs.Texts.{IsAccount};

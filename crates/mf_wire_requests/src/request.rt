@@ -114,7 +114,8 @@ pub fn read_request(
 ) -> Result<Request, Fault>
     ensures ok { IfOk result (λ r. request_of method.now path.now body.now ≡ r) }
     ensures in_range { IfOk result IsInRange }
-    ensures err { IfErr result (λ f. (f ≡ Fault.F20) ⊎ ((flaw : Flaw) × (f ≡ flaw_fault flaw) × (request_of method.now path.now body.now ≡ Unreadable flaw))) }
+    ensures err { IfErr result (λ f. (f ≡ Fault.F20) ⊎ ((flaw : Flaw) × (f ≡ flaw_fault flaw)
+        × (request_of method.now path.now body.now ≡ Unreadable flaw))) }
     ensures refusal { IfErr result (λ f. f ≢ Fault.F19) }
 {
     let Some(found) = routes.find(path) else {

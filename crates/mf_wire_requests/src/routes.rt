@@ -2,7 +2,8 @@
 
 ghost use Rattle.std.specs.Prelude.{◌≡◌, true, [], IfOk, IfErr, IfSome, OnOk, map, option_map};
 ghost use Rattle.matchit.specs.declared.error.InsertError.TheVariants.{OutOfMemory};
-ghost use Rattle.mf_wire_requests.specs.Routes.{with_route, takes_route, takes_table, routes_of, desk_routes, matched_route, route_at};
+ghost use Rattle.mf_wire_requests.specs.Routes.{with_route, takes_route, takes_table, routes_of, desk_routes};
+ghost use Rattle.mf_wire_requests.specs.Routes.{matched_route, route_at};
 
 use matchit::{InsertError, Match, Router};
 use mf_model::PlainStep;

@@ -11,8 +11,8 @@ use mf_store_audit::{Audit, audit_file};
 use microloan_audit::audit_text;
 use std::rt::HostRuntime;
 
-/// Prints what an institution's rows come to, or which row breaks which condition, and gives the program's status: 0 where the file
-/// holds a sound institution. Nothing is made and nothing is changed.
+/// Prints what an institution's rows come to, or which row breaks which condition, and gives the program's status: 0
+/// where the file holds a sound institution. Nothing is made and nothing is changed.
 pub fn say_audit(rt: &HostRuntime, file: &str, all: bool) -> u8
     ensures { IsPrintStatus result }
 {

@@ -94,15 +94,16 @@ fn serve(rt: &HostRuntime, asked: &ServeWords<'_>) -> u8
     work_where(rt, asked.file.as_str(), asked.existing, asked.day, work)
 }
 
-/// Works over a file for a member of staff; a missing file becomes a new institution on the default day, unless it is to hold one.
+/// Works over a file for a member of staff; a missing file becomes a new institution on the default day, unless it is
+/// to hold one.
 fn work_as(rt: &HostRuntime, asked: &StaffWords<'_>, work: Work) -> u8
     ensures { IsPrintStatus result }
 {
     work_where(rt, asked.file.as_str(), asked.existing, default_day(), work)
 }
 
-/// Says why a file is not opened, and gives the program's status, where opening would put a new institution in the place of something, or
-/// make one where one is to be there.
+/// Says why a file is not opened, and gives the program's status, where opening would put a new institution in the
+/// place of something, or make one where one is to be there.
 fn refuse_place(rt: &HostRuntime, file: &str, existing: bool) -> Option<u8>
     ensures { IfSome result IsPrintStatus }
 {
@@ -127,8 +128,8 @@ fn work_where(rt: &HostRuntime, file: &str, existing: bool, day: Day, work: Work
     }
 }
 
-/// Opens a file, works over the institution that it holds, closes it, and gives the program's status. The only function that holds a
-/// store of a known type: the prover reads all of `sqlite` for each.
+/// Opens a file, works over the institution that it holds, closes it, and gives the program's status. The only function
+/// that holds a store of a known type: the prover reads all of `sqlite` for each.
 fn work_over(rt: &HostRuntime, file: &str, existing: bool, day: Day, work: Work) -> u8
     requires { day ≤ last_entered_day }
     ensures { IsPrintStatus result }

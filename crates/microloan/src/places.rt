@@ -1,4 +1,5 @@
-//! What stands at the path of an institution's file, told by the system and by the file's first byte, before anything is opened.
+//! What stands at the path of an institution's file, told by the system and by the file's first byte, before anything
+//! is opened.
 
 use mf_store_rows::has_log;
 use std::fs::{self, File};

@@ -1,5 +1,5 @@
-//! What the program says of its end, and the status that it ends with. Where standard error can't be written, the status alone
-//! says it.
+//! What the program says of its end, and the status that it ends with. Where standard error can't be written, the
+//! status alone says it.
 
 ghost use Rattle.std.specs.Prelude.{◌≡◌, IsErr};
 ghost use Rattle.microloan.specs.Status.{IsStatusOf, IsPrintStatus, IsWordsStatus};

@@ -7,8 +7,8 @@ use crate::telling::{FAULT, print_line};
 use mf_store_files::{Finding, look};
 use mf_store_rows::has_log;
 
-/// Says in a line what opening a file would find, and gives the program's status: 0 where it is opened as the institution
-/// that it holds. Nothing is made and nothing is changed.
+/// Says in a line what opening a file would find, and gives the program's status: 0 where it is opened as the
+/// institution that it holds. Nothing is made and nothing is changed.
 pub fn say_why(rt: &HostRuntime, file: &str) -> u8
     ensures { IsPrintStatus result }
 {

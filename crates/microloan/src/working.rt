@@ -34,8 +34,8 @@ pub enum Work {
     Report(Caller),
 }
 
-/// Works over the store of a file, closes it (`mf_store_files::close`), and gives the program's status. Where closing fails, the
-/// file and its log hold the institution together, and the status is the same.
+/// Works over the store of a file, closes it (`mf_store_files::close`), and gives the program's status. Where closing
+/// fails, the file and its log hold the institution together, and the status is the same.
 pub fn work_on<D: Disk + Drop>(
     rt: &HostRuntime,
     file: &str,

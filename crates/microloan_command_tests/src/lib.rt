@@ -1,5 +1,5 @@
-//! What the program's words ask for, and what its commands print, collect and serve, over an institution in vectors. They stand apart
-//! from the tests that need tables, so that the gate proves both side by side.
+//! What the program's words ask for, and what its commands print, collect and serve, over an institution in vectors.
+//! They stand apart from the tests that need tables, so that the gate proves both side by side.
 #![tactic(auto)]
 
 #[cfg(test)]

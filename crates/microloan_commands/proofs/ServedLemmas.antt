@@ -1,5 +1,6 @@
 -- Messages answered one after another, put together.
-use Rattle.std.proofs.Common.{◌≡◌, ℕ, ◌+◌, ◌≤◌, Bool, true, false, List, [], ◌∷◌, ◌++◌, length, length-append, subst, arith, refl}
+use Rattle.std.proofs.Common.{◌≡◌, ℕ, ◌+◌, ◌≤◌, Bool, true, false, List, [], ◌∷◌, ◌++◌, length, length-append, subst}
+use Rattle.std.proofs.Common.{arith, refl}
 use Rattle.std.specs.Prelude.{Result, Ok, Err}
 use Rattle.mf_base.specs.declared.fault.Cause.{Cause}
 use Rattle.mf_base.specs.declared.fault.Cause.TheVariants.{Read, Write, Memory}
@@ -31,14 +32,16 @@ module _ {S : Type 0} (store : Ghosts S) where
     counted = omega (arith, most);
   }
 
-  served_by : (cause : Cause) (count : ℕ) (old new : S) (streams : Streams) → EndsMessageBy (AnswersMessage store) old new streams cause count
+  served_by : (cause : Cause) (count : ℕ) (old new : S) (streams : Streams) → EndsMessageBy (AnswersMessage store) old
+      new streams cause count
       → Serves store 1 old new 0
   served_by Read count old new streams ended = serves_nothing 1 old new ended.untouched.same
   served_by Write count old new streams ended = serves_message 0 _ ended.text old new (omega arith) ended.answered
   served_by Memory count old new streams ended = serves_nothing 1 old new ended.untouched.same
 
   -- what serving one message leaves
-  pub served_one : (result : Result Bool StreamFault) (old new : S) (streams : Streams) → EndsMessage (AnswersMessage store) old new streams result
+  pub served_one : (result : Result Bool StreamFault) (old new : S) (streams : Streams)
+      → EndsMessage (AnswersMessage store) old new streams result
       → Serves store 1 old new (whole_of result)
   served_one (Ok true) old new streams ended = serves_message 1 _ ended.text old new (omega arith) ended.answered
   served_one (Ok false) old new streams ended = serves_nothing 1 old new ended.untouched.same
@@ -48,7 +51,8 @@ module _ {S : Type 0} (store : Ghosts S) where
   pub serves_more : (n count more : ℕ) (old mid new : S) → Serves store n old mid count → Serves store 1 mid new more
       → Serves store (n + 1) old new (count + more)
   serves_more n count more old mid new first second =
-      let long : length (first.exchanges ++ second.exchanges) ≡ length first.exchanges + length second.exchanges = length-append first.exchanges second.exchanges in record {
+      let long : length (first.exchanges ++ second.exchanges) ≡ length first.exchanges + length second.exchanges =
+      length-append first.exchanges second.exchanges in record {
         exchanges = first.exchanges ++ second.exchanges;
         answered = both first.exchanges second.exchanges old mid new first.answered second.answered;
         each = omega (arith, long, first.each, second.each);

@@ -34,7 +34,8 @@ abbrev pub IsReadFault : {R : Type 0} → (R → Option (List ℕ)) → (R → �
 IsReadFault unread faults old new TooLong = IsTooLong (unread old) (unread new) × (faults new ≡ faults old)
 IsReadFault unread faults old new (Stream fault) = (fault.answered ≡ 0) × IsCauseOf faults old new fault.cause
 
-module _ {S : Type 0} (runs : S → List (List (List ℕ)) → List SheetResult → S → Type 0) (old new : S) (streams : Streams) where
+module _ {S : Type 0} (runs : S → List (List (List ℕ)) → List SheetResult → S → Type 0) (old new : S)
+    (streams : Streams) where
   -- nothing was answered or written, and the sink did not fail
   pub record Untouched : Type 0 where
     pub same : new ≡ old

@@ -1,3 +1,5 @@
+//! Request lines answered over a new institution in memory.
+
 ghost use Rattle.std.specs.Prelude.{◌≡◌, ◌≤◌, IfErr};
 ghost use Rattle.mf_base.specs.DayText.{last_entered_day};
 ghost use Rattle.mf_base.specs.declared.fault.Cause.TheVariants as cause;
@@ -24,7 +26,8 @@ pub fn answer_lines<R: Source, W: Sink>(
 ) -> Result<u64, StreamFault>
     requires { day ≤ last_entered_day }
     ensures ends { AnswersFromNew ⟦<PageStore as TreeStore>⟧ day
-        (streams_of (stream_of R.unread R.faults source.old source.new) (stream_of W.written W.faults sink.old sink.new)) result }
+        (streams_of (stream_of R.unread R.faults source.old source.new)
+        (stream_of W.written W.faults sink.old sink.new)) result }
     ensures memory { IfErr result (λ f. f.cause ≡ cause.Memory → (source.new ≡ source.old) × (sink.new ≡ sink.old)) }
 {
     let Ok(mut store) = in_memory(alloc, day) else {

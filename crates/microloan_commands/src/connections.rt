@@ -45,8 +45,8 @@ impl Times {
     }
 }
 
-/// A connection whose reads or writes fail once their time is up, which begins with the first of them. One that a signal
-/// interrupts is made again.
+/// A connection whose reads or writes fail once their time is up, which begins with the first of them. One that a
+/// signal interrupts is made again.
 #[derive(Drop)]
 pub(crate) struct Timed<'a, C: Clock> {
     stream: &'a TcpStream,
@@ -111,9 +111,9 @@ impl<C: Clock> Write for Timed<'_, C> {
     }
 }
 
-/// Ends a connection whose response was written. The client is told that nothing more comes, and what it still sends is read
-/// and thrown away until it ends too, for a second at most and 65,536 bytes at most: where bytes are left unread, the system
-/// may drop the response.
+/// Ends a connection whose response was written. The client is told that nothing more comes, and what it still sends is
+/// read and thrown away until it ends too, for a second at most and 65,536 bytes at most: where bytes are left unread,
+/// the system may drop the response.
 pub(crate) fn end_connection<C: Clock>(clock: &C, stream: &TcpStream) -> io::Result<()> {
     stream.shutdown(Shutdown::Write)?;
     let second = Duration::from_secs(1);

@@ -1,3 +1,5 @@
+//! A new institution in memory.
+
 ghost use Rattle.std.specs.Prelude.{◌≡◌, ◌≤◌, IfOk, IfErr, [], ◌∷◌};
 ghost use Rattle.mf_base.specs.declared.fault.Fault.TheVariants.{F20};
 ghost use Rattle.mf_base.specs.DayText.{last_entered_day};

@@ -1,5 +1,5 @@
-//! What the program's commands do: request lines and HTTP messages are answered, sheets are collected, reports and schedules
-//! are made.
+//! What the program's commands do: request lines and HTTP messages are answered, sheets are collected, reports and
+//! schedules are made.
 #![tactic(auto)]
 
 mod batch;

@@ -1,3 +1,5 @@
+//! The schedule that words ask for, as text.
+
 ghost use Rattle.std.specs.Prelude.{◌≡◌, ◌≤◌, ◌⊎◌, IfOk, IfErr, string_bytes};
 ghost use Rattle.mf_base.specs.DayText.{last_entered_day};
 ghost use Rattle.mf_base.specs.declared.fault.Fault.TheVariants.{F8, F20};

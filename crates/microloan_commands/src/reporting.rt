@@ -1,3 +1,5 @@
+//! The report of arrears that a member of staff is shown, as text.
+
 ghost use Rattle.std.specs.Prelude.{◌≤◌, ◌^◌, List, sum_by, IfOk, IfSome};
 ghost use Rattle.mf_arrears.specs.Line.{Line};
 ghost use Rattle.mf_desk.specs.Answers.{Asks};
@@ -17,7 +19,8 @@ fn lines_to_sum<S: InstitutionStore>(
     caller: Caller,
 ) -> Result<Option<ArrearsList>, Fault>
     ensures lines { Asks S.InstitutionStore (lines_told caller) store.old store.new result }
-    ensures few { IfOk result (λ found. IfSome found (λ (lines : List Line). sum_by (λ (line : Line). line.loans) lines ≤ 10 ^ 10)) }
+    ensures few { IfOk result (λ found. IfSome found (λ (lines : List Line). sum_by (λ (line : Line). line.loans) lines
+        ≤ 10 ^ 10)) }
 {
     let lines = arrears_lines(alloc, store, caller)?;
     if Totals::of(lines.as_slice()).is_none() {
@@ -27,8 +30,8 @@ fn lines_to_sum<S: InstitutionStore>(
 }
 
 /// The text of the arrears report that a caller sees: a line for its office and for each below it, by number, and the
-/// line of all. F2 where there is no such member of staff, and F20 when out of memory or for a fault of the store; nothing
-/// is changed.
+/// line of all. F2 where there is no such member of staff, and F20 when out of memory or for a fault of the store;
+/// nothing is changed.
 pub fn report<S: InstitutionStore>(
     alloc: Global,
     store: &mut S,

@@ -1,3 +1,5 @@
+//! Connections served one after another, a message each.
+
 ghost use Rattle.std.specs.Prelude.{◌≡◌, IfOk, IfErr};
 ghost use Rattle.mf_base.specs.declared.fault.Cause.TheVariants as cause;
 ghost use Rattle.microloan_commands.specs.Served.{Serves, whole_of};
@@ -66,9 +68,9 @@ fn serve_next<S: InstitutionStore, C: Clock, L: OpenListener<Stream = TcpStream>
 /// Accepts so many connections, one after another, and answers the HTTP message of each over a store, as
 /// `mf_wire::serve_one` does. It gives how many responses were written whole.
 ///
-/// A client that neither sends nor takes a byte for so many seconds as the patience says, or that takes six times as long for
-/// its message, or for its response, is left: that is a fault of its streams. After a whole response the connection is ended by
-/// `end_connection`.
+/// A client that neither sends nor takes a byte for so many seconds as the patience says, or that takes six times as
+/// long for its message, or for its response, is left: that is a fault of its streams. After a whole response the
+/// connection is ended by `end_connection`.
 ///
 /// A connection that can't be accepted counts as one, and so does one whose streams fail; the next is served. Memory is
 /// reported where there is none for the routes, which are made first: nothing is accepted or answered then.
@@ -81,7 +83,8 @@ pub fn serve_connections<S: InstitutionStore, C: Clock, L: OpenListener<Stream =
     patience: u32,
 ) -> Result<u64, StreamFault>
     ensures served { IfOk result (Serves S.InstitutionStore connections store.old store.new) }
-    ensures memory { IfErr result (λ fault. (fault ≡ record { answered = 0; cause = cause.Memory }) × (store.new ≡ store.old)) }
+    ensures memory { IfErr result (λ fault. (fault ≡ record { answered = 0; cause = cause.Memory })
+        × (store.new ≡ store.old)) }
 {
     let Ok(desk) = Desk::new(alloc) else {
         return Err(StreamFault {

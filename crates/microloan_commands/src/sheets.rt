@@ -1,3 +1,5 @@
+//! A collection sheet read from a source, and collected.
+
 ghost use Rattle.std.specs.Prelude.{◌≡◌, ◌≢◌, length, IfOk, IfErr};
 ghost use Rattle.mf_base.specs.declared.fault.Cause.TheVariants as cause;
 ghost use Rattle.mf_sheet.specs.Runs.{RunsRows};
@@ -37,7 +39,8 @@ fn before_any(cause: Cause) -> SheetFault
 
 /// The bytes of a source, read to its end, where they are no more than a sheet may have.
 fn read_whole<R: Source>(alloc: Global, source: &mut R) -> Result<Vec<u8>, SheetFault>
-    ensures whole { IfOk result (λ bytes. IsWhole (R.unread source.old) (R.unread source.new) bytes.items × (R.faults source.new ≡ R.faults source.old)) }
+    ensures whole { IfOk result (λ bytes. IsWhole (R.unread source.old) (R.unread source.new) bytes.items
+        × (R.faults source.new ≡ R.faults source.old)) }
     ensures refusal { IfErr result (λ fault. IsReadFault R.unread R.faults source.old source.new fault) }
 {
     let Ok(mut bytes) = room(alloc) else {
@@ -56,8 +59,8 @@ fn read_whole<R: Source>(alloc: Global, source: &mut R) -> Result<Vec<u8>, Sheet
 /// Reads a source to its end, answers it as a collection sheet that somebody sends, as `mf_sheet::collect` does, and
 /// writes the sheet of its results.
 ///
-/// A source of more than 1,048,576 bytes is refused, and nothing is answered or written. `Read` is reported where
-/// the reader failed in this call, and nothing was answered or written then. `Memory` is also reported where there is no
+/// A source of more than 1,048,576 bytes is refused, and nothing is answered or written. `Read` is reported where the
+/// reader failed in this call, and nothing was answered or written then. `Memory` is also reported where there is no
 /// room to read, and nothing was read then.
 pub fn collect_sheet<S: InstitutionStore, R: Source, W: Sink>(
     alloc: Global,
@@ -67,7 +70,8 @@ pub fn collect_sheet<S: InstitutionStore, R: Source, W: Sink>(
     sink: &mut W,
 ) -> Result<(), SheetFault>
     ensures ends { Ends (RunsRows S.InstitutionStore caller) store.old store.new
-        (streams_of (stream_of R.unread R.faults source.old source.new) (stream_of W.written W.faults sink.old sink.new)) result }
+        (streams_of (stream_of R.unread R.faults source.old source.new)
+        (stream_of W.written W.faults sink.old sink.new)) result }
 {
     let sheet = read_whole(alloc, source)?;
     match collect(alloc, store, caller, sheet.as_slice(), sink) {

@@ -23,9 +23,13 @@ use Rattle.microloan_files.specs.Closing.{CloseAfter}
 
 module _ {D : Type 0} {g : Ghosts D} (final : KnownStore (FileStore D g)) where
   pub close_after : (closed : Result (Files D) (Fault × FileStore D g))
-      → IfOk closed (λ files. AreClean g files.log files.db → (i : Institution) → StandsFor over_files final i → (left : Image) → outcomes g files.log files.db left → HoldsByItself left i)
-      → IfErr closed (λ e. IsClean (view e.1) → (is : List Institution) → Leaves over_files final is → (trees : Trees) → recovers e.1 trees → HoldsOneOf is trees)
-      → CloseWell closed → (i : Institution) (run : List Line) → StandsFor over_files final (last run i) → Leaves over_files final (left_after run i (i ∷ []))
+      → IfOk closed (λ files. AreClean g files.log files.db → (i : Institution) → StandsFor over_files final i
+      → (left : Image) → outcomes g files.log files.db left → HoldsByItself left i)
+      → IfErr closed (λ e. IsClean (view e.1) → (is : List Institution) → Leaves over_files final is → (trees : Trees)
+      → recovers e.1 trees → HoldsOneOf is trees)
+      → CloseWell closed → (i : Institution) (run : List Line) → StandsFor over_files final (last run i)
+      → Leaves over_files final (left_after run i (i ∷ []))
       → CloseAfter i closed run
   close_after (Ok files) whole kept well i run stands leaves = whole well (last run i) stands
-  close_after (Err rest) whole kept well i run stands leaves = λ left may. one_of_run left run i (kept well (left_after run i (i ∷ [])) leaves left may)
+  close_after (Err rest) whole kept well i run stands leaves =
+      λ left may. one_of_run left run i (kept well (left_after run i (i ∷ [])) leaves left may)

@@ -19,19 +19,33 @@ pub opened_so : (P : Institution → Type 0) (day : ℕ) (image : Image) → (Ha
     → ((trees : Trees) → HoldsDatabase image trees → (held : HoldsSoundFirst trees) → P held.institution)
     → (i : Institution) → OpensAs day image i → P i
 opened_so P day image new present first i (inl (none, is)) = subst P (sym is) (new none)
-opened_so P day image new present first i (inr (inl held)) = present held.trees held.database (record { institution = i; sound = held.sound; holds = held.holds })
-opened_so P day image new present first i (inr (inr held)) = first held.trees held.database (record { institution = i; sound = held.sound; holds = held.holds })
+opened_so P day image new present first i (inr (inl held)) =
+    present held.trees held.database (record { institution = i; sound = held.sound; holds = held.holds })
+opened_so P day image new present first i (inr (inr held)) =
+    first held.trees held.database (record { institution = i; sound = held.sound; holds = held.holds })
 
--- what a file that held an institution holds, where its tables are as they were, or those of today's schema in the place of the first
+-- what a file that held an institution holds, where its tables are as they were, or those of today's schema in the
+-- place of the first
 pub still_held : (may : Trees → Type 0) (image left : Image) (i : Institution) → HoldsInSchema image i
     → ((trees : Trees) → HoldsDatabase image trees → IsSound schema trees → (found : Trees) → may found → found ≡ trees)
-    → ((trees : Trees) → HoldsDatabase image trees → (held : HoldsSoundFirst trees) → (found : Trees) → may found → (found ≡ trees) ⊎ Holds found (Some (tables_of held.institution)))
+    → ((trees : Trees) → HoldsDatabase image trees → (held : HoldsSoundFirst trees) → (found : Trees) → may found
+    → (found ≡ trees) ⊎ Holds found (Some (tables_of held.institution)))
     → (found : Trees) → may found → HoldsDatabase left found → HoldsInSchema left i
 still_held may image left i (inl h) same first found there database =
     let is : found ≡ h.trees = same h.trees h.database h.holds.sound found there in
-    inl (record { trees = found; database = database; sound = h.sound; holds = subst (λ (t : Trees). Holds t (Some (tables_of i))) (sym is) h.holds })
+    inl (record {
+      trees = found;
+      database = database;
+      sound = h.sound;
+      holds = subst (λ (t : Trees). Holds t (Some (tables_of i))) (sym is) h.holds;
+    })
 still_held may image left i (inr h) same first found there database =
     elim (first h.trees h.database (record { institution = i; sound = h.sound; holds = h.holds }) found there) [
-      | inl is ↦ inr (record { trees = found; database = database; sound = h.sound; holds = subst (λ (t : Trees). HoldsFirst t (first_tables_of i)) (sym is) h.holds })
+      | inl is ↦ inr (record {
+        trees = found;
+        database = database;
+        sound = h.sound;
+        holds = subst (λ (t : Trees). HoldsFirst t (first_tables_of i)) (sym is) h.holds;
+      })
       | inr now ↦ inl (record { trees = found; database = database; sound = h.sound; holds = now })
     ]

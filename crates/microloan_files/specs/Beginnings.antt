@@ -16,7 +16,8 @@ use Rattle.sqlite_store.specs.declared.store.FileStore.{FileStore}
 use Rattle.sqlite_wal.specs.Recovery.{Image}
 use Rattle.microloan_files.specs.Opening.{HoldsInstitution, HoldsInSchema}
 
--- The run is that of the lines on the institution, and the texts are its replies. What each office is told is isolated. Where no text is F20's, no line was given up.
+-- The run is that of the lines on the institution, and the texts are its replies. What each office is told is isolated.
+-- Where no text is F20's, no line was given up.
 pub record IsRunOver (i : Institution) (lines texts : List (List ℕ)) (run : List Line) : Type 0 where
   pub calls : map (λ l. l.call) run ≡ map call_of lines
   pub replied : texts ≡ texts_of run i
@@ -24,16 +25,21 @@ pub record IsRunOver (i : Institution) (lines texts : List (List ℕ)) (run : Li
   pub with_memory : NoneIsF20 texts → run ≡ all_answered (map call_of lines)
 
 module _ {D : Type 0} {g : Ghosts D} where
-  -- Whatever a stop leaves of the files holds the institution after all lines of the run that were answered, or with the change of one line more, of those that were given up after the last change.
+  -- Whatever a stop leaves of the files holds the institution after all lines of the run that were answered, or with
+  -- the change of one line more, of those that were given up after the last change.
   abbrev pub LeaveBeginning : Institution → List Line → FileStore D g → Type 0
-  LeaveBeginning i run files = (left : Image) → (state files).may_leave left → ∥ ((j : Institution) × IsLeftBy run i j × HoldsInstitution left j) ∥₁
+  LeaveBeginning i run files = (left : Image) → (state files).may_leave left → ∥ ((j : Institution) × IsLeftBy run i j
+      × HoldsInstitution left j) ∥₁
 
   -- whatever a stop leaves of the files holds this institution
   abbrev pub StillHolds : Institution → FileStore D g → Type 0
   StillHolds i files = (left : Image) → (state files).may_leave left → ∥ (HoldsInSchema left i) ∥₁
 
-  -- The lines of the source were answered as the result says, up to its end or to a fault, by one run on the institution, which is empty where there was no memory to begin. What a stop leaves of the files is a beginning of that run.
-  pub record EndsAsBeginning (i : Institution) (files : FileStore D g) (streams : Streams) (result : Result ℕ StreamFault) : Type 0 where
+  -- The lines of the source were answered as the result says, up to its end or to a fault, by one run on the
+  -- institution, which is empty where there was no memory to begin. What a stop leaves of the files is a beginning of
+  -- that run.
+  pub record EndsAsBeginning (i : Institution) (files : FileStore D g) (streams : Streams)
+      (result : Result ℕ StreamFault) : Type 0 where
     pub run : List Line
     pub ended : Ends (λ before lines texts after. IsRunOver i lines texts after) [] run streams result
     pub left : LeaveBeginning i run files

@@ -24,20 +24,26 @@ use Rattle.microloan_files.specs.Beginnings.{IsRunOver}
 use Rattle.microloan_files.specs.Sheets.{IsSheetRun}
 
 module _ {D : Type 0} {g : Ghosts D} where
-  -- Whatever a stop leaves of the files that were closed holds the institution after all lines of the run that were answered, with the log and without it. Of files that could not be closed it leaves the tables of a beginning of the run.
+  -- Whatever a stop leaves of the files that were closed holds the institution after all lines of the run that were
+  -- answered, with the log and without it. Of files that could not be closed it leaves the tables of a beginning of the
+  -- run.
   abbrev pub CloseAfter : Institution → Result (Files D) (Fault × FileStore D g) → List Line → Type 0
   CloseAfter i (Ok files) run = (left : Image) → outcomes g files.log files.db left → HoldsByItself left (last run i)
   CloseAfter i (Err rest) run =
       (left : Trees) → recovers rest.1 left → (j : Institution) × IsLeftBy run i j × Holds left (Some (tables_of j))
 
-  -- The lines of a source were answered as the result says, up to its end or to a fault, by one run on the institution, which is empty where there was no memory to begin. The files were closed after it.
-  pub record RunsAndCloses (i : Institution) (closed : Result (Files D) (Fault × FileStore D g)) (streams : Streams) (result : Result ℕ StreamFault) : Type 0 where
+  -- The lines of a source were answered as the result says, up to its end or to a fault, by one run on the institution,
+  -- which is empty where there was no memory to begin. The files were closed after it.
+  pub record RunsAndCloses (i : Institution) (closed : Result (Files D) (Fault × FileStore D g)) (streams : Streams)
+      (result : Result ℕ StreamFault) : Type 0 where
     pub run : List Line
     pub ended : Ends (λ before lines texts after. IsRunOver i lines texts after) [] run streams result
     pub left : CloseAfter i closed run
 
-  -- The sheet that a source held was collected as the result says by one run on the institution, which is empty where no line was answered. The files were closed after it.
-  pub record CollectsAndCloses (c : Caller) (i : Institution) (closed : Result (Files D) (Fault × FileStore D g)) (streams : Streams) (result : Result (Unit {0}) SheetFault) : Type 0 where
+  -- The sheet that a source held was collected as the result says by one run on the institution, which is empty where
+  -- no line was answered. The files were closed after it.
+  pub record CollectsAndCloses (c : Caller) (i : Institution) (closed : Result (Files D) (Fault × FileStore D g))
+      (streams : Streams) (result : Result (Unit {0}) SheetFault) : Type 0 where
     pub run : List Line
     pub ended : sheet.Ends (λ before rows results after. IsSheetRun c i rows results after) [] run streams result
     pub left : CloseAfter i closed run

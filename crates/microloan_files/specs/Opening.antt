@@ -29,6 +29,7 @@ pub record HoldsInstitutionFirst (image : Image) (i : Institution) : Type 0 wher
 abbrev pub HoldsInSchema : Image → Institution → Type 0
 HoldsInSchema image i = HoldsInstitution image i ⊎ HoldsInstitutionFirst image i
 
--- the institution as which a file is opened on a day: a new one where the file has no tables, else the one that it holds
+-- the institution as which a file is opened on a day: a new one where the file has no tables, else the one that it
+-- holds
 abbrev pub OpensAs : ℕ → Image → Institution → Type 0
 OpensAs day image i = (HasNoTables image × (i ≡ newly_made day)) ⊎ HoldsInSchema image i

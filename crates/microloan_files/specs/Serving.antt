@@ -6,7 +6,8 @@ use Rattle.mf_model.specs.Institution.{Institution}
 use Rattle.mf_model.specs.Run.{Line, answers, ViewIsPlay, RepliesArePlay, OwnRepliesArePlay}
 use Rattle.mf_wire.specs.Exchanges.{Exchange, AreLinesOf, responses}
 
--- The messages of at most so many connections are the lines of the run on the institution, and the responses are those of its replies; so many were written whole. What each office sees and is told is isolated.
+-- The messages of at most so many connections are the lines of the run on the institution, and the responses are those
+-- of its replies; so many were written whole. What each office sees and is told is isolated.
 pub record IsServedRun (i : Institution) (connections count : ℕ) (run : List Line) : Type 0 where
   pub exchanges : List Exchange
   pub to_heads : List Bool
@@ -18,7 +19,8 @@ pub record IsServedRun (i : Institution) (connections count : ℕ) (run : List L
   pub replies : RepliesArePlay i run
   pub own_replies : OwnRepliesArePlay i run
 
--- Messages were answered by one run on the institution, and a stop leaves this after it. Without memory to begin none was answered.
+-- Messages were answered by one run on the institution, and a stop leaves this after it. Without memory to begin none
+-- was answered.
 abbrev pub ServesSo : Institution → ℕ → (List Line → Type 0) → Result ℕ StreamFault → Type 0
 ServesSo i connections Left (Ok count) = (run : List Line) × IsServedRun i connections count run × Left run
 ServesSo i connections Left (Err fault) = (fault ≡ record { answered = 0; cause = Memory }) × Left []

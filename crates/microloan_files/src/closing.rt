@@ -24,8 +24,8 @@ use std::rt::Clock;
 
 /// Answers request lines over a store of files, as `run` does, and closes it (`mf_store_files::close`). Whatever a stop
 /// then leaves of the files holds the institution after all lines that were answered, with the log and without it. F20
-/// tells that they could not be closed: a stop leaves what it could before, the tables after a beginning of the lines that
-/// holds every line that was answered.
+/// tells that they could not be closed: a stop leaves what it could before, the tables after a beginning of the lines
+/// that holds every line that was answered.
 pub fn run_and_close<D: Disk + Drop, R: Source, W: Sink>(
     alloc: Global,
     mut store: Store<FileStore<D>>,
@@ -45,8 +45,8 @@ pub fn run_and_close<D: Disk + Drop, R: Source, W: Sink>(
     (told, close(store))
 }
 
-/// Reads a source to its end, collects it as a sheet over a store of files, as `collect_sheet` does, and closes the store;
-/// a stop then leaves what `run_and_close` says.
+/// Reads a source to its end, collects it as a sheet over a store of files, as `collect_sheet` does, and closes the
+/// store; a stop then leaves what `run_and_close` says.
 pub fn collect_and_close<D: Disk + Drop, R: Source, W: Sink>(
     alloc: Global,
     mut store: Store<FileStore<D>>,
@@ -67,8 +67,8 @@ pub fn collect_and_close<D: Disk + Drop, R: Source, W: Sink>(
     (told, close(store))
 }
 
-/// Serves so many connections over a store of files, as `serve_connections` does, and closes the store; a stop then leaves
-/// what `run_and_close` says, of messages.
+/// Serves so many connections over a store of files, as `serve_connections` does, and closes the store; a stop then
+/// leaves what `run_and_close` says, of messages.
 pub fn serve_and_close<D: Disk + Drop, C: Clock, L: OpenListener<Stream = TcpStream>>(
     alloc: Global,
     clock: &C,

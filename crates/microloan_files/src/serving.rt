@@ -21,9 +21,9 @@ use std::alloc::Global;
 use std::net::{OpenListener, TcpStream};
 use std::rt::Clock;
 
-/// Serves so many connections over a store of files, as `serve_connections` does, and gives these back with what it told.
-/// Whatever a stop then leaves of the files opens as the institution after a beginning of the messages that holds every
-/// message that was answered.
+/// Serves so many connections over a store of files, as `serve_connections` does, and gives these back with what it
+/// told. Whatever a stop then leaves of the files opens as the institution after a beginning of the messages that holds
+/// every message that was answered.
 pub fn serve_over<D: Disk + Drop, C: Clock, L: OpenListener<Stream = TcpStream>>(
     alloc: Global,
     clock: &C,

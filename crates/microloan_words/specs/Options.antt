@@ -29,6 +29,7 @@ rule_needed id Required = required_rule id
 rule_needed id (Default text) = default_rule id text.now
 rule_needed id Flag = flag_rule id
 
+-- the rule by which clap reads an option
 abbrev pub rule_for : CommandOption → Rule
 rule_for option = rule_needed option.id.now option.need
 
@@ -61,7 +62,8 @@ serve_app = app_with (codes "serve") (
 
 -- a command over a file, asked for by a member of staff
 abbrev pub staff_app : Text → App
-staff_app name = app_with name (required_rule (codes "file") ∷ required_rule (codes "staff") ∷ flag_rule (codes "existing") ∷ [])
+staff_app name =
+    app_with name (required_rule (codes "file") ∷ required_rule (codes "staff") ∷ flag_rule (codes "existing") ∷ [])
 
 -- a command over a file alone
 abbrev pub file_app : Text → App
@@ -89,7 +91,10 @@ schedule_app = app_with (codes "schedule") (
 abbrev pub bare_app : App
 bare_app =
     let top = (new_app (codes "microloan")).top in
-    record { top = record top { has_version = true; subcommand_required = true; disable_help_subcommand = true }; subs = [] }
+    record {
+      top = record top { has_version = true; subcommand_required = true; disable_help_subcommand = true };
+      subs = [];
+    }
 
 -- the program with the commands over an institution
 abbrev pub desk_app : App
@@ -98,4 +103,5 @@ desk_app = with_subcommand (with_subcommand (with_subcommand (with_subcommand ba
 
 -- the program with its commands
 abbrev pub microloan_app : App
-microloan_app = with_subcommand (with_subcommand (with_subcommand desk_app schedule_app.top) (file_app (codes "why")).top) audit_app.top
+microloan_app = with_subcommand (with_subcommand (with_subcommand desk_app schedule_app.top)
+    (file_app (codes "why")).top) audit_app.top

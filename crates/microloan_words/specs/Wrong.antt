@@ -9,7 +9,10 @@ use Rattle.mf_catalog.specs.declared.terms.Method.{Method}
 use Rattle.mf_office.specs.declared.caller.Caller.{Caller}
 use Rattle.microloan_words.specs.Asked.{IsNumberAt, IsDayAt, IsCallerAt, IsCountAt, flag_text, most_patience}
 use Rattle.microloan_words.specs.declared.reading.Wrong.{Wrong}
-use Rattle.microloan_words.specs.declared.reading.Wrong.TheVariants.{File, Existing, All, Port, Count, Patience, Staff, Method as MethodOption, Principal, Rate, Periods, Day, Frequency, Every, PrincipalGrace, InterestGrace}
+use Rattle.microloan_words.specs.declared.reading.Wrong.TheVariants.{File, Existing, All, Port, Count, Patience, Staff}
+use Rattle.microloan_words.specs.declared.reading.Wrong.TheVariants.{Method as MethodOption, Principal, Rate, Periods}
+use Rattle.microloan_words.specs.declared.reading.Wrong.TheVariants.{Day, Frequency, Every, PrincipalGrace}
+use Rattle.microloan_words.specs.declared.reading.Wrong.TheVariants.{InterestGrace}
 
 -- a flag is given or not
 abbrev pub IsFlag : List Row → Text → Type 0
@@ -34,14 +37,16 @@ IsRight rows Rate = IsNumber rows (codes "rate") 0 greatest_rate
 IsRight rows Periods = IsNumber rows (codes "periods") 1 most_periods
 IsRight rows Day = (day : ℕ) × IsDayAt rows (codes "day") day
 IsRight rows Frequency = (frequency : Freq) × (first_of (codes "frequency") rows ≡ Some (frequency_name frequency))
-IsRight rows Every = (frequency : Freq) × (first_of (codes "frequency") rows ≡ Some (frequency_name frequency)) × IsNumber rows (codes "every") 1 (longest_step frequency)
+IsRight rows Every = (frequency : Freq) × (first_of (codes "frequency") rows ≡ Some (frequency_name frequency))
+    × IsNumber rows (codes "every") 1 (longest_step frequency)
 IsRight rows PrincipalGrace = IsNumber rows (codes "principal-grace") 0 most_grace
 IsRight rows InterestGrace = IsNumber rows (codes "interest-grace") 0 most_grace
 
 -- the first of these options that isn't as it should be
 abbrev pub IsFirstWrong : List Row → List Wrong → Wrong → Type 0
 IsFirstWrong rows [] wrong = ⊥
-IsFirstWrong rows (option ∷ options) wrong = ((wrong ≡ option) × (¬ IsRight rows option)) ⊎ (IsRight rows option × IsFirstWrong rows options wrong)
+IsFirstWrong rows (option ∷ options) wrong =
+    ((wrong ≡ option) × (¬ IsRight rows option)) ⊎ (IsRight rows option × IsFirstWrong rows options wrong)
 
 abbrev pub serve_options : List Wrong
 serve_options = File ∷ Port ∷ Count ∷ Patience ∷ Day ∷ Existing ∷ []
@@ -56,7 +61,8 @@ abbrev pub audit_options : List Wrong
 audit_options = File ∷ All ∷ []
 
 abbrev pub schedule_options : List Wrong
-schedule_options = MethodOption ∷ Principal ∷ Rate ∷ Periods ∷ Day ∷ Frequency ∷ Every ∷ PrincipalGrace ∷ InterestGrace ∷ []
+schedule_options = MethodOption ∷ Principal ∷ Rate ∷ Periods ∷ Day ∷ Frequency ∷ Every ∷ PrincipalGrace ∷ InterestGrace
+    ∷ []
 
 -- of `batch`, these; and then the flag that asks for a file, where none is named
 abbrev pub batch_options : List Wrong
@@ -66,4 +72,5 @@ abbrev pub WantsFile : List Row → Type 0
 WantsFile rows = (first_of (codes "existing") rows ≡ Some (codes "true")) × (¬ IsRight rows File)
 
 abbrev pub IsBatchWrong : List Row → Wrong → Type 0
-IsBatchWrong rows wrong = IsFirstWrong rows batch_options wrong ⊎ (IsRight rows Day × WantsFile rows × (wrong ≡ Existing))
+IsBatchWrong rows wrong = IsFirstWrong rows batch_options wrong ⊎ (IsRight rows Day × WantsFile rows
+    × (wrong ≡ Existing))

@@ -1,3 +1,5 @@
+//! What the program's words ask for.
+
 use mf_base::{Day, Freq};
 use mf_catalog::Method;
 use mf_office::Caller;

@@ -1,5 +1,9 @@
-ghost use Rattle.std.specs.Prelude.{◌≡◌, ◌≢◌, ◌⊎◌, List, [], ◌∷◌, map, true, is_some, codes, Some, IfSome, IfOk, IfErr, IsErrOf, string_bytes, Ok, Err};
-ghost use Rattle.clap.specs.Words.{Row, found_of, rows_of, subcommand_of, subcommand_rows_of, takes, kind_of, HasKind, IsAmong};
+//! The program's words read as a command.
+
+ghost use Rattle.std.specs.Prelude.{◌≡◌, ◌≢◌, ◌⊎◌, List, [], ◌∷◌, map, true, is_some, codes, Some, IfSome, IfOk, IfErr};
+ghost use Rattle.std.specs.Prelude.{IsErrOf, string_bytes, Ok, Err};
+ghost use Rattle.clap.specs.Words.{Row, found_of, rows_of, subcommand_of, subcommand_rows_of, takes, kind_of, HasKind};
+ghost use Rattle.clap.specs.Words.{IsAmong};
 ghost use Rattle.microloan_words.specs.Options.{microloan_app};
 ghost use Rattle.microloan_words.specs.Asked.{HasLimits, IsAsked, IsHelp, IsVersion, IsBad, Reads, faults_of};
 ghost use Rattle.microloan_words.specs.declared.asked.Command.{Command};
@@ -16,8 +20,10 @@ use std::alloc::Global;
 
 /// What `clap` reads from the words.
 fn matches_of<'a>(alloc: Global, words: &'a [String]) -> Result<ArgMatches<'a>, Error>
-    ensures ok { IfOk result (λ m. subcommand_rows_of m ≡ subcommand_of microloan_app (map string_bytes words.entry.now)) }
-    ensures err { IfErr result (λ e. takes microloan_app (map string_bytes words.entry.now) ≡ true → kind_of e ≡ ErrorKind.OutOfMemory) }
+    ensures ok { IfOk result (λ m. subcommand_rows_of m ≡ subcommand_of microloan_app
+        (map string_bytes words.entry.now)) }
+    ensures err { IfErr result (λ e. takes microloan_app (map string_bytes words.entry.now) ≡ true
+        → kind_of e ≡ ErrorKind.OutOfMemory) }
     ensures sound { IfOk result (λ _. faults_of (map string_bytes words.entry.now) ≡ []) }
     ensures kinds { IfErr result (HasKind (faults_of (map string_bytes words.entry.now))) }
 {
@@ -134,8 +140,10 @@ pub fn command<'a>(alloc: Global, words: &'a [String]) -> Result<Command<'a>, Wo
     ensures limits { IfOk result HasLimits }
     ensures every { (asked : Command) → takes microloan_app (map string_bytes words.entry.now) ≡ true →
         IsAsked (map string_bytes words.entry.now) asked → (result ≡ Ok asked) ⊎ (result ≡ Err Words.Memory) }
-    ensures help { IfErr result (λ refusal. IsHelp refusal → IsAmong ErrorKind.DisplayHelp (faults_of (map string_bytes words.entry.now))) }
-    ensures version { IfErr result (λ refusal. IsVersion refusal → IsAmong ErrorKind.DisplayVersion (faults_of (map string_bytes words.entry.now))) }
+    ensures help { IfErr result (λ refusal. IsHelp refusal
+        → IsAmong ErrorKind.DisplayHelp (faults_of (map string_bytes words.entry.now))) }
+    ensures version { IfErr result (λ refusal. IsVersion refusal
+        → IsAmong ErrorKind.DisplayVersion (faults_of (map string_bytes words.entry.now))) }
     ensures bad { IfErr result (λ refusal. IsBad refusal →
         (faults_of (map string_bytes words.entry.now) ≢ ErrorKind.DisplayHelp ∷ [])
         × (faults_of (map string_bytes words.entry.now) ≢ ErrorKind.DisplayVersion ∷ [])) }

@@ -1,7 +1,10 @@
+//! The program's commands and options, as clap takes them and shows them in its help.
+
 ghost use Rattle.std.specs.Prelude.{◌≡◌, codes, IfOk, false, fold};
 ghost use Rattle.clap.specs.Words.{App, app_of, rule_of, new_app, with_subcommand};
 ghost use Rattle.clap.specs.declared.Command.TheViews.{out-Command as fields_of};
-ghost use Rattle.microloan_words.specs.Options.{rule_for, with_declared, batch_app, serve_app, staff_app, schedule_app, file_app, audit_app, bare_app, desk_app, microloan_app};
+ghost use Rattle.microloan_words.specs.Options.{rule_for, with_declared, batch_app, serve_app, staff_app, schedule_app};
+ghost use Rattle.microloan_words.specs.Options.{file_app, audit_app, bare_app, desk_app, microloan_app};
 
 use crate::values::DEFAULT_DAY;
 use clap::{Arg, ArgAction, Command};
@@ -275,7 +278,10 @@ fn report_command<'a>(alloc: Global) -> Result<Command<'a>, AllocError>
         alloc,
         "report",
         "Print the report of arrears",
-        "A line for the office of the one who asks and for each office below it, by\nnumber, and a line for all. The columns: office, active loans, outstanding\nprincipal, then that of loans 1-30, 31-60, 61-90 and over 90 days overdue, and\nthe percentage more than 30 days overdue.\n\nExample:\n  microloan report --file desk.db --staff 1/1",
+        "A line for the office of the one who asks and for each office below it, by\n\
+         number, and a line for all. The columns: office, active loans, outstanding\n\
+         principal, then that of loans 1-30, 31-60, 61-90 and over 90 days overdue, and\n\
+         the percentage more than 30 days overdue.\n\nExample:\n  microloan report --file desk.db --staff 1/1",
     );
     with_options(alloc, command, STAFF_OPTIONS.as_slice())
 }
@@ -332,14 +338,16 @@ fn audit_command<'a>(alloc: Global) -> Result<Command<'a>, AllocError>
     with_options(alloc, command, AUDIT_OPTIONS.as_slice())
 }
 
-/// The program with one more command. That may have failed to be made, so that it is this call alone that drops a program.
+/// The program with one more command. That may have failed to be made, so that it is this call alone that drops a
+/// program.
 fn with_command<'a>(
     program: Command<'a>,
     command: Result<Command<'a>, AllocError>,
 ) -> Result<Command<'a>, AllocError>
     requires program { (fields_of program).has_globals ≡ false }
     requires command { IfOk command (λ c. (fields_of c).has_globals ≡ false) }
-    ensures app { (app : App) → IfOk command.entry (λ c. app_of c ≡ app) → IfOk result (λ c. app_of c ≡ with_subcommand (app_of program.entry) app.top) }
+    ensures app { (app : App) → IfOk command.entry (λ c. app_of c ≡ app)
+        → IfOk result (λ c. app_of c ≡ with_subcommand (app_of program.entry) app.top) }
     ensures local { IfOk result (λ c. (fields_of c).has_globals ≡ false) }
 {
     program.subcommand(command?)
@@ -354,7 +362,8 @@ fn bare_program<'a>(alloc: Global) -> Command<'a>
         alloc,
         "microloan",
         "The loan desk of a microfinance institution",
-        "A command's options: microloan batch --help, and so on\n\nExit status: 0 done (refused requests included), 1 a fault, 2 wrong words.",
+        "A command's options: microloan batch --help, and so on\n\n\
+         Exit status: 0 done (refused requests included), 1 a fault, 2 wrong words.",
     );
     texts
         .version(VERSION)

@@ -1,9 +1,13 @@
+//! A command's options read from what clap found.
+
 ghost use Rattle.std.specs.Prelude.{◌≡◌, ◌≤◌, IfOk, IfErr};
 ghost use Rattle.clap.specs.Words.{found_of, rows_of};
 ghost use Rattle.mf_base.specs.DayText.{last_entered_day};
-ghost use Rattle.microloan_words.specs.Asked.{AreBatchWords, AreServeWords, AreStaffWords, AreFileWords, AreAuditWords, AreScheduleWords, IsWithinLimits};
+ghost use Rattle.microloan_words.specs.Asked.{AreBatchWords, AreServeWords, AreStaffWords, AreFileWords, AreAuditWords};
+ghost use Rattle.microloan_words.specs.Asked.{AreScheduleWords, IsWithinLimits};
 ghost use Rattle.microloan_words.specs.Asked.{IsServeWithinLimits};
-ghost use Rattle.microloan_words.specs.Wrong.{IsFirstWrong, IsBatchWrong, serve_options, staff_options, file_options, audit_options, schedule_options};
+ghost use Rattle.microloan_words.specs.Wrong.{IsFirstWrong, IsBatchWrong, serve_options, staff_options, file_options};
+ghost use Rattle.microloan_words.specs.Wrong.{audit_options, schedule_options};
 ghost use Rattle.mf_office.specs.Texts.{IsCaller};
 ghost use Rattle.microloan_words.specs.declared.asked.BatchWords.{BatchWords};
 ghost use Rattle.microloan_words.specs.declared.asked.ServeWords.{ServeWords};
@@ -128,7 +132,8 @@ pub(crate) fn audit_words<'a>(options: &ArgMatches<'a>) -> Result<AuditWords<'a>
 pub(crate) fn schedule_words(options: &ArgMatches<'_>) -> Result<ScheduleWords, Wrong>
     ensures read { IfOk result (λ asked. AreScheduleWords (rows_of (found_of options.now)) asked) }
     ensures limits { IfOk result IsWithinLimits }
-    ensures every { (asked : ScheduleWords) → AreScheduleWords (rows_of (found_of options.now)) asked → result ≡ Ok asked }
+    ensures every { (asked : ScheduleWords) → AreScheduleWords (rows_of (found_of options.now)) asked
+        → result ≡ Ok asked }
     ensures wrong { IfErr result (IsFirstWrong (rows_of (found_of options.now)) schedule_options) }
 {
     let method = method_at(options).ok_or(Wrong::Method)?;

@@ -1,3 +1,5 @@
+//! What is said of words that ask for nothing.
+
 ghost use Rattle.std.specs.Prelude.{◌≡◌, ◌≢◌, ◌⊎◌, MatchOption};
 ghost use Rattle.clap.specs.Words.{kind_of};
 ghost use Rattle.microloan_words.specs.Asked.{IsHelp, IsVersion, IsBad};
@@ -120,8 +122,10 @@ pub(crate) fn refused_by_clap(alloc: Global, words: &[String], error: &Error) ->
     ensures memory { kind_of error.now ≡ ErrorKind.OutOfMemory → result ≡ Words.Memory }
     ensures help { IsHelp result → kind_of error.now ≡ ErrorKind.DisplayHelp }
     ensures version { IsVersion result → kind_of error.now ≡ ErrorKind.DisplayVersion }
-    ensures bad { IsBad result → (kind_of error.now ≢ ErrorKind.DisplayHelp) × (kind_of error.now ≢ ErrorKind.DisplayVersion) }
-    ensures owed { MatchOption (owed_of (kind_of error.now)) (result ≡ Words.Memory) (λ owed. (result ≡ Words.Memory) ⊎ IsToldAs owed result) }
+    ensures bad { IsBad result → (kind_of error.now ≢ ErrorKind.DisplayHelp)
+        × (kind_of error.now ≢ ErrorKind.DisplayVersion) }
+    ensures owed { MatchOption (owed_of (kind_of error.now)) (result ≡ Words.Memory) (λ owed. (result ≡ Words.Memory)
+        ⊎ IsToldAs owed result) }
 {
     let Some(owed) = owed_for(error) else {
         return Words::Memory;

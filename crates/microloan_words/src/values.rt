@@ -1,3 +1,5 @@
+//! The values of options, each in its range.
+
 ghost use Rattle.std.specs.Prelude.{◌≡◌, ◌≤◌, ℕ, Bool, codes, Some, IfSome, option_map};
 ghost use Rattle.mf_base.specs.DayText.{day_text, last_entered_day};
 ghost use Rattle.clap.specs.Words.{first_of, found_of, rows_of};
@@ -70,7 +72,8 @@ pub(crate) fn count_at(options: &ArgMatches<'_>, id: &str, least: u32, greatest:
 /// Whether a flag is given.
 pub(crate) fn flag_at(options: &ArgMatches<'_>, id: &str) -> Option<bool>
     ensures read { IfSome result (λ given. first_of id.now (rows_of (found_of options.now)) ≡ Some (flag_text given)) }
-    ensures every { (given : Bool) → first_of id.now (rows_of (found_of options.now)) ≡ Some (flag_text given) → result ≡ Some given }
+    ensures every { (given : Bool) → first_of id.now (rows_of (found_of options.now)) ≡ Some (flag_text given)
+        → result ≡ Some given }
 {
     let text = text_at(options, id)?;
     if text == "true" {
@@ -84,16 +87,20 @@ pub(crate) fn flag_at(options: &ArgMatches<'_>, id: &str) -> Option<bool>
 
 /// The method that is asked for.
 pub(crate) fn method_at(options: &ArgMatches<'_>) -> Option<Method>
-    ensures read { IfSome result (λ method. first_of (codes "method") (rows_of (found_of options.now)) ≡ Some (method_name method)) }
-    ensures every { (method : Method) → first_of (codes "method") (rows_of (found_of options.now)) ≡ Some (method_name method) → result ≡ Some method }
+    ensures read { IfSome result (λ method. first_of (codes "method") (rows_of (found_of options.now))
+        ≡ Some (method_name method)) }
+    ensures every { (method : Method) → first_of (codes "method") (rows_of (found_of options.now))
+        ≡ Some (method_name method) → result ≡ Some method }
 {
     Method::from_name(text_at(options, "method")?)
 }
 
 /// The unit of a period.
 pub(crate) fn frequency_at(options: &ArgMatches<'_>) -> Option<Freq>
-    ensures read { IfSome result (λ frequency. first_of (codes "frequency") (rows_of (found_of options.now)) ≡ Some (frequency_name frequency)) }
-    ensures every { (frequency : Freq) → first_of (codes "frequency") (rows_of (found_of options.now)) ≡ Some (frequency_name frequency) → result ≡ Some frequency }
+    ensures read { IfSome result (λ frequency. first_of (codes "frequency") (rows_of (found_of options.now))
+        ≡ Some (frequency_name frequency)) }
+    ensures every { (frequency : Freq) → first_of (codes "frequency") (rows_of (found_of options.now))
+        ≡ Some (frequency_name frequency) → result ≡ Some frequency }
 {
     Freq::from_name(text_at(options, "frequency")?)
 }
@@ -119,7 +126,8 @@ pub(crate) fn file_at<'a>(options: &ArgMatches<'a>) -> Option<FilePath<'a>>
 /// The port that is asked for.
 pub(crate) fn port_at(options: &ArgMatches<'_>) -> Option<u16>
     ensures read { IfSome result (λ port. IsNumberAt (rows_of (found_of options.now)) (codes "port") 1 65535 port) }
-    ensures every { (port : ℕ) → IsNumberAt (rows_of (found_of options.now)) (codes "port") 1 65535 port → result ≡ Some port }
+    ensures every { (port : ℕ) → IsNumberAt (rows_of (found_of options.now)) (codes "port") 1 65535 port
+        → result ≡ Some port }
 {
     match number_at(options, "port", 1, 65535) {
         Some(number) => Some(number as u16),
@@ -130,7 +138,8 @@ pub(crate) fn port_at(options: &ArgMatches<'_>) -> Option<u16>
 /// How many connections are asked for: 0 asks for as many as can be counted.
 pub(crate) fn connections_at(options: &ArgMatches<'_>) -> Option<u64>
     ensures read { IfSome result (λ count. IsCountAt (rows_of (found_of options.now)) (codes "count") count) }
-    ensures every { (count : ℕ) → IsCountAt (rows_of (found_of options.now)) (codes "count") count → result ≡ Some count }
+    ensures every { (count : ℕ) → IsCountAt (rows_of (found_of options.now)) (codes "count") count
+        → result ≡ Some count }
 {
     let count = number_at(options, "count", 0, u64::MAX)?;
     Some(if count == 0 { u64::MAX } else { count })
@@ -139,7 +148,8 @@ pub(crate) fn connections_at(options: &ArgMatches<'_>) -> Option<u64>
 /// The member of staff who asks.
 pub(crate) fn staff_at(options: &ArgMatches<'_>) -> Option<Caller>
     ensures read { IfSome result (λ staff. IsCallerAt (rows_of (found_of options.now)) (codes "staff") staff) }
-    ensures every { (staff : Caller) → IsCallerAt (rows_of (found_of options.now)) (codes "staff") staff → result ≡ Some staff }
+    ensures every { (staff : Caller) → IsCallerAt (rows_of (found_of options.now)) (codes "staff") staff
+        → result ≡ Some staff }
 {
     Caller::parse(text_at(options, "staff")?.as_bytes())
 }

@@ -230,7 +230,8 @@ const CHANGES: [(&str, usize, &str); 52] = [
     (
         "UPDATE entries SET amount = 0 WHERE seq = 2",
         1,
-        "entries 0001-000001 entry 2: its amount, instalment, portion and receipt are not those of an entry of its kind",
+        "entries 0001-000001 entry 2: its amount, instalment, \
+         portion and receipt are not those of an entry of its kind",
     ),
     (
         "UPDATE entries SET day = '2024-01-31' WHERE seq = 1",
@@ -299,9 +300,9 @@ const CHANGES: [(&str, usize, &str); 52] = [
     ),
 ];
 
-/// Changes that come after these lines too. Each leaves what no institution has: a client whom another office
-/// alone has, two offices each below the other, the amounts of two entries or of two shares swapped, and a write-off that stands with
-/// a refund after it, though nothing was left to write off or to refund.
+/// Changes that come after these lines too. Each leaves what no institution has: a client whom another office alone
+/// has, two offices each below the other, the amounts of two entries or of two shares swapped, and a write-off that
+/// stands with a refund after it, though nothing was left to write off or to refund.
 const LATER_CHANGES: [(&str, usize, &str); 5] = [
     (
         "UPDATE loans SET client = 2",
@@ -429,8 +430,8 @@ fn shown<S: Alter>(alloc: Global, connection: &mut Connection<S>) -> Result<Stri
     Ok(text)
 }
 
-/// The institution of these lines is adopted again, and refused once so many rows are changed so; an audit says which row breaks
-/// which condition, and all rows then stand as they were.
+/// The institution of these lines is adopted again, and refused once so many rows are changed so; an audit says which
+/// row breaks which condition, and all rows then stand as they were.
 #[derive(Drop)]
 struct Refusal<'a> {
     lines: &'a str,
@@ -503,15 +504,21 @@ fn each_changed_row_is_refused_and_named(rt: HostRuntime) -> Result<(), Fail> {
     Ok(())
 }
 
-/// Changes of the tables themselves: one more, a view, an index, a table that takes any value, and one with a column more or with a
-/// column that may be NULL.
+/// Changes of the tables themselves: one more, a view, an index, a table that takes any value, and one with a column
+/// more or with a column that may be NULL.
 const SHAPES: [&str; 6] = [
     "CREATE TABLE more (number INTEGER) STRICT",
     "CREATE VIEW more AS SELECT number FROM clients",
     "CREATE INDEX more ON clients (name)",
-    "DROP TABLE shares; CREATE TABLE shares (office INTEGER NOT NULL, loan INTEGER NOT NULL, seq INTEGER NOT NULL, place INTEGER NOT NULL, instalment INTEGER NOT NULL, portion INTEGER NOT NULL, how INTEGER NOT NULL, amount INTEGER NOT NULL, PRIMARY KEY (office, loan, seq, place))",
-    "DROP TABLE shares; CREATE TABLE shares (office INTEGER NOT NULL, loan INTEGER NOT NULL, seq INTEGER NOT NULL, place INTEGER NOT NULL, instalment INTEGER NOT NULL, portion INTEGER NOT NULL, how INTEGER NOT NULL, amount INTEGER NOT NULL, more INTEGER, PRIMARY KEY (office, loan, seq, place)) STRICT",
-    "DROP TABLE shares; CREATE TABLE shares (office INTEGER NOT NULL, loan INTEGER NOT NULL, seq INTEGER NOT NULL, place INTEGER NOT NULL, instalment INTEGER NOT NULL, portion INTEGER NOT NULL, how INTEGER NOT NULL, amount INTEGER, PRIMARY KEY (office, loan, seq, place)) STRICT",
+    "DROP TABLE shares; CREATE TABLE shares (office INTEGER NOT NULL, loan INTEGER NOT NULL, seq INTEGER NOT NULL, \
+     place INTEGER NOT NULL, instalment INTEGER NOT NULL, portion INTEGER NOT NULL, how INTEGER NOT NULL, \
+     amount INTEGER NOT NULL, PRIMARY KEY (office, loan, seq, place))",
+    "DROP TABLE shares; CREATE TABLE shares (office INTEGER NOT NULL, loan INTEGER NOT NULL, seq INTEGER NOT NULL, \
+     place INTEGER NOT NULL, instalment INTEGER NOT NULL, portion INTEGER NOT NULL, how INTEGER NOT NULL, \
+     amount INTEGER NOT NULL, more INTEGER, PRIMARY KEY (office, loan, seq, place)) STRICT",
+    "DROP TABLE shares; CREATE TABLE shares (office INTEGER NOT NULL, loan INTEGER NOT NULL, seq INTEGER NOT NULL, \
+     place INTEGER NOT NULL, instalment INTEGER NOT NULL, portion INTEGER NOT NULL, how INTEGER NOT NULL, \
+     amount INTEGER, PRIMARY KEY (office, loan, seq, place)) STRICT",
 ];
 
 /// A new institution, whose table of shares has no rows, is refused once its tables are others.

@@ -56,8 +56,8 @@ const SHARES: [[i64; 6]; 7] = [
     [2, 5, 3, 4, 1, 1334],
 ];
 
-/// The instalments of the loan: its office, its number and the instalment's; for penalties, fees, interest and principal what is
-/// owed, paid, waived and written off; and the day on which it is due.
+/// The instalments of the loan: its office, its number and the instalment's; for penalties, fees, interest and
+/// principal what is owed, paid, waived and written off; and the day on which it is due.
 const INSTALMENTS: [([i64; 19], &str); 3] = [
     (
         [

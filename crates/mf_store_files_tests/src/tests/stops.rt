@@ -96,8 +96,8 @@ fn successes(replies: &[u8]) -> usize {
         .count()
 }
 
-/// Whether the files, stopped where they failed, hold each request that was answered, and at most the next one; and how many
-/// were answered.
+/// Whether the files, stopped where they failed, hold each request that was answered, and at most the next one; and how
+/// many were answered.
 fn holds_a_beginning<D: Failing>(
     alloc: Global,
     told: &[Vec<u8>],

@@ -1,5 +1,5 @@
-//! Worked accounts of one loan. No clause says that a call succeeds, or which cents come out. What other entries than repayments
-//! do, and other strategies, is among the lines that the program is run on.
+//! Worked accounts of one loan. No clause says that a call succeeds, or which cents come out. What other entries than
+//! repayments do, and other strategies, is among the lines that the program is run on.
 
 mod opened;
 mod undoing;

@@ -77,8 +77,10 @@ fn writes_the_report(rt: HostRuntime) -> Result<(), Fail> {
     line.add(50000, 30);
     let text = report_text(rt.alloc(), &[line])?;
     let expected = concat!(
-        "   1           2                 1500.00                  500.00                 1000.00                    0.00                    0.00   66.67\n",
-        " all           2                 1500.00                  500.00                 1000.00                    0.00                    0.00   66.67\n"
+        "   1           2                 1500.00                  500.00                 1000.00                    \
+         0.00                    0.00   66.67\n",
+        " all           2                 1500.00                  500.00                 1000.00                    \
+         0.00                    0.00   66.67\n"
     );
     assert!(rt; text.as_str() == expected);
     Ok(())

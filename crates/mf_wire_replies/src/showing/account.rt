@@ -4,7 +4,9 @@ ghost use Rattle.std.specs.Prelude.{◌≡◌, IfOk, IfErr, OnOk};
 ghost use Rattle.serde_json.specs.Data.{put as with_member};
 ghost use Rattle.serde_json.specs.View.{view, members_view};
 ghost use Rattle.mf_wire_replies.specs.Json.{text_or_null as text_or_null_of, whole_or_null as whole_or_null_of};
-ghost use Rattle.mf_wire_replies.specs.AccountTexts.{sum_of, instalment_data, kind_name, portion_name, instalment_for, portion_waived, share_data, shares_data, entry_rest as entry_rest_of, entry_data};
+ghost use Rattle.mf_wire_replies.specs.AccountTexts.{sum_of, instalment_data, kind_name, portion_name, instalment_for};
+ghost use Rattle.mf_wire_replies.specs.AccountTexts.{portion_waived, share_data, shares_data};
+ghost use Rattle.mf_wire_replies.specs.AccountTexts.{entry_rest as entry_rest_of, entry_data};
 
 use super::lists::{Shown, array_of};
 use super::members::{Members, text_or_null, whole_or_null};
@@ -23,7 +25,8 @@ fn put_sum(
     portion: Portion,
     sums: &[u64; 4],
 ) -> Result<(), AllocError>
-    ensures { OnOk result (members_view members.new.map.entries ≡ with_member name.now (sum_of portion sums.now) (members_view members.old.map.entries)) }
+    ensures { OnOk result (members_view members.new.map.entries ≡ with_member name.now (sum_of portion sums.now)
+        (members_view members.old.map.entries)) }
 {
     members.put_whole(alloc, name, sums[portion.index()])
 }

@@ -17,7 +17,8 @@ use std::alloc::Global;
 
 /// Puts an amount, as its money text.
 fn put_money(alloc: Global, members: &mut Members, name: &str, cents: u128) -> Result<(), Fault>
-    ensures ok { OnOk result (members_view members.new.map.entries ≡ with_member name.now (money cents) (members_view members.old.map.entries)) }
+    ensures ok { OnOk result (members_view members.new.map.entries ≡ with_member name.now (money cents)
+        (members_view members.old.map.entries)) }
     ensures err { IfErr result (λ f. f ≡ Fault.F20) }
 {
     let text = money_text(alloc, cents)?;

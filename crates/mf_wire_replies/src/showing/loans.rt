@@ -6,7 +6,8 @@ ghost use Rattle.serde_json.specs.View.{view};
 ghost use Rattle.serde_json.specs.Written.{compact_text, members_text};
 ghost use Rattle.mf_model.specs.declared.reply.Reply.TheVariants.{Loan as LoanTold};
 ghost use Rattle.mf_wire_replies.specs.Shown.{IsBodyOf};
-ghost use Rattle.mf_wire_replies.specs.LoanTexts.{loan_end as loan_end_of, loan_rest as loan_rest_of, loan_by_texts, loan_data, sums_data, day_or_null, told_status, line_data};
+ghost use Rattle.mf_wire_replies.specs.LoanTexts.{loan_end as loan_end_of, loan_rest as loan_rest_of, loan_by_texts};
+ghost use Rattle.mf_wire_replies.specs.LoanTexts.{loan_data, sums_data, day_or_null, told_status, line_data};
 
 use super::lists::{Shown, array_of};
 use super::members::Members;
@@ -90,10 +91,11 @@ fn day_text(alloc: Global, day: Option<Day>) -> Result<String, Fault>
     }
 }
 
-/// The body of a loan whose account and whose client's are written so in JSON. It is written at once: a value of JSON would
-/// take a map for each of its five objects.
+/// The body of a loan whose account and whose client's are written so in JSON. It is written at once: a value of JSON
+/// would take a map for each of its five objects.
 fn loan_body(alloc: Global, client: &str, account: &str, loan: &Statement) -> Result<String, Fault>
-    ensures ok { IfOk result (λ s. (c a : List ℕ) → client.now ≡ quoted c → account.now ≡ quoted a → string_bytes s ≡ compact_text (loan_by_texts c a loan.now)) }
+    ensures ok { IfOk result (λ s. (c a : List ℕ) → client.now ≡ quoted c → account.now ≡ quoted a → string_bytes s
+        ≡ compact_text (loan_by_texts c a loan.now)) }
     ensures err { IfErr result (λ f. f ≡ Fault.F20) }
 {
     let fee = loan.balances.disbursement_fee;

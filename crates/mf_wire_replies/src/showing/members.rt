@@ -53,21 +53,24 @@ impl Members {
 
     /// Puts a value.
     pub fn put(&mut self, alloc: Global, name: &str, value: Value) -> Result<(), AllocError>
-        ensures { OnOk result (members_view self.new.map.entries ≡ with_member name.now (view value) (members_view self.old.map.entries)) }
+        ensures { OnOk result (members_view self.new.map.entries ≡ with_member name.now (view value)
+            (members_view self.old.map.entries)) }
     {
         serde_json::put(&mut self.map, alloc, name, value)
     }
 
     /// Puts a number.
     pub fn put_whole(&mut self, alloc: Global, name: &str, number: u64) -> Result<(), AllocError>
-        ensures { OnOk result (members_view self.new.map.entries ≡ with_member name.now (whole number) (members_view self.old.map.entries)) }
+        ensures { OnOk result (members_view self.new.map.entries ≡ with_member name.now (whole number)
+            (members_view self.old.map.entries)) }
     {
         self.put(alloc, name, Value::from(number))
     }
 
     /// Puts a copy of a text.
     pub fn put_text(&mut self, alloc: Global, name: &str, text: &str) -> Result<(), AllocError>
-        ensures { OnOk result (members_view self.new.map.entries ≡ with_member name.now (string text.now) (members_view self.old.map.entries)) }
+        ensures { OnOk result (members_view self.new.map.entries ≡ with_member name.now (string text.now)
+            (members_view self.old.map.entries)) }
     {
         let text = String::from_str(alloc, text)?;
         self.put(alloc, name, Value::String(text))

@@ -5,7 +5,10 @@ ghost use Rattle.serde_json.specs.View.{view};
 ghost use Rattle.matchit.specs.Params.{AllText};
 ghost use Rattle.mf_model.specs.Sound.{IsInRange, IsLoanInRange};
 ghost use Rattle.mf_wire_requests.specs.Bodies.{json_of, Gives};
-ghost use Rattle.mf_wire_requests.specs.LoanRequests.{new_loan as loan_asked, disbursement as disbursement_asked, repayment as repayment_asked, fee as fee_asked, instalment_at, penalty as penalty_asked, waiver as waiver_asked, loan_request, loan_at, loans_at};
+ghost use Rattle.mf_wire_requests.specs.LoanRequests.{new_loan as loan_asked, disbursement as disbursement_asked};
+ghost use Rattle.mf_wire_requests.specs.LoanRequests.{repayment as repayment_asked, fee as fee_asked, instalment_at};
+ghost use Rattle.mf_wire_requests.specs.LoanRequests.{penalty as penalty_asked, waiver as waiver_asked, loan_request};
+ghost use Rattle.mf_wire_requests.specs.LoanRequests.{loan_at, loans_at};
 ghost use Rattle.mf_wire_requests.specs.PathParts.{parts_of_params};
 
 use crate::body::{GREATEST_NUMBER, account, choice, day, json, long_number, number, receipt};

@@ -4,7 +4,8 @@ ghost use Rattle.std.specs.Prelude.{option_and_then, IfOk};
 ghost use Rattle.matchit.specs.Params.{AllText};
 ghost use Rattle.mf_model.specs.Sound.{IsInRange};
 ghost use Rattle.mf_wire_requests.specs.Bodies.{json_of, Gives};
-ghost use Rattle.mf_wire_requests.specs.OfficeRequests.{new_office as office_asked, new_staff as staff_asked, new_client as client_asked, client_at};
+ghost use Rattle.mf_wire_requests.specs.OfficeRequests.{new_office as office_asked, new_staff as staff_asked};
+ghost use Rattle.mf_wire_requests.specs.OfficeRequests.{new_client as client_asked, client_at};
 ghost use Rattle.mf_wire_requests.specs.PathParts.{parts_of_params};
 
 use crate::body::{choice, json, name, office};

@@ -4,7 +4,9 @@ ghost use Rattle.std.specs.Prelude.{◌≡◌, option_and_then, IfOk, IfSome};
 ghost use Rattle.serde_json.specs.View.{view};
 ghost use Rattle.mf_model.specs.Sound.{IsInRange, IsName, AreMembers};
 ghost use Rattle.mf_wire_requests.specs.Bodies.{json_of, Gives};
-ghost use Rattle.mf_wire_requests.specs.ProductRequests.{step_at, planning_at, bounds_at, charge_at, charged_at, members_of as members_by, new_product as product_asked, IsStepInRange, IsPlanningInRange, AreBoundsInRange};
+ghost use Rattle.mf_wire_requests.specs.ProductRequests.{step_at, planning_at, bounds_at, charge_at, charged_at};
+ghost use Rattle.mf_wire_requests.specs.ProductRequests.{members_of as members_by, new_product as product_asked};
+ghost use Rattle.mf_wire_requests.specs.ProductRequests.{IsStepInRange, IsPlanningInRange, AreBoundsInRange};
 
 use crate::body::{GREATEST_NUMBER, choice, json, long_number, name, number, optional_number};
 use mf_base::{Fault, Freq};

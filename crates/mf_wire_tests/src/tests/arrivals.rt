@@ -14,7 +14,8 @@ use std::test::Fail;
 const CLIENT_TOLD: &str = "1/1 POST /clients {\"office\":1,\"name\":\"Amina\"}";
 
 const REFUSED: &str =
-    "HTTP/1.1 400 Bad Request\r\nContent-Type: application/json\r\nContent-Length: 14\r\nConnection: close\r\n\r\n{\"fault\":\"F1\"}";
+    "HTTP/1.1 400 Bad Request\r\nContent-Type: application/json\r\nContent-Length: 14\r\nConnection: close\r\n\r\n\
+     {\"fault\":\"F1\"}";
 
 /// Gives its bytes one by one, and then ends.
 #[derive(Drop)]
@@ -195,8 +196,8 @@ impl Write for Counting {
     }
 }
 
-/// The response of a success and two refusals, the second to HEAD. Where the room takes a response it is written at once, and
-/// where it takes the head alone, the body is written after it. Without a room each piece is written.
+/// The response of a success and two refusals, the second to HEAD. Where the room takes a response it is written at
+/// once, and where it takes the head alone, the body is written after it. Without a room each piece is written.
 #[test]
 fn responses_as_bytes(rt: HostRuntime) -> Result<(), Fail> {
     let alloc = rt.alloc();

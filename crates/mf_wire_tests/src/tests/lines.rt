@@ -70,8 +70,8 @@ fn the_longest_line(rt: HostRuntime) -> Result<(), Fail> {
 fn a_reader_that_fails(rt: HostRuntime) -> Result<(), Fail> {
     let alloc = rt.alloc();
     let mut books = new_books(alloc)?;
-    let torn =
-        b"1/1 POST /clients {\"office\":1,\"name\":\"A\"}\n1/1 GET /nowhere\n1/1 POST /clients {\"office\":1,\"name\":\"B\"}";
+    let torn = b"1/1 POST /clients {\"office\":1,\"name\":\"A\"}\n1/1 GET /nowhere\n\
+         1/1 POST /clients {\"office\":1,\"name\":\"B\"}";
     let mut source = WatchedReader::new(Torn {
         bytes: torn.as_slice(),
     });

@@ -194,8 +194,8 @@ fn connections_are_served_in_turn(rt: HostRuntime) -> Result<(), Fail> {
     Ok(())
 }
 
-/// Accepts the connections of a listener, but for two: the first isn't accepted, and the next fails where it would wait for
-/// more than was sent.
+/// Accepts the connections of a listener, but for two: the first isn't accepted, and the next fails where it would wait
+/// for more than was sent.
 #[derive(Drop)]
 struct Unsteady<'a> {
     listener: &'a TcpListener,
@@ -217,8 +217,8 @@ impl OpenListener for Unsteady<'_> {
     }
 }
 
-/// Of three connections one isn't accepted, one fails within its head, and one is answered. Each counts, so that the client
-/// that comes after them is not served.
+/// Of three connections one isn't accepted, one fails within its head, and one is answered. Each counts, so that the
+/// client that comes after them is not served.
 #[test]
 fn connections_that_fail_count(rt: HostRuntime) -> Result<(), Fail> {
     let alloc = rt.alloc();
@@ -240,8 +240,8 @@ fn connections_that_fail_count(rt: HostRuntime) -> Result<(), Fail> {
     Ok(())
 }
 
-/// A client sends a message with 60,000 bytes behind it. They are thrown away, and the response comes whole: where they were
-/// left unread, the connection would be reset.
+/// A client sends a message with 60,000 bytes behind it. They are thrown away, and the response comes whole: where they
+/// were left unread, the connection would be reset.
 #[test]
 fn what_follows_a_message_is_thrown_away(rt: HostRuntime) -> Result<(), Fail> {
     let alloc = rt.alloc();
@@ -259,7 +259,8 @@ fn what_follows_a_message_is_thrown_away(rt: HostRuntime) -> Result<(), Fail> {
     Ok(())
 }
 
-/// A client sends a message and doesn't end its sending. The connection is ended for it, and so it reads its whole response.
+/// A client sends a message and doesn't end its sending. The connection is ended for it, and so it reads its whole
+/// response.
 #[test]
 fn a_connection_is_ended(rt: HostRuntime) -> Result<(), Fail> {
     let alloc = rt.alloc();
@@ -310,9 +311,9 @@ impl Clock for Readings<'_> {
     }
 }
 
-/// With a patience of a second a message may take less than six, and so may its response. The first client's time is up before
-/// anything is read of it, and its message is not answered; the second's is up before its response is written, and its message
-/// was answered; the third takes five seconds for each, and the answer between them takes a hundred.
+/// With a patience of a second a message may take less than six, and so may its response. The first client's time is up
+/// before anything is read of it, and its message is not answered; the second's is up before its response is written,
+/// and its message was answered; the third takes five seconds for each, and the answer between them takes a hundred.
 #[test]
 fn a_client_that_takes_too_long_is_left(rt: HostRuntime) -> Result<(), Fail> {
     let alloc = rt.alloc();

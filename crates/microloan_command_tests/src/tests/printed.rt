@@ -26,7 +26,8 @@ sum                      1200.00            144.00           1344.00
 ",
     ),
     (
-        "microloan schedule --method declining-equal-principal --principal 100000 --rate 1200 --periods 3 --day 2024-01-31",
+        "microloan schedule --method declining-equal-principal --principal 100000 --rate 1200 --periods 3 --day \
+         2024-01-31",
         "  1 2024-02-29            333.33             10.00            343.33
   2 2024-03-31            333.33              6.67            340.00
   3 2024-04-30            333.34              3.33            336.67
@@ -34,11 +35,13 @@ sum                      1000.00             20.00           1020.00
 ",
     ),
     (
-        "microloan schedule --method declining-equal-principal --principal 100000 --rate 1200 --periods 3 --day 2024-01-31 --principal-grace 3",
+        "microloan schedule --method declining-equal-principal --principal 100000 --rate 1200 --periods 3 --day \
+         2024-01-31 --principal-grace 3",
         "",
     ),
     (
-        "microloan schedule --method declining-equal-instalments --principal 100000 --rate 1200 --periods 3 --day 2024-01-31",
+        "microloan schedule --method declining-equal-instalments --principal 100000 --rate 1200 --periods 3 --day \
+         2024-01-31",
         "  1 2024-02-29            330.03             10.00            340.03
   2 2024-03-31            333.33              6.70            340.03
   3 2024-04-30            336.64              3.37            340.01

@@ -41,7 +41,8 @@ fn schedule_of(alloc: Global, line: &str) -> Result<ScheduleWords, Fail> {
 fn reads_a_schedule(rt: HostRuntime) -> Result<(), Fail> {
     let asked = schedule_of(
         rt.alloc(),
-        "microloan schedule --method declining-equal-principal --principal 100000 --rate 1200 --periods 3 --day 2024-01-31",
+        "microloan schedule --method declining-equal-principal --principal 100000 --rate 1200 --periods 3 --day \
+         2024-01-31",
     )?;
     let wanted = ScheduleWords {
         method: Method::EqualPrincipal,
@@ -57,7 +58,8 @@ fn reads_a_schedule(rt: HostRuntime) -> Result<(), Fail> {
     assert!(rt; asked == wanted);
     let asked = schedule_of(
         rt.alloc(),
-        "microloan schedule --interest-grace=1 --principal-grace 2 --every 52 --frequency weeks --day 2099-12-31 --periods 360 --rate 100000 --principal 1000000000000 --method flat",
+        "microloan schedule --interest-grace=1 --principal-grace 2 --every 52 --frequency weeks --day 2099-12-31 \
+         --periods 360 --rate 100000 --principal 1000000000000 --method flat",
     )?;
     let wanted = ScheduleWords {
         method: Method::Flat,

@@ -12,4 +12,5 @@ returns-clause-same c = λ seq.
     ∙ ap (settled_in seq) c.in_ok-sorted.ensures.items
 
 pub returns-clause-ascend : goal.returns-clause-ascend
-returns-clause-ascend c = IsNonDecreasingBy-from_sort_by_key (λ (s : Settled). s.seq) _ c.in_ok-sort_by_key.ensures.sorted (λ a r q k. search rules)
+returns-clause-ascend c = IsNonDecreasingBy-from_sort_by_key (λ (s : Settled). s.seq) _
+    c.in_ok-sort_by_key.ensures.sorted (λ a r q k. search rules)

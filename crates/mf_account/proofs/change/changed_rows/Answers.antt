@@ -10,9 +10,18 @@ loop-k-preserved c =
     let k : ℕ = c.loop-k.k in
     elim c.if-has_other_row.branch [
       | then-has_other_row+in_ok-push w ↦
-          let items : c.if-has_other_row.changed.items ≡ c.loop-k.changed.items ++ (k + 1) ∷ [] = ap (λ (v : Vec ℕ Global). v.items) w.changed-is ∙ w.in_ok-push.ensures.items in
-          record { those = subst (AreThose (k + 1) P) (sym items) (those-more k P c.loop-k.changed.items c.loop-k.invariant.those (c.has_other_row.ensures.0 w.if-has_other_row.true)) }
+          let items : c.if-has_other_row.changed.items ≡ c.loop-k.changed.items ++ (k + 1) ∷ [] =
+          ap (λ (v : Vec ℕ Global). v.items) w.changed-is ∙ w.in_ok-push.ensures.items in
+          record {
+            those = subst (AreThose (k + 1) P) (sym items) (those-more k P c.loop-k.changed.items
+                c.loop-k.invariant.those (c.has_other_row.ensures.0 w.if-has_other_row.true));
+          }
       | else-has_other_row w ↦
-          let items : c.if-has_other_row.changed.items ≡ c.loop-k.changed.items = ap (λ (v : Vec ℕ Global). v.items) w.changed-is in
-          record { those = subst (AreThose (k + 1) P) (sym items) (those-same k P c.loop-k.changed.items c.loop-k.invariant.those (λ is. true≢false (sym (c.has_other_row.ensures.1 is) ∙ w.if-has_other_row.false))) }
+          let items : c.if-has_other_row.changed.items ≡ c.loop-k.changed.items =
+          ap (λ (v : Vec ℕ Global). v.items) w.changed-is in
+          record {
+            those = subst (AreThose (k + 1) P) (sym items)
+                (those-same k P c.loop-k.changed.items c.loop-k.invariant.those
+                (λ is. true≢false (sym (c.has_other_row.ensures.1 is) ∙ w.if-has_other_row.false)));
+          }
     ]

@@ -9,7 +9,8 @@ invariant-loop-i l = record {
   within_after : l.k ≤ length l.after;
   own_before : l.i < length l.before → (get_or l.before l.i no_settled).seq ≡ l.seq;
   own_after : l.k < length l.after → (get_or l.after l.k no_settled).seq ≡ l.seq;
-  same : (settled_in l.seq l.before ≡ settled_in l.seq l.after) ↔ (settled_in l.seq (drop l.i l.before) ≡ settled_in l.seq (drop l.k l.after));
+  same : (settled_in l.seq l.before ≡ settled_in l.seq l.after)
+      ↔ (settled_in l.seq (drop l.i l.before) ≡ settled_in l.seq (drop l.k l.after));
 }
 
 abbrev pub decreases-loop-i : goal.decreases-loop-i

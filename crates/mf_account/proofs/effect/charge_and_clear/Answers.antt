@@ -17,7 +17,8 @@ returns-clause-rows g c =
     let owed : List Sums = with_charge entry.kind entry c.args.rows.now in
     let parts = c.deref.ensures.value ∙ c.in_ok-parts.ensures.parts in
     let same = order-same cells owed c.args.rows.now entry.day (dues-with_charge entry.kind entry c.args.rows.now) in
-    with_cleared-from (order_at cells charged entry.day) entry entry.seq charged c.settle_all.new.rows c.deref.result.now parts c.settle_all.ensures
+    with_cleared-from (order_at cells charged entry.day) entry entry.seq charged c.settle_all.new.rows
+    c.deref.result.now parts c.settle_all.ensures
     ∙ ap (λ (x : List Sums). with_cleared (order_at cells x entry.day) entry x) c.charge.ensures
     ∙ ap (λ (o : ℕ → Cell). with_cleared o entry owed) same
 
@@ -28,5 +29,6 @@ returns-clause-parts g c =
     let owed : List Sums = with_charge entry.kind entry c.args.rows.now in
     let same = order-same cells owed c.args.rows.now entry.day (dues-with_charge entry.kind entry c.args.rows.now) in
     c.in_ok-parts.ensures.parts
-    ∙ ap (λ (x : List Sums). parts_numbered entry.seq 1 (parts_cleared (order_at cells x entry.day) entry x)) c.charge.ensures
+    ∙ ap (λ (x : List Sums). parts_numbered entry.seq 1 (parts_cleared (order_at cells x entry.day) entry x))
+    c.charge.ensures
     ∙ ap (λ (o : ℕ → Cell). parts_numbered entry.seq 1 (parts_cleared o entry owed)) same

@@ -12,7 +12,8 @@ use Rattle.mf_account.proofs.replay.apply_with.Goals as goal
 pub apply_all-requires-clause-few : goal.apply_all-requires-clause-few
 apply_all-requires-clause-few g c =
     let orders : Orders = orders_by (g.T.Strategy.cell_at c.args.strategy.now) c.args.book.now.rows in
-    let size : length c.apply_entry.new.book.rows ≡ length c.args.book.now.rows = ap (λ (s : State). length s.rows) c.in_ok-parts.ensures.state ∙ length-after orders c.args.entry.now c.args.book.now in
+    let size : length c.apply_entry.new.book.rows ≡ length c.args.book.now.rows = ap (λ (s : State). length s.rows)
+    c.in_ok-parts.ensures.state ∙ length-after orders c.args.entry.now c.args.book.now in
     omega (arith, size, c.requires.few)
 
 pub apply_all-requires-clause-fits : goal.apply_all-requires-clause-fits
@@ -21,7 +22,8 @@ apply_all-requires-clause-fits g c =
     let later : List Entry = entries_at c.args.entries.now c.args.later.now in
     let same = orders-after cells c.args.entry.now c.args.book.now c.apply_entry.new.book c.in_ok-parts.ensures.state in
     subst (λ (o : Orders). AreApplicable o later c.apply_entry.new.book) (sym same)
-    (subst (λ (s : State). AreApplicable (orders_by cells c.args.book.now.rows) later s) (sym c.in_ok-parts.ensures.state) c.requires.fits.1)
+    (subst (λ (s : State). AreApplicable (orders_by cells c.args.book.now.rows) later s)
+    (sym c.in_ok-parts.ensures.state) c.requires.fits.1)
 
 pub returns-clause-state : goal.returns-clause-state
 returns-clause-state g c =
@@ -37,7 +39,8 @@ returns-clause-parts g c =
     let cells = g.T.Strategy.cell_at c.args.strategy.now in
     let orders : Orders = orders_by cells c.args.book.now.rows in
     let later : List Entry = entries_at c.args.entries.now c.args.later.now in
-    let own : List Settled = parts_numbered c.args.entry.now.seq 1 (parts_of (orders c.args.entry.now) c.args.entry.now c.args.book.now) in
+    let own : List Settled =
+    parts_numbered c.args.entry.now.seq 1 (parts_of (orders c.args.entry.now) c.args.entry.now c.args.book.now) in
     let same = orders-after cells c.args.entry.now c.args.book.now c.apply_entry.new.book c.in_ok-parts.ensures.state in
     c.in_ok-extend_from_slice.ensures.items
     ∙ ap (λ (x : List Settled). x ++ c.deref.result.now) c.in_ok-parts.ensures.parts

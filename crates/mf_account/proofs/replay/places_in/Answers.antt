@@ -17,7 +17,8 @@ loop-k-preserved c =
       placed = λ apart j less.
           elim (cases_lt j c.loop-k.k) [
             | inl below ↦
-                get_or-set_other c.loop-k.places.items at (get_or c.args.order.now j 0) c.loop-k.k 0 (apart j c.loop-k.k below c.loop-k-test.true)
+                get_or-set_other c.loop-k.places.items at (get_or c.args.order.now j 0) c.loop-k.k 0
+                (apart j c.loop-k.k below c.loop-k-test.true)
                 ∙ c.loop-k.invariant.placed apart j below
             | inr last ↦
                 let same : j ≡ c.loop-k.k = omega (arith, less, last) in

@@ -10,7 +10,8 @@ abbrev pub invariant-loop-i : goal.invariant-loop-i
 invariant-loop-i l = record {
   entries : l.i ≤ length l.tail;
   parts : l.k ≤ length l.settled;
-  back : (orders : Orders) (places : Entry → Cell → ℕ) (from : State) → IsRewindable orders places from l.tail l.settled l.fn.book → IsBack orders from l.tail l.settled l.i l.k l.book;
+  back : (orders : Orders) (places : Entry → Cell → ℕ) (from : State) → IsRewindable orders places from l.tail l.settled
+      l.fn.book → IsBack orders from l.tail l.settled l.i l.k l.book;
 }
 
 abbrev pub decreases-loop-i : goal.decreases-loop-i

@@ -15,9 +15,13 @@ invariant-loop-i l = record {
   entries : l.i ≤ length l.order;
   parts : l.k ≤ length l.settled;
   size : length l.book.rows ≡ length l.fn.book.rows;
-  money : l.book.overpaid + l.book.refunded + settled_amount (take l.k l.settled) ≤ l.fn.book.overpaid + l.fn.book.refunded + settled_amount l.settled;
-  bounded : (n most : ℕ) → IsBounded n most l.fn.book → IsBounded n (most + (settled_amount l.settled - settled_amount (take l.k l.settled))) l.book;
-  back : (orders : Orders) (places : Entry → Cell → ℕ) (from : State) → IsRewindable orders places from (entries_at l.entries l.order) l.settled l.fn.book → IsBack orders from (entries_at l.entries l.order) l.settled l.i l.k l.book;
+  money : l.book.overpaid + l.book.refunded + settled_amount (take l.k l.settled) ≤ l.fn.book.overpaid
+      + l.fn.book.refunded + settled_amount l.settled;
+  bounded : (n most : ℕ) → IsBounded n most l.fn.book
+      → IsBounded n (most + (settled_amount l.settled - settled_amount (take l.k l.settled))) l.book;
+  back : (orders : Orders) (places : Entry → Cell → ℕ) (from : State)
+      → IsRewindable orders places from (entries_at l.entries l.order) l.settled l.fn.book
+      → IsBack orders from (entries_at l.entries l.order) l.settled l.i l.k l.book;
 }
 
 abbrev pub decreases-loop-i : goal.decreases-loop-i

@@ -7,5 +7,7 @@ use Rattle.mf_account.proofs.rewind.take_back_rows.Goals as goal
 
 pub returns-clause-apart : goal.returns-clause-apart
 returns-clause-apart c back within =
-    let own = c.uncharge.ensures.apart back (subst AreWithin (sym c.unsettle_all.ensures) (within-without_settled c.args.rows.now (map part_of c.args.own.now) within)) in
-    subst (λ (r : List Sums). AreWithin (without_charge c.args.entry.now.kind c.args.entry.now r)) c.unsettle_all.ensures own
+    let own = c.uncharge.ensures.apart back (subst AreWithin (sym c.unsettle_all.ensures)
+    (within-without_settled c.args.rows.now (map part_of c.args.own.now) within)) in
+    subst (λ (r : List Sums). AreWithin (without_charge c.args.entry.now.kind c.args.entry.now r))
+    c.unsettle_all.ensures own

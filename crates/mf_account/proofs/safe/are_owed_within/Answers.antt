@@ -11,6 +11,7 @@ loop-p-preserved c q less =
       | inl below ↦ c.loop-p.invariant q below
       | inr last ↦
           let same : q ≡ c.loop-p.p = omega (arith, less, last) in
-          let own : sum_at (λ (row : Sums). row.owed) c.loop-p.p c.args.rows.now ≤ most_kept = c.is_owed_within.ensures.within c.if-not-is_owed_within.false in
+          let own : sum_at (λ (row : Sums). row.owed) c.loop-p.p c.args.rows.now ≤ most_kept =
+          c.is_owed_within.ensures.within c.if-not-is_owed_within.false in
           subst (λ (n : ℕ). sum_at (λ (row : Sums). row.owed) n c.args.rows.now ≤ most_kept) (sym same) own
     ]

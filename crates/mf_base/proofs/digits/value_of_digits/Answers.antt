@@ -3,18 +3,42 @@ use Rattle.mf_base.proofs.DigitsLemmas.{byte_of_digit, value-below, value-more}
 use Rattle.mf_base.proofs.digits.value_of_digits.Goals as goal
 
 pub overflow_mul-value : goal.overflow_mul-value
-overflow_mul-value c = omega (arith, c.loop-digit.invariant, value-below c.args.digits.now c.loop-digit.digit-index c.requires.digits c.requires.short)
+overflow_mul-value c = omega (
+  arith,
+  c.loop-digit.invariant,
+  value-below c.args.digits.now c.loop-digit.digit-index
+      c.requires.digits c.requires.short,
+)
 
 pub overflow_sub-digit : goal.overflow_sub-digit
 overflow_sub-digit c = (byte_of_digit c.args.digits.now c.loop-digit.digit-index c.requires.digits (omega arith)).0
 
 pub overflow_add-value : goal.overflow_add-value
 overflow_add-value c =
-    omega (arith, c.from.ensures, c.loop-digit.invariant, byte_of_digit c.args.digits.now c.loop-digit.digit-index c.requires.digits (omega arith), value-below c.args.digits.now c.loop-digit.digit-index c.requires.digits c.requires.short)
+    omega (
+      arith,
+      c.from.ensures,
+      c.loop-digit.invariant,
+      byte_of_digit c.args.digits.now c.loop-digit.digit-index
+          c.requires.digits (omega arith),
+      value-below c.args.digits.now c.loop-digit.digit-index c.requires.digits
+          c.requires.short,
+    )
 
 pub loop-digit-preserved : goal.loop-digit-preserved
 loop-digit-preserved c =
-    omega (arith, c.from.ensures, c.loop-digit.invariant, value-more c.args.digits.now c.loop-digit.digit-index c.requires.digits (omega arith))
+    omega (
+      arith,
+      c.from.ensures,
+      c.loop-digit.invariant,
+      value-more c.args.digits.now c.loop-digit.digit-index
+          c.requires.digits (omega arith),
+    )
 
 pub returns-clause-bound : goal.returns-clause-bound
-returns-clause-bound c = omega (arith, c.loop-digit.invariant, value-below c.args.digits.now c.loop-digit.digit-index c.requires.digits c.requires.short)
+returns-clause-bound c = omega (
+  arith,
+  c.loop-digit.invariant,
+  value-below c.args.digits.now c.loop-digit.digit-index
+      c.requires.digits c.requires.short,
+)

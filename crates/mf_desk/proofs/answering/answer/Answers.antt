@@ -8,43 +8,57 @@ pub returns-in_err-reply-clause-changes : goal.returns-in_err-reply-clause-chang
 returns-in_err-reply-clause-changes g c =
     let s = g.S.InstitutionStore in
     let e : c.from_residual.result ≡ Err c.in_err-reply.field-0.0 = search rules in
-    rw e (refusal_changes_nothing s (call_of c.args.caller c.args.request) c.decide.result c.args.store.now c.decide.new.store c.in_err-reply.field-0.0 g.met.S.InstitutionStore.more c.decide.ensures.decides)
+    rw e (refusal_changes_nothing s (call_of c.args.caller c.args.request) c.decide.result c.args.store.now
+    c.decide.new.store c.in_err-reply.field-0.0 g.met.S.InstitutionStore.more c.decide.ensures.decides)
 
 pub returns-in_err-shown-clause-changes : goal.returns-in_err-shown-clause-changes
 returns-in_err-shown-clause-changes g c =
     let s = g.S.InstitutionStore in
     let e : c.from_residual-in_err-shown.result ≡ Err c.in_err-shown.field-0.0 = search rules in
-    rw e (refusal_changes_nothing s (call_of c.args.caller c.args.request) c.decide.result c.args.store.now c.decide.new.store c.in_err-shown.field-0.0 g.met.S.InstitutionStore.more c.decide.ensures.decides)
+    rw e (refusal_changes_nothing s (call_of c.args.caller c.args.request) c.decide.result c.args.store.now
+    c.decide.new.store c.in_err-shown.field-0.0 g.met.S.InstitutionStore.more c.decide.ensures.decides)
 
 pub returns-in_err-commit-in-Some-clause-changes : goal.returns-in_err-commit-in-Some-clause-changes
 returns-in_err-commit-in-Some-clause-changes g c =
     let s = g.S.InstitutionStore in
     let e : c.from_residual-in_err-commit-in-Some.result ≡ Err c.in_err-commit-in-Some.field-0.0 = search rules in
-    rw e (changes_given_up s (call_of c.args.caller c.args.request) c.in_ok-reply.field-0 c.in-Some.commit c.args.store.now c.decide.new.store c.commit.new.self c.in_err-commit-in-Some.field-0.0
-    c.soundness.ensures.accepted g.met.S.InstitutionStore.sound c.requires.in_range c.in-Some.is c.in_ok-reply.ensures.decides c.in_err-commit-in-Some.ensures)
+    rw e (changes_given_up s (call_of c.args.caller c.args.request) c.in_ok-reply.field-0 c.in-Some.commit
+    c.args.store.now c.decide.new.store c.commit.new.self c.in_err-commit-in-Some.field-0.0
+    c.soundness.ensures.accepted g.met.S.InstitutionStore.sound c.requires.in_range c.in-Some.is
+    c.in_ok-reply.ensures.decides c.in_err-commit-in-Some.ensures)
 
 pub returns-in_ok-commit-in-Some-clause-changes : goal.returns-in_ok-commit-in-Some-clause-changes
 returns-in_ok-commit-in-Some-clause-changes g c =
     let s = g.S.InstitutionStore in
-    changes_made s (call_of c.args.caller c.args.request) c.in_ok-reply.field-0 c.in-Some.commit c.args.store.now c.decide.new.store c.commit.new.self c.in_ok-shown.shown
-    c.soundness.ensures.accepted g.met.S.InstitutionStore.sound c.requires.in_range c.in-Some.is c.in_ok-reply.ensures.decides c.in_ok-commit-in-Some.ensures
+    changes_made s (call_of c.args.caller c.args.request) c.in_ok-reply.field-0 c.in-Some.commit c.args.store.now
+    c.decide.new.store c.commit.new.self c.in_ok-shown.shown
+    c.soundness.ensures.accepted g.met.S.InstitutionStore.sound c.requires.in_range c.in-Some.is
+    c.in_ok-reply.ensures.decides c.in_ok-commit-in-Some.ensures
 
 pub returns-in_err-reply-clause-own_view : goal.returns-in_err-reply-clause-own_view
 returns-in_err-reply-clause-own_view g c =
     let s = g.S.InstitutionStore in
-    tells_own_view s (FnOnceReturnsAt g.F.FnOnce c.args.show) c.args.caller c.args.request c.args.store.now c.decide.new.store c.from_residual.result c.answered_by_view.ensures.office g.met.S.InstitutionStore.sound (search rules)
+    tells_own_view s (FnOnceReturnsAt g.F.FnOnce c.args.show) c.args.caller c.args.request c.args.store.now
+    c.decide.new.store c.from_residual.result c.answered_by_view.ensures.office g.met.S.InstitutionStore.sound
+    (search rules)
 
 pub returns-in_err-shown-clause-own_view : goal.returns-in_err-shown-clause-own_view
 returns-in_err-shown-clause-own_view g c =
     let s = g.S.InstitutionStore in
-    tells_own_view s (FnOnceReturnsAt g.F.FnOnce c.args.show) c.args.caller c.args.request c.args.store.now c.decide.new.store c.from_residual-in_err-shown.result c.answered_by_view.ensures.office g.met.S.InstitutionStore.sound (search rules)
+    tells_own_view s (FnOnceReturnsAt g.F.FnOnce c.args.show) c.args.caller c.args.request c.args.store.now
+    c.decide.new.store c.from_residual-in_err-shown.result c.answered_by_view.ensures.office
+    g.met.S.InstitutionStore.sound (search rules)
 
 pub returns-in-None-clause-own_view : goal.returns-in-None-clause-own_view
 returns-in-None-clause-own_view g c =
     let s = g.S.InstitutionStore in
-    tells_own_view s (FnOnceReturnsAt g.F.FnOnce c.args.show) c.args.caller c.args.request c.args.store.now c.decide.new.store (Ok c.in_ok-shown.shown) c.answered_by_view.ensures.office g.met.S.InstitutionStore.sound (search rules)
+    tells_own_view s (FnOnceReturnsAt g.F.FnOnce c.args.show) c.args.caller c.args.request c.args.store.now
+    c.decide.new.store (Ok c.in_ok-shown.shown) c.answered_by_view.ensures.office g.met.S.InstitutionStore.sound
+    (search rules)
 
 pub returns-in_ok-commit-in-Some-clause-own_view : goal.returns-in_ok-commit-in-Some-clause-own_view
 returns-in_ok-commit-in-Some-clause-own_view g c =
     let s = g.S.InstitutionStore in
-    tells_own_view s (FnOnceReturnsAt g.F.FnOnce c.args.show) c.args.caller c.args.request c.args.store.now c.commit.new.self (Ok c.in_ok-shown.shown) c.answered_by_view.ensures.office g.met.S.InstitutionStore.sound (search rules)
+    tells_own_view s (FnOnceReturnsAt g.F.FnOnce c.args.show) c.args.caller c.args.request c.args.store.now
+    c.commit.new.self (Ok c.in_ok-shown.shown) c.answered_by_view.ensures.office g.met.S.InstitutionStore.sound
+    (search rules)

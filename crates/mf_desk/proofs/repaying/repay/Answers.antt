@@ -14,10 +14,15 @@ returns-in-Some-clause-decides g c =
     let loan = c.args.loan in
     let asked = c.args.asked in
     let found = c.in_ok-used.used in
-    learned_decides s (λ i. use_named loan.office asked.receipt i ≡ Ok found) (loan_outcome loan (Repay asked) c.args.caller) (in_ledger loan (λ k l. when_used loan.number asked (Some c.in-Some.used) (enter none_first (λ today. repayment asked c.args.caller) k (account_in k l))))
+    learned_decides s (λ i. use_named loan.office asked.receipt i ≡ Ok found)
+    (loan_outcome loan (Repay asked) c.args.caller)
+    (in_ledger loan (λ k l. when_used loan.number asked (Some c.in-Some.used)
+    (enter none_first (λ today. repayment asked c.args.caller) k (account_in k l))))
     c.args.store.now c.find_use.new.store c.repeat.new.store c.repeat.result
-    (learns s (use_named loan.office asked.receipt) c.args.store.now c.find_use.new.store found c.in_ok-used.ensures.asks)
-    (λ i h. repay_is c.args.caller loan asked (Some c.in-Some.used) i (h ∙ ap (λ (r : Option ReceiptUse). Ok r) c.in-Some.is)) c.repeat.ensures.decides
+    (learns s (use_named loan.office asked.receipt) c.args.store.now c.find_use.new.store found
+    c.in_ok-used.ensures.asks)
+    (λ i h. repay_is c.args.caller loan asked (Some c.in-Some.used) i (h ∙ ap (λ (r : Option ReceiptUse). Ok r)
+    c.in-Some.is)) c.repeat.ensures.decides
 
 pub returns-in-None-clause-decides : goal.returns-in-None-clause-decides
 returns-in-None-clause-decides g c =
@@ -25,7 +30,11 @@ returns-in-None-clause-decides g c =
     let loan = c.args.loan in
     let asked = c.args.asked in
     let found = c.in_ok-used.used in
-    learned_decides s (λ i. use_named loan.office asked.receipt i ≡ Ok found) (loan_outcome loan (Repay asked) c.args.caller) (in_ledger loan (λ k l. enter none_first (λ today. repayment asked c.args.caller) k (account_in k l)))
+    learned_decides s (λ i. use_named loan.office asked.receipt i ≡ Ok found)
+    (loan_outcome loan (Repay asked) c.args.caller)
+    (in_ledger loan (λ k l. enter none_first (λ today. repayment asked c.args.caller) k (account_in k l)))
     c.args.store.now c.find_use.new.store c.enter.new.store c.enter.result
-    (learns s (use_named loan.office asked.receipt) c.args.store.now c.find_use.new.store found c.in_ok-used.ensures.asks)
-    (λ i h. repay_is c.args.caller loan asked None i (h ∙ ap (λ (r : Option ReceiptUse). Ok r) c.in-None.is)) c.enter.ensures.decides
+    (learns s (use_named loan.office asked.receipt) c.args.store.now c.find_use.new.store found
+    c.in_ok-used.ensures.asks)
+    (λ i h. repay_is c.args.caller loan asked None i (h ∙ ap (λ (r : Option ReceiptUse). Ok r) c.in-None.is))
+    c.enter.ensures.decides

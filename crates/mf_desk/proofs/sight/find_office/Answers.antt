@@ -1,4 +1,5 @@
-use Rattle.std.proofs.Common.{◌≡◌, ℕ, Bool, true, false, cond, List, [], ◌∷◌, Option, Some, None, Ok, Err, inr, refl, sym, ap, ◌∙◌, arith}
+use Rattle.std.proofs.Common.{◌≡◌, ℕ, Bool, true, false, cond, List, [], ◌∷◌, Option, Some, None, Ok, Err, inr, refl}
+use Rattle.std.proofs.Common.{sym, ap, ◌∙◌, arith}
 use Rattle.std.specs.Prelude.{◌==◌, is_some}
 use Rattle.std.specs.List.{AllByRecursion}
 use Rattle.std.proofs.lemmas.Bool.Decides.{nat_tests}
@@ -15,9 +16,11 @@ use Rattle.mf_desk.proofs.sight.find_office.Goals as goal
 another_number : (n x : ℕ) → IsNumberUpTo 9999 n → number_up_to 9999 x ≡ None → (n == x) ≡ false
 another_number n x b e = grind (arith, nat_tests, b.0, b.1)
 
-no_such_office : (k : Catalogue) (staffed : Caller → Bool) (x : ℕ) (fs : List Office) → AllByRecursion (IsSoundOffice k staffed) fs → number_up_to 9999 x ≡ None → office_at x fs ≡ None
+no_such_office : (k : Catalogue) (staffed : Caller → Bool) (x : ℕ) (fs : List Office)
+    → AllByRecursion (IsSoundOffice k staffed) fs → number_up_to 9999 x ≡ None → office_at x fs ≡ None
 no_such_office k staffed x [] a e = refl
-no_such_office k staffed x (f ∷ fs) a e = ap (λ b. cond b (Some f) (office_at x fs)) (another_number f.number x a.0.number e) ∙ no_such_office k staffed x fs a.1 e
+no_such_office k staffed x (f ∷ fs) a e = ap (λ b. cond b (Some f) (office_at x fs))
+    (another_number f.number x a.0.number e) ∙ no_such_office k staffed x fs a.1 e
 
 unseen : (b : Bool) (f : Option Office) → f ≡ None → cond b f None ≡ None
 unseen true f e = e
@@ -33,6 +36,7 @@ returns-in_default-clause-asks g c =
       gives = λ k i s. tt;
       refuses = λ k i s. inr (ap (λ f. cond (is_some f) (Ok x) (Err F4))
           (unseen (is_at_or_below (parent_of i.offices) x o) (office_at x i.offices)
-          (no_such_office i.catalogue (is_staff i.offices) x i.offices (g.met.S.InstitutionStore.sound c.args.store.now i s).each (sym c.new.ensures ∙ none_there c.new.result c.in_default.not-Some))));
+          (no_such_office i.catalogue (is_staff i.offices) x i.offices (g.met.S.InstitutionStore.sound c.args.store.now
+          i s).each (sym c.new.ensures ∙ none_there c.new.result c.in_default.not-Some))));
       stop = λ k is l. l;
     }

@@ -5,7 +5,8 @@ use Rattle.mf_model.proofs.Confined.{effect_reads, effect_reads_catalogue, effec
 use Rattle.mf_model.proofs.laws.effects.Goals as goal
 
 pub returns-clause-accepted : goal.returns-clause-accepted
-returns-clause-accepted c = λ call i change t h. (known_line call.caller call.request (plan call.request) i change t refl h).made_is
+returns-clause-accepted c =
+    λ call i change t h. (known_line call.caller call.request (plan call.request) i change t refl h).made_is
 
 pub returns-clause-of_catalogue : goal.returns-clause-of_catalogue
 returns-clause-of_catalogue c = effect_reads_catalogue

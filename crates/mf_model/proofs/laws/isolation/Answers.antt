@@ -9,4 +9,5 @@ pub returns-clause-replies : goal.returns-clause-replies
 returns-clause-replies c = λ i ls t o. isolated_replies o (from_office o) (office_from o) ls i t
 
 pub returns-clause-own_replies : goal.returns-clause-own_replies
-returns-clause-own_replies c = λ i ls t caller. isolated_replies caller.office (from_caller caller) (caller_from caller) ls i t
+returns-clause-own_replies c = λ i ls t caller. isolated_replies caller.office (from_caller caller) (caller_from caller)
+    ls i t

@@ -6,4 +6,5 @@ pub returns-clause-replies : goal.returns-clause-replies
 returns-clause-replies c = λ i ls t none o. all_replies o (from_office o) (office_from o) ls i t none
 
 pub returns-clause-own_replies : goal.returns-clause-own_replies
-returns-clause-own_replies c = λ i ls t none caller. all_replies caller.office (from_caller caller) (caller_from caller) ls i t none
+returns-clause-own_replies c = λ i ls t none caller. all_replies caller.office (from_caller caller) (caller_from caller)
+    ls i t none

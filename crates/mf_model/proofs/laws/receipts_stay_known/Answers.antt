@@ -10,5 +10,6 @@ returns-clause-known c = λ i ls s r. known_last ls i s r
 
 pub returns-clause-again : goal.returns-clause-again
 returns-clause-again c = λ asked caller k rows n ledger receipt u has is.
-    ap (λ o. unless_known n asked (used_before o (uses_from 1 rows.loans)) (enter none_first (λ today. repayment asked caller) k (account_in k ledger))) has
+    ap (λ o. unless_known n asked (used_before o (uses_from 1 rows.loans))
+    (enter none_first (λ today. repayment asked caller) k (account_in k ledger))) has
     ∙ ap (λ o. unless_known n asked o (enter none_first (λ today. repayment asked caller) k (account_in k ledger))) is

@@ -28,11 +28,13 @@ unfolding is_at_or_below is_within
 returns-clause-tree c = record {
   once = (refl, (refl, (refl, (refl, tt))));
   tree = record {
-    numbered = by_each (IsNumberUpTo 9999) (omega arith, omega arith) (omega arith, omega arith) (omega arith, omega arith) (omega arith, omega arith);
+    numbered = by_each (IsNumberUpTo 9999) (omega arith, omega arith) (omega arith, omega arith)
+        (omega arith, omega arith) (omega arith, omega arith);
     head_there = refl;
     head = refl;
     parents_there = λ x p here. by_each (λ (z : ℕ). parent_of small_tree z ≡ Some p → is_there small_tree p ≡ true)
-        (λ e. absurd (cc)) (λ e. same_parent 1 p e refl) (λ e. same_parent 1 p e refl) (λ e. same_parent 2 p e refl) x here;
+        (λ e. absurd (cc)) (λ e. same_parent 1 p e refl) (λ e. same_parent 1 p e refl) (λ e. same_parent 2 p e refl) x
+        here;
     all_below = by_each (λ (z : ℕ). is_within 5 (parent_of small_tree) z 1 ≡ true) refl refl refl refl;
   };
 }

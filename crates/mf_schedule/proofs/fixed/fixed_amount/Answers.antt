@@ -11,14 +11,19 @@ loop-high-init c =
       above = omega arith;
       within = omega arith;
       too_low = λ e. omega arith;
-      enough = subst (λ (x : ℕ). balance_after c.args.rate c.args.days (c.args.principal + x) c.args.principal c.args.n ≡ 0) (sym c.interest-low.ensures.value)
-          (one_turn_pays c.args.rate c.args.days c.args.principal c.args.n c.requires.some_principal c.requires.periods);
+      enough = subst (λ (x : ℕ). balance_after c.args.rate c.args.days (c.args.principal + x) c.args.principal c.args.n
+          ≡ 0) (sym c.interest-low.ensures.value)
+          (one_turn_pays c.args.rate c.args.days c.args.principal c.args.n c.requires.some_principal
+          c.requires.periods);
     }
 
 pub returns-clause-least : goal.returns-clause-least
-returns-clause-least c = first-from_too_low c.args.rate c.args.days c.args.principal c.args.n c.loop-high.low c.loop-high.high (omega arith) c.loop-high.invariant.too_low
+returns-clause-least c = first-from_too_low c.args.rate c.args.days c.args.principal c.args.n c.loop-high.low
+    c.loop-high.high (omega arith) c.loop-high.invariant.too_low
 
 pub returns-clause-value : goal.returns-clause-value
 returns-clause-value c =
-    least_amount-is c.args.rate c.args.days c.args.principal c.args.n c.loop-high.high c.loop-high.invariant.within c.loop-high.invariant.enough
-    (first-from_too_low c.args.rate c.args.days c.args.principal c.args.n c.loop-high.low c.loop-high.high (omega arith) c.loop-high.invariant.too_low)
+    least_amount-is c.args.rate c.args.days c.args.principal c.args.n c.loop-high.high c.loop-high.invariant.within
+    c.loop-high.invariant.enough
+    (first-from_too_low c.args.rate c.args.days c.args.principal c.args.n c.loop-high.low c.loop-high.high (omega arith)
+    c.loop-high.invariant.too_low)

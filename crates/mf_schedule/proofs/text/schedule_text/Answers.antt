@@ -19,7 +19,8 @@ loop-place-preserved c =
       written = c.in_ok-push_row.ensures.ok
           ∙ ap (λ (x : List ℕ). x ++ row_line (place + 1) row) c.loop-place.invariant.written
           ∙ sym (row_lines-more rows place row (omega arith) here);
-      principals = omega (arith, principals, ap (λ (r : Instalment). r.principal) here, c.loop-place.invariant.principals);
+      principals =
+          omega (arith, principals, ap (λ (r : Instalment). r.principal) here, c.loop-place.invariant.principals);
       interests = omega (arith, interests, ap (λ (r : Instalment). r.interest) here, c.loop-place.invariant.interests);
       little_principal = omega arith;
       little_interest = omega arith;
@@ -29,10 +30,14 @@ pub returns-clause-ok : goal.returns-clause-ok
 returns-clause-ok c =
     let rows = c.args.rows.now in
     let all : take c.loop-place.place rows ≡ rows = take_all c.loop-place.place rows (omega arith) in
-    let principal : c.loop-place.principal ≡ total_principal rows = c.loop-place.invariant.principals ∙ ap total_principal all in
-    let interest : c.loop-place.interest ≡ total_interest rows = c.loop-place.invariant.interests ∙ ap total_interest all in
+    let principal : c.loop-place.principal ≡ total_principal rows =
+    c.loop-place.invariant.principals ∙ ap total_principal all in
+    let interest : c.loop-place.interest ≡ total_interest rows =
+    c.loop-place.invariant.interests ∙ ap total_interest all in
     c.in_ok-push_amounts.ensures.ok
-    ∙ ap (λ (x : List ℕ). x ++ amounts_text c.loop-place.principal c.loop-place.interest) (c.in_ok-push_str.ensures.bytes ∙ ap (λ (x : List ℕ). x ++ codes "sum           ") (c.loop-place.invariant.written ∙ ap row_lines all))
+    ∙ ap (λ (x : List ℕ). x ++ amounts_text c.loop-place.principal c.loop-place.interest)
+    (c.in_ok-push_str.ensures.bytes ∙ ap (λ (x : List ℕ). x ++ codes "sum           ")
+    (c.loop-place.invariant.written ∙ ap row_lines all))
     ∙ append_assoc (row_lines rows) (codes "sum           ") (amounts_text c.loop-place.principal c.loop-place.interest)
     ∙ ap (λ (x : ℕ). row_lines rows ++ (codes "sum           " ++ amounts_text x c.loop-place.interest)) principal
     ∙ ap (λ (x : ℕ). row_lines rows ++ (codes "sum           " ++ amounts_text (total_principal rows) x)) interest

@@ -8,7 +8,8 @@ use Rattle.mf_sheet.proofs.answering.answered.Goals as goal
 
 pub returns : goal.returns
 returns g c =
-    subst (λ (q : Request). Calls g.S.InstitutionStore (λ r. outcome_of c.answer.result ≡ result_of r) (record { caller = Some c.args.caller; request = q }) c.args.store.now c.answer.new.store)
+    subst (λ (q : Request). Calls g.S.InstitutionStore (λ r. outcome_of c.answer.result ≡ result_of r)
+    (record { caller = Some c.args.caller; request = q }) c.args.store.now c.answer.new.store)
     c.request_of-request.ensures.value
     (told_of_answer _ _ (λ r. outcome_of c.answer.result ≡ result_of r) _ _ _ c.answer.result
     (λ t r e h. let w : t ≡ told_by h.0.now = search rules in ap outcome_of e ∙ w ∙ ap told_by h.2)

@@ -4,5 +4,8 @@ use Rattle.mf_sheet.proofs.collecting.collect_row.Goals as goal
 
 pub returns-clause-write : goal.returns-clause-write
 returns-clause-write g c = λ _.
-    let text : c.as_slice.result.now ≡ record_text c.args.row c.answer_line-outcome.result = search rules in
-    (c.answer_line-outcome.result, rw c.into_parts-fields.ensures.line at c.answer_line-outcome.ensures, rw text at c.in-Err.ensures.err)
+    let text : c.as_slice.result.now ≡ record_text c.args.row c.answer_line-outcome.result = search rules in (
+      c.answer_line-outcome.result,
+      rw c.into_parts-fields.ensures.line at c.answer_line-outcome.ensures,
+      rw text at c.in-Err.ensures.err,
+    )

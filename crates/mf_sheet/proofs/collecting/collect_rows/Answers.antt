@@ -8,7 +8,8 @@ use Rattle.mf_sheet_lines.specs.declared.results.SheetResult.{SheetResult}
 use Rattle.mf_sheet.specs.Runs.{AnswersFields, Steps}
 use Rattle.mf_wire_lines.specs.Streams.{stream_of}
 use Rattle.mf_sheet.specs.Ends.{SheetStreams, EndsBy}
-use Rattle.mf_sheet.proofs.Rows.{Going-start, Going-more, one_taken, one_done, all_done, count_below, ends_whole, ends_before, ends_in_F20, cuts_record}
+use Rattle.mf_sheet.proofs.Rows.{Going-start, Going-more, one_taken, one_done, all_done, count_below, ends_whole}
+use Rattle.mf_sheet.proofs.Rows.{ends_before, ends_in_F20, cuts_record}
 use Rattle.mf_sheet.proofs.collecting.collect_rows.Goals as goal
 
 pub loop-row-init : goal.loop-row-init
@@ -31,8 +32,10 @@ pub loop-row-preserved : goal.loop-row-preserved
 loop-row-preserved g c = record {
   all = one_done _ _ _ _ (one_taken _ _ _ _ _ c.loop-row.invariant.all c.in-Some.ensures.steps.0);
   left = let steps = c.in-Some.ensures.steps in omega (arith, ap length steps.0, steps.1, c.loop-row.invariant.left);
-  going = Going-more _ _ c.loop-row.store c.collect_row.new.store c.loop-row.yielded c.in-Some.row c.in-Ok.outcome _ (g.W.Sink.written c.loop-row.sink) _ c.loop-row.answered
-      c.loop-row.invariant.going c.in-Ok.ensures.answered c.in-Ok.ensures.written (c.is_end.ensures.goes_on c.if-is_end.false);
+  going = Going-more _ _ c.loop-row.store c.collect_row.new.store c.loop-row.yielded c.in-Some.row c.in-Ok.outcome _
+      (g.W.Sink.written c.loop-row.sink) _ c.loop-row.answered
+      c.loop-row.invariant.going c.in-Ok.ensures.answered c.in-Ok.ensures.written
+      (c.is_end.ensures.goes_on c.if-is_end.false);
   sound = c.in-Ok.ensures.sound ∙ c.loop-row.invariant.sound;
 }
 
@@ -41,15 +44,18 @@ returns-then-is_end g c = record {
   ends = λ before first.
       let among = one_taken _ _ _ _ _ c.loop-row.invariant.all c.in-Some.ensures.steps.0 in
       ends_in_F20 _ c.args.store.now _ c.loop-row.yielded (g.W.Sink.written c.args.sink.now) c.loop-row.answered first
-      c.loop-row.store c.collect_row.new.store c.in-Some.row c.in-Ok.outcome _ (g.W.Sink.written c.loop-row.sink) among c.in-Ok.ensures.answered
-      (c.in-Ok.ensures.sound ∙ c.loop-row.invariant.sound) (c.is_end.ensures.end c.if-is_end.true) c.in-Ok.ensures.written c.loop-row.invariant.going;
+      c.loop-row.store c.collect_row.new.store c.in-Some.row c.in-Ok.outcome _ (g.W.Sink.written c.loop-row.sink) among
+      c.in-Ok.ensures.answered
+      (c.in-Ok.ensures.sound ∙ c.loop-row.invariant.sound) (c.is_end.ensures.end c.if-is_end.true)
+      c.in-Ok.ensures.written c.loop-row.invariant.going;
 }
 
 pub returns : goal.returns
 returns g c = record {
   ends = λ before first.
       ends_whole _ c.args.store.now _ c.loop-row.yielded (g.W.Sink.written c.args.sink.now) c.loop-row.answered first
-      c.loop-row.store (all_done _ _ _ c.loop-row.invariant.all (sym c.loop-row.invariant.left ∙ c.in-None.ensures.steps.0)) c.loop-row.invariant.sound c.loop-row.invariant.going;
+      c.loop-row.store (all_done _ _ _ c.loop-row.invariant.all (sym c.loop-row.invariant.left
+      ∙ c.in-None.ensures.steps.0)) c.loop-row.invariant.sound c.loop-row.invariant.going;
 }
 
 pub returns-in-Err : goal.returns-in-Err
@@ -64,17 +70,22 @@ returns-in-Err g c = record { ends = λ before first. at before first c.in-Err.c
     streams : Option (List ℕ) → SheetStreams
     streams before = record {
       rows = c.args.rows.items;
-      sink = record (stream_of g.W.Sink.written g.W.Sink.faults c.args.sink.now c.collect_row.new.sink) { before = before };
+      sink = record (stream_of g.W.Sink.written g.W.Sink.faults c.args.sink.now c.collect_row.new.sink)
+          { before = before };
     }
 
-    at : (before : Option (List ℕ)) → Appends before (g.W.Sink.written c.args.sink.now) heading → (cause : Cause) → c.in-Err.cause ≡ cause → EndsBy (Steps step) c.args.store.now c.collect_row.new.store (streams before) cause c.loop-row.answered
+    at : (before : Option (List ℕ)) → Appends before (g.W.Sink.written c.args.sink.now) heading → (cause : Cause)
+        → c.in-Err.cause ≡ cause → EndsBy (Steps step) c.args.store.now c.collect_row.new.store (streams before) cause
+        c.loop-row.answered
     at before first Read e = absurd (c.in-Err.ensures.read e)
     at before first Write e =
         let w = c.in-Err.ensures.write e in (
           subst (λ n. g.W.Sink.faults c.collect_row.new.sink ≢ n) c.loop-row.invariant.sound (c.in-Err.ensures.fault e),
           inr (
-              cuts_record step c.args.store.now (streams before) c.loop-row.yielded (g.W.Sink.written c.args.sink.now) c.loop-row.answered first
-              c.loop-row.store c.collect_row.new.store c.in-Some.row w.0 _ (g.W.Sink.written c.loop-row.sink) among w.1 w.2.0 w.2.1 w.2.2 c.loop-row.invariant.going
+              cuts_record step c.args.store.now (streams before) c.loop-row.yielded (g.W.Sink.written c.args.sink.now)
+              c.loop-row.answered first
+              c.loop-row.store c.collect_row.new.store c.in-Some.row w.0 _ (g.W.Sink.written c.loop-row.sink) among w.1
+              w.2.0 w.2.1 w.2.2 c.loop-row.invariant.going
               ),
         )
     at before first Memory e =
@@ -83,7 +94,9 @@ returns-in-Err g c = record { ends = λ before first. at before first c.in-Err.c
           inr (
               rw (m.0, m.1) (ends_before step c.args.store.now (record {
                 rows = c.args.rows.items;
-                sink = record (stream_of g.W.Sink.written g.W.Sink.faults c.args.sink.now c.loop-row.sink) { before = before };
-              }) c.loop-row.yielded (g.W.Sink.written c.args.sink.now) c.loop-row.answered first c.loop-row.store c.in-Some.row _ among c.loop-row.invariant.going)
+                sink = record (stream_of g.W.Sink.written g.W.Sink.faults c.args.sink.now c.loop-row.sink)
+                    { before = before };
+              }) c.loop-row.yielded (g.W.Sink.written c.args.sink.now) c.loop-row.answered first c.loop-row.store
+              c.in-Some.row _ among c.loop-row.invariant.going)
               ),
         )

@@ -12,7 +12,8 @@ use Rattle.mf_sheet_lines.specs.declared.results.SheetResult.TheVariants.{Refuse
 use Rattle.mf_sheet.specs.Lines.{asked_by, result_of}
 use Rattle.mf_sheet.proofs.laws.refused_by_sender.Goals as goal
 
-unknown_refused : (c : Caller) (request : Request) (p : Plan) (staff : Option Staff) (i : Institution) → staff ≡ None → result_of (reply_in (where_permitted c request p staff i)) ≡ Refused F2
+unknown_refused : (c : Caller) (request : Request) (p : Plan) (staff : Option Staff) (i : Institution) → staff ≡ None
+    → result_of (reply_in (where_permitted c request p staff i)) ≡ Refused F2
 unknown_refused c request p staff i e = ap (λ s. result_of (reply_in (where_permitted c request p s i))) e
 
 pub returns-clause-bad : goal.returns-clause-bad
@@ -20,8 +21,13 @@ returns-clause-bad c = λ caller i. refl
 
 -- what a repayment looks at
 looked_at : SheetRepayment → Plan
-looked_at r = On_office r.loan.office (λ k catalogue f. in_loan r.loan (on_loan (asks.Repay (record { amount = r.amount; day = r.day; receipt = Some r.receipt })) k catalogue f.rows r.loan.number) f.rows)
+looked_at r = On_office r.loan.office (λ k catalogue f. in_loan r.loan (on_loan (asks.Repay (record {
+  amount = r.amount;
+  day = r.day;
+  receipt = Some r.receipt;
+})) k catalogue f.rows r.loan.number) f.rows)
 
 pub returns-clause-unknown : goal.returns-clause-unknown
 unfolding looked_at
-returns-clause-unknown c = λ caller i r unknown. unknown_refused caller (asked_by (Repay r)) (looked_at r) (staff_at i caller) i unknown
+returns-clause-unknown c = λ caller i r unknown. unknown_refused caller (asked_by (Repay r)) (looked_at r)
+    (staff_at i caller) i unknown

@@ -35,11 +35,26 @@ loop-read-preserved c =
     let flexible = rw (c.in-Some.is, c.in-Ok.is) at (c.next.ensures.steps inv.2 inv.0).3 in
     let good : is_ok c.push.result ≡ true = search rules in
     let items = rw good at c.push.ensures.items in
-    let m = rows-more (λ (s : Bor (List ℕ)). Some s.now) c.loop-read.read-iterator.rdr c.next.new.self.rdr (fields_of c.in-Ok.record) default_config st.StartRecord (strip_bom c.args.text.now) inv.4 (map fields_of c.loop-read.records.items) inv.3 inv.5 inv.6 s.0 in
-    (s.0.3 ∙ inv.0, inl s.1, s.2, s.0.2 ∙ inv.3, m.0, m.1, rw (items, map-append fields_of c.loop-read.records.items (c.in-Ok.record ∷ [])) m.2, flexible ∙ inv.7)
+    let m = rows-more (λ (s : Bor (List ℕ)). Some s.now) c.loop-read.read-iterator.rdr c.next.new.self.rdr
+    (fields_of c.in-Ok.record) default_config st.StartRecord (strip_bom c.args.text.now) inv.4
+    (map fields_of c.loop-read.records.items) inv.3 inv.5 inv.6 s.0 in (
+      s.0.3 ∙ inv.0,
+      inl s.1,
+      s.2,
+      s.0.2 ∙ inv.3,
+      m.0,
+      m.1,
+      rw (
+        items,
+        map-append fields_of c.loop-read.records.items
+            (c.in-Ok.record ∷ []),
+      ) m.2,
+      flexible ∙ inv.7,
+    )
 
 pub returns-clause-ok : goal.returns-clause-ok
 returns-clause-ok c =
     let inv = c.loop-read.invariant in
     let s = rw c.in-None.is at ((c.next.ensures.steps inv.2 inv.0).0 inv.1) in
-    all_records _ _ c.loop-read.read-iterator.rdr.state inv.4 inv.6 (rows-end (λ (s : Bor (List ℕ)). Some s.now) c.loop-read.read-iterator.rdr c.next.new.self.rdr [] default_config inv.4 inv.3 inv.5 s)
+    all_records _ _ c.loop-read.read-iterator.rdr.state inv.4 inv.6 (rows-end (λ (s : Bor (List ℕ)). Some s.now)
+    c.loop-read.read-iterator.rdr c.next.new.self.rdr [] default_config inv.4 inv.3 inv.5 s)

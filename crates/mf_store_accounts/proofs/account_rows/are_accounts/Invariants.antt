@@ -8,5 +8,7 @@ use Rattle.mf_store_accounts.proofs.account_rows.are_accounts.Given as goal
 
 abbrev pub invariant-loop-row : goal.invariant-loop-row
 invariant-loop-row l =
-    (k : Catalogue) → IsSoundCatalogue k → numbered_from charge_as 1 k.charges ≡ l.charges → numbered_from product_as 1 k.products ≡ l.products → (ps : List PlacedLoan) → AreLoansOf k l.loans l.entries ps
-    → IsLeft k (AreAccounts k ps l.instalments l.shares) (drop l.row-index l.loans) l.entries_left l.instalments_left l.shares_left
+    (k : Catalogue) → IsSoundCatalogue k → numbered_from charge_as 1 k.charges ≡ l.charges → numbered_from product_as 1
+    k.products ≡ l.products → (ps : List PlacedLoan) → AreLoansOf k l.loans l.entries ps
+    → IsLeft k (AreAccounts k ps l.instalments l.shares) (drop l.row-index l.loans) l.entries_left l.instalments_left
+    l.shares_left

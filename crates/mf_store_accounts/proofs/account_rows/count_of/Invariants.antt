@@ -5,4 +5,6 @@ use Rattle.mf_store_accounts.proofs.account_rows.count_of.Given as goal
 
 abbrev pub invariant-loop-row : goal.invariant-loop-row
 invariant-loop-row g l =
-    (l.count ≡ l.row-index) × (prefix_len (is_of_loan g.T.OfLoan.office_of g.T.OfLoan.loan_of l.office l.loan) l.rows ≡ l.row-index + prefix_len (is_of_loan g.T.OfLoan.office_of g.T.OfLoan.loan_of l.office l.loan) (drop l.row-index l.rows))
+    (l.count ≡ l.row-index) × (prefix_len (is_of_loan g.T.OfLoan.office_of g.T.OfLoan.loan_of l.office l.loan) l.rows
+    ≡ l.row-index + prefix_len (is_of_loan g.T.OfLoan.office_of g.T.OfLoan.loan_of l.office l.loan)
+    (drop l.row-index l.rows))

@@ -7,7 +7,8 @@ pub returns-then-not-are_same-clause-account : goal.returns-then-not-are_same-cl
 returns-then-not-are_same-clause-account c k sound e f names l plain row_is es =
     let made = c.in_ok-add_account.ensures.added k sound e f names l plain row_is es in
     let own = made_alone _ _ _ c.new-own_instalments.ensures.items made.0 in
-    no_answer (λ both. refuses c.are_same.result c.if-not-are_same.true c.are_same.ensures (c.deref.ensures.value ∙ own ∙ both.0))
+    no_answer (λ both. refuses c.are_same.result c.if-not-are_same.true c.are_same.ensures (c.deref.ensures.value ∙ own
+    ∙ both.0))
 
 pub returns-clause-account : goal.returns-clause-account
 returns-clause-account c k sound e f names l plain row_is es =
@@ -15,5 +16,8 @@ returns-clause-account c k sound e f names l plain row_is es =
     let own = made_alone _ _ _ c.new-own_instalments.ensures.items made.0 in
     let own_shares = made_alone _ _ _ c.new-own_shares.ensures.items made.1 in
     let instalments = sym (c.deref.ensures.value ∙ own) ∙ c.are_same.ensures.0 c.if-not-are_same.false in
-    let shares = c.deref-2.ensures.value ∙ own_shares in
-    (λ yes. (instalments, sym shares ∙ c.are_same-same.ensures.0 yes), λ both. c.are_same-same.ensures.1 (shares ∙ both.1))
+    let shares = c.deref-2.ensures.value ∙ own_shares in (
+      λ yes. (instalments, sym shares ∙ c.are_same-same.ensures.0 yes),
+      λ both. c.are_same-same.ensures.1 (shares
+          ∙ both.1),
+    )

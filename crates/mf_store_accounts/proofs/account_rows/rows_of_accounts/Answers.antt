@@ -17,10 +17,16 @@ loop-row-init c k sound e f ps of =
 pub loop-row-preserved : goal.loop-row-preserved
 loop-row-preserved c k sound e f ps of =
     let l = c.loop-row in
-    let so_far = subst (λ loans. IsMade k ps loans l.entries_left.now l.instalments.items l.shares.items) (at_row c.args.loans.now l.row-index c.row-item.result c.loop-row-test.true c.row-item.is) (l.invariant k sound e f ps of) in
-    made_more k ps (drop (l.row-index + 1) c.args.loans.now) l.entries_left.now _ _ l.instalments.items _ l.shares.items _ c.row-item.result so_far c.split.ensures.first c.split.ensures.later (c.in_ok-add_account.ensures.added k sound e f)
+    let so_far = subst (λ loans. IsMade k ps loans l.entries_left.now l.instalments.items l.shares.items)
+    (at_row c.args.loans.now l.row-index c.row-item.result c.loop-row-test.true c.row-item.is)
+    (l.invariant k sound e f ps of) in
+    made_more k ps (drop (l.row-index + 1) c.args.loans.now) l.entries_left.now _ _ l.instalments.items _ l.shares.items
+    _ c.row-item.result so_far c.split.ensures.first c.split.ensures.later (c.in_ok-add_account.ensures.added k
+    sound e f)
 
 pub returns-clause-accounts : goal.returns-clause-accounts
 returns-clause-accounts c k sound e f ps of =
     let l = c.loop-row in
-    made_whole k ps l.entries_left.now l.instalments.items l.shares.items (subst (λ loans. IsMade k ps loans l.entries_left.now l.instalments.items l.shares.items) (at_end c.args.loans.now l.row-index c.loop-row-test.false) (l.invariant k sound e f ps of))
+    made_whole k ps l.entries_left.now l.instalments.items l.shares.items
+    (subst (λ loans. IsMade k ps loans l.entries_left.now l.instalments.items l.shares.items)
+    (at_end c.args.loans.now l.row-index c.loop-row-test.false) (l.invariant k sound e f ps of))

@@ -8,5 +8,6 @@ use Rattle.mf_store_accounts.proofs.account_rows.rows_of_accounts.Given as goal
 
 abbrev pub invariant-loop-row : goal.invariant-loop-row
 invariant-loop-row l =
-    (k : Catalogue) → IsSoundCatalogue k → numbered_from charge_as 1 k.charges ≡ l.charges → numbered_from product_as 1 k.products ≡ l.products → (ps : List PlacedLoan) → AreLoansOf k l.loans l.entries ps
+    (k : Catalogue) → IsSoundCatalogue k → numbered_from charge_as 1 k.charges ≡ l.charges → numbered_from product_as 1
+    k.products ≡ l.products → (ps : List PlacedLoan) → AreLoansOf k l.loans l.entries ps
     → IsMade k ps (drop l.row-index l.loans) l.entries_left l.instalments.items l.shares.items

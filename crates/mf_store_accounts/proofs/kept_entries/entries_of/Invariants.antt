@@ -6,4 +6,5 @@ use Rattle.mf_store_accounts.specs.Flat.{entry_in}
 use Rattle.mf_store_accounts.proofs.kept_entries.entries_of.Given as goal
 
 abbrev pub invariant-loop-row : goal.invariant-loop-row
-invariant-loop-row l = (office loan : ℕ) (es : List Entry) → AllByRecursion IsReadable es → map (entry_in office loan) es ≡ l.rows → l.entries.items ++ drop l.row-index es ≡ es
+invariant-loop-row l = (office loan : ℕ) (es : List Entry) → AllByRecursion IsReadable es
+    → map (entry_in office loan) es ≡ l.rows → l.entries.items ++ drop l.row-index es ≡ es

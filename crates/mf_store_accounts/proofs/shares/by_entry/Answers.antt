@@ -6,8 +6,11 @@ use Rattle.mf_store_accounts.proofs.ShareLemmas.{same_entries}
 use Rattle.mf_store_accounts.proofs.shares.by_entry.Goals as goal
 
 pub returns-clause-sorted : goal.returns-clause-sorted
-returns-clause-sorted c = (c.in_ok-sort_by_key.ensures {u = tt}).sorted (λ (part : Settled). part.seq) (answers_always _ _ _ (λ f a r g called. search rules))
+returns-clause-sorted c = (c.in_ok-sort_by_key.ensures {u = tt}).sorted (λ (part : Settled). part.seq)
+    (answers_always _ _ _ (λ f a r g called. search rules))
 
 pub returns-clause-same : goal.returns-clause-same
 returns-clause-same c seq =
-    same_entries c.in_ok-sorted.sorted.items c.sort_by_key.new.self.items (c.sort_by_key.ensures.stable (λ (part : Settled). part.seq) (answers_always _ _ _ (λ f a r g called. search rules))) seq ∙ ap (settled_in seq) (c.in_ok-sorted.ensures {u = tt}).items
+    same_entries c.in_ok-sorted.sorted.items c.sort_by_key.new.self.items (c.sort_by_key.ensures.stable
+    (λ (part : Settled). part.seq) (answers_always _ _ _ (λ f a r g called. search rules))) seq
+    ∙ ap (settled_in seq) (c.in_ok-sorted.ensures {u = tt}).items

@@ -7,4 +7,5 @@ returns-in_default-clause-terms c k e f = no_terms k c.args.products.now c.args.
 pub returns-clause-terms : goal.returns-clause-terms
 returns-clause-terms c k e f =
     terms_are k c.args.products.now c.in-Some.row.now c.args.product c.terms_with-terms.result f c.in-Some.ensures
-    (λ number p is. c.terms_with-terms.ensures k number p is ((c.in_ok-disbursement.ensures {u = tt}).charge k e) ((c.in_ok-instalment.ensures {u = tt}).charge k e) ((c.in_ok-overdue.ensures {u = tt}).charge k e))
+    (λ number p is. c.terms_with-terms.ensures k number p is ((c.in_ok-disbursement.ensures {u = tt}).charge k e)
+    ((c.in_ok-instalment.ensures {u = tt}).charge k e) ((c.in_ok-overdue.ensures {u = tt}).charge k e))

@@ -14,13 +14,17 @@ use Rattle.mf_store_audit.proofs.audits.audit_present.Goals as goal
 
 pub returns-in_err-unread-clause-kept : goal.returns-in_err-unread-clause-kept
 returns-in_err-unread-clause-kept g c =
-    then_under IsPresent _ (state g.S.Store c.args.connection.now) (state g.S.Store c.read_tables.new.connection) (state g.S.Store c.unread.new.connection) under_present
-    (as_present (state g.S.Store c.args.connection.now) (state g.S.Store c.read_tables.new.connection) c.read_tables.ensures.kept) c.unread.ensures.kept
+    then_under IsPresent _ (state g.S.Store c.args.connection.now) (state g.S.Store c.read_tables.new.connection)
+    (state g.S.Store c.unread.new.connection) under_present
+    (as_present (state g.S.Store c.args.connection.now) (state g.S.Store c.read_tables.new.connection)
+    c.read_tables.ensures.kept) c.unread.ensures.kept
 
 pub returns-in_default-clause-kept : goal.returns-in_default-clause-kept
 returns-in_default-clause-kept g c =
-    then_under IsPresent _ (state g.S.Store c.args.connection.now) (state g.S.Store c.read_tables.new.connection) (state g.S.Store c.unread.new.connection) under_present
-    (as_present (state g.S.Store c.args.connection.now) (state g.S.Store c.read_tables.new.connection) c.read_tables.ensures.kept) c.unread.ensures.kept
+    then_under IsPresent _ (state g.S.Store c.args.connection.now) (state g.S.Store c.read_tables.new.connection)
+    (state g.S.Store c.unread.new.connection) under_present
+    (as_present (state g.S.Store c.args.connection.now) (state g.S.Store c.read_tables.new.connection)
+    c.read_tables.ensures.kept) c.unread.ensures.kept
 
 pub returns-in_default-clause-exact : goal.returns-in_default-clause-exact
 returns-in_default-clause-exact g c clean ours rowids =
@@ -29,8 +33,12 @@ returns-in_default-clause-exact g c clean ours rowids =
     let same = c.read_tables.ensures.kept.same early (c.in_ok-tables.ensures.open early) ours in
     let its = subst (λ (d : Database). d.schema ≡ schema) (sym same) ours in
     let none = at_none c.in_ok-tables.field-0 _ c.in_default.is (c.in_ok-tables.ensures.none early ours) in
-    let found = c.in_ok-unread.ensures.found clean (under_present _ its) in
-    (inl ours, unread_none db ours none, subst (λ (d : Database). IfSome c.in_ok-unread.unread (λ u. IsUnread u.table u.value u.place d.trees)) same found)
+    let found = c.in_ok-unread.ensures.found clean (under_present _ its) in (
+      inl ours,
+      unread_none db ours none,
+      subst (λ (d : Database). IfSome c.in_ok-unread.unread
+          (λ u. IsUnread u.table u.value u.place d.trees)) same found,
+    )
 
 pub returns-clause-exact : goal.returns-clause-exact
 returns-clause-exact g c clean ours rowids =
@@ -38,4 +46,5 @@ returns-clause-exact g c clean ours rowids =
     let tables = c.in-Some.tables in
     let only = at_some c.in_ok-tables.field-0 _ tables c.in-Some.is (c.in_ok-tables.ensures.only clean ours) in
     let keeps = at_some c.in_ok-tables.field-0 _ tables c.in-Some.is (c.in_ok-tables.ensures.keeps clean ours rowids) in
-    IfOk-weaker c.audit_rows.result _ (IsAuditOf db) (λ a told. of_rows db tables ours only keeps a told) c.audit_rows.ensures.exact
+    IfOk-weaker c.audit_rows.result _ (IsAuditOf db) (λ a told. of_rows db tables ours only keeps a told)
+    c.audit_rows.ensures.exact

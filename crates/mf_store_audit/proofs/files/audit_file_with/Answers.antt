@@ -8,9 +8,11 @@ pub returns-in-Ok-clause-exact : goal.returns-in-Ok-clause-exact
 returns-in-Ok-clause-exact g c clean =
     let told = c.in-Ok in
     let shows = c.in_ok-connection.ensures.shows (told.ensures.kept.premise clean) in
-    audit_of_file (image_at g.S.Start) (file_state c.in_ok-connection.connection) shows told.audit (told.ensures.exact clean (record { present = shows.rowids; first = shows.first_rowids }))
+    audit_of_file (image_at g.S.Start) (file_state c.in_ok-connection.connection) shows told.audit
+    (told.ensures.exact clean (record { present = shows.rowids; first = shows.first_rowids }))
 
 pub returns-in-Ok-clause-leaves : goal.returns-in-Ok-clause-leaves
 returns-in-Ok-clause-leaves g c clean trees holds left may =
     let told = c.in-Ok in
-    left_as_held (image_at g.S.Start) (file_state c.in_ok-connection.connection) (c.in_ok-connection.ensures.shows (told.ensures.kept.premise clean)) trees holds left (told.ensures.kept.stop clean (λ live. tt) left may)
+    left_as_held (image_at g.S.Start) (file_state c.in_ok-connection.connection) (c.in_ok-connection.ensures.shows
+    (told.ensures.kept.premise clean)) trees holds left (told.ensures.kept.stop clean (λ live. tt) left may)

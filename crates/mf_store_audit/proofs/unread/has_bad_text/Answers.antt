@@ -9,10 +9,15 @@ pub loop-column-preserved : goal.loop-column-preserved
 loop-column-preserved c =
     below_more c.args.row.now c.loop-column.column c.loop-column.invariant (elim c.match-get_ref.branch [
       | in-Ok+else-is_bad_text w ↦
-        λ bad. absurd (true≢false (
+          λ bad. absurd (true≢false (
           sym (w.is_bad_text.ensures.1 (subst IsBadText (sym w.in-Ok.ensures.ok.1) bad)) ∙ w.if-is_bad_text.false
-        ))
-      | in_default w ↦ λ bad. omega (arith, c.column_count-column-end.ensures, c.loop-column-test.true, w.in_default.ensures.err.1)
+          ))
+      | in_default w ↦ λ bad. omega (
+        arith,
+        c.column_count-column-end.ensures,
+        c.loop-column-test.true,
+        w.in_default.ensures.err.1,
+      )
     ])
 
 pub returns : goal.returns

@@ -17,7 +17,8 @@ returns-clause-row c =
       every = c.args.members.every;
       principal_grace = c.args.members.principal_grace;
       interest_grace = c.args.members.interest_grace;
-      min_principal = (to_z-of_z w64 c.in_ok-min_principal.min_principal least ∙ c.in_ok-min_principal.ensures.amount) k;
+      min_principal = (to_z-of_z w64 c.in_ok-min_principal.min_principal least ∙ c.in_ok-min_principal.ensures.amount)
+          k;
       max_principal = (to_z-of_z w64 c.in_ok-max_principal.max_principal most ∙ c.in_ok-max_principal.ensures.amount) k;
       min_periods = c.args.members.min_periods;
       max_periods = c.args.members.max_periods;

@@ -5,4 +5,6 @@ use Rattle.mf_store_accounts.specs.Flat.{instalment_in}
 use Rattle.mf_store_changes.proofs.changes.put_instalments.Given as goal
 
 abbrev pub invariant-loop-number : goal.invariant-loop-number
-invariant-loop-number l = l.writes.items ≡ l.initial.writes.items ++ map (λ (n : ℕ). PutInstalment (instalment_in l.office l.loan (n, row_at l.rows n))) (take l.number-index l.numbers)
+invariant-loop-number l = l.writes.items ≡ l.initial.writes.items
+    ++ map (λ (n : ℕ). PutInstalment (instalment_in l.office l.loan (n, row_at l.rows n)))
+    (take l.number-index l.numbers)

@@ -7,5 +7,6 @@ use Rattle.mf_store_changes.proofs.changes.put_parts.Given as goal
 abbrev pub invariant-loop-part : goal.invariant-loop-part
 invariant-loop-part l = record {
   place : l.place ≡ l.part-index;
-  writes : l.writes.items ≡ l.initial.writes.items ++ map (λ (placed : ℕ × (ℕ × Settled)). PutShare (share_in l.office l.loan placed)) (placed_parts l.seq (take l.part-index l.parts));
+  writes : l.writes.items ≡ l.initial.writes.items ++ map (λ (placed : ℕ × (ℕ × Settled)).
+      PutShare (share_in l.office l.loan placed)) (placed_parts l.seq (take l.part-index l.parts));
 }

@@ -15,6 +15,9 @@ loop-row-preserved c =
     let put = c.in_ok-put.ensures.row ∙ ap (λ n. instalment_in office loan (n + 1, row)) before.number in
     record {
       number = ap (λ n. n + 1) before.number;
-      writes = numbered_pushed (λ (item : ℕ × Sums). PutInstalment (instalment_in office loan item)) (λ n r. (n, r)) c.args.rows.now c.loop-row.row-index row c.args.writes.now.items c.loop-row.writes.items _ c.loop-row-test.true c.row-item.is
-          (c.in_ok-push.ensures.items ∙ ap (λ (r : InstalmentRow). c.loop-row.writes.items ++ PutInstalment r ∷ []) put) before.writes;
+      writes = numbered_pushed (λ (item : ℕ × Sums). PutInstalment (instalment_in office loan item))
+          (λ n r. (n, r)) c.args.rows.now c.loop-row.row-index row c.args.writes.now.items c.loop-row.writes.items _
+          c.loop-row-test.true c.row-item.is
+          (c.in_ok-push.ensures.items ∙ ap (λ (r : InstalmentRow). c.loop-row.writes.items ++ PutInstalment r ∷ []) put)
+          before.writes;
     }

@@ -6,7 +6,8 @@ use Rattle.mf_store_records.specs.declared.writes.StoreWrite.TheVariants.{Change
 use Rattle.mf_store_changes.specs.ChangeWrites.{change_writes}
 use Rattle.mf_store_changes.specs.Suiting.{Carries}
 use Rattle.mf_store_accounts.specs.Flat.{entry_in}
-use Rattle.mf_store_changes.proofs.EnteredLemmas.{account_of_loan, as_long, handed_changed, loan_numbered, reversal_there}
+use Rattle.mf_store_changes.proofs.EnteredLemmas.{account_of_loan, as_long, handed_changed, loan_numbered}
+use Rattle.mf_store_changes.proofs.EnteredLemmas.{reversal_there}
 use Rattle.mf_store_changes.proofs.EntryLemmas.{marked_entry}
 use Rattle.mf_store_changes.proofs.LoanLemmas.{reversal_becomes}
 use Rattle.mf_store_changes.proofs.SuitLemmas.{reversal_suits}
@@ -19,19 +20,26 @@ returns-clause-carries c i sound admitted =
     let account = c.args.account.now in
     let row = c.in_ok-row.row in
     let first_write = c.in_ok-push.ensures.items ∙ ap (λ ws. ws ++ ChangeEntry row ∷ []) c.new-writes.ensures.items in
-    let added = c.in_ok-put_change.ensures.writes ∙ ap (λ ws. ws ++ change_writes c.get-office.result c.get-loan.result account) first_write in
-    let writes = added ∙ (λ t. ChangeEntry row ∷ change_writes (c.get-office.ensures.value t) (c.get-loan.ensures.value t) account) in
+    let added = c.in_ok-put_change.ensures.writes ∙ ap (λ ws. ws ++ change_writes c.get-office.result c.get-loan.result
+    account) first_write in
+    let writes = added ∙ (λ t. ChangeEntry row ∷ change_writes (c.get-office.ensures.value t)
+    (c.get-loan.ensures.value t) account) in
     let handed = admitted.handed in
     let of = account_of_loan loan handed.before i handed.there in
     let before = of.ledger.entries in
-    let marked : account.loan.entries ≡ with_mark before (seq - 1) true = handed.entries.marked ∙ ap (λ (es : List Entry). with_mark es (seq - 1) true) of.entries in
+    let marked : account.loan.entries ≡ with_mark before (seq - 1) true =
+    handed.entries.marked ∙ ap (λ (es : List Entry). with_mark es (seq - 1) true) of.entries in
     let there = reversal_there handed.before.entries seq handed.entries.allowed in
     let first = there.0 in
     let last : seq ≤ length before = subst (λ (es : List Entry). seq ≤ length es) of.entries there.1 in
     let numbers = loan_numbered loan of.ledger i sound of.there in
-    let changed = handed_changed loan account handed.before i sound admitted.sound of handed.others (as_long handed.before.entries account.loan.entries seq handed.entries.marked) handed.kept handed.change in
-    let row_is = c.in_ok-row.ensures.row ∙ (λ t. entry_in (c.get-office.ensures.value t) (c.get-loan.ensures.value t) (entry_at (marked t) (seq - 1))) ∙ ap (entry_in loan.office loan.number) (marked_entry before (seq - 1) (omega (arith, first, last))) in
+    let changed = handed_changed loan account handed.before i sound admitted.sound of handed.others
+    (as_long handed.before.entries account.loan.entries seq handed.entries.marked) handed.kept handed.change in
+    let row_is = c.in_ok-row.ensures.row ∙ (λ t. entry_in (c.get-office.ensures.value t) (c.get-loan.ensures.value t)
+    (entry_at (marked t) (seq - 1))) ∙ ap (entry_in loan.office loan.number) (marked_entry before (seq - 1)
+    (omega (arith, first, last))) in
     subst (λ ws. Carries (ReverseEntry loan seq account) ws i) (sym writes) (record {
-      becomes = reversal_becomes loan account of.ledger i sound of.there changed seq admitted.sound numbers first last marked row row_is;
+      becomes = reversal_becomes loan account of.ledger i sound of.there changed seq admitted.sound numbers first last
+          marked row row_is;
       suits = reversal_suits loan account of.ledger i sound of.there seq numbers first last row row_is;
     })

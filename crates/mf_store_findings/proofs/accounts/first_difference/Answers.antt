@@ -5,5 +5,6 @@ use Rattle.mf_store_findings.proofs.accounts.first_difference.Goals.{then-rows-o
 
 pub returns-then-rows-others-2-clause-none : goal.returns-then-rows-others-2-clause-none
 returns-then-rows-others-2-clause-none g c none =
-    let past : length c.args.rows.now ≤ c.loop-place.place = elim c.if-rows-others.branch [ then-rows-others w ↦ omega arith | else-rows-others w ↦ omega arith ] in
+    let past : length c.args.rows.now ≤ c.loop-place.place =
+    elim c.if-rows-others.branch [ then-rows-others w ↦ omega arith | else-rows-others w ↦ omega arith ] in
     same_all c.args.rows.now c.args.others.now c.loop-place.place c.if-rows-others-2.true past c.loop-place.invariant

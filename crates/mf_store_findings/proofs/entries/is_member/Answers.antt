@@ -5,4 +5,5 @@ use Rattle.mf_store_findings.proofs.entries.is_member.Goals as goal
 
 pub returns-in-None : goal.returns-in-None
 returns-in-None c =
-    none_there (λ (s : StaffRow). (s.office == c.args.office) && (s.number == c.args.number)) c.args.staff.now (λ row at. let called = c.in-None.ensures.none refl row at in search rules)
+    none_there (λ (s : StaffRow). (s.office == c.args.office) && (s.number == c.args.number)) c.args.staff.now
+    (λ row at. let called = c.in-None.ensures.none refl row at in search rules)

@@ -7,6 +7,7 @@ use Rattle.mf_store_findings.proofs.find.add_accounts.Goals as goal
 pub returns-in_ok-push-clause-each : goal.returns-in_ok-push-clause-each
 returns-in_ok-push-clause-each c today is =
     let P = Breaks c.args.schema today c.args.tables.now in
-    let one : P c.in-Some.finding = subst (λ x. IfSome x P) c.in-Some.is (c.in_ok-found.ensures.found c.args.schema today) in
+    let one : P c.in-Some.finding =
+    subst (λ x. IfSome x P) c.in-Some.is (c.in_ok-found.ensures.found c.args.schema today) in
     let items : c.push.new.self.items ≡ c.in-Some.finding ∷ [] = search rules in
     subst (AllByRecursion P) (sym items) (one, tt)

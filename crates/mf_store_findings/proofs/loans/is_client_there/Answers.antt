@@ -5,4 +5,5 @@ use Rattle.mf_store_findings.proofs.loans.is_client_there.Goals as goal
 
 pub returns-in-None : goal.returns-in-None
 returns-in-None c =
-    none_there (λ (r : ClientRow). (r.office == c.args.office) && (r.number == c.args.number)) c.args.clients.now (λ row at. let called = c.in-None.ensures.none refl row at in search rules)
+    none_there (λ (r : ClientRow). (r.office == c.args.office) && (r.number == c.args.number)) c.args.clients.now
+    (λ row at. let called = c.in-None.ensures.none refl row at in search rules)

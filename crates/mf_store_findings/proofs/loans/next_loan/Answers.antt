@@ -6,7 +6,12 @@ use Rattle.mf_store_findings.proofs.loans.next_loan.Goals as goal
 
 pub loop-place-preserved : goal.loop-place-preserved
 loop-place-preserved c =
-    none_more (BreaksLoan c.args.setting.now.today c.args.setting.now.offices.now c.args.setting.now.clients.now c.args.setting.now.products.now) c.args.from c.loop-place.place c.args.rows.now c.index-rows-place.result (option_copied c.row_before.result) c.loop-place-test.true c.index-rows-place.is c.row_before.ensures (c.in_default.ensures.none refl) c.loop-place.invariant
+    none_more (BreaksLoan c.args.setting.now.today c.args.setting.now.offices.now c.args.setting.now.clients.now
+    c.args.setting.now.products.now) c.args.from c.loop-place.place c.args.rows.now c.index-rows-place.result
+    (option_copied c.row_before.result) c.loop-place-test.true c.index-rows-place.is c.row_before.ensures
+    (c.in_default.ensures.none refl) c.loop-place.invariant
 
 pub returns-clause-none : goal.returns-clause-none
-returns-clause-none c none = none_all (BreaksLoan c.args.setting.now.today c.args.setting.now.offices.now c.args.setting.now.clients.now c.args.setting.now.products.now) c.args.from c.loop-place.place c.args.rows.now c.loop-place-test.false c.loop-place.invariant
+returns-clause-none c none = none_all (BreaksLoan c.args.setting.now.today c.args.setting.now.offices.now
+    c.args.setting.now.clients.now c.args.setting.now.products.now) c.args.from c.loop-place.place c.args.rows.now
+    c.loop-place-test.false c.loop-place.invariant

@@ -6,5 +6,6 @@ use Rattle.mf_store_findings.proofs.offices.is_office.Goals as goal
 
 pub returns-in-Ok : goal.returns-in-Ok
 returns-in-Ok c =
-    let by_number = c.in-Ok.ensures.position (λ (r : OfficeRow). r.number) (answers_always _ _ _ (λ f a r g called. search rules)) in
+    let by_number = c.in-Ok.ensures.position (λ (r : OfficeRow). r.number)
+    (answers_always _ _ _ (λ f a r g called. search rules)) in
     found_there c.args.offices.now c.args.number c.in-Ok.field-0 c.in-Ok.ensures.bound by_number

@@ -14,8 +14,10 @@ returns-clause-none c none charges before =
       refuses c.is_no_step.result c.if-is_no_step.false c.is_no_step.ensures,
       λ high. absurd (omega (arith, high, c.if-row-gt-MOST_GRACE.false)),
       λ high. absurd (omega (arith, high, c.if-row-gt-MOST_GRACE-2.false)),
-      λ h. refuses c.is_no_amount.result c.if-is_no_amount.false c.is_no_amount.ensures (subst IsNoAmount (sym (to_z-of_z w64 c.args.row.now.min_principal least)) h),
-      λ h. refuses c.is_no_amount-2.result c.if-is_no_amount-2.false c.is_no_amount-2.ensures (subst IsNoAmount (sym (to_z-of_z w64 c.args.row.now.max_principal most)) h),
+      λ h. refuses c.is_no_amount.result c.if-is_no_amount.false c.is_no_amount.ensures
+          (subst IsNoAmount (sym (to_z-of_z w64 c.args.row.now.min_principal least)) h),
+      λ h. refuses c.is_no_amount-2.result c.if-is_no_amount-2.false c.is_no_amount-2.ensures
+          (subst IsNoAmount (sym (to_z-of_z w64 c.args.row.now.max_principal most)) h),
       refuses c.are_no_periods.result c.if-are_no_periods.false c.are_no_periods.ensures,
       refuses c.are_no_periods-2.result c.if-are_no_periods-2.false c.are_no_periods-2.ensures,
     )

@@ -9,9 +9,11 @@ use Rattle.mf_store_findings.proofs.products.is_no_amount.Goals as goal
 pub returns-in-Some : goal.returns-in-Some
 returns-in-Some c =
     let fits : SFits w64 c.args.cents = search rules in
-    amount_is_none c.args.cents c.in-Some.amount c.is_outside.result (c.in-Some.ensures.some ∙ to_z-of_z w64 c.args.cents fits) c.is_outside.ensures
+    amount_is_none c.args.cents c.in-Some.amount c.is_outside.result (c.in-Some.ensures.some
+    ∙ to_z-of_z w64 c.args.cents fits) c.is_outside.ensures
 
 pub returns-in-None : goal.returns-in-None
 returns-in-None c =
     let fits : SFits w64 c.args.cents = search rules in
-    yes_answer (λ amount is. absurd (let none : None ≡ Some amount = c.in-None.ensures.every amount (is ∙ sym (to_z-of_z w64 c.args.cents fits)) in cc))
+    yes_answer (λ amount is. absurd (let none : None ≡ Some amount = c.in-None.ensures.every amount (is
+    ∙ sym (to_z-of_z w64 c.args.cents fits)) in cc))

@@ -5,7 +5,8 @@ use Rattle.mf_store_findings.proofs.products.is_no_step.Goals as goal
 
 pub returns-in-Some : goal.returns-in-Some
 returns-in-Some c =
-    step_is_none c.args.frequency c.args.every c.in-Some.freq c.is_outside_of.result c.in-Some.ensures.some c.in-Some.ensures.every c.is_outside_of.ensures
+    step_is_none c.args.frequency c.args.every c.in-Some.freq c.is_outside_of.result c.in-Some.ensures.some
+    c.in-Some.ensures.every c.is_outside_of.ensures
 
 pub returns-in-None : goal.returns-in-None
 returns-in-None c =

@@ -9,5 +9,6 @@ ask-requires-clause-plain g c = loans_above_plain
 
 pub returns-clause-rows : goal.returns-clause-rows
 returns-clause-rows g c clean lists kept =
-    shown c.ask.result (λ v. v.items) (state g.S.Store c.args.connection.now) loans_above _ lists _ (λ v s a. loans_above_shows c.args.office c.args.after _ v.items lists.loans s.schema_is s.holds.loans a) kept
+    shown c.ask.result (λ v. v.items) (state g.S.Store c.args.connection.now) loans_above _ lists _ (λ v s a.
+    loans_above_shows c.args.office c.args.after _ v.items lists.loans s.schema_is s.holds.loans a) kept
     (rw (c.params-to_sql.ensures, c.params-to_sql-2.ensures) at (c.ask.ensures.shows clean))

@@ -8,5 +8,7 @@ use Rattle.mf_store_records.proofs.receipts.find_receipt.Goals as goal
 pub returns-clause-row : goal.returns-clause-row
 returns-clause-row g c clean lists kept =
     let s = rw (c.params-to_sql.ensures, c.params-to_sql-2.ensures) at (c.in_ok-rows.ensures.shows clean) in
-    let are = c.find_text.ensures.shows (c.args.office, c.args.receipt.now) lists (state g.S.Store c.args.connection.now).now c.in_ok-rows.rows.items (kept s.is_open) s.answers in
-    IfOk-weaker c.first.result _ _ (λ x reads. first_is receipt_row (is_receipt c.args.office c.args.receipt.now) lists.receipts c.in_ok-rows.rows.items x are (λ rs e. reads rs (c.deref.ensures.value ∙ e))) c.first.ensures.row
+    let are = c.find_text.ensures.shows (c.args.office, c.args.receipt.now) lists
+    (state g.S.Store c.args.connection.now).now c.in_ok-rows.rows.items (kept s.is_open) s.answers in
+    IfOk-weaker c.first.result _ _ (λ x reads. first_is receipt_row (is_receipt c.args.office c.args.receipt.now)
+    lists.receipts c.in_ok-rows.rows.items x are (λ rs e. reads rs (c.deref.ensures.value ∙ e))) c.first.ensures.row

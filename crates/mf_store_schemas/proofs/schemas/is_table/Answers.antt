@@ -13,6 +13,7 @@ returns c = let found = c.args.found.now in let w = c.args.wanted.now in (
   λ plain.
       let placed = c.is_placed.ensures.0 c.if-not-is_placed.false in
       let columns = c.are_columns.ensures.0 c.if-not-are_columns.false in
-      table_is w found placed.0 placed.1 (sym c.as_slice.ensures ∙ columns) (c.has_keys.ensures.0 c.if-not-has_keys.false) (c.has_no_rules.ensures.0 plain),
+      table_is w found placed.0 placed.1 (sym c.as_slice.ensures ∙ columns)
+      (c.has_keys.ensures.0 c.if-not-has_keys.false) (c.has_no_rules.ensures.0 plain),
   λ is. c.has_no_rules.ensures.1 (rules_are w found is),
 )

@@ -8,4 +8,5 @@ use Rattle.mf_store_sound.proofs.callers.are_by_staff.Given as goal
 
 abbrev pub invariant-loop-row : goal.invariant-loop-row
 invariant-loop-row l =
-    (fs : List Office) → Ascending fs → all_rows staff_in (λ own. own.staff) fs ≡ l.staff → list_all (is_by_staff fs) l.rows ≡ list_all (is_by_staff fs) (drop l.row-index l.rows)
+    (fs : List Office) → Ascending fs → all_rows staff_in (λ own. own.staff) fs ≡ l.staff
+    → list_all (is_by_staff fs) l.rows ≡ list_all (is_by_staff fs) (drop l.row-index l.rows)

@@ -5,10 +5,12 @@ pub returns-in-200-Some-None : goal.returns-in-200-Some-None
 returns-in-200-Some-None c =
     let a = c.in-200-Some-None in
     let row = c.args.row.now in
-    approved_is c.args.today row.stage row.approved row.disbursed _ c.is_approval.result a.is-0 a.is-1 a.is-2 c.is_approval.ensures
+    approved_is c.args.today row.stage row.approved row.disbursed _ c.is_approval.result a.is-0 a.is-1 a.is-2
+    c.is_approval.ensures
 
 pub returns-in-300-Some-Some : goal.returns-in-300-Some-Some
 returns-in-300-Some-Some c =
     let a = c.in-300-Some-Some in
     let row = c.args.row.now in
-    disbursed_is c.args.today row.stage row.approved row.disbursed _ _ c.is_disbursal.result a.is-0 a.is-1 a.is-2 c.is_disbursal.ensures
+    disbursed_is c.args.today row.stage row.approved row.disbursed _ _ c.is_disbursal.result a.is-0 a.is-1 a.is-2
+    c.is_disbursal.ensures

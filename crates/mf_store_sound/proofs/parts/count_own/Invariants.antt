@@ -6,4 +6,5 @@ use Rattle.mf_store_sound.proofs.parts.count_own.Given as goal
 abbrev pub invariant-loop-row : goal.invariant-loop-row
 invariant-loop-row g l =
     (l.count ≡ l.row-index)
-    × ((of : _ → ℕ) → ((row : _) (n : ℕ) → FnReturnsAt g.F.Fn l.owner_of row n → n ≡ of row) → own_count of l.owner l.rows ≡ l.row-index + own_count of l.owner (drop l.row-index l.rows))
+    × ((of : _ → ℕ) → ((row : _) (n : ℕ) → FnReturnsAt g.F.Fn l.owner_of row n → n ≡ of row)
+    → own_count of l.owner l.rows ≡ l.row-index + own_count of l.owner (drop l.row-index l.rows))

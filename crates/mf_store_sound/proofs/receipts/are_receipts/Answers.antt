@@ -10,8 +10,14 @@ use Rattle.mf_store_sound.proofs.receipts.are_receipts.Goals as goal
 pub returns-clause-exact : goal.returns-clause-exact
 returns-clause-exact c =
     let sorted = c.sort_unstable_by.new.self.items in
-    let same : IsPermutation (carried_by c.args.entries.now) c.sort_unstable_by.new.self.items = subst (λ rows. IsPermutation rows c.sort_unstable_by.new.self.items) (c.in_ok-rows.ensures {u = tt}).rows c.sort_unstable_by.ensures.permutation in
+    let same : IsPermutation (carried_by c.args.entries.now) c.sort_unstable_by.new.self.items =
+    subst (λ rows. IsPermutation rows c.sort_unstable_by.new.self.items) (c.in_ok-rows.ensures {u = tt}).rows
+    c.sort_unstable_by.ensures.permutation in
     let order : IsSorted by_receipt c.sort_unstable_by.new.self.items =
-    c.sort_unstable_by.ensures.sorted (λ row other. is_lt (by_receipt row other)) (ranks_by by_receipt_total (λ (r : ReceiptRow). r)) (answers_always _ _ _ (λ f a r g called. ap is_lt (let is : r ≡ by_receipt a.0.now a.1.0.now = search rules in is))) in
-    receipts_are c.args.entries.now c.sort_unstable_by.new.self.items c.args.receipts.now (IsTrue c.are_same-same.result) (c.is_ascending.ensures.0 c.if-not-is_ascending.false) same order
-    (subst (λ rows. IsTrue c.are_same-same.result ↔ (rows ≡ c.args.receipts.now)) c.deref.ensures.value c.are_same-same.ensures)
+    c.sort_unstable_by.ensures.sorted (λ row other. is_lt (by_receipt row other))
+    (ranks_by by_receipt_total (λ (r : ReceiptRow). r)) (answers_always _ _ _ (λ f a r g called.
+    ap is_lt (let is : r ≡ by_receipt a.0.now a.1.0.now = search rules in is))) in
+    receipts_are c.args.entries.now c.sort_unstable_by.new.self.items c.args.receipts.now
+    (IsTrue c.are_same-same.result) (c.is_ascending.ensures.0 c.if-not-is_ascending.false) same order
+    (subst (λ rows. IsTrue c.are_same-same.result ↔ (rows ≡ c.args.receipts.now)) c.deref.ensures.value
+    c.are_same-same.ensures)

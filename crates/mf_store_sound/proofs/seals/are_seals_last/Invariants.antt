@@ -11,4 +11,5 @@ use Rattle.mf_store_sound.proofs.seals.are_seals_last.Given as goal
 abbrev pub invariant-loop-row : goal.invariant-loop-row
 invariant-loop-row l =
     (x m : ℕ) (entries : List Entry) → AllByRecursion IsReadable entries → map (entry_in x m) entries ≡ l.rows
-    → are_seals_last entries ≡ list_all (λ (e : Entry). e.reversed || (not (is_seal e.kind) || is_last_of entries e)) (drop l.row-index entries)
+    → are_seals_last entries ≡ list_all (λ (e : Entry). e.reversed || (not (is_seal e.kind) || is_last_of entries e))
+    (drop l.row-index entries)

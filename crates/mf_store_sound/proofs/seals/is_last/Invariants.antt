@@ -10,5 +10,7 @@ use Rattle.mf_store_sound.proofs.seals.is_last.Given as goal
 
 abbrev pub invariant-loop-row : goal.invariant-loop-row
 invariant-loop-row l =
-    (x m : ℕ) (entries : List Entry) (e : Entry) → AllByRecursion IsReadable entries → map (entry_in x m) entries ≡ l.rows → IsReadable e → entry_in x m e ≡ l.last
-    → is_last_of entries e ≡ list_all (λ (f : Entry). f.reversed || ((f.seq == e.seq) || is_before f e)) (drop l.row-index entries)
+    (x m : ℕ) (entries : List Entry) (e : Entry) → AllByRecursion IsReadable entries → map (entry_in x m) entries
+    ≡ l.rows → IsReadable e → entry_in x m e ≡ l.last
+    → is_last_of entries e ≡ list_all (λ (f : Entry). f.reversed || ((f.seq == e.seq) || is_before f e))
+    (drop l.row-index entries)

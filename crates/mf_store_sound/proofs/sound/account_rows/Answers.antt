@@ -10,9 +10,12 @@ use Rattle.mf_store_sound.proofs.sound.account_rows.Goals as goal
 
 pub returns-clause-rows : goal.returns-clause-rows
 returns-clause-rows c =
-    IfOk-weaker c.rows_of_accounts.result _ (λ rows. (i : Institution) → IsSound i → first_tables_of i ≡ c.args.tables.now → (rows.0.items ≡ (tables_of i).instalments) × (rows.1.items ≡ (tables_of i).shares)) (λ rows told.
+    IfOk-weaker c.rows_of_accounts.result _ (λ rows. (i : Institution) → IsSound i → first_tables_of i
+    ≡ c.args.tables.now → (rows.0.items ≡ (tables_of i).instalments) × (rows.1.items ≡ (tables_of i).shares))
+    (λ rows told.
     rows_are_of c.args.tables.now rows.0.items rows.1.items
     (
-    told_of_parts (λ none other k ps. AreAccounts k ps rows.0.items rows.1.items) c.args.tables.now _ c.tables.view_is c.deref.result.now c.deref-2.result.now c.deref-3.result.now c.deref-4.result.now _ _
+    told_of_parts (λ none other k ps. AreAccounts k ps rows.0.items rows.1.items) c.args.tables.now _ c.tables.view_is
+    c.deref.result.now c.deref-2.result.now c.deref-3.result.now c.deref-4.result.now _ _
     c.deref.ensures.value c.deref-2.ensures.value c.deref-3.ensures.value c.deref-4.ensures.value refl refl told
     )) c.rows_of_accounts.ensures.accounts

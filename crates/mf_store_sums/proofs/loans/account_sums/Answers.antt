@@ -10,7 +10,8 @@ returns c k l some lent =
     let entries = entries_are k l c.args.account.now of ∙ sym c.entries-entries.ensures in
     λ t. record {
       clients = 0;
-      loans = c.counted_at.ensures k l (status_is k l c.args.account.now of ∙ sym c.status.ensures ∙ sym c.from.ensures) t;
+      loans = c.counted_at.ensures k l (status_is k l c.args.account.now of ∙ sym c.status.ensures ∙ sym c.from.ensures)
+          t;
       entries = c.counted_entries.ensures l entries t;
       principal = c.principal_of.ensures k l balances (lent_is k l c.args.account.now of ∙ lent) t;
       money = c.money_of.ensures k l balances (ap sum_repaid entries ∙ sym c.repaid.ensures) t;

@@ -9,7 +9,10 @@ use Rattle.mf_store_sums.proofs.loans.money_of.Goals as goal
 pub returns : goal.returns
 returns c k l is brought = λ t. record {
   repaid = alone (λ (m : Ledger). sum_repaid m.entries) l c.args.repaid brought t;
-  paid = alone (λ (m : Ledger). sum (balances_in k m).paid) l c.sum_of.result (ap (λ (b : Balances). sum b.paid) is ∙ sym c.sum_of.ensures) t;
-  overpaid = alone (λ (m : Ledger). (balances_in k m).overpaid) l c.from.result (ap (λ (b : Balances). b.overpaid) is ∙ sym c.from.ensures) t;
-  refunded = alone (λ (m : Ledger). (balances_in k m).refunded) l c.from-2.result (ap (λ (b : Balances). b.refunded) is ∙ sym c.from-2.ensures) t;
+  paid = alone (λ (m : Ledger). sum (balances_in k m).paid) l c.sum_of.result (ap (λ (b : Balances). sum b.paid) is
+      ∙ sym c.sum_of.ensures) t;
+  overpaid = alone (λ (m : Ledger). (balances_in k m).overpaid) l c.from.result (ap (λ (b : Balances). b.overpaid) is
+      ∙ sym c.from.ensures) t;
+  refunded = alone (λ (m : Ledger). (balances_in k m).refunded) l c.from-2.result (ap (λ (b : Balances). b.refunded) is
+      ∙ sym c.from-2.ensures) t;
 }

@@ -13,29 +13,39 @@ use Rattle.mf_store_sums.proofs.offices.office_sums.Goals as goal
 
 pub returns-clause-sums : goal.returns-clause-sums
 returns-clause-sums c =
-    IfOk-weaker c.sums_of_offices.result _ (λ found. (schema : ℕ) (i : Institution) → IsSound i → tables_under schema i ≡ without_accounts c.args.tables.now → found.items ≡ map (sums_of i.catalogue) i.offices) (λ found told.
+    IfOk-weaker c.sums_of_offices.result _ (λ found. (schema : ℕ) (i : Institution) → IsSound i → tables_under schema i
+    ≡ without_accounts c.args.tables.now → found.items ≡ map (sums_of i.catalogue) i.offices) (λ found told.
     told_at (λ k fs. found.items ≡ map (sums_of k) fs) c.args.tables.now
     (
-    told_of_parts (λ k fs. found.items ≡ map (sums_of k) fs) c.args.tables.now _ c.tables.view_is c.deref.result.now c.deref-2.result.now c.deref-3.result.now c.deref-4.result.now c.deref-5.result.now c.deref-6.result.now
-    c.deref.ensures.value c.deref-2.ensures.value c.deref-3.ensures.value c.deref-4.ensures.value c.deref-5.ensures.value c.deref-6.ensures.value told
+    told_of_parts (λ k fs. found.items ≡ map (sums_of k) fs) c.args.tables.now _ c.tables.view_is c.deref.result.now
+    c.deref-2.result.now c.deref-3.result.now c.deref-4.result.now c.deref-5.result.now c.deref-6.result.now
+    c.deref.ensures.value c.deref-2.ensures.value c.deref-3.ensures.value c.deref-4.ensures.value
+    c.deref-5.ensures.value c.deref-6.ensures.value told
     )) c.sums_of_offices.ensures.sums
 
 pub returns-clause-balanced : goal.returns-clause-balanced
 returns-clause-balanced c =
-    IfOk-weaker c.sums_of_offices.result _ (λ found. (schema : ℕ) (i : Institution) → IsSound i → tables_under schema i ≡ without_accounts c.args.tables.now → AllByRecursion (λ (o : OfficeSums). IsBalanced o.sums) found.items) (λ found told schema i sound is.
+    IfOk-weaker c.sums_of_offices.result _ (λ found. (schema : ℕ) (i : Institution) → IsSound i → tables_under schema i
+    ≡ without_accounts c.args.tables.now → AllByRecursion (λ (o : OfficeSums). IsBalanced o.sums) found.items)
+    (λ found told schema i sound is.
     subst (AllByRecursion (λ (o : OfficeSums). IsBalanced o.sums)) (sym (
     told_at (λ k fs. found.items ≡ map (sums_of k) fs) c.args.tables.now
     (
-    told_of_parts (λ k fs. found.items ≡ map (sums_of k) fs) c.args.tables.now _ c.tables.view_is c.deref.result.now c.deref-2.result.now c.deref-3.result.now c.deref-4.result.now c.deref-5.result.now c.deref-6.result.now
-    c.deref.ensures.value c.deref-2.ensures.value c.deref-3.ensures.value c.deref-4.ensures.value c.deref-5.ensures.value c.deref-6.ensures.value told
+    told_of_parts (λ k fs. found.items ≡ map (sums_of k) fs) c.args.tables.now _ c.tables.view_is c.deref.result.now
+    c.deref-2.result.now c.deref-3.result.now c.deref-4.result.now c.deref-5.result.now c.deref-6.result.now
+    c.deref.ensures.value c.deref-2.ensures.value c.deref-3.ensures.value c.deref-4.ensures.value
+    c.deref-5.ensures.value c.deref-6.ensures.value told
     ) schema i sound is)) (all_balanced i sound)) c.sums_of_offices.ensures.sums
 
 pub returns-clause-fit : goal.returns-clause-fit
 returns-clause-fit c =
-    IfOk-weaker c.sums_of_offices.result _ (λ found. (schema : ℕ) (i : Institution) → IsSound i → tables_under schema i ≡ without_accounts c.args.tables.now → Fit (total_of found.items)) (λ found told schema i sound is.
+    IfOk-weaker c.sums_of_offices.result _ (λ found. (schema : ℕ) (i : Institution) → IsSound i → tables_under schema i
+    ≡ without_accounts c.args.tables.now → Fit (total_of found.items)) (λ found told schema i sound is.
     subst (λ (os : List OfficeSums). Fit (total_of os)) (sym (
     told_at (λ k fs. found.items ≡ map (sums_of k) fs) c.args.tables.now
     (
-    told_of_parts (λ k fs. found.items ≡ map (sums_of k) fs) c.args.tables.now _ c.tables.view_is c.deref.result.now c.deref-2.result.now c.deref-3.result.now c.deref-4.result.now c.deref-5.result.now c.deref-6.result.now
-    c.deref.ensures.value c.deref-2.ensures.value c.deref-3.ensures.value c.deref-4.ensures.value c.deref-5.ensures.value c.deref-6.ensures.value told
+    told_of_parts (λ k fs. found.items ≡ map (sums_of k) fs) c.args.tables.now _ c.tables.view_is c.deref.result.now
+    c.deref-2.result.now c.deref-3.result.now c.deref-4.result.now c.deref-5.result.now c.deref-6.result.now
+    c.deref.ensures.value c.deref-2.ensures.value c.deref-3.ensures.value c.deref-4.ensures.value
+    c.deref-5.ensures.value c.deref-6.ensures.value told
     ) schema i sound is)) (sound_fits i sound)) c.sums_of_offices.ensures.sums

@@ -22,8 +22,12 @@ pub loop-row-preserved : goal.loop-row-preserved
 loop-row-preserved c k sound e f x ls plain loans entries =
     let l = c.loop-row in
     let whole = sums_by_loan k c.args.clients ls in
-    let so_far = subst (λ (rows : List LoanRow). IsLeft k x whole rows l.entries_left.now l.sums) (at_row c.args.loans.now l.row-index c.row-item.result c.loop-row-test.true c.row-item.is) (l.invariant k sound e f x ls plain loans entries) in
-    loan_more k x whole (drop (l.row-index + 1) c.args.loans.now) l.entries_left.now _ _ l.sums _ _ c.row-item.result (c.parts.ensures.own loan_of (λ row n called. search rules)) (c.parts.ensures.later loan_of (λ row n called. search rules))
+    let so_far = subst (λ (rows : List LoanRow). IsLeft k x whole rows l.entries_left.now l.sums)
+    (at_row c.args.loans.now l.row-index c.row-item.result c.loop-row-test.true c.row-item.is)
+    (l.invariant k sound e f x ls plain loans entries) in
+    loan_more k x whole (drop (l.row-index + 1) c.args.loans.now) l.entries_left.now _ _ l.sums _ _ c.row-item.result
+    (c.parts.ensures.own loan_of (λ row n called. search rules))
+    (c.parts.ensures.later loan_of (λ row n called. search rules))
     (c.in_ok-loan.ensures.sums k sound e f) c.in-Some.ensures.1 so_far
 
 pub returns-clause-sums : goal.returns-clause-sums
@@ -31,4 +35,5 @@ returns-clause-sums c k sound e f x ls plain loans entries =
     let l = c.loop-row in
     let whole = sums_by_loan k c.args.clients ls in
     no_loan_left k x whole l.entries_left.now l.sums
-    (subst (λ (rows : List LoanRow). IsLeft k x whole rows l.entries_left.now l.sums) (at_end c.args.loans.now l.row-index c.loop-row-test.false) (l.invariant k sound e f x ls plain loans entries))
+    (subst (λ (rows : List LoanRow). IsLeft k x whole rows l.entries_left.now l.sums)
+    (at_end c.args.loans.now l.row-index c.loop-row-test.false) (l.invariant k sound e f x ls plain loans entries))

@@ -9,18 +9,25 @@ pub loop-office-preserved : goal.loop-office-preserved
 loop-office-preserved c =
     let l = c.loop-office in
     let told = c.in_ok-all.ensures {u = tt} in
-    record { all = total_more c.args.offices.now l.office-index _ l.all c.loop-office-test.true l.invariant.all c.in_ok-all.all told.1; room = subst Fit (sym told.1) told.0 }
+    record {
+      all = total_more c.args.offices.now l.office-index _ l.all c.loop-office-test.true l.invariant.all
+          c.in_ok-all.all told.1;
+      room = subst Fit (sym told.1) told.0;
+    }
 
 pub returns-in_err-all-clause-value : goal.returns-in_err-all-clause-value
 returns-in_err-all-clause-value c =
     let l = c.loop-office in
-    rw c.from_residual.ensures (no_room c.args.offices.now l.office-index _ l.all c.loop-office-test.true l.invariant.all c.in_err-all.ensures)
+    rw c.from_residual.ensures (no_room c.args.offices.now l.office-index _ l.all c.loop-office-test.true
+    l.invariant.all c.in_err-all.ensures)
 
 pub returns-clause-value : goal.returns-clause-value
 returns-clause-value c =
-    let is = c.loop-office.invariant.all ∙ ap total_of (take_all c.loop-office.office-index c.args.offices.now c.loop-office-test.false) in
+    let is = c.loop-office.invariant.all ∙ ap total_of (take_all c.loop-office.office-index c.args.offices.now
+    c.loop-office-test.false) in
     (subst Fit is c.loop-office.invariant.room, is)
 
 pub returns-clause-balanced : goal.returns-clause-balanced
 returns-clause-balanced c each =
-    subst IsBalanced (sym (c.loop-office.invariant.all ∙ ap total_of (take_all c.loop-office.office-index c.args.offices.now c.loop-office-test.false))) (total_balanced c.args.offices.now each)
+    subst IsBalanced (sym (c.loop-office.invariant.all ∙ ap total_of (take_all c.loop-office.office-index
+    c.args.offices.now c.loop-office-test.false))) (total_balanced c.args.offices.now each)

@@ -30,7 +30,8 @@ loop-instalment-preserved c =
     record {
       all = one_done _ _ _ _ c.in-Some.instalment before.all steps.0;
       left = omega (arith, ap length steps.0, steps.1, before.left);
-      put = one_put (λ x. Put (PutInstalment x)) first c.loop-instalment.writes.items _ c.loop-instalment.yielded c.in-Some.instalment c.in_ok-push-2.ensures.items before.put;
+      put = one_put (λ x. Put (PutInstalment x)) first c.loop-instalment.writes.items _ c.loop-instalment.yielded
+          c.in-Some.instalment c.in_ok-push-2.ensures.items before.put;
     }
 
 pub loop-share-init : goal.loop-share-init
@@ -42,7 +43,8 @@ loop-share-init c =
       all = sym gives.0;
       left = omega (arith, gives.1, ap length gives.0, c.args.shares.ok);
       put =
-          before.put ∙ ap after (all_done c.args.instalments.items c.loop-instalment.yielded (into_iter_items c.loop-instalment.instalment-iterator) before.all (omega (arith, steps.0, before.left)))
+          before.put ∙ ap after (all_done c.args.instalments.items c.loop-instalment.yielded
+          (into_iter_items c.loop-instalment.instalment-iterator) before.all (omega (arith, steps.0, before.left)))
           ∙ sym (append-nil (after c.args.instalments.items));
     }
 
@@ -53,7 +55,8 @@ loop-share-preserved c =
     record {
       all = one_done _ _ _ _ c.in-Some-share.share before.all steps.0;
       left = omega (arith, ap length steps.0, steps.1, before.left);
-      put = one_put (λ x. Put (PutShare x)) (after c.args.instalments.items) c.loop-share.writes.items _ c.loop-share.yielded c.in-Some-share.share c.in_ok-push-3.ensures.items before.put;
+      put = one_put (λ x. Put (PutShare x)) (after c.args.instalments.items) c.loop-share.writes.items _
+          c.loop-share.yielded c.in-Some-share.share c.in_ok-push-3.ensures.items before.put;
     }
 
 pub returns-clause-writes : goal.returns-clause-writes
@@ -63,5 +66,7 @@ returns-clause-writes c =
     let is = map (λ x. Put (PutInstalment x)) c.args.instalments.items in
     let ss = map (λ x. Put (PutShare x)) c.args.shares.items in
     let last = Put (PutMeta c.args.meta) ∷ [] in
-    let put = before.put ∙ ap (λ l. after c.args.instalments.items ++ map (λ x. Put (PutShare x)) l) (all_done c.args.shares.items c.loop-share.yielded (into_iter_items c.loop-share.share-iterator) before.all (omega (arith, steps.0, before.left))) in
+    let put = before.put ∙ ap (λ l. after c.args.instalments.items ++ map (λ x. Put (PutShare x)) l)
+    (all_done c.args.shares.items c.loop-share.yielded (into_iter_items c.loop-share.share-iterator) before.all
+    (omega (arith, steps.0, before.left))) in
     c.in_ok-push-4.ensures.items ∙ ap (λ l. l ++ last) put ∙ ap (λ l. MakeAccountTables ∷ l) (append_assoc is ss last)

@@ -15,5 +15,6 @@ abbrev pub invariant-loop-share : goal.invariant-loop-share
 invariant-loop-share l = record {
   all : l.fn.shares.items ≡ l.yielded ++ into_iter_items l.share-iterator;
   left : into_iter_len l.share-iterator ≡ length (into_iter_items l.share-iterator);
-  put : l.writes.items ≡ ((MakeAccountTables ∷ []) ++ map (λ x. Put (PutInstalment x)) l.fn.instalments.items) ++ map (λ x. Put (PutShare x)) l.yielded;
+  put : l.writes.items ≡ ((MakeAccountTables ∷ []) ++ map (λ x. Put (PutInstalment x)) l.fn.instalments.items)
+      ++ map (λ x. Put (PutShare x)) l.yielded;
 }

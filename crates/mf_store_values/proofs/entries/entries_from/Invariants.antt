@@ -7,4 +7,6 @@ use Rattle.mf_store_accounts.specs.Flat.{entry_in}
 use Rattle.mf_store_values.proofs.entries.entries_from.Given as goal
 
 abbrev pub invariant-loop-row : goal.invariant-loop-row
-invariant-loop-row l = (office loan : ℕ) (es : List ModelEntry) → AllByRecursion (λ (e : ModelEntry). IsCaller e.staff) es → l.rows ≡ map (λ (e : ModelEntry). entry_stored (entry_in office loan e)) es → l.entries.items ≡ map (λ (e : ModelEntry). e) (take l.row-index es)
+invariant-loop-row l = (office loan : ℕ) (es : List ModelEntry) → AllByRecursion (λ (e : ModelEntry). IsCaller e.staff)
+    es → l.rows ≡ map (λ (e : ModelEntry). entry_stored (entry_in office loan e)) es → l.entries.items
+    ≡ map (λ (e : ModelEntry). e) (take l.row-index es)

@@ -8,5 +8,7 @@ use Rattle.mf_store_values.proofs.entries.entry_in_row.Goals as goal
 
 pub returns-clause-entry : goal.returns-clause-entry
 returns-clause-entry c =
-    IfOk-weaker c.entry_from.result _ (λ entry. (office loan : ℕ) (e : ModelEntry) → IsCaller e.staff → c.args.row.now ≡ entry_stored (entry_in office loan e) → entry ≡ e)
-    (λ entry h office loan e caller are. h office loan e caller (c.in_ok-found.ensures.row (entry_in office loan e) are)) c.entry_from.ensures.entry
+    IfOk-weaker c.entry_from.result _ (λ entry. (office loan : ℕ) (e : ModelEntry) → IsCaller e.staff → c.args.row.now
+    ≡ entry_stored (entry_in office loan e) → entry ≡ e)
+    (λ entry h office loan e caller are. h office loan e caller (c.in_ok-found.ensures.row (entry_in office loan e)
+    are)) c.entry_from.ensures.entry

@@ -14,6 +14,8 @@ invariant-rows g l = record {
   kept : HasCleanDisk (state g.S.Store l.rows.conn.now) → IsKept g.S.Store l.initial.rows.conn.now l.rows.conn.now;
   mode : l.initial.rows.conn.now.in_transaction ≡ false → l.rows.conn.now.in_transaction ≡ false;
   given : (taken : List Row)
-      × (HasCleanDisk (state g.S.Store l.rows.conn.now) → (sql : List ℕ) (params : Row) → HasGiven g.S.Store sql params l.initial.rows.conn.now [] → HasGiven g.S.Store sql params l.rows.conn.now taken × IsUnchanged (state g.S.Store l.initial.rows.conn.now) (state g.S.Store l.rows.conn.now))
+      × (HasCleanDisk (state g.S.Store l.rows.conn.now) → (sql : List ℕ) (params : Row)
+      → HasGiven g.S.Store sql params l.initial.rows.conn.now [] → HasGiven g.S.Store sql params l.rows.conn.now
+      taken × IsUnchanged (state g.S.Store l.initial.rows.conn.now) (state g.S.Store l.rows.conn.now))
       × Tells l.day taken l.initial.line l.read l.line;
 }

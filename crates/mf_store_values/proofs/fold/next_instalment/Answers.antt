@@ -6,7 +6,8 @@ use Rattle.mf_store_values.proofs.fold.next_instalment.Goals as goal
 pub returns-in-Ok-placed_in_row-clause-takes : goal.returns-in-Ok-placed_in_row-clause-takes
 returns-in-Ok-placed_in_row-clause-takes g c = (
   c.in-Some.row.now,
-  (λ clean. subst (Advances g.S.Store c.args.rows.now.conn.now c.advance.new.self.conn.now) (sym c.get.ensures ∙ ap option_copied c.in-Some.is) (c.in-Ok.ensures.ok clean)),
+  (λ clean. subst (Advances g.S.Store c.args.rows.now.conn.now c.advance.new.self.conn.now) (sym c.get.ensures
+      ∙ ap option_copied c.in-Some.is) (c.in-Ok.ensures.ok clean)),
   c.in-Ok-placed_in_row.ensures.row,
 )
 
@@ -17,7 +18,8 @@ pub returns-in-Err-clause-refuses : goal.returns-in-Err-clause-refuses
 returns-in-Err-clause-refuses g c = inl (
   c.in-Some.row.now,
   λ clean. (
-    subst (Advances g.S.Store c.args.rows.now.conn.now c.advance.new.self.conn.now) (sym c.get.ensures ∙ ap option_copied c.in-Some.is) (c.in-Ok.ensures.ok clean),
+    subst (Advances g.S.Store c.args.rows.now.conn.now c.advance.new.self.conn.now) (sym c.get.ensures
+        ∙ ap option_copied c.in-Some.is) (c.in-Ok.ensures.ok clean),
     c.in-Ok.ensures.same clean,
   ),
 )

@@ -8,9 +8,20 @@ pub returns-clause-row : goal.returns-clause-row
 returns-clause-row c =
     IfOk-weaker c.instalment_of.result _ _
     (λ found read office loan number sums whole is.
-    let owed = same_four c.in_ok-owed.owed sums.owed whole.owed (c.in_ok-owed.ensures.sums ∙ (λ t. (is t).owed_penalty ∷ (is t).owed_fee ∷ (is t).owed_interest ∷ (is t).owed_principal ∷ [])) in
-    let paid = same_four c.in_ok-paid.paid sums.paid whole.paid (c.in_ok-paid.ensures.sums ∙ (λ t. (is t).paid_penalty ∷ (is t).paid_fee ∷ (is t).paid_interest ∷ (is t).paid_principal ∷ [])) in
-    let waived = same_four c.in_ok-waived.waived sums.waived whole.waived (c.in_ok-waived.ensures.sums ∙ (λ t. (is t).waived_penalty ∷ (is t).waived_fee ∷ (is t).waived_interest ∷ (is t).waived_principal ∷ [])) in
-    let written_off = same_four c.in_ok-written_off.written_off sums.written_off whole.written_off (c.in_ok-written_off.ensures.sums ∙ (λ t. (is t).written_off_penalty ∷ (is t).written_off_fee ∷ (is t).written_off_interest ∷ (is t).written_off_principal ∷ [])) in
-    read sums.due (ap (λ (r : InstalmentRow). r.due) is) ∙ (λ t. record { due = sums.due; owed = owed t; paid = paid t; waived = waived t; written_off = written_off t }))
+    let owed = same_four c.in_ok-owed.owed sums.owed whole.owed (c.in_ok-owed.ensures.sums
+    ∙ (λ t. (is t).owed_penalty ∷ (is t).owed_fee ∷ (is t).owed_interest ∷ (is t).owed_principal ∷ [])) in
+    let paid = same_four c.in_ok-paid.paid sums.paid whole.paid (c.in_ok-paid.ensures.sums
+    ∙ (λ t. (is t).paid_penalty ∷ (is t).paid_fee ∷ (is t).paid_interest ∷ (is t).paid_principal ∷ [])) in
+    let waived = same_four c.in_ok-waived.waived sums.waived whole.waived (c.in_ok-waived.ensures.sums
+    ∙ (λ t. (is t).waived_penalty ∷ (is t).waived_fee ∷ (is t).waived_interest ∷ (is t).waived_principal ∷ [])) in
+    let written_off = same_four c.in_ok-written_off.written_off sums.written_off whole.written_off
+    (c.in_ok-written_off.ensures.sums ∙ (λ t. (is t).written_off_penalty ∷ (is t).written_off_fee
+    ∷ (is t).written_off_interest ∷ (is t).written_off_principal ∷ [])) in
+    read sums.due (ap (λ (r : InstalmentRow). r.due) is) ∙ (λ t. record {
+      due = sums.due;
+      owed = owed t;
+      paid = paid t;
+      waived = waived t;
+      written_off = written_off t;
+    }))
     c.instalment_of.ensures.row

@@ -7,7 +7,9 @@ use Rattle.mf_store_values.proofs.instalments.instalments_from.Given as goal
 
 abbrev pub invariant-loop-row : goal.invariant-loop-row
 invariant-loop-row l = record {
-  rows : (office loan : ℕ) (all : List (ℕ × Sums)) → AllByRecursion (λ (item : ℕ × Sums). IsWhole item.1) all → l.rows ≡ map (λ (item : ℕ × Sums). instalment_stored (instalment_in office loan item)) all → l.instalments.items ≡ map (λ (item : ℕ × Sums). item.1) (take l.row-index all);
+  rows : (office loan : ℕ) (all : List (ℕ × Sums)) → AllByRecursion (λ (item : ℕ × Sums). IsWhole item.1) all
+      → l.rows ≡ map (λ (item : ℕ × Sums). instalment_stored (instalment_in office loan item)) all → l.instalments.items
+      ≡ map (λ (item : ℕ × Sums). item.1) (take l.row-index all);
   whole : AreWhole l.instalments.items;
   within : AreWithin l.instalments.items;
 }

@@ -13,20 +13,27 @@ pub returns-in-Ok-clause-line : goal.returns-in-Ok-clause-line
 returns-in-Ok-clause-line g c clean plain =
     let new = c.fold_instalments.new.rows.conn.now in
     let late : HasCleanDisk (state g.S.Store new) = search rules in
-    let told : OnOk c.fold_instalments.result ((taken : List Row) × Shown c.args.sql.now (bound c.args.params.now) (state g.S.Store c.args.connection.now) (state g.S.Store new) taken × IsLineOf c.args.today taken c.args.line.now c.fold_instalments.new.line) =
-    folded_line g.S.Store c.args.today c.args.sql.now (bound c.args.params.now) c.args.connection.now c.in-Ok.rows.conn.now new c.args.line.now c.fold_instalments.new.line c.fold_instalments.result plain c.in-Ok.ensures.begun c.fold_instalments.ensures.survives c.fold_instalments.ensures.folds late in
+    let told : OnOk c.fold_instalments.result ((taken : List Row) × Shown c.args.sql.now (bound c.args.params.now)
+    (state g.S.Store c.args.connection.now) (state g.S.Store new) taken
+    × IsLineOf c.args.today taken c.args.line.now c.fold_instalments.new.line) =
+    folded_line g.S.Store c.args.today c.args.sql.now (bound c.args.params.now) c.args.connection.now
+    c.in-Ok.rows.conn.now new c.args.line.now c.fold_instalments.new.line c.fold_instalments.result plain
+    c.in-Ok.ensures.begun c.fold_instalments.ensures.survives c.fold_instalments.ensures.folds late in
     search rules
 
 pub returns-in-Err-clause-same : goal.returns-in-Err-clause-same
 returns-in-Err-clause-same g c clean plain settled live =
     let refused = rw c.in-Err.is at c.query.follows.holds-at-none in
-    refused_same c.args.sql.now (bound c.args.params.now) (state g.S.Store c.args.connection.now) (state g.S.Store c.query.follows.lender-at-none) c.in-Err.field-0 plain settled live (refused.err clean)
+    refused_same c.args.sql.now (bound c.args.params.now) (state g.S.Store c.args.connection.now)
+    (state g.S.Store c.query.follows.lender-at-none) c.in-Err.field-0 plain settled live (refused.err clean)
 
 pub returns-in-Ok-clause-sums : goal.returns-in-Ok-clause-sums
 returns-in-Ok-clause-sums g c clean plain =
     let new = c.fold_instalments.new.rows.conn.now in
     let late : HasCleanDisk (state g.S.Store new) = search rules in
-    folded_sums g.S.Store c.args.sql.now (bound c.args.params.now) c.args.connection.now c.in-Ok.rows.conn.now new c.args.line.now c.fold_instalments.result plain c.in-Ok.ensures.begun c.fold_instalments.ensures.survives c.fold_instalments.ensures.sums late
+    folded_sums g.S.Store c.args.sql.now (bound c.args.params.now) c.args.connection.now c.in-Ok.rows.conn.now new
+    c.args.line.now c.fold_instalments.result plain c.in-Ok.ensures.begun c.fold_instalments.ensures.survives
+    c.fold_instalments.ensures.sums late
 
 pub returns-in-Err-clause-sums : goal.returns-in-Err-clause-sums
 returns-in-Err-clause-sums g c clean plain great = absurd (let never : Unread ≡ TooGreat = great in cc)

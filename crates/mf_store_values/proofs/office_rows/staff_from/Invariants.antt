@@ -5,4 +5,5 @@ use Rattle.mf_store_accounts.specs.Flat.{staff_in, numbered_from}
 use Rattle.mf_store_values.proofs.office_rows.staff_from.Given as goal
 
 abbrev pub invariant-loop-row : goal.invariant-loop-row
-invariant-loop-row l = (office : ℕ) (staff : List Staff) → l.rows ≡ numbered_from (λ number s. staff_row (staff_in office number s)) 1 staff → l.staff.items ≡ take l.row-index staff
+invariant-loop-row l = (office : ℕ) (staff : List Staff) → l.rows
+    ≡ numbered_from (λ number s. staff_row (staff_in office number s)) 1 staff → l.staff.items ≡ take l.row-index staff

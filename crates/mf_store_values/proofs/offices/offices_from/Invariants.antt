@@ -6,4 +6,5 @@ use Rattle.mf_store_accounts.specs.Flat.{office_under}
 use Rattle.mf_store_values.proofs.offices.offices_from.Given as goal
 
 abbrev pub invariant-loop-row : goal.invariant-loop-row
-invariant-loop-row l = (parents : ℕ → Option ℕ) (fs : List Office) → l.rows ≡ map (λ f. office_row (office_under parents f)) fs → l.offices.items ≡ map line_of (take l.row-index fs)
+invariant-loop-row l = (parents : ℕ → Option ℕ) (fs : List Office)
+    → l.rows ≡ map (λ f. office_row (office_under parents f)) fs → l.offices.items ≡ map line_of (take l.row-index fs)

@@ -7,5 +7,6 @@ use Rattle.mf_store_values.proofs.parts.part_in_row.Goals as goal
 pub returns-clause-part : goal.returns-clause-part
 returns-clause-part c =
     IfOk-weaker c.stored.result _ _
-    (λ part is office loan placed row. let told : Some (part_told placed) ≡ Some part = sym (c.part_of.ensures.part office loan placed (sym (c.in_ok-found.ensures.row (share_in office loan placed) row))) ∙ is in sym cc)
+    (λ part is office loan placed row. let told : Some (part_told placed) ≡ Some part = sym (c.part_of.ensures.part
+    office loan placed (sym (c.in_ok-found.ensures.row (share_in office loan placed) row))) ∙ is in sym cc)
     c.stored.ensures.value

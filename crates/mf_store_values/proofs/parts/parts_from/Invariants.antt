@@ -6,4 +6,5 @@ use Rattle.mf_store_accounts.specs.Kept.{part_told}
 use Rattle.mf_store_values.proofs.parts.parts_from.Given as goal
 
 abbrev pub invariant-loop-row : goal.invariant-loop-row
-invariant-loop-row l = (office loan : ℕ) (all : List (ℕ × (ℕ × Settled))) → l.rows ≡ map (λ (item : ℕ × (ℕ × Settled)). share_stored (share_in office loan item)) all → l.parts.items ≡ map part_told (take l.row-index all)
+invariant-loop-row l = (office loan : ℕ) (all : List (ℕ × (ℕ × Settled))) → l.rows ≡ map (λ (item : ℕ × (ℕ × Settled)).
+    share_stored (share_in office loan item)) all → l.parts.items ≡ map part_told (take l.row-index all)

@@ -92,7 +92,8 @@ impl OpenLoan {
         })
     }
 
-    /// Takes steps, and gives what is told: by a refused one the number of its refusal, by one that reads what it reads.
+    /// Takes steps, and gives what is told: by a refused one the number of its refusal, by one that reads what it
+    /// reads.
     pub fn told(&mut self, alloc: Global, steps: &[Step]) -> Result<String, Fault> {
         let mut text = String::new(alloc);
         for step in steps {

@@ -7,4 +7,5 @@ pub returns-clause-told : goal.returns-clause-told
 returns-clause-told g c =
     let p = parts_now c.args.parts in
     let t : is_token p.method ≡ true = search rules in
-    told_as _ _ _ _ _ _ _ (sent_parts p c.in-Some.caller c.in_ok-request.request c.in-Some.ensures.value t c.in_ok-request.ensures.ok) c.answer.ensures.told
+    told_as _ _ _ _ _ _ _ (sent_parts p c.in-Some.caller c.in_ok-request.request c.in-Some.ensures.value t
+    c.in_ok-request.ensures.ok) c.answer.ensures.told

@@ -10,9 +10,16 @@ pub returns : goal.returns
 returns g c =
     let s = g.S.InstitutionStore in
     let t = g.T.InstitutionStore in
-    let law : IsolationLaw = record { views = c.isolation.ensures.views; replies = c.isolation.ensures.replies; own_replies = c.isolation.ensures.own_replies } in
+    let law : IsolationLaw = record {
+      views = c.isolation.ensures.views;
+      replies = c.isolation.ensures.replies;
+      own_replies = c.isolation.ensures.own_replies;
+    } in
     λ caller i j bytes text old new before after one two clean stands clean_too stands_too e v m n.
     let call = call_of_message one.message in
-    let first = isolated_call s law (λ r. text ≡ shown_response one.to_head r) call old new i (g.met.S.InstitutionStore.sound old i stands).tree one.answered clean stands in
-    let second = isolated_call t law (IsText c.args.answered.now) call before after j (g.met.T.InstitutionStore.sound before j stands_too).tree two clean_too stands_too in
-    same_text one.to_head first.given_up second.given_up call (view caller.office i) (view caller.office j) text c.args.answered.now v (first.own caller e) (second.own caller e) m n
+    let first = isolated_call s law (λ r. text ≡ shown_response one.to_head r) call old new i
+    (g.met.S.InstitutionStore.sound old i stands).tree one.answered clean stands in
+    let second = isolated_call t law (IsText c.args.answered.now) call before after j (g.met.T.InstitutionStore.sound
+    before j stands_too).tree two clean_too stands_too in
+    same_text one.to_head first.given_up second.given_up call (view caller.office i) (view caller.office j) text
+    c.args.answered.now v (first.own caller e) (second.own caller e) m n

@@ -6,8 +6,11 @@ above : (n : ℕ) → false ≡ (n == 0) → 0 < n
 above n e = grind arith
 
 pub returns-in-Ok-clause-ok : goal.returns-in-Ok-clause-ok
-returns-in-Ok-clause-ok g c =
-    (omega arith, Answered-one _ _ _ c.args.line.now _ _ _ (above _ c.if-is_empty.ensures) c.reply_to-reply.ensures.step c.in-Ok.ensures.ok)
+returns-in-Ok-clause-ok g c = (
+  omega arith,
+  Answered-one _ _ _ c.args.line.now _ _ _ (above _ c.if-is_empty.ensures) c.reply_to-reply.ensures.step
+      c.in-Ok.ensures.ok,
+)
 
 pub returns-clause-err : goal.returns-clause-err
 returns-clause-err g c = let w = c.in-Err.ensures.err in record {

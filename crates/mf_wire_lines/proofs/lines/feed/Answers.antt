@@ -10,7 +10,8 @@ returns-in-Err-clause-err g c = λ begun e.
     let t = c.loop-byte.invariant.told begun e in
     let line = c.without_return.ensures ∙ ap without_return c.as_slice.ensures.value in (
       omega arith,
-      Fed-broken _ _ c.loop-byte.state _ begun c.args.piece.now c.loop-byte.held c.loop-byte.byte-index _ (g.W.Sink.written c.loop-byte.sink) _ _ c.loop-byte-test.true c.if-byte-eq10.true t
+      Fed-broken _ _ c.loop-byte.state _ begun c.args.piece.now c.loop-byte.held c.loop-byte.byte-index _
+          (g.W.Sink.written c.loop-byte.sink) _ _ c.loop-byte-test.true c.if-byte-eq10.true t
           (rw line at c.in-Err.ensures.err),
     )
 
@@ -29,8 +30,12 @@ loop-byte-preserved g c = record {
       elim c.if-byte-eq10.branch [
         | then-byte-eq10+in-Ok w ↦ let line = w.without_return.ensures ∙ ap without_return w.as_slice.ensures.value in
             let one = rw line at w.in-Ok.ensures.ok.1 in
-            rw (w.held-is, w.state-is, w.sink-is, w.answered-is, w.clear.ensures, more) (Fed-end _ _ c.loop-byte.state _ begun (take c.loop-byte.byte-index c.args.piece.now) c.loop-byte.held _ _ (g.W.Sink.written c.loop-byte.sink) _ _ _ w.if-byte-eq10.true t one)
-        | else-byte-eq10 w ↦ rw (w.held-is, w.state-is, w.sink-is, w.answered-is, w.push.ensures, more) (Fed-within _ _ _ begun (take c.loop-byte.byte-index c.args.piece.now) c.loop-byte.held _ _ _ _ w.if-byte-eq10.false t)
+            rw (w.held-is, w.state-is, w.sink-is, w.answered-is, w.clear.ensures, more)
+            (Fed-end _ _ c.loop-byte.state _ begun (take c.loop-byte.byte-index c.args.piece.now) c.loop-byte.held _
+            _ (g.W.Sink.written c.loop-byte.sink) _ _ _ w.if-byte-eq10.true t one)
+        | else-byte-eq10 w ↦ rw (w.held-is, w.state-is, w.sink-is, w.answered-is, w.push.ensures, more)
+            (Fed-within _ _ _ begun (take c.loop-byte.byte-index c.args.piece.now) c.loop-byte.held _ _ _ _
+            w.if-byte-eq10.false t)
       ];
 }
 

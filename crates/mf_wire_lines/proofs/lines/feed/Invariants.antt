@@ -9,5 +9,6 @@ invariant-loop-byte g l = record {
   sink_sound : g.W.Sink.faults l.sink ≡ g.W.Sink.faults l.initial.sink;
   told : (begun : List ℕ) → l.initial.held ≡ take 65538 begun →
       (l.held ≡ take 65538 (begun_from begun (take l.byte-index l.piece)))
-      × Answered (Run (g.D.LineDesk.may_answer l.desk)) l.initial.state l.state (ended_from begun (take l.byte-index l.piece)) (g.W.Sink.written l.initial.sink) (g.W.Sink.written l.sink) l.answered;
+      × Answered (Run (g.D.LineDesk.may_answer l.desk)) l.initial.state l.state (ended_from begun
+      (take l.byte-index l.piece)) (g.W.Sink.written l.initial.sink) (g.W.Sink.written l.sink) l.answered;
 }

@@ -8,6 +8,7 @@ loop-done-preserved g c =
     let rest = take_rest c.args.bytes.now c.loop-done.done in
     let bound = rw rest at c.in_ok-done.ensures.bound in record {
       within = omega (arith, bound, length-drop c.loop-done.done c.args.bytes.now, c.loop-done.invariant.within);
-      told = put_more _ _ _ c.args.bytes.now c.loop-done.done c.in_ok-done.field-0 c.loop-done.invariant.told (rw rest at c.in_ok-done.ensures.bytes);
+      told = put_more _ _ _ c.args.bytes.now c.loop-done.done c.in_ok-done.field-0 c.loop-done.invariant.told
+          (rw rest at c.in_ok-done.ensures.bytes);
       sound = c.in_ok-done.ensures.sound ∙ c.loop-done.invariant.sound;
     }

@@ -14,7 +14,8 @@ returns-clause-head c = refl
 pub returns-clause-asked : goal.returns-clause-asked
 unfolding httparse_on_literals
 returns-clause-asked c = λ more.
-    ap (λ t. cond t (Some (made (codes "1/1") (codes "POST") (codes "/clients") request_body)) None) (le-leb 27 (length (request_body ++ more)) (omega (arith, length-append request_body more)))
+    ap (λ t. cond t (Some (made (codes "1/1") (codes "POST") (codes "/clients") request_body)) None)
+    (le-leb 27 (length (request_body ++ more)) (omega (arith, length-append request_body more)))
 
 pub returns-clause-cut : goal.returns-clause-cut
 unfolding httparse_on_literals

@@ -7,4 +7,5 @@ returns-clause-ok g c = rw (c.as_bytes.ensures.value, c.format.ensures.text, c.s
 
 pub returns-clause-err : goal.returns-clause-err
 unfolding fields_and_body
-returns-clause-err g c = rw (c.as_bytes.ensures.value, c.format.ensures.text, c.sent.ensures) at c.gather_four.ensures.err
+returns-clause-err g c =
+    rw (c.as_bytes.ensures.value, c.format.ensures.text, c.sent.ensures) at c.gather_four.ensures.err

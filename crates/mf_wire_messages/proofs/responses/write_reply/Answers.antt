@@ -9,14 +9,17 @@ returns-in_default-clause-err g c = part_first _ _ (status_line c.args.status) _
 
 pub returns-in_default-gather_fields_and_body-clause-err : goal.returns-in_default-gather_fields_and_body-clause-err
 returns-in_default-gather_fields_and_body-clause-err g c =
-    cut_second _ _ _ _ _ (status_line c.args.status) _ c.in-Ok.ensures.ok c.in_default-gather_fields_and_body.ensures.err
+    cut_second _ _ _ _ _ (status_line c.args.status) _ c.in-Ok.ensures.ok
+    c.in_default-gather_fields_and_body.ensures.err
 
 pub returns-clause-ok : goal.returns-clause-ok
 returns-clause-ok g c =
-    let both = gathers_both _ _ _ _ _ (status_line c.args.status) _ (fields_and_body c.args.body.now c.args.to_head) c.in-Ok.ensures.ok c.in-Ok-gather_fields_and_body.ensures.ok in
+    let both = gathers_both _ _ _ _ _ (status_line c.args.status) _ (fields_and_body c.args.body.now c.args.to_head)
+    c.in-Ok.ensures.ok c.in-Ok-gather_fields_and_body.ensures.ok in
     on_ok_weaker c.put.result (λ p. gathered _ _ _ _ _ both p) c.put.ensures.ok
 
 pub returns-clause-err : goal.returns-clause-err
 returns-clause-err g c =
-    let both = gathers_both _ _ _ _ _ (status_line c.args.status) _ (fields_and_body c.args.body.now c.args.to_head) c.in-Ok.ensures.ok c.in-Ok-gather_fields_and_body.ensures.ok in
+    let both = gathers_both _ _ _ _ _ (status_line c.args.status) _ (fields_and_body c.args.body.now c.args.to_head)
+    c.in-Ok.ensures.ok c.in-Ok-gather_fields_and_body.ensures.ok in
     on_err_weaker c.put.result (λ p. gathered_cut _ _ _ _ _ both p) c.put.ensures.err

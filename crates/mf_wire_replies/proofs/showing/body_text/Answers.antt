@@ -5,4 +5,5 @@ use Rattle.mf_wire_replies.proofs.Whole.{whole_reply}
 use Rattle.mf_wire_replies.proofs.showing.body_text.Goals as goal
 
 pub text_of-requires : goal.text_of-requires
-text_of-requires c = ap has_float (subst (λ b. IsBodyOf c.args.reply.now b) c.in-Value.is c.in_ok-body.ensures.ok) ∙ whole_reply c.args.reply.now
+text_of-requires c = ap has_float (subst (λ b. IsBodyOf c.args.reply.now b) c.in-Value.is c.in_ok-body.ensures.ok)
+    ∙ whole_reply c.args.reply.now

@@ -6,7 +6,8 @@ use Rattle.serde_json.specs.Read.{read}
 use Rattle.mf_wire_requests.specs.Bodies.{json_of}
 use Rattle.mf_wire_requests.proofs.body.json.Goals as goal
 
-tested : (bytes : List ℕ) (b : Bool) → is_utf8 bytes ≡ b → (IsUtf8 bytes → read bytes ≡ None) → cond b (read bytes) None ≡ None
+tested : (bytes : List ℕ) (b : Bool) → is_utf8 bytes ≡ b → (IsUtf8 bytes → read bytes ≡ None) → cond b (read bytes) None
+    ≡ None
 tested bytes true e h = h (IsUtf8-from_is_utf8 bytes e)
 tested bytes false e h = refl
 
@@ -19,4 +20,5 @@ returns-in-Ok-clause-ok c =
     ap (λ b. cond b (read body) None) (is_utf8-from_IsUtf8 body c.in-Ok.ensures.ok.0) ∙ c.in-Ok.ensures.ok.1
 
 pub returns-in-Err-2-clause-err : goal.returns-in-Err-2-clause-err
-returns-in-Err-2-clause-err c = let none : IsUtf8 c.args.body.now → read c.args.body.now ≡ None = search rules in inr (refl, no_json c.args.body.now none)
+returns-in-Err-2-clause-err c = let none : IsUtf8 c.args.body.now → read c.args.body.now ≡ None =
+    search rules in inr (refl, no_json c.args.body.now none)

@@ -60,7 +60,8 @@ fn assert_response(
     let length = body.len();
     let sent = if is_sent { body } else { "" };
     let expected = format!(in alloc;
-        "HTTP/1.1 {status_line}\r\nContent-Type: application/json\r\nContent-Length: {length}\r\nConnection: close\r\n\r\n{sent}"
+        "HTTP/1.1 {status_line}\r\nContent-Type: application/json\r\nContent-Length: {length}\r\n\
+         Connection: close\r\n\r\n{sent}"
     )?;
     assert_eq!(rt; written.as_slice(), expected.as_bytes());
     assert_no_client(rt, alloc, &mut books);
@@ -322,7 +323,8 @@ fn one_byte_a_call(rt: HostRuntime) -> Result<(), Fail> {
 }
 
 const GIVEN_UP: &str =
-    "HTTP/1.1 503 Service Unavailable\r\nContent-Type: application/json\r\nContent-Length: 15\r\nConnection: close\r\n\r\n{\"fault\":\"F20\"}";
+    "HTTP/1.1 503 Service Unavailable\r\nContent-Type: application/json\r\nContent-Length: 15\r\n\
+     Connection: close\r\n\r\n{\"fault\":\"F20\"}";
 
 /// Whether a message is answered by F20 where the store gives up after so many calls. If so there is no client, and the
 /// same message is served afterwards.

@@ -7,13 +7,21 @@ use Rattle.microloan_files.proofs.closing.serve_and_close.Goals as goal
 
 pub returns-clause-premise : goal.returns-clause-premise
 returns-clause-premise g c = λ well.
-    served_good_before (record { stands = StandsFor over_files; clean = IsClean over_files; leaves = Leaves over_files }) c.args.connections c.args.store c.serve_connections-told.new.store
-    c.serve_connections-told.result c.serve_connections-told.ensures.served c.serve_connections-told.ensures.memory (c.close.ensures.premise well)
+    served_good_before (record {
+      stands = StandsFor over_files;
+      clean = IsClean over_files;
+      leaves = Leaves over_files;
+    }) c.args.connections c.args.store c.serve_connections-told.new.store
+    c.serve_connections-told.result c.serve_connections-told.ensures.served c.serve_connections-told.ensures.memory
+    (c.close.ensures.premise well)
 
 pub returns-clause-ends : goal.returns-clause-ends
 returns-clause-ends g c = λ well i stood leaves.
     let good = c.close.ensures.premise well in
     serves_so i c.args.store c.serve_connections-told.new.store (CloseAfter i c.close.result) stood leaves
-    (λ run range stands after. close_after c.serve_connections-told.new.store c.close.result c.close.ensures.left_whole c.close.ensures.kept well i run stands after)
-    c.args.connections c.serve_connections-told.result c.serve_connections-told.ensures.served c.serve_connections-told.ensures.memory
-    (λ es answered. c.served_messages_are_isolated.ensures i es c.args.store c.serve_connections-told.new.store answered good stood)
+    (λ run range stands after. close_after c.serve_connections-told.new.store c.close.result c.close.ensures.left_whole
+    c.close.ensures.kept well i run stands after)
+    c.args.connections c.serve_connections-told.result c.serve_connections-told.ensures.served
+    c.serve_connections-told.ensures.memory
+    (λ es answered. c.served_messages_are_isolated.ensures i es c.args.store c.serve_connections-told.new.store answered
+    good stood)

@@ -7,11 +7,13 @@ use Rattle.microloan_words.proofs.asking.matches_of.Goals as goal
 
 pub returns-clause-ok : goal.returns-clause-ok
 returns-clause-ok c = IfOk-weaker c.try_get_matches_from.result _ _
-    (λ m h. (subst (λ a. HasMatchesOf a (map string_bytes c.args.words.now) m) c.in_ok-command.ensures.app h refl).1) c.try_get_matches_from.ensures.matches
+    (λ m h. (subst (λ a. HasMatchesOf a (map string_bytes c.args.words.now) m) c.in_ok-command.ensures.app h refl).1)
+    c.try_get_matches_from.ensures.matches
 
 pub returns-clause-err : goal.returns-clause-err
 returns-clause-err c = IfErr-weaker c.try_get_matches_from.result _ _
-    (λ e h k. h (subst (λ a. takes a (map string_bytes c.args.words.now) ≡ true) (sym c.in_ok-command.ensures.app) k)) c.try_get_matches_from.ensures.passes
+    (λ e h k. h (subst (λ a. takes a (map string_bytes c.args.words.now) ≡ true) (sym c.in_ok-command.ensures.app) k))
+    c.try_get_matches_from.ensures.passes
 
 if_ok : {A E : Type 0} (r : Result A E) (P : A → Type 0) (Q : E → Type 0) → MatchResult r P Q → IfOk r P
 if_ok (Ok x) P Q h = h

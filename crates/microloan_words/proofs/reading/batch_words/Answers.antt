@@ -11,4 +11,7 @@ returns-in_err-day-clause-wrong c =
 pub returns-in_err-existing-clause-wrong : goal.returns-in_err-existing-clause-wrong
 returns-in_err-existing-clause-wrong c =
     let e : c.from_residual-in_err-existing.result ≡ Err Existing = search rules in
-    rw e (inl (inr (right _ c.day_at.result c.in_ok-day.day c.in_ok-day.ensures.ok_part c.day_at.ensures.read, inl (refl, unread _ c.flag_at.result c.in_err-existing.ensures.variant c.flag_at.ensures.every))))
+    rw e (inl (inr (
+      right _ c.day_at.result c.in_ok-day.day c.in_ok-day.ensures.ok_part c.day_at.ensures.read,
+      inl (refl, unread _ c.flag_at.result c.in_err-existing.ensures.variant c.flag_at.ensures.every),
+    )))

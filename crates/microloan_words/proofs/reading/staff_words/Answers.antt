@@ -6,14 +6,27 @@ use Rattle.microloan_words.proofs.reading.staff_words.Goals as goal
 pub returns-in_err-file-clause-wrong : goal.returns-in_err-file-clause-wrong
 returns-in_err-file-clause-wrong c =
     let e : c.from_residual.result ≡ Err File = search rules in
-    rw e (inl (refl, (λ given. read c.file_at.result given.0 c.in_err-file.ensures.variant (c.file_at.ensures ∙ given.1))))
+    rw e (inl (
+      refl,
+      (λ given. read c.file_at.result given.0 c.in_err-file.ensures.variant (c.file_at.ensures
+          ∙ given.1)),
+    ))
 
 pub returns-in_err-staff-clause-wrong : goal.returns-in_err-staff-clause-wrong
 returns-in_err-staff-clause-wrong c =
     let e : c.from_residual-in_err-staff.result ≡ Err Staff = search rules in
-    rw e (inr ((c.in_ok-file.file, sym c.file_at.ensures ∙ c.in_ok-file.ensures.ok_part), inl (refl, unread _ c.staff_at.result c.in_err-staff.ensures.variant c.staff_at.ensures.every)))
+    rw e (inr (
+      (c.in_ok-file.file, sym c.file_at.ensures ∙ c.in_ok-file.ensures.ok_part),
+      inl (refl, unread _ c.staff_at.result c.in_err-staff.ensures.variant c.staff_at.ensures.every),
+    ))
 
 pub returns-in_err-existing-clause-wrong : goal.returns-in_err-existing-clause-wrong
 returns-in_err-existing-clause-wrong c =
     let e : c.from_residual-in_err-existing.result ≡ Err Existing = search rules in
-    rw e (inr ((c.in_ok-file.file, sym c.file_at.ensures ∙ c.in_ok-file.ensures.ok_part), inr (right _ c.staff_at.result c.in_ok-staff.staff c.in_ok-staff.ensures.ok_part c.staff_at.ensures.read, inl (refl, unread _ c.flag_at.result c.in_err-existing.ensures.variant c.flag_at.ensures.every))))
+    rw e (inr (
+      (c.in_ok-file.file, sym c.file_at.ensures ∙ c.in_ok-file.ensures.ok_part),
+      inr (
+        right _ c.staff_at.result c.in_ok-staff.staff c.in_ok-staff.ensures.ok_part c.staff_at.ensures.read,
+        inl (refl, unread _ c.flag_at.result c.in_err-existing.ensures.variant c.flag_at.ensures.every),
+      ),
+    ))

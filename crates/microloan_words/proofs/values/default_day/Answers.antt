@@ -10,6 +10,7 @@ text = refl
 
 pub unreachable-requires : goal.unreachable-requires
 unreachable-requires c =
-    let read : c.parse.result ≡ Some 8766 = c.parse.ensures.every 8766 (omega arith) (c.as_bytes.ensures.value ∙ text) in
+    let read : c.parse.result ≡ Some 8766 =
+    c.parse.ensures.every 8766 (omega arith) (c.as_bytes.ensures.value ∙ text) in
     let none : c.parse.result ≡ None = c.in-None.is in
     cc

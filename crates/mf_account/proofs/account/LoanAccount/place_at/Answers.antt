@@ -9,24 +9,44 @@ use Rattle.mf_account.proofs.account.LoanAccount.place_at.Goals as goal
 
 pub place_in-requires : goal.place_in-requires
 place_in-requires c =
-    let old : Loan = record { terms = c.self.inside.terms; principal = c.self.inside.principal; periods = c.self.inside.periods; day = c.self.inside.day; entries = c.self.inside.entries.items } in
-    let there : c.args.at < length old.entries = subst (λ (a : Account). c.args.at < length a.loan.entries) (sym c.self.view_is) c.requires.there in
-    let stands : (entry_at old.entries c.args.at).reversed ≡ false = subst (λ (a : Account). (entry_at a.loan.entries c.args.at).reversed ≡ false) (sym c.self.view_is) c.requires.stands in
+    let old : Loan = record {
+      terms = c.self.inside.terms;
+      principal = c.self.inside.principal;
+      periods = c.self.inside.periods;
+      day = c.self.inside.day;
+      entries = c.self.inside.entries.items;
+    } in
+    let there : c.args.at < length old.entries =
+    subst (λ (a : Account). c.args.at < length a.loan.entries) (sym c.self.view_is) c.requires.there in
+    let stands : (entry_at old.entries c.args.at).reversed ≡ false = subst (λ (a : Account).
+    (entry_at a.loan.entries c.args.at).reversed ≡ false) (sym c.self.view_is) c.requires.stands in
     subst (λ (o : List ℕ). Contains o c.args.at) (sym c.deref.ensures.value)
-    (order-has old.periods old.day old.entries c.self.inside.order.items c.args.at c.self.invariant.sound.entries c.self.invariant.within c.self.invariant.order_is there stands)
+    (order-has old.periods old.day old.entries c.self.inside.order.items c.args.at c.self.invariant.sound.entries
+    c.self.invariant.within c.self.invariant.order_is there stands)
 
 pub returns-clause-within : goal.returns-clause-within
 returns-clause-within c =
     let size = length-order c.self.inside.entries.items c.self.inside.order.items c.self.invariant.order_is in
     let same = ap length c.deref.ensures.value in
-    let seen : length (standing_entries c.self.inside.entries.items) ≡ length (standing_entries c.args.self.now.loan.entries) = ap (λ (a : Account). length (standing_entries a.loan.entries)) c.self.view_is in
+    let seen : length (standing_entries c.self.inside.entries.items)
+    ≡ length (standing_entries c.args.self.now.loan.entries) =
+    ap (λ (a : Account). length (standing_entries a.loan.entries)) c.self.view_is in
     omega (arith, c.place_in.ensures.within, size, same, seen)
 
 pub returns-clause-there : goal.returns-clause-there
 returns-clause-there c =
-    let old : Loan = record { terms = c.self.inside.terms; principal = c.self.inside.principal; periods = c.self.inside.periods; day = c.self.inside.day; entries = c.self.inside.entries.items } in
+    let old : Loan = record {
+      terms = c.self.inside.terms;
+      principal = c.self.inside.principal;
+      periods = c.self.inside.periods;
+      day = c.self.inside.day;
+      entries = c.self.inside.entries.items;
+    } in
     let same = ap length c.deref.ensures.value in
     let below : c.place_in.result < length c.self.inside.order.items = omega (arith, c.place_in.ensures.within, same) in
-    let here : get_or c.self.inside.order.items c.place_in.result 0 ≡ c.args.at = ap (λ (o : List ℕ). get_or o c.place_in.result 0) (sym c.deref.ensures.value) ∙ c.place_in.ensures.there in
-    subst (λ (a : Account). entry_at (standing_entries a.loan.entries) c.place_in.result ≡ entry_at a.loan.entries c.args.at) c.self.view_is
-    (at-order old.entries (standing_entries old.entries) c.self.inside.order.items c.place_in.result c.args.at c.self.invariant.order_is below here)
+    let here : get_or c.self.inside.order.items c.place_in.result 0 ≡ c.args.at =
+    ap (λ (o : List ℕ). get_or o c.place_in.result 0) (sym c.deref.ensures.value) ∙ c.place_in.ensures.there in
+    subst (λ (a : Account). entry_at (standing_entries a.loan.entries) c.place_in.result ≡ entry_at a.loan.entries
+    c.args.at) c.self.view_is
+    (at-order old.entries (standing_entries old.entries) c.self.inside.order.items c.place_in.result c.args.at
+    c.self.invariant.order_is below here)

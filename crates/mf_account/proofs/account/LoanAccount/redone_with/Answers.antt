@@ -1,4 +1,5 @@
-use Rattle.std.proofs.Common.{◌≡◌, ℕ, ◌+◌, ◌*◌, ◌≤◌, ◌∷◌, [], ◌++◌, List, length, length-append, take, drop, arith, refl, ap, sym, subst}
+use Rattle.std.proofs.Common.{◌≡◌, ℕ, ◌+◌, ◌*◌, ◌≤◌, ◌∷◌, [], ◌++◌, List, length, length-append, take, drop, arith}
+use Rattle.std.proofs.Common.{refl, ap, sym, subst}
 use Rattle.std.specs.Prelude.{insert}
 use Rattle.std.proofs.lemmas.List.Elements.{All-take, All-weaker}
 use Rattle.mf_alloc.specs.Rows.{IsCell}
@@ -17,73 +18,124 @@ use Rattle.mf_account.proofs.account.LoanAccount.redone_with.Goals as goal
 
 pub offset_bounds-deref-place : goal.offset_bounds-deref-place
 offset_bounds-deref-place c =
-    let within : c.args.place ≤ length (standing_entries c.self.inside.entries.items) = subst (λ (a : Account). c.args.place ≤ length (standing_entries a.loan.entries)) (sym c.self.view_is) c.requires.within in
+    let within : c.args.place ≤ length (standing_entries c.self.inside.entries.items) = subst (λ (a : Account).
+    c.args.place ≤ length (standing_entries a.loan.entries)) (sym c.self.view_is) c.requires.within in
     let size = length-order c.self.inside.entries.items c.self.inside.order.items c.self.invariant.order_is in
     let same = ap length c.deref.ensures.value in
     omega (arith, within, size, same, c.deref.ensures.len, c.self.inside.order.ok)
 
 pub apply_with-requires-clause-few : goal.apply_with-requires-clause-few
 apply_with-requires-clause-few c =
-    let periods : c.self.inside.periods ≡ c.args.self.now.loan.periods = ap (λ (a : Account). a.loan.periods) c.self.view_is in
+    let periods : c.self.inside.periods ≡ c.args.self.now.loan.periods =
+    ap (λ (a : Account). a.loan.periods) c.self.view_is in
     omega (arith, c.in_ok-book.ensures.bounded.size, periods, c.self.invariant.sound.limits.most_periods)
 
 pub apply_with-requires-clause-within : goal.apply_with-requires-clause-within
 apply_with-requires-clause-within c =
-    within-later c.self.inside.entries.items c.deref-2.result.now c.self.inside.order.items c.deref.result.now c.args.place
+    within-later c.self.inside.entries.items c.deref-2.result.now c.self.inside.order.items c.deref.result.now
+    c.args.place
     (ap length c.deref-2.ensures.value) c.deref.ensures.value c.self.invariant.within
 
 pub apply_with-requires-clause-fits : goal.apply_with-requires-clause-fits
 apply_with-requires-clause-fits c =
-    let old : Loan = record { terms = c.self.inside.terms; principal = c.self.inside.principal; periods = c.self.inside.periods; day = c.self.inside.day; entries = c.self.inside.entries.items } in
+    let old : Loan = record {
+      terms = c.self.inside.terms;
+      principal = c.self.inside.principal;
+      periods = c.self.inside.periods;
+      day = c.self.inside.day;
+      entries = c.self.inside.entries.items;
+    } in
     let e : Entry = c.args.entry.now in
     let place : ℕ = c.args.place in
-    let place_is : order_with e (standing_entries old.entries) ≡ insert (standing_entries old.entries) place e = subst (λ (a : Account). order_with e (standing_entries a.loan.entries) ≡ insert (standing_entries a.loan.entries) place e) (sym c.self.view_is) c.requires.place in
-    let sound : IsSound (record old { entries = old.entries ++ e ∷ [] }) = subst (λ (a : Account). IsSound (record a.loan { entries = a.loan.entries ++ e ∷ [] })) (sym c.self.view_is) c.requires.sound in
-    let bounded : IsBounded old.periods (2 * most_kept) c.in_ok-book.book = subst (λ (a : Account). IsBounded a.loan.periods (2 * most_kept) c.in_ok-book.book) (sym c.self.view_is) c.in_ok-book.ensures.bounded in
-    fits-safe old (old.entries ++ e ∷ []) (e ∷ drop place (standing_entries old.entries)) _ place c.in_ok-book.book sound
+    let place_is : order_with e (standing_entries old.entries) ≡ insert (standing_entries old.entries) place e =
+    subst (λ (a : Account). order_with e (standing_entries a.loan.entries)
+    ≡ insert (standing_entries a.loan.entries) place e) (sym c.self.view_is) c.requires.place in
+    let sound : IsSound (record old { entries = old.entries ++ e ∷ [] }) = subst (λ (a : Account).
+    IsSound (record a.loan { entries = a.loan.entries ++ e ∷ [] })) (sym c.self.view_is) c.requires.sound in
+    let bounded : IsBounded old.periods (2 * most_kept) c.in_ok-book.book = subst (λ (a : Account).
+    IsBounded a.loan.periods (2 * most_kept) c.in_ok-book.book) (sym c.self.view_is) c.in_ok-book.ensures.bounded in
+    fits-safe old (old.entries ++ e ∷ []) (e ∷ drop place (standing_entries old.entries)) _ place c.in_ok-book.book
+    sound
     (standing-entered old.entries (standing_entries old.entries) place e c.requires.stands refl place_is)
-    (ap (λ (x : List Entry). e ∷ x) (later-is old.entries (standing_entries old.entries) c.deref-2.result.now c.self.inside.order.items c.deref.result.now place c.deref-2.ensures.value c.deref.ensures.value c.self.invariant.order_is)) bounded
+    (ap (λ (x : List Entry). e ∷ x) (later-is old.entries (standing_entries old.entries) c.deref-2.result.now
+    c.self.inside.order.items c.deref.result.now place c.deref-2.ensures.value c.deref.ensures.value
+    c.self.invariant.order_is)) bounded
 
 pub returns-clause-redone : goal.returns-clause-redone
 returns-clause-redone c replayed =
-    let old : Loan = record { terms = c.self.inside.terms; principal = c.self.inside.principal; periods = c.self.inside.periods; day = c.self.inside.day; entries = c.self.inside.entries.items } in
+    let old : Loan = record {
+      terms = c.self.inside.terms;
+      principal = c.self.inside.principal;
+      periods = c.self.inside.periods;
+      day = c.self.inside.day;
+      entries = c.self.inside.entries.items;
+    } in
     let e : Entry = c.args.entry.now in
     let place : ℕ = c.args.place in
-    let place_is : order_with e (standing_entries old.entries) ≡ insert (standing_entries old.entries) place e = subst (λ (a : Account). order_with e (standing_entries a.loan.entries) ≡ insert (standing_entries a.loan.entries) place e) (sym c.self.view_is) c.requires.place in
+    let place_is : order_with e (standing_entries old.entries) ≡ insert (standing_entries old.entries) place e =
+    subst (λ (a : Account). order_with e (standing_entries a.loan.entries)
+    ≡ insert (standing_entries a.loan.entries) place e) (sym c.self.view_is) c.requires.place in
     let back = c.in_ok-book.ensures.back replayed in
-    let book_is : c.in_ok-book.book ≡ state_before old c.args.place = subst (λ (a : Account). c.in_ok-book.book ≡ state_before a.loan c.args.place) (sym c.self.view_is) back.0 in
-    let front : take c.in_ok-book.kept (settled_of_loan old) ≡ settled_upto old place = subst (λ (a : Account). take c.in_ok-book.kept (settled_of_loan a.loan) ≡ settled_upto a.loan place) (sym c.self.view_is) back.1 in
+    let book_is : c.in_ok-book.book ≡ state_before old c.args.place =
+    subst (λ (a : Account). c.in_ok-book.book ≡ state_before a.loan c.args.place) (sym c.self.view_is) back.0 in
+    let front : take c.in_ok-book.kept (settled_of_loan old) ≡ settled_upto old place = subst (λ (a : Account).
+    take c.in_ok-book.kept (settled_of_loan a.loan) ≡ settled_upto a.loan place) (sym c.self.view_is) back.1 in
     let size = ap length replayed.settled in
     let same = ap (λ (a : Account). length (settled_of_loan a.loan)) c.self.view_is in
-    let within : c.in_ok-book.kept ≤ length (settled_of_loan old) = omega (arith, c.in_ok-book.ensures.within, size, same) in
-    subst (λ (a : Account). IsRedone a.loan (record a.loan { entries = a.loan.entries ++ e ∷ [] }) c.apply_with.new.book c.in_ok-book.kept c.in_ok-parts.parts.items) c.self.view_is
-    (redone-from old (old.entries ++ e ∷ []) (e ∷ drop place (standing_entries old.entries)) _ place c.in_ok-book.kept c.in_ok-book.book c.apply_with.new.book c.in_ok-parts.parts.items
-    (standing-entered old.entries (standing_entries old.entries) place e c.requires.stands refl place_is) within front book_is
-    (ap (λ (x : List Entry). e ∷ x) (later-is old.entries (standing_entries old.entries) c.deref-2.result.now c.self.inside.order.items c.deref.result.now place c.deref-2.ensures.value c.deref.ensures.value c.self.invariant.order_is))
+    let within : c.in_ok-book.kept ≤ length (settled_of_loan old) =
+    omega (arith, c.in_ok-book.ensures.within, size, same) in
+    subst (λ (a : Account). IsRedone a.loan (record a.loan { entries = a.loan.entries ++ e ∷ [] }) c.apply_with.new.book
+    c.in_ok-book.kept c.in_ok-parts.parts.items) c.self.view_is
+    (redone-from old (old.entries ++ e ∷ []) (e ∷ drop place (standing_entries old.entries)) _ place c.in_ok-book.kept
+    c.in_ok-book.book c.apply_with.new.book c.in_ok-parts.parts.items
+    (standing-entered old.entries (standing_entries old.entries) place e c.requires.stands refl place_is) within front
+    book_is
+    (ap (λ (x : List Entry). e ∷ x) (later-is old.entries (standing_entries old.entries) c.deref-2.result.now
+    c.self.inside.order.items c.deref.result.now place c.deref-2.ensures.value c.deref.ensures.value
+    c.self.invariant.order_is))
     c.in_ok-parts.ensures.state c.in_ok-parts.ensures.parts)
 
 pub returns-clause-safe : goal.returns-clause-safe
 returns-clause-safe c =
-    let old : Loan = record { terms = c.self.inside.terms; principal = c.self.inside.principal; periods = c.self.inside.periods; day = c.self.inside.day; entries = c.self.inside.entries.items } in
+    let old : Loan = record {
+      terms = c.self.inside.terms;
+      principal = c.self.inside.principal;
+      periods = c.self.inside.periods;
+      day = c.self.inside.day;
+      entries = c.self.inside.entries.items;
+    } in
     let e : Entry = c.args.entry.now in
     let place : ℕ = c.args.place in
-    let place_is : order_with e (standing_entries old.entries) ≡ insert (standing_entries old.entries) place e = subst (λ (a : Account). order_with e (standing_entries a.loan.entries) ≡ insert (standing_entries a.loan.entries) place e) (sym c.self.view_is) c.requires.place in
-    let sound : IsSound (record old { entries = old.entries ++ e ∷ [] }) = subst (λ (a : Account). IsSound (record a.loan { entries = a.loan.entries ++ e ∷ [] })) (sym c.self.view_is) c.requires.sound in
-    let bounded : IsBounded old.periods (2 * most_kept) c.in_ok-book.book = subst (λ (a : Account). IsBounded a.loan.periods (2 * most_kept) c.in_ok-book.book) (sym c.self.view_is) c.in_ok-book.ensures.bounded in
+    let place_is : order_with e (standing_entries old.entries) ≡ insert (standing_entries old.entries) place e =
+    subst (λ (a : Account). order_with e (standing_entries a.loan.entries)
+    ≡ insert (standing_entries a.loan.entries) place e) (sym c.self.view_is) c.requires.place in
+    let sound : IsSound (record old { entries = old.entries ++ e ∷ [] }) = subst (λ (a : Account).
+    IsSound (record a.loan { entries = a.loan.entries ++ e ∷ [] })) (sym c.self.view_is) c.requires.sound in
+    let bounded : IsBounded old.periods (2 * most_kept) c.in_ok-book.book = subst (λ (a : Account).
+    IsBounded a.loan.periods (2 * most_kept) c.in_ok-book.book) (sym c.self.view_is) c.in_ok-book.ensures.bounded in
     let kept : ℕ = c.in_ok-book.kept in
     let amount : settled_amount (take kept c.self.inside.settled.items ++ c.in_ok-parts.parts.items) ≤ most_kept =
-    subst (λ (x : List Settled). settled_amount (take kept c.self.inside.settled.items ++ x) ≤ most_kept) c.deref-3.ensures.value
+    subst (λ (x : List Settled). settled_amount (take kept c.self.inside.settled.items ++ x) ≤ most_kept)
+    c.deref-3.ensures.value
     (subst (λ (a : Account). settled_amount (take kept a.settled ++ c.deref-3.result.now) ≤ most_kept)
     (sym c.self.view_is) (c.is_within_bounds.ensures.parts c.if-not-is_within_bounds.false)) in
     let count : length (old.entries ++ e ∷ []) ≡ length old.entries + 1 = length-append old.entries (e ∷ []) in
     let more : AreNumberedTo (length (old.entries ++ e ∷ [])) c.self.inside.settled.items =
-    All-weaker (IsNumberedTo (length old.entries)) (IsNumberedTo (length (old.entries ++ e ∷ []))) (λ s is. (is.0, omega (arith, is.1, count))) c.self.inside.settled.items c.self.invariant.safe.placed.numbers in
-    subst (λ (a : Account). IsSafe a.loan.periods (length a.loan.entries + 1) c.apply_with.new.book (take kept a.settled ++ c.in_ok-parts.parts.items)) c.self.view_is
-    (subst (λ (n : ℕ). IsSafe old.periods n c.apply_with.new.book (take kept c.self.inside.settled.items ++ c.in_ok-parts.parts.items)) count
-    (safe-redone old (old.entries ++ e ∷ []) (e ∷ drop place (standing_entries old.entries)) _ place c.in_ok-book.book sound
+    All-weaker (IsNumberedTo (length old.entries)) (IsNumberedTo (length (old.entries ++ e ∷ [])))
+    (λ s is. (is.0, omega (arith, is.1, count))) c.self.inside.settled.items c.self.invariant.safe.placed.numbers in
+    subst (λ (a : Account). IsSafe a.loan.periods (length a.loan.entries + 1) c.apply_with.new.book (take kept a.settled
+    ++ c.in_ok-parts.parts.items)) c.self.view_is
+    (subst (λ (n : ℕ). IsSafe old.periods n c.apply_with.new.book (take kept c.self.inside.settled.items
+    ++ c.in_ok-parts.parts.items)) count
+    (safe-redone old (old.entries ++ e ∷ []) (e ∷ drop place (standing_entries old.entries)) _ place c.in_ok-book.book
+    sound
     (standing-entered old.entries (standing_entries old.entries) place e c.requires.stands refl place_is)
-    (ap (λ (x : List Entry). e ∷ x) (later-is old.entries (standing_entries old.entries) c.deref-2.result.now c.self.inside.order.items c.deref.result.now place c.deref-2.ensures.value c.deref.ensures.value c.self.invariant.order_is)) bounded
-    c.apply_with.new.book (take kept c.self.inside.settled.items) c.in_ok-parts.parts.items c.in_ok-parts.ensures.state c.in_ok-parts.ensures.parts
-    (All-take (λ (s : Settled). IsCell old.periods s.cell) kept c.self.inside.settled.items c.self.invariant.safe.placed.cells)
+    (ap (λ (x : List Entry). e ∷ x) (later-is old.entries (standing_entries old.entries) c.deref-2.result.now
+    c.self.inside.order.items c.deref.result.now place c.deref-2.ensures.value c.deref.ensures.value
+    c.self.invariant.order_is)) bounded
+    c.apply_with.new.book (take kept c.self.inside.settled.items) c.in_ok-parts.parts.items c.in_ok-parts.ensures.state
+    c.in_ok-parts.ensures.parts
+    (All-take (λ (s : Settled). IsCell old.periods s.cell) kept c.self.inside.settled.items
+    c.self.invariant.safe.placed.cells)
     (All-take (IsNumberedTo (length (old.entries ++ e ∷ []))) kept c.self.inside.settled.items more)
     amount (λ n shaped. c.is_within_bounds.ensures.book n shaped c.if-not-is_within_bounds.false)))

@@ -18,78 +18,128 @@ use Rattle.mf_account.proofs.account.LoanAccount.redone_without.Goals as goal
 
 pub offset_bounds-deref-place : goal.offset_bounds-deref-place
 offset_bounds-deref-place c =
-    let within : c.args.place < length (standing_entries c.self.inside.entries.items) = subst (λ (a : Account). c.args.place < length (standing_entries a.loan.entries)) (sym c.self.view_is) c.requires.within in
+    let within : c.args.place < length (standing_entries c.self.inside.entries.items) = subst (λ (a : Account).
+    c.args.place < length (standing_entries a.loan.entries)) (sym c.self.view_is) c.requires.within in
     let size = length-order c.self.inside.entries.items c.self.inside.order.items c.self.invariant.order_is in
     let same = ap length c.deref.ensures.value in
     omega (arith, within, size, same, c.deref.ensures.len, c.self.inside.order.ok)
 
 pub apply_all-requires-clause-few : goal.apply_all-requires-clause-few
 apply_all-requires-clause-few c =
-    let periods : c.self.inside.periods ≡ c.args.self.now.loan.periods = ap (λ (a : Account). a.loan.periods) c.self.view_is in
+    let periods : c.self.inside.periods ≡ c.args.self.now.loan.periods =
+    ap (λ (a : Account). a.loan.periods) c.self.view_is in
     omega (arith, c.in_ok-book.ensures.bounded.size, periods, c.self.invariant.sound.limits.most_periods)
 
 pub apply_all-requires-clause-within : goal.apply_all-requires-clause-within
 apply_all-requires-clause-within c =
-    within-later c.self.inside.entries.items c.deref-2.result.now c.self.inside.order.items c.deref.result.now (c.args.place + 1)
+    within-later c.self.inside.entries.items c.deref-2.result.now c.self.inside.order.items c.deref.result.now
+    (c.args.place + 1)
     (ap length c.deref-2.ensures.value) c.deref.ensures.value c.self.invariant.within
 
 pub apply_all-requires-clause-fits : goal.apply_all-requires-clause-fits
 apply_all-requires-clause-fits c =
-    let old : Loan = record { terms = c.self.inside.terms; principal = c.self.inside.principal; periods = c.self.inside.periods; day = c.self.inside.day; entries = c.self.inside.entries.items } in
+    let old : Loan = record {
+      terms = c.self.inside.terms;
+      principal = c.self.inside.principal;
+      periods = c.self.inside.periods;
+      day = c.self.inside.day;
+      entries = c.self.inside.entries.items;
+    } in
     let place : ℕ = c.args.place in
     let order : List ℕ = c.self.inside.order.items in
-    let within : place < length (standing_entries old.entries) = subst (λ (a : Account). place < length (standing_entries a.loan.entries)) (sym c.self.view_is) c.requires.within in
+    let within : place < length (standing_entries old.entries) = subst (λ (a : Account). place
+    < length (standing_entries a.loan.entries)) (sym c.self.view_is) c.requires.within in
     let at = standing-at old.periods old.day old.entries place c.self.invariant.sound.entries within in
-    let sound : IsSound (record old { entries = with_mark old.entries at.0 true }) = sound-reversed old at.0 c.self.invariant.sound at.1.within in
-    let bounded : IsBounded old.periods (2 * most_kept) c.in_ok-book.book = subst (λ (a : Account). IsBounded a.loan.periods (2 * most_kept) c.in_ok-book.book) (sym c.self.view_is) c.in_ok-book.ensures.bounded in
-    let stands = standing-without-it old.periods old.day old.entries at.0 place c.self.invariant.sound.entries sound.entries at.1.within within (sym at.1.same) in
-    fits-safe old (with_mark old.entries at.0 true) (drop (place + 1) (standing_entries old.entries)) _ place c.in_ok-book.book sound stands
-    (later-is old.entries (standing_entries old.entries) c.deref-2.result.now order c.deref.result.now (place + 1) c.deref-2.ensures.value c.deref.ensures.value c.self.invariant.order_is) bounded
+    let sound : IsSound (record old { entries = with_mark old.entries at.0 true }) =
+    sound-reversed old at.0 c.self.invariant.sound at.1.within in
+    let bounded : IsBounded old.periods (2 * most_kept) c.in_ok-book.book = subst (λ (a : Account).
+    IsBounded a.loan.periods (2 * most_kept) c.in_ok-book.book) (sym c.self.view_is) c.in_ok-book.ensures.bounded in
+    let stands = standing-without-it old.periods old.day old.entries at.0 place c.self.invariant.sound.entries
+    sound.entries at.1.within within (sym at.1.same) in
+    fits-safe old (with_mark old.entries at.0 true) (drop (place + 1) (standing_entries old.entries)) _ place
+    c.in_ok-book.book sound stands
+    (later-is old.entries (standing_entries old.entries) c.deref-2.result.now order c.deref.result.now (place + 1)
+    c.deref-2.ensures.value c.deref.ensures.value c.self.invariant.order_is) bounded
 
 pub returns-clause-redone : goal.returns-clause-redone
 returns-clause-redone c replayed at there same =
-    let old : Loan = record { terms = c.self.inside.terms; principal = c.self.inside.principal; periods = c.self.inside.periods; day = c.self.inside.day; entries = c.self.inside.entries.items } in
+    let old : Loan = record {
+      terms = c.self.inside.terms;
+      principal = c.self.inside.principal;
+      periods = c.self.inside.periods;
+      day = c.self.inside.day;
+      entries = c.self.inside.entries.items;
+    } in
     let place : ℕ = c.args.place in
     let order : List ℕ = c.self.inside.order.items in
-    let within : place < length (standing_entries old.entries) = subst (λ (a : Account). place < length (standing_entries a.loan.entries)) (sym c.self.view_is) c.requires.within in
-    let below : at < length old.entries = subst (λ (a : Account). at < length a.loan.entries) (sym c.self.view_is) there in
-    let here : entry_at (standing_entries old.entries) place ≡ entry_at old.entries at = subst (λ (a : Account). entry_at (standing_entries a.loan.entries) place ≡ entry_at a.loan.entries at) (sym c.self.view_is) same in
-    let sound : IsSound (record old { entries = with_mark old.entries at true }) = sound-reversed old at c.self.invariant.sound below in
+    let within : place < length (standing_entries old.entries) = subst (λ (a : Account). place
+    < length (standing_entries a.loan.entries)) (sym c.self.view_is) c.requires.within in
+    let below : at < length old.entries =
+    subst (λ (a : Account). at < length a.loan.entries) (sym c.self.view_is) there in
+    let here : entry_at (standing_entries old.entries) place ≡ entry_at old.entries at = subst (λ (a : Account).
+    entry_at (standing_entries a.loan.entries) place ≡ entry_at a.loan.entries at) (sym c.self.view_is) same in
+    let sound : IsSound (record old { entries = with_mark old.entries at true }) =
+    sound-reversed old at c.self.invariant.sound below in
     let back = c.in_ok-book.ensures.back replayed in
-    let book_is : c.in_ok-book.book ≡ state_before old c.args.place = subst (λ (a : Account). c.in_ok-book.book ≡ state_before a.loan c.args.place) (sym c.self.view_is) back.0 in
-    let stands = standing-without-it old.periods old.day old.entries at place c.self.invariant.sound.entries sound.entries below within here in
-    let front : take c.in_ok-book.kept (settled_of_loan old) ≡ settled_upto old place = subst (λ (a : Account). take c.in_ok-book.kept (settled_of_loan a.loan) ≡ settled_upto a.loan place) (sym c.self.view_is) back.1 in
+    let book_is : c.in_ok-book.book ≡ state_before old c.args.place =
+    subst (λ (a : Account). c.in_ok-book.book ≡ state_before a.loan c.args.place) (sym c.self.view_is) back.0 in
+    let stands = standing-without-it old.periods old.day old.entries at place c.self.invariant.sound.entries
+    sound.entries below within here in
+    let front : take c.in_ok-book.kept (settled_of_loan old) ≡ settled_upto old place = subst (λ (a : Account).
+    take c.in_ok-book.kept (settled_of_loan a.loan) ≡ settled_upto a.loan place) (sym c.self.view_is) back.1 in
     let size = ap length replayed.settled in
     let seen = ap (λ (a : Account). length (settled_of_loan a.loan)) c.self.view_is in
-    let kept : c.in_ok-book.kept ≤ length (settled_of_loan old) = omega (arith, c.in_ok-book.ensures.within, size, seen) in
-    subst (λ (a : Account). IsRedone a.loan (record a.loan { entries = with_mark a.loan.entries at true }) c.apply_all.new.book c.in_ok-book.kept c.in_ok-parts.parts.items) c.self.view_is
-    (redone-from old (with_mark old.entries at true) (drop (place + 1) (standing_entries old.entries)) _ place c.in_ok-book.kept c.in_ok-book.book c.apply_all.new.book c.in_ok-parts.parts.items stands kept front book_is
-    (later-is old.entries (standing_entries old.entries) c.deref-2.result.now order c.deref.result.now (place + 1) c.deref-2.ensures.value c.deref.ensures.value c.self.invariant.order_is)
+    let kept : c.in_ok-book.kept ≤ length (settled_of_loan old) =
+    omega (arith, c.in_ok-book.ensures.within, size, seen) in
+    subst (λ (a : Account). IsRedone a.loan (record a.loan { entries = with_mark a.loan.entries at true })
+    c.apply_all.new.book c.in_ok-book.kept c.in_ok-parts.parts.items) c.self.view_is
+    (redone-from old (with_mark old.entries at true) (drop (place + 1) (standing_entries old.entries)) _ place
+    c.in_ok-book.kept c.in_ok-book.book c.apply_all.new.book c.in_ok-parts.parts.items stands kept front book_is
+    (later-is old.entries (standing_entries old.entries) c.deref-2.result.now order c.deref.result.now (place + 1)
+    c.deref-2.ensures.value c.deref.ensures.value c.self.invariant.order_is)
     c.in_ok-parts.ensures.state c.in_ok-parts.ensures.parts)
 
 pub returns-clause-safe : goal.returns-clause-safe
 returns-clause-safe c =
-    let old : Loan = record { terms = c.self.inside.terms; principal = c.self.inside.principal; periods = c.self.inside.periods; day = c.self.inside.day; entries = c.self.inside.entries.items } in
+    let old : Loan = record {
+      terms = c.self.inside.terms;
+      principal = c.self.inside.principal;
+      periods = c.self.inside.periods;
+      day = c.self.inside.day;
+      entries = c.self.inside.entries.items;
+    } in
     let place : ℕ = c.args.place in
     let order : List ℕ = c.self.inside.order.items in
-    let within : place < length (standing_entries old.entries) = subst (λ (a : Account). place < length (standing_entries a.loan.entries)) (sym c.self.view_is) c.requires.within in
+    let within : place < length (standing_entries old.entries) = subst (λ (a : Account). place
+    < length (standing_entries a.loan.entries)) (sym c.self.view_is) c.requires.within in
     let at = standing-at old.periods old.day old.entries place c.self.invariant.sound.entries within in
-    let sound : IsSound (record old { entries = with_mark old.entries at.0 true }) = sound-reversed old at.0 c.self.invariant.sound at.1.within in
-    let bounded : IsBounded old.periods (2 * most_kept) c.in_ok-book.book = subst (λ (a : Account). IsBounded a.loan.periods (2 * most_kept) c.in_ok-book.book) (sym c.self.view_is) c.in_ok-book.ensures.bounded in
-    let stands = standing-without-it old.periods old.day old.entries at.0 place c.self.invariant.sound.entries sound.entries at.1.within within (sym at.1.same) in
+    let sound : IsSound (record old { entries = with_mark old.entries at.0 true }) =
+    sound-reversed old at.0 c.self.invariant.sound at.1.within in
+    let bounded : IsBounded old.periods (2 * most_kept) c.in_ok-book.book = subst (λ (a : Account).
+    IsBounded a.loan.periods (2 * most_kept) c.in_ok-book.book) (sym c.self.view_is) c.in_ok-book.ensures.bounded in
+    let stands = standing-without-it old.periods old.day old.entries at.0 place c.self.invariant.sound.entries
+    sound.entries at.1.within within (sym at.1.same) in
     let kept : ℕ = c.in_ok-book.kept in
     let amount : settled_amount (take kept c.self.inside.settled.items ++ c.in_ok-parts.parts.items) ≤ most_kept =
-    subst (λ (x : List Settled). settled_amount (take kept c.self.inside.settled.items ++ x) ≤ most_kept) c.deref-3.ensures.value
+    subst (λ (x : List Settled). settled_amount (take kept c.self.inside.settled.items ++ x) ≤ most_kept)
+    c.deref-3.ensures.value
     (subst (λ (a : Account). settled_amount (take kept a.settled ++ c.deref-3.result.now) ≤ most_kept)
     (sym c.self.view_is) (c.is_within_bounds.ensures.parts c.if-not-is_within_bounds.false)) in
-    let count : length (with_mark old.entries at.0 true) ≡ length old.entries = length-set old.entries at.0 (record (entry_at old.entries at.0) { reversed = true }) in
+    let count : length (with_mark old.entries at.0 true) ≡ length old.entries =
+    length-set old.entries at.0 (record (entry_at old.entries at.0) { reversed = true }) in
     let numbers : AreNumberedTo (length (with_mark old.entries at.0 true)) c.self.inside.settled.items =
     subst (λ (n : ℕ). AreNumberedTo n c.self.inside.settled.items) (sym count) c.self.invariant.safe.placed.numbers in
-    subst (λ (a : Account). IsSafe a.loan.periods (length a.loan.entries) c.apply_all.new.book (take kept a.settled ++ c.in_ok-parts.parts.items)) c.self.view_is
-    (subst (λ (n : ℕ). IsSafe old.periods n c.apply_all.new.book (take kept c.self.inside.settled.items ++ c.in_ok-parts.parts.items)) count
-    (safe-redone old (with_mark old.entries at.0 true) (drop (place + 1) (standing_entries old.entries)) _ place c.in_ok-book.book sound stands
-    (later-is old.entries (standing_entries old.entries) c.deref-2.result.now order c.deref.result.now (place + 1) c.deref-2.ensures.value c.deref.ensures.value c.self.invariant.order_is) bounded
-    c.apply_all.new.book (take kept c.self.inside.settled.items) c.in_ok-parts.parts.items c.in_ok-parts.ensures.state c.in_ok-parts.ensures.parts
-    (All-take (λ (s : Settled). IsCell old.periods s.cell) kept c.self.inside.settled.items c.self.invariant.safe.placed.cells)
+    subst (λ (a : Account). IsSafe a.loan.periods (length a.loan.entries) c.apply_all.new.book (take kept a.settled
+    ++ c.in_ok-parts.parts.items)) c.self.view_is
+    (subst (λ (n : ℕ). IsSafe old.periods n c.apply_all.new.book (take kept c.self.inside.settled.items
+    ++ c.in_ok-parts.parts.items)) count
+    (safe-redone old (with_mark old.entries at.0 true) (drop (place + 1) (standing_entries old.entries)) _ place
+    c.in_ok-book.book sound stands
+    (later-is old.entries (standing_entries old.entries) c.deref-2.result.now order c.deref.result.now (place + 1)
+    c.deref-2.ensures.value c.deref.ensures.value c.self.invariant.order_is) bounded
+    c.apply_all.new.book (take kept c.self.inside.settled.items) c.in_ok-parts.parts.items c.in_ok-parts.ensures.state
+    c.in_ok-parts.ensures.parts
+    (All-take (λ (s : Settled). IsCell old.periods s.cell) kept c.self.inside.settled.items
+    c.self.invariant.safe.placed.cells)
     (All-take (IsNumberedTo (length (with_mark old.entries at.0 true))) kept c.self.inside.settled.items numbers)
     amount (λ n shaped. c.is_within_bounds.ensures.book n shaped c.if-not-is_within_bounds.false)))

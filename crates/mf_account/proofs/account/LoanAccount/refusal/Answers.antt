@@ -16,17 +16,23 @@ returns-then-is_forbidden-clause-value c replayed =
     let e : Entry = c.args.entry.now in
     let day : ℕ = c.args.business_day in
     let sealed : is_sealed loan.entries ≡ false = sym c.if-is_sealed.ensures in
-    let admitted : not (admits e.kind (status_of_loan loan)) ≡ false = ap (λ (x : State). not (admits e.kind (status_of loan.entries x))) (sym replayed.state) ∙ ap (λ n. not (admits e.kind n)) (sym c.status.ensures) ∙ ap not (sym c.if-not-admits.ensures) in
-    let ordered : is_out_of_order e.kind loan.day day e.day ≡ false = ap (λ (a : Account). is_out_of_order e.kind a.loan.day day e.day) (sym c.self.view_is) ∙ sym c.if-is_out_of_order.ensures in
+    let admitted : not (admits e.kind (status_of_loan loan)) ≡ false =
+    ap (λ (x : State). not (admits e.kind (status_of loan.entries x))) (sym replayed.state)
+    ∙ ap (λ n. not (admits e.kind n)) (sym c.status.ensures) ∙ ap not (sym c.if-not-admits.ensures) in
+    let ordered : is_out_of_order e.kind loan.day day e.day ≡ false = ap (λ (a : Account). is_out_of_order e.kind
+    a.loan.day day e.day) (sym c.self.view_is) ∙ sym c.if-is_out_of_order.ensures in
     let sound : IsSound loan = subst (λ (a : Account). IsSound a.loan) c.self.view_is c.self.invariant.sound in
     let rows : c.deref.result.now ≡ (state_of_loan loan).rows =
-    c.deref.ensures.value ∙ ap (λ (s : State). s.rows) c.book.view_is ∙ ap (λ (a : Account). a.state.rows) c.self.view_is ∙ ap (λ (s : State). s.rows) replayed.state in
-    let charged : c.is_some.result ≡ is_some loan.terms.overdue = c.is_some.ensures ∙ ap (λ (a : Account). is_some a.loan.terms.overdue) c.self.view_is in
+    c.deref.ensures.value ∙ ap (λ (s : State). s.rows) c.book.view_is ∙ ap (λ (a : Account). a.state.rows)
+    c.self.view_is ∙ ap (λ (s : State). s.rows) replayed.state in
+    let charged : c.is_some.result ≡ is_some loan.terms.overdue =
+    c.is_some.ensures ∙ ap (λ (a : Account). is_some a.loan.terms.overdue) c.self.view_is in
     let allowed : is_forbidden e.kind (is_some loan.terms.overdue) (state_of_loan loan).rows loan.entries e day ≡ true =
     ap (λ b. is_forbidden e.kind b (state_of_loan loan).rows loan.entries e day) (sym charged)
     ∙ ap (λ r. is_forbidden e.kind c.is_some.result r loan.entries e day) (sym rows)
     ∙ sym (c.if-is_forbidden.ensures.value loan sound rows) in
-    chosen-later _ _ _ _ sealed (chosen-later _ _ _ _ admitted (chosen-later _ _ _ _ ordered (chosen-here _ _ _ allowed)))
+    chosen-later _ _ _ _ sealed (chosen-later _ _ _ _ admitted (chosen-later _ _ _ _ ordered
+    (chosen-here _ _ _ allowed)))
 
 pub returns-then-is_out_of_limits-clause-value : goal.returns-then-is_out_of_limits-clause-value
 returns-then-is_out_of_limits-clause-value c replayed =
@@ -34,17 +40,24 @@ returns-then-is_out_of_limits-clause-value c replayed =
     let e : Entry = c.args.entry.now in
     let day : ℕ = c.args.business_day in
     let sealed : is_sealed loan.entries ≡ false = sym c.if-is_sealed.ensures in
-    let admitted : not (admits e.kind (status_of_loan loan)) ≡ false = ap (λ (x : State). not (admits e.kind (status_of loan.entries x))) (sym replayed.state) ∙ ap (λ n. not (admits e.kind n)) (sym c.status.ensures) ∙ ap not (sym c.if-not-admits.ensures) in
-    let ordered : is_out_of_order e.kind loan.day day e.day ≡ false = ap (λ (a : Account). is_out_of_order e.kind a.loan.day day e.day) (sym c.self.view_is) ∙ sym c.if-is_out_of_order.ensures in
+    let admitted : not (admits e.kind (status_of_loan loan)) ≡ false =
+    ap (λ (x : State). not (admits e.kind (status_of loan.entries x))) (sym replayed.state)
+    ∙ ap (λ n. not (admits e.kind n)) (sym c.status.ensures) ∙ ap not (sym c.if-not-admits.ensures) in
+    let ordered : is_out_of_order e.kind loan.day day e.day ≡ false = ap (λ (a : Account). is_out_of_order e.kind
+    a.loan.day day e.day) (sym c.self.view_is) ∙ sym c.if-is_out_of_order.ensures in
     let sound : IsSound loan = subst (λ (a : Account). IsSound a.loan) c.self.view_is c.self.invariant.sound in
     let rows : c.deref.result.now ≡ (state_of_loan loan).rows =
-    c.deref.ensures.value ∙ ap (λ (s : State). s.rows) c.book.view_is ∙ ap (λ (a : Account). a.state.rows) c.self.view_is ∙ ap (λ (s : State). s.rows) replayed.state in
-    let charged : c.is_some.result ≡ is_some loan.terms.overdue = c.is_some.ensures ∙ ap (λ (a : Account). is_some a.loan.terms.overdue) c.self.view_is in
-    let allowed : is_forbidden e.kind (is_some loan.terms.overdue) (state_of_loan loan).rows loan.entries e day ≡ false =
+    c.deref.ensures.value ∙ ap (λ (s : State). s.rows) c.book.view_is ∙ ap (λ (a : Account). a.state.rows)
+    c.self.view_is ∙ ap (λ (s : State). s.rows) replayed.state in
+    let charged : c.is_some.result ≡ is_some loan.terms.overdue =
+    c.is_some.ensures ∙ ap (λ (a : Account). is_some a.loan.terms.overdue) c.self.view_is in
+    let allowed : is_forbidden e.kind (is_some loan.terms.overdue) (state_of_loan loan).rows loan.entries e day
+    ≡ false =
     ap (λ b. is_forbidden e.kind b (state_of_loan loan).rows loan.entries e day) (sym charged)
     ∙ ap (λ r. is_forbidden e.kind c.is_some.result r loan.entries e day) (sym rows)
     ∙ sym (c.if-is_forbidden.ensures.value loan sound rows) in
-    chosen-later _ _ _ _ sealed (chosen-later _ _ _ _ admitted (chosen-later _ _ _ _ ordered (chosen-later _ _ _ _ allowed (chosen-here _ _ _ (sym c.if-is_out_of_limits.ensures)))))
+    chosen-later _ _ _ _ sealed (chosen-later _ _ _ _ admitted (chosen-later _ _ _ _ ordered
+    (chosen-later _ _ _ _ allowed (chosen-here _ _ _ (sym c.if-is_out_of_limits.ensures)))))
 
 pub returns-then-len-ge-MOST_ENTRIES-clause-value : goal.returns-then-len-ge-MOST_ENTRIES-clause-value
 returns-then-len-ge-MOST_ENTRIES-clause-value c replayed =
@@ -52,20 +65,29 @@ returns-then-len-ge-MOST_ENTRIES-clause-value c replayed =
     let e : Entry = c.args.entry.now in
     let day : ℕ = c.args.business_day in
     let sealed : is_sealed loan.entries ≡ false = sym c.if-is_sealed.ensures in
-    let admitted : not (admits e.kind (status_of_loan loan)) ≡ false = ap (λ (x : State). not (admits e.kind (status_of loan.entries x))) (sym replayed.state) ∙ ap (λ n. not (admits e.kind n)) (sym c.status.ensures) ∙ ap not (sym c.if-not-admits.ensures) in
-    let ordered : is_out_of_order e.kind loan.day day e.day ≡ false = ap (λ (a : Account). is_out_of_order e.kind a.loan.day day e.day) (sym c.self.view_is) ∙ sym c.if-is_out_of_order.ensures in
+    let admitted : not (admits e.kind (status_of_loan loan)) ≡ false =
+    ap (λ (x : State). not (admits e.kind (status_of loan.entries x))) (sym replayed.state)
+    ∙ ap (λ n. not (admits e.kind n)) (sym c.status.ensures) ∙ ap not (sym c.if-not-admits.ensures) in
+    let ordered : is_out_of_order e.kind loan.day day e.day ≡ false = ap (λ (a : Account). is_out_of_order e.kind
+    a.loan.day day e.day) (sym c.self.view_is) ∙ sym c.if-is_out_of_order.ensures in
     let sound : IsSound loan = subst (λ (a : Account). IsSound a.loan) c.self.view_is c.self.invariant.sound in
     let rows : c.deref.result.now ≡ (state_of_loan loan).rows =
-    c.deref.ensures.value ∙ ap (λ (s : State). s.rows) c.book.view_is ∙ ap (λ (a : Account). a.state.rows) c.self.view_is ∙ ap (λ (s : State). s.rows) replayed.state in
-    let charged : c.is_some.result ≡ is_some loan.terms.overdue = c.is_some.ensures ∙ ap (λ (a : Account). is_some a.loan.terms.overdue) c.self.view_is in
-    let allowed : is_forbidden e.kind (is_some loan.terms.overdue) (state_of_loan loan).rows loan.entries e day ≡ false =
+    c.deref.ensures.value ∙ ap (λ (s : State). s.rows) c.book.view_is ∙ ap (λ (a : Account). a.state.rows)
+    c.self.view_is ∙ ap (λ (s : State). s.rows) replayed.state in
+    let charged : c.is_some.result ≡ is_some loan.terms.overdue =
+    c.is_some.ensures ∙ ap (λ (a : Account). is_some a.loan.terms.overdue) c.self.view_is in
+    let allowed : is_forbidden e.kind (is_some loan.terms.overdue) (state_of_loan loan).rows loan.entries e day
+    ≡ false =
     ap (λ b. is_forbidden e.kind b (state_of_loan loan).rows loan.entries e day) (sym charged)
     ∙ ap (λ r. is_forbidden e.kind c.is_some.result r loan.entries e day) (sym rows)
     ∙ sym (c.if-is_forbidden.ensures.value loan sound rows) in
-    let size : length c.self.inside.entries.items ≡ length loan.entries = ap (λ (a : Account). length a.loan.entries) c.self.view_is in
+    let size : length c.self.inside.entries.items ≡ length loan.entries =
+    ap (λ (a : Account). length a.loan.entries) c.self.view_is in
     let count = c.self.inside.entries.ok in
-    let many : leb 9999 (length loan.entries) ≡ true = le-leb 9999 (length loan.entries) (omega (arith, size, count.0, c.len.ensures, c.if-len-ge-MOST_ENTRIES.true)) in
-    chosen-later _ _ _ _ sealed (chosen-later _ _ _ _ admitted (chosen-later _ _ _ _ ordered (chosen-later _ _ _ _ allowed (chosen-later _ _ _ _ (sym c.if-is_out_of_limits.ensures) (chosen-here _ _ _ many)))))
+    let many : leb 9999 (length loan.entries) ≡ true = le-leb 9999 (length loan.entries)
+    (omega (arith, size, count.0, c.len.ensures, c.if-len-ge-MOST_ENTRIES.true)) in
+    chosen-later _ _ _ _ sealed (chosen-later _ _ _ _ admitted (chosen-later _ _ _ _ ordered (chosen-later _ _ _ _
+    allowed (chosen-later _ _ _ _ (sym c.if-is_out_of_limits.ensures) (chosen-here _ _ _ many)))))
 
 pub returns-else-len-ge-MOST_ENTRIES-clause-value : goal.returns-else-len-ge-MOST_ENTRIES-clause-value
 returns-else-len-ge-MOST_ENTRIES-clause-value c replayed =
@@ -73,17 +95,26 @@ returns-else-len-ge-MOST_ENTRIES-clause-value c replayed =
     let e : Entry = c.args.entry.now in
     let day : ℕ = c.args.business_day in
     let sealed : is_sealed loan.entries ≡ false = sym c.if-is_sealed.ensures in
-    let admitted : not (admits e.kind (status_of_loan loan)) ≡ false = ap (λ (x : State). not (admits e.kind (status_of loan.entries x))) (sym replayed.state) ∙ ap (λ n. not (admits e.kind n)) (sym c.status.ensures) ∙ ap not (sym c.if-not-admits.ensures) in
-    let ordered : is_out_of_order e.kind loan.day day e.day ≡ false = ap (λ (a : Account). is_out_of_order e.kind a.loan.day day e.day) (sym c.self.view_is) ∙ sym c.if-is_out_of_order.ensures in
+    let admitted : not (admits e.kind (status_of_loan loan)) ≡ false =
+    ap (λ (x : State). not (admits e.kind (status_of loan.entries x))) (sym replayed.state)
+    ∙ ap (λ n. not (admits e.kind n)) (sym c.status.ensures) ∙ ap not (sym c.if-not-admits.ensures) in
+    let ordered : is_out_of_order e.kind loan.day day e.day ≡ false = ap (λ (a : Account). is_out_of_order e.kind
+    a.loan.day day e.day) (sym c.self.view_is) ∙ sym c.if-is_out_of_order.ensures in
     let sound : IsSound loan = subst (λ (a : Account). IsSound a.loan) c.self.view_is c.self.invariant.sound in
     let rows : c.deref.result.now ≡ (state_of_loan loan).rows =
-    c.deref.ensures.value ∙ ap (λ (s : State). s.rows) c.book.view_is ∙ ap (λ (a : Account). a.state.rows) c.self.view_is ∙ ap (λ (s : State). s.rows) replayed.state in
-    let charged : c.is_some.result ≡ is_some loan.terms.overdue = c.is_some.ensures ∙ ap (λ (a : Account). is_some a.loan.terms.overdue) c.self.view_is in
-    let allowed : is_forbidden e.kind (is_some loan.terms.overdue) (state_of_loan loan).rows loan.entries e day ≡ false =
+    c.deref.ensures.value ∙ ap (λ (s : State). s.rows) c.book.view_is ∙ ap (λ (a : Account). a.state.rows)
+    c.self.view_is ∙ ap (λ (s : State). s.rows) replayed.state in
+    let charged : c.is_some.result ≡ is_some loan.terms.overdue =
+    c.is_some.ensures ∙ ap (λ (a : Account). is_some a.loan.terms.overdue) c.self.view_is in
+    let allowed : is_forbidden e.kind (is_some loan.terms.overdue) (state_of_loan loan).rows loan.entries e day
+    ≡ false =
     ap (λ b. is_forbidden e.kind b (state_of_loan loan).rows loan.entries e day) (sym charged)
     ∙ ap (λ r. is_forbidden e.kind c.is_some.result r loan.entries e day) (sym rows)
     ∙ sym (c.if-is_forbidden.ensures.value loan sound rows) in
-    let size : length c.self.inside.entries.items ≡ length loan.entries = ap (λ (a : Account). length a.loan.entries) c.self.view_is in
+    let size : length c.self.inside.entries.items ≡ length loan.entries =
+    ap (λ (a : Account). length a.loan.entries) c.self.view_is in
     let count = c.self.inside.entries.ok in
-    let few : leb 9999 (length loan.entries) ≡ false = lt-leb 9999 (length loan.entries) (omega (arith, size, count.0, c.len.ensures, c.if-len-ge-MOST_ENTRIES.false)) in
-    chosen-later _ _ _ _ sealed (chosen-later _ _ _ _ admitted (chosen-later _ _ _ _ ordered (chosen-later _ _ _ _ allowed (chosen-later _ _ _ _ (sym c.if-is_out_of_limits.ensures) (chosen-later _ _ _ _ few refl)))))
+    let few : leb 9999 (length loan.entries) ≡ false = lt-leb 9999 (length loan.entries)
+    (omega (arith, size, count.0, c.len.ensures, c.if-len-ge-MOST_ENTRIES.false)) in
+    chosen-later _ _ _ _ sealed (chosen-later _ _ _ _ admitted (chosen-later _ _ _ _ ordered (chosen-later _ _ _ _
+    allowed (chosen-later _ _ _ _ (sym c.if-is_out_of_limits.ensures) (chosen-later _ _ _ _ few refl)))))

@@ -6,11 +6,13 @@ use Rattle.mf_account.proofs.account.LoanAccount.rows.Goals as goal
 
 pub returns-clause-few : goal.returns-clause-few
 returns-clause-few c =
-    let rows : c.as_slice.result.now ≡ c.self.inside.book.rows = c.as_slice.ensures.value ∙ ap (λ (i : Inside). i.book.rows) c.self-inside.view_is in
+    let rows : c.as_slice.result.now ≡ c.self.inside.book.rows =
+    c.as_slice.ensures.value ∙ ap (λ (i : Inside). i.book.rows) c.self-inside.view_is in
     let size = ap length rows in
     omega (arith, size, c.self.invariant.safe.bounded.size, c.self.invariant.sound.limits.most_periods)
 
 pub returns-clause-small : goal.returns-clause-small
 returns-clause-small c =
-    let rows : c.as_slice.result.now ≡ c.self.inside.book.rows = c.as_slice.ensures.value ∙ ap (λ (i : Inside). i.book.rows) c.self-inside.view_is in
+    let rows : c.as_slice.result.now ≡ c.self.inside.book.rows =
+    c.as_slice.ensures.value ∙ ap (λ (i : Inside). i.book.rows) c.self-inside.view_is in
     subst AreRowsSmall (sym rows) (rows-small c.self.inside.periods c.self.inside.book c.self.invariant.safe.bounded)

@@ -12,20 +12,27 @@ use Rattle.mf_account.proofs.account.LoanAccount.status.Goals as goal
 pub status-requires-clause-within : goal.status-requires-clause-within
 status-requires-clause-within c =
     subst (λ (o : List ℕ). All (λ at. at < length c.deref.result.now) o) (sym c.deref-2.ensures.value)
-    (subst (λ (e : List Entry). All (λ at. at < length e) c.self.inside.order.items) (sym c.deref.ensures.value) c.self.invariant.within)
+    (subst (λ (e : List Entry). All (λ at. at < length e) c.self.inside.order.items) (sym c.deref.ensures.value)
+    c.self.invariant.within)
 
 pub status-requires-clause-order : goal.status-requires-clause-order
 status-requires-clause-order c =
     ap (entries_at c.deref.result.now) c.deref-2.ensures.value
-    ∙ subst (λ (e : List Entry). entries_at e c.self.inside.order.items ≡ standing_entries e) (sym c.deref.ensures.value) c.self.invariant.order_is
+    ∙ subst (λ (e : List Entry). entries_at e c.self.inside.order.items ≡ standing_entries e)
+    (sym c.deref.ensures.value) c.self.invariant.order_is
 
 pub status-requires-clause-entries : goal.status-requires-clause-entries
-status-requires-clause-entries c =
-    (c.self.inside.periods, c.self.inside.day, subst (AreEntries c.self.inside.periods c.self.inside.day) (sym c.deref.ensures.value) c.self.invariant.sound.entries)
+status-requires-clause-entries c = (
+  c.self.inside.periods,
+  c.self.inside.day,
+  subst (AreEntries c.self.inside.periods c.self.inside.day)
+      (sym c.deref.ensures.value) c.self.invariant.sound.entries,
+)
 
 pub returns : goal.returns
 returns c =
-    let at : List Entry → List Sums → ℕ → ℕ = λ entries rows overpaid. status_of entries (record { rows = rows; overpaid = overpaid; refunded = 0 }) in
+    let at : List Entry → List Sums → ℕ → ℕ =
+    λ entries rows overpaid. status_of entries (record { rows = rows; overpaid = overpaid; refunded = 0 }) in
     let overpaid : ℕ = c.book.inside.overpaid in
     c.status.ensures
     ∙ ap (λ entries. at entries c.deref-3.result.now overpaid) c.deref.ensures.value

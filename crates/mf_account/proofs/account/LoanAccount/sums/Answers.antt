@@ -9,12 +9,14 @@ use Rattle.mf_account.proofs.account.LoanAccount.sums.Goals as goal
 
 pub book_sums-requires : goal.book_sums-requires
 book_sums-requires c =
-    let rows : c.deref.result.now ≡ c.self.inside.book.rows = c.deref.ensures.value ∙ ap (λ (s : State). s.rows) c.book.view_is in
+    let rows : c.deref.result.now ≡ c.self.inside.book.rows =
+    c.deref.ensures.value ∙ ap (λ (s : State). s.rows) c.book.view_is in
     subst HasRoom (sym rows) (room-bounded c.self.inside.periods c.self.inside.book c.self.invariant.safe.bounded)
 
 pub returns-clause-value : goal.returns-clause-value
 returns-clause-value c =
-    let at : List Sums → State = λ r. record { rows = r; overpaid = c.book.inside.overpaid; refunded = c.book.inside.refunded } in
+    let at : List Sums → State =
+    λ r. record { rows = r; overpaid = c.book.inside.overpaid; refunded = c.book.inside.refunded } in
     let fee : ℕ = c.self.inside.disbursement_fee in
     c.book_sums.ensures
     ∙ ap (λ r. balances_by fee (at r)) c.deref.ensures.value
@@ -23,4 +25,5 @@ returns-clause-value c =
     ∙ ap (λ (a : Account). balances_by (fee_of_loan a.loan) a.state) c.self.view_is
 
 pub returns-clause-apart : goal.returns-clause-apart
-returns-clause-apart c = subst (λ (a : Account). AreWithin a.state.rows) c.self.view_is c.self.invariant.safe.bounded.within
+returns-clause-apart c =
+    subst (λ (a : Account). AreWithin a.state.rows) c.self.view_is c.self.invariant.safe.bounded.within

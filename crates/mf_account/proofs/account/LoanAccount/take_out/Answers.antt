@@ -14,7 +14,9 @@ use Rattle.mf_account.proofs.account.LoanAccount.take_out.Goals as goal
 
 pub remove-requires : goal.remove-requires
 remove-requires c =
-    let within : c.place_at-place.result < length (standing_entries c.self.inside.entries.items) = subst (λ (a : Account). c.place_at-place.result < length (standing_entries a.loan.entries)) (sym c.self.view_is) c.place_at-place.ensures.within in
+    let within : c.place_at-place.result < length (standing_entries c.self.inside.entries.items) =
+    subst (λ (a : Account). c.place_at-place.result < length (standing_entries a.loan.entries)) (sym c.self.view_is)
+    c.place_at-place.ensures.within in
     let size = length-order c.self.inside.entries.items c.self.inside.order.items c.self.invariant.order_is in
     omega (arith, within, size, c.self.inside.order.ok)
 
@@ -23,59 +25,113 @@ change_to-requires-clause-size c = c.in_ok-book.ensures.safe.bounded.size
 
 pub invariant_of-self-2 : goal.invariant_of-self-2
 invariant_of-self-2 c =
-    let old : Loan = record { terms = c.self.inside.terms; principal = c.self.inside.principal; periods = c.self.inside.periods; day = c.self.inside.day; entries = c.self.inside.entries.items } in
+    let old : Loan = record {
+      terms = c.self.inside.terms;
+      principal = c.self.inside.principal;
+      periods = c.self.inside.periods;
+      day = c.self.inside.day;
+      entries = c.self.inside.entries.items;
+    } in
     let new : Loan = record old { entries = with_mark old.entries c.args.at true } in
-    let there : c.args.at < length old.entries = subst (λ (a : Account). c.args.at < length a.loan.entries) (sym c.self.view_is) c.requires.there in
+    let there : c.args.at < length old.entries =
+    subst (λ (a : Account). c.args.at < length a.loan.entries) (sym c.self.view_is) c.requires.there in
     let sound : IsSound new = sound-reversed old c.args.at c.self.invariant.sound there in
     let place : ℕ = c.place_at-place.result in
-    let within : place < length (standing_entries old.entries) = subst (λ (a : Account). place < length (standing_entries a.loan.entries)) (sym c.self.view_is) c.place_at-place.ensures.within in
-    let here : entry_at (standing_entries old.entries) place ≡ entry_at old.entries c.args.at = subst (λ (a : Account). entry_at (standing_entries a.loan.entries) place ≡ entry_at a.loan.entries c.args.at) (sym c.self.view_is) c.place_at-place.ensures.there in
-    let settled : c.put_behind.new.settled.items ≡ take c.in_ok-book.kept c.self.inside.settled.items ++ c.in_ok-book.parts.items =
+    let within : place < length (standing_entries old.entries) = subst (λ (a : Account). place
+    < length (standing_entries a.loan.entries)) (sym c.self.view_is) c.place_at-place.ensures.within in
+    let here : entry_at (standing_entries old.entries) place ≡ entry_at old.entries c.args.at = subst (λ (a : Account).
+    entry_at (standing_entries a.loan.entries) place ≡ entry_at a.loan.entries c.args.at) (sym c.self.view_is)
+    c.place_at-place.ensures.there in
+    let settled : c.put_behind.new.settled.items ≡ take c.in_ok-book.kept c.self.inside.settled.items
+    ++ c.in_ok-book.parts.items =
     c.put_behind.ensures
     ∙ ap (λ (x : List Settled). take c.in_ok-book.kept x ++ c.deref-2.result.now) c.in_ok-reserve.ensures.items
     ∙ ap (λ (x : List Settled). take c.in_ok-book.kept c.self.inside.settled.items ++ x) c.deref-2.ensures.value in
-    let count : length old.entries ≡ length new.entries = sym (length-set old.entries c.args.at (record (entry_at old.entries c.args.at) { reversed = true })) in
-    let safe : IsSafe old.periods (length old.entries) c.in_ok-book.book (take c.in_ok-book.kept c.self.inside.settled.items ++ c.in_ok-book.parts.items) =
-    subst (λ (a : Account). IsSafe a.loan.periods (length a.loan.entries) c.in_ok-book.book (take c.in_ok-book.kept a.settled ++ c.in_ok-book.parts.items)) (sym c.self.view_is) c.in_ok-book.ensures.safe in
-    let kept : IsKept new (remove c.self.inside.order.items place) c.self.inside.schedule.items c.self.inside.disbursement_fee c.in_ok-book.book c.put_behind.new.settled.items = record {
+    let count : length old.entries ≡ length new.entries =
+    sym (length-set old.entries c.args.at (record (entry_at old.entries c.args.at) { reversed = true })) in
+    let safe : IsSafe old.periods (length old.entries) c.in_ok-book.book
+    (take c.in_ok-book.kept c.self.inside.settled.items ++ c.in_ok-book.parts.items) =
+    subst (λ (a : Account). IsSafe a.loan.periods (length a.loan.entries) c.in_ok-book.book (take c.in_ok-book.kept
+    a.settled ++ c.in_ok-book.parts.items)) (sym c.self.view_is) c.in_ok-book.ensures.safe in
+    let kept : IsKept new (remove c.self.inside.order.items place) c.self.inside.schedule.items
+    c.self.inside.disbursement_fee c.in_ok-book.book c.put_behind.new.settled.items = record {
       sound = sound;
       within = within-removed old.entries c.self.inside.order.items c.args.at place c.self.invariant.within;
-      order_is = order-removed old.periods old.day old.entries c.self.inside.order.items c.args.at place c.self.invariant.sound.entries sound.entries there c.self.invariant.order_is within here;
+      order_is = order-removed old.periods old.day old.entries c.self.inside.order.items c.args.at place
+          c.self.invariant.sound.entries sound.entries there c.self.invariant.order_is within here;
       schedule_is = c.self.invariant.schedule_is;
       fee_is = c.self.invariant.fee_is;
       safe = subst (λ (x : List Settled). IsSafe old.periods (length new.entries) c.in_ok-book.book x) (sym settled)
-          (subst (λ (n : ℕ). IsSafe old.periods n c.in_ok-book.book (take c.in_ok-book.kept c.self.inside.settled.items ++ c.in_ok-book.parts.items)) count safe);
+          (subst (λ (n : ℕ). IsSafe old.periods n c.in_ok-book.book (take c.in_ok-book.kept c.self.inside.settled.items
+          ++ c.in_ok-book.parts.items)) count safe);
     } in
-    subst (λ (o : List ℕ). IsKept (record old { entries = c.mark_reversed.new.entries.items }) o c.self.inside.schedule.items c.self.inside.disbursement_fee c.in_ok-book.book c.put_behind.new.settled.items) (sym c.remove.ensures.items)
-    (subst (λ (e : List Entry). IsKept (record old { entries = e }) (remove c.self.inside.order.items place) c.self.inside.schedule.items c.self.inside.disbursement_fee c.in_ok-book.book c.put_behind.new.settled.items) (sym c.mark_reversed.ensures) kept)
+    subst (λ (o : List ℕ). IsKept (record old { entries = c.mark_reversed.new.entries.items }) o
+    c.self.inside.schedule.items c.self.inside.disbursement_fee c.in_ok-book.book c.put_behind.new.settled.items)
+    (sym c.remove.ensures.items)
+    (subst (λ (e : List Entry). IsKept (record old { entries = e }) (remove c.self.inside.order.items place)
+    c.self.inside.schedule.items c.self.inside.disbursement_fee c.in_ok-book.book c.put_behind.new.settled.items)
+    (sym c.mark_reversed.ensures) kept)
 
 pub returns-clause-replayed : goal.returns-clause-replayed
 returns-clause-replayed c replayed =
     let loan : Loan = c.args.self.now.loan in
     let new : Loan = record loan { entries = with_mark loan.entries c.args.at true } in
-    let redone : IsRedone loan new c.in_ok-book.book c.in_ok-book.kept c.in_ok-book.parts.items = c.in_ok-book.ensures.redone replayed c.args.at c.requires.there c.place_at-place.ensures.there in
+    let redone : IsRedone loan new c.in_ok-book.book c.in_ok-book.kept c.in_ok-book.parts.items =
+    c.in_ok-book.ensures.redone replayed c.args.at c.requires.there c.place_at-place.ensures.there in
     let settled : c.put_behind.new.settled.items ≡ settled_of_loan new =
     c.put_behind.ensures
-    ∙ ap (λ (x : List Settled). take c.in_ok-book.kept x ++ c.deref-2.result.now) (c.in_ok-reserve.ensures.items ∙ ap (λ (a : Account). a.settled) c.self.view_is ∙ replayed.settled)
+    ∙ ap (λ (x : List Settled). take c.in_ok-book.kept x ++ c.deref-2.result.now) (c.in_ok-reserve.ensures.items
+    ∙ ap (λ (a : Account). a.settled) c.self.view_is ∙ replayed.settled)
     ∙ ap (λ (x : List Settled). take c.in_ok-book.kept (settled_of_loan loan) ++ x) c.deref-2.ensures.value
     ∙ redone.parts_are in
-    let is : IsReplayed (record { loan = new; state = c.in_ok-book.book; settled = c.put_behind.new.settled.items; change = c.in_ok-change.change }) = record { state = redone.book_is; settled = settled } in
-    subst (λ (a : Account). IsReplayed (record { loan = record a.loan { entries = c.mark_reversed.new.entries.items }; state = c.in_ok-book.book; settled = c.put_behind.new.settled.items; change = c.in_ok-change.change })) (sym c.self.view_is)
-    (subst (λ (e : List Entry). IsReplayed (record { loan = record loan { entries = e }; state = c.in_ok-book.book; settled = c.put_behind.new.settled.items; change = c.in_ok-change.change }))
+    let is : IsReplayed (record {
+      loan = new;
+      state = c.in_ok-book.book;
+      settled = c.put_behind.new.settled.items;
+      change = c.in_ok-change.change;
+    }) = record { state = redone.book_is; settled = settled } in
+    subst (λ (a : Account). IsReplayed (record {
+      loan = record a.loan { entries = c.mark_reversed.new.entries.items };
+      state = c.in_ok-book.book;
+      settled = c.put_behind.new.settled.items;
+      change = c.in_ok-change.change;
+    }))
+    (sym c.self.view_is)
+    (subst (λ (e : List Entry). IsReplayed (record {
+      loan = record loan { entries = e };
+      state = c.in_ok-book.book;
+      settled = c.put_behind.new.settled.items;
+      change = c.in_ok-change.change;
+    }))
     (sym (c.mark_reversed.ensures ∙ ap (λ (a : Account). with_mark a.loan.entries c.args.at true) c.self.view_is)) is)
 
 pub returns-clause-change : goal.returns-clause-change
 returns-clause-change c replayed =
-    let old : Loan = record { terms = c.self.inside.terms; principal = c.self.inside.principal; periods = c.self.inside.periods; day = c.self.inside.day; entries = c.self.inside.entries.items } in
+    let old : Loan = record {
+      terms = c.self.inside.terms;
+      principal = c.self.inside.principal;
+      periods = c.self.inside.periods;
+      day = c.self.inside.day;
+      entries = c.self.inside.entries.items;
+    } in
     let new : Loan = record old { entries = with_mark old.entries c.args.at true } in
-    let there : c.args.at < length old.entries = subst (λ (a : Account). c.args.at < length a.loan.entries) (sym c.self.view_is) c.requires.there in
+    let there : c.args.at < length old.entries =
+    subst (λ (a : Account). c.args.at < length a.loan.entries) (sym c.self.view_is) c.requires.there in
     let sound : IsSound new = sound-reversed old c.args.at c.self.invariant.sound there in
-    let redone : IsRedone old new c.in_ok-book.book c.in_ok-book.kept c.in_ok-book.parts.items = subst (λ (a : Account). IsRedone a.loan (record a.loan { entries = with_mark a.loan.entries c.args.at true }) c.in_ok-book.book c.in_ok-book.kept c.in_ok-book.parts.items) (sym c.self.view_is) (c.in_ok-book.ensures.redone replayed c.args.at c.requires.there c.place_at-place.ensures.there) in
-    let longer : length new.entries ≡ length old.entries = length-set old.entries c.args.at (record (entry_at old.entries c.args.at) { reversed = true }) in
-    let more : length c.args.self.now.loan.entries ≤ length new.entries = subst (λ (a : Account). length a.loan.entries ≤ length new.entries) c.self.view_is (omega (arith, longer)) in
+    let redone : IsRedone old new c.in_ok-book.book c.in_ok-book.kept c.in_ok-book.parts.items = subst (λ (a : Account).
+    IsRedone a.loan (record a.loan { entries = with_mark a.loan.entries c.args.at true }) c.in_ok-book.book
+    c.in_ok-book.kept c.in_ok-book.parts.items) (sym c.self.view_is) (c.in_ok-book.ensures.redone replayed c.args.at
+    c.requires.there c.place_at-place.ensures.there) in
+    let longer : length new.entries ≡ length old.entries =
+    length-set old.entries c.args.at (record (entry_at old.entries c.args.at) { reversed = true }) in
+    let more : length c.args.self.now.loan.entries ≤ length new.entries =
+    subst (λ (a : Account). length a.loan.entries ≤ length new.entries) c.self.view_is (omega (arith, longer)) in
     let own : IsRedone c.args.self.now.loan new c.in_ok-book.book c.in_ok-book.kept c.deref.result.now =
-    subst (λ (x : List Settled). IsRedone c.args.self.now.loan new c.in_ok-book.book c.in_ok-book.kept x) (sym c.deref.ensures.value)
-    (subst (λ (a : Account). IsRedone a.loan new c.in_ok-book.book c.in_ok-book.kept c.in_ok-book.parts.items) c.self.view_is redone) in
+    subst (λ (x : List Settled). IsRedone c.args.self.now.loan new c.in_ok-book.book c.in_ok-book.kept x)
+    (sym c.deref.ensures.value)
+    (subst (λ (a : Account). IsRedone a.loan new c.in_ok-book.book c.in_ok-book.kept c.in_ok-book.parts.items)
+    c.self.view_is redone) in
     let same : new.periods ≡ c.args.self.now.loan.periods = ap (λ (a : Account). a.loan.periods) c.self.view_is in
-    subst (λ (e : List Entry). IsChange c.args.self.now.loan (record old { entries = e }) c.in_ok-change.change) (sym c.mark_reversed.ensures)
+    subst (λ (e : List Entry). IsChange c.args.self.now.loan (record old { entries = e }) c.in_ok-change.change)
+    (sym c.mark_reversed.ensures)
     (c.in_ok-change.ensures.change replayed new sound same more own)

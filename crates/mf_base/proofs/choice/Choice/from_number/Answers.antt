@@ -7,4 +7,5 @@ returns-clause-value g c = c.find_numbered.ensures.value
 
 pub returns-clause-every : goal.returns-clause-every
 returns-clause-every g c choice e =
-    returns-clause-value g c ∙ ap (choice_numbered g.Self.Choice.number_of g.Self.Choice.choices) e ∙ (g.met.Self.Choice.told_apart choice).1
+    returns-clause-value g c ∙ ap (choice_numbered g.Self.Choice.number_of g.Self.Choice.choices) e
+    ∙ (g.met.Self.Choice.told_apart choice).1

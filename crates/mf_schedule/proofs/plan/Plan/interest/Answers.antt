@@ -15,4 +15,11 @@ pub returns-in-FlatInterest-clause-small : goal.returns-in-FlatInterest-clause-s
 returns-in-FlatInterest-clause-small c =
     let plan = rw c.in-FlatInterest.is at c.requires.plan in
     let part = split-le c.in-FlatInterest.total c.args.n c.args.i (omega arith) c.requires.last in
-    omega (arith, plan.1, part, c.split.ensures.value, flat_interest-le c.args.terms.now c.args.principal c.args.n c.requires.limits)
+    omega (
+      arith,
+      plan.1,
+      part,
+      c.split.ensures.value,
+      flat_interest-le c.args.terms.now c.args.principal c.args.n
+          c.requires.limits,
+    )

@@ -14,6 +14,14 @@ pub returns : goal.returns
 returns g c =
     let charge : Charge = record { name = c.args.name; kind = c.args.kind; calc = c.args.calc; value = c.args.value } in
     let known = c.in_ok-counts.counts in
-    made_by g.S.Store (AddCharge c.args.name c.args.kind c.args.calc c.args.value) c.args.self.now c.catalogue_counts.new.self c.make.new.self (PutCharge c.in_ok-row.row ∷ []) (Catalogue (record { charges = known.charges + 1; products = known.products })) c.make.result c.in_ok-counts.ensures.asks.kept
-    (λ clean i s admitted. let sound = admitted.sound in let counts = c.in_ok-counts.ensures.value clean i s in (charge_becomes charge i c.in_ok-row.row s.sound sound (c.in_ok-row.ensures.row ∙ ap (λ (k : CatalogueCounts). charge_as (k.charges + 1) charge) counts), charge_tells charge i known counts))
-    c.make.ensures.premise c.make.ensures.gives_up c.make.ensures.made c.make.ensures.left c.make.ensures.same c.make.ensures.stop c.make.ensures.shuts c.make.ensures.open
+    made_by g.S.Store (AddCharge c.args.name c.args.kind c.args.calc c.args.value) c.args.self.now
+    c.catalogue_counts.new.self c.make.new.self (PutCharge c.in_ok-row.row ∷ [])
+    (Catalogue (record { charges = known.charges + 1; products = known.products })) c.make.result
+    c.in_ok-counts.ensures.asks.kept
+    (λ clean i s admitted. let sound = admitted.sound in let counts = c.in_ok-counts.ensures.value clean i s in (
+      charge_becomes charge i c.in_ok-row.row s.sound sound (c.in_ok-row.ensures.row ∙ ap (λ (k : CatalogueCounts).
+          charge_as (k.charges + 1) charge) counts),
+      charge_tells charge i known counts,
+    ))
+    c.make.ensures.premise c.make.ensures.gives_up c.make.ensures.made c.make.ensures.left c.make.ensures.same
+    c.make.ensures.stop c.make.ensures.shuts c.make.ensures.open

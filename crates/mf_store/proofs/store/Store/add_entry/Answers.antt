@@ -5,7 +5,9 @@ use Rattle.mf_store.proofs.store.Store.add_entry.Goals as goal
 
 pub returns : goal.returns
 returns g c = rw (← c.self.view_is) (record {
-  commits = known_commits g.S.Store (AddEntry c.args.loan c.args.account) c.self.inside.connection c.add_entry.new.connection c.self.inside.known c.add_entry.result (entry_tells c.args.loan c.args.account) c.add_entry.ensures.commits;
+  commits = known_commits g.S.Store (AddEntry c.args.loan c.args.account) c.self.inside.connection
+      c.add_entry.new.connection c.self.inside.known c.add_entry.result (entry_tells c.args.loan c.args.account)
+      c.add_entry.ensures.commits;
   shuts = shuts_alike g.S.Store c.self.inside.connection c.add_entry.new.connection c.add_entry.ensures.shuts;
   stays_open = c.add_entry.ensures.open;
 })

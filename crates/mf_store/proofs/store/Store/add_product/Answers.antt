@@ -9,7 +9,12 @@ use Rattle.mf_store.proofs.store.Store.add_product.Goals as goal
 pub returns : goal.returns
 returns g c =
     let known = c.in_ok-counts.counts in
-    made_by g.S.Store (AddProduct c.args.members) c.args.self.now c.catalogue_counts.new.self c.make.new.self (c.in_ok-write.write ∷ []) (Catalogue (record { charges = known.charges; products = known.products + 1 })) c.make.result c.in_ok-counts.ensures.asks.kept
-    (λ clean i s admitted. let counts = c.in_ok-counts.ensures.value clean i s in
-    ((c.in_ok-write.ensures.carries i s.sound admitted (ap (λ (k : CatalogueCounts). k.products + 1) counts)).becomes, product_tells c.args.members i known counts))
-    c.make.ensures.premise c.make.ensures.gives_up c.make.ensures.made c.make.ensures.left c.make.ensures.same c.make.ensures.stop c.make.ensures.shuts c.make.ensures.open
+    made_by g.S.Store (AddProduct c.args.members) c.args.self.now c.catalogue_counts.new.self c.make.new.self
+    (c.in_ok-write.write ∷ []) (Catalogue (record { charges = known.charges; products = known.products + 1 }))
+    c.make.result c.in_ok-counts.ensures.asks.kept
+    (λ clean i s admitted. let counts = c.in_ok-counts.ensures.value clean i s in (
+      (c.in_ok-write.ensures.carries i s.sound admitted (ap (λ (k : CatalogueCounts). k.products + 1) counts)).becomes,
+      product_tells c.args.members i known counts,
+    ))
+    c.make.ensures.premise c.make.ensures.gives_up c.make.ensures.made c.make.ensures.left c.make.ensures.same
+    c.make.ensures.stop c.make.ensures.shuts c.make.ensures.open

@@ -7,5 +7,6 @@ use Rattle.mf_store.proofs.store.Store.charge.Goals as goal
 
 pub returns-clause-value : goal.returns-clause-value
 returns-clause-value g c clean i s =
-    let k = known (charge_as c.args.number) c.in_ok-row.field-0 c.in-Some.row (item_numbered i.catalogue.charges c.args.number) c.in-Some.is (c.in_ok-row.ensures.value clean i s) in
+    let k = known (charge_as c.args.number) c.in_ok-row.field-0 c.in-Some.row (item_numbered i.catalogue.charges
+    c.args.number) c.in-Some.is (c.in_ok-row.ensures.value clean i s) in
     ap Some (c.in_ok-charge.ensures.charge c.args.number k.0 k.2) ∙ sym (ap (option_map (charge_def c.args.number)) k.1)

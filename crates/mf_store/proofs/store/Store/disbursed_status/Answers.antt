@@ -14,12 +14,15 @@ pub returns-clause-value : goal.returns-clause-value
 returns-clause-value g c clean i s l at day on =
     let before = c.in_ok-entries.ensures.asks.kept.premise clean in
     let rows = c.deref-3.ensures.value ∙ c.in_ok-rows.ensures.value before i s l at in
-    let entries = c.deref-2.ensures.value ∙ c.in_ok-entries.ensures.value clean i (c.in_ok-rows.ensures.asks.kept.same before i s) ∙ ap entries_of at in
+    let entries = c.deref-2.ensures.value ∙ c.in_ok-entries.ensures.value clean i (c.in_ok-rows.ensures.asks.kept.same
+    before i s) ∙ ap entries_of at in
     IfOk-weaker c.settled_status.result _ (λ status. status ≡ status_in i.catalogue l)
-    (λ status told. told ∙ (λ t. status_told (entries t) (rows t)) ∙ status_read c.args.account l i day s.sound at on) c.settled_status.ensures.status
+    (λ status told. told ∙ (λ t. status_told (entries t) (rows t)) ∙ status_read c.args.account l i day s.sound at on)
+    c.settled_status.ensures.status
 
 pub returns-then-is_active-clause-value : goal.returns-then-is_active-clause-value
 returns-then-is_active-clause-value g c clean i s l at day on =
     let rows = c.deref.ensures.value ∙ c.in_ok-rows.ensures.value clean i s l at in
     let yes : c.is_active.result ≡ true = search rules in
-    active_status i.catalogue l (loan_account_sound c.args.account l i s.sound at) (sym (ap (λ (all : List Sums). list_any is_open all) rows) ∙ sym c.is_active.ensures ∙ yes)
+    active_status i.catalogue l (loan_account_sound c.args.account l i s.sound at)
+    (sym (ap (λ (all : List Sums). list_any is_open all) rows) ∙ sym c.is_active.ensures ∙ yes)

@@ -12,5 +12,7 @@ returns-clause-value g c clean i s =
     let n = c.args.loan.number in
     IfOk-weaker c.entries_from.result _ (λ list. list.items ≡ entries_of (ledger_at c.args.loan i))
     (λ list h. h x n (entries_of (ledger_at c.args.loan i)) (loan_called x n i s.sound)
-    (c.deref.ensures.value ∙ c.in_ok-rows.ensures.rows clean i s ∙ (λ t. map entry_stored (filter (is_entry_of (c.get.ensures.value t) (c.get-2.ensures.value t)) (tables_of i).entries)) ∙ loan_entries_shown x n i s.sound))
+    (c.deref.ensures.value ∙ c.in_ok-rows.ensures.rows clean i s
+    ∙ (λ t. map entry_stored (filter (is_entry_of (c.get.ensures.value t) (c.get-2.ensures.value t))
+    (tables_of i).entries)) ∙ loan_entries_shown x n i s.sound))
     c.entries_from.ensures.entries

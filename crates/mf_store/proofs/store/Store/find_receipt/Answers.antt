@@ -8,8 +8,12 @@ use Rattle.mf_store.proofs.store.Store.find_receipt.Goals as goal
 
 pub returns-clause-asks : goal.returns-clause-asks
 returns-clause-asks g c =
-    rw (← c.self.view_is) (known_asks g.S.Store c.self.inside.connection c.find_receipt.new.connection c.self.inside.known c.find_receipt.result (unchanged_stays g.S.Store c.self.inside.connection c.find_receipt.new.connection c.find_receipt.ensures.kept) c.find_receipt.ensures.gives_up c.find_receipt.ensures.open)
+    rw (← c.self.view_is) (known_asks g.S.Store c.self.inside.connection c.find_receipt.new.connection
+    c.self.inside.known c.find_receipt.result (unchanged_stays g.S.Store c.self.inside.connection
+    c.find_receipt.new.connection c.find_receipt.ensures.kept) c.find_receipt.ensures.gives_up
+    c.find_receipt.ensures.open)
 
 pub returns-clause-value : goal.returns-clause-value
 returns-clause-value g c =
-    rw (← c.self.view_is) (λ clean i s. IfOk-weaker c.find_receipt.result _ _ (λ x is. is ∙ receipt_found c.args.office c.args.receipt.now i s.sound) (c.find_receipt.ensures.row clean (tables_of i) s.serves))
+    rw (← c.self.view_is) (λ clean i s. IfOk-weaker c.find_receipt.result _ _ (λ x is. is ∙ receipt_found c.args.office
+    c.args.receipt.now i s.sound) (c.find_receipt.ensures.row clean (tables_of i) s.serves))

@@ -8,11 +8,18 @@ use Rattle.mf_store.proofs.store.Store.found.Goals as goal
 
 pub returns-in-Ok-apply-clause-stands : goal.returns-in-Ok-apply-clause-stands
 returns-in-Ok-apply-clause-stands g c clean none =
-    first_known g.S.Store c.apply.new.connection c.in-Ok-nothing.known (newly_made c.args.day) c.in-Ok-nothing.ensures.nothing
-    (founded_stands g.S.Store c.args.connection c.apply.new.connection c.deref.result.now c.args.day (subst (λ ws. Begins ws c.args.day) (sym c.deref.ensures.value) c.in-Ok.ensures.writes) (c.soundness.ensures.first c.args.day c.requires.day) (c.in-Ok-apply.ensures.ok clean) none)
+    first_known g.S.Store c.apply.new.connection c.in-Ok-nothing.known (newly_made c.args.day)
+    c.in-Ok-nothing.ensures.nothing
+    (founded_stands g.S.Store c.args.connection c.apply.new.connection c.deref.result.now c.args.day
+    (subst (λ ws. Begins ws c.args.day) (sym c.deref.ensures.value) c.in-Ok.ensures.writes)
+    (c.soundness.ensures.first c.args.day c.requires.day) (c.in-Ok-apply.ensures.ok clean) none)
 
 pub returns-in-Ok-apply-clause-leaves : goal.returns-in-Ok-apply-clause-leaves
 returns-in-Ok-apply-clause-leaves g c clean none =
     let stands = returns-in-Ok-apply-clause-stands g c clean none in
-    made_leaves g.S.Store c.args.connection c.apply.new.connection c.deref.result.now (λ trees live may. g.met.S.Store.settled c.apply.new.connection.store trees live may)
-    (c.in-Ok-apply.ensures.settled clean) (newly_made c.args.day) (record { sound = stands.sound; serves = stands.serves })
+    made_leaves g.S.Store c.args.connection c.apply.new.connection c.deref.result.now (λ trees live may.
+    g.met.S.Store.settled c.apply.new.connection.store trees live may)
+    (c.in-Ok-apply.ensures.settled clean) (newly_made c.args.day) (record {
+      sound = stands.sound;
+      serves = stands.serves;
+    })

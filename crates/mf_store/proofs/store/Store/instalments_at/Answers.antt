@@ -10,8 +10,12 @@ use Rattle.mf_store.proofs.store.Store.instalments_at.Goals as goal
 pub returns-clause-value : goal.returns-clause-value
 returns-clause-value g c clean i s l there =
     let loan = c.args.loan in
-    IfOk-weaker c.instalments_from.result _ (λ rows. rows.items ≡ of_account [] (λ a. (state_of_loan a).rows) (account_in i.catalogue l))
-    (λ rows read. read loan.office loan.number (kept_of instalments_kept i.catalogue l) (kept_whole loan l i s.sound there)
-    (c.deref.ensures.value ∙ c.in_ok-rows.ensures.rows clean i s ∙ (λ t. map instalment_stored (filter (is_instalment_of (c.get.ensures.value t) (c.get-2.ensures.value t)) (tables_of i).instalments)) ∙ instalments_shown loan l i s.sound there)
+    IfOk-weaker c.instalments_from.result _ (λ rows. rows.items ≡ of_account [] (λ a. (state_of_loan a).rows)
+    (account_in i.catalogue l))
+    (λ rows read. read loan.office loan.number (kept_of instalments_kept i.catalogue l)
+    (kept_whole loan l i s.sound there)
+    (c.deref.ensures.value ∙ c.in_ok-rows.ensures.rows clean i s
+    ∙ (λ t. map instalment_stored (filter (is_instalment_of (c.get.ensures.value t) (c.get-2.ensures.value t))
+    (tables_of i).instalments)) ∙ instalments_shown loan l i s.sound there)
     ∙ sums_kept (account_in i.catalogue l))
     c.instalments_from.ensures.rows

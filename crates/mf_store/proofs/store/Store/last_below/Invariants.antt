@@ -10,7 +10,8 @@ invariant-loop-high g l = record {
   live : IsClean g.S.Store l.self → IsOpen g.S.Store l.initial.self → IsOpen g.S.Store l.self;
   order : l.low < l.high;
   bound : l.high ≤ l.bound;
-  between : IsClean g.S.Store l.self → (i : Institution) → StandsFor g.S.Store l.initial.self i → count_of l.kind i < l.bound → (l.low ≤ count_of l.kind i) × (count_of l.kind i < l.high);
+  between : IsClean g.S.Store l.self → (i : Institution) → StandsFor g.S.Store l.initial.self i → count_of l.kind i
+      < l.bound → (l.low ≤ count_of l.kind i) × (count_of l.kind i < l.high);
 }
 
 abbrev pub decreases-loop-high : goal.decreases-loop-high

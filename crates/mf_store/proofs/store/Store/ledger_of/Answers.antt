@@ -7,5 +7,6 @@ use Rattle.mf_store.proofs.store.Store.ledger_of.Goals as goal
 pub returns-clause-value : goal.returns-clause-value
 returns-clause-value g c clean i s office number l are at =
     let found = c.in_ok-account.ensures.loan office number l.loan are in
-    let entries = c.in_ok-entries.ensures.value clean i s ∙ ap (λ (a : Account). entries_of (ledger_at a i)) found.0 ∙ ap entries_of at in
+    let entries = c.in_ok-entries.ensures.value clean i s ∙ ap (λ (a : Account). entries_of (ledger_at a i)) found.0
+    ∙ ap entries_of at in
     λ t. record { loan = found.1 t; entries = entries t }

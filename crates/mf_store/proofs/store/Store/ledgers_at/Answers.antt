@@ -10,4 +10,6 @@ returns-clause-value g c clean i s =
     let office = c.args.office in
     let loans = (rows_at office i).loans in
     IfOk-weaker c.ledgers_of.result _ (λ list. list.items ≡ loans) (λ list h. h ∙ counted_loans 1 loans)
-    (c.ledgers_of.ensures.value clean i (c.in_ok-rows.ensures.asks.kept.same mid i s) office (counted 1 loans) (counted_there office i) (c.deref.ensures.value ∙ c.in_ok-rows.ensures.rows mid i s ∙ loans_shown office i s.sound))
+    (c.ledgers_of.ensures.value clean i (c.in_ok-rows.ensures.asks.kept.same mid i s) office (counted 1 loans)
+    (counted_there office i) (c.deref.ensures.value ∙ c.in_ok-rows.ensures.rows mid i s
+    ∙ loans_shown office i s.sound))

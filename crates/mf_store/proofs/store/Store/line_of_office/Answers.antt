@@ -2,13 +2,16 @@ use Rattle.std.proofs.Common.{arith}
 use Rattle.mf_model.specs.Store.{rows_at}
 use Rattle.mf_store_accounts.specs.Flat.{tables_of}
 use Rattle.mf_store.proofs.KeptLemmas.{known_stays}
-use Rattle.mf_store.proofs.OfficeLoansLemmas.{loans_from, above_from, office_rows, office_accounts, whole_from, within_from}
+use Rattle.mf_store.proofs.OfficeLoansLemmas.{loans_from, above_from, office_rows, office_accounts, whole_from}
+use Rattle.mf_store.proofs.OfficeLoansLemmas.{within_from}
 use Rattle.mf_store_commits.proofs.StandLemmas.{unchanged_stays}
 use Rattle.mf_store.proofs.store.Store.line_of_office.Goals as goal
 
 pub returns-clause-kept : goal.returns-clause-kept
 returns-clause-kept g c =
-    rw (← c.self.view_is) (known_stays g.S.Store c.self.inside.connection c.line_of_office.new.connection c.self.inside.known (unchanged_stays g.S.Store c.self.inside.connection c.line_of_office.new.connection c.line_of_office.ensures.kept))
+    rw (← c.self.view_is) (known_stays g.S.Store c.self.inside.connection c.line_of_office.new.connection
+    c.self.inside.known (unchanged_stays g.S.Store c.self.inside.connection c.line_of_office.new.connection
+    c.line_of_office.ensures.kept))
 
 pub returns-clause-sums : goal.returns-clause-sums
 returns-clause-sums g c =
@@ -17,7 +20,9 @@ returns-clause-sums g c =
     let x = c.args.office in
     let ls = (rows_at x i).loans in
     let sound = office_accounts x i s.sound in
-    c.line_of_office.ensures.sums clean (tables_of i) s.serves (loans_from k 1 ls) (above_from k 0 1 ls (omega arith)) (whole_from k 1 ls sound) (within_from x i s.sound) (office_rows x i s.sound))
+    c.line_of_office.ensures.sums clean (tables_of i) s.serves (loans_from k 1 ls) (above_from k 0 1 ls (omega arith))
+    (whole_from k 1 ls sound) (within_from x i s.sound) (office_rows x i s.sound))
 
 pub returns-clause-line : goal.returns-clause-line
-returns-clause-line g c = rw (← c.self.view_is) (λ clean i s. c.line_of_office.ensures.line clean (tables_of i) s.serves)
+returns-clause-line g c =
+    rw (← c.self.view_is) (λ clean i s. c.line_of_office.ensures.line clean (tables_of i) s.serves)

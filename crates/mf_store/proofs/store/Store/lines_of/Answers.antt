@@ -15,10 +15,16 @@ loop-row-preserved g c =
       kept = stays_then g.S.Store c.args.self.now c.loop-row.self c.line_of.new.self kept now.asks.kept;
       live = λ clean opened. now.asks.stays_open clean (c.loop-row.invariant.live (now.asks.kept.premise clean) opened);
       read = λ clean i s office ls all are. let before = now.asks.kept.premise clean in
-          mapped_more (IsLoanOf office i) (λ (k : ℕ × Ledger). loan_row (loan_in office k.0 k.1.loan)) (λ (k : ℕ × Ledger). line_in i.catalogue office k.0 k.1) c.args.rows.now c.loop-row.row-index c.row-item.result no_loan c.in_ok-line.line c.loop-row.lines.items _ ls are all c.loop-row-test.true c.row-item.is
-          c.in_ok-push.ensures.items (c.loop-row.invariant.read before i s office ls all are) (λ (k : ℕ × Ledger) at is. now.value clean i (kept.same before i s) office k.0 k.1 is at);
+          mapped_more (IsLoanOf office i) (λ (k : ℕ × Ledger). loan_row (loan_in office k.0 k.1.loan))
+          (λ (k : ℕ × Ledger). line_in i.catalogue office k.0 k.1) c.args.rows.now c.loop-row.row-index
+          c.row-item.result no_loan c.in_ok-line.line c.loop-row.lines.items _ ls are all c.loop-row-test.true
+          c.row-item.is
+          c.in_ok-push.ensures.items (c.loop-row.invariant.read before i s office ls all are) (λ (k : ℕ × Ledger) at is.
+          now.value clean i (kept.same before i s) office k.0 k.1 is at);
     }
 
 pub returns-clause-value : goal.returns-clause-value
 returns-clause-value g c clean i s office ls all are =
-    c.new.ensures ∙ mapped_all (λ (k : ℕ × Ledger). loan_row (loan_in office k.0 k.1.loan)) (λ (k : ℕ × Ledger). line_in i.catalogue office k.0 k.1) c.args.rows.now c.loop-row.row-index c.loop-row.lines.items ls are c.loop-row-test.false (c.loop-row.invariant.read clean i s office ls all are)
+    c.new.ensures ∙ mapped_all (λ (k : ℕ × Ledger). loan_row (loan_in office k.0 k.1.loan))
+    (λ (k : ℕ × Ledger). line_in i.catalogue office k.0 k.1) c.args.rows.now c.loop-row.row-index
+    c.loop-row.lines.items ls are c.loop-row-test.false (c.loop-row.invariant.read clean i s office ls all are)

@@ -11,6 +11,8 @@ abbrev pub invariant-loop-row : goal.invariant-loop-row
 invariant-loop-row g l = record {
   kept : Stays g.S.Store l.initial.self l.self;
   live : IsClean g.S.Store l.self → IsOpen g.S.Store l.initial.self → IsOpen g.S.Store l.self;
-  read : IsClean g.S.Store l.self → (i : Institution) → StandsFor g.S.Store l.initial.self i → (office : ℕ) (ls : List (ℕ × Ledger)) → AllByRecursion (IsLoanOf office i) ls → l.rows ≡ map (λ (k : ℕ × Ledger). loan_row (loan_in office k.0 k.1.loan)) ls
+  read : IsClean g.S.Store l.self → (i : Institution) → StandsFor g.S.Store l.initial.self i
+      → (office : ℕ) (ls : List (ℕ × Ledger)) → AllByRecursion (IsLoanOf office i) ls
+      → l.rows ≡ map (λ (k : ℕ × Ledger). loan_row (loan_in office k.0 k.1.loan)) ls
       → l.lines.items ≡ map (λ (k : ℕ × Ledger). line_in i.catalogue office k.0 k.1) (take l.row-index ls);
 }

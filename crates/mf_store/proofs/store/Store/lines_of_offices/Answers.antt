@@ -11,12 +11,16 @@ loop-office-preserved g c =
     let now = c.in_ok-line.ensures in
     record {
       kept = stays_then g.S.Store c.args.self.now c.loop-office.self c.office_line.new.self kept now.asks.kept;
-      live = λ clean opened. now.asks.stays_open clean (c.loop-office.invariant.live (now.asks.kept.premise clean) opened);
+      live = λ clean opened. now.asks.stays_open clean (c.loop-office.invariant.live (now.asks.kept.premise clean)
+          opened);
       read = λ clean i s day. let before = now.asks.kept.premise clean in
-          mapped_office (line_at i) c.args.offices.now c.loop-office.office-index c.office-item.result c.in_ok-line.line c.loop-office.lines.items _ c.loop-office-test.true c.office-item.is
-          c.in_ok-push.ensures.items (now.value clean i (kept.same before i s) day) (c.loop-office.invariant.read before i s day);
+          mapped_office (line_at i) c.args.offices.now c.loop-office.office-index c.office-item.result c.in_ok-line.line
+          c.loop-office.lines.items _ c.loop-office-test.true c.office-item.is
+          c.in_ok-push.ensures.items (now.value clean i (kept.same before i s) day)
+          (c.loop-office.invariant.read before i s day);
     }
 
 pub returns-clause-value : goal.returns-clause-value
 returns-clause-value g c clean i s day =
-    c.new.ensures ∙ c.loop-office.invariant.read clean i s day ∙ ap (map (line_at i)) (take_all c.loop-office.office-index c.args.offices.now c.loop-office-test.false)
+    c.new.ensures ∙ c.loop-office.invariant.read clean i s day ∙ ap (map (line_at i))
+    (take_all c.loop-office.office-index c.args.offices.now c.loop-office-test.false)

@@ -8,5 +8,6 @@ abbrev pub invariant-loop-office : goal.invariant-loop-office
 invariant-loop-office g l = record {
   kept : Stays g.S.Store l.initial.self l.self;
   live : IsClean g.S.Store l.self → IsOpen g.S.Store l.initial.self → IsOpen g.S.Store l.self;
-  read : IsClean g.S.Store l.self → (i : Institution) → StandsFor g.S.Store l.initial.self i → l.today ≡ i.catalogue.day → l.lines.items ≡ map (line_at i) (take l.office-index l.offices);
+  read : IsClean g.S.Store l.self → (i : Institution) → StandsFor g.S.Store l.initial.self i → l.today ≡ i.catalogue.day
+      → l.lines.items ≡ map (line_at i) (take l.office-index l.offices);
 }

@@ -10,5 +10,7 @@ pub returns-clause-value : goal.returns-clause-value
 returns-clause-value g c clean i s =
     let office = c.args.loan.office in
     let number = c.args.loan.number in
-    let k = known (loan_in office number) c.in_ok-row.field-0 c.in-Some.row (item_numbered (loans_of (rows_at office i)) number) c.in-Some.is (c.in_ok-row.ensures.value clean i s ∙ (λ t. loan_row_at (c.get.ensures.value t) (c.get-2.ensures.value t) i)) in
+    let k = known (loan_in office number) c.in_ok-row.field-0 c.in-Some.row (item_numbered (loans_of (rows_at office i))
+    number) c.in-Some.is (c.in_ok-row.ensures.value clean i s
+    ∙ (λ t. loan_row_at (c.get.ensures.value t) (c.get-2.ensures.value t) i)) in
     ap Some (c.in_ok-found.ensures.loan office number k.0 k.2) ∙ sym k.1 ∙ numbered_loan (rows_at office i).loans number

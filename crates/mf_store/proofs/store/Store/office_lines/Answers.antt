@@ -12,5 +12,7 @@ returns-clause-value g c clean i s =
     let first = c.in_ok-offices.ensures.asks.kept.same after_offices i s in
     let offices = c.as_slice.ensures ∙ c.in_ok-offices.ensures.value after_offices i s in
     let day = c.in_ok-today.ensures.value after_today i first in
-    IfOk-weaker c.lines_of_offices.result (λ list. list ≡ map (line_at i) c.as_slice.result.now) (λ list. list ≡ arrears_seen c.args.to i)
-    (λ list h. h ∙ ap (map (line_at i)) offices ∙ lines_seen c.args.to i s.sound.tree.ascending) (c.lines_of_offices.ensures.value clean i (c.in_ok-today.ensures.asks.kept.same after_today i first) day)
+    IfOk-weaker c.lines_of_offices.result (λ list. list ≡ map (line_at i) c.as_slice.result.now)
+    (λ list. list ≡ arrears_seen c.args.to i)
+    (λ list h. h ∙ ap (map (line_at i)) offices ∙ lines_seen c.args.to i s.sound.tree.ascending)
+    (c.lines_of_offices.ensures.value clean i (c.in_ok-today.ensures.asks.kept.same after_today i first) day)

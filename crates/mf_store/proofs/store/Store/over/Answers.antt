@@ -5,5 +5,7 @@ use Rattle.mf_store.proofs.store.Store.over.Goals as goal
 pub returns-clause-leaves : goal.returns-clause-leaves
 returns-clause-leaves g c live i tabled =
     let h = c.args.connection in
-    let settled = c.is_autocommit-settled.ensures.settled (c.is_autocommit-settled.ensures.value ∙ ap not c.requires.alone) live in
-    made_leaves g.S.Store h h [] (λ trees still may. g.met.S.Store.settled h.store trees still may) (record { is_open = live; committed = sym settled }) i tabled
+    let settled = c.is_autocommit-settled.ensures.settled (c.is_autocommit-settled.ensures.value
+    ∙ ap not c.requires.alone) live in
+    made_leaves g.S.Store h h [] (λ trees still may. g.met.S.Store.settled h.store trees still may)
+    (record { is_open = live; committed = sym settled }) i tabled

@@ -16,10 +16,13 @@ returns-clause-value g c clean i s =
     let before = c.in_ok-entry.ensures.asks.kept.premise clean in
     let office = c.get-office.ensures.value in
     let text = c.as_str.ensures in
-    let k = known (receipt_in x) c.in_ok-row.field-0 row (use_at x r i) c.in-Some.is (c.in_ok-row.ensures.value before i s ∙ (λ t. option_map (receipt_in (office t)) (use_at (office t) (text t) i))) in
+    let k = known (receipt_in x) c.in_ok-row.field-0 row (use_at x r i) c.in-Some.is (c.in_ok-row.ensures.value before i
+    s ∙ (λ t. option_map (receipt_in (office t)) (use_at (office t) (text t) i))) in
     let by = carrier x r k.0 i s.sound k.1 in
     let found : Some c.in_ok-entry-2.entry ≡ Some (entry_in x k.0.by.loan by.entry) =
-    sym c.in_ok-entry-2.ensures.value ∙ c.in_ok-entry.ensures.value clean i (c.in_ok-row.ensures.asks.kept.same before i s)
+    sym c.in_ok-entry-2.ensures.value ∙ c.in_ok-entry.ensures.value clean i (c.in_ok-row.ensures.asks.kept.same before i
+    s)
     ∙ (λ t. find (is_entry (office t) (k.2 t).loan (k.2 t).seq) (tables_of i).entries) ∙ by.row_is in
     let entry : c.in_ok-entry-2.entry ≡ entry_in x k.0.by.loan by.entry = cc in
-    ap Some (c.in_ok-use_from.ensures.found x k.0 by.entry k.2 entry by.by_is) ∙ ap (option_map (λ (u : Use). u.by)) (sym k.1)
+    ap Some (c.in_ok-use_from.ensures.found x k.0 by.entry k.2 entry by.by_is) ∙ ap (option_map (λ (u : Use). u.by))
+    (sym k.1)

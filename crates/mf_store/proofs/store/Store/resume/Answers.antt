@@ -22,6 +22,10 @@ returns-clause-value g c clean i s there day =
     let read = c.in_ok-rows.ensures.asks.kept.same before_parts i entered in
     let names = sym (c.in_ok-named.ensures.value before_entries i s) ∙ c.in_ok-terms.ensures.value in
     let own = c.in_ok-entries.ensures.value before_rows i named in
-    let kept = kept_is i account loan c.args.day entries terms c.in_ok-rows.rows.items c.in_ok-parts.parts.items s.sound there day own names (c.in_ok-rows.ensures.value before_parts i entered) (c.in_ok-parts.ensures.value clean i read) in
+    let kept = kept_is i account loan c.args.day entries terms c.in_ok-rows.rows.items c.in_ok-parts.parts.items s.sound
+    there day own names (c.in_ok-rows.ensures.value before_parts i entered)
+    (c.in_ok-parts.ensures.value clean i read) in
     IfOk-weaker c.stored-2.result _ (λ resumed. account_at account i ≡ Some resumed)
-    (λ a is. account_replayed i account loan c.args.day entries a own (ap (λ t. option_map account_by_replay (running_from loan entries (Some c.args.day) t)) names ∙ sym (c.in_ok-found.ensures.account kept.0 kept.1) ∙ is) there day) c.stored-2.ensures.value
+    (λ a is. account_replayed i account loan c.args.day entries a own
+    (ap (λ t. option_map account_by_replay (running_from loan entries (Some c.args.day) t)) names
+    ∙ sym (c.in_ok-found.ensures.account kept.0 kept.1) ∙ is) there day) c.stored-2.ensures.value

@@ -7,6 +7,8 @@ use Rattle.mf_store.proofs.store.Store.retire_product.Goals as goal
 
 pub returns : goal.returns
 returns g c =
-    made_by g.S.Store (RetireProduct c.args.product) c.args.self.now c.retirement.new.self c.make.new.self (c.in_ok-write.write ∷ []) Retirement c.make.result c.in_ok-write.ensures.asks.kept
+    made_by g.S.Store (RetireProduct c.args.product) c.args.self.now c.retirement.new.self c.make.new.self
+    (c.in_ok-write.write ∷ []) Retirement c.make.result c.in_ok-write.ensures.asks.kept
     (λ clean i s admitted. ((c.in_ok-write.ensures.carries clean i s admitted).becomes, retired_tells c.args.product i))
-    c.make.ensures.premise c.make.ensures.gives_up c.make.ensures.made c.make.ensures.left c.make.ensures.same c.make.ensures.stop c.make.ensures.shuts c.make.ensures.open
+    c.make.ensures.premise c.make.ensures.gives_up c.make.ensures.made c.make.ensures.left c.make.ensures.same
+    c.make.ensures.stop c.make.ensures.shuts c.make.ensures.open

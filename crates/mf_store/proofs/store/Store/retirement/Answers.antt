@@ -10,7 +10,8 @@ use Rattle.mf_store.proofs.store.Store.retirement.Goals as goal
 pub returns-clause-carries : goal.returns-clause-carries
 returns-clause-carries g c clean i s admitted =
     let product = c.args.product in
-    let k = known (product_as product) c.in_ok-found.field-0 c.in-Some.found (item_numbered i.catalogue.products product) c.in-Some.is (c.in_ok-found.ensures.value clean i s) in
+    let k = known (product_as product) c.in_ok-found.field-0 c.in-Some.found (item_numbered i.catalogue.products
+    product) c.in-Some.is (c.in_ok-found.ensures.value clean i s) in
     let row_is = c.retired-row.ensures ∙ ap (λ (r : ProductRow). record r { retired = 1 }) k.2 in
     let now : Offer = record k.0 { retired = true } in
     record {

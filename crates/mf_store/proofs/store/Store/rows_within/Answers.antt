@@ -5,7 +5,11 @@ use Rattle.mf_store.proofs.store.Store.rows_within.Goals as goal
 
 pub returns-clause-asks : goal.returns-clause-asks
 returns-clause-asks g c =
-    rw (← c.self.view_is) (known_asks g.S.Store c.self.inside.connection c.offices_within.new.connection c.self.inside.known c.offices_within.result (unchanged_stays g.S.Store c.self.inside.connection c.offices_within.new.connection c.offices_within.ensures.kept) c.offices_within.ensures.gives_up c.offices_within.ensures.open)
+    rw (← c.self.view_is) (known_asks g.S.Store c.self.inside.connection c.offices_within.new.connection
+    c.self.inside.known c.offices_within.result (unchanged_stays g.S.Store c.self.inside.connection
+    c.offices_within.new.connection c.offices_within.ensures.kept) c.offices_within.ensures.gives_up
+    c.offices_within.ensures.open)
 
 pub returns-clause-rows : goal.returns-clause-rows
-returns-clause-rows g c = rw (← c.self.view_is) (λ clean i s. c.offices_within.ensures.rows clean (tables_of i) s.serves)
+returns-clause-rows g c =
+    rw (← c.self.view_is) (λ clean i s. c.offices_within.ensures.rows clean (tables_of i) s.serves)

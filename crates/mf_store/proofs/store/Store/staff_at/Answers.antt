@@ -7,4 +7,5 @@ use Rattle.mf_store.proofs.store.Store.staff_at.Goals as goal
 pub returns-clause-value : goal.returns-clause-value
 returns-clause-value g c clean i s =
     IfOk-weaker c.staff_from.result _ (λ list. list.items ≡ (rows_at c.args.office i).staff)
-    (λ list h. h c.args.office (rows_at c.args.office i).staff (c.deref.ensures.value ∙ c.in_ok-rows.ensures.rows clean i s ∙ staff_shown c.args.office i s.sound)) c.staff_from.ensures.staff
+    (λ list h. h c.args.office (rows_at c.args.office i).staff (c.deref.ensures.value
+    ∙ c.in_ok-rows.ensures.rows clean i s ∙ staff_shown c.args.office i s.sound)) c.staff_from.ensures.staff

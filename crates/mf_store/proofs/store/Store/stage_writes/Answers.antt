@@ -19,7 +19,8 @@ use Rattle.mf_store_changes.proofs.SuitLemmas.{stage_suits}
 use Rattle.mf_store.proofs.store.Store.stage_writes.Goals as goal
 
 pub returns-clause-kept : goal.returns-clause-kept
-returns-clause-kept g c = stays_then g.S.Store c.args.self.now c.loan.new.self c.put_schedule_of.new.self c.in_ok-before.ensures.asks.kept c.in_ok-put_schedule_of.ensures.kept
+returns-clause-kept g c = stays_then g.S.Store c.args.self.now c.loan.new.self c.put_schedule_of.new.self
+    c.in_ok-before.ensures.asks.kept c.in_ok-put_schedule_of.ensures.kept
 
 pub returns-clause-carries : goal.returns-clause-carries
 returns-clause-carries g c clean i s admitted =
@@ -27,18 +28,29 @@ returns-clause-carries g c clean i s admitted =
     let stage = c.args.stage in
     let none : is_some (disbursed_on c.in-Some.before.stage) ≡ false = search rules in
     let first = c.in_ok-put_schedule_of.ensures.kept.premise clean in
-    let k = known loan_of c.in_ok-before.field-0 c.in-Some.before (ledger_at loan i) c.in-Some.is (c.in_ok-before.ensures.value first i s) in
+    let k = known loan_of c.in_ok-before.field-0 c.in-Some.before (ledger_at loan i) c.in-Some.is
+    (c.in_ok-before.ensures.value first i s) in
     let l : Ledger = k.0 in
     let there : ledger_at loan i ≡ Some l = k.1 in
     let same : c.in-Some.before ≡ l.loan = k.2 in
-    let before = none_there (disbursed_on l.loan.stage) (ap (λ (m : Loan). is_some (disbursed_on m.stage)) (sym same) ∙ none) in
+    let before = none_there (disbursed_on l.loan.stage) (ap (λ (m : Loan). is_some (disbursed_on m.stage)) (sym same)
+    ∙ none) in
     let without = no_entries loan l i s.sound there before in
     let now = c.staged-now.ensures ∙ ap (λ (m : Loan). record m { stage = stage }) same in
-    let row = c.in_ok-row.ensures.row ∙ (λ t. loan_in (c.get-office.ensures.value t) (c.get-number.ensures.value t) (now t)) in
-    let first_write = c.in_ok-push.ensures.items ∙ ap (λ ws. ws ++ PutLoan c.in_ok-row.row ∷ []) c.new-writes.ensures.items in
-    let schedule = c.in_ok-put_schedule_of.ensures.writes clean i (c.in_ok-before.ensures.asks.kept.same first i s) ∙ ap (λ ws. ws ++ schedule_put c.get-office.result c.get-number.result (kept_of instalments_kept i.catalogue (record { loan = c.staged-now.result; entries = [] }))) first_write in
-    let writes = schedule ∙ (λ t. PutLoan (row t) ∷ schedule_put (c.get-office.ensures.value t) (c.get-number.ensures.value t) (kept_of instalments_kept i.catalogue (record { loan = now t; entries = sym without t }))) in
+    let row = c.in_ok-row.ensures.row ∙ (λ t. loan_in (c.get-office.ensures.value t) (c.get-number.ensures.value t)
+    (now t)) in
+    let first_write =
+    c.in_ok-push.ensures.items ∙ ap (λ ws. ws ++ PutLoan c.in_ok-row.row ∷ []) c.new-writes.ensures.items in
+    let schedule = c.in_ok-put_schedule_of.ensures.writes clean i (c.in_ok-before.ensures.asks.kept.same first i s)
+    ∙ ap (λ ws. ws ++ schedule_put c.get-office.result c.get-number.result (kept_of instalments_kept i.catalogue
+    (record { loan = c.staged-now.result; entries = [] }))) first_write in
+    let writes = schedule ∙ (λ t. PutLoan (row t) ∷ schedule_put (c.get-office.ensures.value t)
+    (c.get-number.ensures.value t) (kept_of instalments_kept i.catalogue (record {
+      loan = now t;
+      entries = sym without t;
+    }))) in
     subst (λ ws. Carries (SetStage loan stage) ws i) (sym writes) (record {
       becomes = staged_becomes loan stage l i s.sound there before without admitted.sound;
-      suits = stage_suits loan (record l.loan { stage = stage }) l i s.sound there (kept_of instalments_kept i.catalogue (with_stage stage l)) (loan_in loan.office loan.number (record l.loan { stage = stage })) refl;
+      suits = stage_suits loan (record l.loan { stage = stage }) l i s.sound there (kept_of instalments_kept i.catalogue
+          (with_stage stage l)) (loan_in loan.office loan.number (record l.loan { stage = stage })) refl;
     })

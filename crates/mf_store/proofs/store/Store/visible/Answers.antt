@@ -10,6 +10,9 @@ pub returns-clause-value : goal.returns-clause-value
 returns-clause-value g c clean i s =
     let before = c.in_ok-below.ensures.asks.kept.premise clean in
     let one = c.in_ok-above.ensures.value before i s ∙ ap (λ x. key_at x i) c.get.ensures.value in
-    let two = c.in_ok-below.ensures.value clean i (c.in_ok-above.ensures.asks.kept.same before i s) ∙ ap (λ x. key_at x i) c.get-2.ensures.value in
-    IfOk-weaker c.is_below.result (λ seen. seen ≡ sees c.in_ok-above.above c.in_ok-below.below) (λ seen. seen ≡ is_some (seen_office c.args.to c.args.office i))
-    (λ seen e. e ∙ ap₂ sees one two ∙ visible_is i s.sound (c.tree_of_offices.ensures i s.sound) c.args.to c.args.office) c.is_below.ensures.value
+    let two = c.in_ok-below.ensures.value clean i (c.in_ok-above.ensures.asks.kept.same before i s)
+    ∙ ap (λ x. key_at x i) c.get-2.ensures.value in
+    IfOk-weaker c.is_below.result (λ seen. seen ≡ sees c.in_ok-above.above c.in_ok-below.below)
+    (λ seen. seen ≡ is_some (seen_office c.args.to c.args.office i))
+    (λ seen e. e ∙ ap₂ sees one two ∙ visible_is i s.sound (c.tree_of_offices.ensures i s.sound) c.args.to
+    c.args.office) c.is_below.ensures.value

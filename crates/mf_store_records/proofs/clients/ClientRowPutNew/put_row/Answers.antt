@@ -6,8 +6,10 @@ use Rattle.mf_store_records.proofs.clients.ClientRowPutNew.put_row.Goals as goal
 
 pub returns-clause-ok : goal.returns-clause-ok
 returns-clause-ok g c clean inside =
-    on_ok_weaker c.execute.result (putting_client c.args.self.now (state g.S.Store c.args.tx.now.conn.now) (state g.S.Store c.execute.new.tx.conn.now)) (c.execute.ensures.ok clean inside)
+    on_ok_weaker c.execute.result (putting_client c.args.self.now (state g.S.Store c.args.tx.now.conn.now)
+    (state g.S.Store c.execute.new.tx.conn.now)) (c.execute.ensures.ok clean inside)
 
 pub returns-clause-before : goal.returns-clause-before
 returns-clause-before g c clean inside =
-    on_ok_weaker c.execute.result (new_client c.args.self.now (state g.S.Store c.args.tx.now.conn.now) (state g.S.Store c.execute.new.tx.conn.now)) (c.execute.ensures.ok clean inside)
+    on_ok_weaker c.execute.result (new_client c.args.self.now (state g.S.Store c.args.tx.now.conn.now)
+    (state g.S.Store c.execute.new.tx.conn.now)) (c.execute.ensures.ok clean inside)

@@ -6,4 +6,5 @@ pub returns-clause-plain : goal.returns-clause-plain
 returns-clause-plain c = find_entry_plain
 
 pub returns-clause-shows : goal.returns-clause-shows
-returns-clause-shows c key lists db rows s a = find_entry_shows key.0 key.1 key.2 db rows lists.entries s.schema_is s.holds.entries a
+returns-clause-shows c key lists db rows s a =
+    find_entry_shows key.0 key.1 key.2 db rows lists.entries s.schema_is s.holds.entries a

@@ -6,4 +6,5 @@ pub returns-clause-plain : goal.returns-clause-plain
 returns-clause-plain c = instalments_of_loan_plain
 
 pub returns-clause-shows : goal.returns-clause-shows
-returns-clause-shows c part lists db rows s a = instalments_of_loan_shows part.0 part.1 db rows lists.instalments s.schema_is s.holds.instalments a
+returns-clause-shows c part lists db rows s a =
+    instalments_of_loan_shows part.0 part.1 db rows lists.instalments s.schema_is s.holds.instalments a

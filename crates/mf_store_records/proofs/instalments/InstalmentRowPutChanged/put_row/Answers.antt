@@ -5,7 +5,9 @@ use Rattle.mf_store_records.proofs.instalments.InstalmentRowPutChanged.put_row.G
 
 pub returns-clause-ok : goal.returns-clause-ok
 returns-clause-ok g c clean inside =
-    on_ok_weaker c.execute.result (putting_instalment c.args.self.now (state g.S.Store c.args.tx.now.conn.now) (state g.S.Store c.execute.new.tx.conn.now)) (c.execute.ensures.ok clean inside)
+    on_ok_weaker c.execute.result (putting_instalment c.args.self.now (state g.S.Store c.args.tx.now.conn.now)
+    (state g.S.Store c.execute.new.tx.conn.now)) (c.execute.ensures.ok clean inside)
 
 pub returns-clause-before : goal.returns-clause-before
-returns-clause-before g c clean inside = on_ok_weaker c.execute.result (λ ran lists s. tt) (c.execute.ensures.ok clean inside)
+returns-clause-before g c clean inside =
+    on_ok_weaker c.execute.result (λ ran lists s. tt) (c.execute.ensures.ok clean inside)

@@ -6,4 +6,5 @@ pub returns-clause-plain : goal.returns-clause-plain
 returns-clause-plain c = find_instalment_plain
 
 pub returns-clause-shows : goal.returns-clause-shows
-returns-clause-shows c key lists db rows s a = find_instalment_shows key.0 key.1 key.2 db rows lists.instalments s.schema_is s.holds.instalments a
+returns-clause-shows c key lists db rows s a =
+    find_instalment_shows key.0 key.1 key.2 db rows lists.instalments s.schema_is s.holds.instalments a

@@ -6,4 +6,5 @@ pub returns-clause-plain : goal.returns-clause-plain
 returns-clause-plain c = find_product_plain
 
 pub returns-clause-shows : goal.returns-clause-shows
-returns-clause-shows c key lists db rows s a = find_product_shows key db rows lists.products s.schema_is s.holds.products a
+returns-clause-shows c key lists db rows s a =
+    find_product_shows key db rows lists.products s.schema_is s.holds.products a

@@ -12,4 +12,5 @@ returns-clause-ok g c clean inside =
     let old = state g.S.Store c.args.tx.now.conn.now in
     let new = state g.S.Store c.run.new.tx.conn.now in
     let e = c.args.self.now in
-    on_ok_weaker c.run.result (λ ran. removing_shares e old new (ran_with delete_shares old new _ (Int (pos e.office) ∷ Int (pos e.loan) ∷ Int (pos e.seq) ∷ []) (search rules) ran)) (c.run.ensures.ok clean inside)
+    on_ok_weaker c.run.result (λ ran. removing_shares e old new (ran_with delete_shares old new _ (Int (pos e.office)
+    ∷ Int (pos e.loan) ∷ Int (pos e.seq) ∷ []) (search rules) ran)) (c.run.ensures.ok clean inside)

@@ -6,4 +6,5 @@ pub returns-clause-plain : goal.returns-clause-plain
 returns-clause-plain c = shares_of_loan_plain
 
 pub returns-clause-shows : goal.returns-clause-shows
-returns-clause-shows c part lists db rows s a = shares_of_loan_shows part.0 part.1 db rows lists.shares s.schema_is s.holds.shares a
+returns-clause-shows c part lists db rows s a =
+    shares_of_loan_shows part.0 part.1 db rows lists.shares s.schema_is s.holds.shares a

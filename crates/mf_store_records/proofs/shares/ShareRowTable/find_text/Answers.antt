@@ -6,4 +6,5 @@ pub returns-clause-plain : goal.returns-clause-plain
 returns-clause-plain c = find_share_plain
 
 pub returns-clause-shows : goal.returns-clause-shows
-returns-clause-shows c key lists db rows s a = find_share_shows key.0 key.1 key.2 key.3 db rows lists.shares s.schema_is s.holds.shares a
+returns-clause-shows c key lists db rows s a =
+    find_share_shows key.0 key.1 key.2 key.3 db rows lists.shares s.schema_is s.holds.shares a

@@ -10,4 +10,6 @@ pub returns-clause-plain : goal.returns-clause-plain
 returns-clause-plain c = plain_known charges _ _ asks_charge first_asks_charge
 
 pub returns-clause-shows : goal.returns-clause-shows
-returns-clause-shows c = shows_known charge_row by_charge charges (inr (inr (inr (inr (inl refl))))) (inr (inr (inr (inr (inl refl))))) refl _ _ asks_charge first_asks_charge (λ t. refl) charge_key (λ id x. refl) (charge_ranks [])
+returns-clause-shows c = shows_known charge_row by_charge charges (inr (inr (inr (inr (inl refl)))))
+    (inr (inr (inr (inr (inl refl))))) refl _ _ asks_charge first_asks_charge (λ t. refl) charge_key (λ id x. refl)
+    (charge_ranks [])

@@ -10,4 +10,6 @@ pub returns-clause-plain : goal.returns-clause-plain
 returns-clause-plain c = plain_known clients _ _ asks_client first_asks_client
 
 pub returns-clause-shows : goal.returns-clause-shows
-returns-clause-shows c = shows_known client_row by_client clients (inr (inr (inr (inl refl)))) (inr (inr (inr (inl refl)))) refl _ _ asks_client first_asks_client (λ t. refl) client_key (λ id x. refl) (client_ranks [])
+returns-clause-shows c = shows_known client_row by_client clients (inr (inr (inr (inl refl))))
+    (inr (inr (inr (inl refl)))) refl _ _ asks_client first_asks_client (λ t. refl) client_key (λ id x. refl)
+    (client_ranks [])

@@ -10,4 +10,6 @@ pub returns-clause-plain : goal.returns-clause-plain
 returns-clause-plain c = plain_known entries _ _ asks_entry first_asks_entry
 
 pub returns-clause-shows : goal.returns-clause-shows
-returns-clause-shows c = shows_known entry_row by_entry entries (inr (inr (inr (inr (inr (inr (inr (inl refl)))))))) (inr (inr (inr (inr (inr (inr (inr (inl refl)))))))) refl _ _ asks_entry first_asks_entry (λ t. refl) entry_key (λ id x. refl) (entry_ranks [])
+returns-clause-shows c = shows_known entry_row by_entry entries (inr (inr (inr (inr (inr (inr (inr (inl refl))))))))
+    (inr (inr (inr (inr (inr (inr (inr (inl refl)))))))) refl _ _ asks_entry first_asks_entry (λ t. refl) entry_key
+    (λ id x. refl) (entry_ranks [])

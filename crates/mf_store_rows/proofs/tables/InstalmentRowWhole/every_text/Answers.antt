@@ -11,4 +11,6 @@ pub returns-clause-plain : goal.returns-clause-plain
 returns-clause-plain c = plain_present instalments _ _ asks_instalment
 
 pub returns-clause-shows : goal.returns-clause-shows
-returns-clause-shows c db rows is sound = shows_table instalment_row by_instalment schema instalments (inr (inr (inr (inr (inr (inr (inr (inr (inr (inl refl)))))))))) refl _ _ asks_instalment (λ t. refl) instalment_key (λ id x. refl) (instalment_ranks []) db rows is (subst (λ k. IsSound k db.trees) is sound)
+returns-clause-shows c db rows is sound = shows_table instalment_row by_instalment schema instalments
+    (inr (inr (inr (inr (inr (inr (inr (inr (inr (inl refl)))))))))) refl _ _ asks_instalment (λ t. refl) instalment_key
+    (λ id x. refl) (instalment_ranks []) db rows is (subst (λ k. IsSound k db.trees) is sound)

@@ -10,4 +10,6 @@ pub returns-clause-plain : goal.returns-clause-plain
 returns-clause-plain c = plain_known loans _ _ asks_loan first_asks_loan
 
 pub returns-clause-shows : goal.returns-clause-shows
-returns-clause-shows c = shows_known loan_row by_loan loans (inr (inr (inr (inr (inr (inr (inl refl))))))) (inr (inr (inr (inr (inr (inr (inl refl))))))) refl _ _ asks_loan first_asks_loan (λ t. refl) loan_key (λ id x. refl) (loan_ranks [])
+returns-clause-shows c = shows_known loan_row by_loan loans (inr (inr (inr (inr (inr (inr (inl refl)))))))
+    (inr (inr (inr (inr (inr (inr (inl refl))))))) refl _ _ asks_loan first_asks_loan (λ t. refl) loan_key (λ id x.
+    refl) (loan_ranks [])

@@ -10,4 +10,5 @@ pub returns-clause-plain : goal.returns-clause-plain
 returns-clause-plain c = plain_known meta _ _ asks_meta first_asks_meta
 
 pub returns-clause-shows : goal.returns-clause-shows
-returns-clause-shows c = shows_known meta_row by_meta meta (inl refl) (inl refl) refl _ _ asks_meta first_asks_meta (λ t. refl) meta_key (λ id x. refl) (meta_ranks [])
+returns-clause-shows c = shows_known meta_row by_meta meta (inl refl) (inl refl) refl _ _ asks_meta first_asks_meta
+    (λ t. refl) meta_key (λ id x. refl) (meta_ranks [])

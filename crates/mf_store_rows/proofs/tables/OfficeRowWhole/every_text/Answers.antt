@@ -10,4 +10,5 @@ pub returns-clause-plain : goal.returns-clause-plain
 returns-clause-plain c = plain_known offices _ _ asks_office first_asks_office
 
 pub returns-clause-shows : goal.returns-clause-shows
-returns-clause-shows c = shows_known office_row by_office offices (inr (inl refl)) (inr (inl refl)) refl _ _ asks_office first_asks_office (λ t. refl) office_key (λ id x. refl) (office_ranks [])
+returns-clause-shows c = shows_known office_row by_office offices (inr (inl refl)) (inr (inl refl)) refl _ _ asks_office
+    first_asks_office (λ t. refl) office_key (λ id x. refl) (office_ranks [])

@@ -10,4 +10,6 @@ pub returns-clause-plain : goal.returns-clause-plain
 returns-clause-plain c = plain_known products _ _ asks_product first_asks_product
 
 pub returns-clause-shows : goal.returns-clause-shows
-returns-clause-shows c = shows_known product_row by_product products (inr (inr (inr (inr (inr (inl refl)))))) (inr (inr (inr (inr (inr (inl refl)))))) refl _ _ asks_product first_asks_product (λ t. refl) product_key (λ id x. refl) (product_ranks [])
+returns-clause-shows c = shows_known product_row by_product products (inr (inr (inr (inr (inr (inl refl))))))
+    (inr (inr (inr (inr (inr (inl refl)))))) refl _ _ asks_product first_asks_product (λ t. refl) product_key (λ id x.
+    refl) (product_ranks [])

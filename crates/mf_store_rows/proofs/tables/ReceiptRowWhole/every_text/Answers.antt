@@ -10,4 +10,7 @@ pub returns-clause-plain : goal.returns-clause-plain
 returns-clause-plain c = plain_known receipts _ _ asks_receipt first_asks_receipt
 
 pub returns-clause-shows : goal.returns-clause-shows
-returns-clause-shows c = shows_known receipt_row by_receipt receipts (inr (inr (inr (inr (inr (inr (inr (inr (inl refl))))))))) (inr (inr (inr (inr (inr (inr (inr (inr (inl refl))))))))) refl _ _ asks_receipt first_asks_receipt (λ t. refl) receipt_key (λ id x. refl) (receipt_ranks [])
+returns-clause-shows c = shows_known receipt_row by_receipt receipts
+    (inr (inr (inr (inr (inr (inr (inr (inr (inl refl)))))))))
+    (inr (inr (inr (inr (inr (inr (inr (inr (inl refl))))))))) refl _ _ asks_receipt first_asks_receipt (λ t. refl)
+    receipt_key (λ id x. refl) (receipt_ranks [])

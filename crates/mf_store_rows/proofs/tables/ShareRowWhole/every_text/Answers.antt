@@ -11,4 +11,6 @@ pub returns-clause-plain : goal.returns-clause-plain
 returns-clause-plain c = plain_present shares _ _ asks_share
 
 pub returns-clause-shows : goal.returns-clause-shows
-returns-clause-shows c db rows is sound = shows_table share_row by_share schema shares (inr (inr (inr (inr (inr (inr (inr (inr (inr (inr (inl refl))))))))))) refl _ _ asks_share (λ t. refl) share_key (λ id x. refl) (share_ranks []) db rows is (subst (λ k. IsSound k db.trees) is sound)
+returns-clause-shows c db rows is sound = shows_table share_row by_share schema shares
+    (inr (inr (inr (inr (inr (inr (inr (inr (inr (inr (inl refl))))))))))) refl _ _ asks_share (λ t. refl) share_key
+    (λ id x. refl) (share_ranks []) db rows is (subst (λ k. IsSound k db.trees) is sound)

@@ -10,4 +10,5 @@ pub returns-clause-plain : goal.returns-clause-plain
 returns-clause-plain c = plain_known staff _ _ asks_staff first_asks_staff
 
 pub returns-clause-shows : goal.returns-clause-shows
-returns-clause-shows c = shows_known staff_row by_staff staff (inr (inr (inl refl))) (inr (inr (inl refl))) refl _ _ asks_staff first_asks_staff (λ t. refl) staff_key (λ id x. refl) (staff_ranks [])
+returns-clause-shows c = shows_known staff_row by_staff staff (inr (inr (inl refl))) (inr (inr (inl refl))) refl _ _
+    asks_staff first_asks_staff (λ t. refl) staff_key (λ id x. refl) (staff_ranks [])

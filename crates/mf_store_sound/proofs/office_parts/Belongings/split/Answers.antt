@@ -6,7 +6,17 @@ use Rattle.mf_store_records.specs.declared.staff.StaffRow.{StaffRow}
 use Rattle.mf_store_sound.proofs.office_parts.Belongings.split.Goals as goal
 
 pub returns-clause-own : goal.returns-clause-own
-returns-clause-own c = (c.parts.ensures.own (λ (r : StaffRow). r.office) (λ row n called. search rules), c.parts-2.ensures.own (λ (r : ClientRow). r.office) (λ row n called. search rules), c.parts-3.ensures.own (λ (r : LoanRow). r.office) (λ row n called. search rules), c.parts-4.ensures.own (λ (r : EntryRow). r.office) (λ row n called. search rules))
+returns-clause-own c = (
+  c.parts.ensures.own (λ (r : StaffRow). r.office) (λ row n called. search rules),
+  c.parts-2.ensures.own (λ (r : ClientRow). r.office) (λ row n called. search rules),
+  c.parts-3.ensures.own (λ (r : LoanRow). r.office) (λ row n called. search rules),
+  c.parts-4.ensures.own (λ (r : EntryRow). r.office) (λ row n called. search rules),
+)
 
 pub returns-clause-later : goal.returns-clause-later
-returns-clause-later c = (c.parts.ensures.later (λ (r : StaffRow). r.office) (λ row n called. search rules), c.parts-2.ensures.later (λ (r : ClientRow). r.office) (λ row n called. search rules), c.parts-3.ensures.later (λ (r : LoanRow). r.office) (λ row n called. search rules), c.parts-4.ensures.later (λ (r : EntryRow). r.office) (λ row n called. search rules))
+returns-clause-later c = (
+  c.parts.ensures.later (λ (r : StaffRow). r.office) (λ row n called. search rules),
+  c.parts-2.ensures.later (λ (r : ClientRow). r.office) (λ row n called. search rules),
+  c.parts-3.ensures.later (λ (r : LoanRow). r.office) (λ row n called. search rules),
+  c.parts-4.ensures.later (λ (r : EntryRow). r.office) (λ row n called. search rules),
+)

@@ -12,10 +12,13 @@ pub returns-clause-value : goal.returns-clause-value
 returns-clause-value c =
     on_ok_weaker c.add.result (λ added office p at. elim c.if-loan-self.branch [
       | then-loan-self+in_ok-count w ↦
-          next_loan office c.args.today p c.args.self.now c.if-loan-self.self c.add.new.self c.args.line.now c.if-loan-self.line c.args.found.0 c.args.found.1 w.if-loan-self.true (w.self-is ∙ w.new.ensures) added (λ x loans is. w.line-is ∙ w.in_ok-count.ensures.line x loans is) at
+          next_loan office c.args.today p c.args.self.now c.if-loan-self.self c.add.new.self c.args.line.now
+          c.if-loan-self.line c.args.found.0 c.args.found.1 w.if-loan-self.true (w.self-is ∙ w.new.ensures) added
+          (λ x loans is. w.line-is ∙ w.in_ok-count.ensures.line x loans is) at
       | else-loan-self w ↦
           subst (λ l. IsAt office (step c.args.today p c.args.found) c.add.new.self l) (sym w.line-is)
-          (same_loan office c.args.today p c.args.self.now c.add.new.self c.args.line.now c.args.found.0 c.args.found.1 w.if-loan-self.false (added ∙ ap (λ s. with_row s c.args.found.1) w.self-is) at)
+          (same_loan office c.args.today p c.args.self.now c.add.new.self c.args.line.now c.args.found.0 c.args.found.1
+          w.if-loan-self.false (added ∙ ap (λ s. with_row s c.args.found.1) w.self-is) at)
     ]) c.add.ensures.value
 
 pub returns-clause-too_great : goal.returns-clause-too_great
@@ -24,8 +27,12 @@ returns-clause-too_great c =
       err.0,
       λ office p at small next. elim c.if-loan-self.branch [
         | then-loan-self+in_ok-count w ↦
-            next_over office c.args.today p c.args.self.now c.if-loan-self.self c.args.line.now c.args.found.0 c.args.found.1 w.if-loan-self.true (ap (λ (r : LoanSoFar). r.principal) (w.self-is ∙ w.new.ensures)) err.1 at next
+            next_over office c.args.today p c.args.self.now c.if-loan-self.self c.args.line.now c.args.found.0
+            c.args.found.1 w.if-loan-self.true (ap (λ (r : LoanSoFar). r.principal) (w.self-is ∙ w.new.ensures))
+            err.1 at next
         | else-loan-self w ↦
-            same_over office c.args.today p c.args.self.now c.args.line.now c.args.found.0 c.args.found.1 w.if-loan-self.false (subst (λ (s : LoanSoFar). 2 ^ 64 ≤ s.principal + open_at c.args.found.1 3) w.self-is err.1) at next
+            same_over office c.args.today p c.args.self.now c.args.line.now c.args.found.0 c.args.found.1
+            w.if-loan-self.false (subst (λ (s : LoanSoFar). 2 ^ 64 ≤ s.principal + open_at c.args.found.1 3)
+            w.self-is err.1) at next
       ],
     )) c.add.ensures.too_great
