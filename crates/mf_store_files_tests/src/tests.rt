@@ -4,6 +4,7 @@ mod adopted;
 mod first_schema;
 mod opened;
 mod stops;
+mod worked;
 
 ghost use Rattle.std.specs.Prelude.{◌≡◌, false};
 
