@@ -4,7 +4,6 @@ mod adopted;
 mod first_schema;
 mod opened;
 mod stops;
-mod worked;
 
 ghost use Rattle.std.specs.Prelude.{◌≡◌, false};
 

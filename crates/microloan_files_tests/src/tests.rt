@@ -1,6 +1,5 @@
 //! Each kind of work over files by the call that the promise on stops is told of, and what the files hold then.
 
-use super::{Failing, fused};
 use mf_base::Day;
 use mf_office::Caller;
 use mf_sheet::LONGEST;
@@ -9,7 +8,7 @@ use mf_store_files::{Unfollowed, adopt};
 use mf_wire_lines::{WatchedReader, WatchedWriter};
 use microloan_files::{batch_over, collect_over, run_over, serve_over};
 use sqlite::{Connection, FileStore, Files, Options, Unknown};
-use sqlite_disk::{Fuse, Memory};
+use sqlite_disk::{Crash, Memory};
 use std::alloc::Global;
 use std::fs;
 use std::net::{Ipv4Addr, TcpListener};
@@ -38,7 +37,10 @@ fn first_day() -> Result<Day, Fail> {
 }
 
 /// The store of the institution that files hold, a new one where they are empty.
-fn store_over<D: Failing>(alloc: Global, files: Files<D>) -> Result<Store<FileStore<D>>, Fail> {
+fn store_over<D: Crash + Drop>(
+    alloc: Global,
+    files: Files<D>,
+) -> Result<Store<FileStore<D>>, Fail> {
     let day = first_day()?;
     if !files.log.may_be_used() || !files.db.may_be_used() {
         return Err(Fail::new("a file that can be used"));
@@ -53,7 +55,7 @@ fn store_over<D: Failing>(alloc: Global, files: Files<D>) -> Result<Store<FileSt
 }
 
 /// The replies to lines, and the files after.
-fn lines_over<D: Failing>(
+fn lines_over<D: Crash + Drop>(
     alloc: Global,
     files: Files<D>,
     lines: &[u8],
@@ -67,7 +69,7 @@ fn lines_over<D: Failing>(
 }
 
 /// The results of a sheet, and the files after.
-fn sheet_over<D: Failing>(
+fn sheet_over<D: Crash + Drop>(
     alloc: Global,
     files: Files<D>,
     sheet: &[u8],
@@ -84,7 +86,10 @@ fn sheet_over<D: Failing>(
 }
 
 /// How many messages of no connection were answered, and the files after.
-fn served_over<D: Failing>(rt: &HostRuntime, files: Files<D>) -> Result<(u64, Files<D>), Fail> {
+fn served_over<D: Crash + Drop>(
+    rt: &HostRuntime,
+    files: Files<D>,
+) -> Result<(u64, Files<D>), Fail> {
     let listener = TcpListener::bind(rt, (Ipv4Addr::LOCALHOST, 0))?;
     let store = store_over(rt.alloc(), files)?;
     let (ended, rest) = serve_over(rt.alloc(), rt, store, &listener, 0, 1);
@@ -94,7 +99,10 @@ fn served_over<D: Failing>(rt: &HostRuntime, files: Files<D>) -> Result<(u64, Fi
 #[test]
 fn each_work_over_files(rt: HostRuntime) -> Result<(), Fail> {
     let alloc = rt.alloc();
-    let files = fused::<Fuse<Memory>>(alloc, u64::MAX, u64::MAX);
+    let files = Files {
+        log: Memory::new(alloc),
+        db: Memory::new(alloc),
+    };
     let (replies, files) = lines_over(alloc, files, CLIENT)?;
     assert!(rt; replies.as_slice() == MADE.as_bytes());
     let (results, files) = sheet_over(alloc, files, SHEET)?;
