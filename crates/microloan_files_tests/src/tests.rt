@@ -1,5 +1,8 @@
 //! Each kind of work over files by the call that the promise on stops is told of, and what the files hold then.
 
+ghost use Rattle.std.specs.Prelude.{◌≤◌, IfOk};
+ghost use Rattle.mf_base.specs.DayText.{last_entered_day};
+
 use mf_base::Day;
 use mf_office::Caller;
 use mf_sheet::LONGEST;
@@ -32,8 +35,13 @@ const FILE: &str = "lines_over_a_file.db";
 
 const LOG: &str = "lines_over_a_file.db-wal";
 
-fn first_day() -> Result<Day, Fail> {
-    Ok(Day::parse(b"2024-01-31").ok_or("a day")?)
+fn first_day() -> Result<Day, Fail>
+    ensures { IfOk result (λ day. day ≤ last_entered_day) }
+{
+    match Day::parse(b"2024-01-31") {
+        Some(day) => Ok(day),
+        None => Err(Fail::new("a day")),
+    }
 }
 
 /// The store of the institution that files hold, a new one where they are empty.
