@@ -1,3 +1,5 @@
+//! The steps that standard input asks for.
+
 /// What is done to the loan.
 #[derive(Clone, Copy)]
 pub(crate) enum Step {
