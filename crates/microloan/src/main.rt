@@ -23,7 +23,7 @@ use crate::telling::{
 use crate::why::say_why;
 use crate::working::{Work, answer_input_in_memory, work_on};
 use mf_base::{Day, Fault};
-use mf_store_files::{Refused, close, open, open_existing};
+use mf_store_files::{Refused, open, open_existing};
 use microloan_commands::schedule;
 use microloan_words::{
     BatchWords, Command, ScheduleWords, ServeWords, StaffWords, Words, command, default_day,
@@ -128,9 +128,8 @@ fn work_where(rt: &HostRuntime, file: &str, existing: bool, day: Day, work: Work
     }
 }
 
-/// Opens a file, works over the institution that it holds, closes it (`mf_store_files::close`), and gives the program's
-/// status. Where closing fails, the file and its log hold the institution together, and the status is the same. The
-/// only function that holds a store of a known type: the prover reads all of `sqlite` for each.
+/// Opens a file, works over the institution that it holds, closes it, and gives the program's status. The only function
+/// that holds a store of a known type: the prover reads all of `sqlite` for each.
 fn work_over(rt: &HostRuntime, file: &str, existing: bool, day: Day, work: Work) -> u8
     requires { day ≤ last_entered_day }
     ensures { IsPrintStatus result }
@@ -142,11 +141,7 @@ fn work_over(rt: &HostRuntime, file: &str, existing: bool, day: Day, work: Work)
         open(rt, file, day, &mut following).map_err(Refused::Failed)
     };
     match opened {
-        Ok(mut store) => {
-            let status = work_on(rt, file, &mut store, work);
-            let _closed = close(store);
-            status
-        }
+        Ok(store) => work_on(rt, file, store, work),
         Err(Refused::NoInstitution) => tell_no_institution(rt),
         Err(Refused::Failed(fault)) => tell_refusal(rt, fault),
     }

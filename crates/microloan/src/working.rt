@@ -6,11 +6,14 @@ ghost use Rattle.microloan.specs.Status.{IsPrintStatus};
 
 use crate::telling::{print_made, tell_cause, tell_end, tell_person, tell_reading, tell_sheet};
 use mf_base::{Cause, Day};
-use mf_model::InstitutionStore;
 use mf_office::Caller;
-use mf_wire::run;
+use mf_store::Store;
+use mf_store_files::close;
 use mf_wire_lines::{WatchedReader, WatchedWriter};
-use microloan_commands::{answer_lines, collect_sheet, report, serve_connections};
+use microloan_commands::{answer_lines, report};
+use microloan_files::{collect_and_close, run_and_close, serve_and_close};
+use sqlite::FileStore;
+use sqlite_disk::Disk;
 use std::io;
 use std::net::{Ipv4Addr, TcpListener};
 
@@ -31,8 +34,14 @@ pub enum Work {
     Report(Caller),
 }
 
-/// Works over the store of a file, and gives the program's status.
-pub fn work_on<S: InstitutionStore>(rt: &HostRuntime, file: &str, store: &mut S, work: Work) -> u8
+/// Works over the store of a file, closes it (`mf_store_files::close`), and gives the program's status. Where closing
+/// fails, the file and its log hold the institution together, and the status is the same.
+pub fn work_on<D: Disk + Drop>(
+    rt: &HostRuntime,
+    file: &str,
+    store: Store<FileStore<D>>,
+    work: Work,
+) -> u8
     ensures { IsPrintStatus result }
 {
     match work {
@@ -62,24 +71,24 @@ pub fn answer_input_in_memory<R: Print + Eprint + Input + AllocGlobal>(rt: &R, d
 }
 
 /// Answers the request lines on standard input, and gives the program's status.
-fn answer_input<R: Print + Eprint + Input + AllocGlobal, S: InstitutionStore>(
+fn answer_input<R: Print + Eprint + Input + AllocGlobal, D: Disk + Drop>(
     rt: &R,
-    store: &mut S,
+    store: Store<FileStore<D>>,
 ) -> u8
     ensures { IsPrintStatus result }
 {
     let mut source = WatchedReader::new(rt.reader());
     let mut sink = WatchedWriter::new(io::writer(rt));
-    let ended = run(rt.alloc(), store, &mut source, &mut sink);
+    let (ended, _closed) = run_and_close(rt.alloc(), store, &mut source, &mut sink);
     tell_end(rt, &ended)
 }
 
 /// Answers the HTTP messages of so many connections to a port of this machine, and gives the program's status. A port
 /// that can't be had can't be read.
-fn serve_port<S: InstitutionStore>(
+fn serve_port<D: Disk + Drop>(
     rt: &HostRuntime,
     file: &str,
-    store: &mut S,
+    store: Store<FileStore<D>>,
     port: u16,
     connections: u64,
     patience: u32,
@@ -87,34 +96,37 @@ fn serve_port<S: InstitutionStore>(
     ensures { IsPrintStatus result }
 {
     let Ok(listener) = TcpListener::bind(rt, (Ipv4Addr::LOCALHOST, port)) else {
+        let _closed = close(store);
         return tell_cause(rt, Cause::Read);
     };
     tell_person(rt, format_args!("serving {file} on 127.0.0.1:{port}"));
-    let ended = serve_connections(rt.alloc(), rt, store, &listener, connections, patience);
+    let (ended, _closed) = serve_and_close(rt.alloc(), rt, store, &listener, connections, patience);
     tell_end(rt, &ended)
 }
 
 /// Collects the sheet on standard input, and gives the program's status.
-fn collect_input<R: Print + Eprint + Input + AllocGlobal, S: InstitutionStore>(
+fn collect_input<R: Print + Eprint + Input + AllocGlobal, D: Disk + Drop>(
     rt: &R,
-    store: &mut S,
+    store: Store<FileStore<D>>,
     staff: Caller,
 ) -> u8
     ensures { IsPrintStatus result }
 {
     let mut source = WatchedReader::new(rt.reader());
     let mut sink = WatchedWriter::new(io::writer(rt));
-    let ended = collect_sheet(rt.alloc(), store, staff, &mut source, &mut sink);
+    let (ended, _closed) = collect_and_close(rt.alloc(), store, staff, &mut source, &mut sink);
     tell_sheet(rt, &ended)
 }
 
 /// Prints the report of arrears, and gives the program's status.
-fn print_report<R: Print + Eprint + AllocGlobal, S: InstitutionStore>(
+fn print_report<R: Print + Eprint + AllocGlobal, D: Disk + Drop>(
     rt: &R,
-    store: &mut S,
+    mut store: Store<FileStore<D>>,
     staff: Caller,
 ) -> u8
     ensures { IsPrintStatus result }
 {
-    print_made(rt, report(rt.alloc(), store, staff))
+    let made = report(rt.alloc(), &mut store, staff);
+    let _closed = close(store);
+    print_made(rt, made)
 }
