@@ -11,7 +11,7 @@ use clap::{Arg, ArgAction, Command};
 use std::alloc::{AllocError, Global};
 
 /// This release, and the schema of the files that it writes.
-const VERSION: &str = "1.2.1 (schema 2)";
+const VERSION: &str = "1.2.2 (schema 2)";
 
 /// Whether an option must be given, has a text that stands where it isn't, or is a flag.
 pub(crate) enum Need {
@@ -220,7 +220,12 @@ fn with_options<'a>(
 }
 
 /// A command with its line in help, and the text behind its options.
-fn command_with_help<'a>(alloc: Global, name: &'a str, about: &'a str, after: &'a str) -> Command<'a>
+fn command_with_help<'a>(
+    alloc: Global,
+    name: &'a str,
+    about: &'a str,
+    after: &'a str,
+) -> Command<'a>
     ensures app { app_of result ≡ new_app name.entry.now }
     ensures local { (fields_of result).has_globals ≡ false }
 {
