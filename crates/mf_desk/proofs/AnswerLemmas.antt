@@ -17,7 +17,8 @@ use Rattle.mf_model.specs.Tree.{IsTree, view}
 use Rattle.mf_model.specs.Run.{from_office}
 use Rattle.mf_model.specs.Store.{Commits, IsAdmitted, IsHanded, change_of, left_by}
 use Rattle.mf_model.specs.declared.store.InstitutionStore.{Ghosts}
-use Rattle.mf_desk.specs.Answers.{Decides, Tells, Changes, decision_outcome, call_of}
+use Rattle.mf_desk.specs.Answers.{Decides, Tells, Changes, decision_outcome}
+use Rattle.mf_model.specs.Unseen.{call_from}
 
 -- what a caller is answered is read off what its office sees
 abbrev pub IsAnsweredByView : Type 0
@@ -105,7 +106,8 @@ module _ {S : Type 0} (store : Ghosts S) where
   pub tells_own_view : {T : Type 0} (shows : Reply → Result T Fault → Type 0) (c : Caller) (request : Request)
       (old new : S) (result : Result T Fault) → IsAnsweredByView → ((s : S) (i : Institution) → store.stands s i
       → IsSound i)
-      → Tells store shows (reply (call_of c request)) old new result → Tells store shows (λ i. reply (call_of c request)
+      → Tells store shows (reply (call_from c request)) old new result
+      → Tells store shows (λ i. reply (call_from c request)
       (view c.office i)) old new result
   tells_own_view shows c request old new result by_view sound tells = record {
     shown = λ k i s. subst (λ (o : Result Reply Fault). IfOk result (λ t. (r : Reply) × (o ≡ Ok r) × shows r (Ok t)))
@@ -114,7 +116,7 @@ module _ {S : Type 0} (store : Ghosts S) where
         ⊎ ((r : Reply) × (o ≡ Ok r) × shows r (Err fault))))) (sym (alike i s)) (tells.refused k i s);
   }
     where
-      alike : (i : Institution) → store.stands old i → reply (call_of c request) (view c.office i)
-          ≡ reply (call_of c request) i
-      alike i s = ap reply_in (by_view c.office (call_of c request) i (sound old i s).tree
+      alike : (i : Institution) → store.stands old i → reply (call_from c request) (view c.office i)
+          ≡ reply (call_from c request) i
+      alike i s = ap reply_in (by_view c.office (call_from c request) i (sound old i s).tree
           (eq-eqb c.office c.office refl))

@@ -33,10 +33,6 @@ plan_outcome (Ok p) c i = carried_out c p i
 abbrev pub request_outcome : Caller → Request → Institution → Outcome
 request_outcome c request i = plan_outcome (plan request) c i
 
--- a request of a known sender
-abbrev pub call_of : Caller → Request → Call
-call_of c request = record { caller = Some c; request = request }
-
 -- the reply and the change of a decision
 abbrev pub decision_outcome : Decision → Institution → Outcome
 decision_outcome d i = Ok (d.reply, option_map (λ c. change_of c i) d.commit)

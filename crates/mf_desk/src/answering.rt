@@ -6,7 +6,8 @@ ghost use Rattle.mf_model.specs.declared.reply.Reply.{Reply};
 ghost use Rattle.mf_model.specs.Sound.{IsInRange};
 ghost use Rattle.mf_model.specs.Tree.{view};
 ghost use Rattle.mf_model.specs.Desk.{outcome, reply};
-ghost use Rattle.mf_desk.specs.Answers.{Decides, Tells, Changes, call_of};
+ghost use Rattle.mf_desk.specs.Answers.{Decides, Tells, Changes};
+ghost use Rattle.mf_model.specs.Unseen.{call_from};
 
 use crate::decision::Decision;
 use crate::roles::may_send;
@@ -24,7 +25,7 @@ fn decide<S: InstitutionStore>(
     request: Request,
 ) -> Result<Decision, Fault>
     requires in_range { IsInRange request }
-    ensures decides { Decides S.InstitutionStore (outcome (call_of caller.now request)) store.old store.new result }
+    ensures decides { Decides S.InstitutionStore (outcome (call_from caller.now request)) store.old store.new result }
     ensures refusal { IfErr result (λ f. f ≢ Fault.F19) }
 {
     if let Request::Unreadable(flaw) = &request {
@@ -55,10 +56,10 @@ pub fn answer<S: InstitutionStore, T: Drop, F: FnOnce(&Reply) -> Result<T, Fault
 ) -> Result<T, Fault>
     requires show { F.IsAlwaysCallable show }
     requires in_range { IsInRange request }
-    ensures told { Tells S.InstitutionStore (FnOnceReturnsAt F.FnOnce show) (reply (call_of caller request)) store.old
+    ensures told { Tells S.InstitutionStore (FnOnceReturnsAt F.FnOnce show) (reply (call_from caller request)) store.old
         store.new result }
-    ensures changes { Changes S.InstitutionStore (call_of caller request) store.old store.new result }
-    ensures own_view { Tells S.InstitutionStore (FnOnceReturnsAt F.FnOnce show) (λ i. reply (call_of caller request)
+    ensures changes { Changes S.InstitutionStore (call_from caller request) store.old store.new result }
+    ensures own_view { Tells S.InstitutionStore (FnOnceReturnsAt F.FnOnce show) (λ i. reply (call_from caller request)
         (view caller.office i)) store.old store.new result }
     ensures refusal { IfErr result (λ f. (f ≢ Fault.F19)
         ⊎ ((reply : Reply) × FnOnceReturnsAt F.FnOnce show reply (Err f))) }

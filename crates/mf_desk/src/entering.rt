@@ -33,7 +33,7 @@ pub fn find_account<S: InstitutionStore>(
 
 /// The account with one more entry. The refusals are those of `LoanAccount::enter`; F20 also where the account has a
 /// day after the business day, which no correct store returns.
-fn entered(
+fn with_entry(
     alloc: Global,
     mut account: LoanAccount,
     entry: Entry,
@@ -78,7 +78,7 @@ pub fn enter<S: InstitutionStore>(
     let today = store.business_day(alloc)?;
     let entry = make_entry(asked, caller, today, &account)?;
     let seq = entry.seq;
-    let account = entered(alloc, account, entry, today)?;
+    let account = with_entry(alloc, account, entry, today)?;
     let told = LoanReply::Entered(seq);
     Ok(Decision::change(
         Commit::AddEntry { loan, account },

@@ -42,7 +42,7 @@ fn repayment(asked: Repayment, staff: Caller, account: &LoanAccount) -> Entry
 }
 
 /// An entry that counts from the business day, as the next of an account: one of no amount, on no instalment.
-fn dated(kind: Kind, staff: Caller, today: Day, account: &LoanAccount) -> Entry
+fn plain_entry(kind: Kind, staff: Caller, today: Day, account: &LoanAccount) -> Entry
     ensures { result ≡ entry_of_today kind 0 0 Principal staff today account.now.loan }
 {
     Entry {
@@ -68,7 +68,7 @@ fn posting(asked: Posting, staff: Caller, today: Day, account: &LoanAccount) -> 
             amount: account.penalty_amount(instalment),
             instalment,
             portion: Portion::Penalty,
-            ..dated(Kind::Penalty, staff, today, account)
+            ..plain_entry(Kind::Penalty, staff, today, account)
         },
         Posting::Waiver {
             instalment,
@@ -76,10 +76,10 @@ fn posting(asked: Posting, staff: Caller, today: Day, account: &LoanAccount) -> 
         } => Entry {
             instalment,
             portion: portion.portion(),
-            ..dated(Kind::Waive, staff, today, account)
+            ..plain_entry(Kind::Waive, staff, today, account)
         },
-        Posting::WriteOff => dated(Kind::WriteOff, staff, today, account),
-        Posting::Refund => dated(Kind::Refund, staff, today, account),
+        Posting::WriteOff => plain_entry(Kind::WriteOff, staff, today, account),
+        Posting::Refund => plain_entry(Kind::Refund, staff, today, account),
     }
 }
 
@@ -99,7 +99,7 @@ fn fee(
         amount,
         instalment: account.fee_instalment(due),
         portion: Portion::Fee,
-        ..dated(Kind::Fee, staff, today, account)
+        ..plain_entry(Kind::Fee, staff, today, account)
     })
 }
 

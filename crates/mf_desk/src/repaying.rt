@@ -35,7 +35,7 @@ fn find_use<S: InstitutionStore>(
 
 /// The number of the entry that carries a receipt, where a repayment of this loan names the same amount and day; else
 /// F15.
-fn repeated(asked: &Repayment, number: AccountNo, used: ReceiptUse) -> Result<u32, Fault>
+fn repeated_entry(asked: &Repayment, number: AccountNo, used: ReceiptUse) -> Result<u32, Fault>
     ensures { result ≡ repeated_seq number asked.now.amount asked.now.day used }
 {
     if used.loan == number && used.amount == asked.amount && used.day == asked.day {
@@ -58,7 +58,7 @@ fn repeat<S: InstitutionStore>(
     ensures refusal { IfErr result (λ f. f ≢ Fault.F19) }
 {
     find_loan(alloc, store, &loan)?;
-    let seq = repeated(asked, loan.number, used)?;
+    let seq = repeated_entry(asked, loan.number, used)?;
     Ok(Decision::tell(loan, LoanReply::Repeated(seq)))
 }
 

@@ -18,7 +18,7 @@ use mf_office::Account;
 use std::alloc::Global;
 
 /// The account with an entry reversed. The refusals are those of `LoanAccount::reverse`.
-fn reversed(alloc: Global, mut account: LoanAccount, seq: u32) -> Result<LoanAccount, Fault>
+fn with_reversal(alloc: Global, mut account: LoanAccount, seq: u32) -> Result<LoanAccount, Fault>
     ensures accepted { IfOk result (λ after. reversal_refused account.loan.entries seq ≡ None) }
     ensures loan { IfOk result (λ after. after.loan ≡ record account.loan {
       entries = with_mark account.loan.entries
@@ -44,7 +44,7 @@ pub fn reverse<S: InstitutionStore>(
     ensures refusal { IfErr result (λ f. f ≢ Fault.F19) }
 {
     let account = find_account(alloc, store, &loan)?;
-    let account = reversed(alloc, account, seq)?;
+    let account = with_reversal(alloc, account, seq)?;
     let told = LoanReply::Reversed(seq);
     Ok(Decision::change(
         Commit::ReverseEntry { loan, seq, account },

@@ -13,7 +13,7 @@ use Rattle.mf_model.specs.Tree.{is_there}
 use Rattle.mf_model.proofs.Confined.{others_stay, old_stay}
 use Rattle.mf_model.proofs.Growing.{numbered_suc}
 use Rattle.mf_model.proofs.StaffLemmas.{rows_found}
-use Rattle.mf_histories.specs.Histories.{entries_of, entries_at}
+use Rattle.mf_histories.specs.Histories.{entries_of_ledger, entries_of_loan}
 
 -- a change of the thing of one number
 below_first : {X : Type 0} (i : ℕ) (change : X → X) (x : X) (xs : List X) → with_numbered (suc (suc i)) change (x ∷ xs)
@@ -55,36 +55,38 @@ numbered_kept (suc i) (suc j) change xs x h other =
     ∙ sym (numbered_suc xs j)
 
 -- a loan more, which has no entries
-slice_push : (xs : List Ledger) (new : Ledger) (j : ℕ) → new.entries ≡ [] → entries_of (slice_get (xs ++ new ∷ []) j)
-    ≡ entries_of (slice_get xs j)
+slice_push : (xs : List Ledger) (new : Ledger) (j : ℕ) → new.entries ≡ []
+    → entries_of_ledger (slice_get (xs ++ new ∷ []) j)
+    ≡ entries_of_ledger (slice_get xs j)
 slice_push [] new zero none = none
 slice_push [] new (suc j) none = refl
 slice_push (x ∷ xs) new zero none = refl
 slice_push (x ∷ xs) new (suc j) none = slice_push xs new j none
 
 pub numbered_push : (xs : List Ledger) (new : Ledger) (n : ℕ) → new.entries ≡ []
-    → entries_of (item_numbered (xs ++ new ∷ []) n) ≡ entries_of (item_numbered xs n)
+    → entries_of_ledger (item_numbered (xs ++ new ∷ []) n) ≡ entries_of_ledger (item_numbered xs n)
 numbered_push xs new zero none = refl
-numbered_push xs new (suc j) none = ap entries_of (numbered_suc (xs ++ new ∷ []) j) ∙ slice_push xs new j none
-    ∙ sym (ap entries_of (numbered_suc xs j))
+numbered_push xs new (suc j) none = ap entries_of_ledger (numbered_suc (xs ++ new ∷ []) j) ∙ slice_push xs new j none
+    ∙ sym (ap entries_of_ledger (numbered_suc xs j))
 
 -- the entries of a loan of an office
 abbrev pub entries_in : Option Office → ℕ → List Entry
-entries_in f n = entries_of (item_numbered (rows_of f).loans n)
+entries_in f n = entries_of_ledger (item_numbered (rows_of f).loans n)
 
 pub entries_here : (i : Institution) (x : ℕ) (rows : Rows) (f : Office) (a : Account) → office_at x i.offices ≡ Some f
-    → a.office ≡ x → entries_at a (after (Rows_become x rows) i) ≡ entries_of (item_numbered rows.loans a.number)
+    → a.office ≡ x → entries_of_loan a (after (Rows_become x rows) i)
+    ≡ entries_of_ledger (item_numbered rows.loans a.number)
 entries_here i x rows f a there here =
     ap (λ y. entries_in (office_at y (with_rows x rows i.offices)) a.number) here
     ∙ ap (λ o. entries_in o a.number) (rows_found x rows i.offices)
     ∙ ap (λ o. entries_in (option_map (λ (g : Office). record g { rows = rows }) o) a.number) there
 
 pub entries_elsewhere : (i : Institution) (x : ℕ) (rows : Rows) (a : Account) → a.office ≢ x
-    → entries_at a (after (Rows_become x rows) i) ≡ entries_at a i
+    → entries_of_loan a (after (Rows_become x rows) i) ≡ entries_of_loan a i
 entries_elsewhere i x rows a other = ap (λ o. entries_in o a.number) (others_stay x a.office rows i.offices other)
 
 pub entries_before : (i : Institution) (x : ℕ) (f : Office) (a : Account) → office_at x i.offices ≡ Some f
-    → a.office ≡ x → entries_at a i ≡ entries_of (item_numbered f.rows.loans a.number)
+    → a.office ≡ x → entries_of_loan a i ≡ entries_of_ledger (item_numbered f.rows.loans a.number)
 entries_before i x f a there here = ap (λ y. entries_in (office_at y i.offices) a.number) here
     ∙ ap (λ o. entries_in o a.number) there
 
@@ -106,20 +108,21 @@ new_there new (f ∷ fs) free =
     either false true e free rest = absurd (cc)
     either false false e free rest = ap (λ d. cond d (Some f) (office_at new.number (with_office new fs))) e ∙ rest free
 
-no_slice : (n : ℕ) → entries_of (slice_get [] n) ≡ []
+no_slice : (n : ℕ) → entries_of_ledger (slice_get [] n) ≡ []
 no_slice zero = refl
 no_slice (suc n) = refl
 
-no_loans : (n : ℕ) → entries_of (item_numbered [] n) ≡ []
+no_loans : (n : ℕ) → entries_of_ledger (item_numbered [] n) ≡ []
 no_loans zero = refl
-no_loans (suc n) = ap entries_of (numbered_suc [] n) ∙ no_slice n
+no_loans (suc n) = ap entries_of_ledger (numbered_suc [] n) ∙ no_slice n
 
 no_entries : (o : Option Office) (n : ℕ) → is_some o ≡ false → entries_in o n ≡ []
 no_entries None n free = no_loans n
 no_entries (Some f) n free = absurd (cc)
 
 pub entries_with_office : (i : Institution) (number parent : ℕ) (name : List ℕ) (a : Account)
-    → is_there i.offices number ≡ false → entries_at a (after (Office_added number parent name) i) ≡ entries_at a i
+    → is_there i.offices number ≡ false → entries_of_loan a (after (Office_added number parent name) i)
+    ≡ entries_of_loan a i
 entries_with_office i number parent name a free =
     elim (cases_eq a.office number) [
       | inl here ↦

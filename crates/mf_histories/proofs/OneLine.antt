@@ -32,8 +32,9 @@ use Rattle.mf_model.specs.Outcomes.{where_found}
 use Rattle.mf_model.specs.Run.{Line, next}
 use Rattle.mf_model.specs.Store.{rows_of, ledger_at, account_of}
 use Rattle.mf_model.specs.Tree.{parent_of, is_there, seen_by}
-use Rattle.mf_histories.specs.Histories.{Deed, is_same, asked_of, told_in, deed_told, deed_of, deed_by, entries_of}
-use Rattle.mf_histories.specs.Histories.{entries_at}
+use Rattle.mf_histories.specs.Histories.{Deed, is_same_loan, asked_of_loan, told_in, deed_told, deed_of, deed_by}
+use Rattle.mf_histories.specs.Histories.{entries_of_ledger}
+use Rattle.mf_histories.specs.Histories.{entries_of_loan}
 use Rattle.mf_histories.proofs.Numbered.{numbered_changed, numbered_kept, entries_here, entries_elsewhere}
 use Rattle.mf_histories.proofs.Numbered.{entries_before, entries_with_office}
 use Rattle.mf_histories.proofs.OneRequest.{IsDone, IsOnLedger, done_on, KeepEntries, kept_in_office}
@@ -52,50 +53,51 @@ unasked (Some c) k account told = refl
 module _ (a : Account) (i : Institution) where
   -- the deed of a call by what comes of it
   abbrev deed_in : Option Caller → Request → Outcome → Option Deed
-  deed_in caller asked o = deed_of caller (asked_of a asked) i.catalogue (account_of i.catalogue (ledger_at a i))
+  deed_in caller asked o = deed_of caller (asked_of_loan a asked) i.catalogue (account_of i.catalogue (ledger_at a i))
       (told_in (reply_in o))
 
   abbrev IsDoneBy : Option Caller → Request → Outcome → Type 0
   IsDoneBy caller asked o =
-      IsDone (deed_in caller asked o) (entries_at a i) (entries_at a (after_maybe (change_in o) i))
+      IsDone (deed_in caller asked o) (entries_of_loan a i) (entries_of_loan a (after_maybe (change_in o) i))
 
   refused : (caller : Option Caller) (asked : Request) (fault : Fault) → IsDoneBy caller asked (Err fault)
   refused caller asked fault =
-      subst (λ d. IsDone d (entries_at a i) (entries_at a i))
-      (sym (untold caller (asked_of a asked) i.catalogue (account_of i.catalogue (ledger_at a i)))) refl
+      subst (λ d. IsDone d (entries_of_loan a i) (entries_of_loan a i))
+      (sym (untold caller (asked_of_loan a asked) i.catalogue (account_of i.catalogue (ledger_at a i)))) refl
 
   -- a request that is on no loan
-  elsewhere : (caller : Option Caller) (asked : Request) (o : Outcome) → asked_of a asked ≡ None
-      → entries_at a (after_maybe (change_in o) i) ≡ entries_at a i → IsDoneBy caller asked o
+  elsewhere : (caller : Option Caller) (asked : Request) (o : Outcome) → asked_of_loan a asked ≡ None
+      → entries_of_loan a (after_maybe (change_in o) i) ≡ entries_of_loan a i → IsDoneBy caller asked o
   elsewhere caller asked o none same =
       let deed : deed_in caller asked o ≡ None =
       ap (λ q. deed_of caller q i.catalogue (account_of i.catalogue (ledger_at a i)) (told_in (reply_in o))) none
       ∙ unasked caller i.catalogue (account_of i.catalogue (ledger_at a i)) (told_in (reply_in o)) in
-      subst (λ d. IsDone d (entries_at a i) (entries_at a (after_maybe (change_in o) i))) (sym deed) same
+      subst (λ d. IsDone d (entries_of_loan a i) (entries_of_loan a (after_maybe (change_in o) i))) (sym deed) same
 
   on_catalogue_kept : (r : Result (Reply × Option Catalogue) Fault)
-      → entries_at a (after_maybe (change_in (of_catalogue r)) i) ≡ entries_at a i
+      → entries_of_loan a (after_maybe (change_in (of_catalogue r)) i) ≡ entries_of_loan a i
   on_catalogue_kept (Err fault) = refl
   on_catalogue_kept (Ok (told, None)) = refl
   on_catalogue_kept (Ok (told, Some k)) = refl
 
-  reading_kept : (r : Result Reply Fault) → entries_at a (after_maybe (change_in (of_reading r)) i) ≡ entries_at a i
+  reading_kept : (r : Result Reply Fault) → entries_of_loan a (after_maybe (change_in (of_reading r)) i)
+      ≡ entries_of_loan a i
   reading_kept (Err fault) = refl
   reading_kept (Ok told) = refl
 
   new_office_kept : (number parent : ℕ) (name : List ℕ) (b taken near : Bool) → is_there i.offices number ≡ taken
-      → entries_at a
+      → entries_of_loan a
       (after_maybe
       (change_in (cond b (Err F4)
       (cond taken (Err F16) (cond near (Ok (OfficeMade number, Some (Office_added number parent name)))
-      (Err F18))))) i) ≡ entries_at a i
+      (Err F18))))) i) ≡ entries_of_loan a i
   new_office_kept number parent name true taken near e = refl
   new_office_kept number parent name false true near e = refl
   new_office_kept number parent name false false true e = entries_with_office i number parent name a e
   new_office_kept number parent name false false false e = refl
 
   rows_kept : (x : ℕ) (f : Office) (r : Result (Reply × Option Rows) Fault) → office_at x i.offices ≡ Some f
-      → KeepEntries f.rows r → entries_at a (after_maybe (change_in (of_office x r)) i) ≡ entries_at a i
+      → KeepEntries f.rows r → entries_of_loan a (after_maybe (change_in (of_office x r)) i) ≡ entries_of_loan a i
   rows_kept x f (Err fault) there keeps = refl
   rows_kept x f (Ok (told, None)) there keeps = refl
   rows_kept x f (Ok (told, Some rows)) there keeps =
@@ -105,8 +107,8 @@ module _ (a : Account) (i : Institution) where
       ]
 
   office_kept : (x : ℕ) (asked : OfficeRequest) (seen : Bool) (found : Option Office) → office_at x i.offices ≡ found
-      → entries_at a (after_maybe (change_in (in_office x (λ k f. on_office asked x k f.rows) i.catalogue
-      (cond seen found None))) i) ≡ entries_at a i
+      → entries_of_loan a (after_maybe (change_in (in_office x (λ k f. on_office asked x k f.rows) i.catalogue
+      (cond seen found None))) i) ≡ entries_of_loan a i
   office_kept x asked false found there = refl
   office_kept x asked true None there = refl
   office_kept x asked true (Some f) there =
@@ -114,17 +116,17 @@ module _ (a : Account) (i : Institution) where
 
   -- a request on a loan
   module _ (c : Caller) (b : Account) (asked : LoanRequest) where
-    ours : is_same a b ≡ true → (a.office ≡ b.office) × (a.number ≡ b.number)
+    ours : is_same_loan a b ≡ true → (a.office ≡ b.office) × (a.number ≡ b.number)
     ours e =
         let both = and_parts (b.office == a.office) (b.number == a.number) e in
         let one = both.0 in
         let two = both.1 in
         (grind (arith, nat_tests), grind (arith, nat_tests))
 
-    another : is_same a b ≡ false → a.office ≡ b.office → a.number ≢ b.number
+    another : is_same_loan a b ≡ false → a.office ≡ b.office → a.number ≢ b.number
     another e here same = absurd (grind (arith, nat_tests))
 
-    asked_is : (s : Bool) → is_same a b ≡ s → asked_of a (request.Loan b asked) ≡ cond s (Some asked) None
+    asked_is : (s : Bool) → is_same_loan a b ≡ s → asked_of_loan a (request.Loan b asked) ≡ cond s (Some asked) None
     asked_is s e = ap (λ x. cond x (Some asked) None) e
 
     ledger_here : (f : Office) (l : Ledger) → office_at b.office i.offices ≡ Some f → item_numbered f.rows.loans
@@ -135,58 +137,62 @@ module _ (a : Account) (i : Institution) where
         ∙ ap (item_numbered f.rows.loans) two ∙ found
 
     -- the loan is another one
-    others_loan : (o : Outcome) → is_same a b ≡ false → entries_at a (after_maybe (change_in o) i) ≡ entries_at a i
+    others_loan : (o : Outcome) → is_same_loan a b ≡ false → entries_of_loan a (after_maybe (change_in o) i)
+        ≡ entries_of_loan a i
         → IsDoneBy (Some c) (request.Loan b asked) o
     others_loan o e same = elsewhere (Some c) (request.Loan b asked) o (asked_is false e) same
 
     -- it is this loan
-    own_loan : (told : LoanReply) (change : Option Change) (l : Ledger) → is_same a b ≡ true → ledger_at a i ≡ Some l
-        → IsDone (deed_told asked c i.catalogue (account_in i.catalogue l) told) l.entries (entries_at a
+    own_loan : (told : LoanReply) (change : Option Change) (l : Ledger) → is_same_loan a b ≡ true → ledger_at a i
+        ≡ Some l
+        → IsDone (deed_told asked c i.catalogue (account_in i.catalogue l) told) l.entries (entries_of_loan a
         (after_maybe change i)) → IsDoneBy (Some c) (request.Loan b asked) (Ok (reply.Loan b told, change))
     own_loan told change l e there done =
         let deed : deed_in (Some c) (request.Loan b asked) (Ok (reply.Loan b told, change))
         ≡ deed_told asked c i.catalogue (account_in i.catalogue l) told =
         ap (λ q. deed_of (Some c) q i.catalogue (account_of i.catalogue (ledger_at a i)) (Some told)) (asked_is true e)
         ∙ ap (λ q. deed_told asked c i.catalogue (account_of i.catalogue q) told) there in
-        subst (λ d. IsDone d (entries_at a i) (entries_at a (after_maybe change i))) (sym deed)
+        subst (λ d. IsDone d (entries_of_loan a i) (entries_of_loan a (after_maybe change i))) (sym deed)
         (subst (λ es. IsDone (deed_told asked c i.catalogue (account_in i.catalogue l) told) es
-        (entries_at a (after_maybe change i))) (sym (ap entries_of there)) done)
+        (entries_of_loan a (after_maybe change i))) (sym (ap entries_of_ledger there)) done)
 
     loan_done : (f : Office) (l : Ledger) (r : Result (LoanReply × Option LedgerChange) Fault)
         → office_at b.office i.offices ≡ Some f → item_numbered f.rows.loans b.number ≡ Some l
         → IsOnLedger asked c i.catalogue l r → IsDoneBy (Some c) (request.Loan b asked)
         (of_office b.office (of_loan b f.rows r))
     loan_done f l (Err fault) there found done = refused (Some c) (request.Loan b asked) fault
-    loan_done f l (Ok (told, None)) there found done = step (is_same a b) refl
+    loan_done f l (Ok (told, None)) there found done = step (is_same_loan a b) refl
       where
-        step : (s : Bool) → is_same a b ≡ s → IsDoneBy (Some c) (request.Loan b asked) (Ok (reply.Loan b told, None))
+        step : (s : Bool) → is_same_loan a b ≡ s
+            → IsDoneBy (Some c) (request.Loan b asked) (Ok (reply.Loan b told, None))
         step false e = others_loan (Ok (reply.Loan b told, None)) e refl
         step true e =
             let names = ours e in
             let here : ledger_at a i ≡ Some l = ledger_here f l there found names.0 names.1 in
-            own_loan told None l e here (subst (λ d. IsDone d l.entries (entries_at a i)) (sym done)
-            (ap entries_of here))
-    loan_done f l (Ok (told, Some change)) there found done = step (is_same a b) refl
+            own_loan told None l e here (subst (λ d. IsDone d l.entries (entries_of_loan a i)) (sym done)
+            (ap entries_of_ledger here))
+    loan_done f l (Ok (told, Some change)) there found done = step (is_same_loan a b) refl
       where
         rows : Rows
         rows = loan_changed b.number change f.rows
 
-        step : (s : Bool) → is_same a b ≡ s → IsDoneBy (Some c) (request.Loan b asked)
+        step : (s : Bool) → is_same_loan a b ≡ s → IsDoneBy (Some c) (request.Loan b asked)
             (Ok (reply.Loan b told, Some (Rows_become b.office rows)))
         step false e = others_loan (Ok (reply.Loan b told, Some (Rows_become b.office rows))) e
             (elim (cases_eq a.office b.office) [
               | inl here ↦
                   entries_here i b.office rows f a there here
-                  ∙ ap entries_of (numbered_kept b.number a.number change f.rows.loans l found (another e here))
+                  ∙ ap entries_of_ledger (numbered_kept b.number a.number change f.rows.loans l found (another e here))
                   ∙ sym (entries_before i b.office f a there here)
               | inr other ↦ entries_elsewhere i b.office rows a other
             ])
         step true e =
             let names = ours e in
             let here : ledger_at a i ≡ Some l = ledger_here f l there found names.0 names.1 in
-            let after_is : entries_at a (after (Rows_become b.office rows) i) ≡ (change l).entries =
-            entries_here i b.office rows f a there names.0 ∙ ap (λ n. entries_of (item_numbered rows.loans n)) names.1
-            ∙ ap entries_of (numbered_changed b.number change f.rows.loans l found) in
+            let after_is : entries_of_loan a (after (Rows_become b.office rows) i) ≡ (change l).entries =
+            entries_here i b.office rows f a there names.0
+            ∙ ap (λ n. entries_of_ledger (item_numbered rows.loans n)) names.1
+            ∙ ap entries_of_ledger (numbered_changed b.number change f.rows.loans l found) in
             own_loan told (Some (Rows_become b.office rows)) l e here
             (subst (λ es. IsDone (deed_told asked c i.catalogue (account_in i.catalogue l) told) l.entries es)
             (sym after_is) done)
@@ -252,11 +258,11 @@ module _ (a : Account) (i : Institution) where
       (new_office_kept number parent name (not (is_there i.offices parent && is_at_or_below (parent_of i.offices) parent
       c.office)) (is_there i.offices number) (is_within 4 (parent_of i.offices) parent 1) refl))
 
-  pub line_done : (l : Line) → IsDone (deed_by a l i) (entries_at a i) (entries_at a (next l i))
+  pub line_done : (l : Line) → IsDone (deed_by a l i) (entries_of_loan a i) (entries_of_loan a (next l i))
   line_done l = step l.given_up
     where
-      step : (g : Bool) → IsDone (deed_of l.call.caller (asked_of a l.call.request) i.catalogue
+      step : (g : Bool) → IsDone (deed_of l.call.caller (asked_of_loan a l.call.request) i.catalogue
           (account_of i.catalogue (ledger_at a i)) (told_in (cond g (Err F20) (reply_in (outcome l.call i)))))
-          (entries_at a i) (entries_at a (after_maybe (cond g None (change_in (outcome l.call i))) i))
+          (entries_of_loan a i) (entries_of_loan a (after_maybe (cond g None (change_in (outcome l.call i))) i))
       step true = refused l.call.caller l.call.request F20
       step false = sent_done l.call.caller l.call.request

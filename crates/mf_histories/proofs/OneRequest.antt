@@ -40,7 +40,7 @@ use Rattle.mf_model.specs.Offices.{staff_added, client_added}
 use Rattle.mf_model.specs.Receipts.{Use, uses_from, used_before, repeated_seq}
 use Rattle.mf_model.specs.Stages.{next_stage, stage_number}
 use Rattle.mf_model.proofs.AccountLemmas.{account_is}
-use Rattle.mf_histories.specs.Histories.{Deed, Adds, Marks, entry_by, deed_told, entries_of}
+use Rattle.mf_histories.specs.Histories.{Deed, Adds, Marks, entry_by, deed_told, entries_of_ledger}
 use Rattle.mf_histories.proofs.Numbered.{numbered_push}
 
 -- what a deed makes of entries; what is marked is there
@@ -140,12 +140,12 @@ abbrev pub KeepEntries : Rows → Result (Reply × Option Rows) Fault → Type 0
 KeepEntries old (Err fault) = Unit {0}
 KeepEntries old (Ok (told, None)) = Unit {0}
 KeepEntries old (Ok (told, Some rows)) =
-    (n : ℕ) → entries_of (item_numbered rows.loans n) ≡ entries_of (item_numbered old.loans n)
+    (n : ℕ) → entries_of_ledger (item_numbered rows.loans n) ≡ entries_of_ledger (item_numbered old.loans n)
 
 keeps_staffed : (rows : Rows) (r : Result ℕ Fault) (told : ℕ → Reply) (new : Rows) → new.loans ≡ rows.loans
     → KeepEntries rows (with_value r (λ n. (told n, Some new)))
 keeps_staffed rows (Err fault) told new same = tt
-keeps_staffed rows (Ok n) told new same = λ m. ap (λ ls. entries_of (item_numbered ls m)) same
+keeps_staffed rows (Ok n) told new same = λ m. ap (λ ls. entries_of_ledger (item_numbered ls m)) same
 
 keeps_found : {A : Type 0} (rows : Rows) (found : Option A) (told : A → Reply)
     → KeepEntries rows (with_found found (λ a. (told a, None)))

@@ -26,13 +26,13 @@ pub data Deed : Type 0 where
   Marks : ℕ → Deed
 
 -- the two name one loan
-abbrev pub is_same : Account → Account → Bool
-is_same a b = (b.office == a.office) && (b.number == a.number)
+abbrev pub is_same_loan : Account → Account → Bool
+is_same_loan a b = (b.office == a.office) && (b.number == a.number)
 
 -- what a request asks of this loan
-abbrev pub asked_of : Account → Request → Option LoanRequest
-asked_of a (request.Loan b asked) = cond (is_same a b) (Some asked) None
-asked_of a _ = None
+abbrev pub asked_of_loan : Account → Request → Option LoanRequest
+asked_of_loan a (request.Loan b asked) = cond (is_same_loan a b) (Some asked) None
+asked_of_loan a _ = None
 
 -- what is told of a loan
 abbrev pub told_in : Result Reply Fault → Option LoanReply
@@ -60,7 +60,8 @@ deed_of _ _ k account told = None
 
 -- what a line does to the entries of a loan
 abbrev pub deed_by : Account → Line → Institution → Option Deed
-deed_by a l i = deed_of l.call.caller (asked_of a l.call.request) i.catalogue (account_of i.catalogue (ledger_at a i))
+deed_by a l i = deed_of l.call.caller (asked_of_loan a l.call.request) i.catalogue
+    (account_of i.catalogue (ledger_at a i))
     (told_in (answer l i))
 
 -- deeds with one before them, if there is one
@@ -74,10 +75,10 @@ deeds a [] i = []
 deeds a (l ∷ ls) i = with_deed (deed_by a l i) (deeds a ls (next l i))
 
 -- the entries that are added
-abbrev pub added : List Deed → List Entry
-added [] = []
-added (Adds e ∷ ds) = e ∷ added ds
-added (Marks seq ∷ ds) = added ds
+abbrev pub added_by : List Deed → List Entry
+added_by [] = []
+added_by (Adds e ∷ ds) = e ∷ added_by ds
+added_by (Marks seq ∷ ds) = added_by ds
 
 -- the numbers of the entries that are reversed
 abbrev pub reversed : List Deed → List ℕ
@@ -91,10 +92,10 @@ with_marks [] es = es
 with_marks (seq ∷ seqs) es = with_marks seqs (with_mark es (seq - 1) true)
 
 -- the entries of a loan, none where it is not there
-abbrev pub entries_of : Option Ledger → List Entry
-entries_of None = []
-entries_of (Some l) = l.entries
+abbrev pub entries_of_ledger : Option Ledger → List Entry
+entries_of_ledger None = []
+entries_of_ledger (Some l) = l.entries
 
 -- the entries of a loan; none where it is not there
-abbrev pub entries_at : Account → Institution → List Entry
-entries_at a i = entries_of (ledger_at a i)
+abbrev pub entries_of_loan : Account → Institution → List Entry
+entries_of_loan a i = entries_of_ledger (ledger_at a i)

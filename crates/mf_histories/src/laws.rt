@@ -9,7 +9,7 @@ ghost use Rattle.mf_model.specs.Store.{ledger_at};
 ghost use Rattle.mf_model.specs.WorkedAccounts.{january};
 ghost use Rattle.mf_model.specs.WorkedEntries.{reversing};
 ghost use Rattle.mf_model.specs.WorkedRows.{account};
-ghost use Rattle.mf_histories.specs.Histories.{added, deeds, entries_at, reversed, with_marks};
+ghost use Rattle.mf_histories.specs.Histories.{added_by, deeds, entries_of_loan, reversed, with_marks};
 
 /// The entries of a loan after any run are those that it had before, followed by those that the accepted requests on it
 /// added, with the marks of the entries that the accepted requests on it reversed. A loan that is submitted in the run
@@ -19,26 +19,26 @@ ghost use Rattle.mf_histories.specs.Histories.{added, deeds, entries_at, reverse
 /// accepted requests did the same to a loan with the same entries leave it with the same.
 pub fn entries_over_runs()
     ensures entries { (i : Institution) (run : List Line) (loan : Account) →
-        entries_at loan (last run i)
-        ≡ with_marks (reversed (deeds loan run i)) (entries_at loan i ++ added (deeds loan run i)) }
+        entries_of_loan loan (last run i)
+        ≡ with_marks (reversed (deeds loan run i)) (entries_of_loan loan i ++ added_by (deeds loan run i)) }
     ensures shown { (i : Institution) (run : List Line) (loan : Account) (ledger : Ledger) →
         ledger_at loan (last run i) ≡ Some ledger →
         let k = (last run i).catalogue in
         let replayed : Ledger = record ledger {
-          entries = with_marks (reversed (deeds loan run i)) (entries_at loan i ++ added (deeds loan run i));
+          entries = with_marks (reversed (deeds loan run i)) (entries_of_loan loan i ++ added_by (deeds loan run i));
         } in
         (statement k ledger ≡ statement k replayed) × (instalments_in k ledger ≡ instalments_in k replayed)
         × (entries_in k ledger ≡ entries_in k replayed) }
     ensures alike { (i j : Institution) (run other : List Line) (loan : Account) →
-        entries_at loan i ≡ entries_at loan j → deeds loan run i ≡ deeds loan other j →
-        entries_at loan (last run i) ≡ entries_at loan (last other j) }
+        entries_of_loan loan i ≡ entries_of_loan loan j → deeds loan run i ≡ deeds loan other j →
+        entries_of_loan loan (last run i) ≡ entries_of_loan loan (last other j) }
 {}
 
 /// Worked out: a loan is repaid twice, and the first repayment is reversed; requests to reverse it again and to reverse
 /// what is not there are refused. These add two entries and reverse one, and do nothing to another loan.
 pub fn worked_deeds()
     ensures added { map (λ entry. entry.amount)
-        (added (deeds (account 1 1) (map (λ row. row.0) reversing) (newly_made january))) ≡ 20000 ∷ 50000 ∷ [] }
+        (added_by (deeds (account 1 1) (map (λ row. row.0) reversing) (newly_made january))) ≡ 20000 ∷ 50000 ∷ [] }
     ensures reversed { reversed
         (deeds (account 1 1) (map (λ row. row.0) reversing) (newly_made january)) ≡ 1 ∷ [] }
     ensures other_loan { deeds (account 1 2) (map (λ row. row.0) reversing) (newly_made january) ≡ [] }

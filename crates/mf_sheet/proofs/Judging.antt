@@ -24,7 +24,7 @@ use Rattle.mf_sheet_lines.specs.declared.line.SheetRepayment.{SheetRepayment}
 use Rattle.mf_sheet_lines.specs.declared.line.SheetLine.TheVariants.{Repay}
 use Rattle.mf_sheet_lines.specs.declared.results.SheetResult.{SheetResult}
 use Rattle.mf_sheet_lines.specs.declared.results.SheetResult.TheVariants.{Entered, Repeated, Refused}
-use Rattle.mf_sheet.specs.Lines.{asked_by, call_of, result_of}
+use Rattle.mf_sheet.specs.Lines.{request_of_line, call_of_line, result_of}
 
 -- the repayment that a line asks for
 abbrev pub asked : SheetRepayment → Repayment
@@ -160,32 +160,32 @@ module _ (c : Caller) (r : SheetRepayment) (i : Institution) (P : Outcome → Sh
   looked_at = On_office r.loan.office (λ caller catalogue f. in_loan r.loan (on_loan (asks.Repay (asked r)) caller
       catalogue f.rows r.loan.number) f.rows)
 
-  at_staff : (o : Option Staff) → staff_at i c ≡ o → P (where_permitted c (asked_by (Repay r)) looked_at o i)
+  at_staff : (o : Option Staff) → staff_at i c ≡ o → P (where_permitted c (request_of_line (Repay r)) looked_at o i)
       (by_staff c r i.catalogue o (seen_office c.office r.loan.office i))
   unfolding looked_at
   at_staff None e = refused F2
   at_staff (Some s) known = at_office s known (seen_office c.office r.loan.office i) refl
 
-  pub every_repayment : P (outcome (call_of c (Repay r)) i) (judged c r i)
+  pub every_repayment : P (outcome (call_of_line c (Repay r)) i) (judged c r i)
   unfolding looked_at
   every_repayment = at_staff (staff_at i c) refl
 
 module _ (c : Caller) (r : SheetRepayment) (i : Institution) where
-  pub judged_is : result_of (reply_in (outcome (call_of c (Repay r)) i)) ≡ judged c r i
+  pub judged_is : result_of (reply_in (outcome (call_of_line c (Repay r)) i)) ≡ judged c r i
   judged_is = every_repayment c r i (λ o t. result_of (reply_in o) ≡ t) (λ fault. refl) (λ seq w. refl) (λ w. refl)
 
-  pub unless_entered : judged c r i ≢ Entered → change_in (outcome (call_of c (Repay r)) i) ≡ None
+  pub unless_entered : judged c r i ≢ Entered → change_in (outcome (call_of_line c (Repay r)) i) ≡ None
   unless_entered = every_repayment c r i (λ o t. t ≢ Entered → change_in o ≡ None) (λ fault n. refl) (λ seq w n. refl)
       (λ w n. absurd (n refl))
 
-  pub entered_so : judged c r i ≡ Entered → (w : Entering c r i) × (change_in (outcome (call_of c (Repay r)) i)
+  pub entered_so : judged c r i ≡ Entered → (w : Entering c r i) × (change_in (outcome (call_of_line c (Repay r)) i)
       ≡ Some (entered_change c r i w))
   entered_so =
       every_repayment c r i (λ o t. t ≡ Entered → (w : Entering c r i) × (change_in o ≡ Some (entered_change c r i w)))
       (λ fault e. absurd (cc)) (λ seq w e. absurd (cc)) (λ w e. (w, refl))
 
   pub repeated_so : judged c r i ≡ Repeated → (seq : ℕ) × Repeating c r i seq
-      × (outcome (call_of c (Repay r)) i ≡ Ok (reply.Loan r.loan (told.Repeated seq), None))
+      × (outcome (call_of_line c (Repay r)) i ≡ Ok (reply.Loan r.loan (told.Repeated seq), None))
   repeated_so = every_repayment c r i (λ o t. t ≡ Repeated → (seq : ℕ) × Repeating c r i seq
       × (o ≡ Ok (reply.Loan r.loan (told.Repeated seq), None)))
       (λ fault e. absurd (cc)) (λ seq w e. (seq, w, refl)) (λ w e. absurd (cc))

@@ -16,7 +16,7 @@ use Rattle.mf_model.specs.declared.store.InstitutionStore.{Ghosts}
 use Rattle.mf_sheet_lines.specs.declared.results.SheetResult.{SheetResult}
 use Rattle.mf_sheet_lines.specs.declared.results.SheetResult.TheVariants.{Refused}
 use Rattle.mf_sheet.specs.Lines.{call_by, result_of}
-use Rattle.mf_sheet.specs.Runs.{NoneIsF20, OnlyF20GivesUp, AnswersFields, RunsRows, Steps}
+use Rattle.mf_sheet.specs.Runs.{NoResultIsF20, OnlyF20GivesUp, AnswersFields, RunsRows, AnswersEach}
 use Rattle.mf_sheet.specs.Ends.{SheetStreams, EndsWhole, NeverBegins, EndsBefore, CutsHeading, CutsRecord, EndsBy, Ends}
 use Rattle.mf_sheet.proofs.InRange.{row_in_range}
 use Rattle.mf_sheet.proofs.Rows.{Rows}
@@ -26,7 +26,7 @@ not_given_up : (given_up : Bool) (reply : Result Reply Fault) → result_of (con
 not_given_up true reply n = absurd (n refl)
 not_given_up false reply n = refl
 
-none_given_up : (run : List Line) (i : Institution) → NoneIsF20 (map result_of (answers run i)) → NoneGivenUp run
+none_given_up : (run : List Line) (i : Institution) → NoResultIsF20 (map result_of (answers run i)) → NoneGivenUp run
 none_given_up [] i h = tt
 none_given_up (l ∷ ls) i h = (not_given_up l.given_up _ h.0, none_given_up ls (next l i) h.1)
 
@@ -53,12 +53,13 @@ module _ {S : Type 0} (store : Ghosts S) (caller : Caller) where
           replied = replied;
           follows = more.follows;
           given_up = subst (OnlyF20GivesUp (l ∷ more.run)) (sym replied) (only_F20 (l ∷ more.run) i);
-          with_memory = λ none. none_given_up (l ∷ more.run) i (subst NoneIsF20 replied none);
+          with_memory = λ none. none_given_up (l ∷ more.run) i (subst NoResultIsF20 replied none);
           stop = λ is h. more.stop (left_by (change_in (outcome (call_by caller f) i)) w.0 i is) (w.1.stop is h);
         };
   }
 
-  pub runs_rows : (old : S) (rows : Rows) (results : List SheetResult) (new : S) → Steps (AnswersFields store caller)
+  pub runs_rows : (old : S) (rows : Rows) (results : List SheetResult) (new : S)
+      → AnswersEach (AnswersFields store caller)
       old rows results new → RunsRows store caller old rows results new
   runs_rows old [] [] new h = subst (λ n. RunsRows store caller old [] [] n) (sym h) (record {
     premise = λ c. c;
@@ -145,7 +146,7 @@ module _ {S : Type 0} (store : Ghosts S) (caller : Caller) (old new : S) (rows o
     (held holds : Option (List ℕ)) (faults now count : ℕ) (r : Result (Unit {0}) StreamFault) where
   -- How a whole sheet ends, of how its rows end. The heading was written without a fault.
   pub sheet_ends : others ≡ rows → now ≡ faults
-      → Ends (Steps (AnswersFields store caller)) old new (record {
+      → Ends (AnswersEach (AnswersFields store caller)) old new (record {
         rows = others;
         sink = record {
           before = held;
@@ -182,5 +183,5 @@ module _ {S : Type 0} (store : Ghosts S) (caller : Caller) (old new : S) (rows o
           faults_after = count;
         };
       }) r) sound
-      (ends (Steps (AnswersFields store caller)) (RunsRows store caller) (runs_rows store caller) old new _ r e)
+      (ends (AnswersEach (AnswersFields store caller)) (RunsRows store caller) (runs_rows store caller) old new _ r e)
       )

@@ -32,7 +32,7 @@ use Rattle.mf_model.proofs.Within.{below_with_rows, below_with_office}
 use Rattle.mf_sheet_lines.specs.declared.line.SheetRepayment.{SheetRepayment}
 use Rattle.mf_sheet_lines.specs.declared.line.SheetLine.TheVariants.{Repay}
 use Rattle.mf_sheet_lines.specs.declared.results.SheetResult.TheVariants.{Repeated}
-use Rattle.mf_sheet.specs.Lines.{call_of, asked_by}
+use Rattle.mf_sheet.specs.Lines.{call_of_line, request_of_line}
 use Rattle.mf_sheet.specs.Again.{IsTaken}
 use Rattle.mf_sheet.proofs.Uses.{numbered_at, used_now}
 use Rattle.mf_sheet.proofs.Judging.{entry_of, as_repeat, by_staff, by_office, by_ledger, judged, Entering, Repeating}
@@ -132,7 +132,7 @@ module _ (c : Caller) (r : SheetRepayment) (seq : ℕ) (i : Institution) (t : Ta
       ∙ ap (by_ledger c r i.catalogue (Some t.was)) there
       ∙ ap as_repeat t.same
 
-  pub taken_told : outcome (call_of c (Repay r)) i ≡ Ok (reply.Loan r.loan (told.Repeated seq), None)
+  pub taken_told : outcome (call_of_line c (Repay r)) i ≡ Ok (reply.Loan r.loan (told.Repeated seq), None)
   taken_told =
       let w = repeated_so c r i told_so in
       let office : w.1.office ≡ its_office.0 = let e : Some w.1.office ≡ Some its_office.0 =
@@ -176,8 +176,8 @@ module _ (c : Caller) (r : SheetRepayment) (seq : ℕ) (i : Institution) where
         same = the_same r.loan.number e ∙ ap Ok number;
       }
 
-  taken_next : IsTaken r.loan seq (reply_in (outcome (call_of c (Repay r)) i))
-      → Taken c r seq (next (line_answered (call_of c (Repay r))) i)
+  taken_next : IsTaken r.loan seq (reply_in (outcome (call_of_line c (Repay r)) i))
+      → Taken c r seq (next (line_answered (call_of_line c (Repay r))) i)
   taken_next =
       every_repayment c r i (λ o t. IsTaken r.loan seq (reply_in o) → Taken c r seq (after_maybe (change_in o) i))
       (λ fault taken. absurd (elim taken [ inl e ↦ cc | inr e ↦ cc ])) repeats enters
@@ -229,11 +229,12 @@ module _ (c : Caller) (r : SheetRepayment) (seq : ℕ) where
   taken_last (l ∷ ls) i s range t =
       taken_last ls (next l i) (next_sound l i s range.0) range.1 (taken_by l i s range.0 t)
 
-  pub told_ever_after : (i : Institution) (ls : List Line) → IsSound i → IsInRange (asked_by (Repay r)) → AreInRange ls
-      → IsTaken r.loan seq (reply_in (outcome (call_of c (Repay r)) i))
-      → outcome (call_of c (Repay r)) (last ls (next (line_answered (call_of c (Repay r))) i))
+  pub told_ever_after : (i : Institution) (ls : List Line) → IsSound i → IsInRange (request_of_line (Repay r))
+      → AreInRange ls
+      → IsTaken r.loan seq (reply_in (outcome (call_of_line c (Repay r)) i))
+      → outcome (call_of_line c (Repay r)) (last ls (next (line_answered (call_of_line c (Repay r))) i))
       ≡ Ok (reply.Loan r.loan (told.Repeated seq), None)
   told_ever_after i ls s range ranges taken =
-      let j : Institution = next (line_answered (call_of c (Repay r))) i in
-      taken_told c r seq (last ls j) (taken_last ls j (next_sound (line_answered (call_of c (Repay r))) i s range)
+      let j : Institution = next (line_answered (call_of_line c (Repay r))) i in
+      taken_told c r seq (last ls j) (taken_last ls j (next_sound (line_answered (call_of_line c (Repay r))) i s range)
       ranges (taken_next c r seq i taken))

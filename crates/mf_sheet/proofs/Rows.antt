@@ -7,27 +7,28 @@ use Rattle.mf_base.specs.declared.fault.Fault.TheVariants.{F20}
 use Rattle.mf_sheet_lines.specs.Results.{heading, record_text, records_text}
 use Rattle.mf_sheet_lines.specs.declared.results.SheetResult.{SheetResult}
 use Rattle.mf_sheet_lines.specs.declared.results.SheetResult.TheVariants.{Refused}
-use Rattle.mf_sheet.specs.Runs.{NoneIsF20, Steps}
+use Rattle.mf_sheet.specs.Runs.{NoResultIsF20, AnswersEach}
 use Rattle.mf_sheet.specs.Ends.{SheetStreams, sheet_text, EndsWhole, EndsBefore, CutsRecord}
 
 abbrev pub Rows : Type 0
 Rows = List (List (List ℕ))
 
-Steps-append : {S : Type 0} (step : S → List (List ℕ) → SheetResult → S → Type 0) (old mid new : S) (rows : Rows)
-    (results : List SheetResult) (more : Rows) (others : List SheetResult) → Steps step old rows results mid
-    → Steps step mid more others new → Steps step old (rows ++ more) (results ++ others) new
-Steps-append step old mid new [] [] more others p q = subst (λ s. Steps step s more others new) p q
-Steps-append step old mid new [] (r ∷ rs) more others p q = absurd p
-Steps-append step old mid new (f ∷ rows) [] more others p q = absurd p
-Steps-append step old mid new (f ∷ rows) (r ∷ rs) more others p q =
-    (p.0, p.1, Steps-append step p.0 mid new rows rs more others p.2 q)
+AnswersEach-append : {S : Type 0} (step : S → List (List ℕ) → SheetResult → S → Type 0) (old mid new : S) (rows : Rows)
+    (results : List SheetResult) (more : Rows) (others : List SheetResult) → AnswersEach step old rows results mid
+    → AnswersEach step mid more others new → AnswersEach step old (rows ++ more) (results ++ others) new
+AnswersEach-append step old mid new [] [] more others p q = subst (λ s. AnswersEach step s more others new) p q
+AnswersEach-append step old mid new [] (r ∷ rs) more others p q = absurd p
+AnswersEach-append step old mid new (f ∷ rows) [] more others p q = absurd p
+AnswersEach-append step old mid new (f ∷ rows) (r ∷ rs) more others p q =
+    (p.0, p.1, AnswersEach-append step p.0 mid new rows rs more others p.2 q)
 
-Steps-each : {S : Type 0} (step : S → List (List ℕ) → SheetResult → S → Type 0) (old new : S) (rows : Rows)
-    (results : List SheetResult) → Steps step old rows results new → length results ≡ length rows
-Steps-each step old new [] [] p = refl
-Steps-each step old new [] (r ∷ rs) p = absurd p
-Steps-each step old new (f ∷ rows) [] p = absurd p
-Steps-each step old new (f ∷ rows) (r ∷ rs) p = let e = Steps-each step p.0 new rows rs p.2 in omega (arith, e)
+AnswersEach-each : {S : Type 0} (step : S → List (List ℕ) → SheetResult → S → Type 0) (old new : S) (rows : Rows)
+    (results : List SheetResult) → AnswersEach step old rows results new → length results ≡ length rows
+AnswersEach-each step old new [] [] p = refl
+AnswersEach-each step old new [] (r ∷ rs) p = absurd p
+AnswersEach-each step old new (f ∷ rows) [] p = absurd p
+AnswersEach-each step old new (f ∷ rows) (r ∷ rs) p = let e = AnswersEach-each step p.0 new rows rs p.2
+    in omega (arith, e)
 
 -- of the records only those of the lines that were answered count
 records_front : (done rest : Rows) (results : List SheetResult) → length results ≡ length done
@@ -47,8 +48,8 @@ records_more (g ∷ done) f (s ∷ rs) r e =
     ap (λ text. record_text g s ++ text) (records_more done f rs r (omega (arith, e)))
     ∙ sym (append_assoc (record_text g s) (records_text done rs) (record_text f r))
 
-none_more : (results : List SheetResult) (r : SheetResult) → NoneIsF20 results → r ≢ Refused F20
-    → NoneIsF20 (results ++ r ∷ [])
+none_more : (results : List SheetResult) (r : SheetResult) → NoResultIsF20 results → r ≢ Refused F20
+    → NoResultIsF20 (results ++ r ∷ [])
 none_more [] r h n = (n, tt)
 none_more (s ∷ rs) r h n = (h.0, none_more rs r h.1 n)
 
@@ -56,10 +57,10 @@ none_more (s ∷ rs) r h n = (h.0, none_more rs r h.1 n)
 pub record Going {S : Type 0} (step : S → List (List ℕ) → SheetResult → S → Type 0) (old now : S) (done : Rows)
     (start after : Option (List ℕ)) (count : ℕ) : Type 0 where
   pub results : List SheetResult
-  pub ran : Steps step old done results now
+  pub ran : AnswersEach step old done results now
   pub written : Appends start after (records_text done results)
   pub counted : count ≡ length results
-  pub none : NoneIsF20 results
+  pub none : NoResultIsF20 results
 
 pub Going-start : {S : Type 0} (step : S → List (List ℕ) → SheetResult → S → Type 0) (old : S) (start : Option (List ℕ))
     → Going step old old [] start start 0
@@ -68,8 +69,8 @@ Going-start step old start = record { results = []; ran = refl; written = Append
 module _ {S : Type 0} (step : S → List (List ℕ) → SheetResult → S → Type 0) (old mid new : S) (done : Rows)
     (f : List (List ℕ)) (r : SheetResult) (start between after : Option (List ℕ)) (count : ℕ) where
   one_more : Going step old mid done start between count → step mid f r new → (results : List SheetResult)
-      → Steps step old done results mid → Steps step old (done ++ f ∷ []) (results ++ r ∷ []) new
-  one_more going s results ran = Steps-append step old mid new done results (f ∷ []) (r ∷ []) ran (new, s, refl)
+      → AnswersEach step old done results mid → AnswersEach step old (done ++ f ∷ []) (results ++ r ∷ []) new
+  one_more going s results ran = AnswersEach-append step old mid new done results (f ∷ []) (r ∷ []) ran (new, s, refl)
 
   pub Going-more : Going step old mid done start between count → step mid f r new → Appends between after
       (record_text f r) → r ≢ Refused F20 → Going step old new (done ++ f ∷ []) start after (count + 1)
@@ -77,7 +78,7 @@ module _ {S : Type 0} (step : S → List (List ℕ) → SheetResult → S → Ty
     results = going.results ++ r ∷ [];
     ran = one_more going s going.results going.ran;
     written = subst (Appends start after)
-        (sym (records_more done f going.results r (Steps-each step old mid done going.results going.ran)))
+        (sym (records_more done f going.results r (AnswersEach-each step old mid done going.results going.ran)))
         (Appends-trans start between after _ _ going.written w);
     counted = omega (arith, going.counted, length-append going.results (r ∷ []));
     none = none_more going.results r going.none n;
@@ -103,7 +104,7 @@ pub count_below : {S : Type 0} (step : S → List (List ℕ) → SheetResult →
     (rows done more : Rows) (f : List (List ℕ)) (start after : Option (List ℕ)) (count : ℕ) → rows ≡ done ++ f ∷ more
     → Going step old now done start after count → count < length rows
 count_below step old now rows done more f start after count e going =
-    let each = Steps-each step old now done going.results going.ran in
+    let each = AnswersEach-each step old now done going.results going.ran in
     let long : length rows ≡ length (done ++ f ∷ more) = ap length e in
     omega (arith, going.counted, each, long, length-append done (f ∷ more))
 
@@ -119,9 +120,9 @@ sheet_written done rest rows results before start after among each first then =
 module _ {S : Type 0} (step : S → List (List ℕ) → SheetResult → S → Type 0) (old : S) (streams : SheetStreams)
     (done : Rows) (start : Option (List ℕ)) (count : ℕ) (first : Appends streams.sink.before start heading) where
   pub ends_whole : (new : S) → streams.rows ≡ done → streams.sink.faults_after ≡ streams.sink.faults_before
-      → Going step old new done start streams.sink.after count → EndsWhole (Steps step) old new streams
+      → Going step old new done start streams.sink.after count → EndsWhole (AnswersEach step) old new streams
   ends_whole new among sound going =
-      let each = Steps-each step old new done going.results going.ran in
+      let each = AnswersEach-each step old new done going.results going.ran in
       let all : streams.rows ≡ done ++ [] = among ∙ sym (append-nil done) in
       record {
         done = done;
@@ -137,9 +138,9 @@ module _ {S : Type 0} (step : S → List (List ℕ) → SheetResult → S → Ty
       }
 
   pub ends_before : (new : S) (f : List (List ℕ)) (rest : Rows) → streams.rows ≡ done ++ f ∷ rest
-      → Going step old new done start streams.sink.after count → EndsBefore (Steps step) old new streams count
+      → Going step old new done start streams.sink.after count → EndsBefore (AnswersEach step) old new streams count
   ends_before new f rest among going =
-      let each = Steps-each step old new done going.results going.ran in
+      let each = AnswersEach-each step old new done going.results going.ran in
       record {
         done = done;
         fields = f;
@@ -158,11 +159,11 @@ module _ {S : Type 0} (step : S → List (List ℕ) → SheetResult → S → Ty
       (among : streams.rows ≡ done ++ f ∷ rest) (s : step mid f r new) where
     pub ends_in_F20 : streams.sink.faults_after ≡ streams.sink.faults_before → r ≡ Refused F20
         → Appends between streams.sink.after (record_text f r) → Going step old mid done start between count
-        → EndsWhole (Steps step) old new streams
+        → EndsWhole (AnswersEach step) old new streams
     ends_in_F20 sound is w going =
-        let before = Steps-each step old mid done going.results going.ran in
-        let ran = Steps-append step old mid new done going.results (f ∷ []) (r ∷ []) going.ran (new, s, refl) in
-        let each = Steps-each step old new (done ++ f ∷ []) (going.results ++ r ∷ []) ran in
+        let before = AnswersEach-each step old mid done going.results going.ran in
+        let ran = AnswersEach-append step old mid new done going.results (f ∷ []) (r ∷ []) going.ran (new, s, refl) in
+        let each = AnswersEach-each step old new (done ++ f ∷ []) (going.results ++ r ∷ []) ran in
         let all : streams.rows ≡ (done ++ f ∷ []) ++ rest = among ∙ sym (append_assoc done (f ∷ []) rest) in
         record {
           done = done ++ f ∷ [];
@@ -180,9 +181,10 @@ module _ {S : Type 0} (step : S → List (List ℕ) → SheetResult → S → Ty
         }
 
     pub cuts_record : (part : ℕ) → part < length (record_text f r) → Appends between streams.sink.after (take part
-        (record_text f r)) → Going step old mid done start between count → CutsRecord (Steps step) old new streams count
+        (record_text f r)) → Going step old mid done start between count
+        → CutsRecord (AnswersEach step) old new streams count
     cuts_record part short w going =
-        let each = Steps-each step old mid done going.results going.ran in
+        let each = AnswersEach-each step old mid done going.results going.ran in
         record {
           done = done;
           fields = f;
@@ -191,7 +193,7 @@ module _ {S : Type 0} (step : S → List (List ℕ) → SheetResult → S → Ty
           results = going.results;
           result = r;
           each = each;
-          ran = Steps-append step old mid new done going.results (f ∷ []) (r ∷ []) going.ran (new, s, refl);
+          ran = AnswersEach-append step old mid new done going.results (f ∷ []) (r ∷ []) going.ran (new, s, refl);
           without_F20 = going.none;
           part = part;
           short = short;

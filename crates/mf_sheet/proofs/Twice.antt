@@ -9,15 +9,15 @@ use Rattle.mf_model.specs.Desk.{outcome, reply, change_in}
 use Rattle.mf_model.specs.Run.{Line, answers, last, next, NoneGivenUp}
 use Rattle.mf_model.specs.Answering.{line_answered, all_answered}
 use Rattle.mf_model.specs.declared.store.InstitutionStore.{Ghosts}
-use Rattle.mf_sheet_lines.specs.Lines.{line_of}
+use Rattle.mf_sheet_lines.specs.Lines.{sheet_line_of}
 use Rattle.mf_sheet_lines.specs.declared.line.SheetLine.{SheetLine}
 use Rattle.mf_sheet_lines.specs.declared.line.SheetLine.TheVariants.{Bad, Repay}
 use Rattle.mf_sheet_lines.specs.declared.line.SheetRepayment.{SheetRepayment}
 use Rattle.mf_sheet_lines.specs.declared.results.SheetResult.{SheetResult}
 use Rattle.mf_sheet_lines.specs.declared.results.SheetResult.TheVariants.{Entered, Repeated, Refused}
-use Rattle.mf_sheet.specs.Lines.{call_of, result_of}
-use Rattle.mf_sheet.specs.Runs.{NoneIsF20, RunsOn, RunsRows}
-use Rattle.mf_sheet.specs.Ends.{SheetStreams, AreAll, EndsWhole}
+use Rattle.mf_sheet.specs.Lines.{call_of_line, result_of}
+use Rattle.mf_sheet.specs.Runs.{NoResultIsF20, RunsOn, RunsRows}
+use Rattle.mf_sheet.specs.Ends.{SheetStreams, AreAllResults, EndsWhole}
 use Rattle.mf_sheet.specs.Again.{sheet_lines, results_on, after_sheet, IsToldAgain, AreToldAgain}
 use Rattle.mf_sheet.proofs.Judging.{judged, Entering, entered_change, judged_is, unless_entered, entered_so}
 use Rattle.mf_sheet.proofs.Rows.{Rows}
@@ -25,10 +25,10 @@ use Rattle.mf_sheet.proofs.Again.{told_alike, told_thrice, never_entered, repeat
 
 -- what a line is told, and what becomes of the institution
 abbrev told_on : Caller → SheetLine → Institution → SheetResult
-told_on c line i = result_of (reply (call_of c line) i)
+told_on c line i = result_of (reply (call_of_line c line) i)
 
 abbrev next_on : Caller → SheetLine → Institution → Institution
-next_on c line i = next (line_answered (call_of c line)) i
+next_on c line i = next (line_answered (call_of_line c line)) i
 
 entered_or_not : (t : SheetResult) → (t ≡ Entered) ⊎ (t ≢ Entered)
 entered_or_not Entered = inl refl
@@ -41,7 +41,7 @@ nothing_becomes c (Repay r) i n =
     ap (λ (o : Option Change). after_maybe o i) (unless_entered c r i (λ e. n (judged_is c r i ∙ e)))
 
 becomes : (c : Caller) (r : SheetRepayment) (i : Institution) (w : Entering c r i)
-    → change_in (outcome (call_of c (Repay r)) i) ≡ Some (entered_change c r i w) → next_on c (Repay r) i
+    → change_in (outcome (call_of_line c (Repay r)) i) ≡ Some (entered_change c r i w) → next_on c (Repay r) i
     ≡ after (entered_change c r i w) i
 becomes c r i w e = ap (λ (o : Option Change). after_maybe o i) e
 
@@ -88,19 +88,19 @@ told_after_all : (c : Caller) (line : SheetLine) (d : Caller) (rows : Rows) (t :
     → IsToldAgain t (told_on c line i) → IsToldAgain t (told_on c line (after_sheet d rows i))
 told_after_all c line d [] t i h = h
 told_after_all c line d (f ∷ rows) t i h =
-    told_after_all c line d rows t (next_on d (line_of f) i) (told_thrice t (told_on c line i) _ h
-    (told_after_one c line d (line_of f) i (never_entered t (told_on c line i) h)))
+    told_after_all c line d rows t (next_on d (sheet_line_of f) i) (told_thrice t (told_on c line i) _ h
+    (told_after_one c line d (sheet_line_of f) i (never_entered t (told_on c line i) h)))
 
 -- what the lines are told, each at the same institution
 abbrev all_told : Caller → Rows → Institution → List SheetResult
-all_told c rows i = map (λ f. told_on c (line_of f) i) rows
+all_told c rows i = map (λ f. told_on c (sheet_line_of f) i) rows
 
 told_in_the_end : (c : Caller) (rows : Rows) (i : Institution) → AreToldAgain (results_on c rows i)
     (all_told c rows (after_sheet c rows i))
 told_in_the_end c [] i = tt
 told_in_the_end c (f ∷ rows) i =
-    let j : Institution = next_on c (line_of f) i in (
-      told_after_all c (line_of f) c rows (told_on c (line_of f) i) j (told_at_once c (line_of f) i),
+    let j : Institution = next_on c (sheet_line_of f) i in (
+      told_after_all c (sheet_line_of f) c rows (told_on c (sheet_line_of f) i) j (told_at_once c (sheet_line_of f) i),
       told_in_the_end c rows j,
     )
 
@@ -109,11 +109,11 @@ stays_so : (c : Caller) (rows : Rows) (results : List SheetResult) (j : Institut
 stays_so c [] results j h = (refl, refl)
 stays_so c (f ∷ rows) [] j h = absurd h
 stays_so c (f ∷ rows) (t ∷ results) j h =
-    let same : next_on c (line_of f) j ≡ j =
-    nothing_becomes c (line_of f) j (never_entered t (told_on c (line_of f) j) h.0) in
+    let same : next_on c (sheet_line_of f) j ≡ j =
+    nothing_becomes c (sheet_line_of f) j (never_entered t (told_on c (sheet_line_of f) j) h.0) in
     let rest = stays_so c rows results j h.1 in (
       ap (after_sheet c rows) same ∙ rest.0,
-      ap (λ ts. told_on c (line_of f) j ∷ ts) (ap (results_on c rows) same
+      ap (λ ts. told_on c (sheet_line_of f) j ∷ ts) (ap (results_on c rows) same
           ∙ rest.1),
     )
 
@@ -135,11 +135,11 @@ all_were_answered (l ∷ ls) h = ap (λ g. record { call = l.call; given_up = g 
 
 module _ {S : Type 0} (store : Ghosts S) (c : Caller) where
   its_lines : (i : Institution) (rows : Rows) (old new : S) (results : List SheetResult)
-      (o : RunsOn store c i rows old results new) → NoneIsF20 results → o.run ≡ sheet_lines c rows
+      (o : RunsOn store c i rows old results new) → NoResultIsF20 results → o.run ≡ sheet_lines c rows
   its_lines i rows old new results o none = all_were_answered o.run (o.with_memory none) ∙ ap all_answered o.calls
 
   pub ran_so : (i : Institution) (rows : Rows) (old new : S) (results : List SheetResult) → RunsOn store c i rows old
-      results new → NoneIsF20 results → store.stands new (after_sheet c rows i) × (results ≡ results_on c rows i)
+      results new → NoResultIsF20 results → store.stands new (after_sheet c rows i) × (results ≡ results_on c rows i)
   ran_so i rows old new results o none =
       let lines = its_lines i rows old new results o none in (
         subst (λ ls. store.stands new (last ls i)) lines o.follows,
@@ -148,16 +148,16 @@ module _ {S : Type 0} (store : Ghosts S) (c : Caller) where
       )
 
   -- where no result is F20, all lines were run
-  all_done : (rest : Rows) (results : List SheetResult) → AreAll rest results → NoneIsF20 results → rest ≡ []
+  all_done : (rest : Rows) (results : List SheetResult) → AreAllResults rest results → NoResultIsF20 results → rest ≡ []
   all_done rest results (inl a) none = a.0
-  all_done rest results (inr e) none = absurd (last_is (e.0) (subst NoneIsF20 e.1 none))
+  all_done rest results (inr e) none = absurd (last_is (e.0) (subst NoResultIsF20 e.1 none))
     where
-      last_is : (front : List SheetResult) → NoneIsF20 (front ++ Refused F20 ∷ []) → ⊥
+      last_is : (front : List SheetResult) → NoResultIsF20 (front ++ Refused F20 ∷ []) → ⊥
       last_is [] n = n.0 refl
       last_is (t ∷ front) n = last_is front n.1
 
   whole_run : (old new : S) (streams : SheetStreams) (e : EndsWhole (RunsRows store c) old new streams)
-      → NoneIsF20 e.results → RunsRows store c old streams.rows e.results new
+      → NoResultIsF20 e.results → RunsRows store c old streams.rows e.results new
   whole_run old new streams e none =
       let rest : e.rest ≡ [] = all_done e.rest e.results e.all none in
       subst (λ rows. RunsRows store c old rows e.results new) (sym (e.among ∙ ap (λ more. e.done ++ more) rest
@@ -165,7 +165,7 @@ module _ {S : Type 0} (store : Ghosts S) (c : Caller) where
 
   pub acts_once : (old mid new : S) (first second : SheetStreams) → second.rows ≡ first.rows
       → (one : EndsWhole (RunsRows store c) old mid first) (two : EndsWhole (RunsRows store c) mid new second)
-      → NoneIsF20 one.results → NoneIsF20 two.results → store.clean new → (i : Institution) → store.stands old i
+      → NoResultIsF20 one.results → NoResultIsF20 two.results → store.clean new → (i : Institution) → store.stands old i
       → store.stands new (after_sheet c first.rows i) × AreToldAgain one.results two.results
   acts_once old mid new first second same one two none none_again good i h =
       let ran = whole_run old mid first one none in

@@ -9,7 +9,7 @@ use Rattle.mf_wire_lines.specs.Streams.{Stream}
 use Rattle.mf_sheet_lines.specs.Results.{heading, record_text, records_text}
 use Rattle.mf_sheet_lines.specs.declared.results.SheetResult.{SheetResult}
 use Rattle.mf_sheet_lines.specs.declared.results.SheetResult.TheVariants.{Refused}
-use Rattle.mf_sheet.specs.Runs.{NoneIsF20}
+use Rattle.mf_sheet.specs.Runs.{NoResultIsF20}
 
 -- the fields of a sheet's lines, and the sink that its results are written to
 pub record SheetStreams : Type 0 where
@@ -18,11 +18,11 @@ pub record SheetStreams : Type 0 where
 
 -- the last of the results is the first F20
 abbrev pub EndInF20 : List SheetResult → Type 0
-EndInF20 results = (front : List SheetResult) × (results ≡ front ++ Refused F20 ∷ []) × NoneIsF20 front
+EndInF20 results = (front : List SheetResult) × (results ≡ front ++ Refused F20 ∷ []) × NoResultIsF20 front
 
 -- the results of all lines, none of them F20, or those up to the first F20
-abbrev pub AreAll : List (List (List ℕ)) → List SheetResult → Type 0
-AreAll rest results = ((rest ≡ []) × NoneIsF20 results) ⊎ EndInF20 results
+abbrev pub AreAllResults : List (List (List ℕ)) → List SheetResult → Type 0
+AreAllResults rest results = ((rest ≡ []) × NoResultIsF20 results) ⊎ EndInF20 results
 
 -- the sheet of these results: the heading, and a record for each
 abbrev pub sheet_text : List (List (List ℕ)) → List SheetResult → List ℕ
@@ -38,7 +38,7 @@ module _ {S : Type 0} (runs : S → List (List (List ℕ)) → List SheetResult 
     pub results : List SheetResult
     pub each : length results ≡ length done
     pub ran : runs old done results new
-    pub all : AreAll rest results
+    pub all : AreAllResults rest results
     pub written : Appends streams.sink.before streams.sink.after (sheet_text streams.rows results)
     pub sink : streams.sink.faults_after ≡ streams.sink.faults_before
 
@@ -57,7 +57,7 @@ module _ {S : Type 0} (runs : S → List (List (List ℕ)) → List SheetResult 
     pub results : List SheetResult
     pub each : length results ≡ length done
     pub ran : runs old done results new
-    pub without_F20 : NoneIsF20 results
+    pub without_F20 : NoResultIsF20 results
     pub written : Appends streams.sink.before streams.sink.after (sheet_text streams.rows results)
     pub counted : count ≡ length results
 
@@ -79,7 +79,7 @@ module _ {S : Type 0} (runs : S → List (List (List ℕ)) → List SheetResult 
     pub result : SheetResult
     pub each : length results ≡ length done
     pub ran : runs old (done ++ fields ∷ []) (results ++ result ∷ []) new
-    pub without_F20 : NoneIsF20 results
+    pub without_F20 : NoResultIsF20 results
     pub part : ℕ
     pub short : part < length (record_text fields result)
     pub written : Appends streams.sink.before streams.sink.after (sheet_text streams.rows results

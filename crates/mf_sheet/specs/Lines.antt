@@ -14,30 +14,30 @@ use Rattle.mf_sheet_lines.specs.declared.line.SheetLine.{SheetLine}
 use Rattle.mf_sheet_lines.specs.declared.line.SheetLine.TheVariants.{Repay, Bad}
 use Rattle.mf_sheet_lines.specs.declared.results.SheetResult.{SheetResult}
 use Rattle.mf_sheet_lines.specs.declared.results.SheetResult.TheVariants.{Entered, Repeated, Refused}
-use Rattle.mf_sheet_lines.specs.Lines.{line_of}
+use Rattle.mf_sheet_lines.specs.Lines.{sheet_line_of}
 
 -- a line asks for a repayment; a bad one reads as no request
-abbrev pub asked_by : SheetLine → Request
-asked_by Bad = request.Unreadable Malformed
-asked_by (Repay r) =
+abbrev pub request_of_line : SheetLine → Request
+request_of_line Bad = request.Unreadable Malformed
+request_of_line (Repay r) =
     request.Loan r.loan (asks.Repay (record { amount = r.amount; day = r.day; receipt = Some r.receipt }))
 
 -- the call of a line that somebody sends
-abbrev pub call_of : Caller → SheetLine → Call
-call_of c line = record { caller = Some c; request = asked_by line }
+abbrev pub call_of_line : Caller → SheetLine → Call
+call_of_line c line = record { caller = Some c; request = request_of_line line }
 
 -- the call of a line of these fields
 abbrev pub call_by : Caller → List (List ℕ) → Call
-call_by c fields = call_of c (line_of fields)
+call_by c fields = call_of_line c (sheet_line_of fields)
 
 -- the result of a success: a receipt that was known is repeated
-abbrev pub told_by : Reply → SheetResult
-told_by (reply.Loan loan (told.Repeated seq)) = Repeated
-told_by _ = Entered
+abbrev pub result_of_success : Reply → SheetResult
+result_of_success (reply.Loan loan (told.Repeated seq)) = Repeated
+result_of_success _ = Entered
 
 -- the result of a reply
 abbrev pub result_of : Result Reply Fault → SheetResult
-result_of (Ok r) = told_by r
+result_of (Ok r) = result_of_success r
 result_of (Err fault) = Refused fault
 
 -- a result that was made of a success, or the refusal

@@ -14,8 +14,8 @@ use Rattle.mf_sheet_lines.specs.declared.results.SheetResult.TheVariants.{Refuse
 use Rattle.mf_sheet.specs.Lines.{call_by, result_of}
 
 -- none of the results is F20
-abbrev pub NoneIsF20 : List SheetResult → Type 0
-NoneIsF20 results = AllByRecursion (λ (r : SheetResult). r ≢ Refused F20) results
+abbrev pub NoResultIsF20 : List SheetResult → Type 0
+NoResultIsF20 results = AllByRecursion (λ (r : SheetResult). r ≢ Refused F20) results
 
 -- a line was given up only where its result is F20
 abbrev pub OnlyF20GivesUp : List Line → List SheetResult → Type 0
@@ -39,7 +39,7 @@ module _ {S : Type 0} (store : Ghosts S) where
     pub replied : results ≡ map result_of (answers run i)
     pub follows : store.stands new (last run i)
     pub given_up : OnlyF20GivesUp run results
-    pub with_memory : NoneIsF20 results → NoneGivenUp run
+    pub with_memory : NoResultIsF20 results → NoneGivenUp run
     pub stop : (is : List Institution) → store.leaves old is → store.leaves new (left_after run i is)
 
   -- The same of each institution that the store stood for. That the disk returned what was written holds only as long
@@ -50,10 +50,10 @@ module _ {S : Type 0} (store : Ghosts S) where
     pub ran : store.clean new → (i : Institution) → store.stands old i → RunsOn c i rows old results new
 
 -- lines answered one after another, whatever answers each
-abbrev pub Steps : {S : Type 0} → (S → List (List ℕ) → SheetResult → S → Type 0) → S → List (List (List ℕ))
+abbrev pub AnswersEach : {S : Type 0} → (S → List (List ℕ) → SheetResult → S → Type 0) → S → List (List (List ℕ))
     → List SheetResult → S → Type 0
-Steps step old [] [] new = new ≡ old
-Steps {S = S} step old (fields ∷ rows) (result ∷ results) new =
-    (mid : S) × step old fields result mid × Steps step mid rows results new
-Steps step old [] (result ∷ results) new = ⊥
-Steps step old (fields ∷ rows) [] new = ⊥
+AnswersEach step old [] [] new = new ≡ old
+AnswersEach {S = S} step old (fields ∷ rows) (result ∷ results) new =
+    (mid : S) × step old fields result mid × AnswersEach step mid rows results new
+AnswersEach step old [] (result ∷ results) new = ⊥
+AnswersEach step old (fields ∷ rows) [] new = ⊥

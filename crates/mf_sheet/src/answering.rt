@@ -4,7 +4,7 @@ ghost use Rattle.std.specs.Prelude.{◌≡◌, IfOk, IfErr};
 ghost use Rattle.mf_model.specs.Sound.{IsInRange};
 ghost use Rattle.mf_desk.specs.Runs.{Calls};
 ghost use Rattle.mf_sheet_lines.specs.Lines.{IsLineInRange};
-ghost use Rattle.mf_sheet.specs.Lines.{asked_by, told_by, call_of, result_of, outcome_of};
+ghost use Rattle.mf_sheet.specs.Lines.{request_of_line, result_of_success, call_of_line, result_of, outcome_of};
 
 use mf_base::Fault;
 use mf_desk::answer;
@@ -15,7 +15,7 @@ use std::alloc::Global;
 
 /// What a line asks of the desk. A bad line reads as no request.
 fn request_of(line: SheetLine) -> Request
-    ensures value { result ≡ asked_by line }
+    ensures value { result ≡ request_of_line line }
     ensures in_range { IsLineInRange line → IsInRange result }
 {
     match line {
@@ -33,7 +33,7 @@ fn request_of(line: SheetLine) -> Request
 
 /// The result that a success is reported as.
 fn told(reply: &Reply) -> SheetResult
-    ensures { result ≡ told_by reply.now }
+    ensures { result ≡ result_of_success reply.now }
 {
     match reply {
         Reply::Loan {
@@ -45,14 +45,14 @@ fn told(reply: &Reply) -> SheetResult
 }
 
 /// The result of a line, or its refusal.
-fn answered<S: InstitutionStore>(
+fn result_of_line<S: InstitutionStore>(
     alloc: Global,
     store: &mut S,
     caller: Caller,
     line: SheetLine,
 ) -> Result<SheetResult, Fault>
     requires { IsLineInRange line }
-    ensures { Calls S.InstitutionStore (λ r. outcome_of result ≡ result_of r) (call_of caller line) store.old
+    ensures { Calls S.InstitutionStore (λ r. outcome_of result ≡ result_of r) (call_of_line caller line) store.old
         store.new }
 {
     let request = request_of(line);
@@ -62,7 +62,7 @@ fn answered<S: InstitutionStore>(
         caller,
         request,
         |reply: &Reply| -> Result<SheetResult, Fault>
-            ensures ok { IfOk result (λ s. s ≡ told_by reply.now) }
+            ensures ok { IfOk result (λ s. s ≡ result_of_success reply.now) }
             ensures err { IfErr result (λ f. f ≡ Fault.F20) }
         { Ok(told(reply)) },
     )
@@ -86,7 +86,7 @@ pub fn answer_line<S: InstitutionStore>(
     line: SheetLine,
 ) -> SheetResult
     requires { IsLineInRange line }
-    ensures { Calls S.InstitutionStore (λ r. result ≡ result_of r) (call_of caller line) store.old store.new }
+    ensures { Calls S.InstitutionStore (λ r. result ≡ result_of r) (call_of_line caller line) store.old store.new }
 {
-    outcome(answered(alloc, store, caller, line))
+    outcome(result_of_line(alloc, store, caller, line))
 }

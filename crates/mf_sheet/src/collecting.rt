@@ -4,8 +4,8 @@ ghost use Rattle.std.specs.Prelude.{◌≡◌, ◌≢◌, ◌<◌, ◌≤◌, �
 ghost use Rattle.std.specs.Io.KnownBytes.{Appends};
 ghost use Rattle.mf_base.specs.declared.fault.Cause.TheVariants as cause;
 ghost use Rattle.mf_sheet_lines.specs.Results.{heading as heading_text, record_text};
-ghost use Rattle.mf_sheet_lines.specs.Sheets.{longest, rows_of};
-ghost use Rattle.mf_sheet.specs.Runs.{AnswersFields, RunsRows, Steps};
+ghost use Rattle.mf_sheet_lines.specs.Sheets.{longest, sheet_rows_of};
+ghost use Rattle.mf_sheet.specs.Runs.{AnswersFields, RunsRows, AnswersEach};
 ghost use Rattle.mf_wire_lines.specs.Streams.{stream_of};
 ghost use Rattle.mf_sheet.specs.Ends.{Ends};
 
@@ -41,7 +41,7 @@ fn collect_row<S: InstitutionStore, W: Sink>(
         return Err(Cause::Memory);
     };
     let outcome = answer_line(alloc, store, *caller, line);
-    let record = begun.ended(outcome);
+    let record = begun.end_with(outcome);
     match put(sink, record.as_slice()) {
         Ok(()) => Ok(outcome),
         Err(WriteFault) => Err(Cause::Write),
@@ -68,7 +68,7 @@ fn collect_rows<S: InstitutionStore, W: Sink>(
     sink: &mut W,
 ) -> Result<(), StreamFault>
     ensures ends { (before : Option (List ℕ)) → Appends before (W.written sink.old) heading_text →
-        Ends (Steps (AnswersFields S.InstitutionStore caller.now)) store.old store.new (record {
+        Ends (AnswersEach (AnswersFields S.InstitutionStore caller.now)) store.old store.new (record {
           rows = rows.items;
           sink = record (stream_of W.written W.faults sink.old sink.new) { before = before };
         }) result }
@@ -103,7 +103,7 @@ pub fn collect<S: InstitutionStore, W: Sink>(
 ) -> Result<(), StreamFault>
     requires { length bytes.now ≤ longest }
     ensures ends { Ends (RunsRows S.InstitutionStore caller) store.old store.new (record {
-      rows = rows_of bytes.now;
+      rows = sheet_rows_of bytes.now;
       sink = stream_of W.written W.faults sink.old sink.new;
     }) result }
 {

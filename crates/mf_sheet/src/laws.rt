@@ -10,8 +10,8 @@ ghost use Rattle.mf_model.specs.Sound.{AreInRange, IsInRange, IsSound};
 ghost use Rattle.mf_model.specs.declared.reply.LoanReply.TheVariants as told;
 ghost use Rattle.mf_model.specs.declared.reply.Reply.TheVariants as replied;
 ghost use Rattle.mf_sheet_lines.specs.declared.line.SheetRepayment.{SheetRepayment};
-ghost use Rattle.mf_sheet.specs.Lines.{asked_by, call_of, result_of};
-ghost use Rattle.mf_sheet.specs.Runs.{NoneIsF20, RunsRows};
+ghost use Rattle.mf_sheet.specs.Lines.{request_of_line, call_of_line, result_of};
+ghost use Rattle.mf_sheet.specs.Runs.{NoResultIsF20, RunsRows};
 ghost use Rattle.mf_sheet.specs.Ends.{SheetStreams, EndsWhole};
 ghost use Rattle.mf_sheet.specs.Again.{AreToldAgain, IsTaken, after_sheet, results_on};
 
@@ -22,18 +22,19 @@ use mf_sheet_lines::{SheetLine, SheetResult};
 /// A bad line is F1 whoever sends it; a repayment that nobody known sends is F2.
 pub fn refused_by_sender()
     ensures bad { (c : Caller) (i : Institution) →
-        result_of (reply (call_of c SheetLine.Bad) i) ≡ SheetResult.Refused Fault.F1 }
+        result_of (reply (call_of_line c SheetLine.Bad) i) ≡ SheetResult.Refused Fault.F1 }
     ensures unknown { (c : Caller) (i : Institution) (r : SheetRepayment) → staff_at i c ≡ None →
-        result_of (reply (call_of c (SheetLine.Repay r)) i) ≡ SheetResult.Refused Fault.F2 }
+        result_of (reply (call_of_line c (SheetLine.Repay r)) i) ≡ SheetResult.Refused Fault.F2 }
 {}
 
 /// A repayment with a receipt that was accepted once, as a line of a sheet or as a request, is told the same entry's
 /// number as a repeat when the same caller sends it again, and changes nothing, whatever lines lie between.
 pub fn accepted_once()
     ensures { (c : Caller) (r : SheetRepayment) (seq : ℕ) (i : Institution) (lines : List Line) →
-        IsSound i → IsInRange (asked_by (SheetLine.Repay r)) → AreInRange lines →
-        IsTaken r.loan seq (reply (call_of c (SheetLine.Repay r)) i) →
-        outcome (call_of c (SheetLine.Repay r)) (last lines (next (line_answered (call_of c (SheetLine.Repay r))) i))
+        IsSound i → IsInRange (request_of_line (SheetLine.Repay r)) → AreInRange lines →
+        IsTaken r.loan seq (reply (call_of_line c (SheetLine.Repay r)) i) →
+        outcome (call_of_line c (SheetLine.Repay r))
+        (last lines (next (line_answered (call_of_line c (SheetLine.Repay r))) i))
         ≡ Ok (replied.Loan r.loan (told.Repeated seq), None) }
 {}
 
@@ -52,6 +53,6 @@ pub fn collected_twice<S: InstitutionStore>()
     ensures { (c : Caller) (old mid new : S) (first second : SheetStreams) → second.rows ≡ first.rows →
         (one : EndsWhole (RunsRows S.InstitutionStore c) old mid first) →
         (two : EndsWhole (RunsRows S.InstitutionStore c) mid new second) →
-        NoneIsF20 one.results → NoneIsF20 two.results → S.clean new → (i : Institution) → S.stands old i →
+        NoResultIsF20 one.results → NoResultIsF20 two.results → S.clean new → (i : Institution) → S.stands old i →
         S.stands new (after_sheet c first.rows i) × AreToldAgain one.results two.results }
 {}

@@ -2,7 +2,7 @@
 use Rattle.std.proofs.Common.{◌≡◌, ◌<◌, ℕ, zero, suc, List, [], ◌∷◌, length, Some, None, arith}
 use Rattle.std.proofs.lemmas.Option.{same_Some}
 use Rattle.csv.specs.Records.{field_at}
-use Rattle.mf_sheet_lines.specs.Lines.{columns_of}
+use Rattle.mf_sheet_lines.specs.Lines.{four_columns_of}
 
 -- each place below their number has a field
 pub is_there : (fields : List (List ℕ)) (place : ℕ) → None ≡ field_at fields place → place < length fields → ⊥
@@ -13,7 +13,7 @@ is_there (f ∷ fs) (suc place) missing below = is_there fs place missing (omega
 
 pub columns_are : (fields : List (List ℕ)) (a b c d : List ℕ) → length fields ≡ 4 → Some a ≡ field_at fields 0
     → Some b ≡ field_at fields 1 → Some c ≡ field_at fields 2 → Some d ≡ field_at fields 3
-    → Some (record { receipt = a; loan = b; date = c; amount = d }) ≡ columns_of fields
+    → Some (record { receipt = a; loan = b; date = c; amount = d }) ≡ four_columns_of fields
 unfolding field_at
 columns_are [] a b c d four e f g h = absurd (omega arith)
 columns_are (w ∷ []) a b c d four e f g h = absurd (omega arith)

@@ -13,8 +13,10 @@ use Rattle.mf_office.specs.Written.{zero_padded, number_written}
 use Rattle.mf_office.specs.declared.account.Account.{Account}
 use Rattle.mf_office.proofs.WrittenLemmas.{written_is}
 use Rattle.mf_sheet_lines.specs.declared.line.SheetRepayment.{SheetRepayment}
-use Rattle.mf_sheet_lines.specs.Fields.{without_blanks, receipt_of, day_written, cents_written, at_least_one, amount_of}
-use Rattle.mf_sheet_lines.specs.Lines.{Columns, columns_of, repayment_of, repayment_in, repay_or_bad, line_of}
+use Rattle.mf_sheet_lines.specs.Fields.{without_blanks, receipt_written, day_written, cents_written, at_least_one}
+use Rattle.mf_sheet_lines.specs.Fields.{amount_written}
+use Rattle.mf_sheet_lines.specs.Lines.{Columns, four_columns_of, repayment_of, repayment_in, repay_or_bad}
+use Rattle.mf_sheet_lines.specs.Lines.{sheet_line_of}
 use Rattle.mf_sheet_lines.specs.Lines.{IsRepaymentInRange, IsLineInRange}
 use Rattle.mf_sheet_lines.proofs.Amounts.{cents_range}
 use Rattle.mf_sheet_lines.proofs.Days.{day_range}
@@ -24,7 +26,7 @@ passes : {A : Type 0} (P : A → Type 0) (b : Bool) (a : A) → (b ≡ true → 
 passes P true a h = h refl
 passes P false a h = tt
 
-receipt_range : (text : List ℕ) → IfSome (receipt_of text) IsReceipt
+receipt_range : (text : List ℕ) → IfSome (receipt_written text) IsReceipt
 receipt_range text = passes IsReceipt (is_receipt text) text (λ h. h)
 
 written_range : (text_of : ℕ → List ℕ) (limit : ℕ) (text : List ℕ) → IfSome (number_written text_of limit text)
@@ -56,7 +58,7 @@ account_range text =
 abbrev IsAmount : ℕ → Type 0
 IsAmount amount = (1 ≤ amount) × (amount ≤ money_limit)
 
-amount_range : (text : List ℕ) → IfSome (amount_of text) IsAmount
+amount_range : (text : List ℕ) → IfSome (amount_written text) IsAmount
 amount_range text = step (cents_written text) (cents_range text)
   where
     step : (o : Option ℕ) → IfSome o (λ cents. cents ≤ money_limit) → IfSome (option_and_then at_least_one o) IsAmount
@@ -66,7 +68,7 @@ amount_range text = step (cents_written text) (cents_range text)
 repayment_range : (receipt loan date amount : List ℕ) → IfSome (repayment_of receipt loan date amount)
     IsRepaymentInRange
 repayment_range receipt loan date amount =
-    step (receipt_of receipt) (account_of loan) (day_written date) (amount_of amount) (receipt_range receipt)
+    step (receipt_written receipt) (account_of loan) (day_written date) (amount_written amount) (receipt_range receipt)
     (account_range loan) (day_range date) (amount_range amount)
   where
     step : (r : Option (List ℕ)) (l : Option Account) (d a : Option ℕ) → IfSome r IsReceipt → IfSome l IsAccount
@@ -81,8 +83,8 @@ repayment_range receipt loan date amount =
     step (Some x) (Some y) (Some z) (Some w) h k m n =
         record { receipt = h; loan = k; day = m; least = n.0; most = n.1 }
 
-pub line_in_range : (fields : List (List ℕ)) → IsLineInRange (line_of fields)
-line_in_range fields = among (columns_of fields)
+pub line_in_range : (fields : List (List ℕ)) → IsLineInRange (sheet_line_of fields)
+line_in_range fields = among (four_columns_of fields)
   where
     told : (o : Option SheetRepayment) → IfSome o IsRepaymentInRange → IsLineInRange (repay_or_bad o)
     told None h = tt

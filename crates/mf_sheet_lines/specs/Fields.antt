@@ -23,8 +23,8 @@ abbrev pub without_blanks : List ℕ → List ℕ
 without_blanks field = take (length (from_front field) - suffix_len is_blank (from_front field)) (from_front field)
 
 -- the receipt that a text is
-abbrev pub receipt_of : List ℕ → Option (List ℕ)
-receipt_of text = cond (is_receipt text) (Some text) None
+abbrev pub receipt_written : List ℕ → Option (List ℕ)
+receipt_written text = cond (is_receipt text) (Some text) None
 
 -- the date that the digits of YYYY-MM-DD write
 abbrev pub date_in : List ℕ → Date
@@ -73,5 +73,5 @@ abbrev pub at_least_one : ℕ → Option ℕ
 at_least_one cents = cond (nat_le 1 cents) (Some cents) None
 
 -- the amount that a text is
-abbrev pub amount_of : List ℕ → Option ℕ
-amount_of text = option_and_then at_least_one (cents_written text)
+abbrev pub amount_written : List ℕ → Option ℕ
+amount_written text = option_and_then at_least_one (cents_written text)

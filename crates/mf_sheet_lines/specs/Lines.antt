@@ -9,7 +9,7 @@ use Rattle.mf_office.specs.Texts.{account_of, IsAccount}
 use Rattle.mf_sheet_lines.specs.declared.line.SheetLine.{SheetLine}
 use Rattle.mf_sheet_lines.specs.declared.line.SheetLine.TheVariants.{Repay, Bad}
 use Rattle.mf_sheet_lines.specs.declared.line.SheetRepayment.{SheetRepayment}
-use Rattle.mf_sheet_lines.specs.Fields.{without_blanks, receipt_of, day_written, amount_of}
+use Rattle.mf_sheet_lines.specs.Fields.{without_blanks, receipt_written, day_written, amount_written}
 
 -- the fields of a line, by their columns
 pub record Columns : Type 0 where
@@ -19,17 +19,17 @@ pub record Columns : Type 0 where
   pub amount : List ℕ
 
 -- the fields of a record that has four
-abbrev pub columns_of : List (List ℕ) → Option Columns
-columns_of (receipt ∷ loan ∷ date ∷ amount ∷ []) =
+abbrev pub four_columns_of : List (List ℕ) → Option Columns
+four_columns_of (receipt ∷ loan ∷ date ∷ amount ∷ []) =
     Some (record { receipt = receipt; loan = loan; date = date; amount = amount })
-columns_of _ = None
+four_columns_of _ = None
 
 -- the repayment that four texts write
 abbrev pub repayment_of : List ℕ → List ℕ → List ℕ → List ℕ → Option SheetRepayment
 repayment_of receipt loan date amount =
     option_and_then (λ r. option_and_then (λ l. option_and_then (λ d. option_map
     (λ a. record { receipt = r; loan = l; day = d; amount = a })
-    (amount_of amount)) (day_written date)) (account_of loan)) (receipt_of receipt)
+    (amount_written amount)) (day_written date)) (account_of loan)) (receipt_written receipt)
 
 -- the repayment that four fields write; spaces and tabs round a field don't count
 abbrev pub repayment_in : Columns → Option SheetRepayment
@@ -42,8 +42,8 @@ repay_or_bad None = Bad
 repay_or_bad (Some repayment) = Repay repayment
 
 -- the line that a record's fields are
-abbrev pub line_of : List (List ℕ) → SheetLine
-line_of fields = repay_or_bad (option_and_then repayment_in (columns_of fields))
+abbrev pub sheet_line_of : List (List ℕ) → SheetLine
+sheet_line_of fields = repay_or_bad (option_and_then repayment_in (four_columns_of fields))
 
 -- the ranges of what a repayment says
 pub record IsRepaymentInRange (r : SheetRepayment) : Type 0 where
@@ -59,14 +59,15 @@ IsLineInRange Bad = Unit {0}
 IsLineInRange (Repay r) = IsRepaymentInRange r
 
 -- the field is this name, in any case of ASCII
-abbrev pub is_name : List ℕ → List ℕ → Bool
-is_name name field = str_eq_ignore_ascii_case (without_blanks field) name
+abbrev pub is_column_name : List ℕ → List ℕ → Bool
+is_column_name name field = str_eq_ignore_ascii_case (without_blanks field) name
 
 -- a record of the names of the columns
 abbrev pub are_names : Columns → Bool
-are_names c = is_name (codes "receipt") c.receipt && is_name (codes "loan") c.loan && is_name (codes "date") c.date
-    && is_name (codes "amount") c.amount
+are_names c = is_column_name (codes "receipt") c.receipt && is_column_name (codes "loan") c.loan
+    && is_column_name (codes "date") c.date
+    && is_column_name (codes "amount") c.amount
 
 -- the fields are the names of the columns
 abbrev pub names_columns : List (List ℕ) → Bool
-names_columns fields = option_map_or are_names (columns_of fields) false
+names_columns fields = option_map_or are_names (four_columns_of fields) false

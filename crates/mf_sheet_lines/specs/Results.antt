@@ -4,7 +4,7 @@ use Rattle.csv.specs.Writing.{default_writer, row_body, row_text}
 use Rattle.mf_wire_lines.specs.Replies.{fault_name}
 use Rattle.mf_sheet_lines.specs.declared.results.SheetResult.{SheetResult}
 use Rattle.mf_sheet_lines.specs.declared.results.SheetResult.TheVariants.{Entered, Repeated, Refused}
-use Rattle.mf_sheet_lines.specs.Sheets.{rows_of}
+use Rattle.mf_sheet_lines.specs.Sheets.{sheet_rows_of}
 
 -- what became of a line
 abbrev pub result_name : SheetResult → List ℕ
@@ -36,4 +36,4 @@ records_text (fields ∷ rows) (result ∷ results) = record_text fields result 
 
 -- the sheet of the results of a sheet's lines, of which some may be left out at the end
 abbrev pub result_text : List ℕ → List SheetResult → List ℕ
-result_text bytes results = heading ++ records_text (rows_of bytes) results
+result_text bytes results = heading ++ records_text (sheet_rows_of bytes) results

@@ -5,8 +5,9 @@ ghost use Rattle.std.specs.List.{prefix_len, suffix_len};
 ghost use Rattle.mf_account.specs.Receipts.{IsReceipt};
 ghost use Rattle.mf_base.specs.DayText.{last_entered_day};
 ghost use Rattle.mf_base.specs.Money.{money_limit};
-ghost use Rattle.mf_sheet_lines.specs.Fields.{is_blank as is_blank_byte, without_blanks as trimmed_field, receipt_of};
-ghost use Rattle.mf_sheet_lines.specs.Fields.{day_written, cents_written, amount_of};
+ghost use Rattle.mf_sheet_lines.specs.Fields.{is_blank as is_blank_byte, without_blanks as trimmed_field};
+ghost use Rattle.mf_sheet_lines.specs.Fields.{receipt_written};
+ghost use Rattle.mf_sheet_lines.specs.Fields.{day_written, cents_written, amount_written};
 
 use mf_account::is_receipt;
 use mf_base::{Day, parse_money};
@@ -37,7 +38,7 @@ fn blanks_at_end(text: &[u8]) -> usize
 }
 
 /// A field without the spaces and tabs round it.
-pub fn trimmed(field: &[u8]) -> &[u8]
+pub fn without_blanks(field: &[u8]) -> &[u8]
     ensures { result.now ≡ trimmed_field field.now }
 {
     let rest = &field[blanks_at_front(field)..];
@@ -46,7 +47,7 @@ pub fn trimmed(field: &[u8]) -> &[u8]
 
 /// The receipt that a text is: 1 to 40 printable characters of ASCII, no space among them.
 pub fn receipt(text: &[u8]) -> Option<&str>
-    ensures value { option_map (λ s. s.now) result ≡ receipt_of text.now }
+    ensures value { option_map (λ s. s.now) result ≡ receipt_written text.now }
     ensures in_range { IfSome result (λ s. IsReceipt s.now) }
 {
     if !is_receipt(text) {
@@ -75,7 +76,7 @@ fn cents(text: &[u8]) -> Option<u64>
 
 /// The amount that a text is, in cents: at least 1, and at most 10^12.
 pub fn amount(text: &[u8]) -> Option<u64>
-    ensures value { result ≡ amount_of text.now }
+    ensures value { result ≡ amount_written text.now }
     ensures in_range { IfSome result (λ amount. (1 ≤ amount) × (amount ≤ money_limit)) }
 {
     let cents = cents(text)?;

@@ -1,9 +1,10 @@
 //! Laws of sheets. Each function does nothing: its contract is the law.
 
 ghost use Rattle.std.specs.Prelude.{◌≡◌, [], ◌∷◌, ◌++◌, None, Some, codes};
-ghost use Rattle.mf_sheet_lines.specs.Fields.{amount_of, cents_written, day_written, receipt_of, without_blanks};
+ghost use Rattle.mf_sheet_lines.specs.Fields.{amount_written, cents_written, day_written, receipt_written};
+ghost use Rattle.mf_sheet_lines.specs.Fields.{without_blanks};
 ghost use Rattle.mf_sheet_lines.specs.Results.{record_text, result_text};
-ghost use Rattle.mf_sheet_lines.specs.Sheets.{lines_of, rows_of};
+ghost use Rattle.mf_sheet_lines.specs.Sheets.{lines_of, sheet_rows_of};
 
 use crate::line::SheetLine;
 use crate::results::SheetResult;
@@ -16,26 +17,29 @@ pub fn worked_fields()
     ensures no_amounts { (cents_written (codes "10000000000.01") ≡ None) × (cents_written (codes "1.") ≡ None)
         × (cents_written (codes ".5") ≡ None) × (cents_written (codes "1.234") ≡ None)
         × (cents_written (codes "-1") ≡ None) × (cents_written (codes "1,000") ≡ None) × (cents_written [] ≡ None) }
-    ensures nothing { (cents_written (codes "0") ≡ Some 0) × (amount_of (codes "0") ≡ None) }
+    ensures nothing { (cents_written (codes "0") ≡ Some 0) × (amount_written (codes "0") ≡ None) }
     ensures days { (day_written (codes "2024-02-29") ≡ Some 8825) × (day_written (codes "2023-02-29") ≡ None)
         × (day_written (codes "2024-2-29") ≡ None) × (day_written (codes "1999-12-31") ≡ None)
         × (day_written (codes "2100-01-01") ≡ None) }
-    ensures receipts { (receipt_of (codes "R-1") ≡ Some (codes "R-1")) × (receipt_of (codes "R 1") ≡ None)
-        × (receipt_of [] ≡ None) }
+    ensures receipts { (receipt_written (codes "R-1") ≡ Some (codes "R-1")) × (receipt_written (codes "R 1") ≡ None)
+        × (receipt_written [] ≡ None) }
     ensures blanks { without_blanks (codes " \tR 1\t ") ≡ codes "R 1" }
 {}
 
 /// Which lines a sheet has, and what they ask for. Day 8825 is 29 February 2024, day 8856 is 31 March.
 pub fn worked_sheets()
-    ensures empty { (rows_of [] ≡ []) × (rows_of (codes "receipt,loan,date,amount\n") ≡ [])
-        × (rows_of (codes " Receipt\t,LOAN, date ,Amount\r\n") ≡ []) }
-    ensures no_names { (rows_of (codes "loan,receipt,date,amount") ≡ (codes "loan" ∷ codes "receipt" ∷ codes "date"
+    ensures empty { (sheet_rows_of [] ≡ []) × (sheet_rows_of (codes "receipt,loan,date,amount\n") ≡ [])
+        × (sheet_rows_of (codes " Receipt\t,LOAN, date ,Amount\r\n") ≡ []) }
+    ensures no_names { (sheet_rows_of (codes "loan,receipt,date,amount")
+        ≡ (codes "loan" ∷ codes "receipt" ∷ codes "date"
         ∷ codes "amount" ∷ []) ∷ [])
-        × (rows_of (codes "receipt,loan,date,amount,x") ≡ (codes "receipt" ∷ codes "loan" ∷ codes "date"
+        × (sheet_rows_of (codes "receipt,loan,date,amount,x") ≡ (codes "receipt" ∷ codes "loan" ∷ codes "date"
         ∷ codes "amount" ∷ codes "x" ∷ []) ∷ []) }
-    ensures mark { (rows_of (239 ∷ 187 ∷ 191 ∷ codes "receipt,loan,date,amount\na,b") ≡ (codes "a" ∷ codes "b" ∷ [])
+    ensures mark { (sheet_rows_of (239 ∷ 187 ∷ 191 ∷ codes "receipt,loan,date,amount\na,b")
+        ≡ (codes "a" ∷ codes "b" ∷ [])
         ∷ []) }
-    ensures quoted { rows_of (codes "\"x,y\",\"say \"\"so\"\"\",\"a\r\nb\"\r\nc") ≡ (codes "x,y" ∷ codes "say \"so\""
+    ensures quoted { sheet_rows_of (codes "\"x,y\",\"say \"\"so\"\"\",\"a\r\nb\"\r\nc")
+        ≡ (codes "x,y" ∷ codes "say \"so\""
         ∷ codes "a\r\nb" ∷ []) ∷ (codes "c" ∷ []) ∷ [] }
     ensures asked { lines_of (codes "R-1,0001-000001,2024-02-29,200") ≡ SheetLine.Repay (record {
       receipt = codes "R-1";

@@ -3,10 +3,10 @@
 ghost use Rattle.std.specs.Prelude.{◌≡◌, ◌==◌, ◌≤◌, ℕ, List, Some, None, IfOk, IfErr, IfSome, codes, cond, length, map};
 ghost use Rattle.std.specs.Prelude.{option_map};
 ghost use Rattle.csv.specs.Records.{fields_of};
-ghost use Rattle.mf_sheet_lines.specs.Lines.{columns_of, line_of, IsLineInRange, is_name as is_name_of};
+ghost use Rattle.mf_sheet_lines.specs.Lines.{four_columns_of, sheet_line_of, IsLineInRange, is_column_name};
 ghost use Rattle.mf_sheet_lines.specs.Lines.{names_columns as names_the_columns};
 
-use crate::fields::{amount, day, receipt, trimmed};
+use crate::fields::{amount, day, receipt, without_blanks};
 use csv::ByteRecord;
 use mf_account::Receipt;
 use mf_base::{Day, Fault};
@@ -51,7 +51,7 @@ fn four_fields(row: &ByteRecord) -> Option<Fields<'_>>
       loan = f.loan.now;
       date = f.date.now;
       amount = f.amount.now;
-    }) result ≡ columns_of (fields_of row.now) }
+    }) result ≡ four_columns_of (fields_of row.now) }
 {
     if row.len() != 4 {
         return None;
@@ -65,9 +65,9 @@ fn four_fields(row: &ByteRecord) -> Option<Fields<'_>>
 }
 
 fn is_name(name: &[u8], field: &[u8]) -> bool
-    ensures { result ≡ is_name_of name.now field.now }
+    ensures { result ≡ is_column_name name.now field.now }
 {
-    trimmed(field).eq_ignore_ascii_case(name)
+    without_blanks(field).eq_ignore_ascii_case(name)
 }
 
 /// Whether a record names the columns of a sheet, in any case of ASCII.
@@ -85,23 +85,23 @@ pub fn names_columns(row: &ByteRecord) -> bool
 
 /// What a record asks for. The only error is `Fault::F20`, out of memory.
 pub fn read_line(alloc: Global, row: &ByteRecord) -> Result<SheetLine, Fault>
-    ensures ok { IfOk result (λ line. line ≡ line_of (fields_of row.now)) }
+    ensures ok { IfOk result (λ line. line ≡ sheet_line_of (fields_of row.now)) }
     ensures in_range { IfOk result IsLineInRange }
     ensures err { IfErr result (λ fault. fault ≡ Fault.F20) }
 {
     let Some(fields) = four_fields(row) else {
         return Ok(SheetLine::Bad);
     };
-    let Some(receipt) = receipt(trimmed(fields.receipt)) else {
+    let Some(receipt) = receipt(without_blanks(fields.receipt)) else {
         return Ok(SheetLine::Bad);
     };
-    let Some(loan) = Account::parse(trimmed(fields.loan)) else {
+    let Some(loan) = Account::parse(without_blanks(fields.loan)) else {
         return Ok(SheetLine::Bad);
     };
-    let Some(day) = day(trimmed(fields.date)) else {
+    let Some(day) = day(without_blanks(fields.date)) else {
         return Ok(SheetLine::Bad);
     };
-    let Some(amount) = amount(trimmed(fields.amount)) else {
+    let Some(amount) = amount(without_blanks(fields.amount)) else {
         return Ok(SheetLine::Bad);
     };
     let receipt = Receipt::new(String::from_str(alloc, receipt)?);

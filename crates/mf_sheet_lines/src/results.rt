@@ -4,7 +4,7 @@ ghost use Rattle.std.specs.Prelude.{◌≡◌, ◌≤◌, ◌⊎◌, ◌<◌, �
 ghost use Rattle.csv.specs.Records.{fields_of};
 ghost use Rattle.csv.specs.Writing.{default_writer, row_text};
 ghost use Rattle.mf_wire_lines.specs.Replies.{fault_name as name_of_fault};
-ghost use Rattle.mf_sheet_lines.specs.Sheets.{longest, rows_of};
+ghost use Rattle.mf_sheet_lines.specs.Sheets.{longest, sheet_rows_of};
 ghost use Rattle.mf_sheet_lines.specs.Results.{begun_text, heading as heading_text, records_text, result_text};
 
 use crate::sheet::sheet_rows;
@@ -146,7 +146,7 @@ impl BegunRecord {
     }
 
     /// The whole record, with this result. It takes no memory.
-    pub fn ended(self, outcome: SheetResult) -> Vec<u8>
+    pub fn end_with(self, outcome: SheetResult) -> Vec<u8>
         ensures text { result.items ≡ self ++ (result_name outcome ++ 10 ∷ []) }
         ensures whole { (fields : List (List ℕ)) → self ≡ begun_text fields → result.items
             ≡ record_text fields outcome }
@@ -182,7 +182,7 @@ fn text_of_records(
     let mut text = Vec::from_slice(alloc, heading())?;
     for (place, outcome) in results.iter().enumerate() {
         let begun = BegunRecord::new(alloc, &rows[place])?;
-        text.extend_from_slice(begun.ended(*outcome).as_slice())?;
+        text.extend_from_slice(begun.end_with(*outcome).as_slice())?;
     }
     Ok(text)
 }
@@ -190,7 +190,7 @@ fn text_of_records(
 /// The sheet of the results of a sheet's lines: a record that names the columns, and one for each result, with the
 /// first four fields of its line. `Fault::F1` is for a sheet that is too long, `Fault::F20` when out of memory.
 pub fn result_sheet(alloc: Global, bytes: &[u8], results: &[SheetResult]) -> Result<Vec<u8>, Fault>
-    requires { length results.now ≤ length (rows_of bytes.now) }
+    requires { length results.now ≤ length (sheet_rows_of bytes.now) }
     ensures long { longest < length bytes.now → result ≡ Err Fault.F1 }
     ensures ok { IfOk result (λ text. text.items ≡ result_text bytes.now results.now) }
     ensures refusal { IfErr result (λ fault. (fault ≡ Fault.F20)

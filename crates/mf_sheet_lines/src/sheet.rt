@@ -2,7 +2,7 @@
 
 ghost use Rattle.std.specs.Prelude.{◌≡◌, ◌⊎◌, ◌<◌, Err, IfOk, IfErr, length, map};
 ghost use Rattle.csv.specs.Records.{fields_of};
-ghost use Rattle.mf_sheet_lines.specs.Sheets.{longest, below_names as below_the_names, rows_of};
+ghost use Rattle.mf_sheet_lines.specs.Sheets.{longest, below_names as below_the_names, sheet_rows_of};
 
 use crate::line::{SheetLine, names_columns, read_line};
 use crate::records::records;
@@ -24,19 +24,19 @@ pub struct SheetRow {
 impl Model for SheetRow {
     ghost use Rattle.std.specs.Prelude.{◌≡◌, ℕ, List};
     ghost use Rattle.csv.specs.Records.{fields_of};
-    ghost use Rattle.mf_sheet_lines.specs.Lines.{line_of, IsLineInRange};
+    ghost use Rattle.mf_sheet_lines.specs.Lines.{sheet_line_of, IsLineInRange};
 
     ghost Value = { List (List ℕ) };
 
     ghost view = { λ row. fields_of row.fields };
 
-    ghost invariant = { λ row. (row.line ≡ line_of (fields_of row.fields)) × IsLineInRange row.line };
+    ghost invariant = { λ row. (row.line ≡ sheet_line_of (fields_of row.fields)) × IsLineInRange row.line };
 }
 
 impl SheetRow {
     ghost use Rattle.std.specs.Prelude.{◌≡◌, IfOk, IfErr};
     ghost use Rattle.csv.specs.Records.{fields_of};
-    ghost use Rattle.mf_sheet_lines.specs.Lines.{line_of, IsLineInRange};
+    ghost use Rattle.mf_sheet_lines.specs.Lines.{sheet_line_of, IsLineInRange};
 
     /// Reads a line of these fields. The only error is `Fault::F20`, out of memory.
     fn read(alloc: Global, fields: ByteRecord) -> Result<SheetRow, Fault>
@@ -49,7 +49,7 @@ impl SheetRow {
 
     /// What the line asks for.
     pub fn line(&self) -> &SheetLine
-        ensures value { result.now ≡ line_of self.now }
+        ensures value { result.now ≡ sheet_line_of self.now }
         ensures in_range { IsLineInRange result.now }
     {
         &self.line
@@ -58,7 +58,7 @@ impl SheetRow {
     /// The fields as they stand, and what they ask for.
     pub fn into_parts(self) -> (ByteRecord, SheetLine)
         ensures fields { fields_of result.0 ≡ self }
-        ensures line { result.1 ≡ line_of self }
+        ensures line { result.1 ≡ sheet_line_of self }
         ensures in_range { IsLineInRange result.1 }
     {
         let SheetRow {
@@ -120,7 +120,7 @@ fn below_names(rows: Vec<ByteRecord>) -> Vec<ByteRecord>
 /// The fields of each line of a sheet. `Fault::F1` is for a sheet that is too long, `Fault::F20` when out of memory.
 pub fn sheet_rows(alloc: Global, bytes: &[u8]) -> Result<Vec<ByteRecord>, Fault>
     ensures long { longest < length bytes.now → result ≡ Err Fault.F1 }
-    ensures rows { IfOk result (λ rows. map fields_of rows.items ≡ rows_of bytes.now) }
+    ensures rows { IfOk result (λ rows. map fields_of rows.items ≡ sheet_rows_of bytes.now) }
     ensures refusal { IfErr result (λ fault. (fault ≡ Fault.F20)
         ⊎ ((fault ≡ Fault.F1) × (longest < length bytes.now))) }
 {
@@ -149,7 +149,7 @@ fn read_rows(alloc: Global, rows: Vec<ByteRecord>) -> Result<Vec<SheetRow>, Faul
 /// that line bad, and no other.
 pub fn read_sheet(alloc: Global, bytes: &[u8]) -> Result<Sheet, Fault>
     ensures long { longest < length bytes.now → result ≡ Err Fault.F1 }
-    ensures rows { IfOk result (λ sheet. sheet ≡ rows_of bytes.now) }
+    ensures rows { IfOk result (λ sheet. sheet ≡ sheet_rows_of bytes.now) }
     ensures refusal { IfErr result (λ fault. (fault ≡ Fault.F20)
         ⊎ ((fault ≡ Fault.F1) × (longest < length bytes.now))) }
 {

@@ -17,8 +17,8 @@ use Rattle.mf_model.specs.declared.store.InstitutionStore.{Ghosts}
 use Rattle.mf_wire_messages.specs.Messages.{IsMessage, Request as Message}
 use Rattle.mf_wire_messages.specs.Responses.{response, refusal}
 use Rattle.mf_wire_messages.proofs.MessageLemmas.{one_message}
-use Rattle.mf_wire_replies.specs.Shown.{IsText}
-use Rattle.mf_wire.specs.OneCall.{IsIsolatedCall, alone, or_given_up}
+use Rattle.mf_wire_replies.specs.Shown.{IsReplyText}
+use Rattle.mf_wire.specs.OneCall.{IsIsolatedCall, line_of_call, or_given_up}
 use Rattle.mf_wire.specs.Runs.{Calls}
 use Rattle.mf_wire.specs.Serving.{AnswersMessage, call_of_message, shown_response, text_response}
 use Rattle.mf_wire.proofs.Ran.{IsolationLaw}
@@ -51,7 +51,7 @@ module _ {S : Type 0} (store : Ghosts S) where
       new
   isolated_call law told call old new i tree calls c s =
       let w = calls.answered c i s in
-      let l = alone call w.0 in record {
+      let l = line_of_call call w.0 in record {
         given_up = w.0;
         own = λ caller e. subst told (own_line l caller.office i (is_from call caller e) (law.replies i (l ∷ []) tree))
             w.1.replied;
@@ -81,20 +81,20 @@ same_response to_head false false call v w text other e one two m n =
 
 -- the texts of a reply make its response
 text_is_shown : {Z : Type 0} (to_head : Bool) (text : Result (ℕ × String Z) Fault) (r : Result Reply Fault)
-    → IsText text r → text_response to_head text ≡ shown_response to_head r
+    → IsReplyText text r → text_response to_head text ≡ shown_response to_head r
 text_is_shown to_head (Ok text) (Ok reply) e = ap₂ (λ status body. response status body to_head) e.0 e.1
 text_is_shown to_head (Err fault) (Err refused) e = ap (λ f. refusal f to_head) e
 text_is_shown to_head (Ok text) (Err refused) e = absurd e
 text_is_shown to_head (Err fault) (Ok reply) e = absurd e
 
-text_refused : {Z : Type 0} (text : Result (ℕ × String Z) Fault) (fault : Fault) → IsText text (Err fault)
+text_refused : {Z : Type 0} (text : Result (ℕ × String Z) Fault) (fault : Fault) → IsReplyText text (Err fault)
     → text ≡ Err fault
 text_refused (Ok text) fault e = absurd e
 text_refused (Err refused) fault e = ap Err e
 
 pub same_text : {Z : Type 0} (to_head g h : Bool) (call : Call) (v w : Institution) (text : List ℕ)
     (answered : Result (ℕ × String Z) Fault) → v ≡ w
-    → text ≡ shown_response to_head (or_given_up g (reply call v)) → IsText answered (or_given_up h (reply call w))
+    → text ≡ shown_response to_head (or_given_up g (reply call v)) → IsReplyText answered (or_given_up h (reply call w))
     → text ≢ refusal F20 to_head → answered ≢ Err F20 → text ≡ text_response to_head answered
 same_text to_head true h call v w text answered e one two m n = absurd (m one)
 same_text to_head false true call v w text answered e one two m n = absurd (n (text_refused answered F20 two))

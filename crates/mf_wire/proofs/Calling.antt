@@ -15,11 +15,12 @@ use Rattle.mf_model.specs.Institution.{Institution, Change, after, after_maybe}
 use Rattle.mf_model.specs.Desk.{Outcome, flaw_fault, outcome, reply, reply_in, change_in}
 use Rattle.mf_model.specs.Store.{left_by}
 use Rattle.mf_model.specs.declared.store.InstitutionStore.{Ghosts}
-use Rattle.mf_desk.specs.Answers.{Tells, call_of as call_by}
+use Rattle.mf_desk.specs.Answers.{Tells}
+use Rattle.mf_model.specs.Unseen.{call_from}
 pub use Rattle.mf_desk.proofs.Calling.{told_of_answer}
 use Rattle.mf_office.specs.Texts.{caller_of}
 use Rattle.mf_office.specs.declared.caller.Caller.{Caller}
-use Rattle.mf_wire_requests.specs.RequestLine.{Parts, after_caller, parts_after, parts_of, split_space, is_token}
+use Rattle.mf_wire_requests.specs.RequestLine.{Parts, after_caller, parts_after, parts_of_line, split_space, is_token}
 use Rattle.mf_wire_requests.specs.Requests.{request_of, asked_in, call_of_parts, call_of}
 use Rattle.mf_wire.specs.Runs.{Calls}
 
@@ -64,7 +65,7 @@ module _ {S : Type 0} (store : Ghosts S) where
       left None i is l = l
       left (Some change) i is l = more (after change i) is l
 
-caller_in : (line : List ℕ) (p : Parts) → Some p ≡ parts_of line → option_and_then (λ q. caller_of q.0)
+caller_in : (line : List ℕ) (p : Parts) → Some p ≡ parts_of_line line → option_and_then (λ q. caller_of q.0)
     (split_space line) ≡ caller_of p.caller
 caller_in line p e = at (split_space line) e
   where
@@ -78,26 +79,28 @@ caller_in line p e = at (split_space line) e
     at None e = absurd (cc)
     at (Some first) e = rest first (split_space first.1) e
 
-pub call_in_parts : (line : List ℕ) (p : Parts) → length line ≤ 65536 → Some p ≡ parts_of line → call_of_parts p
+pub call_in_parts : (line : List ℕ) (p : Parts) → length line ≤ 65536 → Some p ≡ parts_of_line line → call_of_parts p
     ≡ call_of line
 call_in_parts line p fits e =
     let c = caller_in line p e in
-    let r : cond (nat_le (length line) 65536) (asked_in (parts_of line)) (Unreadable Malformed) ≡ asked_in (Some p) =
-    ap (λ b. cond b (asked_in (parts_of line)) (Unreadable Malformed)) (le-leb (length line) 65536 fits)
+    let r : cond (nat_le (length line) 65536) (asked_in (parts_of_line line)) (Unreadable Malformed)
+    ≡ asked_in (Some p) =
+    ap (λ b. cond b (asked_in (parts_of_line line)) (Unreadable Malformed)) (le-leb (length line) 65536 fits)
     ∙ ap asked_in (sym e) in
     sym (ap (λ (x : Option Caller). record { caller = x; request = (call_of line).request }) c
     ∙ ap (λ (x : Request). record { caller = caller_of p.caller; request = x }) r)
 
-pub no_parts : (line : List ℕ) → length line ≤ 65536 → None ≡ parts_of line → (call_of line).request
+pub no_parts : (line : List ℕ) → length line ≤ 65536 → None ≡ parts_of_line line → (call_of line).request
     ≡ Unreadable Malformed
-no_parts line fits e = ap (λ b. cond b (asked_in (parts_of line)) (Unreadable Malformed))
+no_parts line fits e = ap (λ b. cond b (asked_in (parts_of_line line)) (Unreadable Malformed))
     (le-leb (length line) 65536 fits) ∙ ap asked_in (sym e)
 
 pub too_long : (line : List ℕ) → nat_le (length line) 65536 ≡ false → (call_of line).request ≡ Unreadable Malformed
-too_long line e = ap (λ b. cond b (asked_in (parts_of line)) (Unreadable Malformed)) e
+too_long line e = ap (λ b. cond b (asked_in (parts_of_line line)) (Unreadable Malformed)) e
 
 pub sent_parts : (p : Parts) (caller : Caller) (request : Request) → Some caller ≡ caller_of p.caller
-    → is_token p.method ≡ true → request_of p.method p.path p.body ≡ request → call_by caller request ≡ call_of_parts p
+    → is_token p.method ≡ true → request_of p.method p.path p.body ≡ request → call_from caller request
+    ≡ call_of_parts p
 sent_parts p caller request c t r =
     ap (λ (x : Option Caller). record { caller = x; request = request }) c
     ∙ ap (λ (x : Request). record { caller = caller_of p.caller; request = x }) (sym (

@@ -14,7 +14,7 @@ use Rattle.mf_wire_requests.specs.declared.routes.Methods.{Methods}
 use Rattle.mf_wire_requests.specs.declared.routes.Methods.TheVariants.{Get, Post, GetAndPost, GetAndPut}
 use Rattle.mf_wire_requests.specs.declared.request.Method.TheVariants.{Other}
 use Rattle.mf_wire_requests.specs.RequestLine.{is_token}
-use Rattle.mf_wire_requests.specs.Requests.{method_of, endpoint_of, asked_of, asked_on, request_of}
+use Rattle.mf_wire_requests.specs.Requests.{method_of, endpoint_of, asked_at, asked_on, request_of}
 use Rattle.mf_wire_requests.specs.Routes.{route_at, parts_on}
 use Rattle.mf_wire.specs.Serving.{call_of_message}
 
@@ -37,7 +37,7 @@ on_no_route None method path body e = (NoRoute, refl)
 on_no_route (Some route) method path body e = (
   NoMethod,
   ap (λ (endpoint : Option Endpoint).
-      asked_of endpoint (parts_on route path) body) (ap (endpoint_of route.value) e ∙ no_endpoint route.value),
+      asked_at endpoint (parts_on route path) body) (ap (endpoint_of route.value) e ∙ no_endpoint route.value),
 )
 
 asked_of_head : (method path body : List ℕ) → method_of method ≡ Other → IsUnreadable (request_of method path body)

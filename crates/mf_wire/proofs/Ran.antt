@@ -21,7 +21,7 @@ use Rattle.mf_wire_requests.specs.Requests.{call_of}
 use Rattle.mf_wire_requests.proofs.InRange.{line_in_range, calls_in_range}
 use Rattle.mf_wire_replies.specs.Shown.{shown_line}
 use Rattle.mf_wire_lines.specs.Run.{LineStep, Run}
-use Rattle.mf_wire.specs.Senders.{is_sent_by, is_sent_from, texts_for, NoneIsF20}
+use Rattle.mf_wire.specs.Senders.{is_sent_by, is_sent_from, texts_for, NoTextIsF20}
 use Rattle.mf_wire.specs.Runs.{texts_of, office_play, own_play, IsIsolated, Calls, RunsLines}
 use Rattle.mf_wire.proofs.Senders.{sent_by_is, sent_from_is, texts_for-told, all_told, all_answered_run}
 use Rattle.mf_wire.proofs.Calling.{told_malformed, too_long}
@@ -61,9 +61,9 @@ module _ (i : Institution) (run : List Line) (lines texts : List (List ℕ)) (ca
   all_texts_play : (passes : List ℕ → Bool) (meant : Call → Bool)
       → ((line : List ℕ) → passes line ≡ meant (call_of line)) → (rs : List (Result Reply Fault))
       → replies_to meant run (answers run i) ≡ but_given_up (given_up meant run) rs
-      → NoneIsF20 (texts_for passes lines texts) → texts_for passes lines texts ≡ map shown_line rs
+      → NoTextIsF20 (texts_for passes lines texts) → texts_for passes lines texts ≡ map shown_line rs
   all_texts_play passes meant same rs e none = texts_play passes meant same rs e ∙ ap (map shown_line)
-      (all_told meant run i rs (subst NoneIsF20 (texts_told passes meant same) none))
+      (all_told meant run i rs (subst NoTextIsF20 (texts_told passes meant same) none))
 
   isolated : ViewIsPlay i run → RepliesArePlay i run → OwnRepliesArePlay i run
       → IsIsolated (record { institution = i; run = run; lines = lines; texts = texts })
@@ -150,7 +150,7 @@ module _ {S : Type 0} (store : Ghosts S) where
           follows = w.follows;
           isolated = isolated i w.run lines texts w.calls w.replied (law.views i w.run tree) (law.replies i w.run tree)
               (law.own_replies i w.run tree);
-          with_memory = λ none. all_answered_run w.run lines i w.calls (subst NoneIsF20 w.replied none);
+          with_memory = λ none. all_answered_run w.run lines i w.calls (subst NoTextIsF20 w.replied none);
           stop = w.stop;
         };
       }

@@ -21,7 +21,7 @@ use Rattle.mf_wire_lines.specs.Replies.{fault_line}
 use Rattle.mf_wire_replies.specs.Shown.{shown_line}
 use Rattle.mf_wire_requests.specs.RequestLine.{split_space}
 use Rattle.mf_wire_requests.specs.Requests.{call_of}
-use Rattle.mf_wire.specs.Senders.{sender_of, is_text, is_sent_by, is_sent_from, texts_for, NoneIsF20}
+use Rattle.mf_wire.specs.Senders.{sender_of, is_text, is_sent_by, is_sent_from, texts_for, NoTextIsF20}
 use Rattle.mf_wire.specs.Runs.{texts_of}
 
 both_ways : (a b : Bool) → (a ≡ true → b ≡ true) → (b ≡ true → a ≡ true) → a ≡ b
@@ -101,13 +101,13 @@ not_given_up l i other = at l.given_up (λ e.
 
 -- where none of the texts that are told is F20's, none of their lines was given up
 pub all_told : (meant : Call → Bool) (run : List Line) (i : Institution) (rs : List (Result Reply Fault))
-    → NoneIsF20 (replies_to meant run (texts_of run i)) → but_given_up (given_up meant run) rs ≡ rs
+    → NoTextIsF20 (replies_to meant run (texts_of run i)) → but_given_up (given_up meant run) rs ≡ rs
 all_told meant [] i rs h = refl
 all_told meant (l ∷ run) i rs h = step (meant l.call) rs h (λ qs k. all_told meant run (next l i) qs k)
   where
-    step : (own : Bool) (rs : List (Result Reply Fault)) → NoneIsF20 (cond own (shown_line (answer l i)
+    step : (own : Bool) (rs : List (Result Reply Fault)) → NoTextIsF20 (cond own (shown_line (answer l i)
         ∷ replies_to meant run (texts_of run (next l i))) (replies_to meant run (texts_of run (next l i))))
-        → ((qs : List (Result Reply Fault)) → NoneIsF20 (replies_to meant run (texts_of run (next l i)))
+        → ((qs : List (Result Reply Fault)) → NoTextIsF20 (replies_to meant run (texts_of run (next l i)))
         → but_given_up (given_up meant run) qs ≡ qs)
         → but_given_up (cond own (l.given_up ∷ given_up meant run) (given_up meant run)) rs ≡ rs
     step false rs h more = more rs h
@@ -117,7 +117,7 @@ all_told meant (l ∷ run) i rs h = step (meant l.call) rs h (λ qs k. all_told 
 
 -- where no text is F20's, nothing was given up
 pub all_answered_run : (run : List Line) (lines : List (List ℕ)) (i : Institution) → map (λ l. l.call) run
-    ≡ map call_of lines → NoneIsF20 (texts_of run i) → run ≡ all_answered (map call_of lines)
+    ≡ map call_of lines → NoTextIsF20 (texts_of run i) → run ≡ all_answered (map call_of lines)
 all_answered_run [] [] i e h = refl
 all_answered_run [] (line ∷ lines) i e h = absurd (cc)
 all_answered_run (l ∷ run) [] i e h = absurd (cc)

@@ -7,7 +7,7 @@ use Rattle.mf_model.specs.Run.{Line, next, answers, last}
 use Rattle.mf_model.specs.Sound.{AreInRange}
 use Rattle.mf_model.specs.Store.{left_by, left_after}
 use Rattle.mf_model.specs.declared.store.InstitutionStore.{Ghosts}
-use Rattle.mf_wire.specs.OneCall.{alone}
+use Rattle.mf_wire.specs.OneCall.{line_of_call}
 use Rattle.mf_wire.specs.Serving.{call_of_message}
 use Rattle.mf_wire.specs.Exchanges.{Exchange, AreLinesOf, responses, AnswersAll, ServesOn}
 use Rattle.mf_wire.proofs.Ran.{IsolationLaw}
@@ -41,7 +41,7 @@ module _ {S : Type 0} (store : Ghosts S) where
   ran old (e ∷ es) new i h c s =
       let one = h.1 in
       let w = one.answered.answered (premise h.0 es new h.2 c) i s in
-      let l = alone (call_of_message one.message) w.0 in
+      let l = line_of_call (call_of_message one.message) w.0 in
       let r = ran h.0 es new (next l i) h.2 c w.1.follows in record {
         run = l ∷ r.run;
         to_heads = one.to_head ∷ r.to_heads;

@@ -16,14 +16,14 @@ pub record Exchange : Type 0 where
   pub text : List ℕ
 
 -- the line is the call of the message that the bytes are
-abbrev pub IsLineOf : List ℕ → Line → Bool → Type 0
-IsLineOf bytes l to_head = (message : Option Message) × IsMessage bytes message to_head
+abbrev pub IsLineOfMessage : List ℕ → Line → Bool → Type 0
+IsLineOfMessage bytes l to_head = (message : Option Message) × IsMessage bytes message to_head
     × (l.call ≡ call_of_message message)
 
 -- the same of each of the streams
 abbrev pub AreLinesOf : List Exchange → List Line → List Bool → Type 0
 AreLinesOf [] [] [] = Unit {0}
-AreLinesOf (e ∷ es) (l ∷ ls) (to_head ∷ others) = IsLineOf e.bytes l to_head × AreLinesOf es ls others
+AreLinesOf (e ∷ es) (l ∷ ls) (to_head ∷ others) = IsLineOfMessage e.bytes l to_head × AreLinesOf es ls others
 AreLinesOf _ _ _ = ⊥
 
 -- the responses of replies

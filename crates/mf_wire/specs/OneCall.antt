@@ -11,8 +11,8 @@ use Rattle.mf_model.specs.Desk.{reply}
 use Rattle.mf_model.specs.Run.{Line, next, touching_list, play}
 
 -- the call, given up or not, as a run of one line
-abbrev pub alone : Call → Bool → Line
-alone call given_up = record { call = call; given_up = given_up }
+abbrev pub line_of_call : Call → Bool → Line
+line_of_call call given_up = record { call = call; given_up = given_up }
 
 -- what is told of a call where it may be given up
 abbrev pub or_given_up : Bool → Result Reply Fault → Result Reply Fault
@@ -24,6 +24,7 @@ pub record IsIsolatedCall {S : Type 0} (stands : S → Institution → Type 0) (
     (call : Call) (i : Institution) (new : S) : Type 0 where
   pub given_up : Bool
   pub own : (c : Caller) → call.caller ≡ Some c → told (or_given_up given_up (reply call (view c.office i)))
-  pub follows : stands new (next (alone call given_up) i)
-  pub views : (o : ℕ) → view o (next (alone call given_up) i) ≡ play (touching_list o (alone call given_up ∷ []) i)
+  pub follows : stands new (next (line_of_call call given_up) i)
+  pub views : (o : ℕ) → view o (next (line_of_call call given_up) i)
+      ≡ play (touching_list o (line_of_call call given_up ∷ []) i)
       (view o i)

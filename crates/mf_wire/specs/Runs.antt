@@ -16,7 +16,7 @@ use Rattle.mf_model.specs.declared.store.InstitutionStore.{Ghosts}
 pub use Rattle.mf_desk.specs.Runs.{AnswersLine, Calls}
 use Rattle.mf_wire_replies.specs.Shown.{shown_line}
 use Rattle.mf_wire_requests.specs.Requests.{call_of}
-use Rattle.mf_wire.specs.Senders.{is_sent_by, is_sent_from, texts_for, NoneIsF20}
+use Rattle.mf_wire.specs.Senders.{is_sent_by, is_sent_from, texts_for, NoTextIsF20}
 
 -- the texts of the replies to the lines
 abbrev pub texts_of : List Line → Institution → List (List ℕ)
@@ -56,9 +56,9 @@ pub record IsIsolated (r : WireRun) : Type 0 where
       (office_play o r.run r.institution))
   pub own_texts : (c : Caller) → IsCaller c → texts_of_caller c r
       ≡ map shown_line (but_given_up (given_up (from_caller c) r.run) (own_play c r.run r.institution))
-  pub all_office_texts : (o : ℕ) → NoneIsF20 (texts_of_office o r) → texts_of_office o r
+  pub all_office_texts : (o : ℕ) → NoTextIsF20 (texts_of_office o r) → texts_of_office o r
       ≡ map shown_line (office_play o r.run r.institution)
-  pub all_own_texts : (c : Caller) → IsCaller c → NoneIsF20 (texts_of_caller c r) → texts_of_caller c r
+  pub all_own_texts : (c : Caller) → IsCaller c → NoTextIsF20 (texts_of_caller c r) → texts_of_caller c r
       ≡ map shown_line (own_play c r.run r.institution)
 
 module _ {S : Type 0} (store : Ghosts S) where
@@ -72,7 +72,7 @@ module _ {S : Type 0} (store : Ghosts S) where
     pub replied : texts ≡ texts_of run i
     pub follows : store.stands new (last run i)
     pub isolated : IsIsolated (record { institution = i; run = run; lines = lines; texts = texts })
-    pub with_memory : NoneIsF20 texts → run ≡ all_answered (map call_of lines)
+    pub with_memory : NoTextIsF20 texts → run ≡ all_answered (map call_of lines)
     pub stop : (is : List Institution) → store.leaves old is → store.leaves new (left_after run i is)
 
   -- The same of each institution that the store stood for. That the disk returned what was written holds only as long

@@ -34,8 +34,8 @@ texts_for passes (line ∷ lines) (text ∷ texts) =
     cond (passes line) (text ∷ texts_for passes lines texts) (texts_for passes lines texts)
 
 -- none of the texts is that of F20
-abbrev pub NoneIsF20 : List (List ℕ) → Type 0
-NoneIsF20 texts = AllByRecursion (λ (text : List ℕ). text ≢ fault_line F20) texts
+abbrev pub NoTextIsF20 : List (List ℕ) → Type 0
+NoTextIsF20 texts = AllByRecursion (λ (text : List ℕ). text ≢ fault_line F20) texts
 
 -- no byte is a line feed
 abbrev pub HasNoLineFeed : List ℕ → Type 0

@@ -32,9 +32,9 @@ call_of_message None = record { caller = None; request = Unreadable Malformed }
 call_of_message (Some m) = call_of_parts (parts_of_message m)
 
 -- the status of a reply
-abbrev pub status_of : Result Reply Fault → ℕ
-status_of (Ok reply) = reply_status reply
-status_of (Err fault) = fault_status fault
+abbrev pub reply_or_fault_status : Result Reply Fault → ℕ
+reply_or_fault_status (Ok reply) = reply_status reply
+reply_or_fault_status (Err fault) = fault_status fault
 
 -- the body of a reply
 abbrev pub body_of : Result Reply Fault → List ℕ
@@ -43,7 +43,7 @@ body_of (Err fault) = fault_body fault
 
 -- the response of a reply: the status and the body that answer it as a text, whoever wrote them
 abbrev pub shown_response : Bool → Result Reply Fault → List ℕ
-shown_response to_head r = response (status_of r) (body_of r) to_head
+shown_response to_head r = response (reply_or_fault_status r) (body_of r) to_head
 
 -- the response of a status and a body, or of a refusal
 abbrev pub text_response : {Z : Type 0} → Bool → Result (ℕ × String Z) Fault → List ℕ

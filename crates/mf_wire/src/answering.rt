@@ -6,8 +6,8 @@ ghost use Rattle.mf_model.specs.declared.reply.Reply.{Reply};
 ghost use Rattle.mf_model.specs.Desk.{reply};
 ghost use Rattle.mf_desk.specs.Answers.{Tells, Changes};
 ghost use Rattle.mf_wire_requests.specs.RequestLine.{parts_now};
-ghost use Rattle.mf_wire_lines.specs.Replies.{reply_line, line_of};
-ghost use Rattle.mf_wire_replies.specs.Shown.{reply_status, reply_body, shown_line, IsText};
+ghost use Rattle.mf_wire_lines.specs.Replies.{reply_line, reply_line_of};
+ghost use Rattle.mf_wire_replies.specs.Shown.{reply_status, reply_body, shown_line, IsReplyText};
 ghost use Rattle.mf_wire_requests.specs.Requests.{call_of_parts, call_of};
 ghost use Rattle.mf_wire.specs.Runs.{Calls};
 
@@ -52,7 +52,7 @@ fn answer_line_parts<S: InstitutionStore>(
     store: &mut S,
     parts: LineParts<'_>,
 ) -> Result<String, Fault>
-    ensures calls { Calls S.InstitutionStore (λ r. line_of result ≡ shown_line r)
+    ensures calls { Calls S.InstitutionStore (λ r. reply_line_of result ≡ shown_line r)
         (call_of_parts (parts_now parts.entry)) store.old store.new }
     ensures refusal { IfErr result (λ f. f ≢ Fault.F19) }
 {
@@ -84,7 +84,7 @@ pub(crate) fn answer_text_parts<S: InstitutionStore>(
     store: &mut S,
     parts: LineParts<'_>,
 ) -> Result<(u16, String), Fault>
-    ensures calls { Calls S.InstitutionStore (IsText result) (call_of_parts (parts_now parts.entry)) store.old
+    ensures calls { Calls S.InstitutionStore (IsReplyText result) (call_of_parts (parts_now parts.entry)) store.old
         store.new }
     ensures refusal { IfErr result (λ f. f ≢ Fault.F19) }
 {
@@ -110,7 +110,7 @@ pub fn answer_text<S: InstitutionStore>(
     path: &[u8],
     body: &[u8],
 ) -> Result<(u16, String), Fault>
-    ensures calls { Calls S.InstitutionStore (IsText result)
+    ensures calls { Calls S.InstitutionStore (IsReplyText result)
         (call_of_parts (record { caller = caller.now; method = method.now; path = path.now; body = body.now }))
         store.old store.new }
     ensures refusal { IfErr result (λ f. f ≢ Fault.F19) }
@@ -144,7 +144,8 @@ impl Desk {
 }
 
 impl<S: InstitutionStore> LineDesk<S> for Desk {
-    ghost may_answer = { λ _ old line text new. Calls S.InstitutionStore (λ r. text ≡ shown_line r) (call_of line) old new };
+    ghost may_answer = { λ _ old line text new. Calls S.InstitutionStore (λ r. text ≡ shown_line r)
+        (call_of line) old new };
 
     fn answer(&self, alloc: Global, state: &mut S, line: &[u8]) -> Result<String, Fault> {
         let Some(parts) = line_parts(line) else {

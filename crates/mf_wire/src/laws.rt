@@ -15,7 +15,7 @@ ghost use Rattle.mf_model.specs.Run.{Line, Alike};
 ghost use Rattle.mf_model.specs.Unseen.{Asked, IsUnseen, asked_of, call_from};
 ghost use Rattle.mf_wire_messages.specs.Messages.{is_head, Request as Message};
 ghost use Rattle.mf_wire_messages.specs.Responses.{refusal};
-ghost use Rattle.mf_wire_replies.specs.Shown.{shown_line, IsText};
+ghost use Rattle.mf_wire_replies.specs.Shown.{shown_line, IsReplyText};
 ghost use Rattle.mf_wire_requests.specs.Requests.{call_of};
 ghost use Rattle.mf_wire.specs.Agreeing.{Agree};
 ghost use Rattle.mf_wire.specs.Exchanges.{Exchange, AnswersAll, ServesOn};
@@ -82,8 +82,8 @@ pub fn one_message_is_isolated<S: InstitutionStore>()
 /// The same of what `answer_text` has answered.
 pub fn one_text_is_isolated<S: InstitutionStore>(answered: &Result<(u16, String), Fault>)
     ensures { (i : Institution) (call : Call) (old new : S) →
-        Calls S.InstitutionStore (IsText answered.now) call old new → S.clean new → S.stands old i →
-        IsIsolatedCall S.stands (IsText answered.now) call i new }
+        Calls S.InstitutionStore (IsReplyText answered.now) call old new → S.clean new → S.stands old i →
+        IsIsolatedCall S.stands (IsReplyText answered.now) call i new }
 {
     laws::isolation();
 }
@@ -118,7 +118,7 @@ pub fn messages_and_texts_agree<S: InstitutionStore, T: InstitutionStore>(
 )
     ensures { (c : Caller) (i j : Institution) (bytes text : List ℕ) (old new : S) (before after : T) →
         (one : AnswersMessage S.InstitutionStore bytes old text new) →
-        Calls T.InstitutionStore (IsText answered.now) (call_of_message one.message) before after →
+        Calls T.InstitutionStore (IsReplyText answered.now) (call_of_message one.message) before after →
         S.clean new → S.stands old i → T.clean after → T.stands before j →
         (call_of_message one.message).caller ≡ Some c → view c.office i ≡ view c.office j →
         text ≢ refusal Fault.F20 one.to_head → answered.now ≢ Err Fault.F20

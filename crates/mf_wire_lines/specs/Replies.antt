@@ -51,9 +51,9 @@ abbrev pub fault_line : Fault → List ℕ
 fault_line fault = reply_line (fault_status fault) (fault_body fault)
 
 -- the line that answers a request: the text that a success is shown by, or a refusal's
-abbrev pub line_of : {Z : Type 0} → Result (String Z) Fault → List ℕ
-line_of (Ok text) = string_bytes text
-line_of (Err fault) = fault_line fault
+abbrev pub reply_line_of : {Z : Type 0} → Result (String Z) Fault → List ℕ
+reply_line_of (Ok text) = string_bytes text
+reply_line_of (Err fault) = fault_line fault
 
 -- a refusal that has a reply: none is refused with what is told of a file that is opened
 abbrev pub replyable : {T : Type 0} → Result T Fault → Result T Fault

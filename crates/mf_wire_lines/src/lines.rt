@@ -4,7 +4,7 @@ ghost use Rattle.std.specs.Prelude.{◌≡◌, ◌≢◌, ℕ, ◌+◌, ◌-◌,
 ghost use Rattle.mf_base.specs.declared.fault.Cause.TheVariants as cause;
 ghost use Rattle.mf_wire_lines.specs.Cut.{without_return as line_without_return, request};
 ghost use Rattle.mf_wire_lines.specs.Reading.{ended_from, begun_from};
-ghost use Rattle.mf_wire_lines.specs.Replies.{line_of};
+ghost use Rattle.mf_wire_lines.specs.Replies.{reply_line_of};
 ghost use Rattle.mf_wire_lines.specs.Run.{LineStep, Run, Answered, Half, Broken};
 ghost use Rattle.mf_wire_lines.specs.Streams.{stream_of, streams_of};
 ghost use Rattle.mf_wire_lines.specs.Ends.{Ends};
@@ -30,7 +30,7 @@ pub trait LineDesk<S> {
     /// The text of a line's success, which was made before the state was changed, or its refusal.
     fn answer(&self, alloc: Global, state: &mut S, line: &[u8]) -> Result<String, Fault>
         requires { length line.now ≤ 65536 }
-        ensures step { may_answer self.now state.old line.now (line_of result) state.new }
+        ensures step { may_answer self.now state.old line.now (reply_line_of result) state.new }
         ensures refusal { IfErr result (λ f. f ≢ Fault.F19) };
 }
 
@@ -40,7 +40,7 @@ fn reply_to<S, D: LineDesk<S>>(
     state: &mut S,
     line: &[u8],
 ) -> Result<String, Fault>
-    ensures step { LineStep (D.may_answer desk.now) state.old line.now (line_of result) state.new }
+    ensures step { LineStep (D.may_answer desk.now) state.old line.now (reply_line_of result) state.new }
     ensures refusal { IfErr result (λ f. f ≢ Fault.F19) }
 {
     if line.len() <= LONGEST {

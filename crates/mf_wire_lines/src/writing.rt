@@ -2,7 +2,7 @@
 
 ghost use Rattle.std.specs.Prelude.{◌≡◌, ◌≢◌, ◌<◌, ◌≤◌, ◌++◌, ◌∷◌, [], ℕ, OnOk, OnErr, IfErr, decimal, length, take};
 ghost use Rattle.std.specs.Io.KnownBytes.{Appends};
-ghost use Rattle.mf_wire_lines.specs.Replies.{line_of, fault_line, fault_status};
+ghost use Rattle.mf_wire_lines.specs.Replies.{reply_line_of, fault_line, fault_status};
 
 use crate::refusals::fault_text;
 use crate::sinks::{Sink, WriteFault};
@@ -59,9 +59,9 @@ fn put_refusal<W: Sink>(sink: &mut W, fault: Fault) -> Result<(), WriteFault>
 /// Writes the line of a reply, or a beginning of it.
 pub fn put_reply<W: Sink>(sink: &mut W, reply: &Result<String, Fault>) -> Result<(), WriteFault>
     requires { IfErr reply.now (λ f. f ≢ Fault.F19) }
-    ensures ok { OnOk result (Appends (W.written sink.old) (W.written sink.new) (line_of reply.now)) }
-    ensures err { OnErr result ((n : ℕ) × (n < length (line_of reply.now)) × Appends (W.written sink.old)
-        (W.written sink.new) (take n (line_of reply.now))) }
+    ensures ok { OnOk result (Appends (W.written sink.old) (W.written sink.new) (reply_line_of reply.now)) }
+    ensures err { OnErr result ((n : ℕ) × (n < length (reply_line_of reply.now)) × Appends (W.written sink.old)
+        (W.written sink.new) (take n (reply_line_of reply.now))) }
     ensures sound { OnOk result (W.faults sink.new ≡ W.faults sink.old) }
     ensures fault { OnErr result (W.faults sink.new ≢ W.faults sink.old) }
 {

@@ -23,10 +23,10 @@ values_of name (field ∷ fields) = cond (str_eq_ignore_ascii_case field.0 name)
     (values_of name fields)
 
 -- the value that stands alone
-abbrev pub alone : List (List ℕ) → Option (List ℕ)
-alone [] = None
-alone (value ∷ []) = Some value
-alone (value ∷ other ∷ values) = None
+abbrev pub only_value : List (List ℕ) → Option (List ℕ)
+only_value [] = None
+only_value (value ∷ []) = Some value
+only_value (value ∷ other ∷ values) = None
 
 -- the number, where a body may be that long
 abbrev pub allowed_length : ℕ → Option ℕ
@@ -53,7 +53,7 @@ abbrev pub frame_of : List (List ℕ × List ℕ) → Option (List ℕ × ℕ)
 frame_of fields =
     unless_any (values_of (codes "transfer-encoding") fields)
     (option_and_then (λ staff. option_map (λ n. (staff, n)) (body_length (values_of (codes "content-length") fields)))
-    (alone (values_of (codes "x-staff") fields)))
+    (only_value (values_of (codes "x-staff") fields)))
 
 -- the request, where as many bytes follow as its body has; those past it are not looked at
 abbrev pub request_within : RequestHead → List ℕ → List ℕ × ℕ → Option Request

@@ -32,8 +32,8 @@ HeadIsWritten = print_request request_head
     ≡ codes "POST /clients HTTP/1.1\r\nHost: localhost\r\nX-Staff: 1/1\r\nContent-Length: 27\r\n\r\n"
 
 -- the request, whatever follows its body
-abbrev pub IsAsked : Type 0
-IsAsked = (more : List ℕ) → request_of request_head (request_body ++ more) ≡ Some (record {
+abbrev pub IsAskedByMessage : Type 0
+IsAskedByMessage = (more : List ℕ) → request_of request_head (request_body ++ more) ≡ Some (record {
   staff = codes "1/1";
   method = codes "POST";
   target = codes "/clients";

@@ -7,7 +7,7 @@ ghost use Rattle.std.specs.Char.{is_ascii_digit};
 ghost use Rattle.std.specs.Str.{all_ascii_digits, str_eq_ignore_ascii_case};
 ghost use Rattle.std.specs.Str.Parse.{digits_value};
 ghost use Rattle.httparse.specs.Spans.{span_bytes, header_bytes, IsWithin, IsHeaderWithin};
-ghost use Rattle.mf_wire_messages.specs.Messages.{values_of, alone, allowed_length, length_of_digits, body_length};
+ghost use Rattle.mf_wire_messages.specs.Messages.{values_of, only_value, allowed_length, length_of_digits, body_length};
 ghost use Rattle.mf_wire_messages.specs.Messages.{unless_any, frame_of};
 ghost use Rattle.mf_wire_messages.specs.Framing.{FoundIn, frame_at};
 

@@ -36,13 +36,13 @@ abbrev pub instalments_data : List InstalmentLine → Data
 instalments_data lines = object (member (codes "instalments") (array (items_of (map instalment_data lines))) no_members)
 
 -- the kinds of entries, by name
-abbrev pub kind_name : Kind → List ℕ
-kind_name kind.Repay = codes "repayment"
-kind_name kind.Fee = codes "fee"
-kind_name kind.Penalty = codes "penalty"
-kind_name kind.Waive = codes "waiver"
-kind_name kind.WriteOff = codes "write-off"
-kind_name kind.Refund = codes "refund"
+abbrev pub entry_kind_name : Kind → List ℕ
+entry_kind_name kind.Repay = codes "repayment"
+entry_kind_name kind.Fee = codes "fee"
+entry_kind_name kind.Penalty = codes "penalty"
+entry_kind_name kind.Waive = codes "waiver"
+entry_kind_name kind.WriteOff = codes "write-off"
+entry_kind_name kind.Refund = codes "refund"
 
 -- the portions, by name
 abbrev pub portion_name : Portion → List ℕ
@@ -96,7 +96,7 @@ entry_data line = object
     (member (codes "day") (string (day_text line.entry.day))
     (member (codes "entry") (whole line.entry.seq)
     (member (codes "instalment") (whole_or_null (instalment_for line.entry.kind line.entry.instalment))
-    (member (codes "kind") (string (kind_name line.entry.kind)) (entry_rest line.entry line.shares))))))
+    (member (codes "kind") (string (entry_kind_name line.entry.kind)) (entry_rest line.entry line.shares))))))
 
 -- the entries of a loan
 abbrev pub entries_data : List EntryLine → Data

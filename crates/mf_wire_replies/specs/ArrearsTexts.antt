@@ -27,8 +27,8 @@ all_data line = object
     (member (codes "loans") (whole line.loans) (line_end line.outstanding line.over_90 (par30_of line))))))
 
 -- an office's line
-abbrev pub line_data : Line → Data
-line_data line = object
+abbrev pub arrears_line_data : Line → Data
+arrears_line_data line = object
     (member (codes "c1_30") (money line.c1_30)
     (member (codes "c31_60") (money line.c31_60)
     (member (codes "c61_90") (money line.c61_90)
@@ -38,4 +38,4 @@ line_data line = object
 -- the report: the sums of the lines, and the lines
 abbrev pub arrears_data : List Line → Data
 arrears_data lines = object (member (codes "all") (all_data (total_of lines))
-    (member (codes "offices") (array (items_of (map line_data lines))) no_members))
+    (member (codes "offices") (array (items_of (map arrears_line_data lines))) no_members))

@@ -92,9 +92,9 @@ told_status (Repeated entry) = 200
 told_status (Reversed entry) = 200
 
 -- a loan in a list of loans
-abbrev pub line_data : LoanLine → Data
-line_data line = status_data line.loan line.status
+abbrev pub loan_line_data : LoanLine → Data
+loan_line_data line = status_data line.loan line.status
 
 -- the loans of an office
 abbrev pub lines_data : List LoanLine → Data
-lines_data lines = object (member (codes "loans") (array (items_of (map line_data lines))) no_members)
+lines_data lines = object (member (codes "loans") (array (items_of (map loan_line_data lines))) no_members)

@@ -76,11 +76,11 @@ shown_line (Ok reply) = reply_line (reply_status reply) (reply_body reply)
 shown_line (Err fault) = fault_line fault
 
 -- the status and the body of a reply, apart
-abbrev pub IsText : {Z : Type 0} → Result (ℕ × String Z) Fault → Result Reply Fault → Type 0
-IsText (Ok text) (Ok reply) = (text.0 ≡ reply_status reply) × (string_bytes text.1 ≡ reply_body reply)
-IsText (Err fault) (Err refusal) = fault ≡ refusal
-IsText (Ok text) (Err refusal) = ⊥
-IsText (Err fault) (Ok reply) = ⊥
+abbrev pub IsReplyText : {Z : Type 0} → Result (ℕ × String Z) Fault → Result Reply Fault → Type 0
+IsReplyText (Ok text) (Ok reply) = (text.0 ≡ reply_status reply) × (string_bytes text.1 ≡ reply_body reply)
+IsReplyText (Err fault) (Err refusal) = fault ≡ refusal
+IsReplyText (Ok text) (Err refusal) = ⊥
+IsReplyText (Err fault) (Ok reply) = ⊥
 
 -- what a body is made of before it is written: a value of JSON, or its text
 abbrev pub IsBodyOf : Reply → Body → Type 0

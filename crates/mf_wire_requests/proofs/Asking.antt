@@ -24,7 +24,7 @@ use Rattle.std.specs.Str.{is_utf8, IsAscii}
 use Rattle.mf_wire_requests.specs.PathParts.{PathParts, parts_of_params}
 use Rattle.mf_wire_requests.specs.Routes.{desk_routes, matched_route, route_at, parts_on}
 use Rattle.mf_wire_requests.specs.Bodies.{Gives}
-use Rattle.mf_wire_requests.specs.Requests.{method_of, endpoint_of, or_malformed, asked_of, asked_on, request_at}
+use Rattle.mf_wire_requests.specs.Requests.{method_of, endpoint_of, or_malformed, asked_at, asked_on, request_at}
 use Rattle.mf_wire_requests.specs.Requests.{request_of}
 use Rattle.mf_wire_requests.proofs.Matched.{ascii_bytes, walk_text, desk_text}
 
@@ -34,10 +34,10 @@ no_route method path body e = ap (λ r. asked_on r method path body) (sym e)
 
 pub on_route : (method path body : List ℕ) (route : RouteOf Methods) (named : Method) (end : Option Endpoint)
     → Some route ≡ route_at path → named ≡ method_of method → end ≡ endpoint_of route.value named
-    → request_of method path body ≡ asked_of end (parts_on route path) body
+    → request_of method path body ≡ asked_at end (parts_on route path) body
 unfolding request_of
 on_route method path body route named end e m d =
-    ap (λ r. asked_on r method path body) (sym e) ∙ ap (λ o. asked_of o (parts_on route path) body)
+    ap (λ r. asked_on r method path body) (sym e) ∙ ap (λ o. asked_at o (parts_on route path) body)
     (sym (d ∙ ap (endpoint_of route.value) m))
 
 pub on_endpoint : (method path body : List ℕ) (route : RouteOf Methods) (named : Method) (endpoint : Endpoint)

@@ -39,18 +39,22 @@ use Rattle.mf_wire_requests.specs.declared.routes.Endpoint.TheVariants as endpoi
 use Rattle.mf_wire_requests.specs.declared.routes.LoanEndpoint.{LoanEndpoint}
 use Rattle.mf_wire_requests.specs.declared.routes.LoanEndpoint.TheVariants as on_loan
 use Rattle.mf_wire_requests.specs.declared.routes.Methods.{Methods}
-use Rattle.mf_wire_requests.specs.Bodies.{json_of, name_at, office_at, within, number_at, optional_receipt_at}
-use Rattle.mf_wire_requests.specs.Bodies.{account_at, day_at}
-use Rattle.mf_wire_requests.specs.CatalogueRequests.{later_day, new_charge}
-use Rattle.mf_wire_requests.specs.LoanRequests.{new_loan, loans_at, disbursement, repayment, fee, instalment_at}
-use Rattle.mf_wire_requests.specs.LoanRequests.{penalty, waiver, reversal, loan_request, loan_at}
+use Rattle.mf_wire_requests.specs.Bodies.{json_of, name_at, office_number_at, within, number_at, optional_receipt_at}
+use Rattle.mf_wire_requests.specs.Bodies.{account_number_at, day_at}
+use Rattle.mf_wire_requests.specs.CatalogueRequests.{day_request, new_charge_request}
+use Rattle.mf_wire_requests.specs.LoanRequests.{new_loan_request, loans_request, disbursement_request}
+use Rattle.mf_wire_requests.specs.LoanRequests.{repayment_request, fee_request, instalment_at}
+use Rattle.mf_wire_requests.specs.LoanRequests.{penalty_request, waiver_request, reversal_request, loan_request}
+use Rattle.mf_wire_requests.specs.LoanRequests.{request_on_loan}
 use Rattle.mf_wire_requests.specs.Named.{role_at, kind_at, calc_at, method_at, freq_at, strategy_at, waivable_at}
-use Rattle.mf_wire_requests.specs.OfficeRequests.{new_office, new_staff, new_client, client_at}
-use Rattle.mf_wire_requests.specs.PathParts.{PathParts, number_in, account_in}
-use Rattle.mf_wire_requests.specs.ProductRequests.{step_at, planning_at, bounds_at, charged_at, members_of, new_product}
-use Rattle.mf_wire_requests.specs.ProductRequests.{IsStepInRange, IsPlanningInRange, AreBoundsInRange}
-use Rattle.mf_wire_requests.specs.RequestLine.{Parts, parts_of, is_token}
-use Rattle.mf_wire_requests.specs.Requests.{method_of, endpoint_of, request_at, or_malformed, asked_of, asked_on}
+use Rattle.mf_wire_requests.specs.OfficeRequests.{new_office_request, new_staff_request, new_client_request}
+use Rattle.mf_wire_requests.specs.OfficeRequests.{client_request}
+use Rattle.mf_wire_requests.specs.PathParts.{PathParts, number_in, account_number_in}
+use Rattle.mf_wire_requests.specs.ProductRequests.{step_at, planning_at, bounds_at, charged_at, members_of}
+use Rattle.mf_wire_requests.specs.ProductRequests.{new_product_request}
+use Rattle.mf_wire_requests.specs.ProductRequests.{IsDueStepInRange, IsPlanningInRange, AreBoundsInRange}
+use Rattle.mf_wire_requests.specs.RequestLine.{Parts, parts_of_line, is_token}
+use Rattle.mf_wire_requests.specs.Requests.{method_of, endpoint_of, request_at, or_malformed, asked_at, asked_on}
 use Rattle.mf_wire_requests.specs.Requests.{asked_by, asked_in, request_of, call_of_parts, call_of}
 use Rattle.mf_wire_requests.specs.Routes.{route_at, parts_on}
 use Rattle.mf_wire_requests.proofs.Ranges.{IsWithin, IsEntered, IsOfNineDigits, name_range, office_range, within_range}
@@ -65,8 +69,9 @@ of_body P asks h (Some d) = h d
 
 -- ---- offices, staff and clients
 
-new_office_in_range : (d : Data) → IfSome (new_office d) IsInRange
-new_office_in_range d = step (office_at (codes "number") d) (office_at (codes "parent") d) (name_at (codes "name") d)
+new_office_in_range : (d : Data) → IfSome (new_office_request d) IsInRange
+new_office_in_range d = step (office_number_at (codes "number") d) (office_number_at (codes "parent") d)
+    (name_at (codes "name") d)
     (office_range (codes "number") d) (office_range (codes "parent") d) (name_range (codes "name") d)
   where
     step : (number parent : Option ℕ) (name : Option (List ℕ)) → IfSome number (IsNumberUpTo 9999)
@@ -78,8 +83,8 @@ new_office_in_range d = step (office_at (codes "number") d) (office_at (codes "p
     step (Some n) (Some p) None h k l = tt
     step (Some n) (Some p) (Some t) h k l = (h, k, l)
 
-new_staff_in_range : (d : Data) → IfSome (new_staff d) IsInRange
-new_staff_in_range d = step (office_at (codes "office") d) (role_at (codes "role") d) (name_at (codes "name") d)
+new_staff_in_range : (d : Data) → IfSome (new_staff_request d) IsInRange
+new_staff_in_range d = step (office_number_at (codes "office") d) (role_at (codes "role") d) (name_at (codes "name") d)
     (office_range (codes "office") d) (name_range (codes "name") d)
   where
     step : (office : Option ℕ) (role : Option Role) (name : Option (List ℕ)) → IfSome office (IsNumberUpTo 9999)
@@ -91,8 +96,9 @@ new_staff_in_range d = step (office_at (codes "office") d) (role_at (codes "role
     step (Some o) (Some r) None h k = tt
     step (Some o) (Some r) (Some t) h k = (h, k)
 
-new_client_in_range : (d : Data) → IfSome (new_client d) IsInRange
-new_client_in_range d = step (office_at (codes "office") d) (name_at (codes "name") d) (office_range (codes "office") d)
+new_client_in_range : (d : Data) → IfSome (new_client_request d) IsInRange
+new_client_in_range d = step (office_number_at (codes "office") d) (name_at (codes "name") d)
+    (office_range (codes "office") d)
     (name_range (codes "name") d)
   where
     step : (office : Option ℕ) (name : Option (List ℕ)) → IfSome office (IsNumberUpTo 9999) → IfSome name IsName
@@ -101,8 +107,8 @@ new_client_in_range d = step (office_at (codes "office") d) (name_at (codes "nam
     step (Some o) None h k = tt
     step (Some o) (Some t) h k = (h, k)
 
-client_in_range : (parts : PathParts) → IfSome (client_at parts) IsInRange
-client_in_range parts = step (account_in (codes "client") parts) (account_in_range (codes "client") parts)
+client_in_range : (parts : PathParts) → IfSome (client_request parts) IsInRange
+client_in_range parts = step (account_number_in (codes "client") parts) (account_in_range (codes "client") parts)
   where
     step : (client : Option Account) → IfSome client IsAccount
         → IfSome (option_map (λ c. Office c.office (ShowClient c.number)) client) IsInRange
@@ -111,7 +117,7 @@ client_in_range parts = step (account_in (codes "client") parts) (account_in_ran
 
 -- ---- the business day, charges and products
 
-later_day_in_range : (d : Data) → IfSome (later_day d) IsInRange
+later_day_in_range : (d : Data) → IfSome (day_request d) IsInRange
 later_day_in_range d = step (day_at (codes "day") d) (day_range (codes "day") d)
   where
     step : (day : Option ℕ) → IfSome day IsEntered → IfSome (option_map (λ x. Catalogue (catalogue.SetDay x)) day)
@@ -119,7 +125,7 @@ later_day_in_range d = step (day_at (codes "day") d) (day_range (codes "day") d)
     step None h = tt
     step (Some x) h = h
 
-new_charge_in_range : (d : Data) → IfSome (new_charge d) IsInRange
+new_charge_in_range : (d : Data) → IfSome (new_charge_request d) IsInRange
 new_charge_in_range d =
     step (kind_at (codes "kind") d) (calc_at (codes "calc") d) (λ calc. number_at 1 (greatest_value calc)
     (codes "value") d) (name_at (codes "name") d)
@@ -146,18 +152,18 @@ new_charge_in_range d =
     step (Some k) None value name h l = tt
     step (Some k) (Some c) value name h l = valued k c (value c) name (h c) l
 
-step_in_range : (d : Data) → IfSome (step_at d) IsStepInRange
+step_in_range : (d : Data) → IfSome (step_at d) IsDueStepInRange
 step_in_range d = step (freq_at (codes "frequency") d)
   where
     named : (freq : Freq) (every : Option ℕ) → IfSome every (IsWithin 1 (longest_step freq))
-        → IfSome (option_map (λ n. let s : Step = record { freq = freq; every = n } in s) every) IsStepInRange
+        → IfSome (option_map (λ n. let s : Step = record { freq = freq; every = n } in s) every) IsDueStepInRange
     named freq None h = tt
     named freq (Some n) h = record { some = h.0; longest = h.1 }
 
     step : (freq : Option Freq) → IfSome (option_and_then (λ f. option_map (λ n. let s : Step = record {
       freq = f;
       every = n;
-    } in s) (number_at 1 (longest_step f) (codes "every") d)) freq) IsStepInRange
+    } in s) (number_at 1 (longest_step f) (codes "every") d)) freq) IsDueStepInRange
     step None = tt
     step (Some f) =
         named f (number_at 1 (longest_step f) (codes "every") d) (number_range 1 (longest_step f) (codes "every") d)
@@ -172,7 +178,7 @@ planning_in_range d =
   where
     step : (method : Option Method) (rate : Option ℕ) (by : Option Step) (principal interest : Option ℕ)
         (strategy : Option StrategyName)
-        → IfSome rate (IsWithin 0 greatest_rate) → IfSome by IsStepInRange → IfSome principal (IsWithin 0 most_grace)
+        → IfSome rate (IsWithin 0 greatest_rate) → IfSome by IsDueStepInRange → IfSome principal (IsWithin 0 most_grace)
         → IfSome interest (IsWithin 0 most_grace)
         → IfSome (option_and_then (λ m.
         option_and_then (λ r. option_and_then (λ s. option_and_then (λ p. option_and_then (λ i. option_map (λ y.
@@ -246,7 +252,7 @@ members_in_range name planning bounds charged n p b = record {
   };
 }
 
-new_product_in_range : (d : Data) → IfSome (new_product d) IsInRange
+new_product_in_range : (d : Data) → IfSome (new_product_request d) IsInRange
 new_product_in_range d = step (planning_at d) (bounds_at d) (charged_at d) (name_at (codes "name") d)
     (planning_in_range d) (bounds_in_range d) (name_range (codes "name") d)
   where
@@ -290,9 +296,9 @@ retired_in_range parts = step (number_in (codes "product") parts) (number_in_ran
 
 -- ---- loans
 
-new_loan_in_range : (d : Data) → IfSome (new_loan d) IsInRange
+new_loan_in_range : (d : Data) → IfSome (new_loan_request d) IsInRange
 new_loan_in_range d =
-    step (account_at (codes "client") d) (number_at 0 999999999 (codes "product") d)
+    step (account_number_at (codes "client") d) (number_at 0 999999999 (codes "product") d)
     (number_at 1 greatest_amount (codes "principal") d) (number_at 1 most_periods (codes "periods") d)
     (account_range (codes "client") d) (number_range 0 999999999 (codes "product") d)
     (number_range 1 greatest_amount (codes "principal") d) (number_range 1 most_periods (codes "periods") d)
@@ -309,7 +315,7 @@ new_loan_in_range d =
     step (Some c) (Some p) (Some a) None h k l n = tt
     step (Some c) (Some p) (Some a) (Some m) h k l n = (h.0, (h.1, k.1, l, n))
 
-loans_in_range : (parts : PathParts) → IfSome (loans_at parts) IsInRange
+loans_in_range : (parts : PathParts) → IfSome (loans_request parts) IsInRange
 loans_in_range parts = step (number_in (codes "office") parts) (number_in (codes "after") parts)
     (number_in_range (codes "office") parts)
   where
@@ -328,14 +334,14 @@ loans_in_range parts = step (number_in (codes "office") parts) (number_in (codes
     step None after h = tt
     step (Some o) after h = listed o (option_and_then (within 0 999999) after) h (limited after)
 
-disbursement_in_range : (d : Data) → IfSome (disbursement d) IsLoanInRange
+disbursement_in_range : (d : Data) → IfSome (disbursement_request d) IsLoanInRange
 disbursement_in_range d = step (day_at (codes "day") d) (day_range (codes "day") d)
   where
     step : (day : Option ℕ) → IfSome day IsEntered → IfSome (option_map (λ x. Take (Disburse x)) day) IsLoanInRange
     step None h = tt
     step (Some x) h = h
 
-repayment_in_range : (d : Data) → IfSome (repayment d) IsLoanInRange
+repayment_in_range : (d : Data) → IfSome (repayment_request d) IsLoanInRange
 repayment_in_range d =
     step (number_at 1 greatest_amount (codes "amount") d) (day_at (codes "day") d)
     (optional_receipt_at (codes "receipt") d)
@@ -350,7 +356,7 @@ repayment_in_range d =
     step (Some a) (Some x) None h k l = tt
     step (Some a) (Some x) (Some r) h k l = (h, k, l)
 
-fee_in_range : (d : Data) → IfSome (fee d) IsLoanInRange
+fee_in_range : (d : Data) → IfSome (fee_request d) IsLoanInRange
 fee_in_range d = step (number_at 0 999999999 (codes "charge") d) (day_at (codes "due") d)
     (number_range 0 999999999 (codes "charge") d) (day_range (codes "due") d)
   where
@@ -360,7 +366,7 @@ fee_in_range d = step (number_at 0 999999999 (codes "charge") d) (day_at (codes 
     step (Some c) None h k = tt
     step (Some c) (Some x) h k = (h.1, k)
 
-penalty_in_range : (d : Data) → IfSome (penalty d) IsLoanInRange
+penalty_in_range : (d : Data) → IfSome (penalty_request d) IsLoanInRange
 penalty_in_range d = step (instalment_at d) (number_range 1 999999999 (codes "instalment") d)
   where
     step : (instalment : Option ℕ) → IfSome instalment (IsWithin 1 999999999)
@@ -368,7 +374,7 @@ penalty_in_range d = step (instalment_at d) (number_range 1 999999999 (codes "in
     step None h = tt
     step (Some n) h = h
 
-waiver_in_range : (d : Data) → IfSome (waiver d) IsLoanInRange
+waiver_in_range : (d : Data) → IfSome (waiver_request d) IsLoanInRange
 waiver_in_range d =
     step (instalment_at d) (waivable_at (codes "portion") d) (number_range 1 999999999 (codes "instalment") d)
   where
@@ -378,7 +384,7 @@ waiver_in_range d =
     step (Some n) None h = tt
     step (Some n) (Some p) h = h
 
-reversal_in_range : (parts : PathParts) → IfSome (reversal parts) IsLoanInRange
+reversal_in_range : (parts : PathParts) → IfSome (reversal_request parts) IsLoanInRange
 reversal_in_range parts = step (number_in (codes "entry") parts) (number_in_range (codes "entry") parts)
   where
     step : (entry : Option ℕ) → IfSome entry IsOfNineDigits → IfSome (option_map (λ n. Reverse n) entry) IsLoanInRange
@@ -392,17 +398,20 @@ loan_request_in_range on_loan.ShowInstalments parts body = tt
 loan_request_in_range on_loan.ShowEntries parts body = tt
 loan_request_in_range (on_loan.Step step) parts body = tt
 loan_request_in_range on_loan.Disburse parts body =
-    of_body IsLoanInRange disbursement disbursement_in_range (json_of body)
-loan_request_in_range on_loan.Repay parts body = of_body IsLoanInRange repayment repayment_in_range (json_of body)
-loan_request_in_range on_loan.ChargeFee parts body = of_body IsLoanInRange fee fee_in_range (json_of body)
-loan_request_in_range on_loan.ChargePenalty parts body = of_body IsLoanInRange penalty penalty_in_range (json_of body)
-loan_request_in_range on_loan.Waive parts body = of_body IsLoanInRange waiver waiver_in_range (json_of body)
+    of_body IsLoanInRange disbursement_request disbursement_in_range (json_of body)
+loan_request_in_range on_loan.Repay parts body = of_body IsLoanInRange repayment_request repayment_in_range
+    (json_of body)
+loan_request_in_range on_loan.ChargeFee parts body = of_body IsLoanInRange fee_request fee_in_range (json_of body)
+loan_request_in_range on_loan.ChargePenalty parts body = of_body IsLoanInRange penalty_request penalty_in_range
+    (json_of body)
+loan_request_in_range on_loan.Waive parts body = of_body IsLoanInRange waiver_request waiver_in_range (json_of body)
 loan_request_in_range on_loan.WriteOff parts body = tt
 loan_request_in_range on_loan.Refund parts body = tt
 loan_request_in_range on_loan.Reverse parts body = reversal_in_range parts
 
-loan_in_range : (which : LoanEndpoint) (parts : PathParts) (body : List ℕ) → IfSome (loan_at which parts body) IsInRange
-loan_in_range which parts body = step (account_in (codes "loan") parts) (loan_request which parts body)
+loan_in_range : (which : LoanEndpoint) (parts : PathParts) (body : List ℕ)
+    → IfSome (request_on_loan which parts body) IsInRange
+loan_in_range which parts body = step (account_number_in (codes "loan") parts) (loan_request which parts body)
     (account_in_range (codes "loan") parts) (loan_request_in_range which parts body)
   where
     step : (loan : Option Account) (asked : Option LoanRequest) → IfSome loan IsAccount → IfSome asked IsLoanInRange
@@ -416,23 +425,27 @@ loan_in_range which parts body = step (account_in (codes "loan") parts) (loan_re
 endpoint_in_range : (which : Endpoint) (parts : PathParts) (body : List ℕ) → IfSome (request_at which parts body)
     IsInRange
 endpoint_in_range endpoint.ShowDay parts body = tt
-endpoint_in_range endpoint.SetDay parts body = of_body IsInRange later_day later_day_in_range (json_of body)
-endpoint_in_range endpoint.AddCharge parts body = of_body IsInRange new_charge new_charge_in_range (json_of body)
+endpoint_in_range endpoint.SetDay parts body = of_body IsInRange day_request later_day_in_range (json_of body)
+endpoint_in_range endpoint.AddCharge parts body = of_body IsInRange new_charge_request new_charge_in_range
+    (json_of body)
 endpoint_in_range endpoint.ShowCharge parts body = charge_in_range parts
-endpoint_in_range endpoint.AddProduct parts body = of_body IsInRange new_product new_product_in_range (json_of body)
+endpoint_in_range endpoint.AddProduct parts body = of_body IsInRange new_product_request new_product_in_range
+    (json_of body)
 endpoint_in_range endpoint.ShowProduct parts body = product_in_range parts
 endpoint_in_range endpoint.RetireProduct parts body = retired_in_range parts
 endpoint_in_range endpoint.ListOffices parts body = tt
-endpoint_in_range endpoint.AddOffice parts body = of_body IsInRange new_office new_office_in_range (json_of body)
-endpoint_in_range endpoint.AddStaff parts body = of_body IsInRange new_staff new_staff_in_range (json_of body)
-endpoint_in_range endpoint.AddClient parts body = of_body IsInRange new_client new_client_in_range (json_of body)
+endpoint_in_range endpoint.AddOffice parts body = of_body IsInRange new_office_request new_office_in_range
+    (json_of body)
+endpoint_in_range endpoint.AddStaff parts body = of_body IsInRange new_staff_request new_staff_in_range (json_of body)
+endpoint_in_range endpoint.AddClient parts body = of_body IsInRange new_client_request new_client_in_range
+    (json_of body)
 endpoint_in_range endpoint.ShowClient parts body = client_in_range parts
-endpoint_in_range endpoint.SubmitLoan parts body = of_body IsInRange new_loan new_loan_in_range (json_of body)
+endpoint_in_range endpoint.SubmitLoan parts body = of_body IsInRange new_loan_request new_loan_in_range (json_of body)
 endpoint_in_range endpoint.ListLoans parts body = loans_in_range parts
 endpoint_in_range endpoint.ShowArrears parts body = tt
 endpoint_in_range (endpoint.OnLoan which) parts body = loan_in_range which parts body
 
-asked_in_range : (which : Option Endpoint) (parts : PathParts) (body : List ℕ) → IsInRange (asked_of which parts body)
+asked_in_range : (which : Option Endpoint) (parts : PathParts) (body : List ℕ) → IsInRange (asked_at which parts body)
 asked_in_range None parts body = tt
 asked_in_range (Some which) parts body = read (request_at which parts body) (endpoint_in_range which parts body)
   where
@@ -465,8 +478,8 @@ line_in_range line = short (nat_le (length line) 65536)
     among None = tt
     among (Some p) = sent_in_range p.caller p.method p.path p.body
 
-    short : (b : Bool) → IsInRange (cond b (asked_in (parts_of line)) (Unreadable Malformed))
-    short true = among (parts_of line)
+    short : (b : Bool) → IsInRange (cond b (asked_in (parts_of_line line)) (Unreadable Malformed))
+    short true = among (parts_of_line line)
     short false = tt
 
 -- so do those of a run, whichever calls its lines are

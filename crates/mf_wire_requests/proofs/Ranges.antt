@@ -22,9 +22,10 @@ use Rattle.mf_office.specs.declared.account.Account.{Account}
 use Rattle.mf_office.proofs.WrittenLemmas.{written_is}
 use Rattle.mf_account.specs.Receipts.{is_receipt, IsReceipt}
 use Rattle.mf_model.specs.Sound.{IsName, is_plain}
-use Rattle.mf_wire_requests.specs.Bodies.{whole_at, text_at, is_name, name_at, office_at, within, number_at, present_at}
-use Rattle.mf_wire_requests.specs.Bodies.{optional, optional_receipt_at, account_at, day_named, day_at}
-use Rattle.mf_wire_requests.specs.PathParts.{PathParts, number_in, account_in}
+use Rattle.mf_wire_requests.specs.Bodies.{whole_at, text_at, is_name_text, name_at, office_number_at, within, number_at}
+use Rattle.mf_wire_requests.specs.Bodies.{present_at}
+use Rattle.mf_wire_requests.specs.Bodies.{optional, optional_receipt_at, account_number_at, day_named, day_at}
+use Rattle.mf_wire_requests.specs.PathParts.{PathParts, number_in, account_number_in}
 use Rattle.mf_wire_requests.proofs.DayTexts.{day_among_below}
 
 -- a value that passes a test
@@ -40,7 +41,7 @@ then_some P f h (Some a) = h a
 
 -- ---- members
 
-name_tests : (text : List ℕ) → is_name text ≡ true → IsName text
+name_tests : (text : List ℕ) → is_name_text text ≡ true → IsName text
 name_tests text h =
     let plain = and_parts (is_utf8 text && nat_le 1 (length (chars text)) && nat_le (length (chars text)) 100)
     (list_all is_plain (chars text)) h in
@@ -53,14 +54,14 @@ name_tests text h =
     }
 
 pub name_range : (member : List ℕ) (d : Data) → IfSome (name_at member d) IsName
-name_range member d = then_some IsName (λ text. cond (is_name text) (Some text) None)
-    (λ text. passes IsName (is_name text) text (name_tests text)) (text_at member d)
+name_range member d = then_some IsName (λ text. cond (is_name_text text) (Some text) None)
+    (λ text. passes IsName (is_name_text text) text (name_tests text)) (text_at member d)
 
 number_tests : (limit n : ℕ) → is_number_up_to limit n ≡ true → IsNumberUpTo limit n
 number_tests limit n h = let both =
     and_parts (nat_le 1 n) (nat_le n limit) h in (leb-true 1 n both.0, leb-true n limit both.1)
 
-pub office_range : (member : List ℕ) (d : Data) → IfSome (office_at member d) (IsNumberUpTo 9999)
+pub office_range : (member : List ℕ) (d : Data) → IfSome (office_number_at member d) (IsNumberUpTo 9999)
 office_range member d = then_some (IsNumberUpTo 9999) (number_up_to 9999) (λ n. passes (IsNumberUpTo 9999)
     (is_number_up_to 9999 n) n (number_tests 9999 n)) (whole_at member d)
 
@@ -125,7 +126,7 @@ account_text_range text =
     step (Some o) None h k = tt
     step (Some o) (Some n) h k = (h, k)
 
-pub account_range : (name : List ℕ) (d : Data) → IfSome (account_at name d) IsAccount
+pub account_range : (name : List ℕ) (d : Data) → IfSome (account_number_at name d) IsAccount
 account_range name d = then_some IsAccount account_of account_text_range (text_at name d)
 
 -- a day that may be entered
@@ -161,12 +162,12 @@ digits_range text =
 pub number_in_range : (name : List ℕ) (parts : PathParts) → IfSome (number_in name parts) IsOfNineDigits
 number_in_range name parts = then_some IsOfNineDigits number_of_digits digits_range (named name parts)
 
-pub account_in_range : (name : List ℕ) (parts : PathParts) → IfSome (account_in name parts) IsAccount
+pub account_in_range : (name : List ℕ) (parts : PathParts) → IfSome (account_number_in name parts) IsAccount
 account_in_range name parts = then_some IsAccount account_of account_text_range (named name parts)
 
 -- ---- the test of a name, for what reads it
 
-is_name_of : (text : List ℕ) → IsName text → is_name text ≡ true
+is_name_of : (text : List ℕ) → IsName text → is_name_text text ≡ true
 is_name_of text h = all (is_utf8 text) (nat_le 1 (length (chars text))) (nat_le (length (chars text)) 100)
     (list_all is_plain (chars text))
     (is_utf8-from_IsUtf8 text h.text) (le-leb 1 (length (chars text)) h.some) (le-leb (length (chars text)) 100 h.most)
@@ -177,5 +178,5 @@ is_name_of text h = all (is_utf8 text) (nat_le 1 (length (chars text))) (nat_le 
 
 pub name_read : (member : List ℕ) (d : Data) (text : List ℕ) → text_at member d ≡ Some text → IsName text
     → name_at member d ≡ Some text
-name_read member d text there h = ap (option_and_then (λ t. cond (is_name t) (Some t) None)) there
+name_read member d text there h = ap (option_and_then (λ t. cond (is_name_text t) (Some t) None)) there
     ∙ ap (λ b. cond b (Some text) None) (is_name_of text h)

@@ -28,17 +28,18 @@ abbrev pub text_at : List ℕ → Data → Option (List ℕ)
 text_at name d = option_and_then as_str (get name d)
 
 -- a name is a text of 1 to 100 characters, and no control character of ASCII among them
-abbrev pub is_name : List ℕ → Bool
-is_name text = is_utf8 text && nat_le 1 (length (chars text)) && nat_le (length (chars text)) 100 && list_all is_plain
+abbrev pub is_name_text : List ℕ → Bool
+is_name_text text = is_utf8 text && nat_le 1 (length (chars text)) && nat_le (length (chars text)) 100
+    && list_all is_plain
     (chars text)
 
 -- a member that is a name
 abbrev pub name_at : List ℕ → Data → Option (List ℕ)
-name_at member d = option_and_then (λ text. cond (is_name text) (Some text) None) (text_at member d)
+name_at member d = option_and_then (λ text. cond (is_name_text text) (Some text) None) (text_at member d)
 
 -- a member that is an office's number
-abbrev pub office_at : List ℕ → Data → Option ℕ
-office_at member d = option_and_then (number_up_to 9999) (whole_at member d)
+abbrev pub office_number_at : List ℕ → Data → Option ℕ
+office_number_at member d = option_and_then (number_up_to 9999) (whole_at member d)
 
 -- the number, where it lies from a least to a greatest
 abbrev pub within : ℕ → ℕ → ℕ → Option ℕ
@@ -73,8 +74,8 @@ optional_receipt_at name d =
     optional (λ r. option_and_then (λ text. cond (is_receipt text) (Some text) None) (as_str r)) (present_at name d)
 
 -- a member that is an account's text
-abbrev pub account_at : List ℕ → Data → Option Account
-account_at name d = option_and_then account_of (text_at name d)
+abbrev pub account_number_at : List ℕ → Data → Option Account
+account_number_at name d = option_and_then account_of (text_at name d)
 
 -- the day of a text, of so many days
 unfoldable pub day_among : ℕ → List ℕ → Option ℕ

@@ -9,12 +9,12 @@ use Rattle.mf_wire_requests.specs.Bodies.{name_at, number_at, day_at}
 use Rattle.mf_wire_requests.specs.Named.{kind_at, calc_at}
 
 -- a later business day, by the member day
-abbrev pub later_day : Data → Option Request
-later_day d = option_map (λ day. Catalogue (SetDay day)) (day_at (codes "day") d)
+abbrev pub day_request : Data → Option Request
+day_request d = option_map (λ day. Catalogue (SetDay day)) (day_at (codes "day") d)
 
 -- a new charge, by the members kind, calc, value and name; how it is computed bounds its value
-abbrev pub new_charge : Data → Option Request
-new_charge d =
+abbrev pub new_charge_request : Data → Option Request
+new_charge_request d =
     option_and_then (λ kind.
     option_and_then (λ calc.
     option_and_then (λ value.

@@ -62,8 +62,8 @@ bounds_at d =
     (number_at 1 greatest_amount (codes "min_principal") d)
 
 -- a member that may be absent or null, and else is a charge's number, which may be that of no charge
-abbrev pub charge_at : List ℕ → Data → Option (Option ℕ)
-charge_at name d = optional_number_at 999999999 name d
+abbrev pub optional_charge_at : List ℕ → Data → Option (Option ℕ)
+optional_charge_at name d = optional_number_at 999999999 name d
 
 -- the charges that are named, by the members disbursement_charge, instalment_charge and overdue_charge
 abbrev pub charged_at : Data → Option Charged
@@ -71,9 +71,9 @@ charged_at d =
     option_and_then (λ disbursement.
     option_and_then (λ instalment.
     option_map (λ overdue. record { disbursement = disbursement; instalment = instalment; overdue = overdue })
-    (charge_at (codes "overdue_charge") d))
-    (charge_at (codes "instalment_charge") d))
-    (charge_at (codes "disbursement_charge") d)
+    (optional_charge_at (codes "overdue_charge") d))
+    (optional_charge_at (codes "instalment_charge") d))
+    (optional_charge_at (codes "disbursement_charge") d)
 
 -- the members of a product in one
 abbrev pub members_of : List ℕ → Planning → Bounds → Charged → ProductMembers
@@ -96,8 +96,8 @@ members_of name planning bounds charged = record {
 }
 
 -- a new product, by how it plans, what it lends, which charges it names and the member name
-abbrev pub new_product : Data → Option Request
-new_product d =
+abbrev pub new_product_request : Data → Option Request
+new_product_request d =
     option_and_then (λ planning.
     option_and_then (λ bounds.
     option_and_then (λ charged.
@@ -107,14 +107,14 @@ new_product d =
     (planning_at d)
 
 -- the ranges of a step
-pub record IsStepInRange (step : Step) : Type 0 where
+pub record IsDueStepInRange (step : Step) : Type 0 where
   pub some : 1 ≤ step.every
   pub longest : step.every ≤ longest_step step.freq
 
 -- the ranges of what plans schedules
 pub record IsPlanningInRange (planning : Planning) : Type 0 where
   pub rate : planning.rate ≤ greatest_rate
-  pub step : IsStepInRange planning.step
+  pub step : IsDueStepInRange planning.step
   pub principal_grace : planning.principal_grace ≤ most_grace
   pub interest_grace : planning.interest_grace ≤ most_grace
 

@@ -39,8 +39,8 @@ abbrev pub parts_after : Option (List ℕ × List ℕ) → Option Parts
 parts_after first = option_and_then (λ f. option_map (after_caller f) (split_space f.1)) first
 
 -- The caller, the method and the path, with a space after each of the first two. After a further space comes the body.
-abbrev pub parts_of : List ℕ → Option Parts
-parts_of line = parts_after (split_space line)
+abbrev pub parts_of_line : List ℕ → Option Parts
+parts_of_line line = parts_after (split_space line)
 
 -- a byte that a method may have
 abbrev pub is_token_byte : ℕ → Bool

@@ -18,15 +18,16 @@ use Rattle.mf_wire_requests.specs.declared.routes.Methods.{Methods}
 use Rattle.mf_wire_requests.specs.declared.routes.Methods.TheVariants.{Get, Post, GetAndPost, GetAndPut}
 use Rattle.mf_wire_requests.specs.declared.request.Method.{Method}
 use Rattle.mf_wire_requests.specs.declared.request.Method.TheVariants as method
-use Rattle.mf_wire_requests.specs.RequestLine.{Parts, parts_of, split_space, is_token}
+use Rattle.mf_wire_requests.specs.RequestLine.{Parts, parts_of_line, split_space, is_token}
 use Rattle.mf_wire_requests.specs.PathParts.{PathParts, number_in}
 use Rattle.matchit.specs.Router.{RouteOf}
 use Rattle.mf_wire_requests.specs.Routes.{route_at, parts_on}
 use Rattle.mf_wire_requests.specs.Bodies.{json_of}
-use Rattle.mf_wire_requests.specs.OfficeRequests.{new_office, new_staff, new_client, client_at}
-use Rattle.mf_wire_requests.specs.CatalogueRequests.{later_day, new_charge}
-use Rattle.mf_wire_requests.specs.ProductRequests.{new_product}
-use Rattle.mf_wire_requests.specs.LoanRequests.{new_loan, loans_at, loan_at}
+use Rattle.mf_wire_requests.specs.OfficeRequests.{new_office_request, new_staff_request, new_client_request}
+use Rattle.mf_wire_requests.specs.OfficeRequests.{client_request}
+use Rattle.mf_wire_requests.specs.CatalogueRequests.{day_request, new_charge_request}
+use Rattle.mf_wire_requests.specs.ProductRequests.{new_product_request}
+use Rattle.mf_wire_requests.specs.LoanRequests.{new_loan_request, loans_request, request_on_loan}
 
 -- a method by its text, which is in capitals
 abbrev pub method_of : List ℕ → Method
@@ -46,24 +47,24 @@ endpoint_of _ _ = None
 -- what an endpoint asks, by the parameters of the path and the members of the body
 abbrev pub request_at : Endpoint → PathParts → List ℕ → Option Request
 request_at ShowDay parts body = Some (Catalogue catalogue.ShowDay)
-request_at SetDay parts body = option_and_then later_day (json_of body)
-request_at AddCharge parts body = option_and_then new_charge (json_of body)
+request_at SetDay parts body = option_and_then day_request (json_of body)
+request_at AddCharge parts body = option_and_then new_charge_request (json_of body)
 request_at ShowCharge parts body =
     option_map (λ charge. Catalogue (catalogue.ShowCharge charge)) (number_in (codes "charge") parts)
-request_at AddProduct parts body = option_and_then new_product (json_of body)
+request_at AddProduct parts body = option_and_then new_product_request (json_of body)
 request_at ShowProduct parts body =
     option_map (λ product. Catalogue (catalogue.ShowProduct product)) (number_in (codes "product") parts)
 request_at RetireProduct parts body = option_map (λ product. Catalogue (catalogue.RetireProduct product))
     (number_in (codes "product") parts)
 request_at ListOffices parts body = Some SeenOffices
-request_at AddOffice parts body = option_and_then new_office (json_of body)
-request_at AddStaff parts body = option_and_then new_staff (json_of body)
-request_at AddClient parts body = option_and_then new_client (json_of body)
-request_at ShowClient parts body = client_at parts
-request_at SubmitLoan parts body = option_and_then new_loan (json_of body)
-request_at ListLoans parts body = loans_at parts
+request_at AddOffice parts body = option_and_then new_office_request (json_of body)
+request_at AddStaff parts body = option_and_then new_staff_request (json_of body)
+request_at AddClient parts body = option_and_then new_client_request (json_of body)
+request_at ShowClient parts body = client_request parts
+request_at SubmitLoan parts body = option_and_then new_loan_request (json_of body)
+request_at ListLoans parts body = loans_request parts
 request_at ShowArrears parts body = Some SeenArrears
-request_at (OnLoan endpoint) parts body = loan_at endpoint parts body
+request_at (OnLoan endpoint) parts body = request_on_loan endpoint parts body
 
 -- a request, or that there is none to read
 abbrev pub or_malformed : Option Request → Request
@@ -71,15 +72,15 @@ or_malformed None = Unreadable Malformed
 or_malformed (Some request) = request
 
 -- what is asked at an endpoint, or that the route has no such method
-abbrev pub asked_of : Option Endpoint → PathParts → List ℕ → Request
-asked_of None parts body = Unreadable NoMethod
-asked_of (Some endpoint) parts body = or_malformed (request_at endpoint parts body)
+abbrev pub asked_at : Option Endpoint → PathParts → List ℕ → Request
+asked_at None parts body = Unreadable NoMethod
+asked_at (Some endpoint) parts body = or_malformed (request_at endpoint parts body)
 
 -- what is asked on a route, or that there is no such route
 abbrev pub asked_on : Option (RouteOf Methods) → List ℕ → List ℕ → List ℕ → Request
 asked_on None method path body = Unreadable NoRoute
 asked_on (Some route) method path body =
-    asked_of (endpoint_of route.value (method_of method)) (parts_on route path) body
+    asked_at (endpoint_of route.value (method_of method)) (parts_on route path) body
 
 -- What a method, a path and a body ask: the route is looked for first, then its method, then the path's numbers and the
 -- members.
@@ -105,5 +106,5 @@ asked_in (Some p) = asked_by p.caller p.method p.path p.body
 abbrev pub call_of : List ℕ → Call
 call_of line = record {
   caller = option_and_then (λ p. caller_of p.0) (split_space line);
-  request = cond (nat_le (length line) 65536) (asked_in (parts_of line)) (Unreadable Malformed);
+  request = cond (nat_le (length line) 65536) (asked_in (parts_of_line line)) (Unreadable Malformed);
 }

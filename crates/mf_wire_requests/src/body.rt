@@ -3,9 +3,10 @@
 ghost use Rattle.std.specs.Prelude.{◌≡◌, ◌≤◌, Some, None, option_map, option_and_then, IfOk, IfErr, IfSome, IsTrue};
 ghost use Rattle.std.specs.Prelude.{◌⊎◌};
 ghost use Rattle.serde_json.specs.View.{view};
-ghost use Rattle.mf_wire_requests.specs.Bodies.{json_of, whole_at, text_at, name_at, office_at};
+ghost use Rattle.mf_wire_requests.specs.Bodies.{json_of, whole_at, text_at, name_at, office_number_at};
 ghost use Rattle.mf_wire_requests.specs.Bodies.{within as within_limits, number_at, present_at, optional_receipt_at};
-ghost use Rattle.mf_wire_requests.specs.Bodies.{optional_number_at, account_at, day_named as day_of, day_at, Gives};
+ghost use Rattle.mf_wire_requests.specs.Bodies.{optional_number_at, account_number_at, day_named as day_of, day_at};
+ghost use Rattle.mf_wire_requests.specs.Bodies.{Gives};
 ghost use Rattle.mf_wire_requests.specs.Named.{choice_at};
 ghost use Rattle.mf_model.specs.Sound.{IsName};
 ghost use Rattle.mf_office.specs.Texts.{IsAccount};
@@ -69,7 +70,7 @@ pub fn name(alloc: Global, body: &Value, member: &str) -> Result<Name, Fault>
 
 /// A member that is an office's number.
 pub fn office(body: &Value, member: &str) -> Option<OfficeNo>
-    ensures { result ≡ office_at member.now (view body.now) }
+    ensures { result ≡ office_number_at member.now (view body.now) }
 {
     let number = whole(body, member)?;
     if number <= 9999 {
@@ -147,7 +148,7 @@ pub fn receipt(alloc: Global, body: &Value, member: &str) -> Result<Option<Recei
 
 /// A member that is an account's text.
 pub fn account(body: &Value, member: &str) -> Option<Account>
-    ensures value { result ≡ account_at member.now (view body.now) }
+    ensures value { result ≡ account_number_at member.now (view body.now) }
     ensures in_range { IfSome result IsAccount }
 {
     Account::parse(text(body, member)?.as_bytes())

@@ -4,7 +4,7 @@ ghost use Rattle.std.specs.Prelude.{◌≤◌, IfOk};
 ghost use Rattle.matchit.specs.Params.{AllText};
 ghost use Rattle.mf_office.specs.Texts.{IsAccount};
 ghost use Rattle.mf_wire_requests.specs.Bodies.{Gives};
-ghost use Rattle.mf_wire_requests.specs.PathParts.{parts_of_params, number_in, account_in};
+ghost use Rattle.mf_wire_requests.specs.PathParts.{parts_of_params, number_in, account_number_in};
 
 use matchit::Params;
 use mf_base::{Fault, parse_digits};
@@ -13,7 +13,7 @@ use mf_office::Account;
 /// The account that a parameter of a path names. `F1` where it names none.
 pub fn account(params: &Params<'_, '_>, name: &str) -> Result<Account, Fault>
     requires { AllText (parts_of_params params.now) }
-    ensures value { Gives (account_in name.now (parts_of_params params.now)) result }
+    ensures value { Gives (account_number_in name.now (parts_of_params params.now)) result }
     ensures in_range { IfOk result IsAccount }
 {
     let text = params.get(name).ok_or(Fault::F1)?;

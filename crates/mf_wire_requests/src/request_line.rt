@@ -2,7 +2,7 @@
 
 ghost use Rattle.std.specs.Prelude.{◌≡◌, option_map};
 ghost use Rattle.std.specs.List.{list_all};
-ghost use Rattle.mf_wire_requests.specs.RequestLine.{parts_now, parts_of, is_token as token_test, is_token_byte};
+ghost use Rattle.mf_wire_requests.specs.RequestLine.{parts_now, parts_of_line, is_token as token_test, is_token_byte};
 
 use mf_base::split_once;
 
@@ -21,7 +21,7 @@ pub struct LineParts<'a> {
 
 /// The parts of a line, or None where it has fewer than two spaces.
 pub fn line_parts(line: &[u8]) -> Option<LineParts<'_>>
-    ensures { option_map parts_now result ≡ parts_of line.now }
+    ensures { option_map parts_now result ≡ parts_of_line line.now }
 {
     let (caller, rest) = split_once(line, b' ')?;
     let (method, rest) = split_once(rest, b' ')?;

@@ -9,7 +9,7 @@ use Rattle.mf_model.specs.declared.store.InstitutionStore.{Ghosts}
 use Rattle.mf_wire.specs.Exchanges.{Exchange, AnswersAll}
 use Rattle.mf_wire.specs.Serving.{AnswersMessage, EndsMessage, EndsMessageBy}
 use Rattle.mf_wire_lines.specs.Streams.{Streams}
-use Rattle.microloan_commands.specs.Served.{Serves, whole_of}
+use Rattle.microloan_commands.specs.Served.{ServesConnections, whole_of}
 
 module _ {S : Type 0} (store : Ghosts S) where
   -- one list of messages after another
@@ -19,12 +19,12 @@ module _ {S : Type 0} (store : Ghosts S) where
   both (e ∷ es) fs old mid new (next, one, rest) second = (next, one, both es fs next mid new rest second)
 
   -- connections without a message
-  pub serves_nothing : (n : ℕ) (old new : S) → new ≡ old → Serves store n old new 0
+  pub serves_nothing : (n : ℕ) (old new : S) → new ≡ old → ServesConnections store n old new 0
   serves_nothing n old new same = record { exchanges = []; answered = same; each = omega arith; counted = omega arith }
 
   -- a connection with a message
   serves_message : (count : ℕ) (bytes text : List ℕ) (old new : S) → count ≤ 1 → AnswersMessage store bytes old text new
-      → Serves store 1 old new count
+      → ServesConnections store 1 old new count
   serves_message count bytes text old new most answered = record {
     exchanges = record { bytes = bytes; text = text } ∷ [];
     answered = (new, answered, refl);
@@ -34,7 +34,7 @@ module _ {S : Type 0} (store : Ghosts S) where
 
   served_by : (cause : Cause) (count : ℕ) (old new : S) (streams : Streams) → EndsMessageBy (AnswersMessage store) old
       new streams cause count
-      → Serves store 1 old new 0
+      → ServesConnections store 1 old new 0
   served_by Read count old new streams ended = serves_nothing 1 old new ended.untouched.same
   served_by Write count old new streams ended = serves_message 0 _ ended.text old new (omega arith) ended.answered
   served_by Memory count old new streams ended = serves_nothing 1 old new ended.untouched.same
@@ -42,14 +42,15 @@ module _ {S : Type 0} (store : Ghosts S) where
   -- what serving one message leaves
   pub served_one : (result : Result Bool StreamFault) (old new : S) (streams : Streams)
       → EndsMessage (AnswersMessage store) old new streams result
-      → Serves store 1 old new (whole_of result)
+      → ServesConnections store 1 old new (whole_of result)
   served_one (Ok true) old new streams ended = serves_message 1 _ ended.text old new (omega arith) ended.answered
   served_one (Ok false) old new streams ended = serves_nothing 1 old new ended.untouched.same
   served_one (Err fault) old new streams ended = served_by fault.cause fault.answered old new streams ended
 
   -- one more connection
-  pub serves_more : (n count more : ℕ) (old mid new : S) → Serves store n old mid count → Serves store 1 mid new more
-      → Serves store (n + 1) old new (count + more)
+  pub serves_more : (n count more : ℕ) (old mid new : S) → ServesConnections store n old mid count
+      → ServesConnections store 1 mid new more
+      → ServesConnections store (n + 1) old new (count + more)
   serves_more n count more old mid new first second =
       let long : length (first.exchanges ++ second.exchanges) ≡ length first.exchanges + length second.exchanges =
       length-append first.exchanges second.exchanges in record {

@@ -6,7 +6,7 @@ use Rattle.mf_wire.specs.Exchanges.{Exchange, AnswersAll}
 
 -- The store answered messages one after another, at most one a connection, and nothing else was done to it. The
 -- responses of so many were written whole.
-pub record Serves {S : Type 0} (store : Ghosts S) (connections : ℕ) (old new : S) (count : ℕ) : Type 0 where
+pub record ServesConnections {S : Type 0} (store : Ghosts S) (connections : ℕ) (old new : S) (count : ℕ) : Type 0 where
   pub exchanges : List Exchange
   pub answered : AnswersAll store old exchanges new
   pub each : length exchanges ≤ connections

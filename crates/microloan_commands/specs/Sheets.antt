@@ -4,7 +4,7 @@ use Rattle.std.specs.Io.KnownBytes.{Consumes, IsAtEnd}
 use Rattle.mf_base.specs.declared.fault.Cause.{Cause}
 use Rattle.mf_base.specs.declared.fault.Cause.TheVariants.{Read, Write, Memory}
 use Rattle.mf_base.specs.declared.fault.StreamFault.{StreamFault}
-use Rattle.mf_sheet_lines.specs.Sheets.{longest, rows_of}
+use Rattle.mf_sheet_lines.specs.Sheets.{longest, sheet_rows_of}
 use Rattle.mf_sheet_lines.specs.declared.results.SheetResult.{SheetResult}
 use Rattle.mf_sheet.specs.Ends as sheet
 use Rattle.mf_wire_lines.specs.Streams.{Streams}
@@ -12,7 +12,7 @@ use Rattle.microloan_commands.specs.declared.sheets.SheetFault.{SheetFault}
 use Rattle.microloan_commands.specs.declared.sheets.SheetFault.TheVariants.{TooLong, Stream}
 
 -- what a source had to give was read to its end, and is no longer than a sheet may be
-pub record IsWhole (unread left : Option (List ℕ)) (bytes : List ℕ) : Type 0 where
+pub record IsWholeSheet (unread left : Option (List ℕ)) (bytes : List ℕ) : Type 0 where
   pub consumed : Consumes unread left bytes
   pub ended : IsAtEnd left
   pub short : length bytes ≤ longest
@@ -45,9 +45,9 @@ module _ {S : Type 0} (runs : S → List (List (List ℕ)) → List SheetResult 
   -- the sheet was read whole, and what collecting it left is as this result says; the source did not fail
   pub record Collected (result : Result (Unit {0}) StreamFault) : Type 0 where
     pub bytes : List ℕ
-    pub read : IsWhole streams.source.before streams.source.after bytes
+    pub read : IsWholeSheet streams.source.before streams.source.after bytes
     pub source : streams.source.faults_after ≡ streams.source.faults_before
-    pub ended : sheet.Ends runs old new (record { rows = rows_of bytes; sink = streams.sink }) result
+    pub ended : sheet.Ends runs old new (record { rows = sheet_rows_of bytes; sink = streams.sink }) result
 
   -- the sheet is too long; the source did not fail
   pub record Refused : Type 0 where

@@ -2,7 +2,7 @@
 
 ghost use Rattle.std.specs.Prelude.{◌≡◌, IfOk, IfErr};
 ghost use Rattle.mf_base.specs.declared.fault.Cause.TheVariants as cause;
-ghost use Rattle.microloan_commands.specs.Served.{Serves, whole_of};
+ghost use Rattle.microloan_commands.specs.Served.{ServesConnections, whole_of};
 
 use crate::connections::{Timed, Times, end_connection};
 use mf_base::{Cause, StreamFault};
@@ -34,7 +34,7 @@ fn serve_streams<S: InstitutionStore, R: Read + Drop, W: Write + Drop>(
     reader: R,
     writer: W,
 ) -> u64
-    ensures { Serves S.InstitutionStore 1 store.old store.new result }
+    ensures { ServesConnections S.InstitutionStore 1 store.old store.new result }
 {
     let mut source = WatchedReader::new(reader);
     let mut sink = WatchedWriter::new(writer);
@@ -50,7 +50,7 @@ fn serve_next<S: InstitutionStore, C: Clock, L: OpenListener<Stream = TcpStream>
     listener: &L,
     patience: u32,
 ) -> u64
-    ensures { Serves S.InstitutionStore 1 store.old store.new result }
+    ensures { ServesConnections S.InstitutionStore 1 store.old store.new result }
 {
     let Ok((stream, _)) = listener.accept() else {
         return 0;
@@ -82,7 +82,7 @@ pub fn serve_connections<S: InstitutionStore, C: Clock, L: OpenListener<Stream =
     connections: u64,
     patience: u32,
 ) -> Result<u64, StreamFault>
-    ensures served { IfOk result (Serves S.InstitutionStore connections store.old store.new) }
+    ensures served { IfOk result (ServesConnections S.InstitutionStore connections store.old store.new) }
     ensures memory { IfErr result (λ fault. (fault ≡ record { answered = 0; cause = cause.Memory })
         × (store.new ≡ store.old)) }
 {

@@ -4,7 +4,7 @@ ghost use Rattle.std.specs.Prelude.{◌≡◌, ◌≢◌, length, IfOk, IfErr};
 ghost use Rattle.mf_base.specs.declared.fault.Cause.TheVariants as cause;
 ghost use Rattle.mf_sheet.specs.Runs.{RunsRows};
 ghost use Rattle.mf_wire_lines.specs.Streams.{stream_of, streams_of};
-ghost use Rattle.microloan_commands.specs.Sheets.{IsWhole, IsReadFault, Ends};
+ghost use Rattle.microloan_commands.specs.Sheets.{IsWholeSheet, IsReadFault, Ends};
 
 use mf_base::{Cause, StreamFault};
 use mf_model::InstitutionStore;
@@ -39,7 +39,7 @@ fn before_any(cause: Cause) -> SheetFault
 
 /// The bytes of a source, read to its end, where they are no more than a sheet may have.
 fn read_whole<R: Source>(alloc: Global, source: &mut R) -> Result<Vec<u8>, SheetFault>
-    ensures whole { IfOk result (λ bytes. IsWhole (R.unread source.old) (R.unread source.new) bytes.items
+    ensures whole { IfOk result (λ bytes. IsWholeSheet (R.unread source.old) (R.unread source.new) bytes.items
         × (R.faults source.new ≡ R.faults source.old)) }
     ensures refusal { IfErr result (λ fault. IsReadFault R.unread R.faults source.old source.new fault) }
 {

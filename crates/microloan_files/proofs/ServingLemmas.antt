@@ -14,7 +14,7 @@ use Rattle.mf_wire.specs.Exchanges.{Exchange, AnswersAll, ServesOn}
 use Rattle.sqlite.specs.Files.{over_files}
 use Rattle.sqlite_disk.specs.declared.Disk.{Ghosts}
 use Rattle.sqlite_store.specs.declared.store.FileStore.{FileStore}
-use Rattle.microloan_commands.specs.Served.{Serves}
+use Rattle.microloan_commands.specs.Served.{ServesConnections}
 use Rattle.microloan_files.specs.Serving.{IsServedRun, ServesSo}
 
 -- a disk that is good in the end was so at the beginning
@@ -29,7 +29,7 @@ abbrev pub IsWithoutMemory : {S : Type 0} → S → S → StreamFault → Type 0
 IsWithoutMemory old new fault = (fault ≡ record { answered = 0; cause = Memory }) × (new ≡ old)
 
 pub served_good_before : {S : Type 0} (store : model.Ghosts S) (connections : ℕ) (old new : S)
-    (result : Result ℕ StreamFault) → IfOk result (Serves store connections old new)
+    (result : Result ℕ StreamFault) → IfOk result (ServesConnections store connections old new)
     → IfErr result (IsWithoutMemory old new) → store.clean new → store.clean old
 served_good_before store connections old new (Ok count) served none clean =
     good_before store old served.exchanges new served.answered clean
@@ -43,7 +43,7 @@ module _ {D : Type 0} {g : Ghosts D} (i : Institution) (first final : KnownStore
   abbrev pub over : model.Ghosts (KnownStore (FileStore D g))
   over = record { stands = StandsFor over_files; clean = stores.IsClean over_files; leaves = Leaves over_files }
 
-  pub serve_so : (connections count : ℕ) (s : Serves over connections first final count)
+  pub serve_so : (connections count : ℕ) (s : ServesConnections over connections first final count)
       → ServesOn over i s.exchanges first final
       → (run : List Line) × IsServedRun i connections count run × K run
   serve_so connections count s o = (
@@ -67,7 +67,8 @@ module _ {D : Type 0} {g : Ghosts D} (i : Institution) (first final : KnownStore
       after_run [] tt (subst (λ (k : KnownStore (FileStore D g)). StandsFor over_files k i) (sym same) stood)
       (subst (λ (k : KnownStore (FileStore D g)). Leaves over_files k (i ∷ [])) (sym same) leaves)
 
-  pub serves_so : (connections : ℕ) (result : Result ℕ StreamFault) → IfOk result (Serves over connections first final)
+  pub serves_so : (connections : ℕ) (result : Result ℕ StreamFault)
+      → IfOk result (ServesConnections over connections first final)
       → IfErr result (IsWithoutMemory first final)
       → ((es : List Exchange) → AnswersAll over first es final → ServesOn over i es first final)
       → ServesSo i connections K result

@@ -6,7 +6,7 @@ use Rattle.mf_model.specs.Answering.{all_answered}
 use Rattle.mf_model.specs.Run.{Line}
 use Rattle.mf_store_files.specs.Stops.{IsLeftBy}
 use Rattle.mf_wire.specs.Runs.{IsIsolated, texts_of}
-use Rattle.mf_wire.specs.Senders.{NoneIsF20}
+use Rattle.mf_wire.specs.Senders.{NoTextIsF20}
 use Rattle.mf_wire_lines.specs.Ends.{Ends}
 use Rattle.mf_wire_lines.specs.Streams.{Streams}
 use Rattle.mf_wire_requests.specs.Requests.{call_of}
@@ -14,7 +14,7 @@ use Rattle.sqlite_disk.specs.declared.Disk.{Ghosts}
 use Rattle.sqlite_store.specs.FileStore.{state}
 use Rattle.sqlite_store.specs.declared.store.FileStore.{FileStore}
 use Rattle.sqlite_wal.specs.Recovery.{Image}
-use Rattle.microloan_files.specs.Opening.{HoldsInstitution, HoldsInSchema}
+use Rattle.microloan_files.specs.Opening.{IsFileOf, HoldsInSchema}
 
 -- The run is that of the lines on the institution, and the texts are its replies. What each office is told is isolated.
 -- Where no text is F20's, no line was given up.
@@ -22,14 +22,14 @@ pub record IsRunOver (i : Institution) (lines texts : List (List ℕ)) (run : Li
   pub calls : map (λ l. l.call) run ≡ map call_of lines
   pub replied : texts ≡ texts_of run i
   pub isolated : IsIsolated (record { institution = i; run = run; lines = lines; texts = texts })
-  pub with_memory : NoneIsF20 texts → run ≡ all_answered (map call_of lines)
+  pub with_memory : NoTextIsF20 texts → run ≡ all_answered (map call_of lines)
 
 module _ {D : Type 0} {g : Ghosts D} where
   -- Whatever a stop leaves of the files holds the institution after all lines of the run that were answered, or with
   -- the change of one line more, of those that were given up after the last change.
   abbrev pub LeaveBeginning : Institution → List Line → FileStore D g → Type 0
   LeaveBeginning i run files = (left : Image) → (state files).may_leave left → ∥ ((j : Institution) × IsLeftBy run i j
-      × HoldsInstitution left j) ∥₁
+      × IsFileOf left j) ∥₁
 
   -- whatever a stop leaves of the files holds this institution
   abbrev pub StillHolds : Institution → FileStore D g → Type 0

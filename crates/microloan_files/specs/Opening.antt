@@ -12,14 +12,14 @@ use Rattle.mf_store_upgrade.specs.Upgrade.{HoldsFirst}
 use Rattle.mf_store_files.specs.Files.{HasNoTables}
 
 -- the file is a database that has this sound institution's rows and nothing else
-pub record HoldsInstitution (image : Image) (i : Institution) : Type 0 where
+pub record IsFileOf (image : Image) (i : Institution) : Type 0 where
   pub trees : Trees
   pub database : HoldsDatabase image trees
   pub sound : IsSound i
   pub holds : Holds trees (Some (tables_of i))
 
 -- the same of a file of the first schema
-pub record HoldsInstitutionFirst (image : Image) (i : Institution) : Type 0 where
+pub record IsFirstFileOf (image : Image) (i : Institution) : Type 0 where
   pub trees : Trees
   pub database : HoldsDatabase image trees
   pub sound : IsSound i
@@ -27,7 +27,7 @@ pub record HoldsInstitutionFirst (image : Image) (i : Institution) : Type 0 wher
 
 -- the file holds this institution, by today's schema or by the first
 abbrev pub HoldsInSchema : Image → Institution → Type 0
-HoldsInSchema image i = HoldsInstitution image i ⊎ HoldsInstitutionFirst image i
+HoldsInSchema image i = IsFileOf image i ⊎ IsFirstFileOf image i
 
 -- the institution as which a file is opened on a day: a new one where the file has no tables, else the one that it
 -- holds

@@ -6,7 +6,7 @@ use Rattle.mf_model.specs.Institution.{Institution}
 use Rattle.mf_model.specs.Run.{Line, answers, NoneGivenUp}
 use Rattle.mf_sheet.specs.Ends.{SheetStreams, Ends}
 use Rattle.mf_sheet.specs.Lines.{call_by, result_of}
-use Rattle.mf_sheet.specs.Runs.{NoneIsF20, OnlyF20GivesUp}
+use Rattle.mf_sheet.specs.Runs.{NoResultIsF20, OnlyF20GivesUp}
 use Rattle.mf_sheet_lines.specs.declared.results.SheetResult.{SheetResult}
 use Rattle.sqlite_disk.specs.declared.Disk.{Ghosts}
 use Rattle.sqlite_store.specs.declared.store.FileStore.{FileStore}
@@ -19,7 +19,7 @@ pub record IsSheetRun (c : Caller) (i : Institution) (rows : List (List (List �
   pub calls : map (λ l. l.call) run ≡ map (call_by c) rows
   pub replied : results ≡ map result_of (answers run i)
   pub given_up : OnlyF20GivesUp run results
-  pub with_memory : NoneIsF20 results → NoneGivenUp run
+  pub with_memory : NoResultIsF20 results → NoneGivenUp run
 
 -- The sheet was collected as the result says by one run on the institution, which is empty where no line was answered.
 -- What a stop leaves of the files is a beginning of that run.

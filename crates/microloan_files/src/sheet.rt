@@ -2,7 +2,7 @@
 
 ghost use Rattle.std.specs.Prelude.{◌≤◌, [], ◌∷◌, length};
 ghost use Rattle.mf_model.specs.Institution.{Institution};
-ghost use Rattle.mf_sheet_lines.specs.Sheets.{longest, rows_of};
+ghost use Rattle.mf_sheet_lines.specs.Sheets.{longest, sheet_rows_of};
 ghost use Rattle.mf_store.specs.Stands.{StandsFor, Leaves};
 ghost use Rattle.mf_store_commits.specs.Tabled.{HasGoodDisk};
 ghost use Rattle.mf_wire_lines.specs.Streams.{stream_of};
@@ -34,7 +34,7 @@ pub fn collect_over<D: Disk + Drop, W: Sink>(
     ensures premise { IsClean (view result.1) → HasGoodDisk over_files store.connection }
     ensures ends { IsClean (view result.1) → (i : Institution) → StandsFor over_files store i →
         Leaves over_files store (i ∷ []) → CollectsAsBeginning caller i result.1 (record {
-          rows = rows_of bytes.now;
+          rows = sheet_rows_of bytes.now;
           sink = stream_of W.written W.faults sink.old sink.new;
         }) result.0 }
 {

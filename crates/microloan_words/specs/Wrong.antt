@@ -19,28 +19,28 @@ abbrev pub IsFlag : List Row → Text → Type 0
 IsFlag rows id = (given : Bool) × (first_of id rows ≡ Some (flag_text given))
 
 -- a number within its limits is given
-abbrev pub IsNumber : List Row → Text → ℕ → ℕ → Type 0
-IsNumber rows id least greatest = (number : ℕ) × IsNumberAt rows id least greatest number
+abbrev pub IsSomeNumber : List Row → Text → ℕ → ℕ → Type 0
+IsSomeNumber rows id least greatest = (number : ℕ) × IsNumberAt rows id least greatest number
 
 -- the option is as it should be
 abbrev pub IsRight : List Row → Wrong → Type 0
 IsRight rows File = (path : Text) × (first_of (codes "file") rows ≡ Some path)
 IsRight rows Existing = IsFlag rows (codes "existing")
 IsRight rows All = IsFlag rows (codes "all")
-IsRight rows Port = IsNumber rows (codes "port") 1 65535
+IsRight rows Port = IsSomeNumber rows (codes "port") 1 65535
 IsRight rows Count = (count : ℕ) × IsCountAt rows (codes "count") count
-IsRight rows Patience = IsNumber rows (codes "patience") 1 most_patience
+IsRight rows Patience = IsSomeNumber rows (codes "patience") 1 most_patience
 IsRight rows Staff = (staff : Caller) × IsCallerAt rows (codes "staff") staff
 IsRight rows MethodOption = (method : Method) × (first_of (codes "method") rows ≡ Some (method_name method))
-IsRight rows Principal = IsNumber rows (codes "principal") 1 greatest_amount
-IsRight rows Rate = IsNumber rows (codes "rate") 0 greatest_rate
-IsRight rows Periods = IsNumber rows (codes "periods") 1 most_periods
+IsRight rows Principal = IsSomeNumber rows (codes "principal") 1 greatest_amount
+IsRight rows Rate = IsSomeNumber rows (codes "rate") 0 greatest_rate
+IsRight rows Periods = IsSomeNumber rows (codes "periods") 1 most_periods
 IsRight rows Day = (day : ℕ) × IsDayAt rows (codes "day") day
 IsRight rows Frequency = (frequency : Freq) × (first_of (codes "frequency") rows ≡ Some (frequency_name frequency))
 IsRight rows Every = (frequency : Freq) × (first_of (codes "frequency") rows ≡ Some (frequency_name frequency))
-    × IsNumber rows (codes "every") 1 (longest_step frequency)
-IsRight rows PrincipalGrace = IsNumber rows (codes "principal-grace") 0 most_grace
-IsRight rows InterestGrace = IsNumber rows (codes "interest-grace") 0 most_grace
+    × IsSomeNumber rows (codes "every") 1 (longest_step frequency)
+IsRight rows PrincipalGrace = IsSomeNumber rows (codes "principal-grace") 0 most_grace
+IsRight rows InterestGrace = IsSomeNumber rows (codes "interest-grace") 0 most_grace
 
 -- the first of these options that isn't as it should be
 abbrev pub IsFirstWrong : List Row → List Wrong → Wrong → Type 0

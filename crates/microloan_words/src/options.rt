@@ -11,7 +11,7 @@ use clap::{Arg, ArgAction, Command};
 use std::alloc::{AllocError, Global};
 
 /// This release, and the schema of the files that it writes.
-const VERSION: &str = "1.2.1 (schema 2)";
+const VERSION: &str = "1.2.2 (schema 2)";
 
 /// Whether an option must be given, has a text that stands where it isn't, or is a flag.
 pub(crate) enum Need {
@@ -220,7 +220,12 @@ fn with_options<'a>(
 }
 
 /// A command with its line in help, and the text behind its options.
-fn described<'a>(alloc: Global, name: &'a str, about: &'a str, after: &'a str) -> Command<'a>
+fn command_with_help<'a>(
+    alloc: Global,
+    name: &'a str,
+    about: &'a str,
+    after: &'a str,
+) -> Command<'a>
     ensures app { app_of result ≡ new_app name.entry.now }
     ensures local { (fields_of result).has_globals ≡ false }
 {
@@ -232,7 +237,7 @@ fn batch_command<'a>(alloc: Global) -> Result<Command<'a>, AllocError>
     ensures app { IfOk result (λ c. app_of c ≡ batch_app) }
     ensures local { IfOk result (λ c. (fields_of c).has_globals ≡ false) }
 {
-    let command = described(
+    let command = command_with_help(
         alloc,
         "batch",
         "Answer request lines",
@@ -246,7 +251,7 @@ fn serve_command<'a>(alloc: Global) -> Result<Command<'a>, AllocError>
     ensures app { IfOk result (λ c. app_of c ≡ serve_app) }
     ensures local { IfOk result (λ c. (fields_of c).has_globals ≡ false) }
 {
-    let command = described(
+    let command = command_with_help(
         alloc,
         "serve",
         "Answer HTTP messages, one a connection",
@@ -260,7 +265,7 @@ fn collect_command<'a>(alloc: Global) -> Result<Command<'a>, AllocError>
     ensures app { IfOk result (λ c. app_of c ≡ staff_app (codes "collect")) }
     ensures local { IfOk result (λ c. (fields_of c).has_globals ≡ false) }
 {
-    let command = described(
+    let command = command_with_help(
         alloc,
         "collect",
         "Enter the repayments of a collection sheet",
@@ -274,7 +279,7 @@ fn report_command<'a>(alloc: Global) -> Result<Command<'a>, AllocError>
     ensures app { IfOk result (λ c. app_of c ≡ staff_app (codes "report")) }
     ensures local { IfOk result (λ c. (fields_of c).has_globals ≡ false) }
 {
-    let command = described(
+    let command = command_with_help(
         alloc,
         "report",
         "Print the report of arrears",
@@ -291,7 +296,7 @@ fn schedule_named<'a>(alloc: Global) -> Command<'a>
     ensures app { app_of result ≡ new_app (codes "schedule") }
     ensures local { (fields_of result).has_globals ≡ false }
 {
-    let command = described(
+    let command = command_with_help(
         alloc,
         "schedule",
         "Print the schedule of a loan, without charges",
@@ -315,7 +320,7 @@ fn why_command<'a>(alloc: Global) -> Result<Command<'a>, AllocError>
     ensures app { IfOk result (λ c. app_of c ≡ file_app (codes "why")) }
     ensures local { IfOk result (λ c. (fields_of c).has_globals ≡ false) }
 {
-    let command = described(
+    let command = command_with_help(
         alloc,
         "why",
         "Say what stands in a file, and why it isn't opened",
@@ -329,7 +334,7 @@ fn audit_command<'a>(alloc: Global) -> Result<Command<'a>, AllocError>
     ensures app { IfOk result (λ c. app_of c ≡ audit_app) }
     ensures local { IfOk result (λ c. (fields_of c).has_globals ≡ false) }
 {
-    let command = described(
+    let command = command_with_help(
         alloc,
         "audit",
         "Check a file, and add up what it holds",
@@ -358,7 +363,7 @@ fn bare_program<'a>(alloc: Global) -> Command<'a>
     ensures app { app_of result ≡ bare_app }
     ensures local { (fields_of result).has_globals ≡ false }
 {
-    let texts = described(
+    let texts = command_with_help(
         alloc,
         "microloan",
         "The loan desk of a microfinance institution",

@@ -4,7 +4,8 @@ ghost use Rattle.std.specs.Prelude.{◌≡◌, IfOk, IfErr, OnOk};
 ghost use Rattle.serde_json.specs.Data.{put as with_member};
 ghost use Rattle.serde_json.specs.View.{view, members_view};
 ghost use Rattle.mf_wire_replies.specs.Json.{text_or_null as text_or_null_of, whole_or_null as whole_or_null_of};
-ghost use Rattle.mf_wire_replies.specs.AccountTexts.{sum_of, instalment_data, kind_name, portion_name, instalment_for};
+ghost use Rattle.mf_wire_replies.specs.AccountTexts.{sum_of, instalment_data, entry_kind_name, portion_name};
+ghost use Rattle.mf_wire_replies.specs.AccountTexts.{instalment_for};
 ghost use Rattle.mf_wire_replies.specs.AccountTexts.{portion_waived, share_data, shares_data};
 ghost use Rattle.mf_wire_replies.specs.AccountTexts.{entry_rest as entry_rest_of, entry_data};
 
@@ -49,7 +50,7 @@ impl Shown for InstalmentLine {
 }
 
 fn kind_name(kind: Kind) -> &'static str
-    ensures { result.now ≡ kind_name kind }
+    ensures { result.now ≡ entry_kind_name kind }
 {
     match kind {
         Kind::Repay => "repayment",

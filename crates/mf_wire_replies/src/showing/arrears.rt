@@ -5,7 +5,7 @@ ghost use Rattle.serde_json.specs.Data.{put as with_member};
 ghost use Rattle.serde_json.specs.View.{view, members_view};
 ghost use Rattle.mf_model.specs.declared.reply.Reply.TheVariants.{ArrearsShown};
 ghost use Rattle.mf_wire_replies.specs.Shown.{IsBodyOf};
-ghost use Rattle.mf_wire_replies.specs.ArrearsTexts.{money, line_end as line_end_of, all_data, line_data};
+ghost use Rattle.mf_wire_replies.specs.ArrearsTexts.{money, line_end as line_end_of, all_data, arrears_line_data};
 
 use super::Body;
 use super::lists::{Shown, array_of};
@@ -52,7 +52,7 @@ fn all_value(alloc: Global, all: &Totals) -> Result<Value, Fault>
 }
 
 impl Shown for OfficeLine {
-    ghost json = { line_data };
+    ghost json = { arrears_line_data };
 
     fn value(&self, alloc: Global) -> Result<Value, Fault> {
         let mut members = line_end(alloc, self.outstanding, self.over_90, self.par30())?;

@@ -7,7 +7,7 @@ ghost use Rattle.serde_json.specs.Written.{compact_text, members_text};
 ghost use Rattle.mf_model.specs.declared.reply.Reply.TheVariants.{Loan as LoanTold};
 ghost use Rattle.mf_wire_replies.specs.Shown.{IsBodyOf};
 ghost use Rattle.mf_wire_replies.specs.LoanTexts.{loan_end as loan_end_of, loan_rest as loan_rest_of, loan_by_texts};
-ghost use Rattle.mf_wire_replies.specs.LoanTexts.{loan_data, sums_data, day_or_null, told_status, line_data};
+ghost use Rattle.mf_wire_replies.specs.LoanTexts.{loan_data, sums_data, day_or_null, told_status, loan_line_data};
 
 use super::lists::{Shown, array_of};
 use super::members::Members;
@@ -20,7 +20,7 @@ use serde_json::{Value, json};
 use std::alloc::{AllocError, Global};
 
 impl Shown for LoanLine {
-    ghost json = { line_data };
+    ghost json = { loan_line_data };
 
     fn value(&self, alloc: Global) -> Result<Value, Fault> {
         let mut members = Members::new(alloc);

@@ -3,7 +3,7 @@
 ghost use Rattle.std.specs.Prelude.{option_and_then, IfOk};
 ghost use Rattle.mf_model.specs.Sound.{IsInRange};
 ghost use Rattle.mf_wire_requests.specs.Bodies.{json_of, Gives};
-ghost use Rattle.mf_wire_requests.specs.CatalogueRequests.{later_day as day_asked, new_charge as charge_asked};
+ghost use Rattle.mf_wire_requests.specs.CatalogueRequests.{day_request, new_charge_request};
 
 use crate::body::{choice, day, json, long_number, name};
 use mf_base::Fault;
@@ -12,7 +12,7 @@ use mf_model::{CatalogueRequest, Request};
 use std::alloc::Global;
 
 pub fn later_day(alloc: Global, body: &[u8]) -> Result<Request, Fault>
-    ensures value { Gives (option_and_then day_asked (json_of body.now)) result }
+    ensures value { Gives (option_and_then day_request (json_of body.now)) result }
     ensures in_range { IfOk result IsInRange }
 {
     let body = json(alloc, body)?;
@@ -21,7 +21,7 @@ pub fn later_day(alloc: Global, body: &[u8]) -> Result<Request, Fault>
 }
 
 pub fn new_charge(alloc: Global, body: &[u8]) -> Result<Request, Fault>
-    ensures value { Gives (option_and_then charge_asked (json_of body.now)) result }
+    ensures value { Gives (option_and_then new_charge_request (json_of body.now)) result }
     ensures in_range { IfOk result IsInRange }
 {
     let body = json(alloc, body)?;

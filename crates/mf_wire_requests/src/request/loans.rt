@@ -5,10 +5,10 @@ ghost use Rattle.serde_json.specs.View.{view};
 ghost use Rattle.matchit.specs.Params.{AllText};
 ghost use Rattle.mf_model.specs.Sound.{IsInRange, IsLoanInRange};
 ghost use Rattle.mf_wire_requests.specs.Bodies.{json_of, Gives};
-ghost use Rattle.mf_wire_requests.specs.LoanRequests.{new_loan as loan_asked, disbursement as disbursement_asked};
-ghost use Rattle.mf_wire_requests.specs.LoanRequests.{repayment as repayment_asked, fee as fee_asked, instalment_at};
-ghost use Rattle.mf_wire_requests.specs.LoanRequests.{penalty as penalty_asked, waiver as waiver_asked, loan_request};
-ghost use Rattle.mf_wire_requests.specs.LoanRequests.{loan_at, loans_at};
+ghost use Rattle.mf_wire_requests.specs.LoanRequests.{new_loan_request, disbursement_request};
+ghost use Rattle.mf_wire_requests.specs.LoanRequests.{repayment_request, fee_request, instalment_at};
+ghost use Rattle.mf_wire_requests.specs.LoanRequests.{penalty_request, waiver_request, loan_request};
+ghost use Rattle.mf_wire_requests.specs.LoanRequests.{request_on_loan, loans_request};
 ghost use Rattle.mf_wire_requests.specs.PathParts.{parts_of_params};
 
 use crate::body::{GREATEST_NUMBER, account, choice, day, json, long_number, number, receipt};
@@ -25,7 +25,7 @@ use serde_json::Value;
 use std::alloc::Global;
 
 pub fn new_loan(alloc: Global, body: &[u8]) -> Result<Request, Fault>
-    ensures value { Gives (option_and_then loan_asked (json_of body.now)) result }
+    ensures value { Gives (option_and_then new_loan_request (json_of body.now)) result }
     ensures in_range { IfOk result IsInRange }
 {
     let body = json(alloc, body)?;
@@ -46,7 +46,7 @@ pub fn new_loan(alloc: Global, body: &[u8]) -> Result<Request, Fault>
 
 /// The day on which a loan is paid out.
 fn disbursement(alloc: Global, body: &[u8]) -> Result<LoanRequest, Fault>
-    ensures value { Gives (option_and_then disbursement_asked (json_of body.now)) result }
+    ensures value { Gives (option_and_then disbursement_request (json_of body.now)) result }
     ensures in_range { IfOk result IsLoanInRange }
 {
     let body = json(alloc, body)?;
@@ -56,7 +56,7 @@ fn disbursement(alloc: Global, body: &[u8]) -> Result<LoanRequest, Fault>
 
 /// A repayment, with its receipt where it has one.
 fn repayment(alloc: Global, body: &[u8]) -> Result<LoanRequest, Fault>
-    ensures value { Gives (option_and_then repayment_asked (json_of body.now)) result }
+    ensures value { Gives (option_and_then repayment_request (json_of body.now)) result }
     ensures in_range { IfOk result IsLoanInRange }
 {
     let body = json(alloc, body)?;
@@ -72,7 +72,7 @@ fn repayment(alloc: Global, body: &[u8]) -> Result<LoanRequest, Fault>
 
 /// A fee by a charge, for the instalment of a day.
 fn fee(alloc: Global, body: &[u8]) -> Result<LoanRequest, Fault>
-    ensures value { Gives (option_and_then fee_asked (json_of body.now)) result }
+    ensures value { Gives (option_and_then fee_request (json_of body.now)) result }
     ensures in_range { IfOk result IsLoanInRange }
 {
     let body = json(alloc, body)?;
@@ -92,7 +92,7 @@ fn instalment(body: &Value) -> Option<u32>
 
 /// The overdue charge on an instalment.
 fn penalty(alloc: Global, body: &[u8]) -> Result<LoanRequest, Fault>
-    ensures value { Gives (option_and_then penalty_asked (json_of body.now)) result }
+    ensures value { Gives (option_and_then penalty_request (json_of body.now)) result }
     ensures in_range { IfOk result IsLoanInRange }
 {
     let body = json(alloc, body)?;
@@ -102,7 +102,7 @@ fn penalty(alloc: Global, body: &[u8]) -> Result<LoanRequest, Fault>
 
 /// A portion of an instalment is waived.
 fn waiver(alloc: Global, body: &[u8]) -> Result<LoanRequest, Fault>
-    ensures value { Gives (option_and_then waiver_asked (json_of body.now)) result }
+    ensures value { Gives (option_and_then waiver_request (json_of body.now)) result }
     ensures in_range { IfOk result IsLoanInRange }
 {
     let body = json(alloc, body)?;
@@ -152,7 +152,7 @@ pub fn on_loan(
     body: &[u8],
 ) -> Result<Request, Fault>
     requires { AllText (parts_of_params params.now) }
-    ensures value { Gives (loan_at endpoint (parts_of_params params.now) body.now) result }
+    ensures value { Gives (request_on_loan endpoint (parts_of_params params.now) body.now) result }
     ensures in_range { IfOk result IsInRange }
 {
     let loan = account_in_path(params, "loan")?;
@@ -163,7 +163,7 @@ pub fn on_loan(
 /// The office and the number of a loan, or 0, that a path names.
 pub fn list_loans(params: &Params<'_, '_>) -> Result<Request, Fault>
     requires { AllText (parts_of_params params.now) }
-    ensures value { Gives (loans_at (parts_of_params params.now)) result }
+    ensures value { Gives (loans_request (parts_of_params params.now)) result }
     ensures in_range { IfOk result IsInRange }
 {
     let office = number_in_path(params, "office")?;

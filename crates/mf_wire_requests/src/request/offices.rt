@@ -4,8 +4,8 @@ ghost use Rattle.std.specs.Prelude.{option_and_then, IfOk};
 ghost use Rattle.matchit.specs.Params.{AllText};
 ghost use Rattle.mf_model.specs.Sound.{IsInRange};
 ghost use Rattle.mf_wire_requests.specs.Bodies.{json_of, Gives};
-ghost use Rattle.mf_wire_requests.specs.OfficeRequests.{new_office as office_asked, new_staff as staff_asked};
-ghost use Rattle.mf_wire_requests.specs.OfficeRequests.{new_client as client_asked, client_at};
+ghost use Rattle.mf_wire_requests.specs.OfficeRequests.{new_office_request, new_staff_request};
+ghost use Rattle.mf_wire_requests.specs.OfficeRequests.{new_client_request, client_request};
 ghost use Rattle.mf_wire_requests.specs.PathParts.{parts_of_params};
 
 use crate::body::{choice, json, name, office};
@@ -17,7 +17,7 @@ use mf_office::Role;
 use std::alloc::Global;
 
 pub fn new_office(alloc: Global, body: &[u8]) -> Result<Request, Fault>
-    ensures value { Gives (option_and_then office_asked (json_of body.now)) result }
+    ensures value { Gives (option_and_then new_office_request (json_of body.now)) result }
     ensures in_range { IfOk result IsInRange }
 {
     let body = json(alloc, body)?;
@@ -32,7 +32,7 @@ pub fn new_office(alloc: Global, body: &[u8]) -> Result<Request, Fault>
 }
 
 pub fn new_staff(alloc: Global, body: &[u8]) -> Result<Request, Fault>
-    ensures value { Gives (option_and_then staff_asked (json_of body.now)) result }
+    ensures value { Gives (option_and_then new_staff_request (json_of body.now)) result }
     ensures in_range { IfOk result IsInRange }
 {
     let body = json(alloc, body)?;
@@ -46,7 +46,7 @@ pub fn new_staff(alloc: Global, body: &[u8]) -> Result<Request, Fault>
 }
 
 pub fn new_client(alloc: Global, body: &[u8]) -> Result<Request, Fault>
-    ensures value { Gives (option_and_then client_asked (json_of body.now)) result }
+    ensures value { Gives (option_and_then new_client_request (json_of body.now)) result }
     ensures in_range { IfOk result IsInRange }
 {
     let body = json(alloc, body)?;
@@ -61,7 +61,7 @@ pub fn new_client(alloc: Global, body: &[u8]) -> Result<Request, Fault>
 /// The client that a path names.
 pub fn show_client(params: &Params<'_, '_>) -> Result<Request, Fault>
     requires { AllText (parts_of_params params.now) }
-    ensures value { Gives (client_at (parts_of_params params.now)) result }
+    ensures value { Gives (client_request (parts_of_params params.now)) result }
     ensures in_range { IfOk result IsInRange }
 {
     let client = account(params, "client")?;

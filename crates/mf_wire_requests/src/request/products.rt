@@ -4,9 +4,10 @@ ghost use Rattle.std.specs.Prelude.{◌≡◌, option_and_then, IfOk, IfSome};
 ghost use Rattle.serde_json.specs.View.{view};
 ghost use Rattle.mf_model.specs.Sound.{IsInRange, IsName, AreMembers};
 ghost use Rattle.mf_wire_requests.specs.Bodies.{json_of, Gives};
-ghost use Rattle.mf_wire_requests.specs.ProductRequests.{step_at, planning_at, bounds_at, charge_at, charged_at};
-ghost use Rattle.mf_wire_requests.specs.ProductRequests.{members_of as members_by, new_product as product_asked};
-ghost use Rattle.mf_wire_requests.specs.ProductRequests.{IsStepInRange, IsPlanningInRange, AreBoundsInRange};
+ghost use Rattle.mf_wire_requests.specs.ProductRequests.{step_at, planning_at, bounds_at, optional_charge_at};
+ghost use Rattle.mf_wire_requests.specs.ProductRequests.{charged_at};
+ghost use Rattle.mf_wire_requests.specs.ProductRequests.{members_of as members_by, new_product_request};
+ghost use Rattle.mf_wire_requests.specs.ProductRequests.{IsDueStepInRange, IsPlanningInRange, AreBoundsInRange};
 
 use crate::body::{GREATEST_NUMBER, choice, json, long_number, name, number, optional_number};
 use mf_base::{Fault, Freq};
@@ -56,7 +57,7 @@ pub struct Charged {
 
 fn read_step(body: &Value) -> Option<Step>
     ensures value { result ≡ step_at (view body.now) }
-    ensures in_range { IfSome result IsStepInRange }
+    ensures in_range { IfSome result IsDueStepInRange }
 {
     let freq = choice::<Freq>(body, "frequency")?;
     let every = number(body, "every", 1, longest_step(freq))?;
@@ -101,7 +102,7 @@ fn read_bounds(body: &Value) -> Option<Bounds>
 
 /// A member that may be absent or null, and else is a charge's number.
 fn charge(body: &Value, member: &str) -> Option<Option<u32>>
-    ensures { result ≡ charge_at member.now (view body.now) }
+    ensures { result ≡ optional_charge_at member.now (view body.now) }
 {
     optional_number(body, member, GREATEST_NUMBER)
 }
@@ -146,7 +147,7 @@ fn members_of(name: Name, planning: Planning, bounds: Bounds, charged: Charged) 
 }
 
 pub fn new_product(alloc: Global, body: &[u8]) -> Result<Request, Fault>
-    ensures value { Gives (option_and_then product_asked (json_of body.now)) result }
+    ensures value { Gives (option_and_then new_product_request (json_of body.now)) result }
     ensures in_range { IfOk result IsInRange }
 {
     let body = json(alloc, body)?;

@@ -1,6 +1,6 @@
 use Rattle.std.proofs.Common.{◌≡◌, Ok, Err, rules}
 use Rattle.std.specs.Fn.{FnOnceReturnsAt}
-use Rattle.mf_desk.specs.Answers.{call_of}
+use Rattle.mf_model.specs.Unseen.{call_from}
 use Rattle.mf_desk.proofs.AnswerLemmas.{refusal_changes_nothing, changes_made, changes_given_up, tells_own_view}
 use Rattle.mf_desk.proofs.answering.answer.Goals as goal
 
@@ -8,21 +8,21 @@ pub returns-in_err-reply-clause-changes : goal.returns-in_err-reply-clause-chang
 returns-in_err-reply-clause-changes g c =
     let s = g.S.InstitutionStore in
     let e : c.from_residual.result ≡ Err c.in_err-reply.field-0.0 = search rules in
-    rw e (refusal_changes_nothing s (call_of c.args.caller c.args.request) c.decide.result c.args.store.now
+    rw e (refusal_changes_nothing s (call_from c.args.caller c.args.request) c.decide.result c.args.store.now
     c.decide.new.store c.in_err-reply.field-0.0 g.met.S.InstitutionStore.more c.decide.ensures.decides)
 
 pub returns-in_err-shown-clause-changes : goal.returns-in_err-shown-clause-changes
 returns-in_err-shown-clause-changes g c =
     let s = g.S.InstitutionStore in
     let e : c.from_residual-in_err-shown.result ≡ Err c.in_err-shown.field-0.0 = search rules in
-    rw e (refusal_changes_nothing s (call_of c.args.caller c.args.request) c.decide.result c.args.store.now
+    rw e (refusal_changes_nothing s (call_from c.args.caller c.args.request) c.decide.result c.args.store.now
     c.decide.new.store c.in_err-shown.field-0.0 g.met.S.InstitutionStore.more c.decide.ensures.decides)
 
 pub returns-in_err-commit-in-Some-clause-changes : goal.returns-in_err-commit-in-Some-clause-changes
 returns-in_err-commit-in-Some-clause-changes g c =
     let s = g.S.InstitutionStore in
     let e : c.from_residual-in_err-commit-in-Some.result ≡ Err c.in_err-commit-in-Some.field-0.0 = search rules in
-    rw e (changes_given_up s (call_of c.args.caller c.args.request) c.in_ok-reply.field-0 c.in-Some.commit
+    rw e (changes_given_up s (call_from c.args.caller c.args.request) c.in_ok-reply.field-0 c.in-Some.commit
     c.args.store.now c.decide.new.store c.commit.new.self c.in_err-commit-in-Some.field-0.0
     c.soundness.ensures.accepted g.met.S.InstitutionStore.sound c.requires.in_range c.in-Some.is
     c.in_ok-reply.ensures.decides c.in_err-commit-in-Some.ensures)
@@ -30,7 +30,7 @@ returns-in_err-commit-in-Some-clause-changes g c =
 pub returns-in_ok-commit-in-Some-clause-changes : goal.returns-in_ok-commit-in-Some-clause-changes
 returns-in_ok-commit-in-Some-clause-changes g c =
     let s = g.S.InstitutionStore in
-    changes_made s (call_of c.args.caller c.args.request) c.in_ok-reply.field-0 c.in-Some.commit c.args.store.now
+    changes_made s (call_from c.args.caller c.args.request) c.in_ok-reply.field-0 c.in-Some.commit c.args.store.now
     c.decide.new.store c.commit.new.self c.in_ok-shown.shown
     c.soundness.ensures.accepted g.met.S.InstitutionStore.sound c.requires.in_range c.in-Some.is
     c.in_ok-reply.ensures.decides c.in_ok-commit-in-Some.ensures

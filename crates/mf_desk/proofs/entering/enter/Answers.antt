@@ -26,16 +26,16 @@ is_next (Fee charge due) staff today a h = record { next = refl; stands = refl; 
 by_account : (first next : Option Fault) → first ≡ None → fault_or first next ≡ next
 by_account first next h = ap (λ o. fault_or o next) h
 
-pub entered-requires-clause-next : goal.entered-requires-clause-next
-entered-requires-clause-next g c = ap (λ (x : Entry). x.seq) c.in_ok-entry.ensures.made
+pub with_entry-requires-clause-next : goal.with_entry-requires-clause-next
+with_entry-requires-clause-next g c = ap (λ (x : Entry). x.seq) c.in_ok-entry.ensures.made
     ∙ (is_next c.args.asked c.args.caller c.in_ok-today.today c.in_ok-account.account.loan c.requires.in_range).next
 
-pub entered-requires-clause-stands : goal.entered-requires-clause-stands
-entered-requires-clause-stands g c = ap (λ (x : Entry). x.reversed) c.in_ok-entry.ensures.made
+pub with_entry-requires-clause-stands : goal.with_entry-requires-clause-stands
+with_entry-requires-clause-stands g c = ap (λ (x : Entry). x.reversed) c.in_ok-entry.ensures.made
     ∙ (is_next c.args.asked c.args.caller c.in_ok-today.today c.in_ok-account.account.loan c.requires.in_range).stands
 
-pub entered-requires-clause-form : goal.entered-requires-clause-form
-entered-requires-clause-form g c = subst (λ (x : Entry). HasForm x.kind c.in_ok-today.today x)
+pub with_entry-requires-clause-form : goal.with_entry-requires-clause-form
+with_entry-requires-clause-form g c = subst (λ (x : Entry). HasForm x.kind c.in_ok-today.today x)
     (sym c.in_ok-entry.ensures.made) (is_next c.args.asked c.args.caller c.in_ok-today.today
     c.in_ok-account.account.loan c.requires.in_range).form
 

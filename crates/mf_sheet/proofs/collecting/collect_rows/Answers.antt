@@ -5,7 +5,7 @@ use Rattle.mf_base.specs.declared.fault.Cause.{Cause}
 use Rattle.mf_base.specs.declared.fault.Cause.TheVariants.{Read, Write, Memory}
 use Rattle.mf_sheet_lines.specs.Results.{heading}
 use Rattle.mf_sheet_lines.specs.declared.results.SheetResult.{SheetResult}
-use Rattle.mf_sheet.specs.Runs.{AnswersFields, Steps}
+use Rattle.mf_sheet.specs.Runs.{AnswersFields, AnswersEach}
 use Rattle.mf_wire_lines.specs.Streams.{stream_of}
 use Rattle.mf_sheet.specs.Ends.{SheetStreams, EndsBy}
 use Rattle.mf_sheet.proofs.Rows.{Going-start, Going-more, one_taken, one_done, all_done, count_below, ends_whole}
@@ -75,7 +75,8 @@ returns-in-Err g c = record { ends = λ before first. at before first c.in-Err.c
     }
 
     at : (before : Option (List ℕ)) → Appends before (g.W.Sink.written c.args.sink.now) heading → (cause : Cause)
-        → c.in-Err.cause ≡ cause → EndsBy (Steps step) c.args.store.now c.collect_row.new.store (streams before) cause
+        → c.in-Err.cause ≡ cause
+        → EndsBy (AnswersEach step) c.args.store.now c.collect_row.new.store (streams before) cause
         c.loop-row.answered
     at before first Read e = absurd (c.in-Err.ensures.read e)
     at before first Write e =

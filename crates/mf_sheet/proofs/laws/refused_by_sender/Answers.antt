@@ -9,7 +9,7 @@ use Rattle.mf_model.specs.declared.request.LoanRequest.TheVariants as asks
 use Rattle.mf_sheet_lines.specs.declared.line.SheetRepayment.{SheetRepayment}
 use Rattle.mf_sheet_lines.specs.declared.line.SheetLine.TheVariants.{Repay}
 use Rattle.mf_sheet_lines.specs.declared.results.SheetResult.TheVariants.{Refused}
-use Rattle.mf_sheet.specs.Lines.{asked_by, result_of}
+use Rattle.mf_sheet.specs.Lines.{request_of_line, result_of}
 use Rattle.mf_sheet.proofs.laws.refused_by_sender.Goals as goal
 
 unknown_refused : (c : Caller) (request : Request) (p : Plan) (staff : Option Staff) (i : Institution) → staff ≡ None
@@ -29,5 +29,5 @@ looked_at r = On_office r.loan.office (λ k catalogue f. in_loan r.loan (on_loan
 
 pub returns-clause-unknown : goal.returns-clause-unknown
 unfolding looked_at
-returns-clause-unknown c = λ caller i r unknown. unknown_refused caller (asked_by (Repay r)) (looked_at r)
+returns-clause-unknown c = λ caller i r unknown. unknown_refused caller (request_of_line (Repay r)) (looked_at r)
     (staff_at i caller) i unknown

@@ -1,4 +1,4 @@
-use Rattle.mf_wire_replies.specs.Shown.{IsText}
+use Rattle.mf_wire_replies.specs.Shown.{IsReplyText}
 use Rattle.mf_wire.proofs.Alone.{isolated_call}
 use Rattle.mf_wire.proofs.Ran.{IsolationLaw}
 use Rattle.mf_wire.proofs.laws.one_text_is_isolated.Goals as goal
@@ -12,5 +12,6 @@ returns g c =
       own_replies = c.isolation.ensures.own_replies;
     } in
     λ i call old new answered clean stands.
-    isolated_call s law (IsText c.args.answered.now) call old new i (g.met.S.InstitutionStore.sound old i stands).tree
+    isolated_call s law (IsReplyText c.args.answered.now) call old new i
+    (g.met.S.InstitutionStore.sound old i stands).tree
     answered clean stands

@@ -1,5 +1,5 @@
-use Rattle.microloan_commands.specs.Served.{Serves}
+use Rattle.microloan_commands.specs.Served.{ServesConnections}
 use Rattle.microloan_commands.proofs.serving.serve_connections.Given as goal
 
 abbrev pub invariant-loop : goal.invariant-loop
-invariant-loop g l = record { served : Serves g.S.InstitutionStore l.counter l.initial.store l.store l.answered }
+invariant-loop g l = record { served : ServesConnections g.S.InstitutionStore l.counter l.initial.store l.store l.answered }

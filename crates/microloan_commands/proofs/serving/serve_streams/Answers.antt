@@ -1,9 +1,9 @@
 use Rattle.std.proofs.Common.{subst, sym}
-use Rattle.microloan_commands.specs.Served.{Serves}
+use Rattle.microloan_commands.specs.Served.{ServesConnections}
 use Rattle.microloan_commands.proofs.ServedLemmas.{served_one}
 use Rattle.microloan_commands.proofs.serving.serve_streams.Goals as goal
 
 pub returns : goal.returns
 returns g c =
-    subst (Serves _ 1 c.args.store.now c.serve_one.new.store) (sym c.whole.ensures)
+    subst (ServesConnections _ 1 c.args.store.now c.serve_one.new.store) (sym c.whole.ensures)
     (served_one _ c.serve_one.result _ _ _ c.serve_one.ensures.ends)

@@ -1,7 +1,7 @@
 use Rattle.std.proofs.Common.{◌≡◌, Err, rules}
 use Rattle.mf_account.specs.Refusals.{reversal_refused}
 use Rattle.mf_desk.proofs.LoanLemmas.{taken, refused}
-use Rattle.mf_desk.proofs.reversing.reversed.Goals as goal
+use Rattle.mf_desk.proofs.reversing.with_reversal.Goals as goal
 
 pub returns-in_err-reverse-clause-refused : goal.returns-in_err-reverse-clause-refused
 returns-in_err-reverse-clause-refused c =

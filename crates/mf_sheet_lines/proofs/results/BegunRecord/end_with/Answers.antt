@@ -1,7 +1,7 @@
 use Rattle.std.proofs.Common.{◌∙◌, ◌++◌, ◌∷◌, [], ℕ, List, ap, sym, append_assoc}
 use Rattle.mf_sheet_lines.specs.Results.{result_name}
 use Rattle.mf_sheet_lines.proofs.ResultTexts.{record_is}
-use Rattle.mf_sheet_lines.proofs.results.BegunRecord.ended.Goals as goal
+use Rattle.mf_sheet_lines.proofs.results.BegunRecord.end_with.Goals as goal
 
 pub returns-clause-whole : goal.returns-clause-whole
 returns-clause-whole c = λ fields is.

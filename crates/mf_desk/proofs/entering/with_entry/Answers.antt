@@ -1,7 +1,7 @@
 use Rattle.std.proofs.Common.{◌≡◌, Err, rules}
 use Rattle.mf_account.specs.Refusals.{refusal_of}
 use Rattle.mf_desk.proofs.LoanLemmas.{taken, refused}
-use Rattle.mf_desk.proofs.entering.entered.Goals as goal
+use Rattle.mf_desk.proofs.entering.with_entry.Goals as goal
 
 pub returns-in_err-enter-clause-refused : goal.returns-in_err-enter-clause-refused
 returns-in_err-enter-clause-refused c = λ replayed.
