@@ -22,7 +22,7 @@ use Rattle.mf_wire_replies.specs.Catalogue.{product_data}
 use Rattle.mf_wire_replies.specs.Json.{whole_or_null, text_or_null}
 use Rattle.mf_wire_replies.specs.ArrearsTexts.{arrears_line_data}
 use Rattle.mf_wire_replies.specs.AccountTexts.{instalment_data, instalment_for, portion_waived, share_data, entry_data}
-use Rattle.mf_wire_replies.specs.LoanTexts.{day_or_null, told_data, arrears_line_data}
+use Rattle.mf_wire_replies.specs.LoanTexts.{day_or_null, told_data, loan_line_data}
 use Rattle.mf_wire_replies.specs.Shown.{office_data, reply_data}
 
 no_fraction : (n : Option ℕ) → has_float (whole_or_null n) ≡ false
@@ -81,7 +81,7 @@ whole_told loan (Entered entry) = refl
 whole_told loan (Repeated entry) = refl
 whole_told loan (Reversed entry) = refl
 
-whole_loans : (lines : List LoanLine) → items_have_float (items_of (map arrears_line_data lines)) ≡ false
+whole_loans : (lines : List LoanLine) → items_have_float (items_of (map loan_line_data lines)) ≡ false
 whole_loans [] = refl
 whole_loans (line ∷ lines) = whole_loans lines
 
