@@ -4,6 +4,7 @@ use Rattle.std.proofs.Common.{subst, arith, All}
 use Rattle.std.specs.List.{AllByRecursion}
 use Rattle.std.proofs.lemmas.List.{length-map}
 use Rattle.std.proofs.lemmas.List.Elements.{All-nil, All-cons, All-head, All-tail}
+use Rattle.sqlite_keyed.proofs.ListLemmas.{all_weaker}
 use Rattle.mf_account.specs.declared.entry.Entry.{Entry}
 use Rattle.mf_account.specs.Lawful.{are_seals_last}
 use Rattle.mf_account.specs.Loan.{IsEntry}
@@ -42,11 +43,8 @@ module _ (today day n : ℕ) where
   lawful_all (e ∷ es) all = All-cons (IsEntry n day) e es all.0.lawful (lawful_all es all.1)
 
   entered_all : (es : List Entry) → AllByRecursion (IsPlainEntry today day n) es → AllByRecursion (IsEnteredBy today) es
-  entered_all [] all = tt
-  entered_all (e ∷ es) all = (
-    record { readable = all.0.readable; entered = all.0.entered; receipt = all.0.receipt },
-    entered_all es all.1,
-  )
+  entered_all es all = all_weaker (IsPlainEntry today day n) (IsEnteredBy today)
+      (λ e h. record { readable = h.readable; entered = h.entered; receipt = h.receipt }) es all
 
   plain_all : (es : List Entry) → All (IsEntry n day) es → AllByRecursion (IsEnteredBy today) es
       → AllByRecursion (IsPlainEntry today day n) es
@@ -62,8 +60,7 @@ module _ (today day n : ℕ) where
   )
 
   readable_all : (es : List Entry) → AllByRecursion (IsPlainEntry today day n) es → AllByRecursion IsReadable es
-  readable_all [] all = tt
-  readable_all (e ∷ es) all = (all.0.readable, readable_all es all.1)
+  readable_all es all = all_weaker (IsPlainEntry today day n) IsReadable (λ e h. h.readable) es all
 
   module _ (x m : ℕ) (rows : List EntryRow) where
     -- what the test of the seals says of the entries
@@ -95,7 +92,8 @@ module _ (today day n : ℕ) where
 
     pub entry_rows_of : AreLoanEntries today day n x m rows → AreNumbered
     entry_rows_of h =
-        let many : length h.entries ≡ length rows = sym (length-map h.entries (entry_in x m)) ∙ ap length h.rows_are in (
+        let many : length h.entries ≡ length rows =
+        sym (length-map h.entries (entry_in x m)) ∙ ap length h.rows_are in (
           subst (λ k. k ≤ 9999) many h.lawful.few,
           parted today day n x m 1 rows (record {
             entries = h.entries;

@@ -1,3 +1,4 @@
+pub mod TableLemmas
 pub mod StoredLemmas
 pub mod RowLemmas
 pub mod ProductLemmas

@@ -105,13 +105,13 @@ above_bare n (f ∷ fs) h = (h.0, above_bare n fs h.1)
 abbrev of_staff : StaffRow → ℕ
 of_staff r = r.office
 
-abbrev of_client : ClientRow → ℕ
+abbrev pub of_client : ClientRow → ℕ
 of_client r = r.office
 
-abbrev of_loan : LoanRow → ℕ
+abbrev pub of_loan : LoanRow → ℕ
 of_loan r = r.office
 
-abbrev of_entry : EntryRow → ℕ
+abbrev pub of_entry : EntryRow → ℕ
 of_entry r = r.office
 
 module _ (k : Catalogue) where

@@ -1,14 +1,18 @@
 -- Rows of products, and the charges that they name.
-use Rattle.std.proofs.Common.{◌≡◌, ◌∙◌, ℕ, false, List, Option, Some, None, refl, sym, ap, ◌==◌}
+use Rattle.std.proofs.Common.{◌≡◌, ◌↔◌, ◌∙◌, ℕ, false, List, Option, Some, None, IsTrue, refl, sym, ap, subst, arith}
+use Rattle.std.proofs.Common.{◌==◌}
 use Rattle.std.specs.Option.{option_map}
+use Rattle.std.proofs.lemmas.Bool.Decides.{nat_tests}
 use Rattle.mf_catalog.specs.declared.charge.ChargeKind.{ChargeKind}
 use Rattle.mf_catalog.specs.declared.charge.ChargeKind.TheVariants.{Disbursement, Instalment, Overdue, DueDate}
 use Rattle.mf_catalog.specs.Product.{same_kind, has_kind}
 use Rattle.mf_model.specs.Institution.{Catalogue, Charge, charge_in, charge_def, item_numbered}
 use Rattle.mf_store_records.specs.declared.charges.ChargeRow.{ChargeRow}
 use Rattle.mf_store_accounts.specs.Flat.{charge_as, numbered_from}
+use Rattle.mf_store_accounts.proofs.AnswerLemmas.{no_answer}
 use Rattle.mf_store_accounts.proofs.NumberedLemmas.{numbered_row}
 use Rattle.mf_catalog.specs.Names.{kind_number}
+use Rattle.mf_store_sound.specs.Charges.{HasRowOfKind}
 
 kinds_tested : (a b : ChargeKind) → (kind_number b == kind_number a) ≡ same_kind a b
 kinds_tested Disbursement Disbursement = refl
@@ -53,3 +57,25 @@ unnamed_charge k rows number wanted e is = go (item_numbered k.charges number) (
         → false ≡ has_kind wanted (option_map (charge_def number) o)
     go None h = refl
     go (Some c) h = absurd (cc)
+
+-- ---- by the rows alone
+
+-- a row that is there, and a test of its kind
+pub has_row_of_kind : (rows : List ChargeRow) (named : Option ℕ) (number : ℕ) (row : ChargeRow) (wanted : ChargeKind)
+    (kind : ℕ) → named ≡ Some number → Some row ≡ item_numbered rows number → kind_number wanted ≡ kind
+    → IsTrue (row.kind == kind) ↔ HasRowOfKind rows wanted named
+has_row_of_kind rows named number row wanted kind is there w =
+    subst (λ o. IsTrue (row.kind == kind) ↔ HasRowOfKind rows wanted o) (sym is) (
+      λ yes. (row, sym there, (let same : row.kind ≡ kind = grind (arith, nat_tests) in same ∙ sym w)),
+      λ has.
+          let both : Some row ≡ Some has.0 = there ∙ has.1 in
+          let one : row ≡ has.0 = cc in
+          let same : row.kind ≡ kind = ap (λ (c : ChargeRow). c.kind) one ∙ has.2 ∙ w in
+          grind (arith, nat_tests),
+    )
+
+-- no row is there
+pub has_no_row : (rows : List ChargeRow) (named : Option ℕ) (number : ℕ) (wanted : ChargeKind) → named ≡ Some number
+    → None ≡ item_numbered rows number → IsTrue false ↔ HasRowOfKind rows wanted named
+has_no_row rows named number wanted is there = no_answer (subst (λ o. HasRowOfKind rows wanted o → ⊥) (sym is)
+    (λ has. (let none : None ≡ Some has.0 = there ∙ has.1 in cc)))

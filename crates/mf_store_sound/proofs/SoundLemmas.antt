@@ -455,40 +455,6 @@ module _ (schema : ℕ) (t : Lists) (day : ℕ) (entered : day ≤ last_entered_
 
 -- ---- decided
 
--- the parts of the lists, for the lists
-pub of_parts : (schema : ℕ) (B : Type 0) (t inside : Lists) (view : inside ≡ t) (meta : List MetaRow)
-    (offices : List OfficeRow) (staff : List StaffRow) (clients : List ClientRow) (charges : List ChargeRow)
-    (products : List ProductRow) (loans : List LoanRow) (entries : List EntryRow) (receipts : List ReceiptRow)
-    → meta ≡ inside.meta → offices ≡ inside.offices → staff ≡ inside.staff → clients ≡ inside.clients
-    → charges ≡ inside.charges → products ≡ inside.products → loans ≡ inside.loans → entries ≡ inside.entries
-    → receipts ≡ inside.receipts
-    → (B ↔ AreUnder schema (record t {
-      meta = meta;
-      offices = offices;
-      staff = staff;
-      clients = clients;
-      charges = charges;
-      products = products;
-      loans = loans;
-      entries = entries;
-      receipts = receipts;
-    })) → B
-    ↔ AreUnder schema t
-of_parts schema B t inside view meta offices staff clients charges products loans entries receipts m o s c h p l e r
-    are =
-    subst (λ (lists : Lists). B ↔ AreUnder schema lists) (λ z. record t {
-      meta = (m ∙ (λ y. (view y).meta)) z;
-      offices = (o ∙ (λ y. (view y).offices)) z;
-      staff = (s ∙ (λ y. (view y).staff)) z;
-      clients = (c ∙ (λ y. (view y).clients)) z;
-      charges = (h ∙ (λ y. (view y).charges)) z;
-      products = (p ∙ (λ y. (view y).products)) z;
-      loans = (l ∙ (λ y. (view y).loans)) z;
-      entries =
-          (e ∙ (λ y. (view y).entries)) z;
-      receipts = (r ∙ (λ y. (view y).receipts)) z;
-    }) are
-
 -- the business day of an institution whose rows these are
 pub day_of : (schema : ℕ) (t : Lists) (day : ℕ) (h : AreUnder schema t) → ((d : ℕ) → d ≤ last_entered_day
     → meta_under schema d ∷ [] ≡ t.meta → Some day ≡ Some d) → h.institution.catalogue.day ≡ day

@@ -11,7 +11,7 @@ use Rattle.mf_store_records.specs.declared.products.ProductRow.{ProductRow}
 use Rattle.mf_store_records.specs.declared.shares.ShareRow.{ShareRow}
 use Rattle.mf_store_accounts.specs.Accounts.{instalments_of, shares_of, PlacedLoan, all_placed, AreLoansOf, AreAccounts}
 use Rattle.mf_store_accounts.specs.Flat.{charge_as, product_as, numbered_from, instalment_in, share_in, tables_of}
-use Rattle.mf_store_sound.specs.Schemas.{first_tables_of, without_accounts}
+use Rattle.mf_store_sound.specs.Schemas.{first_tables_of, tables_under, without_accounts}
 use Rattle.mf_store_sound.specs.Sound.{AreOfSound, AreOfSoundFirst, AreUnder}
 use Rattle.mf_store_sound.proofs.AllLoanLemmas.{all_rows_of}
 use Rattle.mf_store_sound.proofs.SoundLemmas.{charges_are, products_are, loans_under}
@@ -116,9 +116,18 @@ first_is t B no_instalments no_shares h = (
 pub first_has_none : (t : Lists) → AreOfSoundFirst t → (t.instalments ≡ []) × (t.shares ≡ [])
 first_has_none t f = (ap (λ (l : Lists). l.instalments) (sym f.rows_are), ap (λ (l : Lists). l.shares) (sym f.rows_are))
 
+-- ---- rows of accounts that replaying gives
+
+-- they are those of each sound institution that has the other rows
+pub rows_under_are : (schema : ℕ) (t : Lists) (instalments : List InstalmentRow) (shares : List ShareRow)
+    → Told (λ none other k ps. AreAccounts k ps instalments shares) t → (i : Institution) → IsSound i
+    → tables_under schema i ≡ without_accounts t → HasRows i instalments shares
+rows_under_are schema t instalments shares told i sound is =
+    accounts_are i instalments shares (told_at (λ none other k ps. AreAccounts k ps instalments shares) schema t
+    (record { institution = i; sound = sound; rows_are = is }) told)
+
 pub rows_are_of : (t : Lists) (instalments : List InstalmentRow) (shares : List ShareRow)
     → Told (λ none other k ps. AreAccounts k ps instalments shares) t → (i : Institution) → IsSound i
     → first_tables_of i ≡ t → HasRows i instalments shares
 rows_are_of t instalments shares told i sound is =
-    accounts_are i instalments shares (told_at (λ none other k ps. AreAccounts k ps instalments shares) 1 t
-    (record { institution = i; sound = sound; rows_are = λ z. without_accounts (is z) }) told)
+    rows_under_are 1 t instalments shares told i sound (λ z. without_accounts (is z))

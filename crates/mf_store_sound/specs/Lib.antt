@@ -1,4 +1,5 @@
 pub mod Stored
+pub mod Charges
 pub mod Offices
 pub mod Entries
 pub mod Stages

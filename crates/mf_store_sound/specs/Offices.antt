@@ -29,6 +29,11 @@ AscendFrom n (r ∷ rs) = (n < r.number) × AscendFrom r.number rs
 abbrev pub row_at : ℕ → List OfficeRow → Option OfficeRow
 row_at x rows = find (λ r. r.number == x) rows
 
+-- the row of a parent, if one is named and there
+abbrev pub parent_row : List OfficeRow → Option ℕ → Option OfficeRow
+parent_row rows None = None
+parent_row rows (Some p) = row_at p rows
+
 -- an office with no parent is the head; another's text is its parent's, its own number and a dot
 abbrev pub HasParentsText : List OfficeRow → Option ℕ → OfficeRow → Type 0
 HasParentsText rows None r = (r.number ≡ 1) × (r.hkey ≡ head_key)

@@ -13,7 +13,7 @@ use mf_store_accounts::amount_from;
 use mf_store_records::ChargeRow;
 
 /// Whether a value is within the limits of a charge that is computed this way.
-fn is_value(calc: Calc, value: u64) -> bool
+pub fn is_value(calc: Calc, value: u64) -> bool
     ensures { IsTrue result ↔ IsValue calc value }
 {
     value >= 1 && value <= greatest_value(calc)

@@ -34,7 +34,7 @@ pub(crate) struct DisbursedLoan {
 }
 
 /// Whether the numbers and texts of a row are those of an entry.
-fn is_readable(row: &EntryRow) -> bool
+pub fn is_readable(row: &EntryRow) -> bool
     ensures { IsTrue result ↔ ((e : Entry) × IsReadable e × (entry_in row.now.office row.now.loan e ≡ row.now)) }
 {
     match (
@@ -104,10 +104,11 @@ fn is_sealing(row: &EntryRow) -> bool
         && row.receipt.is_none()
 }
 
-/// Whether a row's columns are those of an entry of its kind, on a loan of so many instalments.
-fn has_columns(periods: u32, row: &EntryRow) -> bool
-    ensures { (e : Entry) → entry_in row.now.office row.now.loan e ≡ row.now → IsTrue result
-        ↔ HasColumns e.kind periods e }
+/// Whether a row's columns are those of an entry of its kind, on a loan of so many instalments. Of a row that is none
+/// of an entry it says nothing.
+pub fn has_columns(periods: u32, row: &EntryRow) -> bool
+    ensures { (e : Entry) → entry_in row.now.office row.now.loan e ≡ row.now →
+        IsTrue result ↔ HasColumns e.kind periods e }
 {
     match kind_from(row.kind) {
         Some(Kind::Repay) => is_repayment(row),
@@ -120,7 +121,7 @@ fn has_columns(periods: u32, row: &EntryRow) -> bool
 }
 
 /// Whether a row has no receipt, or one with a receipt's text.
-fn has_right_receipt(row: &EntryRow) -> bool
+pub fn has_right_receipt(row: &EntryRow) -> bool
     ensures { IsTrue result ↔ IfSome row.now.receipt IsReceipt }
 {
     match &row.receipt {
@@ -144,7 +145,8 @@ fn is_on_time(today: Day, day: Day, row: &EntryRow) -> bool
 impl NumberedRow<DisbursedLoan> for EntryRow {
     ghost Setting = { λ loan. Unit {0} };
 
-    ghost IsNumbered = { λ loan of number row. IsEntryRow loan.today loan.day loan.periods loan.office loan.number number row };
+    ghost IsNumbered = { λ loan of number row.
+        IsEntryRow loan.today loan.day loan.periods loan.office loan.number number row };
 
     fn is_numbered(&self, loan: DisbursedLoan, number: u32) -> bool {
         self.office == loan.office

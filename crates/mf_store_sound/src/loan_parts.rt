@@ -7,7 +7,7 @@ ghost use Rattle.mf_store_accounts.specs.Flat.{product_as, numbered_from};
 ghost use Rattle.mf_store_sound.specs.Sound.{IsLoanPart, AreLoanParts};
 
 use crate::loans::{Lender, are_entries_of, is_loan};
-use crate::parts::parts;
+use crate::owners::split_by_owner;
 use mf_office::AccountNo;
 use mf_store_records::{EntryRow, LoanRow};
 
@@ -39,7 +39,7 @@ pub(crate) fn are_loans(lender: &Lender, loans: &[LoanRow], entries: &[EntryRow]
     let mut number = 1;
     let mut entries_left = entries;
     for row in loans {
-        let (own_entries, later_entries) = parts(entries_left, number, |row| row.loan);
+        let (own_entries, later_entries) = split_by_owner(entries_left, number, |row| row.loan);
         if !is_loan_part(lender, number, row, own_entries) {
             return false;
         }

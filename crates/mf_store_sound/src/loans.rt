@@ -1,6 +1,6 @@
 //! The rows of loans, each by itself.
 
-ghost use Rattle.std.specs.Prelude.{◌≡◌, ℕ, List, ◌≤◌, ◌↔◌, IsTrue, length, is_some};
+ghost use Rattle.std.specs.Prelude.{◌≡◌, ℕ, List, ◌≤◌, ◌≤ℤ◌, ◌↔◌, IsTrue, length, is_some};
 ghost use Rattle.mf_base.specs.DayText.{last_entered_day};
 ghost use Rattle.mf_catalog.specs.Product.{allows};
 ghost use Rattle.mf_model.specs.Institution.{Catalogue, Offer, product_in, item_numbered};
@@ -55,8 +55,8 @@ fn is_disbursal(today: Day, approved: &Text, disbursed: &Text) -> bool
     first <= second && second <= today
 }
 
-/// Whether a status and two days are those of a stage that a loan can have reached on this day.
-fn is_stage(today: Day, row: &LoanRow) -> bool
+/// Whether a row's status and days are those of a stage that a loan can have reached on this day.
+pub fn is_stage(today: Day, row: &LoanRow) -> bool
     requires { today ≤ last_entered_day }
     ensures { IsTrue result ↔ IsStageOf today row.now.stage row.now.approved row.now.disbursed }
 {
@@ -90,16 +90,29 @@ fn is_client_there(clients: usize, row: &LoanRow) -> bool
     row.client >= 1 && row.client as usize <= clients
 }
 
+/// Whether a loan's principal lies within its product's limits.
+pub fn is_principal_allowed(product: &ProductRow, row: &LoanRow) -> bool
+    ensures { IsTrue result ↔
+        ((product.now.min_principal ≤ℤ row.now.principal) × (row.now.principal ≤ℤ product.now.max_principal)) }
+{
+    product.min_principal <= row.principal && row.principal <= product.max_principal
+}
+
+/// Whether a loan's number of periods lies within its product's limits.
+pub fn are_periods_allowed(product: &ProductRow, row: &LoanRow) -> bool
+    ensures { IsTrue result ↔
+        ((product.now.min_periods ≤ row.now.periods) × (row.now.periods ≤ product.now.max_periods)) }
+{
+    product.min_periods <= row.periods && row.periods <= product.max_periods
+}
+
 /// Whether a product's row allows the principal and the periods of a loan's.
 fn is_allowed(product: &ProductRow, row: &LoanRow) -> bool
     ensures { (number : ℕ) (p : Offer) → product_as number p ≡ product.now → (l : Loan) →
         loan_in row.now.office row.now.number l ≡ row.now →
         result ≡ allows p.members l.principal l.periods }
 {
-    row.principal >= product.min_principal
-        && row.principal <= product.max_principal
-        && row.periods >= product.min_periods
-        && row.periods <= product.max_periods
+    is_principal_allowed(product, row) && are_periods_allowed(product, row)
 }
 
 /// Whether the product of the row's loan exists, and allows its principal and periods.

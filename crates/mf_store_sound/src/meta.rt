@@ -20,7 +20,7 @@ fn day_of_row(schema: u32, row: &MetaRow) -> Option<Day>
 }
 
 /// The business day. None is for rows that are not the one row of meta with this schema's number.
-pub(crate) fn business_day(schema: u32, rows: &[MetaRow]) -> Option<Day>
+pub fn business_day(schema: u32, rows: &[MetaRow]) -> Option<Day>
     ensures some { IfSome result (λ day. (day ≤ last_entered_day) × (meta_under schema day ∷ [] ≡ rows.now)) }
     ensures every { (day : ℕ) → day ≤ last_entered_day → meta_under schema day ∷ [] ≡ rows.now → result ≡ Some day }
 {

@@ -11,7 +11,7 @@ ghost use Rattle.mf_store_sound.specs.Sound.{IsOfficePart, AreOfficeParts};
 use crate::loan_parts::are_loans;
 use crate::loans::Lender;
 use crate::numbered::are_numbered;
-use crate::parts::parts;
+use crate::owners::split_by_owner;
 use mf_base::Day;
 use mf_office::{AccountNo, StaffNo};
 use mf_store_records::{ClientRow, EntryRow, LoanRow, OfficeRow, ProductRow, StaffRow};
@@ -37,10 +37,10 @@ impl<'a> Belongings<'a> {
             × (result.1.loans.now ≡ later (λ row. row.office) office self.entry.loans.now)
             × (result.1.entries.now ≡ later (λ row. row.office) office self.entry.entries.now) }
     {
-        let (staff, later_staff) = parts(self.staff, office, |row| row.office);
-        let (clients, later_clients) = parts(self.clients, office, |row| row.office);
-        let (loans, later_loans) = parts(self.loans, office, |row| row.office);
-        let (entries, later_entries) = parts(self.entries, office, |row| row.office);
+        let (staff, later_staff) = split_by_owner(self.staff, office, |row| row.office);
+        let (clients, later_clients) = split_by_owner(self.clients, office, |row| row.office);
+        let (loans, later_loans) = split_by_owner(self.loans, office, |row| row.office);
+        let (entries, later_entries) = split_by_owner(self.entries, office, |row| row.office);
         let own = Belongings {
             staff,
             clients,

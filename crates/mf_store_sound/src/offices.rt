@@ -1,11 +1,11 @@
 //! The rows of offices: whether they are one tree, with the hierarchy texts that their parents give.
 
-ghost use Rattle.std.specs.Prelude.{◌≡◌, ◌≢◌, ◌≤◌, ◌↔◌, IsTrue, IfOk, IfErr, map, option_copied};
+ghost use Rattle.std.specs.Prelude.{◌≡◌, ◌≢◌, ◌≤◌, ◌↔◌, List, IsTrue, IfOk, IfErr, map, option_copied};
 ghost use Rattle.std.specs.List.{AllByRecursion};
 ghost use Rattle.mf_base.specs.declared.fault.Fault.TheVariants.{F20};
 ghost use Rattle.mf_model.specs.Tree.{Ascending};
-ghost use Rattle.mf_office.specs.Keys.{child_key, head_key};
-ghost use Rattle.mf_store_sound.specs.Offices.{IsNumberedAndNamed, AscendFrom, row_at, HasParentsText};
+ghost use Rattle.mf_office.specs.Keys.{child_key, head_key, key_depth};
+ghost use Rattle.mf_store_sound.specs.Offices.{IsNumberedAndNamed, AscendFrom, row_at, parent_row, HasParentsText};
 ghost use Rattle.mf_store_sound.specs.Offices.{IsOfficeRow, AreOfficeRows, AreOffices};
 ghost use Rattle.mf_store_accounts.specs.Parts.{office_of};
 
@@ -66,38 +66,55 @@ fn is_child(alloc: Global, above: &OfficeRow, office: &OfficeRow) -> Result<bool
     Ok(office.number != 1 && office.hkey.as_str() == text.as_str())
 }
 
-/// Whether a row's hierarchy text is the one that its parent gives.
-fn has_parents_text(alloc: Global, offices: &[OfficeRow], office: &OfficeRow) -> Result<bool, Fault>
-    ensures text { AscendFrom 0 offices.now → IfOk result (λ yes. IsTrue yes ↔
-        HasParentsText offices.now office.now.parent office.now) }
+/// Whether a row's hierarchy text is the one that its parent gives, by the parent's row, if one is named and there.
+pub fn has_parents_text(
+    alloc: Global,
+    above: Option<&OfficeRow>,
+    office: &OfficeRow,
+) -> Result<bool, Fault>
+    ensures text { (rows : List OfficeRow) → option_copied above.entry ≡ parent_row rows office.now.parent →
+        IfOk result (λ yes. IsTrue yes ↔ HasParentsText rows office.now.parent office.now) }
     ensures gives_up { IfErr result (λ fault. fault ≡ F20) }
 {
-    let Some(parent) = office.parent else {
-        return Ok(is_head(office));
-    };
-    match find_office(offices, parent) {
-        Some(above) => is_child(alloc, above, office),
-        None => Ok(false),
+    match (office.parent, above) {
+        (None, _) => Ok(is_head(office)),
+        (Some(_), Some(above)) => is_child(alloc, above, office),
+        (Some(_), None) => Ok(false),
     }
 }
 
+/// Whether an office lies at most five steps below the head office, by its hierarchy text.
+pub fn is_within_depth(office: &OfficeRow) -> bool
+    ensures { IsTrue result ↔ (key_depth office.now.hkey ≤ 6) }
+{
+    count_dots(office.hkey.as_str()) <= MOST_DOTS
+}
+
+/// The row of an office's parent, if one is named and there. The rows are in the order of their numbers.
+fn find_parent<'a>(offices: &'a [OfficeRow], office: &OfficeRow) -> Option<&'a OfficeRow>
+    ensures { AscendFrom 0 offices.now → option_copied result ≡ parent_row offices.now office.now.parent }
+{
+    find_office(offices, office.parent?)
+}
+
 /// Whether a row is that of an office, with the hierarchy text that its parent gives.
-fn is_office(alloc: Global, offices: &[OfficeRow], office: &OfficeRow) -> Result<bool, Fault>
+fn is_office_row(alloc: Global, offices: &[OfficeRow], office: &OfficeRow) -> Result<bool, Fault>
     ensures row { AscendFrom 0 offices.now → IfOk result (λ yes. IsTrue yes ↔ IsOfficeRow offices.now office.now) }
     ensures gives_up { IfErr result (λ fault. fault ≡ F20) }
 {
-    let has_text = has_parents_text(alloc, offices, office)?;
-    Ok(has_text && is_numbered_and_named(office) && count_dots(office.hkey.as_str()) <= MOST_DOTS)
+    let above = find_parent(offices, office);
+    let has_text = has_parents_text(alloc, above, office)?;
+    Ok(has_text && is_numbered_and_named(office) && is_within_depth(office))
 }
 
 /// Whether each row is that of an office, with the hierarchy text that its parent gives.
-fn are_all_offices(alloc: Global, offices: &[OfficeRow]) -> Result<bool, Fault>
+fn are_all_office_rows(alloc: Global, offices: &[OfficeRow]) -> Result<bool, Fault>
     ensures rows { AscendFrom 0 offices.now → IfOk result (λ yes. IsTrue yes ↔
         AllByRecursion (IsOfficeRow offices.now) offices.now) }
     ensures gives_up { IfErr result (λ fault. fault ≡ F20) }
 {
     for office in offices {
-        if !is_office(alloc, offices, office)? {
+        if !is_office_row(alloc, offices, office)? {
             return Ok(false);
         }
     }
@@ -116,7 +133,7 @@ fn are_office_rows(alloc: Global, offices: &[OfficeRow]) -> Result<bool, Fault>
     if find_office(offices, 1).is_none() {
         return Ok(false);
     }
-    are_all_offices(alloc, offices)
+    are_all_office_rows(alloc, offices)
 }
 
 /// Whether the rows are those of offices that are one tree, with the hierarchy texts that their parents give.

@@ -9,6 +9,7 @@ ghost use Rattle.mf_model.specs.Institution.{Catalogue, Offer, charge_in, item_n
 ghost use Rattle.mf_model.specs.Sound.{IsSoundOffer};
 ghost use Rattle.mf_store_accounts.specs.Flat.{charge_as, product_as, numbered_from};
 ghost use Rattle.mf_base.specs.Choices.{frequency_number};
+ghost use Rattle.mf_store_sound.specs.Charges.{HasRowOfKind};
 ghost use Rattle.mf_store_sound.specs.Stored.{IsRowOf};
 
 use crate::amounts::is_amount;
@@ -38,18 +39,20 @@ fn has_choices(row: &ProductRow) -> bool
     }
 }
 
-/// The longest step between due days, for the number of a frequency.
-fn longest(frequency: u32) -> u32
-    ensures { (freq : AnyFreq) → frequency_number freq ≡ frequency → result ≡ longest_step freq }
+/// Whether a step between due days is one that the frequency of this number allows.
+pub fn is_step(frequency: u32, every: u32) -> bool
+    ensures within { (freq : AnyFreq) → frequency_number freq ≡ frequency →
+        IsTrue result ↔ ((1 ≤ every) × (every ≤ longest_step freq)) }
+    ensures there { IsTrue result → (freq : AnyFreq) × (frequency_number freq ≡ frequency) }
 {
     match Freq::from_number(frequency) {
-        Some(freq) => longest_step(freq),
-        None => 0,
+        Some(freq) => every >= 1 && every <= longest_step(freq),
+        None => false,
     }
 }
 
-/// Whether a number of periods is from 1 to the most.
-fn are_periods(periods: u32) -> bool
+/// Whether a number of periods is from 1 to the most that a loan has.
+pub fn are_periods(periods: u32) -> bool
     ensures { IsTrue result ↔ ((1 ≤ periods) × (periods ≤ MOST_PERIODS)) }
 {
     periods >= 1 && periods <= MOST_PERIODS
@@ -60,8 +63,7 @@ fn is_within_limits(row: &ProductRow) -> bool
     ensures { (p : Offer) → product_as row.now.number p ≡ row.now → IsTrue result ↔ AreMembersWithinLimits p.members }
 {
     row.rate <= GREATEST_RATE
-        && row.every >= 1
-        && row.every <= longest(row.frequency)
+        && is_step(row.frequency, row.every)
         && row.principal_grace <= MOST_GRACE
         && row.interest_grace <= MOST_GRACE
         && is_amount(row.min_principal)
@@ -81,9 +83,10 @@ fn do_limits_agree(row: &ProductRow) -> bool
 }
 
 /// Whether the charge that is named, if one is, exists and is of this kind.
-fn is_of_kind(charges: &[ChargeRow], kind: ChargeKind, named: Option<u32>) -> bool
-    ensures { (k : Catalogue) → numbered_from charge_as 1 k.charges ≡ charges.now
-        → result ≡ is_of_kind (charge_in k) kind named }
+pub fn is_of_kind(charges: &[ChargeRow], kind: ChargeKind, named: Option<u32>) -> bool
+    ensures rows { IsTrue result ↔ HasRowOfKind charges.now kind named }
+    ensures catalogue { (k : Catalogue) → numbered_from charge_as 1 k.charges ≡ charges.now →
+        result ≡ is_of_kind (charge_in k) kind named }
 {
     let Some(number) = named else {
         return true;

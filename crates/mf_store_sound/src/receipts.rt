@@ -12,7 +12,7 @@ use std::alloc::Global;
 use std::cmp::Ordering;
 
 /// The order of receipts: by office, and then by their bytes.
-fn compare(row: &ReceiptRow, other: &ReceiptRow) -> Ordering
+pub fn compare_receipts(row: &ReceiptRow, other: &ReceiptRow) -> Ordering
     ensures { result ≡ by_receipt row.now other.now }
 {
     let by_bytes = row
@@ -27,7 +27,7 @@ fn compare(row: &ReceiptRow, other: &ReceiptRow) -> Ordering
 fn is_before(row: &ReceiptRow, other: &ReceiptRow) -> bool
     ensures { result ≡ is_receipt_before row.now other.now }
 {
-    compare(row, other) == Ordering::Less
+    compare_receipts(row, other) == Ordering::Less
 }
 
 /// Whether each receipt comes before those that follow it, so that none stands twice in an office.
@@ -61,7 +61,7 @@ fn add_receipt(alloc: Global, rows: &mut Vec<ReceiptRow>, entry: &EntryRow) -> R
 }
 
 /// The rows of the receipts that the rows of entries carry, in the order of the entries.
-fn carried(alloc: Global, entries: &[EntryRow]) -> Result<Vec<ReceiptRow>, Fault>
+fn carried_receipts(alloc: Global, entries: &[EntryRow]) -> Result<Vec<ReceiptRow>, Fault>
     ensures rows { IfOk result (λ rows. rows.items ≡ carried_by entries.now) }
     ensures gives_up { IfErr result (λ fault. fault ≡ F20) }
 {
@@ -85,8 +85,8 @@ pub(crate) fn are_receipts(
     if !is_ascending(receipts) {
         return Ok(false);
     }
-    let mut rows = carried(alloc, entries)?;
-    rows.sort_unstable_by(|row, other| compare(row, other));
+    let mut rows = carried_receipts(alloc, entries)?;
+    rows.sort_unstable_by(|row, other| compare_receipts(row, other));
     let same = are_same(&rows, receipts);
     Ok(same)
 }

@@ -28,8 +28,8 @@ fn is_before(row: &EntryRow, last: &EntryRow) -> bool
     day < other || (day == other && row.seq < last.seq)
 }
 
-/// Whether a row is of a write-off or a refund.
-fn is_seal(row: &EntryRow) -> bool
+/// Whether a row is of a write-off or a refund. Of a row that is none of an entry it says nothing.
+pub fn is_seal(row: &EntryRow) -> bool
     ensures { (x m : ℕ) (e : Entry) → entry_in x m e ≡ row.now → result ≡ is_seal_kind e.kind }
 {
     match kind_from(row.kind) {
@@ -38,15 +38,16 @@ fn is_seal(row: &EntryRow) -> bool
     }
 }
 
-/// Whether a row is of an entry that is reversed.
-fn is_reversed(row: &EntryRow) -> bool
+/// Whether a row is of an entry that is reversed. Of a row that is none of an entry it says nothing.
+pub fn is_reversed(row: &EntryRow) -> bool
     ensures { (x m : ℕ) (e : Entry) → entry_in x m e ≡ row.now → result ≡ e.reversed }
 {
     row.reversed == 1
 }
 
-/// Whether the entry of a row is reversed, or the same as another, or comes before it.
-fn is_past(row: &EntryRow, last: &EntryRow) -> bool
+/// Whether the entry of a row is reversed, or the same as another of its loan, or comes before it. Of rows that can't
+/// be read as entries of one loan it says nothing.
+pub fn is_past(row: &EntryRow, last: &EntryRow) -> bool
     ensures { (x m : ℕ) (f e : Entry) → IsReadable f → entry_in x m f ≡ row.now → IsReadable e → entry_in x m e
         ≡ last.now →
         result ≡ (f.reversed || ((f.seq == e.seq) || comes_before f e)) }

@@ -1,11 +1,11 @@
 //! Whether rows of the tables are those of a sound institution, of either schema; and the rows of its accounts.
 
-ghost use Rattle.std.specs.Prelude.{◌≡◌, ◌↔◌, IsTrue, IfOk, IfErr};
+ghost use Rattle.std.specs.Prelude.{◌≡◌, ◌↔◌, ℕ, IsTrue, IfOk, IfErr};
 ghost use Rattle.mf_base.specs.declared.fault.Fault.TheVariants.{F20};
 ghost use Rattle.mf_model.specs.Institution.{Institution};
 ghost use Rattle.mf_model.specs.Sound.{IsSound};
 ghost use Rattle.mf_store_accounts.specs.Flat.{tables_of};
-ghost use Rattle.mf_store_sound.specs.Schemas.{first_tables_of};
+ghost use Rattle.mf_store_sound.specs.Schemas.{first_tables_of, tables_under, without_accounts};
 ghost use Rattle.mf_store_sound.specs.Sound.{AreOfSound, AreOfSoundFirst, AreUnder};
 
 use crate::callers::are_by_staff;
@@ -94,13 +94,16 @@ pub fn is_sound_first(alloc: Global, tables: &Tables) -> Result<bool, Fault>
     are_under(alloc, FIRST_SCHEMA, tables)
 }
 
-/// The rows of instalments and of shares that the accounts of an institution have, by its rows under the first schema.
-/// The error is F20, out of memory.
+/// The rows of instalments and of shares that the accounts of an institution have, by its other rows under either
+/// schema. The error is F20, out of memory.
 pub fn account_rows(
     alloc: Global,
     tables: &Tables,
 ) -> Result<(Vec<InstalmentRow>, Vec<ShareRow>), Fault>
     ensures rows { IfOk result (λ rows. (i : Institution) → IsSound i → first_tables_of i ≡ tables.now →
+        (rows.0.items ≡ (tables_of i).instalments) × (rows.1.items ≡ (tables_of i).shares)) }
+    ensures under { IfOk result (λ rows. (schema : ℕ) (i : Institution) → IsSound i →
+        tables_under schema i ≡ without_accounts tables.now →
         (rows.0.items ≡ (tables_of i).instalments) × (rows.1.items ≡ (tables_of i).shares)) }
     ensures gives_up { IfErr result (λ fault. fault ≡ F20) }
 {

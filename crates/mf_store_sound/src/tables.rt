@@ -9,16 +9,27 @@ use std::marker::Model;
 /// The rows of the tables, each table's in the order of its key.
 #[derive(Drop)]
 pub struct Tables {
+    /// The schema's number and the business day.
     pub meta: Vec<MetaRow>,
+    /// The offices.
     pub offices: Vec<OfficeRow>,
+    /// The members of staff, by office.
     pub staff: Vec<StaffRow>,
+    /// The clients, by office.
     pub clients: Vec<ClientRow>,
+    /// The charges of the catalogue.
     pub charges: Vec<ChargeRow>,
+    /// The products of the catalogue.
     pub products: Vec<ProductRow>,
+    /// The loans, by office.
     pub loans: Vec<LoanRow>,
+    /// The entries, by loan.
     pub entries: Vec<EntryRow>,
+    /// The receipts that entries carry, by office.
     pub receipts: Vec<ReceiptRow>,
+    /// The instalments of accounts, by loan; none under the first schema.
     pub instalments: Vec<InstalmentRow>,
+    /// The shares of entries in instalments, by loan; none under the first schema.
     pub shares: Vec<ShareRow>,
 }
 

@@ -2,6 +2,7 @@
 use Rattle.std.proofs.Common.{◌≡◌, ◌+◌, ◌∙◌, ℕ, Bool, List, [], ◌∷◌, map, length, Option, Some, None, refl, sym, ap}
 use Rattle.std.specs.Prelude.{sum, slice_index}
 use Rattle.std.specs.List.{AllByRecursion}
+use Rattle.sqlite_keyed.proofs.ListLemmas.{all_weaker}
 use Rattle.mf_office.specs.declared.caller.Caller.{Caller}
 use Rattle.mf_account.specs.declared.entry.Entry.{Entry}
 use Rattle.mf_account.specs.Balance.{balances_of, sum_repaid}
@@ -61,39 +62,24 @@ module _ (k : Catalogue) (staffed : Caller → Bool) (sound : IsSoundCatalogue k
                 ∙ sym (ap money_in e);
           }
 
-  loans_balanced : (names : List (List ℕ)) (ls : List Ledger) → AllByRecursion (IsSoundLoan k staffed names) ls
-      → AllByRecursion (IsLoanBalanced k) ls
-  loans_balanced names [] all = tt
-  loans_balanced names (l ∷ ls) all = (loan_balanced names l all.0, loans_balanced names ls all.1)
-
-  each_principal : (ls : List Ledger) → AllByRecursion (IsLoanBalanced k) ls
-      → AllByRecursion (λ (l : Ledger). lent_on k l ≡ slice_index (balances_in k l).paid 3
-      + slice_index (balances_in k l).written_off 3 + slice_index (balances_in k l).outstanding 3) ls
-  each_principal [] all = tt
-  each_principal (l ∷ ls) all = (all.0.principal, each_principal ls all.1)
-
-  each_money : (ls : List Ledger) → AllByRecursion (IsLoanBalanced k) ls → AllByRecursion (λ (l : Ledger).
-      sum_repaid l.entries ≡ sum (balances_in k l).paid + (balances_in k l).overpaid + (balances_in k l).refunded) ls
-  each_money [] all = tt
-  each_money (l ∷ ls) all = (all.0.money, each_money ls all.1)
-
   sums_balanced : (clients : ℕ) (ls : List Ledger) → AllByRecursion (IsLoanBalanced k) ls
       → IsBalanced (sums_by_loan k clients ls)
   sums_balanced clients ls all = record {
     principal = in_three (lent_on k) (λ (l : Ledger). slice_index (balances_in k l).paid 3)
         (λ (l : Ledger). slice_index (balances_in k l).written_off 3)
-        (λ (l : Ledger). slice_index (balances_in k l).outstanding 3) ls (each_principal ls all);
+        (λ (l : Ledger). slice_index (balances_in k l).outstanding 3) ls
+        (all_weaker (IsLoanBalanced k) _ (λ l b. b.principal) ls all);
     money = in_three (λ (l : Ledger). sum_repaid l.entries) (λ (l : Ledger). sum (balances_in k l).paid)
         (λ (l : Ledger). (balances_in k l).overpaid) (λ (l : Ledger). (balances_in k l).refunded) ls
-        (each_money ls all);
+        (all_weaker (IsLoanBalanced k) _ (λ l b. b.money) ls all);
   }
 
   offices_balanced : (fs : List Office) → AllByRecursion (IsSoundOffice k staffed) fs
       → AllByRecursion (λ (o : OfficeSums). IsBalanced o.sums) (map (sums_of k) fs)
   offices_balanced [] all = tt
   offices_balanced (f ∷ fs) all = (
-    sums_balanced (length f.rows.clients) f.rows.loans (loans_balanced f.rows.clients
-        f.rows.loans all.0.rows.loans),
+    sums_balanced (length f.rows.clients) f.rows.loans (all_weaker (IsSoundLoan k staffed f.rows.clients)
+        (IsLoanBalanced k) (loan_balanced f.rows.clients) f.rows.loans all.0.rows.loans),
     offices_balanced fs all.1,
   )
 
@@ -103,24 +89,13 @@ all_balanced i sound = offices_balanced i.catalogue (is_staff i.offices) sound.c
 
 -- ---- of all offices
 
-office_principal : (os : List OfficeSums) → AllByRecursion (λ (o : OfficeSums). IsBalanced o.sums) os
-    → AllByRecursion (λ (o : OfficeSums). o.sums.principal.disbursed ≡ o.sums.principal.paid
-    + o.sums.principal.written_off + o.sums.principal.outstanding) os
-office_principal [] all = tt
-office_principal (o ∷ os) all = (all.0.principal, office_principal os all.1)
-
-office_money : (os : List OfficeSums) → AllByRecursion (λ (o : OfficeSums). IsBalanced o.sums) os
-    → AllByRecursion (λ (o : OfficeSums). o.sums.money.repaid ≡ o.sums.money.paid + o.sums.money.overpaid
-    + o.sums.money.refunded) os
-office_money [] all = tt
-office_money (o ∷ os) all = (all.0.money, office_money os all.1)
-
 pub total_balanced : (os : List OfficeSums) → AllByRecursion (λ (o : OfficeSums). IsBalanced o.sums) os
     → IsBalanced (total_of os)
 total_balanced os all = record {
   principal = in_three (λ (o : OfficeSums). o.sums.principal.disbursed) (λ (o : OfficeSums). o.sums.principal.paid)
       (λ (o : OfficeSums). o.sums.principal.written_off) (λ (o : OfficeSums). o.sums.principal.outstanding) os
-      (office_principal os all);
+      (all_weaker (λ (o : OfficeSums). IsBalanced o.sums) _ (λ o b. b.principal) os all);
   money = in_three (λ (o : OfficeSums). o.sums.money.repaid) (λ (o : OfficeSums). o.sums.money.paid)
-      (λ (o : OfficeSums). o.sums.money.overpaid) (λ (o : OfficeSums). o.sums.money.refunded) os (office_money os all);
+      (λ (o : OfficeSums). o.sums.money.overpaid) (λ (o : OfficeSums). o.sums.money.refunded) os
+      (all_weaker (λ (o : OfficeSums). IsBalanced o.sums) _ (λ o b. b.money) os all);
 }

@@ -4,6 +4,7 @@ use Rattle.std.proofs.Common.{length, get_or, Option, Some, None, refl, sym, ap,
 use Rattle.std.specs.Prelude.{sum_by, filter}
 use Rattle.std.specs.List.{AllByRecursion}
 use Rattle.std.proofs.lemmas.List.Sums.{sum_by-cons, sum_by-le, length-filter, count_by-le-length}
+use Rattle.sqlite_keyed.proofs.ListLemmas.{all_weaker}
 use Rattle.mf_office.specs.declared.caller.Caller.{Caller}
 use Rattle.mf_account.specs.declared.entry.Entry.{Entry}
 use Rattle.mf_account.specs.declared.entry.Kind.{Kind}
@@ -90,16 +91,13 @@ module _ (k : Catalogue) (staffed : Caller → Bool) (sound : IsSoundCatalogue k
       let is = brought_is l.entries in
       record { few = few; lent = lent_of names l s; repaid = omega (arith, few, brought, is) }
 
-  each_loan : (f : Ledger → ℕ) (m : ℕ) → ((l : Ledger) → IsLoanBound k l → f l ≤ m) → (names : List (List ℕ))
-      (ls : List Ledger) → AllByRecursion (IsSoundLoan k staffed names) ls → AllByRecursion (λ l. f l ≤ m) ls
-  each_loan f m bound names [] all = tt
-  each_loan f m bound names (l ∷ ls) all = (bound l (loan_bound names l all.0), each_loan f m bound names ls all.1)
-
   -- ---- one office
 
   office_bound : (f : Ledger → ℕ) (m : ℕ) → ((l : Ledger) → IsLoanBound k l → f l ≤ m) → (o : Office)
       → IsSoundOffice k staffed o → sum_by f o.rows.loans ≤ length o.rows.loans * m
-  office_bound f m bound o s = sum_bound f m o.rows.loans (each_loan f m bound o.rows.clients o.rows.loans s.rows.loans)
+  office_bound f m bound o s =
+      sum_bound f m o.rows.loans (all_weaker (IsSoundLoan k staffed o.rows.clients) (λ l. f l ≤ m)
+      (λ l h. bound l (loan_bound o.rows.clients l h)) o.rows.loans s.rows.loans)
 
   loans_bound : (o : Office) → IsSoundOffice k staffed o → (status : ℕ) → loans_at k o.rows.loans status ≤ 10 ^ 6
   loans_bound o s status =

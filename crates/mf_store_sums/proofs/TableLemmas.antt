@@ -1,16 +1,10 @@
 -- The rows of a sound institution's tables, under either schema, are those of its offices.
-use Rattle.std.proofs.Common.{◌≡◌, ◌+◌, ◌∙◌, ℕ, List, [], ◌∷◌, ◌++◌, map, sym, ap, subst}
+use Rattle.std.proofs.Common.{◌≡◌, ◌+◌, ◌∙◌, ℕ, List, [], ◌∷◌, ◌++◌, map, sym, ap}
 use Rattle.std.specs.List.{AllByRecursion}
 use Rattle.mf_model.specs.Institution.{Catalogue, Institution, Ledger, Office}
 use Rattle.mf_model.specs.Sound.{IsSound, IsSoundCatalogue}
 use Rattle.mf_model.specs.Tree.{parent_of}
 use Rattle.mf_store_records.specs.Rows.{Lists}
-use Rattle.mf_store_records.specs.declared.charges.ChargeRow.{ChargeRow}
-use Rattle.mf_store_records.specs.declared.clients.ClientRow.{ClientRow}
-use Rattle.mf_store_records.specs.declared.entries.EntryRow.{EntryRow}
-use Rattle.mf_store_records.specs.declared.loans.LoanRow.{LoanRow}
-use Rattle.mf_store_records.specs.declared.offices.OfficeRow.{OfficeRow}
-use Rattle.mf_store_records.specs.declared.products.ProductRow.{ProductRow}
 use Rattle.mf_store_accounts.specs.Accounts.{PlacedLoan, placed_loans, all_placed, IsPlainPlaced}
 use Rattle.mf_store_accounts.specs.Flat.{charge_as, product_as, numbered_from}
 use Rattle.mf_store_accounts.specs.Parts.{office_of}
@@ -52,31 +46,6 @@ abbrev pub Told : (Catalogue → List Office → Type 0) → Lists → Type 0
 Told P t = (k : Catalogue) → IsSoundCatalogue k → numbered_from charge_as 1 k.charges ≡ t.charges
     → numbered_from product_as 1 k.products ≡ t.products → (fs : List Office) → AreRowsOfOffices k t.offices t.clients
     t.loans t.entries fs → P k fs
-
--- the parts of the lists, for the lists
-pub told_of_parts : (P : Catalogue → List Office → Type 0) (t inside : Lists) (view : inside ≡ t)
-    (charges : List ChargeRow) (products : List ProductRow) (offices : List OfficeRow) (clients : List ClientRow)
-    (loans : List LoanRow) (entries : List EntryRow)
-    → charges ≡ inside.charges → products ≡ inside.products → offices ≡ inside.offices → clients ≡ inside.clients
-    → loans ≡ inside.loans → entries ≡ inside.entries
-    → Told P (record t {
-      charges = charges;
-      products = products;
-      offices = offices;
-      clients = clients;
-      loans = loans;
-      entries = entries;
-    }) → Told P t
-told_of_parts P t inside view charges products offices clients loans entries c p o s l e told =
-    subst (λ (lists : Lists). Told P lists) (λ z. record t {
-      charges = (c ∙ (λ y. (view y).charges)) z;
-      products = (p ∙ (λ y. (view y).products)) z;
-      offices = (o ∙ (λ y. (view y).offices)) z;
-      clients = (s ∙ (λ y. (view y).clients)) z;
-      loans = (l ∙ (λ y. (view y).loans)) z;
-      entries =
-          (e ∙ (λ y. (view y).entries)) z;
-    }) told
 
 -- what is told, at the institution whose rows these are
 pub told_at : (P : Catalogue → List Office → Type 0) (t : Lists) → Told P t → (schema : ℕ) (i : Institution) → IsSound i

@@ -15,24 +15,13 @@ use Rattle.mf_store_accounts.specs.Parts.{own, later, office_of, bare}
 use Rattle.mf_store_accounts.proofs.MadeLemmas.{one_made}
 use Rattle.mf_store_accounts.proofs.PartLemmas.{own_of_loan, later_of_loan, own_of_first, later_of_first, own_of_office}
 use Rattle.mf_store_accounts.proofs.PartLemmas.{later_of_office}
-use Rattle.mf_store_sound.proofs.OfficePartLemmas.{length_numbered}
+use Rattle.mf_store_sound.proofs.LoanPartLemmas.{loan_of}
+use Rattle.mf_store_sound.proofs.OfficePartLemmas.{length_numbered, of_client, of_loan, of_entry}
 use Rattle.mf_store_sums.specs.declared.totals.OfficeSums.{OfficeSums}
 use Rattle.mf_store_sums.specs.declared.totals.Sums.{Sums}
 use Rattle.mf_store_sums.specs.Offices.{IsPlain, AreRowsOfOffices}
 use Rattle.mf_store_sums.specs.Sums.{sums_by_loan, sums_of, added}
 use Rattle.mf_store_sums.proofs.AddedLemmas.{more_added, none_added}
-
-abbrev pub loan_of : EntryRow → ℕ
-loan_of r = r.loan
-
-abbrev pub of_client : ClientRow → ℕ
-of_client r = r.office
-
-abbrev pub of_loan : LoanRow → ℕ
-of_loan r = r.office
-
-abbrev pub of_entry : EntryRow → ℕ
-of_entry r = r.office
 
 -- ---- loans
 
@@ -75,7 +64,8 @@ module _ (k : Catalogue) (x : ℕ) (whole : Sums) (rs : List LoanRow) (e fe le :
             loans_are = others;
             entries_are = sym (later_of_loan entry_in own_entries loan_of (λ y m a. refl) x h.number l ls)
                 ∙ (λ t. later loan_of (number t) (b t)) ∙ sym g;
-            whole_is = (λ t. added (is t) (sums_by_loan k 0 ls)) ∙ (λ t. added (added s (one t)) (sums_by_loan k 0 ls))
+            whole_is = (λ t. added (is t) (sums_by_loan k 0 ls))
+                ∙ (λ t. added (added s (one t)) (sums_by_loan k 0 ls))
                 ∙ more_added k s l ls ∙ w;
           }
 

@@ -4,7 +4,6 @@
 
 mod loans;
 mod offices;
-mod parts;
 mod totals;
 
 pub use offices::office_sums;

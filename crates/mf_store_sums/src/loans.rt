@@ -32,7 +32,7 @@ fn one_if(yes: bool) -> u64
 }
 
 /// One loan with this status.
-fn counted_at(status: u32) -> LoanCounts
+fn count_at(status: u32) -> LoanCounts
     ensures { (k : Catalogue) (l : Ledger) → status_in k l ≡ status → result ≡ loan_counts k (l ∷ []) }
 {
     LoanCounts {
@@ -48,7 +48,7 @@ fn counted_at(status: u32) -> LoanCounts
 }
 
 /// How many of a loan's entries stand, and how many are reversed.
-fn counted_entries(entries: &[Entry]) -> EntryCounts
+fn count_entries(entries: &[Entry]) -> EntryCounts
     ensures { (l : Ledger) → l.entries ≡ entries.now → result ≡ entry_counts (l ∷ []) }
 {
     let mut standing = 0;
@@ -61,7 +61,7 @@ fn counted_entries(entries: &[Entry]) -> EntryCounts
 }
 
 /// What an entry brought, while it stands.
-fn repaid_by(entry: &Entry) -> u64
+fn amount_brought(entry: &Entry) -> u64
     ensures { result ≡ (if entry.now.reversed then 0 else money_in entry.now.kind entry.now.amount) }
 {
     if entry.reversed {
@@ -74,12 +74,12 @@ fn repaid_by(entry: &Entry) -> u64
 }
 
 /// What the repayments that stand brought.
-fn repaid(entries: &[Entry]) -> u128
+fn sum_repaid(entries: &[Entry]) -> u128
     ensures { result ≡ sum_repaid entries.now }
 {
     let mut total: u128 = 0;
     for entry in entries {
-        total += u128::from(repaid_by(entry));
+        total += u128::from(amount_brought(entry));
     }
     total
 }
@@ -131,10 +131,10 @@ fn account_sums(lent: u64, account: &LoanAccount) -> Sums
     let balances = account.balances();
     Sums {
         clients: 0,
-        loans: counted_at(u32::from(account.status())),
-        entries: counted_entries(entries),
+        loans: count_at(u32::from(account.status())),
+        entries: count_entries(entries),
         principal: principal_of(&balances, lent),
-        money: money_of(&balances, repaid(entries)),
+        money: money_of(&balances, sum_repaid(entries)),
     }
 }
 
@@ -145,7 +145,7 @@ fn stage_sums(stage: u32) -> Sums
 {
     let none = Sums::of_clients(0);
     Sums {
-        loans: counted_at(stage),
+        loans: count_at(stage),
         ..none
     }
 }

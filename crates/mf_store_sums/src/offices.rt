@@ -12,11 +12,10 @@ ghost use Rattle.mf_store_sums.specs.Offices.{IsPlain, AreRowsOfOffices};
 ghost use Rattle.mf_store_sums.specs.Sums.{sums_by_loan, sums_of, total_of, Fit, IsBalanced};
 
 use crate::loans::loan_sums;
-use crate::parts::parts;
 use crate::totals::{OfficeSums, Sums};
 use mf_base::Fault;
 use mf_store_records::{ChargeRow, ClientRow, EntryRow, LoanRow, OfficeRow, ProductRow};
-use mf_store_sound::Tables;
+use mf_store_sound::{Tables, split_by_owner};
 use std::alloc::Global;
 
 /// What so many clients and the loans of an office come to, by the rows of its loans and of their entries. The error is
@@ -39,7 +38,7 @@ fn sums_of_loans(
     let mut sums = Sums::of_clients(clients);
     let mut entries_left = entries;
     for row in loans {
-        let (own_entries, later_entries) = parts(entries_left, row.number, |row| row.loan);
+        let (own_entries, later_entries) = split_by_owner(entries_left, row.number, |row| row.loan);
         let loan = loan_sums(alloc, charges, products, row, own_entries)?;
         let Some(more) = sums.plus(loan) else {
             return Err(Fault::F20);
@@ -71,9 +70,17 @@ fn sums_of_offices(
     let mut loans_left = loans;
     let mut entries_left = entries;
     for office in offices {
-        let (own_clients, later_clients) = parts(clients_left, office.number, |row| row.office);
-        let (own_loans, later_loans) = parts(loans_left, office.number, |row| row.office);
-        let (own_entries, later_entries) = parts(entries_left, office.number, |row| row.office);
+        let (own_clients, later_clients) = split_by_owner(
+            clients_left,
+            office.number,
+            |row| row.office,
+        );
+        let (own_loans, later_loans) = split_by_owner(loans_left, office.number, |row| row.office);
+        let (own_entries, later_entries) = split_by_owner(
+            entries_left,
+            office.number,
+            |row| row.office,
+        );
         let count = own_clients.len() as u64;
         let sums = sums_of_loans(alloc, charges, products, count, own_loans, own_entries)?;
         found.push(OfficeSums {

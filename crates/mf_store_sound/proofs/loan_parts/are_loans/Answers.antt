@@ -8,7 +8,7 @@ pub returns-then-not-is_loan_part : goal.returns-then-not-is_loan_part
 returns-then-not-is_loan_part c k d e names many =
     let l = c.loop-row in
     no_answer (λ are. loan_refused k names c.args.lender.now.office _ c.args.loans.now l.row-index l.number
-    c.row-item.result l.entries_left.now _ c.loop-row-test.true c.row-item.is (c.parts.ensures.own loan_of
+    c.row-item.result l.entries_left.now _ c.loop-row-test.true c.row-item.is (c.split_by_owner.ensures.own loan_of
     (λ row n called. search rules))
     (refuses c.is_loan_part.result c.if-not-is_loan_part.true (c.is_loan_part.ensures k d e names many))
     (l.invariant.1 k d e names many) are.1)
@@ -18,8 +18,9 @@ loop-row-preserved c =
     let l = c.loop-row in (
       omega arith,
       λ k d e names many. loan_passed k names c.args.lender.now.office _ c.args.loans.now l.row-index l.number
-          c.row-item.result l.entries_left.now _ _ c.loop-row-test.true c.row-item.is (c.parts.ensures.own loan_of
-          (λ row n called. search rules)) (c.parts.ensures.later loan_of (λ row n called. search rules))
+          c.row-item.result l.entries_left.now _ _ c.loop-row-test.true c.row-item.is
+          (c.split_by_owner.ensures.own loan_of (λ row n called. search rules))
+          (c.split_by_owner.ensures.later loan_of (λ row n called. search rules))
           ((c.is_loan_part.ensures k d e names many).0 c.if-not-is_loan_part.false) (l.invariant.1 k d e names many),
     )
 

@@ -10,9 +10,9 @@ returns c k l some lent =
     let entries = entries_are k l c.args.account.now of ∙ sym c.entries-entries.ensures in
     λ t. record {
       clients = 0;
-      loans = c.counted_at.ensures k l (status_is k l c.args.account.now of ∙ sym c.status.ensures ∙ sym c.from.ensures)
+      loans = c.count_at.ensures k l (status_is k l c.args.account.now of ∙ sym c.status.ensures ∙ sym c.from.ensures)
           t;
-      entries = c.counted_entries.ensures l entries t;
+      entries = c.count_entries.ensures l entries t;
       principal = c.principal_of.ensures k l balances (lent_is k l c.args.account.now of ∙ lent) t;
-      money = c.money_of.ensures k l balances (ap sum_repaid entries ∙ sym c.repaid.ensures) t;
+      money = c.money_of.ensures k l balances (ap sum_repaid entries ∙ sym c.sum_repaid.ensures) t;
     }

@@ -7,6 +7,6 @@ use Rattle.mf_store_sums.proofs.loans.stage_sums.Goals as goal
 
 pub returns : goal.returns
 returns c k l none empty stage =
-    let counts = c.counted_at.ensures k l (ap (of_account (stage_number l.loan.stage) status_of_loan) none ∙ stage) in
-    (λ t. record (c.of_clients-none.ensures t) { loans = c.counted_at.result }) ∙ stage_alone k l c.counted_at.result
+    let counts = c.count_at.ensures k l (ap (of_account (stage_number l.loan.stage) status_of_loan) none ∙ stage) in
+    (λ t. record (c.of_clients-none.ensures t) { loans = c.count_at.result }) ∙ stage_alone k l c.count_at.result
     none empty counts

@@ -2,8 +2,9 @@ use Rattle.std.proofs.Common.{◌+◌, ◌++◌, List, drop, map, subst, sym, ru
 use Rattle.std.proofs.lemmas.List.{drop_all}
 use Rattle.mf_store_records.specs.declared.offices.OfficeRow.{OfficeRow}
 use Rattle.mf_store_accounts.proofs.MadeLemmas.{at_row}
+use Rattle.mf_store_sound.proofs.OfficePartLemmas.{of_client, of_loan, of_entry}
 use Rattle.mf_store_sums.specs.Sums.{sums_of}
-use Rattle.mf_store_sums.proofs.WalkLemmas.{AreLeft, of_client, of_loan, of_entry, office_more, no_office_left}
+use Rattle.mf_store_sums.proofs.WalkLemmas.{AreLeft, office_more, no_office_left}
 use Rattle.mf_store_sums.proofs.offices.sums_of_offices.Goals as goal
 
 pub loop-office-init : goal.loop-office-init
@@ -19,12 +20,12 @@ loop-office-preserved c k sound e f fs rows =
     c.loop-office-test.true c.office-item.is) (l.invariant k sound e f fs rows) in
     office_more k whole (drop (l.office-index + 1) c.args.offices.now) l.clients_left.now _ _ l.loans_left.now _ _
     l.entries_left.now _ _ l.found.items _ _ c.office-item.result
-    (c.parts.ensures.own of_client (λ row n called. search rules))
-    (c.parts.ensures.later of_client (λ row n called. search rules))
-    (c.parts-in-loop-office.ensures.own of_loan (λ row n called. search rules))
-    (c.parts-in-loop-office.ensures.later of_loan (λ row n called. search rules))
-    (c.parts-in-loop-office-2.ensures.own of_entry (λ row n called. search rules))
-    (c.parts-in-loop-office-2.ensures.later of_entry (λ row n called. search rules))
+    (c.split_by_owner.ensures.own of_client (λ row n called. search rules))
+    (c.split_by_owner.ensures.later of_client (λ row n called. search rules))
+    (c.split_by_owner-in-loop-office.ensures.own of_loan (λ row n called. search rules))
+    (c.split_by_owner-in-loop-office.ensures.later of_loan (λ row n called. search rules))
+    (c.split_by_owner-in-loop-office-2.ensures.own of_entry (λ row n called. search rules))
+    (c.split_by_owner-in-loop-office-2.ensures.later of_entry (λ row n called. search rules))
     (c.in_ok-sums.ensures.sums k sound e f) c.in_ok-push.ensures.items so_far
 
 pub returns-clause-sums : goal.returns-clause-sums

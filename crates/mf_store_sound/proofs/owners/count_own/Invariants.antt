@@ -1,7 +1,7 @@
 use Rattle.std.proofs.Common.{◌≡◌, ◌+◌, ℕ, drop}
 use Rattle.std.specs.Fn.{FnReturnsAt}
 use Rattle.mf_store_accounts.specs.Parts.{own_count}
-use Rattle.mf_store_sums.proofs.parts.count_own.Given as goal
+use Rattle.mf_store_sound.proofs.owners.count_own.Given as goal
 
 abbrev pub invariant-loop-row : goal.invariant-loop-row
 invariant-loop-row g l =

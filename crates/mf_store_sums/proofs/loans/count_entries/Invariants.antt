@@ -1,7 +1,7 @@
 use Rattle.std.proofs.Common.{◌≡◌, ◌≤◌, not, length, take}
 use Rattle.std.specs.Prelude.{filter}
 use Rattle.mf_account.specs.declared.entry.Entry.{Entry}
-use Rattle.mf_store_sums.proofs.loans.counted_entries.Given as goal
+use Rattle.mf_store_sums.proofs.loans.count_entries.Given as goal
 
 abbrev pub invariant-loop-entry : goal.invariant-loop-entry
 invariant-loop-entry l = record {

@@ -1,6 +1,6 @@
 use Rattle.std.proofs.Common.{◌∙◌}
 use Rattle.mf_store_sums.proofs.LoanLemmas.{at_alone}
-use Rattle.mf_store_sums.proofs.loans.counted_at.Goals as goal
+use Rattle.mf_store_sums.proofs.loans.count_at.Goals as goal
 
 pub returns : goal.returns
 returns c k l is = λ t. record {

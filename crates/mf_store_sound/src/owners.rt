@@ -1,4 +1,4 @@
-//! Rows in the order of their owners: those of the first owner, and those of later ones.
+//! Rows in the order of their owners: those of the first owner, and the later ones.
 
 ghost use Rattle.std.specs.Prelude.{◌≡◌, ◌≤◌, ℕ, length};
 ghost use Rattle.std.specs.Fn.{FnReturnsAt};
@@ -21,8 +21,8 @@ fn count_own<T, F: Fn(&T) -> u32>(rows: &[T], owner: u32, owner_of: F) -> usize
     count
 }
 
-/// The rows of this owner, which come first, and the later ones.
-pub(crate) fn parts<T, F: Fn(&T) -> u32>(rows: &[T], owner: u32, owner_of: F) -> (&[T], &[T])
+/// The rows of this owner, up to the first of another, and the later ones.
+pub fn split_by_owner<T, F: Fn(&T) -> u32>(rows: &[T], owner: u32, owner_of: F) -> (&[T], &[T])
     requires { F.IsAlwaysCallable owner_of }
     ensures own { (of : T → ℕ) → ((row : T) (n : ℕ) → FnReturnsAt F.Fn owner_of row n → n ≡ of row) →
         result.0.now ≡ own of owner rows.now }

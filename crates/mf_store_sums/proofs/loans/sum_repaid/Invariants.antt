@@ -1,7 +1,7 @@
 use Rattle.std.proofs.Common.{◌≡◌, ◌≤◌, ◌*◌, ◌^◌, take}
 use Rattle.std.specs.Prelude.{sum_by}
 use Rattle.mf_store_sums.proofs.LoanLemmas.{brought_by}
-use Rattle.mf_store_sums.proofs.loans.repaid.Given as goal
+use Rattle.mf_store_sums.proofs.loans.sum_repaid.Given as goal
 
 abbrev pub invariant-loop-entry : goal.invariant-loop-entry
 invariant-loop-entry l = record {

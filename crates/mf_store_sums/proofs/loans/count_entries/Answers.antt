@@ -5,7 +5,7 @@ use Rattle.mf_account.specs.declared.entry.Entry.{Entry}
 use Rattle.mf_model.specs.Institution.{Ledger}
 use Rattle.mf_store_sums.proofs.AddedLemmas.{alone}
 use Rattle.mf_store_sums.proofs.LoanLemmas.{counted_more}
-use Rattle.mf_store_sums.proofs.loans.counted_entries.Goals as goal
+use Rattle.mf_store_sums.proofs.loans.count_entries.Goals as goal
 
 pub loop-entry-preserved : goal.loop-entry-preserved
 loop-entry-preserved c =

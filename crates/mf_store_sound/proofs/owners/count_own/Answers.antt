@@ -3,7 +3,7 @@ use Rattle.std.proofs.lemmas.Bool.Decides.{nat_tests}
 use Rattle.std.proofs.lemmas.Fn.{says_at}
 use Rattle.mf_store_accounts.specs.Parts.{own_count}
 use Rattle.mf_store_accounts.proofs.PartLemmas.{own_here, none_here}
-use Rattle.mf_store_sound.proofs.parts.count_own.Goals as goal
+use Rattle.mf_store_sound.proofs.owners.count_own.Goals as goal
 
 pub returns-then-owner_of-owner-clause-count : goal.returns-then-owner_of-owner-clause-count
 returns-then-owner_of-owner-clause-count g c of tells =

@@ -2,7 +2,7 @@ use Rattle.std.proofs.Common.{◌∙◌, ap, arith}
 use Rattle.std.specs.Prelude.{sum_by}
 use Rattle.std.proofs.lemmas.List.{take_all}
 use Rattle.mf_store_sums.proofs.LoanLemmas.{brought_by, brought_is, brought_more}
-use Rattle.mf_store_sums.proofs.loans.repaid.Goals as goal
+use Rattle.mf_store_sums.proofs.loans.sum_repaid.Goals as goal
 
 pub loop-entry-preserved : goal.loop-entry-preserved
 loop-entry-preserved c =
@@ -10,7 +10,7 @@ loop-entry-preserved c =
     let more = brought_more c.args.entries.now l.entry-index c.entry-item.result c.loop-entry-test.true
     c.entry-item.is in
     record {
-      so_far = omega (arith, more, l.invariant.so_far, c.from-total.ensures, c.repaid_by.ensures);
+      so_far = omega (arith, more, l.invariant.so_far, c.from-total.ensures, c.amount_brought.ensures);
       most = omega (arith, l.invariant.most, c.from-total.ensures);
     }
 
