@@ -55,7 +55,7 @@ def repayment(place, amount, day=LAST_DAY, receipt=None):
 
 
 def first_lines(entries):
-    """The lines that make an institution with one loan of office 1, and so many entries on it, of which half is paid."""
+    """The lines that make an institution with one loan of office 1, half of it repaid by so many entries."""
     days = [f"2024-{month:02}-28" for month in range(1, entries + 1)]
     return [
         PRODUCT,
@@ -79,18 +79,23 @@ def entered(path, lines):
     replies = files.answered(path, "".join(lines).encode()).splitlines()
     refused = [reply for reply in replies if not reply.startswith(b"20")]
     if refused:
-        raise SystemExit(f"the program refuses {len(refused)} of {len(lines)} lines, the first with {refused[0][:100]!r}")
+        raise SystemExit(f"{path}: {len(refused)} of {len(lines)} lines are refused, the first by {refused[0][:99]!r}")
 
 
 def copy_rows(database, table, count):
-    """Copies the rows of the first loan, or of its client, to each of so many numbers of each branch. The first row comes
-    to all of them before the second does, as where all pay in the same month."""
+    """Copies the rows of the first loan, or of its client, to each of so many numbers of each branch. They come in the
+    order in which the program would have written them: an entry to all loans before the next, as where all pay in the
+    same month, and what comes without an entry loan by loan."""
     columns = [name for _, name, *_ in database.execute(f"PRAGMA table_info({table})")]
     values = ", ".join(OWN[table].get(name, f"own.{name}") for name in columns)
     loan = next(name for name, value in OWN[table].items() if value == "place.number" and name != "client")
     database.execute(f"CREATE TEMP TABLE own AS SELECT * FROM {table} WHERE office = 1 AND {loan} = 1 ORDER BY rowid")
-    words = f"INSERT INTO {table} SELECT {values} FROM own CROSS JOIN place WHERE place.number <= ?"
-    database.execute(words, (count,))
+    words = f"INSERT INTO {table} SELECT {values} FROM place CROSS JOIN own WHERE place.number <= ?"
+    if "seq" in columns:
+        for (entry,) in database.execute("SELECT DISTINCT seq FROM own ORDER BY seq").fetchall():
+            database.execute(f"{words} AND own.seq = ?", (count, entry))
+    else:
+        database.execute(words, (count,))
     database.execute("DROP TABLE own")
 
 

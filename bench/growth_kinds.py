@@ -131,11 +131,13 @@ class Kinds:
             for name, path, statements in paths
             for entries, times, place in places
         ]
-        listing = ("1/1 GET /offices/1/loans/1\n", (1, 1))
-        return kinds + [self.kind("list of 100 loans with 20 entries each", lambda _: listing, 10, same_work.loans_listed)]
+        listed = ("1/1 GET /offices/1/loans/1\n", (1, 1))
+        name = "list of 100 loans with 20 entries each"
+        return kinds + [self.kind(name, lambda _: listed, 10, same_work.loans_listed)]
 
     def long_loans(self):
-        """One more entry on loans that have many, and the last one of others reversed: a batch has a loan of its own."""
+        """One more entry on loans that have many, and the last one of others reversed: a batch on a loan of its own,
+        but for the one loan with 2,000."""
 
         def more(place, entries):
             return lambda k: (repayment(place(k), AMOUNT // entries), place(k))

@@ -130,9 +130,10 @@ ANY_LEFT = " + ".join(left(portion) for portion in PORTIONS)
 def loans_listed(place, reply, before, after):
     """The first hundred loans after a number: their stages, and what is outstanding of each."""
     office, number = place
-    first = f"SELECT number, stage FROM loans WHERE office = {office} AND number > {number} ORDER BY number LIMIT 100;\n"
-    loans = f"office = {office} AND loan > {number} AND loan <= {number + 100}"
-    return f"{first}SELECT loan, sum({ANY_LEFT}) FROM instalments WHERE {loans} GROUP BY loan ORDER BY loan;\n"
+    first = f"office = {office} AND number > {number} ORDER BY number LIMIT 100"
+    loans = f"office = {office} AND loan > {number} AND loan <= {number + 100} GROUP BY loan ORDER BY loan"
+    sums = f"SELECT loan, sum({ANY_LEFT}) FROM instalments WHERE {loans};\n"
+    return f"SELECT number, stage FROM loans WHERE {first};\n{sums}"
 
 
 def report(place, reply, before, after):

@@ -17,7 +17,7 @@ LIST = "list of 100 loans with 20 entries each"
 FIRST_ENTRIES = "repayment, loan with 0 to 19 entries"
 ENTERED = ["client entered", "loan submitted, approved and paid out", FIRST_ENTRIES]
 BY_ENTRIES = {  # kinds that are measured at several numbers of entries on a loan
-    "one more entry": [FIRST_ENTRIES, "one more entry, loan with 200 entries", "one more entry, loan with 2,000 entries"],
+    "one more entry": [FIRST_ENTRIES] + [f"one more entry, loan with {count} entries" for count in ("200", "2,000")],
     "the loan read": ["loan read, 20 entries", "loan read, 200 entries", "loan read, 2,000 entries"],
     "its schedule read": ["schedule read, 20 entries", "schedule read, 200 entries", "schedule read, 2,000 entries"],
     "its entries read": ["entries read, 20 entries", "entries read, 200 entries", "entries read, 2,000 entries"],
@@ -92,7 +92,8 @@ def megabytes(count):
 
 def contents(counts):
     """What a file holds."""
-    return "{:,} {}, {:,} {} and {:,} {}".format(*(part for pair in zip(counts, COUNTED) for part in pair))
+    clients, loans, entries = counts
+    return f"{clients:,} clients, {loans:,} loans and {entries:,} entries"
 
 
 def rounded_down(number):
@@ -116,6 +117,7 @@ def head(results):
     version = files.ended(["--version"])[1].decode().strip()
     shell = subprocess.run(["sqlite3", "--version"], stdout=subprocess.PIPE, check=True).stdout.decode().split()[0]
     memory = os.sysconf("SC_PAGE_SIZE") * os.sysconf("SC_PHYS_PAGES") / 2**30
+    begun, ended = results.load
     return f"""# Speed and size
 
 `bench/growth --write` measured this and wrote the page; no number is entered by hand.
@@ -126,13 +128,7 @@ def head(results):
 | Program | {version} |
 | Beside it | the `sqlite3` shell {shell} |
 | Machine | {os.cpu_count()} cores of {processor()}, {memory:.0f} GiB of memory |
-| Busy with | a load of {results.load[0]:.1f} at the beginning and of {results.load[1]:.1f} at the end, the measuring itself being 1 of it |
-
-## What grows with what
-
-Processor time of one request, over three files in memory. They have {", ".join(str(size.branches) for size in results.sizes)} branches; a branch has
-{CLIENTS:,} clients and {LOANS:,} loans of {PERIODS} instalments and {ENTRIES} entries. In each file the head office has 100 loans of 20 entries,
-10 of 200 and one of 2,000 besides.
+| Load of the machine | {begun:.1f} at the beginning and {ended:.1f} at the end, of which the measuring itself is 1 |
 
 """
 
@@ -140,63 +136,90 @@ Processor time of one request, over three files in memory. They have {", ".join(
 def table(results):
     """The one table: what is asked, over each file."""
     sizes = results.sizes
+    branches = [str(size.branches) for size in sizes]
     loans = [f"{size.counts[1]:,} loans" for size in sizes]
-    text = row("Work", *loans, "Growth", "±", "Shell", "Ratio") + row("---", *["--:"] * 7)
+    text = f"""## What grows with what
+
+Processor time of one request, over three files in memory. They have {", ".join(branches)} branches; a branch has
+{CLIENTS:,} clients and {LOANS:,} loans of {PERIODS} instalments and {ENTRIES} entries. In each file the head office has
+100 loans of 20 entries, 10 of 200 and one of 2,000 besides.
+
+"""
+    text += row("Work", *loans, "Growth", "±", "Shell", "Ratio") + row("---", *["--:"] * 7)
     for name in results.kinds():
         times = map(duration, results.medians(name))
         noise, beside = spread(sizes[-1].costs[name][0]), duration(results.beside(name))
         text += row(name, *times, factor(results.growth(name)), noise, beside, factor(results.ratio(name)))
-    opened = results.openings()
-    noise = spread([seconds for seconds, _ in sizes[-1].opened])
-    text += row("file opened: all of it is checked", *(duration(seconds * 1e6) for seconds in opened),
-                factor(opened[-1] / opened[0]), noise, "", "")
+    return text + rows_of_files(results)
+
+
+def rows_of_files(results):
+    """The rows of the table that tell what opening takes, and what the files are."""
+    sizes = results.sizes
+    text = ""
     for name, form, values in (
+        ("file opened: all of it is checked", lambda seconds: duration(seconds * 1e6), results.openings()),
         ("memory at most", "{:,.0f} MiB".format, [size.peak for size in sizes]),
         ("size of the file", megabytes, [size.bytes for size in sizes]),
         ("clients in it", "{:,}".format, [size.counts[0] for size in sizes]),
         ("entries in it", "{:,}".format, [size.counts[2] for size in sizes]),
     ):
-        text += row(name, *map(form, values), factor(values[-1] / values[0]), "", "", "")
+        noise = spread([seconds for seconds, _ in sizes[-1].opened]) if name.startswith("file opened") else ""
+        text += row(name, *map(form, values), factor(values[-1] / values[0]), noise, "", "")
     return text
 
 
 def legend(results):
     """How the table is read."""
+    batches, opened = len(results.sizes[0].costs[LIST][0]), len(results.sizes[0].opened)
     return f"""
 - **Growth** is the number over the greatest file by that over the smallest.
-- **±** is half the way from the fastest batch of requests to the slowest, in percent of the median, over the greatest file.
-  All times are medians of {len(results.sizes[0].costs[LIST][0])} batches, and of {len(results.sizes[0].opened)} openings. What differs by less than ± tells nothing.
-- **Shell** is the processor time of the `sqlite3` shell for the same over a copy of the greatest file, and **ratio** the
-  program's time by it. For a reading it selects the rows that the reply needs; for what is entered it leaves the same rows
-  in one commit a request. It gets each statement as text, and checks no rule of the trade. Beside opening stands nothing,
-  since the shell opens a file without checking what it says.
+- **±** is half the way from the fastest batch of requests to the slowest, in percent of the median, over the greatest
+  file. All times are medians, of {batches} batches and of {opened} openings. What differs by less than ± tells nothing.
+- **Shell** is the processor time of the `sqlite3` shell for the same over a copy of the greatest file, and **ratio**
+  the program's time by it. For a reading the shell selects the rows that the reply needs; for what is entered it leaves
+  the same rows, in one commit a request. It gets each statement as text, and checks none of an institution's rules.
+  Nothing stands beside opening, since the shell opens a file without checking what it says.
 
 """
 
 
 def growing(results):
     """What grows with what, in sentences."""
-    single = [name for name in results.kinds() if name not in (LIST, REPORT, REPORT_OF_ALL)]
+    smallest, greatest = results.sizes[0], results.sizes[-1]
+    single = [results.growth(name) for name in results.kinds() if name not in (LIST, REPORT, REPORT_OF_ALL)]
     listed, reported = results.medians(LIST)[-1] / 100, results.medians(REPORT)[-1] / LOANS
-    each = [duration(seconds * 1e6 / size.counts[1]) for seconds, size in zip(results.openings(), results.sizes)]
-    memory = [f"{size.peak * 2**20 / size.bytes:.1f}" for size in results.sizes]
-    counts, size, opened = results.alone
-    lines = row("With so many entries on the loan", "20", "200", "2,000") + row("---", *["--:"] * 3)
-    for name, kinds in BY_ENTRIES.items():
-        lines += row(name, *(duration(results.medians(kind)[-1]) for kind in kinds))
-    return f"""**With the file.** What is about one client or one loan takes {between([results.growth(name) for name in single])} times as long in the greatest
-file as in the smallest, of {results.sizes[-1].counts[1]:,} loans and of {results.sizes[0].counts[1]:,}.
+    return f"""**With the file.** A request about one client or one loan takes {between(single)} times as long in the
+greatest file, of {greatest.counts[1]:,} loans, as in the smallest, of {smallest.counts[1]:,}.
 
 **With the entries on the loan**, in the greatest file:
 
-{lines}
-**With the loans that are asked for.** A list takes {duration(listed)} for each of its loans, of 20 entries each. The report of arrears takes
-{duration(reported)} for each loan of a branch, and over all loans of the three files {", ".join(map(duration, results.medians(REPORT_OF_ALL)))}.
+{by_entries(results)}
+**With the loans that are asked for.** A list takes {duration(listed)} for each of its loans, of 20 entries each. The
+report of arrears takes {duration(reported)} for each loan of a branch, and over all loans of the three files
+{", ".join(map(duration, results.medians(REPORT_OF_ALL)))}.
 
-**With all that is in the file.** Opening, once at each start, takes {", ".join(each)} for each of the loans of the three
-files, with its share of the clients and entries. Memory at most is {", ".join(memory)} times the file. A file of
-{contents(counts)} ({megabytes(size)}) opens in {duration(opening(opened) * 1e6)} with {max(peak for _, peak in opened):,.0f} MiB.
+{by_file(results)}
+"""
 
+
+def by_entries(results):
+    """A table of what a request takes by the entries of the loan that it is about."""
+    text = row("Entries on the loan", "20", "200", "2,000") + row("---", *["--:"] * 3)
+    for name, kinds in BY_ENTRIES.items():
+        text += row(name, *(duration(results.medians(kind)[-1]) for kind in kinds))
+    return text
+
+
+def by_file(results):
+    """What opening takes by what is in the file."""
+    each = [duration(seconds * 1e6 / size.counts[1]) for seconds, size in zip(results.openings(), results.sizes)]
+    memory = [f"{size.peak * 2**20 / size.bytes:.1f}" for size in results.sizes]
+    counts, size, opened = results.alone
+    return f"""**With all that is in the file.** Opening, once at each start, takes {", ".join(each)} for each of the
+loans of the three files, with its share of the clients and entries. Memory at most is {", ".join(memory)} times the
+file. A file of {contents(counts)} ({megabytes(size)}) opens in
+{duration(opening(opened) * 1e6)} with {max(peak for _, peak in opened):,.0f} MiB.
 """
 
 
@@ -210,19 +233,20 @@ def carried(results):
         text += row(name, f"{a_second:,.0f}", duration(cost), rounded_down(a_second * day))
     return f"""## What one file carries
 
-**Loans and entries.** The greatest file that was measured has {contents(greatest.counts)}. A start over it
-takes {duration(results.openings()[-1] * 1e6)} of a processor, in which nothing is answered, and {greatest.peak:,.0f} MiB of memory. Nothing larger was measured.
+**Loans and entries.** The greatest file that was measured has {contents(greatest.counts)}.
+A start over it takes {duration(results.openings()[-1] * 1e6)} of one core, in which nothing is answered, and
+{greatest.peak:,.0f} MiB of memory. Nothing larger was measured.
 
-**Requests.** The program is one process that answers one request after another on one core. On a machine of two cores the
-other one is free for the web server, backups and the system. Over the greatest file on this machine's disk, each entry
-synced, `serve` answered one client who waits for each reply before the next message:
+**Requests.** The program is one process that answers one request after another on one core. On a machine of two cores
+the other one is free for the web server, backups and the system. Over the greatest file, on this machine's disk and
+with a sync for each entry, `serve` answered one client, who waits for each reply before the next message:
 
 {text}
-- **A day** is {HOURS} hours, of which {SHARE_NAME} is spent in answering at the measured rate, down to two figures. Requests don't
-  come evenly, and what comes while another is answered waits.
-- It rests on this disk, whose syncs the repayments wait for, and on loans with few entries: 12 and the new one.
-- If each of the {greatest.counts[1]:,} loans is repaid once a month, these are {repaid:,.0f} repayments on each of {WORKING_DAYS} working days. At the
-  measured rate they take {duration(repaid / rate * 1e6)} of the day.
+- **A day** is {HOURS} hours of which {SHARE_NAME} is spent in answering at the measured rate, rounded down to two
+  figures. Requests don't come evenly, and what comes while another is answered waits.
+- It rests on this disk, whose sync each repayment waits for, and on loans with few entries: {ENTRIES} and the new one.
+- If each of the {greatest.counts[1]:,} loans is repaid once a month, these are {repaid:,.0f} repayments on each of
+  {WORKING_DAYS} working days. At the measured rate they take {duration(repaid / rate * 1e6)} of the day.
 
 """
 
@@ -232,16 +256,17 @@ def compared(results):
     ratios = {name: results.ratio(name) for name in results.kinds()}
     entered = between([ratios[name] for name in ENTERED])
     furthest = sorted(ratios, key=ratios.get)[:-6:-1]
-    return f"""## Beside the shell
+    return f"""## Beside the `sqlite3` shell
 
-Over the greatest file the program takes {between(ratios.values())} times the processor time of the shell; half of the kinds take less than
-{factor(statistics.median(ratios.values()))} times. For clients, loans and first repayments that are entered it is {entered} times. Furthest behind are:
+Over the greatest file the program takes {between(ratios.values())} times the processor time of the shell, for half of
+the kinds of work less than {factor(statistics.median(ratios.values()))} times. For clients, loans and first repayments
+that are entered it takes {entered} times. Furthest behind are:
 
-{"".join(f"- {name}: {factor(ratios[name])}{chr(10)}" for name in furthest)}
+{"".join(f"- {name}: {factor(ratios[name])} times{chr(10)}" for name in furthest)}
 ## Measuring again
 
-`bench/growth --write`, while the machine does nothing else. `bench/growth --quick` tries the script over small files and
-writes nothing.
+`bench/growth --write`, while the machine does nothing else. `bench/growth --quick` tries the script over small files
+and writes nothing.
 """
 
 

@@ -13,7 +13,6 @@ import time
 import institutions as files
 from serving import peak_of
 
-# All run on one core, one at a time: what else the machine does there, or beside it, slows all of them alike.
 CORE = max(os.sched_getaffinity(0))
 # The shell holds the file for itself and keeps all of it in memory, as the program does.
 SETTINGS = "PRAGMA locking_mode = EXCLUSIVE;\nPRAGMA cache_size = -4000000;\n"
@@ -30,8 +29,12 @@ class Worker:
     def __init__(self, words, folder):
         self.told = tempfile.TemporaryFile(dir=folder)
         self.process = subprocess.Popen(words, stdin=subprocess.PIPE, stdout=self.told)
-        os.sched_setaffinity(self.process.pid, {CORE})
         self.read = 0
+
+    def stay_on_core(self):
+        """Has the process run on the one core that all run on, one at a time, which are to be compared: what else the
+        machine does there, or on the core's other half, slows all of them alike."""
+        os.sched_setaffinity(self.process.pid, {CORE})
 
     def fed(self, text, is_all):
         """Processor seconds for a text, and what is written until all of it is there."""
