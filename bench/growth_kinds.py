@@ -136,8 +136,10 @@ class Kinds:
         return kinds + [self.kind(name, lambda _: listed, 10, same_work.loans_listed)]
 
     def long_loans(self):
-        """One more entry on loans that have many, and the last one of others reversed: a batch on a loan of its own,
-        but for the one loan with 2,000."""
+        """One more entry on loans that have many, and the last one of others reversed: with 200 a batch on a loan
+        of its own."""
+
+        each = max(1, round(10 * self.scale))  # requests of a batch, as kind() has it
 
         def more(place, entries):
             return lambda k: (repayment(place(k), AMOUNT // entries), place(k))
@@ -146,10 +148,11 @@ class Kinds:
             number = MIDDLE_ONES[len(MIDDLE_ONES) // 2 + k // each]
             return f"1/1 POST /loans/{account((1, number))}/entries/{MIDDLE - k % each}/reverse\n", (1, number)
 
-        each = max(1, round(10 * self.scale))
+        short = more(lambda k: (1, LISTED[k % len(LISTED)]), SHORT)
         middle = more(lambda k: (1, MIDDLE_ONES[k // each]), MIDDLE)
         long = more(lambda _: (1, LONG_ONE), LONG)
         return [
+            self.kind("one more entry, loan with 20 entries", short, 50, same_work.entry_added),
             self.kind("one more entry, loan with 200 entries", middle, 10, same_work.entry_added),
             self.kind("one more entry, loan with 2,000 entries", long, 10, same_work.entry_added),
             self.kind("last entry reversed, loan with 200 entries", last_reversed, 10, same_work.entry_reversed),

@@ -14,13 +14,12 @@ HOURS, WORKING_DAYS = 8, 22  # of a day, of a month
 SHARE, SHARE_NAME = 0.25, "a quarter"  # of a day's time in which requests are answered
 REPORT, REPORT_OF_ALL = "report, one branch of 1,000 loans", "report, all loans"
 LIST = "list of 100 loans with 20 entries each"
-FIRST_ENTRIES = "repayment, loan with 0 to 19 entries"
-ENTERED = ["client entered", "loan submitted, approved and paid out", FIRST_ENTRIES]
+ENTERED = ["client entered", "loan submitted, approved and paid out", "repayment, loan with 0 to 19 entries"]
 BY_ENTRIES = {  # kinds that are measured at several numbers of entries on a loan
-    "one more entry": [FIRST_ENTRIES] + [f"one more entry, loan with {count} entries" for count in ("200", "2,000")],
-    "the loan read": ["loan read, 20 entries", "loan read, 200 entries", "loan read, 2,000 entries"],
-    "its schedule read": ["schedule read, 20 entries", "schedule read, 200 entries", "schedule read, 2,000 entries"],
-    "its entries read": ["entries read, 20 entries", "entries read, 200 entries", "entries read, 2,000 entries"],
+    "one more entry": "one more entry, loan with {} entries",
+    "the loan read": "loan read, {} entries",
+    "its schedule read": "schedule read, {} entries",
+    "its entries read": "entries read, {} entries",
 }
 
 
@@ -83,7 +82,7 @@ def between(values):
 
 def spread(values):
     """Half the way from the least to the greatest, in percent of the median."""
-    return f"{(max(values) - min(values)) / 2 / statistics.median(values) * 100:.0f} %"
+    return f"{(max(values) - min(values)) / 2 / statistics.median(values):.0%}"
 
 
 def megabytes(count):
@@ -141,8 +140,8 @@ def table(results):
     text = f"""## What grows with what
 
 Processor time of one request, over three files in memory. They have {", ".join(branches)} branches; a branch has
-{CLIENTS:,} clients and {LOANS:,} loans of {PERIODS} instalments and {ENTRIES} entries. In each file the head office has
-100 loans of 20 entries, 10 of 200 and one of 2,000 besides.
+{CLIENTS:,} clients and {LOANS:,} loans of {PERIODS} instalments and {ENTRIES} entries, which are repayments. In each
+file the head office has 100 loans of 20 entries, 10 of 200 and one of 2,000 besides.
 
 """
     text += row("Work", *loans, "Growth", "±", "Shell", "Ratio") + row("---", *["--:"] * 7)
@@ -205,9 +204,10 @@ report of arrears takes {duration(reported)} for each loan of a branch, and over
 
 def by_entries(results):
     """A table of what a request takes by the entries of the loan that it is about."""
-    text = row("Entries on the loan", "20", "200", "2,000") + row("---", *["--:"] * 3)
-    for name, kinds in BY_ENTRIES.items():
-        text += row(name, *(duration(results.medians(kind)[-1]) for kind in kinds))
+    numbers = ["20", "200", "2,000"]
+    text = row("Entries on the loan", *numbers) + row("---", *["--:"] * len(numbers))
+    for name, kind in BY_ENTRIES.items():
+        text += row(name, *(duration(results.medians(kind.format(number))[-1]) for number in numbers))
     return text
 
 
@@ -239,7 +239,7 @@ A start over it takes {duration(results.openings()[-1] * 1e6)} of one core, in w
 
 **Requests.** The program is one process that answers one request after another on one core. On a machine of two cores
 the other one is free for the web server, backups and the system. Over the greatest file, on this machine's disk and
-with a sync for each entry, `serve` answered one client, who waits for each reply before the next message:
+with a sync for each entry, `serve` answered one client, who waits for each reply before sending the next message:
 
 {text}
 - **A day** is {HOURS} hours of which {SHARE_NAME} is spent in answering at the measured rate, rounded down to two
