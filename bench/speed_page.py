@@ -117,6 +117,7 @@ def head(results):
     shell = subprocess.run(["sqlite3", "--version"], stdout=subprocess.PIPE, check=True).stdout.decode().split()[0]
     memory = os.sysconf("SC_PAGE_SIZE") * os.sysconf("SC_PHYS_PAGES") / 2**30
     begun, ended = results.load
+    busy = "; other programs took part of it, so times are longer than on an idle machine" if begun > 0.5 else ""
     return f"""# Speed and size
 
 `bench/growth --write` measured this and wrote the page; no number is entered by hand.
@@ -127,7 +128,7 @@ def head(results):
 | Program | {version} |
 | Beside it | the `sqlite3` shell {shell} |
 | Machine | {os.cpu_count()} cores of {processor()}, {memory:.0f} GiB of memory |
-| Load of the machine | {begun:.1f} at the beginning and {ended:.1f} at the end, of which the measuring itself is 1 |
+| Load of the machine | {begun:.1f} before and {ended:.1f} at the end, the measuring included{busy} |
 
 """
 
@@ -172,13 +173,13 @@ def legend(results):
     """How the table is read."""
     batches, opened = len(results.sizes[0].costs[LIST][0]), len(results.sizes[0].opened)
     return f"""
-- **Growth** is the number over the greatest file by that over the smallest.
+- **Growth** is the number for the greatest file divided by that for the smallest.
 - **±** is half the way from the fastest batch of requests to the slowest, in percent of the median, over the greatest
   file. All times are medians, of {batches} batches and of {opened} openings. What differs by less than ± tells nothing.
 - **Shell** is the processor time of the `sqlite3` shell for the same over a copy of the greatest file, and **ratio**
-  the program's time by it. For a reading the shell selects the rows that the reply needs; for what is entered it leaves
-  the same rows, in one commit a request. It gets each statement as text, and checks none of an institution's rules.
-  Nothing stands beside opening, since the shell opens a file without checking what it says.
+  the program's time divided by it. For a reading the shell selects the rows that the reply needs; for what is entered
+  it leaves the same rows, in one commit a request. It gets each statement as text, and checks none of an institution's
+  rules. Nothing stands beside opening, since the shell opens a file without checking what it says.
 
 """
 
@@ -194,8 +195,8 @@ greatest file, of {greatest.counts[1]:,} loans, as in the smallest, of {smallest
 **With the entries on the loan**, in the greatest file:
 
 {by_entries(results)}
-**With the loans that are asked for.** A list takes {duration(listed)} for each of its loans, of 20 entries each. The
-report of arrears takes {duration(reported)} for each loan of a branch, and over all loans of the three files
+**With the number of loans that are asked for.** A list takes {duration(listed)} for each of its loans, of 20 entries
+each. The report of arrears takes {duration(reported)} for each loan of a branch, and over all loans of the three files
 {", ".join(map(duration, results.medians(REPORT_OF_ALL)))}.
 
 {by_file(results)}
@@ -205,9 +206,10 @@ report of arrears takes {duration(reported)} for each loan of a branch, and over
 def by_entries(results):
     """A table of what a request takes by the entries of the loan that it is about."""
     numbers = ["20", "200", "2,000"]
-    text = row("Entries on the loan", *numbers) + row("---", *["--:"] * len(numbers))
+    text = row("Entries on the loan", *numbers, "Growth") + row("---", *["--:"] * 4)
     for name, kind in BY_ENTRIES.items():
-        text += row(name, *(duration(results.medians(kind.format(number))[-1]) for number in numbers))
+        costs = [results.medians(kind.format(number))[-1] for number in numbers]
+        text += row(name, *map(duration, costs), factor(costs[-1] / costs[0]))
     return text
 
 
