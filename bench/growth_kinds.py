@@ -138,7 +138,6 @@ class Kinds:
     def long_loans(self):
         """One more entry on loans that have many, and the last one of others reversed: with 200 a batch on a loan
         of its own."""
-
         each = max(1, round(10 * self.scale))  # requests of a batch, as kind() has it
 
         def more(place, entries):

@@ -1,8 +1,7 @@
 """The work of a request as statements for the `sqlite3` shell: for bench/growth.
 
-A reading selects the rows that its reply needs. A write makes the same rows in one commit: they are taken from the file
-that the program left, and what it removed from the file as it was before. No column is named here that these files
-don't name.
+A reading selects the rows that its reply needs. A write makes the same rows in one commit: they and their columns are
+taken from the file that the program left, and what it removed from the file as it was before.
 """
 import json
 import sqlite3
@@ -116,7 +115,7 @@ def entries_read(place, reply, before, after):
 
 
 PORTIONS = ["penalty", "fee", "interest", "principal"]
-CLASSES = [(1, 30), (31, 60), (61, 90), (91, 99999)]  # days overdue
+CLASSES = {"c1_30": (1, 30), "c31_60": (31, 60), "c61_90": (61, 90), "over_90": (91, 99999)}  # days overdue
 
 
 def left(portion):
@@ -140,10 +139,17 @@ def report(place, reply, before, after):
     """The report of one office, or of all for the head office: by office the active loans, what is outstanding of their
     principal, and what of it is of each class."""
     which = "" if place[0] == 1 else f"WHERE office = {place[0]} "
-    classes = ", ".join(f"sum(principal * (days BETWEEN {least} AND {most}))" for least, most in CLASSES)
+    classes = ", ".join(f"sum(principal * (days BETWEEN {least} AND {most}))" for least, most in CLASSES.values())
     loans = (
         f"SELECT office, loan, sum({left('principal')}) AS principal, "
         f"julianday((SELECT day FROM meta)) - julianday(min(CASE WHEN {ANY_LEFT} > 0 THEN due END)) AS days "
         f"FROM instalments {which}GROUP BY office, loan HAVING max({ANY_LEFT}) > 0"
     )
     return f"SELECT office, count(*), sum(principal), {classes} FROM ({loans}) GROUP BY office;\n"
+
+
+def is_report(reply, printed):
+    """Whether what the shell printed of the offices comes to what a reply of the program tells of all."""
+    found = [sum(column) for column in zip(*([int(number) for number in line.split("|")[1:]] for line in printed))]
+    of_all = told(reply)["all"]
+    return found == [of_all["loans"]] + [int(of_all[name].replace(".", "")) for name in ["outstanding", *CLASSES]]
