@@ -117,12 +117,15 @@ def without_sums(path, other, statements=""):
 def with_sums(path, other):
     """Makes a file with the same tables and rows and with a sum in each page, worked out here."""
     made_anew(path, other, f".filectrl reserve_bytes {SUM}")
-    with open(other, "r+b") as file:
-        data = file.read()
-        file.seek(0)
-        for at in range(0, len(data), PAGE):
-            page = data[at : at + PAGE - SUM]
-            file.write(page + sum_of(page))
+    sums_anew(other)
+
+
+def sums_anew(path):
+    """Writes the sum of each page anew, in a file whose pages have room for it."""
+    with open(path, "r+b") as file:
+        while page := file.read(PAGE):
+            file.seek(-SUM, os.SEEK_CUR)
+            file.write(sum_of(page[:-SUM]))
 
 
 def has_sums(path):
