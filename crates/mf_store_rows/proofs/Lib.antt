@@ -2,4 +2,5 @@ pub mod ReadLemmas
 pub mod OpenLemmas
 pub mod TreeLemmas
 pub mod AskLemmas
+pub mod ShownLemmas
 pub mod Texts

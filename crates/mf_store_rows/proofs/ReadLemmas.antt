@@ -1,9 +1,8 @@
 -- Rows that are read into records, one by one.
-use Rattle.std.proofs.Common.{◌≡◌, ◌<◌, ◌+◌, ◌++◌, ◌∙◌, ℕ, zero, suc, List, [], ◌∷◌, map, length, get_or, take, Option}
-use Rattle.std.proofs.Common.{Some, None, Result, Ok, Err, IfOk, IsTrue, inl, inr, sym, ap, ap₂, refl, subst, arith}
-use Rattle.std.specs.Option.{IfSome}
+use Rattle.std.proofs.Common.{◌≡◌, ◌++◌, ◌∙◌, ℕ, List, [], ◌∷◌, map, Option, Vec, Global}
+use Rattle.std.proofs.Common.{Some, None, Result, Ok, Err, IfOk, OnOk, IsTrue, inl, inr, sym, ap₂, refl, subst, arith}
+use Rattle.std.specs.Option.{IfSome, IfNone}
 use Rattle.std.specs.List.{AllByRecursion}
-use Rattle.std.proofs.lemmas.List.{take_more}
 use Rattle.sqlite.specs.Effect.{Database}
 use Rattle.sqlite.specs.Order.{Row}
 use Rattle.sqlite.specs.Given.{IsPlain}
@@ -11,28 +10,19 @@ use Rattle.sqlite.specs.Listing.{understood}
 use Rattle.sqlite.specs.Schema.{Schema}
 use Rattle.sqlite.specs.State.{State, HasCleanDisk, Survives}
 use Rattle.mf_store_records.proofs.CallLemmas.{only_faults_shut}
+use Rattle.mf_store_records.specs.Fields.{Field, HasFields}
+use Rattle.mf_store_rows.specs.Read.{IsReadAs, AreReadAs, AreRead}
 use Rattle.mf_store_rows.specs.Schemas.{IsUnchangedUnder}
 
 module _ {X : Type 0} (stored : X → Row) where
-  -- the record has the row, and no other has it
-  pub record IsReadAs (x : X) (row : Row) : Type 0 where
-    pub has : stored x ≡ row
-    pub only : (y : X) → row ≡ stored y → x ≡ y
-
-  -- the same of lists, one by one
-  abbrev pub AreReadAs : List X → List Row → Type 0
-  AreReadAs [] [] = Unit {0}
-  AreReadAs [] (row ∷ rows) = ⊥
-  AreReadAs (x ∷ xs) [] = ⊥
-  AreReadAs (x ∷ xs) (row ∷ rows) = IsReadAs x row × AreReadAs xs rows
-
-  pub rows_of : (xs : List X) (rows : List Row) → AreReadAs xs rows → map stored xs ≡ rows
+  pub rows_of : (xs : List X) (rows : List Row) → AreReadAs stored xs rows → map stored xs ≡ rows
   rows_of [] [] h = refl
   rows_of [] (row ∷ rows) h = absurd h
   rows_of (x ∷ xs) [] h = absurd h
   rows_of (x ∷ xs) (row ∷ rows) h = ap₂ ◌∷◌ h.0.has (rows_of xs rows h.1)
 
-  pub only_those : (xs : List X) (rows : List Row) → AreReadAs xs rows → (ys : List X) → rows ≡ map stored ys → xs ≡ ys
+  pub only_those : (xs : List X) (rows : List Row) → AreReadAs stored xs rows → (ys : List X)
+      → rows ≡ map stored ys → xs ≡ ys
   only_those [] [] h [] e = refl
   only_those [] [] h (y ∷ ys) e = absurd (cc)
   only_those [] (row ∷ rows) h ys e = absurd h
@@ -43,33 +33,37 @@ module _ {X : Type 0} (stored : X → Row) where
       let others : rows ≡ map stored ys = cc in
       ap₂ ◌∷◌ (h.0.only y first) (only_those xs rows h.1 ys others)
 
-  more : (xs : List X) (rows : List Row) → AreReadAs xs rows → (x : X) (row : Row) → IsReadAs x row
-      → AreReadAs (xs ++ x ∷ []) (rows ++ row ∷ [])
+  pub more : (xs : List X) (rows : List Row) → AreReadAs stored xs rows → (x : X) (row : Row) → IsReadAs stored x row
+      → AreReadAs stored (xs ++ x ∷ []) (rows ++ row ∷ [])
   more [] [] h x row one = (one, tt)
   more [] (r ∷ rows) h x row one = absurd h
   more (y ∷ xs) [] h x row one = absurd h
   more (y ∷ xs) (r ∷ rows) h x row one = (h.0, more xs rows h.1 x row one)
 
-  pub one_more : (xs : List X) (rows : List Row) (i : ℕ) (x : X) (row : Row) → AreReadAs xs (take i rows)
-      → i < length rows → row ≡ get_or rows i row → IsReadAs x row → AreReadAs (xs ++ x ∷ []) (take (i + 1) rows)
-  one_more xs rows i x row h low is one =
-      let same : take (i + 1) rows ≡ take i rows ++ row ∷ [] =
-      take_more rows i row low ∙ ap (λ r. take i rows ++ r ∷ []) (sym is) in
-      subst (AreReadAs (xs ++ x ∷ [])) (sym same) (more xs (take i rows) h x row one)
+module _ {X E : Type 0} (stored : X → Row) (fields : List Field) (r : Result (Option (Vec X Global)) E)
+    (L : Type 0) (Q : List Row → Type 0) (live : OnOk r L)
+    (read : IfOk r (λ x. (shown : List Row) × AreRead stored fields x shown × Q shown)) where
+  -- what follows of the records that were read
+  pub some_read : (P : Vec X Global → Type 0) → (L → (rs : Vec X Global) (shown : List Row)
+      → AreReadAs stored rs.items shown → Q shown → P rs) → IfOk r (λ x. IfSome x P)
+  some_read P f = go r live read
+    where
+      go : (r : Result (Option (Vec X Global)) E) → OnOk r L → IfOk r (λ x. (shown : List Row)
+          × AreRead stored fields x shown × Q shown) → IfOk r (λ x. IfSome x P)
+      go (Ok (Some rs)) up h = f up rs h.0 h.1 h.2
+      go (Ok None) up h = tt
+      go (Err e) up h = tt
 
--- each of the list has what one has that all have
-pub one_of : (P : Row → Type 0) (rows : List Row) (i : ℕ) (row : Row) → i < length rows → row ≡ get_or rows i row
-    → AllByRecursion P rows → P row
-one_of P [] i row low is all = absurd (omega (arith, low))
-one_of P (r ∷ rows) zero row low is all = subst P (sym is) all.0
-one_of P (r ∷ rows) (suc i) row low is all = one_of P rows i row (omega (arith, low)) is all.1
-
--- what follows of a value holds where there is one
-pub some_weaker : {V E : Type 0} (r : Result (Option V) E) (P Q : V → Type 0) → ((v : V) → P v → Q v)
-    → IfOk r (λ x. IfSome x P) → IfOk r (λ x. IfSome x Q)
-some_weaker (Ok (Some v)) P Q f h = f v h
-some_weaker (Ok None) P Q f h = h
-some_weaker (Err e) P Q f h = h
+  -- what follows where there are none
+  pub none_read : (P : Type 0) → (L → (shown : List Row) → ¬ AllByRecursion (HasFields fields) shown → Q shown → P)
+      → IfOk r (λ x. IfNone x P)
+  none_read P f = go r live read
+    where
+      go : (r : Result (Option (Vec X Global)) E) → OnOk r L → IfOk r (λ x. (shown : List Row)
+          × AreRead stored fields x shown × Q shown) → IfOk r (λ x. IfNone x P)
+      go (Ok (Some rs)) up h = tt
+      go (Ok None) up h = f up h.0 h.1 h.2
+      go (Err e) up h = tt
 
 -- a plain text changes nothing, where it is plain under each of the schemas
 pub unchanged : (IsOne : Schema → Type 0) (was is : State) (sql : List ℕ)

@@ -9,6 +9,7 @@ mod logs;
 mod opened;
 mod progress;
 mod rows;
+mod shown;
 mod tables;
 mod whole;
 
@@ -16,5 +17,5 @@ pub use groups::Group;
 pub use logs::{has_log, remove_bare_log};
 pub use opened::open_file;
 pub use progress::{Progress, Unfollowed};
-pub use rows::{read_all, read_any};
+pub use rows::read_any;
 pub use whole::{Whole, every};

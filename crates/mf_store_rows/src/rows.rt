@@ -1,14 +1,14 @@
 //! Rows of whatever values, as records.
 
-ghost use Rattle.std.specs.Prelude.{◌≡◌, List, map, IfOk, IfErr, IfSome, IfNone};
-ghost use Rattle.std.specs.List.{AllByRecursion};
+ghost use Rattle.std.specs.Prelude.{◌≡◌, ◌++◌, ◌∷◌, [], List, IfOk, IfErr, IfSome, IfNone};
 ghost use Rattle.mf_base.specs.declared.fault.Fault.TheVariants.{F20};
+ghost use Rattle.sqlite.specs.Order.{Row as SqlRow};
 ghost use Rattle.mf_store_records.specs.Fields.{HasFields};
+ghost use Rattle.mf_store_rows.specs.Read.{AreRead};
 
 use mf_base::Fault;
 use mf_store_records::Table;
 use sqlite::{Error, ErrorCode, Row};
-use std::alloc::Global;
 
 /// The record that has this row, and none where no record of its fields can hold it.
 pub fn read_any<T: Table>(row: &Row) -> Result<Option<T>, Fault>
@@ -24,20 +24,22 @@ pub fn read_any<T: Table>(row: &Row) -> Result<Option<T>, Fault>
     }
 }
 
-/// The records that have these rows, and none where one of the rows is no record's.
-pub fn read_all<T: Table + Drop>(alloc: Global, rows: &[Row]) -> Result<Option<Vec<T>>, Fault>
-    ensures some { IfOk result (λ x. IfSome x (λ rs. map T.stored rs.items ≡ rows.now)) }
-    ensures only { IfOk result (λ x. IfSome x (λ rs. (ss : List T) → rows.now ≡ map T.stored ss → rs.items ≡ ss)) }
-    ensures none { IfOk result (λ x. IfNone x (¬ AllByRecursion (HasFields T.fields) rows.now)) }
+/// The records of the rows so far and of one more, and none where one of these rows is no record's.
+pub(crate) fn with_row<T: Table + Drop>(
+    records: Option<Vec<T>>,
+    row: &Row,
+) -> Result<Option<Vec<T>>, Fault>
+    ensures read { (rows : List SqlRow) → AreRead T.stored T.fields records rows
+        → IfOk result (λ x. AreRead T.stored T.fields x (rows ++ row.now ∷ [])) }
     ensures gives_up { IfErr result (λ fault. fault ≡ F20) }
 {
-    let mut records = Vec::new(alloc);
-    for row in rows {
-        let found: Option<T> = read_any(row)?;
-        let Some(record) = found else {
-            return Ok(None);
-        };
-        records.push(record)?;
-    }
-    Ok(Some(records))
+    let Some(mut read) = records else {
+        return Ok(None);
+    };
+    let found: Option<T> = read_any(row)?;
+    let Some(record) = found else {
+        return Ok(None);
+    };
+    read.push(record)?;
+    Ok(Some(read))
 }

@@ -20,10 +20,9 @@ ghost use Rattle.mf_store_records.specs.Fields.{HasFields};
 ghost use Rattle.mf_store_rows.specs.Schemas.{IsUnchangedUnder};
 ghost use Rattle.mf_store_rows.specs.Whole.{HasRowids, ShowsTable};
 
-use crate::rows::read_all;
+use crate::shown::read_shown;
 use mf_base::Fault;
 use mf_store_records::Table;
-use mf_store_tables::query;
 use sqlite::{Alter, Connection};
 use std::alloc::Global;
 
@@ -75,8 +74,5 @@ pub fn every<T: Whole + Drop, S: Alter>(
     ensures mode { connection.new.in_transaction ≡ false }
 {
     let _schema = connection.schema();
-    let Ok(rows) = query(connection, T::every_text(), &[]) else {
-        return Err(Fault::F20);
-    };
-    read_all(alloc, &rows)
+    read_shown(alloc, connection, T::every_text())
 }
