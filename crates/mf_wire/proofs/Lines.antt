@@ -169,13 +169,13 @@ fault_is F18 = feedless (fault_body F18) refl
 fault_is F19 = feedless (fault_body F19) refl
 fault_is F20 = feedless (fault_body F20) refl
 
-pub line_of_call : (r : Result Reply Fault) → IsOneLine (shown_line r)
-line_of_call (Ok reply) = line_is (reply_status reply) (reply_body reply) (data_is (reply_data reply))
-line_of_call (Err fault) = line_is (fault_status fault) (fault_body fault) (fault_is fault)
+pub one_line : (r : Result Reply Fault) → IsOneLine (shown_line r)
+one_line (Ok reply) = line_is (reply_status reply) (reply_body reply) (data_is (reply_data reply))
+one_line (Err fault) = line_is (fault_status fault) (fault_body fault) (fault_is fault)
 
 pub texts_are_lines : (run : List Line) (i : Institution) → AllByRecursion IsOneLine (texts_of run i)
 texts_are_lines [] i = tt
-texts_are_lines (l ∷ run) i = (line_of_call (answer l i), texts_are_lines run (next l i))
+texts_are_lines (l ∷ run) i = (one_line (answer l i), texts_are_lines run (next l i))
 
 -- what two lines begin with is the same
 record Halves (f g xs ys : List ℕ) : Type 0 where
