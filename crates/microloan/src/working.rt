@@ -5,14 +5,14 @@ ghost use Rattle.mf_base.specs.DayText.{last_entered_day};
 ghost use Rattle.microloan.specs.Status.{IsPrintStatus};
 
 use crate::telling::{print_made, tell_cause, tell_end, tell_person, tell_reading, tell_sheet};
-use mf_base::{Cause, Day};
+use mf_base::{Cause, Day, Fault};
 use mf_office::Caller;
 use mf_store::Store;
 use mf_store_files::close;
 use mf_wire_lines::{WatchedReader, WatchedWriter};
 use microloan_commands::{answer_lines, report};
 use microloan_files::{collect_and_close, run_and_close, serve_and_close};
-use sqlite::FileStore;
+use sqlite::{FileStore, Files};
 use sqlite_disk::Disk;
 use std::io;
 use std::net::{Ipv4Addr, TcpListener};
@@ -79,7 +79,8 @@ fn answer_input<R: Print + Eprint + Input + AllocGlobal, D: Disk + Drop>(
 {
     let mut source = WatchedReader::new(rt.reader());
     let mut sink = WatchedWriter::new(io::writer(rt));
-    let (ended, _closed) = run_and_close(rt.alloc(), store, &mut source, &mut sink);
+    let (ended, closed) = run_and_close(rt.alloc(), store, &mut source, &mut sink);
+    let_go(closed);
     tell_end(rt, &ended)
 }
 
@@ -96,11 +97,12 @@ fn serve_port<D: Disk + Drop>(
     ensures { IsPrintStatus result }
 {
     let Ok(listener) = TcpListener::bind(rt, (Ipv4Addr::LOCALHOST, port)) else {
-        let _closed = close(store);
+        let_go(close(store));
         return tell_cause(rt, Cause::Read);
     };
     tell_person(rt, format_args!("serving {file} on 127.0.0.1:{port}"));
-    let (ended, _closed) = serve_and_close(rt.alloc(), rt, store, &listener, connections, patience);
+    let (ended, closed) = serve_and_close(rt.alloc(), rt, store, &listener, connections, patience);
+    let_go(closed);
     tell_end(rt, &ended)
 }
 
@@ -114,7 +116,8 @@ fn collect_input<R: Print + Eprint + Input + AllocGlobal, D: Disk + Drop>(
 {
     let mut source = WatchedReader::new(rt.reader());
     let mut sink = WatchedWriter::new(io::writer(rt));
-    let (ended, _closed) = collect_and_close(rt.alloc(), store, staff, &mut source, &mut sink);
+    let (ended, closed) = collect_and_close(rt.alloc(), store, staff, &mut source, &mut sink);
+    let_go(closed);
     tell_sheet(rt, &ended)
 }
 
@@ -127,6 +130,11 @@ fn print_report<R: Print + Eprint + AllocGlobal, D: Disk + Drop>(
     ensures { IsPrintStatus result }
 {
     let made = report(rt.alloc(), &mut store, staff);
-    let _closed = close(store);
+    let_go(close(store));
     print_made(rt, made)
 }
+
+/// Lets go of files that are closed, or of what is left of a store that could not be closed: of either, what a stop
+/// leaves is told by the call that gave it. A function of its own, since the prover writes out the drop of a store
+/// field by field wherever one is dropped.
+fn let_go<D: Disk + Drop>(_closed: Result<Files<D>, (Fault, FileStore<D>)>) {}
