@@ -38,7 +38,8 @@ pub fn tell_reading(rt: &HostRuntime) {
 
 /// Says which fault ended a run, if one did, and gives the program's status.
 pub fn tell_end<R: Eprint>(rt: &R, ended: &Result<u64, StreamFault>) -> u8
-    ensures { IsStatusOf ended.now result }
+    ensures of { IsStatusOf ended.now result }
+    ensures status { IsPrintStatus result }
 {
     match ended {
         Ok(_) => DONE,
@@ -48,7 +49,8 @@ pub fn tell_end<R: Eprint>(rt: &R, ended: &Result<u64, StreamFault>) -> u8
 
 /// Says why a sheet was not collected to its end, if it wasn't, and gives the program's status.
 pub fn tell_sheet<R: Eprint>(rt: &R, ended: &Result<(), SheetFault>) -> u8
-    ensures { IsStatusOf ended.now result }
+    ensures of { IsStatusOf ended.now result }
+    ensures status { IsPrintStatus result }
 {
     match ended {
         Ok(()) => DONE,
