@@ -1,0 +1,4 @@
+pub mod ColumnLemmas
+pub mod KeyLemmas
+pub mod UpdateLemmas
+pub mod TableLemmas

@@ -1,0 +1,4 @@
+pub mod Columns
+pub mod Texts
+pub mod Rows
+pub mod Meanings
