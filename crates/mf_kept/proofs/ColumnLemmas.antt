@@ -11,7 +11,7 @@ use Rattle.sqlite.specs.Kind.TheVariants as kind
 use Rattle.mf_store_tables.proofs.CompareLemmas.{AllKept, keeps_value, null_kept, text_kept}
 use Rattle.mf_kept.specs.Columns.{Field, Number, Amount, Text, MaybeNumber, MaybeText, Named, Columns, upwards}
 use Rattle.mf_kept.specs.Columns.{sql_column, sql_kind, is_always}
-use Rattle.mf_kept.specs.Rows.{Fits, AllFit}
+use Rattle.mf_kept.specs.Rows.{Fits, AllFit, IsPlainValue, ArePlain}
 use Rattle.mf_kept.specs.Meanings.{columns_of, are_always}
 
 -- so many columns of a row, from this one on
@@ -68,15 +68,6 @@ pub all_kept : (cs : List Named) (row : Row) → AllFit cs row → AllKept (map 
 all_kept [] row fit = tt
 all_kept (c ∷ cs) [] fit = tt
 all_kept (c ∷ cs) (v ∷ vs) fit = (kept c.field v fit.0, all_kept cs vs fit.1)
-
--- a value of a field that is always there
-abbrev pub IsPlainValue : Value → Type 0
-IsPlainValue v = (f : Field) × (is_always f ≡ true) × Fits f v
-
--- so many columns have such values, from this one on
-abbrev pub ArePlain : ℕ → ℕ → Row → Type 0
-ArePlain at zero row = Unit {0}
-ArePlain at (suc n) row = IsPlainValue (column row at) × ArePlain (suc at) n row
 
 plain_later : (at n : ℕ) (v : Value) (row : Row) → ArePlain at n row → ArePlain (suc at) n (v ∷ row)
 plain_later at zero v row h = tt

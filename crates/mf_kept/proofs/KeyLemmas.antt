@@ -23,7 +23,8 @@ use Rattle.mf_store_tables.proofs.CompareLemmas.{truth_back, eq_then, key_step}
 use Rattle.mf_kept.specs.Columns.{upwards}
 use Rattle.mf_kept.specs.Rows.{columns_cmp, first_cmp, begins}
 use Rattle.mf_kept.specs.Meanings.{tests_from, order_from}
-use Rattle.mf_kept.proofs.ColumnLemmas.{columns_at, ArePlain, IsPlainValue, not_null}
+use Rattle.mf_kept.specs.Rows.{ArePlain, IsPlainValue}
+use Rattle.mf_kept.proofs.ColumnLemmas.{columns_at, not_null}
 
 -- ---- the order of keys is one
 

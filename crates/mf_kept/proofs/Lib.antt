@@ -2,3 +2,4 @@ pub mod ColumnLemmas
 pub mod KeyLemmas
 pub mod UpdateLemmas
 pub mod TableLemmas
+pub mod SpareLemmas

@@ -33,7 +33,8 @@ use Rattle.mf_kept.specs.Columns.{Columns, Named, upwards, sql_table, key_index}
 use Rattle.mf_kept.specs.Texts.{select_text, insert_text, upsert_text, names_of}
 use Rattle.mf_kept.specs.Rows.{first_cmp, columns_cmp, begins, AllFit}
 use Rattle.mf_kept.specs.Meanings.{columns_of, tests_from, order_from, are_always, Asks, Adds, Puts, IsKept}
-use Rattle.mf_kept.proofs.ColumnLemmas.{columns_at, all_columns, reads_row, reads_parameters, as_many, all_kept, ArePlain}
+use Rattle.mf_kept.specs.Rows.{ArePlain, IsPlainValue}
+use Rattle.mf_kept.proofs.ColumnLemmas.{columns_at, all_columns, reads_row, reads_parameters, as_many, all_kept}
 use Rattle.mf_kept.proofs.ColumnLemmas.{are_plain, few_always}
 use Rattle.mf_kept.proofs.KeyLemmas.{columns_total, tested, sorts, sorted_by, agrees}
 use Rattle.mf_kept.proofs.UpdateLemmas.{updated}

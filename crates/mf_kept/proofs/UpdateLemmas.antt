@@ -15,7 +15,8 @@ use Rattle.mf_kept.specs.Columns.{Field, Number, Amount, Text, MaybeNumber, Mayb
 use Rattle.mf_kept.specs.Columns.{sql_column, sql_table}
 use Rattle.mf_kept.specs.Rows.{columns_cmp, Fits, AllFit}
 use Rattle.mf_kept.specs.Meanings.{columns_of, are_always}
-use Rattle.mf_kept.proofs.ColumnLemmas.{columns_at, all_columns, reads_row, reads_parameters, ArePlain, IsPlainValue}
+use Rattle.mf_kept.specs.Rows.{ArePlain, IsPlainValue}
+use Rattle.mf_kept.proofs.ColumnLemmas.{columns_at, all_columns, reads_row, reads_parameters}
 use Rattle.mf_kept.proofs.ColumnLemmas.{columns_split}
 
 -- ---- the columns that `excluded` names

@@ -20,6 +20,7 @@ use Rattle.sqlite_rules.specs.Keys.{conflicts}
 use Rattle.sqlite_schema.specs.Rules.{agree, guards}
 use Rattle.sqlite_value.specs.Keys.{plain}
 use Rattle.mf_store_tables.proofs.WriteLemmas.{IsQuiet}
+use Rattle.mf_kept.specs.Kept.{are_apart}
 use Rattle.mf_kept.specs.Columns.{Columns, Named, sql_table, key_index, upwards, is_always}
 use Rattle.mf_kept.specs.Texts.{select_text, insert_text, upsert_text, names_of}
 
@@ -82,6 +83,7 @@ module _ (schema : Schema) (place tree : ℕ) (t : Columns) where
     pub guards_it : guards (key_index tree t) (sql_table tree t) ≡ true
     pub alone : (new row : Row) → conflicts (Some (upwards 1 t.key)) schema.indexes (sql_table tree t) new row
         ≡ (agree plain (upwards 1 t.key) row (upwards 1 t.key) new || false)
+    pub apart : are_apart place tree schema.tables ≡ true
     pub under : (trees : Trees) → overlay trees [] tree ≡ trees tree
     pub adds : Adds
     pub puts : Puts

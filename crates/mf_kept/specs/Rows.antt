@@ -6,7 +6,7 @@ use Rattle.std.specs.Ordering.{ordering_then, is_eq}
 use Rattle.sqlite.specs.declared.types.Value.{Value}
 use Rattle.sqlite.specs.declared.types.Value.TheVariants.{Null, Int, Text as Words, Real, Blob}
 use Rattle.sqlite.specs.Order.{Row, column, value_cmp}
-use Rattle.mf_kept.specs.Columns.{Field, Number, Amount, Text, MaybeNumber, MaybeText, Named, Columns}
+use Rattle.mf_kept.specs.Columns.{Field, Number, Amount, Text, MaybeNumber, MaybeText, Named, Columns, is_always}
 
 -- two rows by so many columns, from this one on
 abbrev pub columns_cmp : ℕ → ℕ → Row → Row → Ordering
@@ -35,3 +35,12 @@ AllFit [] [] = Unit {0}
 AllFit [] (v ∷ vs) = ⊥
 AllFit (c ∷ cs) [] = ⊥
 AllFit (c ∷ cs) (v ∷ vs) = Fits c.field v × AllFit cs vs
+
+-- a value of a field that is always there
+abbrev pub IsPlainValue : Value → Type 0
+IsPlainValue v = (f : Field) × (is_always f ≡ true) × Fits f v
+
+-- so many columns have such values, from this one on
+abbrev pub ArePlain : ℕ → ℕ → Row → Type 0
+ArePlain at zero row = Unit {0}
+ArePlain at (suc n) row = IsPlainValue (column row at) × ArePlain (suc at) n row

@@ -1,11 +1,4 @@
-pub mod MetaTexts
-pub mod OfficesTexts
-pub mod StaffTexts
-pub mod ClientsTexts
-pub mod ChargesTexts
-pub mod ProductsTexts
-pub mod LoansTexts
-pub mod EntriesTexts
-pub mod ReceiptsTexts
-pub mod InstalmentsTexts
-pub mod SharesTexts
+pub mod CallLemmas
+pub mod RowLemmas
+pub mod OnceLemmas
+pub mod PutLemmas

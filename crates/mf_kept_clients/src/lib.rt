@@ -1,2 +1,10 @@
 //! The tables.
 #![tactic(auto)]
+
+mod clients;
+mod kept;
+mod table;
+
+pub use clients::ClientRow;
+pub use kept::{Kept, find_thing, read_back};
+pub use table::{Listed, Table, Values, add_row, ask, find_row, list_rows, read_row};
