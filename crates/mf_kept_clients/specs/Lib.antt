@@ -1,5 +1,6 @@
 pub mod Tables
 pub mod Clients
+pub mod Entries
 pub mod Lists
 pub mod Fields
 pub mod Calls

@@ -10,6 +10,8 @@ use Rattle.mf_kept.specs.Rows.{first_cmp}
 use Rattle.mf_kept.specs.Kept.{Condition, AllHold}
 use Rattle.mf_kept_clients.specs.Tables as table
 use Rattle.mf_kept_clients.specs.Clients.{client_row}
+use Rattle.mf_kept_clients.specs.Entries.{entry_row}
+use Rattle.mf_kept_clients.specs.declared.entries.EntryRow.{EntryRow}
 use Rattle.mf_kept_clients.specs.declared.clients.ClientRow.{ClientRow}
 
 -- the order of a table's rows
@@ -29,7 +31,7 @@ pub record Lists : Type 0 where
   pub charges : List Row
   pub products : List Row
   pub loans : List Row
-  pub entries : List Row
+  pub entries : List EntryRow
   pub receipts : List Row
   pub instalments : List Row
   pub shares : List Row
@@ -47,7 +49,7 @@ abbrev pub conditions : Lists → List Condition
 conditions lists = kept_in 0 table.meta as_is lists.meta ∷ kept_in 2 table.offices as_is lists.offices
     ∷ kept_in 5 table.staff as_is lists.staff ∷ kept_in 7 table.clients client_row lists.clients
     ∷ kept_in 9 table.charges as_is lists.charges ∷ kept_in 11 table.products as_is lists.products
-    ∷ kept_in 13 table.loans as_is lists.loans ∷ kept_in 15 table.entries as_is lists.entries
+    ∷ kept_in 13 table.loans as_is lists.loans ∷ kept_in 15 table.entries entry_row lists.entries
     ∷ kept_in 17 table.receipts as_is lists.receipts ∷ kept_in 19 table.instalments as_is lists.instalments
     ∷ kept_in 21 table.shares as_is lists.shares ∷ []
 
@@ -59,3 +61,11 @@ pub record Holds (trees : Trees) (lists : Lists) : Type 0 where
 -- the lists with a row of clients in its place
 abbrev pub put_client : ClientRow → Lists → Lists
 put_client x lists = record lists { clients = put_item by_client x lists.clients }
+
+-- the order of the rows of entries
+abbrev pub by_entry : EntryRow → EntryRow → Ordering
+by_entry = by_key table.entries entry_row
+
+-- the lists with a row of entries in its place
+abbrev pub put_entry : EntryRow → Lists → Lists
+put_entry x lists = record lists { entries = put_item by_entry x lists.entries }

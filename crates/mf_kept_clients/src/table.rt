@@ -85,6 +85,23 @@ impl Values for (u32, u32) {
     ghost plain = { λ key. ((Number, refl, (key.0, refl)), ((Number, refl, (key.1, refl)), tt)) };
 }
 
+impl Values for (u32, u32, u32) {
+    ghost use Rattle.std.specs.Prelude.{pos, [], ◌∷◌};
+    ghost use Rattle.std.proofs.Common.{refl};
+    ghost use Rattle.sqlite.specs.declared.types.Value.TheVariants.{Int};
+    ghost use Rattle.mf_kept.specs.Columns.{Number};
+
+    ghost values = { λ key. Int (pos key.0) ∷ Int (pos key.1) ∷ Int (pos key.2) ∷ [] };
+
+    ghost width = { 3 };
+
+    fn ask<S: Alter>(self, connection: &mut Connection<S>, sql: &str) -> Result<Vec<Row>, Fault> {
+        ask(connection, sql, params![self.0, self.1, self.2])
+    }
+
+    ghost plain = { λ key. ((Number, refl, (key.0, refl)), ((Number, refl, (key.1, refl)), ((Number, refl, (key.2, refl)), tt))) };
+}
+
 /// A table of the schema.
 pub trait Table: Sized {
     /// The values of its key.
