@@ -2,3 +2,5 @@ pub mod CallLemmas
 pub mod RowLemmas
 pub mod OnceLemmas
 pub mod PutLemmas
+pub mod ThingLemmas
+pub mod OrderLemmas

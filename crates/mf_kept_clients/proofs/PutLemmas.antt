@@ -8,11 +8,12 @@ use Rattle.mf_store_tables.specs.Keep.{Keeps, put_item}
 use Rattle.mf_store_tables.specs.Queries.{Answers}
 use Rattle.mf_store_tables.specs.Writes.{Ran, Serves}
 use Rattle.mf_kept.specs.Columns.{Columns}
-use Rattle.mf_kept.specs.Texts.{insert_text, select_text}
+use Rattle.mf_kept.specs.Texts.{insert_text, upsert_text, select_text}
 use Rattle.mf_kept.specs.Rows.{AllFit, ArePlain, begins}
 use Rattle.mf_kept.specs.Kept.{AllHold, changed_at, SameTrees}
 use Rattle.mf_kept.specs.Meanings.{IsKept, Asks, are_always}
 use Rattle.mf_kept.proofs.SpareLemmas.{all_changed}
+use Rattle.mf_kept.proofs.TableLemmas
 use Rattle.mf_kept.proofs.TableLemmas.{added, asked_shows}
 use Rattle.mf_kept_clients.specs.Tables.{schema}
 use Rattle.mf_kept_clients.specs.Lists.{Lists, Holds, by_key, conditions, kept_in}
@@ -32,6 +33,24 @@ module _ {X : Type 0} (t : Columns) (place tree : ℕ) (stored : X → Row) (lis
     was_open = ran.was_open;
     turns = λ lists s _.
         let did = added stored schema place tree t fits kept x old new ran.count (list lists) s.schema_is
+        (held old.now.trees lists s.holds) ran.ran in
+        record {
+          schema_is = did.0;
+          holds = record {
+            sound = did.3;
+            all = changes x lists new.now.trees (all_changed tree old.now.trees new.now.trees place
+                (kept_in tree t stored (put_item (by_key t stored) x (list lists))) schema.tables (conditions lists)
+                (same_trees lists) did.2 kept.apart did.1 s.holds.all);
+          };
+        };
+  }
+
+  pub replacing : (x : X) (old new : State) → Ran (upsert_text t) (stored x) old new → Putting (put x) old new
+  replacing x old new ran = record {
+    mode = ran.mode;
+    was_open = ran.was_open;
+    turns = λ lists s _.
+        let did = TableLemmas.put stored schema place tree t fits kept x old new ran.count (list lists) s.schema_is
         (held old.now.trees lists s.holds) ran.ran in
         record {
           schema_is = did.0;

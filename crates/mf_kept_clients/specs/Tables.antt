@@ -1,5 +1,5 @@
 -- The tables as data, and the schema that they make.
-use Rattle.std.specs.Prelude.{ℕ, List, [], ◌∷◌, map, flat_map, codes}
+use Rattle.std.specs.Prelude.{ℕ, List, [], ◌∷◌, map, flat_map, take, codes}
 use Rattle.sqlite.specs.Schema.{Schema}
 use Rattle.mf_kept.specs.Columns.{Columns, named, unique, Number, Amount, Text, MaybeNumber, MaybeText, sql_table}
 use Rattle.mf_kept.specs.Columns.{sql_indexes}
@@ -122,10 +122,18 @@ abbrev pub tables : List (ℕ × Columns)
 tables = (0, meta) ∷ (2, offices) ∷ (5, staff) ∷ (7, clients) ∷ (9, charges) ∷ (11, products) ∷ (13, loans)
     ∷ (15, entries) ∷ (17, receipts) ∷ (19, instalments) ∷ (21, shares) ∷ []
 
--- the schema that they make, with their indexes
-abbrev pub schema : Schema
-schema = record {
-  tables = map (λ (t : ℕ × Columns). sql_table t.0 t.1) tables;
-  indexes = flat_map (λ (t : ℕ × Columns). sql_indexes t.0 t.1) tables;
+-- the schema that tables make, with their indexes
+abbrev pub schema_of : List (ℕ × Columns) → Schema
+schema_of ts = record {
+  tables = map (λ (t : ℕ × Columns). sql_table t.0 t.1) ts;
+  indexes = flat_map (λ (t : ℕ × Columns). sql_indexes t.0 t.1) ts;
   views = [];
 }
+
+-- today's
+abbrev pub schema : Schema
+schema = schema_of tables
+
+-- the first, which had no tables of instalments and of shares
+abbrev pub first_schema : Schema
+first_schema = schema_of (take 9 tables)

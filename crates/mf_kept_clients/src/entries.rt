@@ -9,7 +9,7 @@ ghost use Rattle.mf_kept_clients.specs.EntriesTexts.{kept, lists_by_2};
 
 use crate::choices::{Numbered, amount_from, flag_from, signed};
 use crate::kept::Kept;
-use crate::table::{Listed, Table, has_columns};
+use crate::table::{Changing, Listed, Table, has_columns};
 use mf_account::{Entry, Kind, Receipt};
 use mf_alloc::Portion;
 use mf_base::{Day, Fault};
@@ -129,6 +129,15 @@ impl Listed for EntryRow {
     ghost lists = { lists_by_2 };
 
     ghost partly = { refl };
+}
+
+impl Changing for EntryRow {
+    fn upsert_text() -> &'static str {
+        "INSERT INTO entries VALUES (?1, ?2, ?3, ?4, ?5, ?6, ?7, ?8, ?9, ?10, ?11) ON CONFLICT (office, loan, \
+         seq) DO UPDATE SET kind = excluded.kind, day = excluded.day, amount = excluded.amount, \
+         instalment = excluded.instalment, portion = excluded.portion, receipt = excluded.receipt, \
+         staff = excluded.staff, reversed = excluded.reversed"
+    }
 }
 
 /// The text of a receipt, where there is one.

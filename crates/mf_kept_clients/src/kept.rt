@@ -1,16 +1,19 @@
 //! What the rows of a table are rows of.
 
-ghost use Rattle.std.specs.Prelude.{◌≡◌, List, IfOk, IfErr, IfSome, Some, None, OnOk, IsTrue, find, false};
+ghost use Rattle.std.specs.Prelude.{◌≡◌, ◌≢◌, List, map, IfOk, IfErr, IfSome, IfNone, Some, None, OnOk, IsTrue, find, false};
+ghost use Rattle.std.specs.List.{AllByRecursion};
 ghost use Rattle.mf_base.specs.declared.fault.Fault.TheVariants.{F20};
 ghost use Rattle.sqlite.specs.Held.{state};
 ghost use Rattle.sqlite.specs.State.{HasCleanDisk};
 ghost use Rattle.mf_kept.specs.Rows.{begins};
 ghost use Rattle.mf_kept_clients.specs.Lists.{Lists};
+ghost use Rattle.mf_kept_clients.specs.Fields.{HasFields};
+ghost use Rattle.sqlite.specs.declared.error.ErrorCode.TheVariants.{OutOfMemory};
 ghost use Rattle.mf_kept_clients.specs.Calls.{IsUnchanged, IsKeeping};
 
 use crate::table::{Table, find_row};
 use mf_base::Fault;
-use sqlite::{Alter, Connection};
+use sqlite::{Alter, Connection, Error, ErrorCode, Row};
 use std::alloc::Global;
 
 /// A table whose rows are rows of things: the one codec between them.
@@ -79,4 +82,44 @@ pub fn find_thing<T: Kept + Drop, S: Alter>(
         None => Err(Fault::F20),
         Some(thing) => Ok(Some(thing)),
     }
+}
+
+/// The thing that has a row as the tables give it, and where it stands; None where no such thing has it. The only error
+/// is F20, out of memory.
+pub fn thing_in<T: Kept + Drop>(row: &Row) -> Result<Option<(T::Place, T::Thing)>, Fault>
+    ensures some { IfOk result (λ x. IfSome x (λ found. (T.stored (T.row_of found.0 found.1) ≡ row.now)
+        × T.IsThing found.1)) }
+    ensures only { IfOk result (λ x. IfSome x (λ found. (place : T.Place) (thing : T.Thing) → T.IsThing thing
+        → row.now ≡ T.stored (T.row_of place thing) → found ≡ (place, thing))) }
+    ensures none { IfOk result (λ x. IfNone x (HasFields (T.columns).columns row.now → (place : T.Place) (thing : T.Thing)
+        → T.IsThing thing → row.now ≢ T.stored (T.row_of place thing))) }
+    ensures gives_up { IfErr result (λ fault. fault ≡ F20) }
+{
+    match T::read(row) {
+        Ok(record) => Ok(record.into_thing()),
+        Err(Error::SqliteFailure(ErrorCode::OutOfMemory)) => Err(Fault::F20),
+        Err(_) => Ok(None),
+    }
+}
+
+/// The things that have these rows, in order; None where one of the rows is no such thing's.
+pub fn things_in<T: Kept + Drop>(
+    alloc: Global,
+    rows: &[Row],
+) -> Result<Option<Vec<(T::Place, T::Thing)>>, Fault>
+    ensures some { IfOk result (λ x. IfSome x (λ found. map (λ it. T.stored (T.row_of it.0 it.1)) found.items
+        ≡ rows.now)) }
+    ensures only { IfOk result (λ x. IfSome x (λ found. (its : List (T.Place × T.Thing))
+        → AllByRecursion (λ it. T.IsThing it.1) its → rows.now ≡ map (λ it. T.stored (T.row_of it.0 it.1)) its
+        → found.items ≡ its)) }
+    ensures gives_up { IfErr result (λ fault. fault ≡ F20) }
+{
+    let mut things = Vec::new(alloc);
+    for row in rows {
+        let Some(thing) = thing_in::<T>(row)? else {
+            return Ok(None);
+        };
+        things.push(thing)?;
+    }
+    Ok(Some(things))
 }

@@ -177,6 +177,13 @@ pub trait Listed: Table {
     ghost partly: { are_always Self.Part.width (Self.columns).columns ≡ true };
 }
 
+/// A table whose rows change once they are there.
+pub trait Changing: Table {
+    /// The text that puts a row, in place of the one with its key if there is one.
+    fn upsert_text() -> &'static str
+        ensures { result.now ≡ upsert_text Self.columns };
+}
+
 /// The row has so many columns.
 pub(crate) fn has_columns(row: &Row, count: usize) -> Result<(), Error>
     ensures ok { OnOk result (length row.now ≡ count) }
@@ -222,6 +229,18 @@ pub fn add_row<T: Table, S: Alter>(row: &T, tx: &mut Transaction<'_, S>) -> Resu
     ensures survives { Survives (state S.Store tx.old.conn.now) (state S.Store tx.new.conn.now) (λ _. ⊥) }
 {
     row.execute(tx, T::insert_text())
+}
+
+/// Puts a row, in place of the one with its key if there is one.
+pub fn put_row<T: Changing, S: Alter>(row: &T, tx: &mut Transaction<'_, S>) -> Result<(), Error>
+    ensures same_reference { tx.new.conn.ghost_name ≡ tx.old.conn.ghost_name }
+    ensures ok { HasCleanDisk (state S.Store tx.new.conn.now) → IsTrue (state S.Store tx.old.conn.now).in_transaction
+        → OnOk result (Putting (T.put row.now) (state S.Store tx.old.conn.now) (state S.Store tx.new.conn.now)) }
+    ensures kept { HasCleanDisk (state S.Store tx.new.conn.now) → KeepsCommit (state S.Store tx.old.conn.now)
+        (state S.Store tx.new.conn.now) }
+    ensures survives { Survives (state S.Store tx.old.conn.now) (state S.Store tx.new.conn.now) (λ _. ⊥) }
+{
+    row.execute(tx, T::upsert_text())
 }
 
 /// The rows with these values of the first columns, in the order of their key.
