@@ -4,3 +4,4 @@ pub mod OnceLemmas
 pub mod PutLemmas
 pub mod ThingLemmas
 pub mod OrderLemmas
+pub mod SameLemmas
