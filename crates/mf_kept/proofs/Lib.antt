@@ -1,0 +1,5 @@
+pub mod ColumnLemmas
+pub mod KeyLemmas
+pub mod UpdateLemmas
+pub mod TableLemmas
+pub mod SpareLemmas

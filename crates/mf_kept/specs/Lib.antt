@@ -1,0 +1,5 @@
+pub mod Columns
+pub mod Texts
+pub mod Rows
+pub mod Kept
+pub mod Meanings

@@ -1,0 +1,17 @@
+pub mod Tables
+pub mod Clients
+pub mod Entries
+pub mod Lists
+pub mod Fields
+pub mod Calls
+pub mod MetaTexts
+pub mod OfficesTexts
+pub mod StaffTexts
+pub mod ClientsTexts
+pub mod ChargesTexts
+pub mod ProductsTexts
+pub mod LoansTexts
+pub mod EntriesTexts
+pub mod ReceiptsTexts
+pub mod InstalmentsTexts
+pub mod SharesTexts
