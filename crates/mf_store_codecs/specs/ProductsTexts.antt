@@ -1,0 +1,23 @@
+-- What the texts of products mean.
+use Rattle.std.proofs.Common.{inl, inr, refl}
+use Rattle.sqlite_tied.specs.Compute.{everything}
+use Rattle.sqlite.specs.Listing.{understood}
+use Rattle.mf_store_columns.specs.Meanings.{Asks, IsKept}
+use Rattle.mf_store_codecs.specs.Tables.{schema, products}
+
+pub kept : IsKept schema 5 11 products
+unfolding understood everything
+kept = record {
+  there = refl;
+  quiet = λ keys olds news. refl;
+  always = refl;
+  index = inr (inr (inr (inr (inr (inr (inl refl))))));
+  guards_it = refl;
+  alone = λ new row. refl;
+  apart = refl;
+  under = λ trees. refl;
+  adds = record { plain = (refl, refl); is = refl };
+  puts = record { plain = (refl, refl); is = refl };
+  finds = record { plain = (refl, refl); unlisted = refl; is = refl };
+  shows = record { plain = (refl, refl); unlisted = refl; is = refl };
+}
