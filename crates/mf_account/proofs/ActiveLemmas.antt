@@ -30,7 +30,7 @@ use Rattle.mf_account.proofs.SoundLemmas.{lawful, due_at, due_at-le}
 use Rattle.mf_account.proofs.TailLemmas.{after_all-append, good-before}
 
 -- nothing is outstanding in any cell of these rows
-abbrev AreClosed : List Sums → Type 0
+abbrev pub AreClosed : List Sums → Type 0
 AreClosed rows = (i p : ℕ) → i < length rows → p < 4 → open_at (get_or rows i no_row) p ≡ 0
 
 written_off-closed : (n used : ℕ) (name : StrategyName) (due : ℕ) (entry : Entry) (before : State) → due ≤ n
@@ -68,7 +68,7 @@ written_off-closed n used name due entry before few good is i p within small =
     ∙ ap (λ x. open_at (get_or (after order entry before).rows (i + 1 - 1) no_row) x) (sym (portion-at p small))
     ∙ at
 
-closed-none : (rows : List Sums) → AreClosed rows → list_any is_open rows ≡ false
+pub closed-none : (rows : List Sums) → AreClosed rows → list_any is_open rows ≡ false
 closed-none [] closed = refl
 closed-none (row ∷ rows) closed =
     let a = closed 0 0 (omega arith) (omega arith) in
@@ -80,7 +80,7 @@ closed-none (row ∷ rows) closed =
     ∙ closed-none rows (λ i p within small. closed (suc i) p (omega (arith, within)) small)
 
 -- the last standing entry is made on what those before it leave
-last-state : (loan : Loan) (k : ℕ) → k + 1 ≡ length (standing_entries loan.entries) → state_of_loan loan
+pub last-state : (loan : Loan) (k : ℕ) → k + 1 ≡ length (standing_entries loan.entries) → state_of_loan loan
     ≡ after (orders_of loan (entry_at (standing_entries loan.entries) k)) (entry_at (standing_entries loan.entries) k)
     (state_before loan k)
 last-state loan k is =

@@ -24,6 +24,7 @@ pub mod PenaltyLemmas
 pub mod DueLemmas
 pub mod ClearingLemmas
 pub mod ActiveLemmas
+pub mod OpenLemmas
 pub mod LawfulLemmas
 pub mod ToldLemmas
 pub mod ByDayLemmas

@@ -97,7 +97,7 @@ none-overpaid loan sound ends =
     omega (arith, money, brings, gives, left)
 
 -- with no refund nothing is refunded
-none-refunded-all : (loan : Loan) → IsSound loan → (EndsInRefund (standing_entries loan.entries)
+pub none-refunded-all : (loan : Loan) → IsSound loan → (EndsInRefund (standing_entries loan.entries)
     (length (standing_entries loan.entries)) → ⊥) → (state_of_loan loan).refunded ≡ 0
 none-refunded-all loan sound other =
     let all : List Entry = standing_entries loan.entries in

@@ -18,3 +18,4 @@ pub mod Rewind
 pub mod ClearingLaw
 pub mod Receipts
 pub mod BoundsLaw
+pub mod OpenLaw

@@ -13,6 +13,7 @@ ghost use Rattle.mf_account.specs.Account.{shares_in, status_of};
 ghost use Rattle.mf_account.specs.Charges.{fee_amount as fee_amount_of, fee_instalment as fee_instalment_of};
 ghost use Rattle.mf_account.specs.Charges.{fee_refused, penalty_amount as penalty_amount_of};
 ghost use Rattle.mf_account.specs.Change.{Account, IsChange, IsReplayed, AreKeptOf, account_by_replay, settled_in};
+ghost use Rattle.mf_account.specs.Change.{no_change};
 ghost use Rattle.mf_account.specs.Loan.{Loan, IsKept, IsSound, AreEntries, settled_of_loan, fee_of_loan};
 ghost use Rattle.mf_account.specs.Rewind.{IsRedone, state_before, settled_upto};
 ghost use Rattle.mf_account.specs.Balance.{balances_by, open_in, sum_repaid};
@@ -710,6 +711,13 @@ impl LoanAccount {
         ensures { result.now ≡ self.now.change }
     {
         &self.change
+    }
+
+    /// Nothing counts as changed any more: the account is then as a replay gives it, where it is a replay's.
+    pub fn forget_change(&mut self, alloc: Global)
+        ensures { self.new ≡ record self.old { change = no_change } }
+    {
+        self.change = unchanged(alloc);
     }
 
     /// The entries, in the order of their numbers.

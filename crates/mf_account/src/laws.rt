@@ -8,6 +8,7 @@ ghost use Rattle.mf_account.specs.StandingLaw.{StandingIsOne};
 ghost use Rattle.mf_account.specs.ClearingLaw.{WritesOffByCells, WaivesOneCell};
 ghost use Rattle.mf_account.specs.Rewind.{TailsCanBeRewound};
 ghost use Rattle.mf_account.specs.BoundsLaw.{ChangesStayWithinBounds};
+ghost use Rattle.mf_account.specs.OpenLaw.{OpenLoansHoldNoMoney};
 
 /// The standing entries of a loan are the one list of exactly those not reversed that ascends by day, then by number.
 pub fn standing_entries_are_one_list()
@@ -36,4 +37,10 @@ pub fn clearing_goes_by_cells()
 /// its last standing entry, and leaves nothing outstanding.
 pub fn active_loans_owe()
     ensures { (loan : Loan) → IsSound loan → (status_of_loan loan == 300) ≡ list_any is_open (state_of_loan loan).rows }
+{}
+
+/// While something of a sound loan is outstanding, nothing is overpaid and nothing refunded: a refund that stands is its
+/// last standing entry, and gave nothing back.
+pub fn open_loans_hold_no_money()
+    ensures { OpenLoansHoldNoMoney }
 {}

@@ -32,7 +32,7 @@ fn is_owed_within(rows: &[Row], p: usize) -> bool
 }
 
 /// The same of each portion.
-fn are_owed_within(rows: &[Row]) -> bool
+pub(crate) fn are_owed_within(rows: &[Row]) -> bool
     ensures within { IsTrue result → (p : ℕ) → p < 4 → sum_at (λ row. row.owed) p rows.now ≤ most_kept }
     ensures exact { ((p : ℕ) → p < 4 → sum_at (λ row. row.owed) p rows.now ≤ most_kept) → IsTrue result }
 {
