@@ -396,7 +396,7 @@ closed-after n used name due entry before few good some i p within small =
     ∙ ap (λ x. open_at (get_or (after order entry before).rows (i + 1 - 1) no_row) x) (sym (portion-at p small))
     ∙ at
 
-closed-all : (n used : ℕ) (name : StrategyName) (dues : Entry → ℕ) (entries : List Entry) (before : State)
+pub closed-all : (n used : ℕ) (name : StrategyName) (dues : Entry → ℕ) (entries : List Entry) (before : State)
     → ((e : Entry) → dues e ≤ n) → All (IsReplayable n) entries → IsBounded n used before → IsClosed before
     → IsClosed (after_all (λ e. cell_by name (dues e)) entries before)
 closed-all n used name dues [] before few each good closed = closed

@@ -1,10 +1,12 @@
 -- While something is outstanding nothing is overpaid, and a refund that stands gave nothing back.
-use Rattle.std.proofs.Common.{◌≡◌, ◌≢◌, ◌≤◌, ℕ, ◌+◌, ◌-◌, ◌*◌, ◌^◌, ◌<◌, ◌⊎◌, true, false, true≢false, List, length, take}
+use Rattle.std.proofs.Common.{◌≡◌, ◌≢◌, ◌≤◌, ℕ, ◌+◌, ◌-◌, ◌*◌, ◌^◌, ◌<◌, ◌⊎◌, true, true≢false, List, length, take}
 use Rattle.std.proofs.Common.{get_or, inl, inr, arith, refl, ◌∙◌, ap, subst, sym}
 use Rattle.std.specs.List.{list_any}
 use Rattle.std.proofs.lemmas.Bool.{cases_lt}
 use Rattle.std.proofs.lemmas.List.Elements.{All-take}
 use Rattle.mf_catalog.specs.declared.terms.StrategyName.{StrategyName}
+use Rattle.mf_catalog.specs.declared.terms.Terms.{Terms}
+use Rattle.mf_schedule.specs.Fresh.{fee_at_disbursement, fresh_schedule}
 use Rattle.mf_alloc.specs.declared.row.Cell.{Cell}
 use Rattle.mf_alloc.specs.Sums.{Sums, is_open, open_at}
 use Rattle.mf_alloc.specs.Rows.{outstanding, no_row, place_in_row, IsCell}
@@ -18,7 +20,8 @@ use Rattle.mf_account.specs.Kinds.{is_seal, is_write_off, money_out}
 use Rattle.mf_account.specs.Effect.{State, after, own_effect, state_acted}
 use Rattle.mf_account.specs.Account.{first_state}
 use Rattle.mf_account.specs.Standing.{standing_entries, entry_at}
-use Rattle.mf_account.specs.Loan.{Loan, IsSound, schedule_of, orders_of, state_of_loan}
+use Rattle.mf_account.specs.Balance.{balances_by, balances_of}
+use Rattle.mf_account.specs.Loan.{Loan, IsSound, schedule_of, orders_of, state_of_loan, fee_of_loan}
 use Rattle.mf_account.specs.OpenLaw.{OpenLoansHoldNoMoney}
 use Rattle.mf_account.specs.Rewind.{state_before}
 use Rattle.mf_account.specs.Safe.{IsBounded}
@@ -26,7 +29,7 @@ use Rattle.mf_account.proofs.ActiveLemmas.{AreClosed, closed-none, last-state}
 use Rattle.mf_account.proofs.ConserveLemmas.{IsClosed, closed-all, closed-sound, whole-acted, portion-at}
 use Rattle.mf_account.proofs.GoodLemmas.{IsReplayable}
 use Rattle.mf_account.proofs.OnceLemmas.{length-acted, refunded-after}
-use Rattle.mf_account.proofs.ResumeLemmas.{EndsInRefund, none-refunded-all}
+use Rattle.mf_account.proofs.ResumeLemmas.{EndsInRefund, none-refunded-all, book_at}
 use Rattle.mf_account.proofs.SoundLemmas.{lawful, due_at, due_at-le, each-standing, first-good}
 use Rattle.mf_account.proofs.TailLemmas.{good-before, none-before}
 
@@ -80,7 +83,7 @@ closed-before loan k sound =
 none-given : (loan : Loan) → IsSound loan → list_any is_open (state_of_loan loan).rows ≡ true
     → EndsInRefund (standing_entries loan.entries) (length (standing_entries loan.entries))
     → (state_of_loan loan).refunded ≡ 0
-none-given loan sound open ends =
+none-given loan sound left ends =
     let all : List Entry = standing_entries loan.entries in
     let k : ℕ = length all - 1 in
     let within : k < length all = omega (arith, ends.0) in
@@ -95,7 +98,7 @@ none-given loan sound open ends =
     elim (cases_lt 0 past.overpaid) [
       | inl some ↦
           let closed : AreClosed past.rows = closed-before loan k sound some in
-          absurd (true≢false (sym open ∙ closed-none (state_of_loan loan).rows
+          absurd (true≢false (sym left ∙ closed-none (state_of_loan loan).rows
           (subst (λ (s : State). AreClosed s.rows) (sym state)
           (refund-closed loan.periods _ loan.terms.strategy (due_at loan e) e past (due_at-le loan e)
           (good-before loan k sound) ends.1 closed))))
@@ -120,13 +123,37 @@ cases_refund all = elim (cases_lt 0 (length all)) [
 ]
 
 pub open-holds_nothing : OpenLoansHoldNoMoney
-open-holds_nothing loan sound open =
+open-holds_nothing loan sound left =
     let all : List Entry = standing_entries loan.entries in
     let overpaid : (state_of_loan loan).overpaid ≡ 0 = elim (cases_lt 0 (state_of_loan loan).overpaid) [
-      | inl some ↦ absurd (true≢false (sym open ∙ closed-none (state_of_loan loan).rows (closed-sound loan sound some)))
+      | inl some ↦ absurd (true≢false (sym left ∙ closed-none (state_of_loan loan).rows (closed-sound loan sound some)))
       | inr none ↦ omega (arith, none)
-    ] in
-    (overpaid, elim (cases_refund all) [
-      | inl ends ↦ none-given loan sound open ends
-      | inr other ↦ none-refunded-all loan sound other
-    ])
+    ] in (
+      overpaid,
+      elim (cases_refund all) [
+        | inl ends ↦ none-given loan sound left ends
+        | inr other ↦ none-refunded-all loan sound other
+      ],
+    )
+
+-- so the sums of the rows, beside nothing overpaid and nothing refunded, are the loan's
+pub open-balances : (loan : Loan) (terms : Terms) (principal periods day : ℕ) (rows : List Sums) (fee : ℕ)
+    → IsSound loan → loan.terms ≡ terms → loan.principal ≡ principal → loan.periods ≡ periods → loan.day ≡ day
+    → rows ≡ (state_of_loan loan).rows → list_any is_open rows ≡ true
+    → fee ≡ fee_at_disbursement terms principal (fresh_schedule terms principal periods day)
+    → balances_by fee (book_at rows 0 0) ≡ balances_of loan
+open-balances loan terms principal periods day rows fee sound terms_is principal_is periods_is day_is rows_are left fee_is
+    =
+    let state : State = state_of_loan loan in
+    let held = open-holds_nothing loan sound (subst (λ r. list_any is_open r ≡ true) rows_are left) in
+    let own_fee : fee ≡ fee_of_loan loan = fee_is
+    ∙ ap (λ (t : Terms). fee_at_disbursement t principal (fresh_schedule t principal periods day)) (sym terms_is)
+    ∙ ap (λ (p : ℕ). fee_at_disbursement loan.terms p (fresh_schedule loan.terms p periods day)) (sym principal_is)
+    ∙ ap (λ (n : ℕ). fee_at_disbursement loan.terms loan.principal (fresh_schedule loan.terms loan.principal n day))
+    (sym periods_is)
+    ∙ ap (λ (d : ℕ). fee_at_disbursement loan.terms loan.principal
+    (fresh_schedule loan.terms loan.principal loan.periods d)) (sym day_is) in
+    let own_state : book_at rows 0 0 ≡ state = ap (λ (r : List Sums). book_at r 0 0) rows_are
+    ∙ ap (λ (o : ℕ). book_at state.rows o 0) (sym held.0)
+    ∙ ap (λ (f : ℕ). book_at state.rows state.overpaid f) (sym held.1) in
+    ap (λ (f : ℕ). balances_by f (book_at rows 0 0)) own_fee ∙ ap (balances_by (fee_of_loan loan)) own_state

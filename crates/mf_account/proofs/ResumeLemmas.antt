@@ -121,7 +121,7 @@ ends-in loan entries order is same P holds =
     subst (λ (n : ℕ). P (EndsInRefund (standing_entries loan.entries) n)) size
     (subst (λ (x : List Entry). P (EndsInRefund x (length order))) all holds)
 
-abbrev book_at : List Sums → ℕ → ℕ → State
+abbrev pub book_at : List Sums → ℕ → ℕ → State
 book_at rows overpaid refunded = record { rows = rows; overpaid = overpaid; refunded = refunded }
 
 pub resumed-refund : (loan : Loan) (rows : List Sums) (total paid : ℕ) → IsSound loan → rows ≡ (state_of_loan loan).rows

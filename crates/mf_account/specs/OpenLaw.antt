@@ -1,5 +1,5 @@
 -- What a loan holds while something of it is outstanding.
-use Rattle.std.specs.Prelude.{◌≡◌, ℕ, true, List}
+use Rattle.std.specs.Prelude.{◌≡◌, true}
 use Rattle.std.specs.List.{list_any}
 use Rattle.mf_alloc.specs.Sums.{is_open}
 use Rattle.mf_account.specs.Loan.{Loan, IsSound, state_of_loan}

@@ -1,6 +1,6 @@
 //! The sums of a loan of which something is outstanding, told by its instalments: none of its entries is asked for.
 
-ghost use Rattle.std.specs.Prelude.{◌≡◌, true, Some, IfOk, IsOkUnless};
+ghost use Rattle.std.specs.Prelude.{◌≡◌, ◌≤◌, true, Some, IfOk, IsOkUnless};
 ghost use Rattle.std.specs.List.{list_any};
 ghost use Rattle.mf_base.specs.DayText.{last_entered_day};
 ghost use Rattle.mf_schedule.specs.Fresh.{IsLoanWithinLimits, fee_at_disbursement, fresh_schedule};
@@ -60,7 +60,10 @@ pub fn open_balances(
     if !is_loan_within_limits(terms, principal, periods) {
         return Ok(None);
     }
-    if !can_be_entered(day) || !are_owed_within(rows) {
+    if !can_be_entered(day) {
+        return Ok(None);
+    }
+    if !are_owed_within(rows) {
         return Ok(None);
     }
     let fee = fee_at(alloc, terms, principal, periods, day)?;

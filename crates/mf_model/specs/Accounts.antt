@@ -69,17 +69,21 @@ no_balances = record {
 abbrev pub balances_in : Catalogue → Ledger → Balances
 balances_in k l = of_account no_balances balances_of (account_in k l)
 
--- a loan as it is shown: as it was submitted and disbursed, its status and its sums
-abbrev pub statement : Catalogue → Ledger → Statement
-statement k l = record {
-  client = l.loan.client;
-  product = l.loan.product;
-  principal = l.loan.principal;
-  periods = l.loan.periods;
-  day = disbursed_on l.loan.stage;
-  status = status_in k l;
-  balances = balances_in k l;
+-- a loan as it is shown: as it was submitted and disbursed, with this status and these sums
+abbrev pub statement_with : Loan → ℕ → Balances → Statement
+statement_with loan status balances = record {
+  client = loan.client;
+  product = loan.product;
+  principal = loan.principal;
+  periods = loan.periods;
+  day = disbursed_on loan.stage;
+  status = status;
+  balances = balances;
 }
+
+-- a loan as it is shown, with its status and its sums
+abbrev pub statement : Catalogue → Ledger → Statement
+statement k l = statement_with l.loan (status_in k l) (balances_in k l)
 
 -- the instalments of a loan; none before it is disbursed
 abbrev pub instalments_in : Catalogue → Ledger → List InstalmentLine

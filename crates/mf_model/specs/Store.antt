@@ -12,6 +12,8 @@ use Rattle.mf_model.specs.declared.commit.Commit.TheVariants.{AddProduct, Retire
 use Rattle.mf_model.specs.declared.commit.Commit.TheVariants.{ReverseEntry}
 use Rattle.mf_model.specs.declared.loan.Loan.{Loan}
 use Rattle.mf_model.specs.declared.loan.LoanLine.{LoanLine}
+use Rattle.mf_model.specs.declared.loan.Statement.{Statement}
+use Rattle.mf_statement.specs.declared.lines.InstalmentLine.{InstalmentLine}
 use Rattle.mf_model.specs.declared.store.CatalogueCounts.{CatalogueCounts}
 use Rattle.mf_model.specs.declared.store.Counts.{Counts}
 use Rattle.mf_account.specs.declared.entry.Entry.{Entry}
@@ -24,7 +26,7 @@ use Rattle.mf_model.specs.Institution.{Rows_become, Office_added, after, office_
 use Rattle.mf_model.specs.Catalogue.{day_set, charge_added, product_added, product_retired}
 use Rattle.mf_model.specs.Offices.{staff_added, client_added}
 use Rattle.mf_model.specs.declared.loan.ReceiptUse.{ReceiptUse}
-use Rattle.mf_model.specs.Accounts.{account_in}
+use Rattle.mf_model.specs.Accounts.{account_in, statement, instalments_in}
 use Rattle.mf_model.specs.Receipts.{Use, uses_from, first_use}
 use Rattle.mf_model.specs.Loans.{loan_added, loan_staged, loan_entered, lines_above}
 use Rattle.mf_model.specs.Desk.{staff_at, outcome, change_in}
@@ -76,6 +78,22 @@ account_of k (Some l) = account_in k l
 -- the account of a loan; none where it is not there or not disbursed
 abbrev pub account_at : Account → Institution → Option Kept
 account_at loan i = option_map account_by_replay (account_of i.catalogue (ledger_at loan i))
+
+-- a loan with its account, where it is disbursed
+abbrev pub with_account : Catalogue → Ledger → Loan × Option Kept
+with_account k l = (l.loan, option_map account_by_replay (account_in k l))
+
+-- a loan of an office, with its account where it is disbursed
+abbrev pub loan_with_account_at : Account → Institution → Option (Loan × Option Kept)
+loan_with_account_at loan i = option_map (with_account i.catalogue) (ledger_at loan i)
+
+-- a loan of an office, as it is shown
+abbrev pub statement_at : Account → Institution → Option Statement
+statement_at loan i = option_map (statement i.catalogue) (ledger_at loan i)
+
+-- the instalments of a loan of an office; none before it is disbursed
+abbrev pub instalments_at : Account → Institution → Option (List InstalmentLine)
+instalments_at loan i = option_map (instalments_in i.catalogue) (ledger_at loan i)
 
 -- where a receipt was used in an office
 abbrev pub use_at : ℕ → List ℕ → Institution → Option Use

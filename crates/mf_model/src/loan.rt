@@ -1,9 +1,12 @@
 //! Loans as an institution keeps them: their stage, their members and what is shown of them.
 
-ghost use Rattle.std.specs.Prelude.{◌≡◌};
-ghost use Rattle.mf_model.specs.Stages.{stage_number};
+ghost use Rattle.std.specs.Prelude.{◌≡◌, option_map};
+ghost use Rattle.mf_account.specs.Change.{account_by_replay};
+ghost use Rattle.mf_model.specs.Accounts.{account_in, no_balances, statement, statement_with};
+ghost use Rattle.mf_model.specs.Institution.{Catalogue, Ledger};
+ghost use Rattle.mf_model.specs.Stages.{stage_number, disbursed_on};
 
-use mf_account::Balances;
+use mf_account::{Balances, LoanAccount};
 use mf_base::Day;
 use mf_office::{Account, AccountNo};
 
@@ -53,6 +56,18 @@ pub struct Loan {
     pub stage: Stage,
 }
 
+impl Loan {
+    /// The day of its disbursement; None before it.
+    pub fn disbursal_day(&self) -> Option<Day>
+        ensures { result ≡ disbursed_on self.now.stage }
+    {
+        match self.stage {
+            Stage::Disbursed { day, .. } => Some(day),
+            _ => None,
+        }
+    }
+}
+
 /// A loan as it is shown.
 #[derive(Clone, Copy)]
 pub struct Statement {
@@ -70,6 +85,50 @@ pub struct Statement {
     pub status: u16,
     /// Its sums; all are 0 before it is disbursed.
     pub balances: Balances,
+}
+
+/// The sums of a loan before it is disbursed.
+fn no_balances() -> Balances
+    ensures { result ≡ no_balances }
+{
+    Balances {
+        disbursement_fee: 0,
+        owed: [0; 4],
+        paid: [0; 4],
+        waived: [0; 4],
+        written_off: [0; 4],
+        outstanding: [0; 4],
+        overpaid: 0,
+        refunded: 0,
+    }
+}
+
+impl Statement {
+    /// A loan as it is shown with this status and these sums.
+    pub fn with(loan: &Loan, status: u16, balances: Balances) -> Statement
+        ensures { result ≡ statement_with loan.now status balances }
+    {
+        Statement {
+            client: loan.client,
+            product: loan.product,
+            principal: loan.principal,
+            periods: loan.periods,
+            day: loan.disbursal_day(),
+            status,
+            balances,
+        }
+    }
+
+    /// A loan as it is shown, with its account where it is disbursed.
+    pub fn of(loan: &Loan, account: &Option<LoanAccount>) -> Statement
+        ensures { (k : Catalogue) (l : Ledger) → loan.now ≡ l.loan
+            → account.now ≡ option_map account_by_replay (account_in k l) → result ≡ statement k l }
+    {
+        match account {
+            None => Statement::with(loan, loan.stage.status(), no_balances()),
+            Some(account) => Statement::with(loan, account.status(), account.balances()),
+        }
+    }
 }
 
 /// The entry that carries a receipt.

@@ -2,11 +2,12 @@
 
 use crate::commit::Commit;
 use crate::listing::{ArrearsList, LoanList, OfficeList};
-use crate::loan::{Loan, ReceiptUse};
+use crate::loan::{Loan, ReceiptUse, Statement};
 use mf_account::{LoanAccount, Receipt};
 use mf_base::{Day, Fault};
 use mf_catalog::{ChargeDef, Product};
 use mf_office::{Account, Caller, Name, OfficeNo, Role};
+use mf_statement::InstalmentList;
 use std::alloc::Global;
 
 /// How many rows an office has.
@@ -40,7 +41,7 @@ pub trait InstitutionStore {
     ghost use Rattle.mf_model.specs.Arrears.{arrears_seen};
     ghost use Rattle.mf_model.specs.Sound.{IsSound};
     ghost use Rattle.mf_model.specs.Store.{Reads, Commits, role_of, counts_at, client_at, catalogue_counts, loan_at};
-    ghost use Rattle.mf_model.specs.Store.{account_at, receipt_at, loans_at};
+    ghost use Rattle.mf_model.specs.Store.{loan_with_account_at, statement_at, instalments_at, receipt_at, loans_at};
 
     /// The store stands for this institution.
     ghost stands: { Self → Institution → Type 0 };
@@ -96,9 +97,25 @@ pub trait InstitutionStore {
     fn loan(&mut self, alloc: Global, loan: Account) -> Result<Option<Loan>, Fault>
         ensures { Reads stands clean leaves (loan_at loan) self.old self.new result };
 
-    /// The account of a loan, or None where there is no such loan or it is not disbursed.
-    fn account(&mut self, alloc: Global, loan: Account) -> Result<Option<LoanAccount>, Fault>
-        ensures { Reads stands clean leaves (account_at loan) self.old self.new result };
+    /// A loan with its account where it is disbursed, or None where there is no such loan.
+    fn ledger(
+        &mut self,
+        alloc: Global,
+        loan: Account,
+    ) -> Result<Option<(Loan, Option<LoanAccount>)>, Fault>
+        ensures { Reads stands clean leaves (loan_with_account_at loan) self.old self.new result };
+
+    /// A loan as it is shown, or None where there is no such loan.
+    fn statement(&mut self, alloc: Global, loan: Account) -> Result<Option<Statement>, Fault>
+        ensures { Reads stands clean leaves (statement_at loan) self.old self.new result };
+
+    /// The instalments of a loan, none before it is disbursed, or None where there is no such loan.
+    fn instalments(
+        &mut self,
+        alloc: Global,
+        loan: Account,
+    ) -> Result<Option<InstalmentList>, Fault>
+        ensures { Reads stands clean leaves (instalments_at loan) self.old self.new result };
 
     /// The entry that carries a receipt of an office, or None where none does.
     fn receipt(
