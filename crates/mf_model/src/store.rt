@@ -110,11 +110,7 @@ pub trait InstitutionStore {
         ensures { Reads stands clean leaves (statement_at loan) self.old self.new result };
 
     /// The instalments of a loan, none before it is disbursed, or None where there is no such loan.
-    fn instalments(
-        &mut self,
-        alloc: Global,
-        loan: Account,
-    ) -> Result<Option<InstalmentList>, Fault>
+    fn instalments(&mut self, alloc: Global, loan: Account) -> Result<Option<InstalmentList>, Fault>
         ensures { Reads stands clean leaves (instalments_at loan) self.old self.new result };
 
     /// The entry that carries a receipt of an office, or None where none does.

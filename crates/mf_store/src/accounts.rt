@@ -24,7 +24,7 @@ use mf_office::{Account, OfficeNo};
 use mf_store_changes::put_schedule;
 use mf_store_records::{EntryRow, StoreWrite};
 use mf_store_values::{
-    disbursal_day, entries_from, is_active, loan_in_row, settled_status, stored,
+    entries_from, is_active, loan_in_row, settled_status, stored,
 };
 use sqlite::{Alter, Row};
 use std::alloc::Global;
@@ -146,7 +146,7 @@ impl<S: Alter> Store<S> {
             (kept_of instalments_kept i.catalogue (record { loan = loan.now; entries = [] }))) }
         ensures more { OnOk result (length writes.old.items ≤ length writes.new.items) }
     {
-        let Some(day) = disbursal_day(loan) else {
+        let Some(day) = loan.disbursal_day() else {
             return Ok(());
         };
         let fresh = self.account_with(alloc, loan, day, Vec::new(alloc))?;
@@ -163,7 +163,7 @@ impl<S: Alter> Store<S> {
         let Some(loan) = self.loan(Account { office, number })? else {
             return Ok(None);
         };
-        let Some(day) = disbursal_day(&loan) else {
+        let Some(day) = loan.disbursal_day() else {
             return Ok(None);
         };
         let resumed = self.resume(alloc, Account { office, number }, &loan, day)?;
@@ -195,7 +195,7 @@ impl<S: Alter> Store<S> {
             → ledger_at account i ≡ Some l
             → l.loan ≡ loan.now → IfOk result (λ status. status ≡ status_in i.catalogue l) }
     {
-        match disbursal_day(loan) {
+        match loan.disbursal_day() {
             None => Ok(loan.stage.status()),
             Some(_) => self.disbursed_status(alloc, account),
         }

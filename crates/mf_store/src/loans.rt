@@ -18,7 +18,7 @@ use mf_model::{Counts, Loan, Stage};
 use mf_office::{Account, OfficeNo};
 use mf_store_changes::{loan_row, staged};
 use mf_store_records::StoreWrite;
-use mf_store_values::{disbursal_day, loan_from};
+use mf_store_values::loan_from;
 use sqlite::Alter;
 use std::alloc::Global;
 
@@ -56,7 +56,7 @@ impl<S: Alter> Store<S> {
     {
         let office = office.get();
         let counts = self.counts_there(office)?;
-        if counts.loans > MOST || disbursal_day(&loan).is_some() {
+        if counts.loans > MOST || loan.disbursal_day().is_some() {
             return Err(Fault::F20);
         }
         let number = counts.loans + 1;
@@ -87,7 +87,7 @@ impl<S: Alter> Store<S> {
         let Some(before) = self.loan(Account { office, number })? else {
             return Err(Fault::F20);
         };
-        if disbursal_day(&before).is_some() {
+        if before.disbursal_day().is_some() {
             return Err(Fault::F20);
         }
         let now = staged(&before, stage);

@@ -68,16 +68,16 @@ pub fn add_entry<S: Alter>(
     alloc: Global,
     connection: &mut Connection<S>,
     loan: Account,
-    account: LoanAccount,
+    account: &LoanAccount,
 ) -> Result<(), Fault>
     requires alone { connection.old.in_transaction ≡ false }
-    ensures commits { Commits (IsTabled S.Store) (HasGoodDisk S.Store) (LeavesTables S.Store) (AddEntry loan account)
+    ensures commits { Commits (IsTabled S.Store) (HasGoodDisk S.Store) (LeavesTables S.Store) (AddEntry loan account.now)
         connection.old connection.new result }
     ensures shuts { OnlyFaultsShut (state S.Store connection.old) (state S.Store connection.new) }
     ensures open { HasGoodDisk S.Store connection.new → OnOk result (IsTrue (state S.Store connection.new).is_open) }
     ensures mode { connection.new.in_transaction ≡ false }
 {
-    let writes = entry_writes(alloc, loan, &account)?;
+    let writes = entry_writes(alloc, loan, account)?;
     write(connection, &writes)
 }
 
@@ -88,15 +88,15 @@ pub fn reverse_entry<S: Alter>(
     connection: &mut Connection<S>,
     loan: Account,
     seq: u32,
-    account: LoanAccount,
+    account: &LoanAccount,
 ) -> Result<(), Fault>
     requires alone { connection.old.in_transaction ≡ false }
     ensures commits { Commits (IsTabled S.Store) (HasGoodDisk S.Store) (LeavesTables S.Store)
-        (ReverseEntry loan seq account) connection.old connection.new result }
+        (ReverseEntry loan seq account.now) connection.old connection.new result }
     ensures shuts { OnlyFaultsShut (state S.Store connection.old) (state S.Store connection.new) }
     ensures open { HasGoodDisk S.Store connection.new → OnOk result (IsTrue (state S.Store connection.new).is_open) }
     ensures mode { connection.new.in_transaction ≡ false }
 {
-    let writes = reversal_writes(alloc, loan, seq, &account)?;
+    let writes = reversal_writes(alloc, loan, seq, account)?;
     write(connection, &writes)
 }

@@ -83,8 +83,8 @@ fn instalment_of(
     })
 }
 
-/// The instalment of a row.
-pub(crate) fn instalment_from(row: &InstalmentRow) -> Result<Instalment, Fault>
+/// The instalment of a row; F20 where that can be none.
+pub fn instalment_from(row: &InstalmentRow) -> Result<Instalment, Fault>
     ensures row { IfOk result (λ found. (office loan number : ℕ) (sums : Sums) → IsWhole sums
         → row.now ≡ instalment_in office loan (number, sums) → found ≡ sums) }
     ensures within { IfOk result (λ found. IsWhole found × IsRowWithin found) }

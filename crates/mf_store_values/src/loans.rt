@@ -89,13 +89,3 @@ pub fn loan_in_row(row: &Row) -> Result<(Account, Loan), Fault>
     let loan = loan_from(found)?;
     Ok((Account { office, number }, loan))
 }
-
-/// The day on which a loan was disbursed.
-pub fn disbursal_day(loan: &Loan) -> Option<Day>
-    ensures { result ≡ disbursed_on loan.now.stage }
-{
-    match loan.stage {
-        Stage::Disbursed { day, .. } => Some(day),
-        _ => None,
-    }
-}

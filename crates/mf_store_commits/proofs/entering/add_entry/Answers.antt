@@ -7,7 +7,7 @@ use Rattle.mf_store_commits.proofs.entering.add_entry.Goals as goal
 
 pub returns-clause-commits : goal.returns-clause-commits
 returns-clause-commits g c =
-    let commit = AddEntry c.args.loan c.args.account in
+    let commit = AddEntry c.args.loan c.args.account.now in
     made_by g.S.Store commit c.args.connection.now c.write.new.connection c.deref.result.now c.write.result
     (λ i s admitted. subst (λ ws. Becomes ws i (after_commit commit i)) (sym c.deref.ensures.value)
     (c.in_ok-writes.ensures.carries i s.sound admitted).becomes)
