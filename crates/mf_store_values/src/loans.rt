@@ -1,9 +1,9 @@
 //! What the rows of loans stand for.
 
-ghost use Rattle.std.specs.Prelude.{◌≡◌, ℕ, Option, Some, IfOk, IfErr};
+ghost use Rattle.std.specs.Prelude.{◌≡◌, ℕ, Some, IfOk, IfErr};
 ghost use Rattle.mf_base.specs.declared.fault.Fault.TheVariants.{F20};
 ghost use Rattle.mf_base.specs.DayText.{day_text};
-ghost use Rattle.mf_model.specs.Stages.{stage_number, disbursed_on};
+ghost use Rattle.mf_model.specs.Stages.{stage_number};
 ghost use Rattle.mf_model.specs.declared.loan.Loan.{Loan as ModelLoan};
 ghost use Rattle.mf_model.specs.declared.loan.Stage.{Stage as ModelStage};
 ghost use Rattle.mf_store_records.specs.Rows.{loan_row as loan_stored};
