@@ -11,6 +11,7 @@ pub mod LoanLemmas
 pub mod OneInstitution
 pub mod InstalmentReadLemmas
 pub mod PartReadLemmas
+pub mod ShownLemmas
 pub mod OfficeLoansLemmas
 pub mod StatusLemmas
 pub mod MadeLemmas

@@ -1,15 +1,17 @@
 //! The accounts of loans: each is resumed from the loan's row, its product's terms, its entries, and the instalments
 //! and shares that are kept of it. In a list of loans none is.
 
-ghost use Rattle.std.specs.Prelude.{◌≡◌, ◌≤◌, ◌-◌, ◌++◌, ℕ, List, [], length, map, option_map, Some, OnOk, IfOk, IfErr};
-ghost use Rattle.std.specs.List.{AllByRecursion};
+ghost use Rattle.std.specs.Prelude.{◌≡◌, ◌≤◌, ◌-◌, ◌++◌, ℕ, List, [], length, map, option_map, true, Some, OnOk, IfOk, IfErr};
+ghost use Rattle.std.specs.List.{AllByRecursion, list_any};
+ghost use Rattle.mf_alloc.specs.Sums.{AreWhole, AreWithin, is_open};
 ghost use Rattle.mf_base.specs.declared.fault.Fault.TheVariants.{F20};
 ghost use Rattle.mf_account.specs.Change.{account_by_replay};
+ghost use Rattle.mf_account.specs.Loan.{state_of_loan};
 ghost use Rattle.mf_catalog.specs.Product.{charge_of};
-ghost use Rattle.mf_model.specs.Accounts.{running_from, terms_in, status_in};
+ghost use Rattle.mf_model.specs.Accounts.{running_from, terms_in, status_in, account_in, of_account};
 ghost use Rattle.mf_model.specs.Institution.{Institution, Ledger as ModelLedger, charge_in};
 ghost use Rattle.mf_model.specs.Stages.{disbursed_on};
-ghost use Rattle.mf_model.specs.Store.{loan_at, ledger_at, account_at, loans_at};
+ghost use Rattle.mf_model.specs.Store.{loan_at, ledger_at, account_at, loan_with_account_at, loans_at};
 ghost use Rattle.mf_store_changes.specs.ChangeWrites.{schedule_put};
 ghost use Rattle.mf_store_accounts.specs.Flat.{loan_in, line_in, entries_of, instalments_kept, kept_of};
 ghost use Rattle.mf_store_records.specs.Rows.{loan_row as loan_stored};
@@ -17,14 +19,15 @@ ghost use Rattle.mf_store_records.specs.Rows.{loan_row as loan_stored};
 use crate::store::Store;
 use mf_account::status::ACTIVE;
 use mf_account::{Entry, LoanAccount};
+use mf_alloc::Row as Instalment;
 use mf_base::{Day, Fault};
 use mf_catalog::{ChargeDef, Terms};
 use mf_model::{Loan, LoanLine, LoanList};
 use mf_office::{Account, OfficeNo};
 use mf_store_changes::put_schedule;
-use mf_store_records::{EntryRow, StoreWrite};
+use mf_store_records::{EntryRow, InstalmentRow, StoreWrite};
 use mf_store_values::{
-    entries_from, is_active, loan_in_row, settled_status, stored,
+    entries_from, instalment_from, is_active, loan_in_row, settled_status, stored,
 };
 use sqlite::{Alter, Row};
 use std::alloc::Global;
@@ -55,7 +58,7 @@ impl<S: Alter> Store<S> {
     }
 
     /// The terms that a product gives its loans, or None where there is no such product.
-    fn terms_of(&mut self, product: u32) -> Result<Option<Terms>, Fault>
+    pub(crate) fn terms_of(&mut self, product: u32) -> Result<Option<Terms>, Fault>
         ensures asks { MayAskTables S.Store self.old self.new result }
         ensures value { IsClean S.Store self.new → (i : Institution) → StandsFor S.Store self.old i
             → IfOk result (λ terms. terms ≡ terms_in i.catalogue product) }
@@ -97,25 +100,30 @@ impl<S: Alter> Store<S> {
         stored(found)
     }
 
-    /// The account of a loan that is there and was disbursed on this day, resumed from what is kept of it: nothing is
-    /// replayed.
-    fn resume(
+    /// The account of a loan that is there and was disbursed on this day, resumed from what is kept of it, its
+    /// instalments among it: nothing is replayed.
+    pub(crate) fn resume(
         &mut self,
         alloc: Global,
         account: Account,
         loan: &Loan,
         day: Day,
+        rows: Vec<Instalment>,
     ) -> Result<LoanAccount, Fault>
+        requires whole { AreWhole rows.items }
+        requires within { AreWithin rows.items }
         ensures asks { AsksTables S.Store self.old self.new result }
         ensures value { IsClean S.Store self.new → (i : Institution) → StandsFor S.Store self.old i → loan_at account i
             ≡ Some loan.now
-            → disbursed_on loan.now.stage ≡ Some day → IfOk result (λ resumed. account_at account i ≡ Some resumed) }
+            → disbursed_on loan.now.stage ≡ Some day
+            → ((l : ModelLedger) → ledger_at account i ≡ Some l
+            → rows.items ≡ of_account [] (λ a. (state_of_loan a).rows) (account_in i.catalogue l))
+            → IfOk result (λ resumed. account_at account i ≡ Some resumed) }
     {
         let Account { office, number } = account;
         let named = self.terms_of(loan.product)?;
         let terms = stored(named)?;
         let entries = self.entries_at(alloc, Account { office, number })?;
-        let rows = self.instalments_at(alloc, Account { office, number })?;
         let parts = self.parts_at(alloc, Account { office, number })?;
         let found = LoanAccount::resume(
             alloc,
@@ -153,26 +161,66 @@ impl<S: Alter> Store<S> {
         put_schedule(alloc, office, number, fresh.rows(), writes)
     }
 
-    /// The account of a loan, or None where there is no such loan or it is not disbursed.
-    pub fn account(&mut self, alloc: Global, account: Account) -> Result<Option<LoanAccount>, Fault>
+    /// The account of a loan that is there and was disbursed on this day.
+    fn disbursed_account(
+        &mut self,
+        alloc: Global,
+        account: Account,
+        loan: &Loan,
+        day: Day,
+    ) -> Result<LoanAccount, Fault>
+        ensures asks { AsksTables S.Store self.old self.new result }
+        ensures value { IsClean S.Store self.new → (i : Institution) → StandsFor S.Store self.old i → loan_at account i
+            ≡ Some loan.now
+            → disbursed_on loan.now.stage ≡ Some day
+            → IfOk result (λ resumed. account_at account i ≡ Some resumed) }
+    {
+        let Account { office, number } = account;
+        let rows = self.instalments_at(alloc, Account { office, number })?;
+        self.resume(alloc, Account { office, number }, loan, day, rows)
+    }
+
+    /// A loan with its account where it is disbursed, or None where there is no such loan.
+    pub fn ledger(
+        &mut self,
+        alloc: Global,
+        account: Account,
+    ) -> Result<Option<(Loan, Option<LoanAccount>)>, Fault>
         ensures asks { AsksTables S.Store self.old self.new result }
         ensures value { IsClean S.Store self.new → (i : Institution) → StandsFor S.Store self.old i
-            → IfOk result (λ found. found ≡ account_at account i) }
+            → IfOk result (λ found. found ≡ loan_with_account_at account i) }
     {
         let Account { office, number } = account;
         let Some(loan) = self.loan(Account { office, number })? else {
             return Ok(None);
         };
         let Some(day) = loan.disbursal_day() else {
-            return Ok(None);
+            return Ok(Some((loan, None)));
         };
-        let resumed = self.resume(alloc, Account { office, number }, &loan, day)?;
-        Ok(Some(resumed))
+        let resumed = self.disbursed_account(alloc, Account { office, number }, &loan, day)?;
+        Ok(Some((loan, Some(resumed))))
     }
 
-    /// The status of a loan that is there and was disbursed. Its entries are asked for only where nothing is
-    /// outstanding in the instalments that are kept, and they are not replayed.
-    fn disbursed_status(&mut self, alloc: Global, account: Account) -> Result<u16, Fault>
+    /// Whether the last instalment of a loan that is there is open. Where it is, so is the loan.
+    fn is_last_open(&mut self, account: Account, periods: u32) -> Result<bool, Fault>
+        ensures asks { AsksTables S.Store self.old self.new result }
+        ensures value { IsClean S.Store self.new → (i : Institution) → StandsFor S.Store self.old i → (l : ModelLedger)
+            → ledger_at account i ≡ Some l
+            → IfOk result (λ open. open ≡ true → list_any is_open (of_account [] (λ a. (state_of_loan a).rows)
+            (account_in i.catalogue l)) ≡ true) }
+    {
+        let key = (account.office.get(), account.number.get(), periods);
+        let Some(row) = self.find::<InstalmentRow>(key)? else {
+            return Ok(false);
+        };
+        let last = instalment_from(&row)?;
+        Ok(last.is_open())
+    }
+
+    /// The status of a loan that is there and was disbursed over so many periods. Most are told by their last
+    /// instalment; the others are asked for where nothing is outstanding of it, and the entries where nothing is of
+    /// any: none of them is replayed.
+    fn disbursed_status(&mut self, alloc: Global, account: Account, periods: u32) -> Result<u16, Fault>
         ensures asks { AsksTables S.Store self.old self.new result }
         ensures value { IsClean S.Store self.new → (i : Institution) → StandsFor S.Store self.old i → (l : ModelLedger)
             → ledger_at account i ≡ Some l
@@ -180,6 +228,9 @@ impl<S: Alter> Store<S> {
             → IfOk result (λ status. status ≡ status_in i.catalogue l) }
     {
         let Account { office, number } = account;
+        if self.is_last_open(Account { office, number }, periods)? {
+            return Ok(ACTIVE);
+        }
         let rows = self.instalments_at(alloc, Account { office, number })?;
         if is_active(&rows) {
             return Ok(ACTIVE);
@@ -197,7 +248,7 @@ impl<S: Alter> Store<S> {
     {
         match loan.disbursal_day() {
             None => Ok(loan.stage.status()),
-            Some(_) => self.disbursed_status(alloc, account),
+            Some(_) => self.disbursed_status(alloc, account, loan.periods),
         }
     }
 
@@ -237,7 +288,8 @@ impl<S: Alter> Store<S> {
     }
 
     /// The first 100 loans of an office whose number is above one, by number: one query over the range of their keys,
-    /// and for each disbursed one that of its instalments, and of its entries where none of these is open.
+    /// and for each disbursed one that of its last instalment, of the others where this one isn't open, and of its
+    /// entries where none is.
     pub fn loans(&mut self, alloc: Global, office: OfficeNo, after: u32) -> Result<LoanList, Fault>
         ensures asks { AsksTables S.Store self.old self.new result }
         ensures value { IsClean S.Store self.new → (i : Institution) → StandsFor S.Store self.old i

@@ -9,9 +9,10 @@ use mf_base::{Choice, Day, Fault};
 use mf_catalog::{ChargeDef, Product};
 use mf_model::{
     ArrearsList, CatalogueCounts, Commit, Counts, InstitutionStore, Loan, LoanList, OfficeList,
-    ReceiptUse,
+    ReceiptUse, Statement,
 };
 use mf_office::{Account, Caller, Name, OfficeNo, Role};
+use mf_statement::InstalmentList;
 use mf_store_values::stored;
 use sqlite::Alter;
 use std::alloc::Global;
@@ -128,8 +129,24 @@ impl<S: Alter> InstitutionStore for Store<S> {
         self.loan(loan)
     }
 
-    fn account(&mut self, alloc: Global, loan: Account) -> Result<Option<LoanAccount>, Fault> {
-        self.account(alloc, loan)
+    fn ledger(
+        &mut self,
+        alloc: Global,
+        loan: Account,
+    ) -> Result<Option<(Loan, Option<LoanAccount>)>, Fault> {
+        self.ledger(alloc, loan)
+    }
+
+    fn statement(&mut self, alloc: Global, loan: Account) -> Result<Option<Statement>, Fault> {
+        self.statement(alloc, loan)
+    }
+
+    fn instalments(
+        &mut self,
+        alloc: Global,
+        loan: Account,
+    ) -> Result<Option<InstalmentList>, Fault> {
+        self.instalments(alloc, loan)
     }
 
     fn receipt(

@@ -18,6 +18,7 @@ mod office_rows;
 mod parts;
 mod reads;
 mod receipts;
+mod shown;
 mod store;
 mod visible;
 

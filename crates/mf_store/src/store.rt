@@ -330,7 +330,7 @@ impl<S: Alter> Store<S> {
     ) -> Result<(), Fault>
         ensures { MakesCommit S.Store (AddEntry loan account) self.old self.new result }
     {
-        add_entry(alloc, &mut self.connection, loan, account)
+        add_entry(alloc, &mut self.connection, loan, &account)
     }
 
     /// Writes an entry of a loan that is reversed in the loan's account, and what that changed of the loan's
@@ -344,6 +344,6 @@ impl<S: Alter> Store<S> {
     ) -> Result<(), Fault>
         ensures { MakesCommit S.Store (ReverseEntry loan seq account) self.old self.new result }
     {
-        reverse_entry(alloc, &mut self.connection, loan, seq, account)
+        reverse_entry(alloc, &mut self.connection, loan, seq, &account)
     }
 }
