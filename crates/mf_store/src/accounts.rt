@@ -206,7 +206,7 @@ impl<S: Alter> Store<S> {
         ensures asks { AsksTables S.Store self.old self.new result }
         ensures value { IsClean S.Store self.new → (i : Institution) → StandsFor S.Store self.old i → (l : ModelLedger)
             → ledger_at account i ≡ Some l
-            → IfOk result (λ open. open ≡ true → list_any is_open (of_account [] (λ a. (state_of_loan a).rows)
+            → IfOk result (λ left. left ≡ true → list_any is_open (of_account [] (λ a. (state_of_loan a).rows)
             (account_in i.catalogue l)) ≡ true) }
     {
         let key = (account.office.get(), account.number.get(), periods);
@@ -220,7 +220,12 @@ impl<S: Alter> Store<S> {
     /// The status of a loan that is there and was disbursed over so many periods. Most are told by their last
     /// instalment; the others are asked for where nothing is outstanding of it, and the entries where nothing is of
     /// any: none of them is replayed.
-    fn disbursed_status(&mut self, alloc: Global, account: Account, periods: u32) -> Result<u16, Fault>
+    fn disbursed_status(
+        &mut self,
+        alloc: Global,
+        account: Account,
+        periods: u32,
+    ) -> Result<u16, Fault>
         ensures asks { AsksTables S.Store self.old self.new result }
         ensures value { IsClean S.Store self.new → (i : Institution) → StandsFor S.Store self.old i → (l : ModelLedger)
             → ledger_at account i ≡ Some l
@@ -228,7 +233,8 @@ impl<S: Alter> Store<S> {
             → IfOk result (λ status. status ≡ status_in i.catalogue l) }
     {
         let Account { office, number } = account;
-        if self.is_last_open(Account { office, number }, periods)? {
+        let told = self.is_last_open(Account { office, number }, periods)?;
+        if told {
             return Ok(ACTIVE);
         }
         let rows = self.instalments_at(alloc, Account { office, number })?;

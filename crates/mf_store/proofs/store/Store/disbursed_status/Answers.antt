@@ -13,16 +13,23 @@ use Rattle.mf_store.proofs.store.Store.disbursed_status.Goals as goal
 pub returns-clause-value : goal.returns-clause-value
 returns-clause-value g c clean i s l at day on =
     let before = c.in_ok-entries.ensures.asks.kept.premise clean in
-    let rows = c.deref-3.ensures.value ∙ c.in_ok-rows.ensures.value before i s l at in
+    let first = c.in_ok-told.ensures.asks.kept.same (c.in_ok-rows.ensures.asks.kept.premise before) i s in
+    let rows = c.deref-3.ensures.value ∙ c.in_ok-rows.ensures.value before i first l at in
     let entries = c.deref-2.ensures.value ∙ c.in_ok-entries.ensures.value clean i (c.in_ok-rows.ensures.asks.kept.same
-    before i s) ∙ ap entries_of at in
+    before i first) ∙ ap entries_of at in
     IfOk-weaker c.settled_status.result _ (λ status. status ≡ status_in i.catalogue l)
     (λ status told. told ∙ (λ t. status_told (entries t) (rows t)) ∙ status_read c.args.account l i day s.sound at on)
     c.settled_status.ensures.status
 
 pub returns-then-is_active-clause-value : goal.returns-then-is_active-clause-value
 returns-then-is_active-clause-value g c clean i s l at day on =
-    let rows = c.deref.ensures.value ∙ c.in_ok-rows.ensures.value clean i s l at in
+    let first = c.in_ok-told.ensures.asks.kept.same (c.in_ok-rows.ensures.asks.kept.premise clean) i s in
+    let rows = c.deref.ensures.value ∙ c.in_ok-rows.ensures.value clean i first l at in
     let yes : c.is_active.result ≡ true = search rules in
     active_status i.catalogue l (loan_account_sound c.args.account l i s.sound at)
     (sym (ap (λ (all : List Sums). list_any is_open all) rows) ∙ sym c.is_active.ensures ∙ yes)
+
+pub returns-then-told-clause-value : goal.returns-then-told-clause-value
+returns-then-told-clause-value g c clean i s l at day on =
+    active_status i.catalogue l (loan_account_sound c.args.account l i s.sound at)
+    (c.in_ok-told.ensures.value clean i s l at c.if-told.true)
