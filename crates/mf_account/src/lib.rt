@@ -19,6 +19,7 @@ mod rewind;
 mod safe;
 mod settled;
 pub mod status;
+mod statuses;
 
 pub use account::LoanAccount;
 pub use balances::Balances;
@@ -28,3 +29,4 @@ pub use lawful::MOST_ENTRIES;
 pub use open::open_balances;
 pub use receipt::{Receipt, is_receipt};
 pub use settled::{Book, How, Settled};
+pub use statuses::settled_status;

@@ -18,7 +18,7 @@ ghost use Rattle.mf_store_records.specs.Rows.{loan_row as loan_stored};
 
 use crate::store::Store;
 use mf_account::status::ACTIVE;
-use mf_account::{Entry, LoanAccount};
+use mf_account::{Entry, LoanAccount, settled_status};
 use mf_alloc::Row as Instalment;
 use mf_base::{Day, Fault};
 use mf_catalog::{ChargeDef, Terms};
@@ -27,7 +27,7 @@ use mf_office::{Account, OfficeNo};
 use mf_store_changes::put_schedule;
 use mf_store_records::{EntryRow, InstalmentRow, StoreWrite};
 use mf_store_values::{
-    entries_from, instalment_from, is_active, loan_in_row, settled_status, stored,
+    entries_from, instalment_from, is_active, loan_in_row, stored,
 };
 use sqlite::{Alter, Row};
 use std::alloc::Global;
@@ -242,7 +242,7 @@ impl<S: Alter> Store<S> {
             return Ok(ACTIVE);
         }
         let entries = self.entries_at(alloc, Account { office, number })?;
-        settled_status(&entries, &rows)
+        stored(settled_status(&entries, &rows))
     }
 
     /// The status of a loan that is there: its stage's number, or what its account says.
