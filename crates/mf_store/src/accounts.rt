@@ -16,7 +16,7 @@ ghost use Rattle.mf_store_records.specs.Rows.{loan_row as loan_stored};
 
 use crate::store::Store;
 use mf_account::status::ACTIVE;
-use mf_account::{Entry, LoanAccount};
+use mf_account::{Entry, Loan as DisbursedLoan, LoanAccount};
 use mf_base::{Day, Fault};
 use mf_catalog::{ChargeDef, Terms};
 use mf_model::{Loan, LoanLine, LoanList};
@@ -86,14 +86,14 @@ impl<S: Alter> Store<S> {
     {
         let named = self.terms_of(loan.product)?;
         let terms = stored(named)?;
-        let found = LoanAccount::of_entries(
-            alloc,
+        let disbursed = DisbursedLoan {
             terms,
-            loan.principal,
-            loan.periods,
+            principal: loan.principal,
+            periods: loan.periods,
             day,
             entries,
-        )?;
+        };
+        let found = LoanAccount::of_entries(alloc, disbursed)?;
         stored(found)
     }
 
@@ -117,16 +117,14 @@ impl<S: Alter> Store<S> {
         let entries = self.entries_at(alloc, Account { office, number })?;
         let rows = self.instalments_at(alloc, Account { office, number })?;
         let parts = self.parts_at(alloc, Account { office, number })?;
-        let found = LoanAccount::resume(
-            alloc,
+        let disbursed = DisbursedLoan {
             terms,
-            loan.principal,
-            loan.periods,
+            principal: loan.principal,
+            periods: loan.periods,
             day,
             entries,
-            rows,
-            parts,
-        )?;
+        };
+        let found = LoanAccount::resume(alloc, disbursed, rows, parts)?;
         stored(found)
     }
 
