@@ -18,7 +18,7 @@ ghost use Rattle.mf_store_records.specs.Rows.{loan_row as loan_stored};
 
 use crate::store::Store;
 use mf_account::status::ACTIVE;
-use mf_account::{Entry, LoanAccount, settled_status};
+use mf_account::{Entry, Loan as DisbursedLoan, LoanAccount, settled_status};
 use mf_alloc::Row as Instalment;
 use mf_base::{Day, Fault};
 use mf_catalog::{ChargeDef, Terms};
@@ -89,14 +89,14 @@ impl<S: Alter> Store<S> {
     {
         let named = self.terms_of(loan.product)?;
         let terms = stored(named)?;
-        let found = LoanAccount::of_entries(
-            alloc,
+        let disbursed = DisbursedLoan {
             terms,
-            loan.principal,
-            loan.periods,
+            principal: loan.principal,
+            periods: loan.periods,
             day,
             entries,
-        )?;
+        };
+        let found = LoanAccount::of_entries(alloc, disbursed)?;
         stored(found)
     }
 
@@ -125,16 +125,14 @@ impl<S: Alter> Store<S> {
         let terms = stored(named)?;
         let entries = self.entries_at(alloc, Account { office, number })?;
         let parts = self.parts_at(alloc, Account { office, number })?;
-        let found = LoanAccount::resume(
-            alloc,
+        let disbursed = DisbursedLoan {
             terms,
-            loan.principal,
-            loan.periods,
+            principal: loan.principal,
+            periods: loan.periods,
             day,
             entries,
-            rows,
-            parts,
-        )?;
+        };
+        let found = LoanAccount::resume(alloc, disbursed, rows, parts)?;
         stored(found)
     }
 
