@@ -107,6 +107,7 @@ impl Loan {
     {
         mark_reversed(&mut self.entries, at);
     }
+
     /// Gives the entries back.
     pub(crate) fn into_entries(self) -> Vec<Entry>
         ensures { result.items ≡ self.entries }
