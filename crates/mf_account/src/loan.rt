@@ -65,7 +65,7 @@ impl Loan {
     }
 
     /// The fresh schedule, and the fee at disbursement in cents.
-    pub(crate) fn planned(&self, alloc: Global) -> Result<(Vec<Instalment>, u64), Fault>
+    pub(crate) fn schedule_and_fee(&self, alloc: Global) -> Result<(Vec<Instalment>, u64), Fault>
         requires { IsSound self.now }
         ensures schedule { IfOk result (λ both. both.0.items ≡ schedule_of self.now) }
         ensures fee { IfOk result (λ both. both.1 ≡ fee_of_loan self.now) }

@@ -22,7 +22,7 @@ impl LoanAccount {
         ensures account { IfOk result (λ account. account ≡ account_by_replay loan) }
         ensures only { IsOkUnless result Fault.F20 }
     {
-        let (schedule, fee) = loan.planned(alloc)?;
+        let (schedule, fee) = loan.schedule_and_fee(alloc)?;
         let order = standing_order(alloc, loan.entries())?;
         let strategy = loan.strategy();
         let (book, settled) = replayed(alloc, &strategy, &schedule, loan.entries(), &order)?;
@@ -92,7 +92,7 @@ impl LoanAccount {
         if rows.len() != loan.periods as usize {
             return Ok(None);
         }
-        let (schedule, fee) = loan.planned(alloc)?;
+        let (schedule, fee) = loan.schedule_and_fee(alloc)?;
         let entries = loan.entries();
         let order = standing_order(alloc, entries)?;
         let placed = in_order(alloc, &order, entries.len(), rows.len(), &settled)?;
