@@ -31,4 +31,5 @@ pub mod ByDayLemmas
 mod OrderedLemmas
 mod SafeLemmas
 mod WithinLemmas
+pub mod StatusLemmas
 pub mod ReceiptLemmas

@@ -142,8 +142,8 @@ pub open-balances : (loan : Loan) (terms : Terms) (principal periods day : ℕ) 
     → rows ≡ (state_of_loan loan).rows → list_any is_open rows ≡ true
     → fee ≡ fee_at_disbursement terms principal (fresh_schedule terms principal periods day)
     → balances_by fee (book_at rows 0 0) ≡ balances_of loan
-open-balances loan terms principal periods day rows fee sound terms_is principal_is periods_is day_is rows_are left fee_is
-    =
+open-balances loan terms principal periods day rows fee sound terms_is principal_is periods_is day_is rows_are left
+    fee_is =
     let state : State = state_of_loan loan in
     let held = open-holds_nothing loan sound (subst (λ r. list_any is_open r ≡ true) rows_are left) in
     let own_fee : fee ≡ fee_of_loan loan = fee_is

@@ -7,6 +7,9 @@ use Rattle.std.specs.List.{Contains}
 use Rattle.std.proofs.lemmas.Bool.{cases_lt, cond-false}
 use Rattle.std.proofs.lemmas.List.{take_rest, drop-map, length-map, get_or-map, get_or_default, take-append-drop}
 use Rattle.std.proofs.lemmas.List.Elements.{All-take, All-drop}
+use Rattle.mf_catalog.specs.declared.terms.StrategyName.{StrategyName}
+use Rattle.mf_alloc.specs.declared.row.Cell.{Cell}
+use Rattle.mf_alloc.specs.Order.{cell_by}
 use Rattle.mf_account.specs.declared.entry.Entry.{Entry}
 use Rattle.mf_account.specs.declared.settled.Settled.{Settled}
 use Rattle.mf_account.specs.Effect.{State}
@@ -209,3 +212,27 @@ change-tails before after old new kept tail parts change sound_before sound_afte
 -- the slice of the parts from a place on
 pub tail-from : (slice all : List Settled) (k : ℕ) → slice ≡ all → take (length slice - k) (drop k slice) ≡ drop k all
 tail-from slice all k is = take_rest slice k ∙ ap (drop k) is
+
+-- ---- by the name of a loan's strategy: what it orders is what the loan does
+
+-- the order of the cells by a strategy, where so many instalments are due
+abbrev pub cells_named : StrategyName → ℕ → ℕ → ℕ → Cell
+cells_named name n due = cell_by name due
+
+pub after-named : (loan : Loan) (name : StrategyName) (applied : List Entry) (book next : State)
+    → name ≡ loan.terms.strategy → next ≡ after_all (orders_by (cells_named name) book.rows) applied book
+    → next ≡ after_all (orders_by (cells_of loan) book.rows) applied book
+after-named loan name applied book next same is =
+    is ∙ ap (λ (n : StrategyName). after_all (orders_by (cells_named n) book.rows) applied book) same
+
+pub settled-named : (loan : Loan) (name : StrategyName) (applied : List Entry) (book : State) (parts : List Settled)
+    → name ≡ loan.terms.strategy → parts ≡ settled_by (orders_by (cells_named name) book.rows) applied book
+    → parts ≡ settled_by (orders_by (cells_of loan) book.rows) applied book
+settled-named loan name applied book parts same is =
+    is ∙ ap (λ (n : StrategyName). settled_by (orders_by (cells_named n) book.rows) applied book) same
+
+pub fits-named : (loan : Loan) (name : StrategyName) (applied : List Entry) (book : State)
+    → name ≡ loan.terms.strategy → AreApplicable (orders_by (cells_of loan) book.rows) applied book
+    → AreApplicable (orders_by (cells_named name) book.rows) applied book
+fits-named loan name applied book same is =
+    subst (λ (n : StrategyName). AreApplicable (orders_by (cells_named n) book.rows) applied book) (sym same) is

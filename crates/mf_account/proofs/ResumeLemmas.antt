@@ -76,7 +76,7 @@ abbrev pub EndsInRefund : List Entry → ℕ → Type 0
 EndsInRefund entries n = (0 < n) × ((entry_at entries (n - 1)).kind ≡ Refund)
 
 -- after a refund nothing is overpaid
-none-overpaid : (loan : Loan) → IsSound loan → EndsInRefund (standing_entries loan.entries)
+pub none-overpaid : (loan : Loan) → IsSound loan → EndsInRefund (standing_entries loan.entries)
     (length (standing_entries loan.entries)) → (state_of_loan loan).overpaid ≡ 0
 none-overpaid loan sound ends =
     let all : List Entry = standing_entries loan.entries in

@@ -18,7 +18,7 @@ use Rattle.mf_account.proofs.StandingIsOne.{standing-is-one}
 use Rattle.mf_account.proofs.TailLemmas.{among-index, at-among, seal_last-standing}
 
 -- whether an entry of such a kind stands
-abbrev stands_by : (Kind → Bool) → Entry → Bool
+abbrev pub stands_by : (Kind → Bool) → Entry → Bool
 stands_by P e = not e.reversed && P e.kind
 
 pub not_true : (b : Bool) → not b ≡ true → b ≡ false
@@ -41,7 +41,7 @@ any-standing P n day entries are any =
     (index.0, index.1, ap (λ (y : Entry). P y.kind) index.2 ∙ both.1)
 
 -- with none standing there is none
-none-standing : (P : Kind → Bool) (n day : ℕ) (entries : List Entry) → AreEntries n day entries
+pub none-standing : (P : Kind → Bool) (n day : ℕ) (entries : List Entry) → AreEntries n day entries
     → length (standing_entries entries) ≡ 0 → list_any (stands_by P) entries ≡ false
 none-standing P n day entries are empty =
     elim (cases_Bool (list_any (stands_by P) entries)) [
@@ -50,7 +50,7 @@ none-standing P n day entries are empty =
     ]
 
 -- with some it is the last, where such kinds are seals
-last-standing : (P : Kind → Bool) (n day : ℕ) (entries : List Entry) → ((k : Kind) → P k ≡ true → is_seal k ≡ true)
+pub last-standing : (P : Kind → Bool) (n day : ℕ) (entries : List Entry) → ((k : Kind) → P k ≡ true → is_seal k ≡ true)
     → AreEntries n day entries → 0 < length (standing_entries entries) → list_any (stands_by P) entries
     ≡ P (entry_at (standing_entries entries) (length (standing_entries entries) - 1)).kind
 last-standing P n day entries seals are some =

@@ -12,6 +12,15 @@ is_write_off Penalty = false
 is_write_off Waive = false
 is_write_off Refund = false
 
+-- an entry of this kind refunds
+abbrev pub is_refund : Kind → Bool
+is_refund Refund = true
+is_refund Repay = false
+is_refund Fee = false
+is_refund Penalty = false
+is_refund Waive = false
+is_refund WriteOff = false
+
 -- a write-off and a refund seal the loan while they stand
 abbrev pub is_seal : Kind → Bool
 is_seal WriteOff = true

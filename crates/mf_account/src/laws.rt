@@ -39,8 +39,8 @@ pub fn active_loans_owe()
     ensures { (loan : Loan) → IsSound loan → (status_of_loan loan == 300) ≡ list_any is_open (state_of_loan loan).rows }
 {}
 
-/// While something of a sound loan is outstanding, nothing is overpaid and nothing refunded: a refund that stands is its
-/// last standing entry, and gave nothing back.
+/// While something of a sound loan is outstanding, nothing is overpaid and nothing refunded: a refund that stands is
+/// its last standing entry, and gave nothing back.
 pub fn open_loans_hold_no_money()
     ensures { OpenLoansHoldNoMoney }
 {}

@@ -23,7 +23,7 @@ use mf_base::{Day, Fault};
 use mf_catalog::GREATEST_AMOUNT;
 
 /// Whether a kind is a write-off.
-fn is_write_off(kind: Kind) -> bool
+pub(crate) fn is_write_off(kind: Kind) -> bool
     ensures { result ≡ is_write_off_kind kind }
 {
     matches!(kind, Kind::WriteOff)

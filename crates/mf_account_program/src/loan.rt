@@ -8,7 +8,7 @@ ghost use Rattle.mf_account.specs.declared.entry.Kind.TheVariants.{Repay};
 ghost use Rattle.mf_account.specs.Standing.{entry_at};
 
 use crate::step::Step;
-use mf_account::{Entry, Kind, LoanAccount};
+use mf_account::{Entry, Kind, Loan, LoanAccount};
 use mf_alloc::Portion;
 use mf_base::{Day, Fault, Freq};
 use mf_catalog::{Method, StrategyName, Terms};
@@ -46,6 +46,21 @@ fn terms() -> Terms
         disbursement: None,
         instalment: None,
         overdue: None,
+    }
+}
+
+/// The loan, disbursed on a day, with these entries.
+fn lent(day: Day, entries: Vec<Entry>) -> Loan
+    ensures limits { IsLoanWithinLimits result.terms result.principal result.periods }
+    ensures day { result.day ≡ day }
+    ensures entries { result.entries ≡ entries.items }
+{
+    Loan {
+        terms: terms(),
+        principal: PRINCIPAL,
+        periods: PERIODS,
+        day,
+        entries,
     }
 }
 
@@ -114,15 +129,8 @@ impl OpenLoan {
         if business_day < disbursed_on {
             return Err(Fault::F17);
         }
-        let entries = Vec::new(alloc);
-        let account = LoanAccount::replay(
-            alloc,
-            terms(),
-            PRINCIPAL,
-            PERIODS,
-            disbursed_on,
-            entries,
-        )?;
+        let loan = lent(disbursed_on, Vec::new(alloc));
+        let account = LoanAccount::replay(alloc, loan)?;
         Ok(OpenLoan {
             account,
             disbursed_on,
@@ -229,8 +237,7 @@ impl OpenLoan {
                 None => return Err(Fault::F2),
             }
         }
-        let day = self.disbursed_on;
-        match LoanAccount::of_entries(alloc, terms(), PRINCIPAL, PERIODS, day, entries)? {
+        match LoanAccount::of_entries(alloc, lent(self.disbursed_on, entries))? {
             Some(account) => {
                 let text = format!(in alloc; "{} entries replayed", account.entries().len())?;
                 Ok(text)

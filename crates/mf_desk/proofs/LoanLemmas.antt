@@ -8,48 +8,40 @@ use Rattle.mf_office.specs.declared.caller.Caller.{Caller}
 use Rattle.mf_office.specs.declared.account.Account.{Account}
 use Rattle.mf_office.specs.Tree.{is_at_or_below}
 use Rattle.mf_account.specs.declared.entry.Entry.{Entry}
-use Rattle.mf_account.specs.Loan.{Loan as Running, status_of_loan}
+use Rattle.mf_account.specs.Loan.{Loan as Running}
 use Rattle.mf_account.specs.Refusals.{refusal_of, reversal_refused}
 use Rattle.mf_account.specs.Standing.{with_mark}
-use Rattle.mf_account.specs.Balance.{balances_of}
 use Rattle.mf_account.specs.Change.{Account as Kept, IsChange, IsReplayed, account_by_replay}
 use Rattle.mf_model.specs.declared.request.LoanRequest.{LoanRequest}
 use Rattle.mf_model.specs.declared.request.Request.TheVariants as request
 use Rattle.mf_model.specs.declared.loan.Loan.{Loan}
-use Rattle.mf_model.specs.declared.loan.Statement.{Statement}
-use Rattle.mf_statement.specs.declared.lines.InstalmentLine.{InstalmentLine}
 use Rattle.mf_statement.specs.declared.lines.EntryLine.{EntryLine}
-use Rattle.mf_statement.specs.Lines.{instalments_from, entries_kept}
 use Rattle.mf_model.specs.declared.commit.Commit.TheVariants.{AddEntry, ReverseEntry}
 use Rattle.mf_model.specs.declared.reply.LoanReply.{LoanReply}
-use Rattle.mf_model.specs.declared.reply.LoanReply.TheVariants.{Shown, Entered, Reversed}
+use Rattle.mf_model.specs.declared.reply.LoanReply.TheVariants.{Entered, Reversed}
 use Rattle.mf_model.specs.declared.reply.LoanReply.TheVariants as told
 use Rattle.mf_model.specs.declared.reply.Reply.TheVariants as reply
 use Rattle.mf_model.specs.Institution.{Institution, Catalogue, Office, Rows, Ledger, Rows_become, office_at}
 use Rattle.mf_model.specs.Institution.{item_numbered}
 use Rattle.mf_model.specs.Tree.{parent_of}
 use Rattle.mf_model.specs.Outcomes.{where_found}
-use Rattle.mf_model.specs.Accounts.{account_in, of_account, no_balances, statement}
-use Rattle.mf_model.specs.Stages.{stage_number}
+use Rattle.mf_model.specs.Accounts.{account_in, entries_in}
 use Rattle.mf_model.specs.Receipts.{Use, uses_from, used_before, repeated_seq}
 use Rattle.mf_model.specs.declared.loan.ReceiptUse.{ReceiptUse}
 use Rattle.mf_model.specs.declared.request.Repayment.{Repayment}
-use Rattle.mf_model.specs.declared.request.LoanRequest.TheVariants.{Repay}
+use Rattle.mf_model.specs.declared.request.LoanRequest.TheVariants.{Repay, ShowEntries}
 use Rattle.mf_model.specs.Loans.{LedgerChange, with_new_entry, with_reversal, with_entries, unless_fault, fault_or}
 use Rattle.mf_model.specs.Loans.{none_first, enter, reverse, on_loan, loan_changed, loan_entered, of_loan, in_loan}
 use Rattle.mf_model.specs.Loans.{repayment, repeat_of, unless_known}
 use Rattle.mf_model.specs.Desk.{Outcome, of_office, in_office}
-use Rattle.mf_model.specs.Store.{Reads, rows_of, rows_at, ledger_at, account_of, account_at, IsHanded, IsHandedOn}
-use Rattle.mf_model.specs.Store.{OneMore, OneReversed}
+use Rattle.mf_model.specs.Store.{Reads, rows_of, rows_at, ledger_at, account_of, with_account, loan_with_account_at}
+use Rattle.mf_model.specs.Store.{IsHanded, IsHandedOn, OneMore, OneReversed}
 use Rattle.mf_model.specs.declared.store.InstitutionStore.{Ghosts}
 use Rattle.mf_model.proofs.Growing.{with_same_at}
 use Rattle.mf_model.proofs.AccountLemmas.{account_is}
 use Rattle.mf_desk.specs.declared.decision.Decision.{Decision}
-use Rattle.mf_desk.specs.Answers.{Asks, Decides, decision_outcome, request_outcome, sight, if_there, if_disbursed}
-use Rattle.mf_desk.specs.Answers.{loan_there, account_there, use_named, loan_outcome, in_ledger}
-use Rattle.mf_desk.specs.Statements.{of_kept, statement_by, asked_for, told_by}
-use Rattle.mf_desk.specs.declared.statements.Part.{Part}
-use Rattle.mf_desk.specs.declared.statements.Part.TheVariants.{Sums, Instalments, Entries}
+use Rattle.mf_desk.specs.Answers.{Asks, Decides, decision_outcome, request_outcome, sight, if_disbursed}
+use Rattle.mf_desk.specs.Answers.{account_there, use_named, loan_outcome, in_ledger}
 use Rattle.mf_desk.proofs.Decisions.{Learns, learns, learns_both, learned_refuses}
 
 abbrev where_seen : Option Office → Result (Unit {0}) Fault
@@ -72,77 +64,28 @@ loan_seen c loan asked i h =
     seen true None h = absurd (cc)
     seen true (Some f) h = refl
 
--- a loan that was found, with its entries
-pub record IsFound (loan : Account) (found : Loan) (i : Institution) : Type 0 where
-  pub ledger : Ledger
-  pub ledger_is : ledger_at loan i ≡ Some ledger
-  pub loan_is : ledger.loan ≡ found
-
-pub is_found : (loan : Account) (found : Loan) (i : Institution) → loan_there loan i ≡ Ok found → IsFound loan found i
-is_found loan found i h = at (ledger_at loan i) refl h
-  where
-    at : (o : Option Ledger) → ledger_at loan i ≡ o → if_there (option_map (λ (l : Ledger). l.loan) o) ≡ Ok found
-        → IsFound loan found i
-    at None e h = absurd (cc)
-    at (Some l) e h = record { ledger = l; ledger_is = e; loan_is = cc }
-
--- what is done with it
-pub in_found : (loan : Account) (found : Loan) (act : Catalogue → Ledger → Result (LoanReply × Option LedgerChange)
-    Fault) (i : Institution) (f : IsFound loan found i) → in_ledger loan act i ≡ of_office loan.office
-    (of_loan loan (rows_at loan.office i) (act i.catalogue f.ledger))
-in_found loan found act i f = ap (λ (o : Option Ledger). of_office loan.office
-    (where_found o (λ l. of_loan loan (rows_at loan.office i) (act i.catalogue l)))) f.ledger_is
-
--- its account
-pub account_found : (loan : Account) (found : Loan) (r : Option Kept) (i : Institution) (f : IsFound loan found i)
-    → r ≡ account_at loan i → r ≡ option_map account_by_replay (account_in i.catalogue f.ledger)
-account_found loan found r i f h =
-    h ∙ ap (λ (o : Option Ledger). option_map account_by_replay (account_of i.catalogue o)) f.ledger_is
-
--- what is told of a loan's account is told of what is kept of it
-pub told_of_kept : {A : Type 0} (none : A) (told : Kept → A) (o : Option Running)
-    → of_account none (λ a. told (account_by_replay a)) o ≡ of_kept none told (option_map account_by_replay o)
-told_of_kept none told None = refl
-told_of_kept none told (Some a) = refl
-
-pub statement_is : (k : Catalogue) (l : Ledger) → statement k l ≡ statement_by l.loan (option_map account_by_replay
-    (account_in k l))
-statement_is k l = go (account_in k l)
-  where
-    go : (o : Option Running) → record (statement k l) {
-      status = of_account (stage_number l.loan.stage) status_of_loan
-          o;
-      balances = of_account no_balances balances_of o;
-    } ≡ statement_by l.loan (option_map account_by_replay o)
-    go None = refl
-    go (Some a) = refl
-
--- a part of a loan is shown, and nothing becomes of it
-abbrev pub shown : Part → Catalogue → Ledger → Result (LoanReply × Option LedgerChange) Fault
-shown part k l = Ok (told_by part l.loan (option_map account_by_replay (account_in k l)), None)
-
-is_shown : (part : Part) (c : Caller) (k : Catalogue) (rows : Rows) (n : ℕ) (l : Ledger)
-    → on_loan (asked_for part) c k rows n l ≡ shown part k l
-is_shown Sums c k rows n l = ap (λ (x : Statement). Ok (Shown x, None)) (statement_is k l)
-is_shown Instalments c k rows n l = ap (λ (x : List InstalmentLine). Ok (told.Instalments x, None))
-    (told_of_kept [] (λ a. instalments_from 1 a.state.rows) (account_in k l))
-is_shown Entries c k rows n l =
-    ap (λ (x : List EntryLine). Ok (told.Entries x, None)) (told_of_kept [] entries_kept (account_in k l))
-
-part_shown : (part : Part) (c : Caller) (loan : Account) (i : Institution) → loan_outcome loan (asked_for part) c i
-    ≡ in_ledger loan (shown part) i
-part_shown part c loan i = at (item_numbered (rows_at loan.office i).loans loan.number)
-  where
-    at : (o : Option Ledger) → of_office loan.office (where_found o (λ l. of_loan loan (rows_at loan.office i)
-        (on_loan (asked_for part) c i.catalogue (rows_at loan.office i) loan.number l)))
-        ≡ of_office loan.office (where_found o (λ l. of_loan loan (rows_at loan.office i) (shown part i.catalogue l)))
-    at None = refl
-    at (Some l) = ap (λ x. of_office loan.office (of_loan loan (rows_at loan.office i) x))
-        (is_shown part c i.catalogue (rows_at loan.office i) loan.number l)
-
 -- what is told of a loan, and no change
 abbrev pub tells : Account → LoanReply → Decision
 tells loan told = record { reply = reply.Loan loan told; commit = None }
+
+-- pairs that are the same have the same second part
+same_second : {A B : Type 0} (p q : A × B) → Some p ≡ Some q → p.1 ≡ q.1
+same_second p q h = cc
+
+-- the entries are told of a loan that is there with this account
+entries_told : (loan : Account) (c : Caller) (found : Loan) (r : Option Kept) (lines : List EntryLine)
+    (i : Institution) → Some (found, r) ≡ loan_with_account_at loan i → ((k : Catalogue) (l : Ledger)
+    → r ≡ option_map account_by_replay (account_in k l) → lines ≡ entries_in k l)
+    → loan_outcome loan ShowEntries c i ≡ decision_outcome (tells loan (told.Entries lines)) i
+entries_told loan c found r lines i h of = at (ledger_at loan i) h
+  where
+    at : (o : Option Ledger) → Some (found, r) ≡ option_map (with_account i.catalogue) o → of_office loan.office
+        (where_found o (λ l. of_loan loan (rows_at loan.office i)
+        (on_loan ShowEntries c i.catalogue (rows_at loan.office i) loan.number l)))
+        ≡ decision_outcome (tells loan (told.Entries lines)) i
+    at None h = absurd (cc)
+    at (Some l) h = ap (λ es. decision_outcome (tells loan (told.Entries es)) i)
+        (sym (of i.catalogue l (same_second (found, r) (with_account i.catalogue l) h)))
 
 -- a disbursed loan that was found, with its account
 pub record IsAccountOf (loan : Account) (a : Running) (i : Institution) : Type 0 where
@@ -348,23 +291,17 @@ module _ {S : Type 0} (store : Ghosts S) where
     stop = l.stop;
   }
 
-  -- a part of a loan that was found, with its account
-  pub told_of_found : (loan : Account) (part : Part) (c : Caller) (found : Loan) (r : Option Kept) (old mid new : S)
-      (d : Decision) → Asks store (loan_there loan) old mid (Ok found) → Reads store.stands store.clean store.leaves
-      (account_at loan) mid new (Ok r)
-      → d ≡ tells loan (told_by part found r) → Decides store (loan_outcome loan (asked_for part) c) old new (Ok d)
-  told_of_found loan part c found r old mid new d ask read is =
-      learned_tells (λ i. (loan_there loan i ≡ Ok found) × (r ≡ account_at loan i))
-      (loan_outcome loan (asked_for part) c) old new d
-      (learns_both store (λ i. loan_there loan i ≡ Ok found) (λ i. r ≡ account_at loan i) old mid new
-      (learns store (loan_there loan) old mid found ask) (learns_value (account_at loan) mid new r read))
-      (λ i h.
-      let f = is_found loan found i h.0 in
-      part_shown part c loan i ∙ in_found loan found (shown part) i f
-      ∙ ap (λ (x : Loan). decision_outcome
-      (tells loan (told_by part x (option_map account_by_replay (account_in i.catalogue f.ledger)))) i) f.loan_is
-      ∙ ap (λ (o : Option Kept). decision_outcome (tells loan (told_by part found o)) i)
-      (sym (account_found loan found r i f h.1))
+  -- the entries of a loan that was read with its account
+  pub told_of_account : (loan : Account) (c : Caller) (read : Option (Loan × Option Kept)) (found : Loan)
+      (r : Option Kept) (lines : List EntryLine) (old new : S) (d : Decision)
+      → Reads store.stands store.clean store.leaves (loan_with_account_at loan) old new (Ok read)
+      → read ≡ Some (found, r) → ((k : Catalogue) (l : Ledger) → r ≡ option_map account_by_replay (account_in k l)
+      → lines ≡ entries_in k l) → d ≡ tells loan (told.Entries lines)
+      → Decides store (loan_outcome loan ShowEntries c) old new (Ok d)
+  told_of_account loan c read found r lines old new d reads there of is = learned_tells
+      (λ i. read ≡ loan_with_account_at loan i) (loan_outcome loan ShowEntries c) old new d
+      (learns_value (loan_with_account_at loan) old new read reads)
+      (λ i h. entries_told loan c found r lines i (sym there ∙ h) of
       ∙ ap (λ (x : Decision). decision_outcome x i) (sym is))
       (λ i h. subst (λ (x : Decision). IfSome x.commit (λ c. IsHanded c i)) (sym is) tt)
 

@@ -1,5 +1,4 @@
 pub mod Answers
 pub mod Charges
 pub mod Entries
-pub mod Statements
 pub mod Runs

@@ -11,7 +11,6 @@ ghost use Rattle.mf_desk.specs.Entries.{IsAskedInRange, first_of, entry_of};
 
 use crate::decision::Decision;
 use crate::entries::{Asked, make_entry};
-use crate::loans::find_loan;
 use mf_account::{Entry, LoanAccount};
 use mf_base::{Day, Fault};
 use mf_model::{Commit, InstitutionStore, LoanReply, Reply};
@@ -27,8 +26,8 @@ pub fn find_account<S: InstitutionStore>(
     ensures asks { Asks S.InstitutionStore (account_there loan.now) store.old store.new result }
     ensures refusal { IfErr result (λ f. f ≢ Fault.F19) }
 {
-    find_loan(alloc, store, loan)?;
-    store.account(alloc, *loan)?.ok_or(Fault::F9)
+    let (_, account) = store.ledger(alloc, *loan)?.ok_or(Fault::F4)?;
+    account.ok_or(Fault::F9)
 }
 
 /// The account with one more entry. The refusals are those of `LoanAccount::enter`; F20 also where the account has a

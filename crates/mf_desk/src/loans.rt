@@ -11,8 +11,8 @@ use crate::entering::enter;
 use crate::entries::Asked;
 use crate::repaying::repay;
 use crate::reversing::reverse;
-use crate::stages::{next_stage, status_number};
-use crate::statements::{Part, show_part};
+use crate::stages::next_stage;
+use crate::statements::{show_entries, show_instalments, show_sums};
 use mf_base::Fault;
 use mf_model::{Commit, InstitutionStore, Loan, LoanReply, LoanRequest, LoanStep, Reply};
 use mf_office::{Account, Caller};
@@ -43,9 +43,13 @@ fn take_step<S: InstitutionStore>(
 {
     let found = find_loan(alloc, store, &loan)?;
     let today = store.business_day(alloc)?;
-    let stage = next_stage(&step, today, &found.stage)?;
-    let told = LoanReply::Status(status_number(&stage));
-    Ok(Decision::change(Commit::SetStage { loan, stage }, Reply::Loan { loan, told }))
+    let stage = &next_stage(&step, today, &found.stage)?;
+    let told = LoanReply::Status(stage.status());
+    let commit = Commit::SetStage {
+        loan,
+        stage: *stage,
+    };
+    Ok(Decision::change(commit, Reply::Loan { loan, told }))
 }
 
 /// Decides a request on one loan of an office that the caller sees.
@@ -61,9 +65,9 @@ pub fn on_loan<S: InstitutionStore>(
     ensures refusal { IfErr result (λ f. f ≢ Fault.F19) }
 {
     match asked {
-        LoanRequest::Show => show_part(alloc, store, loan, Part::Sums),
-        LoanRequest::ShowInstalments => show_part(alloc, store, loan, Part::Instalments),
-        LoanRequest::ShowEntries => show_part(alloc, store, loan, Part::Entries),
+        LoanRequest::Show => show_sums(alloc, store, loan),
+        LoanRequest::ShowInstalments => show_instalments(alloc, store, loan),
+        LoanRequest::ShowEntries => show_entries(alloc, store, loan),
         LoanRequest::Take(step) => take_step(alloc, store, loan, step),
         LoanRequest::Repay(repayment) => repay(alloc, store, caller, loan, repayment),
         LoanRequest::ChargeFee { charge, due } => {

@@ -2,7 +2,7 @@
 
 ghost use Rattle.std.specs.Prelude.{◌≡◌, ◌≢◌, ℕ, IfErr};
 ghost use Rattle.mf_model.specs.Desk.{meets};
-ghost use Rattle.mf_model.specs.Stages.{stage_number, disbursed_on, stage_of_disbursal, next_stage, step_need};
+ghost use Rattle.mf_model.specs.Stages.{stage_of_disbursal, next_stage, step_need};
 
 use crate::roles::{is_manager, is_officer};
 use mf_base::{Day, Fault};
@@ -44,22 +44,5 @@ pub fn may_take(step: &LoanStep, role: Role) -> bool
         LoanStep::Plain(PlainStep::Withdraw) => is_officer(role),
         LoanStep::Plain(PlainStep::Approve | PlainStep::Reject | PlainStep::UndoApproval)
         | LoanStep::Disburse(_) => is_manager(role),
-    }
-}
-
-/// The status number of a stage.
-pub fn status_number(stage: &Stage) -> u16
-    ensures { result ≡ stage_number stage.now }
-{
-    stage.status()
-}
-
-/// The day of disbursement.
-pub fn disbursed_on(stage: &Stage) -> Option<Day>
-    ensures { result ≡ disbursed_on stage.now }
-{
-    match stage {
-        Stage::Disbursed { day, .. } => Some(*day),
-        _ => None,
     }
 }

@@ -11,9 +11,10 @@ use mf_base::{Day, Fault};
 use mf_catalog::{Calc, ChargeDef, ChargeKind, Product, ProductMembers, Terms};
 use mf_model::{
     ArrearsList, CatalogueCounts, Commit, Counts, InstitutionStore, Loan, LoanLine, LoanList,
-    OfficeList, ReceiptUse, Stage,
+    OfficeList, ReceiptUse, Stage, Statement,
 };
 use mf_office::{Account, AccountNo, Caller, Name, Office, OfficeNo, Role};
+use mf_statement::{InstalmentList, instalment_lines};
 use std::alloc::Global;
 
 struct Branch {
@@ -271,6 +272,21 @@ impl Books {
         branch.loans.get(place as usize)
     }
 
+    /// A loan with its account, replayed; None where there is no such loan.
+    fn replayed(
+        &self,
+        alloc: Global,
+        loan: Account,
+    ) -> Result<Option<(Loan, Option<LoanAccount>)>, Fault>
+        ensures { IfErr result (λ fault. fault ≡ Fault.F20) }
+    {
+        let Some(row) = self.find_loan(loan) else {
+            return Ok(None);
+        };
+        let account = row.account(alloc, self.terms(row.product)?)?;
+        Ok(Some((row.loan(), account)))
+    }
+
     fn find_receipt(&self, office: OfficeNo, receipt: &Receipt) -> Option<ReceiptUse> {
         let branch = self.find(office)?;
         let mut number: u32 = 0;
@@ -441,13 +457,36 @@ impl InstitutionStore for Books {
         }
     }
 
-    fn account(&mut self, alloc: Global, loan: Account) -> Result<Option<LoanAccount>, Fault> {
+    fn ledger(
+        &mut self,
+        alloc: Global,
+        loan: Account,
+    ) -> Result<Option<(Loan, Option<LoanAccount>)>, Fault> {
         self.count_call()?;
-        let Some(row) = self.find_loan(loan) else {
+        self.replayed(alloc, loan)
+    }
+
+    fn statement(&mut self, alloc: Global, loan: Account) -> Result<Option<Statement>, Fault> {
+        self.count_call()?;
+        let Some((loan, account)) = self.replayed(alloc, loan)? else {
             return Ok(None);
         };
-        let terms = self.terms(row.product)?;
-        row.account(alloc, terms)
+        Ok(Some(Statement::of(&loan, &account)))
+    }
+
+    fn instalments(
+        &mut self,
+        alloc: Global,
+        loan: Account,
+    ) -> Result<Option<InstalmentList>, Fault> {
+        self.count_call()?;
+        let Some((_, account)) = self.replayed(alloc, loan)? else {
+            return Ok(None);
+        };
+        match account {
+            None => Ok(Some(InstalmentList::new(Vec::new(alloc)))),
+            Some(account) => Ok(Some(instalment_lines(alloc, &account)?)),
+        }
     }
 
     fn receipt(

@@ -4,7 +4,7 @@ ghost use Rattle.std.specs.Prelude.{◌≡◌, IfErr, IfOk, IfSome};
 ghost use Rattle.mf_account.specs.Change.{IsReplayed};
 
 use mf_account::status::ACTIVE;
-use mf_account::{Entry, LoanAccount, Receipt};
+use mf_account::{Entry, Loan as DisbursedLoan, LoanAccount, Receipt};
 use mf_arrears::{MOST_LOANS, OfficeLine, arrears};
 use mf_base::{Day, Fault};
 use mf_catalog::Terms;
@@ -146,9 +146,14 @@ impl Row {
         let Some(day) = self.disbursed else {
             return Ok(None);
         };
-        let entries = copy_entries(alloc, &self.entries)?;
-        let (principal, periods) = (self.principal, self.periods);
-        match LoanAccount::of_entries(alloc, terms, principal, periods, day, entries)? {
+        let disbursed = DisbursedLoan {
+            terms,
+            principal: self.principal,
+            periods: self.periods,
+            day,
+            entries: copy_entries(alloc, &self.entries)?,
+        };
+        match LoanAccount::of_entries(alloc, disbursed)? {
             Some(account) => Ok(Some(account)),
             None => Err(Fault::F20),
         }

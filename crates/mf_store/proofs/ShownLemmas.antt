@@ -1,6 +1,6 @@
 -- What is shown of a loan: its last instalment, its sums while something is outstanding, and its account.
 use Rattle.std.proofs.Common.{◌≡◌, ℕ, Bool, true, false, cond, List, [], ◌∷◌, map, filter, find, Option, None}
-use Rattle.std.proofs.Common.{Some, refl, sym, ap, ◌∙◌}
+use Rattle.std.proofs.Common.{Some, refl, sym, ap, ◌∙◌, arith}
 use Rattle.std.specs.List.{AllByRecursion, list_any}
 use Rattle.std.specs.Option.{option_map}
 use Rattle.std.proofs.lemmas.Bool.{or_left, or_right}
@@ -23,7 +23,7 @@ use Rattle.mf_store_records.specs.Rows.{is_instalment, is_instalment_of}
 use Rattle.mf_store_records.specs.declared.instalments.InstalmentRow.{InstalmentRow}
 use Rattle.mf_store_accounts.specs.Flat.{tables_of, instalment_in, instalments_kept, kept_of, had_by}
 use Rattle.mf_store.proofs.InstalmentReadLemmas.{sums_of, sums_kept, kept_whole, loan_account_sound}
-use Rattle.mf_store.proofs.PartReadLemmas.{IsLedgerOf, ledger_of}
+use Rattle.mf_store.proofs.PartReadLemmas.{ledger_of}
 use Rattle.mf_store_changes.proofs.LoanRowLemmas.{loan_shown}
 
 -- ---- the last instalment
@@ -34,19 +34,24 @@ found_open : (p : InstalmentRow → Bool) (x n : ℕ) (items : List (ℕ × Sums
     → ((number : ℕ) (s : Sums) → IsWhole s → row ≡ instalment_in x n (number, s) → sums ≡ s) → is_open sums ≡ true
     → list_any is_open (map sums_of items) ≡ true
 found_open p x n [] row sums whole is read left = absurd (let never : None ≡ Some row = is in cc)
-found_open p x n (item ∷ items) row sums whole is read left = go (p (instalment_in x n item)) refl
+found_open p x n (item ∷ items) row sums whole is read left =
+    go (p (instalment_in x n item)) refl (λ later. found_open p x n items row sums whole.1 later read left)
   where
-    go : (b : Bool) → p (instalment_in x n item) ≡ b → list_any is_open (map sums_of (item ∷ items)) ≡ true
-    go true here =
+    all : Option InstalmentRow
+    all = find p (map (instalment_in x n) items)
+
+    go : (b : Bool) → p (instalment_in x n item) ≡ b
+        → (all ≡ Some row → list_any is_open (map sums_of items) ≡ true)
+        → list_any is_open (map sums_of (item ∷ items)) ≡ true
+    go true here more =
         let found : Some (instalment_in x n item) ≡ Some row =
-        sym (ap (λ b. cond b (Some (instalment_in x n item)) (find p (map (instalment_in x n) items))) here) ∙ is in
+        sym (ap (λ b. cond b (Some (instalment_in x n item)) all) here) ∙ is in
         let same : row ≡ instalment_in x n item = cc in
         let own : sums ≡ item.1 = read item.0 item.1 whole.0 same in
         or_left (is_open item.1) (list_any is_open (map sums_of items)) (sym (ap is_open own) ∙ left)
-    go false other =
-        or_right (is_open item.1) (list_any is_open (map sums_of items)) (found_open p x n items row sums whole.1
-        (sym (ap (λ b. cond b (Some (instalment_in x n item)) (find p (map (instalment_in x n) items))) other) ∙ is)
-        read left)
+    go false other more =
+        or_right (is_open item.1) (list_any is_open (map sums_of items))
+        (more (sym (ap (λ b. cond b (Some (instalment_in x n item)) all) other) ∙ is))
 
 of_loan_or_none : (x n m : ℕ) (r : InstalmentRow) → is_instalment_of x n r ≡ false → is_instalment x n m r ≡ false
 of_loan_or_none x n m r other = grind (arith, nat_tests)

@@ -18,7 +18,7 @@ ghost use Rattle.mf_store_records.specs.Rows.{loan_row as loan_stored};
 
 use crate::store::Store;
 use mf_account::status::ACTIVE;
-use mf_account::{Entry, LoanAccount};
+use mf_account::{Entry, Loan as DisbursedLoan, LoanAccount, settled_status};
 use mf_alloc::Row as Instalment;
 use mf_base::{Day, Fault};
 use mf_catalog::{ChargeDef, Terms};
@@ -27,7 +27,7 @@ use mf_office::{Account, OfficeNo};
 use mf_store_changes::put_schedule;
 use mf_store_records::{EntryRow, InstalmentRow, StoreWrite};
 use mf_store_values::{
-    entries_from, instalment_from, is_active, loan_in_row, settled_status, stored,
+    entries_from, instalment_from, is_active, loan_in_row, stored,
 };
 use sqlite::{Alter, Row};
 use std::alloc::Global;
@@ -89,14 +89,14 @@ impl<S: Alter> Store<S> {
     {
         let named = self.terms_of(loan.product)?;
         let terms = stored(named)?;
-        let found = LoanAccount::of_entries(
-            alloc,
+        let disbursed = DisbursedLoan {
             terms,
-            loan.principal,
-            loan.periods,
+            principal: loan.principal,
+            periods: loan.periods,
             day,
             entries,
-        )?;
+        };
+        let found = LoanAccount::of_entries(alloc, disbursed)?;
         stored(found)
     }
 
@@ -125,16 +125,14 @@ impl<S: Alter> Store<S> {
         let terms = stored(named)?;
         let entries = self.entries_at(alloc, Account { office, number })?;
         let parts = self.parts_at(alloc, Account { office, number })?;
-        let found = LoanAccount::resume(
-            alloc,
+        let disbursed = DisbursedLoan {
             terms,
-            loan.principal,
-            loan.periods,
+            principal: loan.principal,
+            periods: loan.periods,
             day,
             entries,
-            rows,
-            parts,
-        )?;
+        };
+        let found = LoanAccount::resume(alloc, disbursed, rows, parts)?;
         stored(found)
     }
 
@@ -227,7 +225,7 @@ impl<S: Alter> Store<S> {
         ensures asks { AsksTables S.Store self.old self.new result }
         ensures value { IsClean S.Store self.new → (i : Institution) → StandsFor S.Store self.old i → (l : ModelLedger)
             → ledger_at account i ≡ Some l
-            → IfOk result (λ open. open ≡ true → list_any is_open (of_account [] (λ a. (state_of_loan a).rows)
+            → IfOk result (λ left. left ≡ true → list_any is_open (of_account [] (λ a. (state_of_loan a).rows)
             (account_in i.catalogue l)) ≡ true) }
     {
         let key = (account.office.get(), account.number.get(), periods);
@@ -241,7 +239,12 @@ impl<S: Alter> Store<S> {
     /// The status of a loan that is there and was disbursed over so many periods. Most are told by their last
     /// instalment; the others are asked for where nothing is outstanding of it, and the entries where nothing is of
     /// any: none of them is replayed.
-    fn disbursed_status(&mut self, alloc: Global, account: Account, periods: u32) -> Result<u16, Fault>
+    fn disbursed_status(
+        &mut self,
+        alloc: Global,
+        account: Account,
+        periods: u32,
+    ) -> Result<u16, Fault>
         ensures asks { AsksTables S.Store self.old self.new result }
         ensures value { IsClean S.Store self.new → (i : Institution) → StandsFor S.Store self.old i → (l : ModelLedger)
             → ledger_at account i ≡ Some l
@@ -249,7 +252,8 @@ impl<S: Alter> Store<S> {
             → IfOk result (λ status. status ≡ status_in i.catalogue l) }
     {
         let Account { office, number } = account;
-        if self.is_last_open(Account { office, number }, periods)? {
+        let told = self.is_last_open(Account { office, number }, periods)?;
+        if told {
             return Ok(ACTIVE);
         }
         let rows = self.instalments_at(alloc, Account { office, number })?;
@@ -257,7 +261,7 @@ impl<S: Alter> Store<S> {
             return Ok(ACTIVE);
         }
         let entries = self.entries_at(alloc, Account { office, number })?;
-        settled_status(&entries, &rows)
+        stored(settled_status(&entries, &rows))
     }
 
     /// The status of a loan that is there: its stage's number, or what its account says.

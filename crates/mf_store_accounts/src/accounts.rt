@@ -15,7 +15,7 @@ ghost use Rattle.mf_store_accounts.specs.Ledgers.{IsPlainLoan};
 use crate::kept_entries::entries_of;
 use crate::numbers::amount_from;
 use crate::terms::terms_of;
-use mf_account::LoanAccount;
+use mf_account::{Loan as DisbursedLoan, LoanAccount};
 use mf_base::{Day, Fault};
 use mf_store_records::{ChargeRow, EntryRow, LoanRow, ProductRow};
 use std::alloc::Global;
@@ -56,5 +56,12 @@ pub fn account_of(
         return Ok(None);
     };
     let list = entries_of(alloc, entries)?;
-    LoanAccount::of_entries(alloc, terms, principal, row.periods, day, list)
+    let disbursed = DisbursedLoan {
+        terms,
+        principal,
+        periods: row.periods,
+        day,
+        entries: list,
+    };
+    LoanAccount::of_entries(alloc, disbursed)
 }

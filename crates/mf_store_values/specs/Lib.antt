@@ -1,3 +1,2 @@
 pub mod Arrears
 pub mod Folding
-pub mod Statuses

@@ -1,5 +1,5 @@
 //! What the rows of the tables stand for: charges, products, loans, entries, instalments, offices. A row that can be
-//! none of these is F20. And what is told by such rows alone: a loan's status, an office's line of arrears.
+//! none of these is F20. And what is told by such rows alone: an office's line of arrears.
 #![tactic(auto)]
 
 mod catalogue;
@@ -12,7 +12,6 @@ mod office_rows;
 mod offices;
 mod parts;
 mod receipts;
-mod statuses;
 mod values;
 
 pub use catalogue::{charge_from, product_from};
@@ -25,5 +24,4 @@ pub use office_rows::{Ledger, OfficeRows, StaffMember, names_from, staff_from};
 pub use offices::offices_from;
 pub use parts::parts_from;
 pub use receipts::use_from;
-pub use statuses::settled_status;
 pub use values::stored;

@@ -5,7 +5,7 @@ ghost use Rattle.mf_base.specs.DayText.{last_entered_day};
 ghost use Rattle.mf_schedule.specs.Fresh.{IsLoanWithinLimits};
 ghost use Rattle.mf_account.specs.Standing.{entry_at};
 
-use mf_account::{Entry, Kind, LoanAccount};
+use mf_account::{Entry, Kind, Loan, LoanAccount};
 use mf_alloc::Portion;
 use mf_base::{Day, Fault, Freq};
 use mf_catalog::{Method, StrategyName, Terms};
@@ -85,7 +85,14 @@ impl OpenLoan {
         if business_day < first {
             return Err(Fault::F17);
         }
-        let account = LoanAccount::replay(alloc, terms(), 100000, 3, first, Vec::new(alloc))?;
+        let loan = Loan {
+            terms: terms(),
+            principal: 100000,
+            periods: 3,
+            day: first,
+            entries: Vec::new(alloc),
+        };
+        let account = LoanAccount::replay(alloc, loan)?;
         Ok(OpenLoan {
             account,
             business_day,

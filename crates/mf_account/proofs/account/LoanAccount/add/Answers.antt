@@ -1,7 +1,6 @@
 use Rattle.std.proofs.Common.{◌≡◌, ◌+◌, ◌≤◌, ◌∙◌, ◌++◌, ◌∷◌, [], ℕ, ap, sym, subst, arith, take, List, length}
 use Rattle.std.proofs.Common.{length-append, refl}
 use Rattle.std.specs.Prelude.{insert}
-use Rattle.mf_account.specs.declared.entry.Entry.{Entry}
 use Rattle.mf_account.specs.declared.settled.Settled.{Settled}
 use Rattle.mf_account.specs.Change.{Account, IsChange, IsReplayed}
 use Rattle.mf_account.specs.Safe.{IsSafe}
@@ -13,10 +12,10 @@ use Rattle.mf_account.proofs.account.LoanAccount.add.Goals as goal
 
 pub put_in-requires-clause-within : goal.put_in-requires-clause-within
 put_in-requires-clause-within c =
-    let within : c.place_of-place.result ≤ length (standing_entries c.self.inside.entries.items) =
+    let within : c.place_of-place.result ≤ length (standing_entries c.self.inside.loan.entries) =
     subst (λ (a : Account). c.place_of-place.result ≤ length (standing_entries a.loan.entries)) (sym c.self.view_is)
     c.place_of-place.ensures.within in
-    let size = length-order c.self.inside.entries.items c.self.inside.order.items c.self.invariant.order_is in
+    let size = length-order c.self.inside.loan.entries c.self.inside.order.items c.self.invariant.order_is in
     omega (arith, within, size, c.self.inside.order.ok, c.in_ok-reserve-2.ensures.len)
 
 pub change_to-requires-clause-size : goal.change_to-requires-clause-size
@@ -24,13 +23,7 @@ change_to-requires-clause-size c = c.in_ok-book.ensures.safe.bounded.size
 
 pub invariant_of-self-2 : goal.invariant_of-self-2
 invariant_of-self-2 c =
-    let old : Loan = record {
-      terms = c.self.inside.terms;
-      principal = c.self.inside.principal;
-      periods = c.self.inside.periods;
-      day = c.self.inside.day;
-      entries = c.self.inside.entries.items;
-    } in
+    let old : Loan = c.self.inside.loan in
     let new : Loan = record old { entries = old.entries ++ c.args.entry ∷ [] } in
     let place : ℕ = c.place_of-place.result in
     let sound : IsSound new = subst (λ (a : Account). IsSound (record a.loan {
@@ -40,9 +33,10 @@ invariant_of-self-2 c =
     let place_is : order_with c.args.entry (standing_entries old.entries) ≡ insert (standing_entries old.entries) place
     c.args.entry = subst (λ (a : Account). order_with c.args.entry (standing_entries a.loan.entries) ≡ insert
     (standing_entries a.loan.entries) place c.args.entry) (sym c.self.view_is) c.place_of-place.ensures.place in
-    let at : c.len-at.result ≡ length old.entries = omega (arith, c.len-at.ensures, c.self.inside.entries.ok) in
+    let at : length c.entries-at.result.now ≡ length old.entries = ap length c.entries-at.ensures in
     let order : c.put_in.new.order.items ≡ insert c.self.inside.order.items place (length old.entries) =
-    c.put_in.ensures ∙ ap (λ (o : List ℕ). insert o place c.len-at.result) c.in_ok-reserve-2.ensures.items
+    c.put_in.ensures
+    ∙ ap (λ (o : List ℕ). insert o place (length c.entries-at.result.now)) c.in_ok-reserve-2.ensures.items
     ∙ ap (insert c.self.inside.order.items place) at in
     let settled : c.put_behind.new.settled.items ≡ take c.in_ok-book.kept c.self.inside.settled.items
     ++ c.in_ok-book.parts.items =
@@ -66,12 +60,12 @@ invariant_of-self-2 c =
           (subst (λ (n : ℕ). IsSafe old.periods n c.in_ok-book.book (take c.in_ok-book.kept c.self.inside.settled.items
           ++ c.in_ok-book.parts.items)) count safe);
     } in
-    subst (λ (o : List ℕ). IsKept (record old { entries = c.push.new.self.items }) o c.self.inside.schedule.items
+    subst (λ (o : List ℕ). IsKept c.add_entry.new.self o c.self.inside.schedule.items
     c.self.inside.disbursement_fee c.in_ok-book.book c.put_behind.new.settled.items) (sym order)
-    (subst (λ (e : List Entry). IsKept (record old { entries = e })
+    (subst (λ (l : Loan). IsKept l
     (insert c.self.inside.order.items place (length old.entries)) c.self.inside.schedule.items
     c.self.inside.disbursement_fee c.in_ok-book.book c.put_behind.new.settled.items)
-    (sym c.in_ok-push.ensures.items) kept)
+    (sym c.in_ok-add_entry.ensures.ok) kept)
 
 pub returns-clause-replayed : goal.returns-clause-replayed
 returns-clause-replayed c replayed =
@@ -91,20 +85,15 @@ returns-clause-replayed c replayed =
       settled = c.put_behind.new.settled.items;
       change = c.in_ok-change.change;
     }) = record { state = redone.book_is; settled = settled } in
-    subst (λ (a : Account). IsReplayed (record {
-      loan = record a.loan { entries = c.push.new.self.items };
+    subst (λ (l : Loan). IsReplayed (record {
+      loan = l;
       state = c.in_ok-book.book;
       settled = c.put_behind.new.settled.items;
       change = c.in_ok-change.change;
     }))
-    (sym c.self.view_is)
-    (subst (λ (e : List Entry). IsReplayed (record {
-      loan = record loan { entries = e };
-      state = c.in_ok-book.book;
-      settled = c.put_behind.new.settled.items;
-      change = c.in_ok-change.change;
-    }))
-    (sym (c.in_ok-push.ensures.items ∙ ap (λ (a : Account). a.loan.entries ++ c.args.entry ∷ []) c.self.view_is)) is)
+    (sym (c.in_ok-add_entry.ensures.ok ∙ ap (λ (a : Account). record a.loan {
+      entries = a.loan.entries ++ c.args.entry ∷ [];
+    }) c.self.view_is)) is
 
 pub returns-clause-change : goal.returns-clause-change
 returns-clause-change c replayed =
@@ -116,8 +105,7 @@ returns-clause-change c replayed =
     (c.in_ok-book.ensures.redone replayed) in
     let is : IsChange loan new c.in_ok-change.change =
     c.in_ok-change.ensures.change replayed new c.requires.sound refl (omega (arith, longer)) own in
-    subst (λ (a : Account). IsChange loan (record a.loan { entries = c.push.new.self.items }) c.in_ok-change.change)
-    (sym c.self.view_is)
-    (subst (λ (e : List Entry). IsChange loan (record loan { entries = e }) c.in_ok-change.change)
-    (sym (c.in_ok-push.ensures.items ∙ ap (λ (a : Account). a.loan.entries ++ c.args.entry ∷ []) c.self.view_is))
-    is)
+    subst (λ (l : Loan). IsChange loan l c.in_ok-change.change)
+    (sym (c.in_ok-add_entry.ensures.ok ∙ ap (λ (a : Account). record a.loan {
+      entries = a.loan.entries ++ c.args.entry ∷ [];
+    }) c.self.view_is)) is

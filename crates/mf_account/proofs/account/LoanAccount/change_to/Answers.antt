@@ -17,19 +17,13 @@ change_between-requires-clause-few c =
 
 pub change_between-requires-clause-size : goal.change_between-requires-clause-size
 change_between-requires-clause-size c =
-    let same : c.self.inside.periods ≡ c.args.self.now.loan.periods =
+    let same : c.self.inside.loan.periods ≡ c.args.self.now.loan.periods =
     ap (λ (a : Account). a.loan.periods) c.self.view_is in
     c.requires.size ∙ sym same ∙ sym c.self.invariant.safe.bounded.size
 
 pub returns-clause-change : goal.returns-clause-change
 returns-clause-change c replayed new sound periods more redone =
-    let old : Loan = record {
-      terms = c.self.inside.terms;
-      principal = c.self.inside.principal;
-      periods = c.self.inside.periods;
-      day = c.self.inside.day;
-      entries = c.self.inside.entries.items;
-    } in
+    let old : Loan = c.self.inside.loan in
     let true_to : IsReplayed (record {
       loan = old;
       state = c.self.inside.book;

@@ -6,13 +6,7 @@ use Rattle.mf_account.proofs.account.LoanAccount.fee_amount.Goals as goal
 
 pub fee-requires-clause-interest : goal.fee-requires-clause-interest
 fee-requires-clause-interest c =
-    let loan : Loan = record {
-      terms = c.self.inside.terms;
-      principal = c.self.inside.principal;
-      periods = c.self.inside.periods;
-      day = c.self.inside.day;
-      entries = c.self.inside.entries.items;
-    } in
+    let loan : Loan = c.self.inside.loan in
     let is : total_interest c.deref.result.now ≡ total_interest (schedule_of loan) =
     ap total_interest (c.deref.ensures.value ∙ c.self.invariant.schedule_is) in
     let little = scheduled_interest-le loan.terms loan.principal loan.periods loan.day c.self.invariant.sound.limits in

@@ -8,13 +8,7 @@ use Rattle.mf_account.proofs.account.LoanAccount.fee_instalment.Goals as goal
 
 pub instalment_due-requires : goal.instalment_due-requires
 instalment_due-requires c =
-    let loan : Loan = record {
-      terms = c.self.inside.terms;
-      principal = c.self.inside.principal;
-      periods = c.self.inside.periods;
-      day = c.self.inside.day;
-      entries = c.self.inside.entries.items;
-    } in
+    let loan : Loan = c.self.inside.loan in
     let size : length c.deref.result.now ≡ length (schedule_of loan) =
     ap length (c.deref.ensures.value ∙ c.self.invariant.schedule_is) in
     let few = c.self.invariant.sound.limits.most_periods in
@@ -22,13 +16,7 @@ instalment_due-requires c =
 
 pub returns : goal.returns
 returns c =
-    let loan : Loan = record {
-      terms = c.self.inside.terms;
-      principal = c.self.inside.principal;
-      periods = c.self.inside.periods;
-      day = c.self.inside.day;
-      entries = c.self.inside.entries.items;
-    } in
+    let loan : Loan = c.self.inside.loan in
     let due : ℕ = c.args.due in
     c.instalment_due.ensures
     ∙ ap (λ (is : List Instalment). instalment_from (length is) due is) (c.deref.ensures.value

@@ -6,13 +6,7 @@ use Rattle.mf_account.proofs.account.LoanAccount.penalty_amount.Goals as goal
 
 pub penalty-requires-clause-owed : goal.penalty-requires-clause-owed
 penalty-requires-clause-owed c =
-    let loan : Loan = record {
-      terms = c.self.inside.terms;
-      principal = c.self.inside.principal;
-      periods = c.self.inside.periods;
-      day = c.self.inside.day;
-      entries = c.self.inside.entries.items;
-    } in
+    let loan : Loan = c.self.inside.loan in
     let is : total_owed c.deref.result.now ≡ total_owed (schedule_of loan) =
     ap total_owed (c.deref.ensures.value ∙ c.self.invariant.schedule_is) in
     let little = scheduled_owed-le loan.terms loan.principal loan.periods loan.day c.self.invariant.sound.limits in

@@ -9,13 +9,7 @@ use Rattle.mf_account.proofs.account.LoanAccount.place_at.Goals as goal
 
 pub place_in-requires : goal.place_in-requires
 place_in-requires c =
-    let old : Loan = record {
-      terms = c.self.inside.terms;
-      principal = c.self.inside.principal;
-      periods = c.self.inside.periods;
-      day = c.self.inside.day;
-      entries = c.self.inside.entries.items;
-    } in
+    let old : Loan = c.self.inside.loan in
     let there : c.args.at < length old.entries =
     subst (λ (a : Account). c.args.at < length a.loan.entries) (sym c.self.view_is) c.requires.there in
     let stands : (entry_at old.entries c.args.at).reversed ≡ false = subst (λ (a : Account).
@@ -26,22 +20,16 @@ place_in-requires c =
 
 pub returns-clause-within : goal.returns-clause-within
 returns-clause-within c =
-    let size = length-order c.self.inside.entries.items c.self.inside.order.items c.self.invariant.order_is in
+    let size = length-order c.self.inside.loan.entries c.self.inside.order.items c.self.invariant.order_is in
     let same = ap length c.deref.ensures.value in
-    let seen : length (standing_entries c.self.inside.entries.items)
+    let seen : length (standing_entries c.self.inside.loan.entries)
     ≡ length (standing_entries c.args.self.now.loan.entries) =
     ap (λ (a : Account). length (standing_entries a.loan.entries)) c.self.view_is in
     omega (arith, c.place_in.ensures.within, size, same, seen)
 
 pub returns-clause-there : goal.returns-clause-there
 returns-clause-there c =
-    let old : Loan = record {
-      terms = c.self.inside.terms;
-      principal = c.self.inside.principal;
-      periods = c.self.inside.periods;
-      day = c.self.inside.day;
-      entries = c.self.inside.entries.items;
-    } in
+    let old : Loan = c.self.inside.loan in
     let same = ap length c.deref.ensures.value in
     let below : c.place_in.result < length c.self.inside.order.items = omega (arith, c.place_in.ensures.within, same) in
     let here : get_or c.self.inside.order.items c.place_in.result 0 ≡ c.args.at =

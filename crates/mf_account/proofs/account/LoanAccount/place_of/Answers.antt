@@ -9,31 +9,31 @@ use Rattle.mf_account.proofs.account.LoanAccount.place_of.Goals as goal
 
 pub position-requires-clause-within : goal.position-requires-clause-within
 position-requires-clause-within c =
-    subst (λ (o : List ℕ). All (λ at. at < length c.deref.result.now) o) (sym c.deref-2.ensures.value)
-    (subst (λ (e : List Entry). All (λ at. at < length e) c.self.inside.order.items) (sym c.deref.ensures.value)
+    subst (λ (o : List ℕ). All (λ at. at < length c.entries.result.now) o) (sym c.deref.ensures.value)
+    (subst (λ (e : List Entry). All (λ at. at < length e) c.self.inside.order.items) (sym c.entries.ensures)
     c.self.invariant.within)
 
 pub position-requires-clause-ordered : goal.position-requires-clause-ordered
 position-requires-clause-ordered c =
-    let all : entries_at c.deref.result.now c.deref-2.result.now ≡ standing_entries c.self.inside.entries.items =
-    ap (λ e. entries_at e c.deref-2.result.now) c.deref.ensures.value ∙ ap (entries_at c.self.inside.entries.items)
-    c.deref-2.ensures.value ∙ c.self.invariant.order_is in
-    subst IsInOrder (sym all) (in_order-fold [] c.self.inside.entries.items tt)
+    let all : entries_at c.entries.result.now c.deref.result.now ≡ standing_entries c.self.inside.loan.entries =
+    ap (λ e. entries_at e c.deref.result.now) c.entries.ensures ∙ ap (entries_at c.self.inside.loan.entries)
+    c.deref.ensures.value ∙ c.self.invariant.order_is in
+    subst IsInOrder (sym all) (in_order-fold [] c.self.inside.loan.entries tt)
 
 pub returns-clause-within : goal.returns-clause-within
 returns-clause-within c =
-    let size = length-order c.self.inside.entries.items c.self.inside.order.items c.self.invariant.order_is in
-    let same = ap length c.deref-2.ensures.value in
-    let seen : length (standing_entries c.self.inside.entries.items)
+    let size = length-order c.self.inside.loan.entries c.self.inside.order.items c.self.invariant.order_is in
+    let same = ap length c.deref.ensures.value in
+    let seen : length (standing_entries c.self.inside.loan.entries)
     ≡ length (standing_entries c.args.self.now.loan.entries) =
     ap (λ (a : Account). length (standing_entries a.loan.entries)) c.self.view_is in
     omega (arith, c.position.ensures.within, size, same, seen)
 
 pub returns-clause-place : goal.returns-clause-place
 returns-clause-place c =
-    let all : entries_at c.deref.result.now c.deref-2.result.now ≡ standing_entries c.args.self.now.loan.entries =
-    ap (λ e. entries_at e c.deref-2.result.now) c.deref.ensures.value ∙ ap (entries_at c.self.inside.entries.items)
-    c.deref-2.ensures.value ∙ c.self.invariant.order_is
+    let all : entries_at c.entries.result.now c.deref.result.now ≡ standing_entries c.args.self.now.loan.entries =
+    ap (λ e. entries_at e c.deref.result.now) c.entries.ensures ∙ ap (entries_at c.self.inside.loan.entries)
+    c.deref.ensures.value ∙ c.self.invariant.order_is
     ∙ ap (λ (a : Account). standing_entries a.loan.entries) c.self.view_is in
     subst (λ (x : List Entry). order_with c.args.entry.now x ≡ insert x c.position.result c.args.entry.now) all
     c.position.ensures.place

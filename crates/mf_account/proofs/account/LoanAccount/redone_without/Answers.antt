@@ -1,51 +1,50 @@
-use Rattle.std.proofs.Common.{◌≡◌, ℕ, ◌+◌, ◌*◌, ◌<◌, ◌≤◌, ◌++◌, true, List, length, take, drop, arith, ap, sym, subst}
+use Rattle.std.proofs.Common.{◌≡◌, ℕ, ◌+◌, ◌-◌, ◌*◌, ◌<◌, ◌≤◌, ◌++◌, true, List, length, take, drop, arith, ap, sym}
+use Rattle.std.proofs.Common.{subst}
 use Rattle.std.proofs.lemmas.List.{length-set}
 use Rattle.std.proofs.lemmas.List.Elements.{All-take}
 use Rattle.mf_alloc.specs.Rows.{IsCell}
+use Rattle.mf_account.specs.declared.entry.Entry.{Entry}
 use Rattle.mf_account.specs.declared.settled.Settled.{Settled}
 use Rattle.mf_account.specs.Change.{Account}
 use Rattle.mf_account.specs.Safe.{most_kept, IsBounded, IsSafe}
 use Rattle.mf_account.specs.Told.{settled_amount, IsNumberedTo, AreNumberedTo}
-use Rattle.mf_account.specs.Standing.{standing_entries, entry_at, with_mark}
+use Rattle.mf_account.specs.Standing.{entries_at, standing_entries, entry_at, with_mark}
 use Rattle.mf_account.specs.Loan.{Loan, IsSound, settled_of_loan}
 use Rattle.mf_account.specs.Rewind.{IsRedone, state_before, settled_upto}
 use Rattle.mf_account.proofs.SoundLemmas.{sound-reversed}
 use Rattle.mf_account.proofs.TailLemmas.{standing-at}
 use Rattle.mf_account.proofs.OrderLemmas.{length-order}
+use Rattle.mf_account.proofs.RedoneLemmas.{after-named, settled-named, fits-named}
 use Rattle.mf_account.proofs.RedoneLemmas.{standing-without-it, later-is, within-later, redone-from}
 use Rattle.mf_account.proofs.SafeLemmas.{fits-safe, safe-redone}
 use Rattle.mf_account.proofs.account.LoanAccount.redone_without.Goals as goal
 
 pub offset_bounds-deref-place : goal.offset_bounds-deref-place
 offset_bounds-deref-place c =
-    let within : c.args.place < length (standing_entries c.self.inside.entries.items) = subst (λ (a : Account).
+    let within : c.args.place < length (standing_entries c.self.inside.loan.entries) = subst (λ (a : Account).
     c.args.place < length (standing_entries a.loan.entries)) (sym c.self.view_is) c.requires.within in
-    let size = length-order c.self.inside.entries.items c.self.inside.order.items c.self.invariant.order_is in
+    let size = length-order c.self.inside.loan.entries c.self.inside.order.items c.self.invariant.order_is in
     let same = ap length c.deref.ensures.value in
     omega (arith, within, size, same, c.deref.ensures.len, c.self.inside.order.ok)
 
 pub apply_all-requires-clause-few : goal.apply_all-requires-clause-few
 apply_all-requires-clause-few c =
-    let periods : c.self.inside.periods ≡ c.args.self.now.loan.periods =
+    let periods : c.self.inside.loan.periods ≡ c.args.self.now.loan.periods =
     ap (λ (a : Account). a.loan.periods) c.self.view_is in
     omega (arith, c.in_ok-book.ensures.bounded.size, periods, c.self.invariant.sound.limits.most_periods)
 
 pub apply_all-requires-clause-within : goal.apply_all-requires-clause-within
 apply_all-requires-clause-within c =
-    within-later c.self.inside.entries.items c.deref-2.result.now c.self.inside.order.items c.deref.result.now
+    within-later c.self.inside.loan.entries c.entries.result.now c.self.inside.order.items c.deref.result.now
     (c.args.place + 1)
-    (ap length c.deref-2.ensures.value) c.deref.ensures.value c.self.invariant.within
+    (ap length c.entries.ensures) c.deref.ensures.value c.self.invariant.within
 
 pub apply_all-requires-clause-fits : goal.apply_all-requires-clause-fits
 apply_all-requires-clause-fits c =
-    let old : Loan = record {
-      terms = c.self.inside.terms;
-      principal = c.self.inside.principal;
-      periods = c.self.inside.periods;
-      day = c.self.inside.day;
-      entries = c.self.inside.entries.items;
-    } in
+    let old : Loan = c.self.inside.loan in
     let place : ℕ = c.args.place in
+    let later : List Entry = entries_at c.entries.result.now
+    (take (length c.deref.result.now - (place + 1)) (drop (place + 1) c.deref.result.now)) in
     let order : List ℕ = c.self.inside.order.items in
     let within : place < length (standing_entries old.entries) = subst (λ (a : Account). place
     < length (standing_entries a.loan.entries)) (sym c.self.view_is) c.requires.within in
@@ -56,21 +55,22 @@ apply_all-requires-clause-fits c =
     IsBounded a.loan.periods (2 * most_kept) c.in_ok-book.book) (sym c.self.view_is) c.in_ok-book.ensures.bounded in
     let stands = standing-without-it old.periods old.day old.entries at.0 place c.self.invariant.sound.entries
     sound.entries at.1.within within (sym at.1.same) in
-    fits-safe old (with_mark old.entries at.0 true) (drop (place + 1) (standing_entries old.entries)) _ place
+    fits-named old c.strategy-strategy.result later c.in_ok-book.book c.strategy-strategy.ensures
+    (fits-safe old (with_mark old.entries at.0 true) (drop (place + 1) (standing_entries old.entries)) _ place
     c.in_ok-book.book sound stands
-    (later-is old.entries (standing_entries old.entries) c.deref-2.result.now order c.deref.result.now (place + 1)
-    c.deref-2.ensures.value c.deref.ensures.value c.self.invariant.order_is) bounded
+    (later-is old.entries (standing_entries old.entries) c.entries.result.now order c.deref.result.now (place + 1)
+    c.entries.ensures c.deref.ensures.value c.self.invariant.order_is) bounded)
 
 pub returns-clause-redone : goal.returns-clause-redone
 returns-clause-redone c replayed at there same =
-    let old : Loan = record {
-      terms = c.self.inside.terms;
-      principal = c.self.inside.principal;
-      periods = c.self.inside.periods;
-      day = c.self.inside.day;
-      entries = c.self.inside.entries.items;
-    } in
+    let old : Loan = c.self.inside.loan in
     let place : ℕ = c.args.place in
+    let later : List Entry = entries_at c.entries.result.now
+    (take (length c.deref.result.now - (place + 1)) (drop (place + 1) c.deref.result.now)) in
+    let state = after-named old c.strategy-strategy.result later c.in_ok-book.book c.apply_all.new.book
+    c.strategy-strategy.ensures c.in_ok-parts.ensures.state in
+    let own = settled-named old c.strategy-strategy.result later c.in_ok-book.book c.in_ok-parts.parts.items
+    c.strategy-strategy.ensures c.in_ok-parts.ensures.parts in
     let order : List ℕ = c.self.inside.order.items in
     let within : place < length (standing_entries old.entries) = subst (λ (a : Account). place
     < length (standing_entries a.loan.entries)) (sym c.self.view_is) c.requires.within in
@@ -95,20 +95,20 @@ returns-clause-redone c replayed at there same =
     c.apply_all.new.book c.in_ok-book.kept c.in_ok-parts.parts.items) c.self.view_is
     (redone-from old (with_mark old.entries at true) (drop (place + 1) (standing_entries old.entries)) _ place
     c.in_ok-book.kept c.in_ok-book.book c.apply_all.new.book c.in_ok-parts.parts.items stands kept front book_is
-    (later-is old.entries (standing_entries old.entries) c.deref-2.result.now order c.deref.result.now (place + 1)
-    c.deref-2.ensures.value c.deref.ensures.value c.self.invariant.order_is)
-    c.in_ok-parts.ensures.state c.in_ok-parts.ensures.parts)
+    (later-is old.entries (standing_entries old.entries) c.entries.result.now order c.deref.result.now (place + 1)
+    c.entries.ensures c.deref.ensures.value c.self.invariant.order_is)
+    state own)
 
 pub returns-clause-safe : goal.returns-clause-safe
 returns-clause-safe c =
-    let old : Loan = record {
-      terms = c.self.inside.terms;
-      principal = c.self.inside.principal;
-      periods = c.self.inside.periods;
-      day = c.self.inside.day;
-      entries = c.self.inside.entries.items;
-    } in
+    let old : Loan = c.self.inside.loan in
     let place : ℕ = c.args.place in
+    let later : List Entry = entries_at c.entries.result.now
+    (take (length c.deref.result.now - (place + 1)) (drop (place + 1) c.deref.result.now)) in
+    let state = after-named old c.strategy-strategy.result later c.in_ok-book.book c.apply_all.new.book
+    c.strategy-strategy.ensures c.in_ok-parts.ensures.state in
+    let own = settled-named old c.strategy-strategy.result later c.in_ok-book.book c.in_ok-parts.parts.items
+    c.strategy-strategy.ensures c.in_ok-parts.ensures.parts in
     let order : List ℕ = c.self.inside.order.items in
     let within : place < length (standing_entries old.entries) = subst (λ (a : Account). place
     < length (standing_entries a.loan.entries)) (sym c.self.view_is) c.requires.within in
@@ -122,8 +122,8 @@ returns-clause-safe c =
     let kept : ℕ = c.in_ok-book.kept in
     let amount : settled_amount (take kept c.self.inside.settled.items ++ c.in_ok-parts.parts.items) ≤ most_kept =
     subst (λ (x : List Settled). settled_amount (take kept c.self.inside.settled.items ++ x) ≤ most_kept)
-    c.deref-3.ensures.value
-    (subst (λ (a : Account). settled_amount (take kept a.settled ++ c.deref-3.result.now) ≤ most_kept)
+    c.deref-2.ensures.value
+    (subst (λ (a : Account). settled_amount (take kept a.settled ++ c.deref-2.result.now) ≤ most_kept)
     (sym c.self.view_is) (c.is_within_bounds.ensures.parts c.if-not-is_within_bounds.false)) in
     let count : length (with_mark old.entries at.0 true) ≡ length old.entries =
     length-set old.entries at.0 (record (entry_at old.entries at.0) { reversed = true }) in
@@ -135,10 +135,10 @@ returns-clause-safe c =
     ++ c.in_ok-parts.parts.items)) count
     (safe-redone old (with_mark old.entries at.0 true) (drop (place + 1) (standing_entries old.entries)) _ place
     c.in_ok-book.book sound stands
-    (later-is old.entries (standing_entries old.entries) c.deref-2.result.now order c.deref.result.now (place + 1)
-    c.deref-2.ensures.value c.deref.ensures.value c.self.invariant.order_is) bounded
-    c.apply_all.new.book (take kept c.self.inside.settled.items) c.in_ok-parts.parts.items c.in_ok-parts.ensures.state
-    c.in_ok-parts.ensures.parts
+    (later-is old.entries (standing_entries old.entries) c.entries.result.now order c.deref.result.now (place + 1)
+    c.entries.ensures c.deref.ensures.value c.self.invariant.order_is) bounded
+    c.apply_all.new.book (take kept c.self.inside.settled.items) c.in_ok-parts.parts.items state
+    own
     (All-take (λ (s : Settled). IsCell old.periods s.cell) kept c.self.inside.settled.items
     c.self.invariant.safe.placed.cells)
     (All-take (IsNumberedTo (length (with_mark old.entries at.0 true))) kept c.self.inside.settled.items numbers)

@@ -15,4 +15,5 @@ pub returns-clause-small : goal.returns-clause-small
 returns-clause-small c =
     let rows : c.as_slice.result.now ≡ c.self.inside.book.rows =
     c.as_slice.ensures.value ∙ ap (λ (i : Inside). i.book.rows) c.self-inside.view_is in
-    subst AreRowsSmall (sym rows) (rows-small c.self.inside.periods c.self.inside.book c.self.invariant.safe.bounded)
+    subst AreRowsSmall (sym rows) (rows-small c.self.inside.loan.periods c.self.inside.book
+    c.self.invariant.safe.bounded)

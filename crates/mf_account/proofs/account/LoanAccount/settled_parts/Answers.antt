@@ -14,5 +14,5 @@ returns-clause-small c =
 pub returns-clause-numbers : goal.returns-clause-numbers
 returns-clause-numbers c =
     subst (λ (a : Account). AreNumberedTo (length a.loan.entries) c.as_slice.result.now) c.self.view_is
-    (subst (AreNumberedTo (length c.self.inside.entries.items)) (sym c.as_slice.ensures.value)
+    (subst (AreNumberedTo (length c.self.inside.loan.entries)) (sym c.as_slice.ensures.value)
     c.self.invariant.safe.placed.numbers)

@@ -11,22 +11,22 @@ use Rattle.mf_account.proofs.account.LoanAccount.status.Goals as goal
 
 pub status-requires-clause-within : goal.status-requires-clause-within
 status-requires-clause-within c =
-    subst (λ (o : List ℕ). All (λ at. at < length c.deref.result.now) o) (sym c.deref-2.ensures.value)
-    (subst (λ (e : List Entry). All (λ at. at < length e) c.self.inside.order.items) (sym c.deref.ensures.value)
+    subst (λ (o : List ℕ). All (λ at. at < length c.entries.result.now) o) (sym c.deref.ensures.value)
+    (subst (λ (e : List Entry). All (λ at. at < length e) c.self.inside.order.items) (sym c.entries.ensures)
     c.self.invariant.within)
 
 pub status-requires-clause-order : goal.status-requires-clause-order
 status-requires-clause-order c =
-    ap (entries_at c.deref.result.now) c.deref-2.ensures.value
+    ap (entries_at c.entries.result.now) c.deref.ensures.value
     ∙ subst (λ (e : List Entry). entries_at e c.self.inside.order.items ≡ standing_entries e)
-    (sym c.deref.ensures.value) c.self.invariant.order_is
+    (sym c.entries.ensures) c.self.invariant.order_is
 
 pub status-requires-clause-entries : goal.status-requires-clause-entries
 status-requires-clause-entries c = (
-  c.self.inside.periods,
-  c.self.inside.day,
-  subst (AreEntries c.self.inside.periods c.self.inside.day)
-      (sym c.deref.ensures.value) c.self.invariant.sound.entries,
+  c.self.inside.loan.periods,
+  c.self.inside.loan.day,
+  subst (AreEntries c.self.inside.loan.periods c.self.inside.loan.day)
+      (sym c.entries.ensures) c.self.invariant.sound.entries,
 )
 
 pub returns : goal.returns
@@ -35,7 +35,7 @@ returns c =
     λ entries rows overpaid. status_of entries (record { rows = rows; overpaid = overpaid; refunded = 0 }) in
     let overpaid : ℕ = c.book.inside.overpaid in
     c.status.ensures
-    ∙ ap (λ entries. at entries c.deref-3.result.now overpaid) c.deref.ensures.value
-    ∙ ap (λ rows. at c.self.inside.entries.items rows overpaid) c.deref-3.ensures.value
-    ∙ ap (λ (s : State). status_of c.self.inside.entries.items s) c.book.view_is
+    ∙ ap (λ entries. at entries c.deref-2.result.now overpaid) c.entries.ensures
+    ∙ ap (λ rows. at c.self.inside.loan.entries rows overpaid) c.deref-2.ensures.value
+    ∙ ap (λ (s : State). status_of c.self.inside.loan.entries s) c.book.view_is
     ∙ ap (λ (a : Account). status_of a.loan.entries a.state) c.self.view_is

@@ -11,7 +11,7 @@ pub book_sums-requires : goal.book_sums-requires
 book_sums-requires c =
     let rows : c.deref.result.now ≡ c.self.inside.book.rows =
     c.deref.ensures.value ∙ ap (λ (s : State). s.rows) c.book.view_is in
-    subst HasRoom (sym rows) (room-bounded c.self.inside.periods c.self.inside.book c.self.invariant.safe.bounded)
+    subst HasRoom (sym rows) (room-bounded c.self.inside.loan.periods c.self.inside.book c.self.invariant.safe.bounded)
 
 pub returns-clause-value : goal.returns-clause-value
 returns-clause-value c =

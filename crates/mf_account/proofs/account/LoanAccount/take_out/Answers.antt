@@ -1,7 +1,6 @@
 use Rattle.std.proofs.Common.{◌≡◌, ℕ, ◌<◌, ◌≤◌, ◌∙◌, ◌++◌, true, ap, sym, subst, arith, length, take, List}
 use Rattle.std.specs.Prelude.{remove}
 use Rattle.std.proofs.lemmas.List.{length-set}
-use Rattle.mf_account.specs.declared.entry.Entry.{Entry}
 use Rattle.mf_account.specs.declared.settled.Settled.{Settled}
 use Rattle.mf_account.specs.Standing.{standing_entries, with_mark, entry_at}
 use Rattle.mf_account.specs.Change.{Account, IsChange, IsReplayed}
@@ -14,10 +13,10 @@ use Rattle.mf_account.proofs.account.LoanAccount.take_out.Goals as goal
 
 pub remove-requires : goal.remove-requires
 remove-requires c =
-    let within : c.place_at-place.result < length (standing_entries c.self.inside.entries.items) =
+    let within : c.place_at-place.result < length (standing_entries c.self.inside.loan.entries) =
     subst (λ (a : Account). c.place_at-place.result < length (standing_entries a.loan.entries)) (sym c.self.view_is)
     c.place_at-place.ensures.within in
-    let size = length-order c.self.inside.entries.items c.self.inside.order.items c.self.invariant.order_is in
+    let size = length-order c.self.inside.loan.entries c.self.inside.order.items c.self.invariant.order_is in
     omega (arith, within, size, c.self.inside.order.ok)
 
 pub change_to-requires-clause-size : goal.change_to-requires-clause-size
@@ -25,13 +24,7 @@ change_to-requires-clause-size c = c.in_ok-book.ensures.safe.bounded.size
 
 pub invariant_of-self-2 : goal.invariant_of-self-2
 invariant_of-self-2 c =
-    let old : Loan = record {
-      terms = c.self.inside.terms;
-      principal = c.self.inside.principal;
-      periods = c.self.inside.periods;
-      day = c.self.inside.day;
-      entries = c.self.inside.entries.items;
-    } in
+    let old : Loan = c.self.inside.loan in
     let new : Loan = record old { entries = with_mark old.entries c.args.at true } in
     let there : c.args.at < length old.entries =
     subst (λ (a : Account). c.args.at < length a.loan.entries) (sym c.self.view_is) c.requires.there in
@@ -65,12 +58,12 @@ invariant_of-self-2 c =
           (subst (λ (n : ℕ). IsSafe old.periods n c.in_ok-book.book (take c.in_ok-book.kept c.self.inside.settled.items
           ++ c.in_ok-book.parts.items)) count safe);
     } in
-    subst (λ (o : List ℕ). IsKept (record old { entries = c.mark_reversed.new.entries.items }) o
+    subst (λ (o : List ℕ). IsKept c.reverse_entry.new.self o
     c.self.inside.schedule.items c.self.inside.disbursement_fee c.in_ok-book.book c.put_behind.new.settled.items)
     (sym c.remove.ensures.items)
-    (subst (λ (e : List Entry). IsKept (record old { entries = e }) (remove c.self.inside.order.items place)
+    (subst (λ (l : Loan). IsKept l (remove c.self.inside.order.items place)
     c.self.inside.schedule.items c.self.inside.disbursement_fee c.in_ok-book.book c.put_behind.new.settled.items)
-    (sym c.mark_reversed.ensures) kept)
+    (sym c.reverse_entry.ensures) kept)
 
 pub returns-clause-replayed : goal.returns-clause-replayed
 returns-clause-replayed c replayed =
@@ -90,30 +83,19 @@ returns-clause-replayed c replayed =
       settled = c.put_behind.new.settled.items;
       change = c.in_ok-change.change;
     }) = record { state = redone.book_is; settled = settled } in
-    subst (λ (a : Account). IsReplayed (record {
-      loan = record a.loan { entries = c.mark_reversed.new.entries.items };
+    subst (λ (l : Loan). IsReplayed (record {
+      loan = l;
       state = c.in_ok-book.book;
       settled = c.put_behind.new.settled.items;
       change = c.in_ok-change.change;
     }))
-    (sym c.self.view_is)
-    (subst (λ (e : List Entry). IsReplayed (record {
-      loan = record loan { entries = e };
-      state = c.in_ok-book.book;
-      settled = c.put_behind.new.settled.items;
-      change = c.in_ok-change.change;
-    }))
-    (sym (c.mark_reversed.ensures ∙ ap (λ (a : Account). with_mark a.loan.entries c.args.at true) c.self.view_is)) is)
+    (sym (c.reverse_entry.ensures ∙ ap (λ (a : Account). record a.loan {
+      entries = with_mark a.loan.entries c.args.at true;
+    }) c.self.view_is)) is
 
 pub returns-clause-change : goal.returns-clause-change
 returns-clause-change c replayed =
-    let old : Loan = record {
-      terms = c.self.inside.terms;
-      principal = c.self.inside.principal;
-      periods = c.self.inside.periods;
-      day = c.self.inside.day;
-      entries = c.self.inside.entries.items;
-    } in
+    let old : Loan = c.self.inside.loan in
     let new : Loan = record old { entries = with_mark old.entries c.args.at true } in
     let there : c.args.at < length old.entries =
     subst (λ (a : Account). c.args.at < length a.loan.entries) (sym c.self.view_is) c.requires.there in
@@ -132,6 +114,5 @@ returns-clause-change c replayed =
     (subst (λ (a : Account). IsRedone a.loan new c.in_ok-book.book c.in_ok-book.kept c.in_ok-book.parts.items)
     c.self.view_is redone) in
     let same : new.periods ≡ c.args.self.now.loan.periods = ap (λ (a : Account). a.loan.periods) c.self.view_is in
-    subst (λ (e : List Entry). IsChange c.args.self.now.loan (record old { entries = e }) c.in_ok-change.change)
-    (sym c.mark_reversed.ensures)
+    subst (λ (l : Loan). IsChange c.args.self.now.loan l c.in_ok-change.change) (sym c.reverse_entry.ensures)
     (c.in_ok-change.ensures.change replayed new sound same more own)

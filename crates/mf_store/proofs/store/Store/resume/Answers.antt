@@ -9,22 +9,19 @@ use Rattle.mf_store.proofs.PartReadLemmas.{kept_is}
 use Rattle.mf_store.proofs.store.Store.resume.Goals as goal
 
 pub returns-clause-value : goal.returns-clause-value
-returns-clause-value g c clean i s there day =
+returns-clause-value g c clean i s there day rows =
     let account = c.args.account in
     let loan = c.args.loan.now in
     let entries = c.in_ok-entries.entries.items in
     let terms = c.in_ok-terms.terms in
     let before_parts = c.in_ok-parts.ensures.asks.kept.premise clean in
-    let before_rows = c.in_ok-rows.ensures.asks.kept.premise before_parts in
-    let before_entries = c.in_ok-entries.ensures.asks.kept.premise before_rows in
+    let before_entries = c.in_ok-entries.ensures.asks.kept.premise before_parts in
     let named = c.in_ok-named.ensures.asks.kept.same before_entries i s in
-    let entered = c.in_ok-entries.ensures.asks.kept.same before_rows i named in
-    let read = c.in_ok-rows.ensures.asks.kept.same before_parts i entered in
+    let entered = c.in_ok-entries.ensures.asks.kept.same before_parts i named in
     let names = sym (c.in_ok-named.ensures.value before_entries i s) ∙ c.in_ok-terms.ensures.value in
-    let own = c.in_ok-entries.ensures.value before_rows i named in
-    let kept = kept_is i account loan c.args.day entries terms c.in_ok-rows.rows.items c.in_ok-parts.parts.items s.sound
-    there day own names (c.in_ok-rows.ensures.value before_parts i entered)
-    (c.in_ok-parts.ensures.value clean i read) in
+    let own = c.in_ok-entries.ensures.value before_parts i named in
+    let kept = kept_is i account loan c.args.day entries terms c.args.rows.items c.in_ok-parts.parts.items s.sound
+    there day own names rows (c.in_ok-parts.ensures.value clean i entered) in
     IfOk-weaker c.stored-2.result _ (λ resumed. account_at account i ≡ Some resumed)
     (λ a is. account_replayed i account loan c.args.day entries a own
     (ap (λ t. option_map account_by_replay (running_from loan entries (Some c.args.day) t)) names

@@ -1,0 +1,7 @@
+use Rattle.std.proofs.Common.{◌≡◌, take}
+use Rattle.std.specs.Prelude.{sum_by}
+use Rattle.mf_account.proofs.StatusLemmas.{repaid_by}
+use Rattle.mf_account.proofs.statuses.repaid.Given as goal
+
+abbrev pub invariant-loop-entry : goal.invariant-loop-entry
+invariant-loop-entry l = l.total ≡ sum_by repaid_by (take l.entry-index l.entries)
