@@ -1,5 +1,5 @@
 -- The accounts of loans after a change: those that stay, and the one that a commit hands on.
-use Rattle.std.proofs.Common.{◌≡◌, ◌≢◌, ℕ, zero, suc, List, [], ◌∷◌, map, slice_get, Option, None, Some, true, refl, sym}
+use Rattle.std.proofs.Common.{◌≡◌, ◌≢◌, ℕ, zero, suc, List, [], ◌∷◌, slice_get, Option, None, Some, true, refl, sym}
 use Rattle.std.proofs.Common.{ap, ◌∙◌}
 use Rattle.std.specs.Option.{is_some, option_map}
 use Rattle.mf_office.specs.declared.account.Account.{Account}

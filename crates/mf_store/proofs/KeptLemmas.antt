@@ -10,7 +10,7 @@ use Rattle.std.proofs.lemmas.Bool.{false_from_ne_true}
 use Rattle.std.proofs.lemmas.Bool.Decides.{nat_tests}
 use Rattle.std.specs.Prelude.{◌&&◌, not, is_ok}
 use Rattle.std.specs.Cmp.{IsEquivalence, nat_eq_equiv}
-use Rattle.std.proofs.lemmas.Result.{on_ok_weaker, on_err_weaker}
+use Rattle.std.proofs.lemmas.Result.{on_ok_weaker}
 use Rattle.lru.specs.LruCache.{LruCache, lru_cache, put_entries}
 use Rattle.lru.proofs.CallerLemmas.{Contains-lookup_entry, lookup-put_entries}
 use Rattle.sqlite.specs.Held.{Held, state}
@@ -20,7 +20,7 @@ use Rattle.mf_model.specs.declared.store.Counts.{Counts}
 use Rattle.mf_office.specs.declared.staff.Role.{Role}
 use Rattle.mf_office.specs.declared.caller.Caller.{Caller}
 use Rattle.mf_office.specs.declared.account.Account.{Account}
-use Rattle.mf_account.specs.Change.{Account as Kept, no_change}
+use Rattle.mf_account.specs.Change.{Account as Kept}
 use Rattle.mf_catalog.specs.declared.product.Product.{Product}
 use Rattle.mf_base.specs.declared.fault.Fault.{Fault}
 use Rattle.mf_base.specs.declared.fault.Fault.TheVariants.{F20}
@@ -257,18 +257,6 @@ forgotten {K} {V} test new cap v P e h =
     absurd (let never : None ≡ Some v = sym (ap (λ (c : LruCache K V). lookup test c.entries) e) ∙ h in cc)
 
 -- ---- the store's calls
-
--- what is known stays so where there is no news
-known_still : (f : Facts) (i j : Institution) → Tells Nothing i j → AreTrueOf f i → AreTrueOf f j
-known_still f i j t k = record {
-  counts = λ x c e. k.counts x c e ∙ sym (t.counts x);
-  catalogue = λ c e. k.catalogue c e ∙ sym t.catalogue;
-  day = λ d e. k.day d e ∙ sym t.day;
-  roles = λ c r e. t.roles c r (k.roles c r e);
-  keys = λ x l e. t.keys x l (k.keys x l e);
-  products = λ n p e. t.products refl n p (k.products n p e);
-  accounts = λ a x e. t.accounts a x refl (k.accounts a x e);
-}
 
 -- what is known stays so where the account of a loan may be another, of which nothing is known
 pub account_still : (loan : Account) (f : Facts) (i j : Institution)

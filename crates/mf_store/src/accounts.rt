@@ -26,9 +26,7 @@ use mf_model::{Loan, LoanLine, LoanList};
 use mf_office::{Account, OfficeNo};
 use mf_store_changes::put_schedule;
 use mf_store_records::{EntryRow, InstalmentRow, StoreWrite};
-use mf_store_values::{
-    entries_from, instalment_from, is_active, loan_in_row, stored,
-};
+use mf_store_values::{entries_from, instalment_from, is_active, loan_in_row, stored};
 use sqlite::{Alter, Row};
 use std::alloc::Global;
 

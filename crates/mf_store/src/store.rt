@@ -358,8 +358,14 @@ impl<S: Alter> Store<S> {
         ensures { MakesCommit S.Store (AddEntry loan account) self.old self.new result }
     {
         let Account { office, number } = loan;
-        let made = add_entry(alloc, &mut self.connection, Account { office, number }, &account);
-        self.known.learn_commit(alloc, Account { office, number }, account, made.is_ok());
+        let made = add_entry(
+            alloc,
+            &mut self.connection,
+            Account { office, number },
+            &account,
+        );
+        self.known
+            .learn_commit(alloc, Account { office, number }, account, made.is_ok());
         made
     }
 
@@ -376,8 +382,15 @@ impl<S: Alter> Store<S> {
         ensures { MakesCommit S.Store (ReverseEntry loan seq account) self.old self.new result }
     {
         let Account { office, number } = loan;
-        let made = reverse_entry(alloc, &mut self.connection, Account { office, number }, seq, &account);
-        self.known.learn_commit(alloc, Account { office, number }, account, made.is_ok());
+        let made = reverse_entry(
+            alloc,
+            &mut self.connection,
+            Account { office, number },
+            seq,
+            &account,
+        );
+        self.known
+            .learn_commit(alloc, Account { office, number }, account, made.is_ok());
         made
     }
 }

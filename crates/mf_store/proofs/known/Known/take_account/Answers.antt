@@ -1,6 +1,5 @@
-use Rattle.std.proofs.Common.{◌≡◌, Some, sym, ◌∙◌}
-use Rattle.mf_model.specs.Institution.{Institution}
-use Rattle.mf_store.specs.Facts.{AreTrueOf, account_key}
+use Rattle.std.proofs.Common.{sym, ◌∙◌}
+use Rattle.mf_store.specs.Facts.{account_key}
 use Rattle.mf_store.proofs.KeptLemmas.{account_gone, accounts_left}
 use Rattle.mf_store.proofs.known.Known.take_account.Goals as goal
 
