@@ -126,6 +126,14 @@ fn copied_product(product: &Product) -> Option<Product>
     product.clone().ok()
 }
 
+/// The same account, with no change told of it.
+fn without_change(alloc: Global, mut account: LoanAccount) -> LoanAccount
+    ensures { result ≡ record account { change = no_change } }
+{
+    account.forget_change(alloc);
+    account
+}
+
 impl Known {
     /// Nothing is known, and there is room for what comes to be. The error is F20.
     pub fn nothing(alloc: Global) -> Result<Known, Fault>
@@ -282,7 +290,7 @@ impl Known {
         &mut self,
         alloc: Global,
         loan: Account,
-        mut account: LoanAccount,
+        account: LoanAccount,
         made: bool,
     )
         ensures same { (i j : Institution) → AreTrueOf self.old i → Tells (news.Account loan) i j
@@ -292,8 +300,8 @@ impl Known {
         let Account { office, number } = loan;
         let _was = self.take_account(Account { office, number });
         if made {
-            account.forget_change(alloc);
-            self.learn_account(Account { office, number }, account);
+            let now = without_change(alloc, account);
+            self.learn_account(Account { office, number }, now);
         }
     }
 
