@@ -3,12 +3,14 @@ use Rattle.std.proofs.Common.{◌≡◌, ◌≢◌, ◌⊎◌, inl, inr, ◌-◌
 use Rattle.std.proofs.Common.{List, [], take, Option, None, Some, Result, Ok, Err, OnOk, OnErr, IsSome, IsTrue, IfErr}
 use Rattle.std.proofs.Common.{IsOk, refl, sym, ap, ap₂, ◌∙◌, subst, arith, nat_eq, ◌==◌}
 use Rattle.std.specs.Option.{option_map_or}
-use Rattle.std.specs.Map.{lookup, lookup_entry, remove_entry}
+use Rattle.std.specs.Map.{keys_of, lookup, lookup_entry, remove_entry}
+use Rattle.std.specs.List.{IsDistinct}
+use Rattle.std.proofs.lemmas.Map.{lookup-remove_entry}
 use Rattle.std.proofs.lemmas.Bool.{false_from_ne_true}
 use Rattle.std.proofs.lemmas.Bool.Decides.{nat_tests}
-use Rattle.std.specs.Prelude.{◌&&◌}
+use Rattle.std.specs.Prelude.{◌&&◌, not, is_ok}
 use Rattle.std.specs.Cmp.{IsEquivalence, nat_eq_equiv}
-use Rattle.std.proofs.lemmas.Result.{on_ok_weaker, on_err_weaker}
+use Rattle.std.proofs.lemmas.Result.{on_ok_weaker}
 use Rattle.lru.specs.LruCache.{LruCache, lru_cache, put_entries}
 use Rattle.lru.proofs.CallerLemmas.{Contains-lookup_entry, lookup-put_entries}
 use Rattle.sqlite.specs.Held.{Held, state}
@@ -17,16 +19,19 @@ use Rattle.mf_model.specs.Institution.{Institution, product_in}
 use Rattle.mf_model.specs.declared.store.Counts.{Counts}
 use Rattle.mf_office.specs.declared.staff.Role.{Role}
 use Rattle.mf_office.specs.declared.caller.Caller.{Caller}
+use Rattle.mf_office.specs.declared.account.Account.{Account}
+use Rattle.mf_account.specs.Change.{Account as Kept}
 use Rattle.mf_catalog.specs.declared.product.Product.{Product}
 use Rattle.mf_base.specs.declared.fault.Fault.{Fault}
 use Rattle.mf_base.specs.declared.fault.Fault.TheVariants.{F20}
 use Rattle.mf_model.specs.declared.commit.Commit.{Commit}
-use Rattle.mf_model.specs.Store.{Commits, after_commit, counts_at, role_of}
+use Rattle.mf_model.specs.Store.{Commits, IsAdmitted, after_commit, account_at, counts_at, role_of}
 use Rattle.mf_store_records.specs.Calls.{OnlyFaultsShut}
-use Rattle.mf_store.specs.Facts.{Facts, KnownStore, AreTrueOf, caller_key, same_key, nothing_known}
+use Rattle.mf_store.specs.Facts.{Facts, KnownStore, AreTrueOf, account_key, caller_key, same_key, nothing_known}
 use Rattle.mf_store_accounts.specs.Flat.{key_at}
 use Rattle.mf_store.specs.Learning.{Tells}
 use Rattle.mf_store.specs.declared.known.News.TheVariants.{Nothing, OfficeCounts, BusinessDay}
+use Rattle.mf_store.specs.declared.known.News.TheVariants as news
 use Rattle.mf_store_commits.specs.Tabled.{IsTabled, HasGoodDisk, LeavesTables, StayTabled}
 use Rattle.mf_store.specs.Stands.{StandsFor, IsClean, Leaves, IsOpen, IsOpenUntil, Stays, AsksTables, MayAskTables}
 
@@ -129,8 +134,8 @@ pub some_is : {A : Type 0} {a b : A} → Some a ≡ Some b → b ≡ a
 some_is h = cc
 
 -- what is found once something was kept, or could not be
-pub put_found : {K V E : Type 0} (eq : K → K → Bool) (exact : (a b : K) → eq a b ≡ true → a ≡ b)
-    (laws : IsEquivalence eq) (old new : LruCache K V) (x : K) (v : V) (r : Result (Option V) E)
+pub put_found : {K V R E : Type 0} (eq : K → K → Bool) (exact : (a b : K) → eq a b ≡ true → a ≡ b)
+    (laws : IsEquivalence eq) (old new : LruCache K V) (x : K) (v : V) (r : Result R E)
     → OnOk r (new ≡ lru_cache (put_entries eq old x v) old.cap) → OnErr r (new ≡ old)
     → (y : K) (w : V) → lookup (eq y) new.entries ≡ Some w → ((x ≡ y) × (w ≡ v)) ⊎ (lookup (eq y) old.entries ≡ Some w)
 put_found {K} {V} eq exact laws old new x v (Ok o) ok err y w h = go (eq x y) refl
@@ -202,24 +207,97 @@ products_learnt old new x product r i ok err so known n p h =
       | inr before ↦ known n p before
     ]
 
+pub accounts_learnt : {R E : Type 0} (old new : LruCache (ℕ × ℕ) Kept) (loan : Account) (account : Kept)
+    (r : Result R E) (i : Institution)
+    → OnOk r (new ≡ lru_cache (put_entries same_key old (account_key loan) account) old.cap) → OnErr r (new ≡ old)
+    → account_at loan i ≡ Some account
+    → ((a : Account) (x : Kept) → lookup (same_key (account_key a)) old.entries ≡ Some x → account_at a i ≡ Some x)
+    → (a : Account) (x : Kept) → lookup (same_key (account_key a)) new.entries ≡ Some x → account_at a i ≡ Some x
+accounts_learnt old new loan account r i ok err so known a x h =
+    elim (put_found same_key key_exact key_laws old new (account_key loan) account r ok err (account_key a) x h) [
+      | inl same ↦ sym (λ k. account_at (record { office = (same.0 k).0; number = (same.0 k).1 }) i) ∙ so
+          ∙ ap Some (sym same.1)
+      | inr before ↦ known a x before
+    ]
+
+-- a key that is taken out is there no more, and the others find what they found
+key_gone : {V : Type 0} (k : ℕ × ℕ) (es : List ((ℕ × ℕ) × V)) → IsDistinct same_key (keys_of es)
+    → lookup (same_key k) (remove_entry (same_key k) es) ≡ None
+key_gone {V} k es apart = lookup-remove_entry key_laws (same_key k) (λ x y is. ap (λ z. same_key z y)
+    (key_exact k x is)) k es apart ∙ ap (λ b. cond {A = Option V} b None (lookup (same_key k) es)) (key_laws.refl k)
+
+key_stays : {V : Type 0} (k q : ℕ × ℕ) (es : List ((ℕ × ℕ) × V)) (v : V) → IsDistinct same_key (keys_of es)
+    → lookup (same_key q) (remove_entry (same_key k) es) ≡ Some v → lookup (same_key q) es ≡ Some v
+key_stays {V} k q es v apart h = go (same_key k q) (sym (lookup-remove_entry key_laws (same_key k) (λ x y is. ap
+    (λ z. same_key z y) (key_exact k x is)) q es apart) ∙ h)
+  where
+    go : (b : Bool) → cond {A = Option V} b None (lookup (same_key q) es) ≡ Some v → lookup (same_key q) es ≡ Some v
+    go true h = absurd (let never : None ≡ Some v = h in cc)
+    go false h = h
+
+-- the accounts that are left once one is taken out
+pub accounts_left : (old new : LruCache (ℕ × ℕ) Kept) (k : ℕ × ℕ) (cap : ℕ) (i : Institution)
+    → IsDistinct same_key (keys_of old.entries) → new ≡ lru_cache (remove_entry (same_key k) old.entries) cap
+    → ((a : Account) (x : Kept) → lookup (same_key (account_key a)) old.entries ≡ Some x → account_at a i ≡ Some x)
+    → (a : Account) (x : Kept) → lookup (same_key (account_key a)) new.entries ≡ Some x → account_at a i ≡ Some x
+accounts_left old new k cap i apart is known a x h = known a x (key_stays k (account_key a) old.entries x apart
+    (sym (ap (λ (n : LruCache (ℕ × ℕ) Kept). lookup (same_key (account_key a)) n.entries) is) ∙ h))
+
+-- and that one is none of them
+pub account_gone : (old new : LruCache (ℕ × ℕ) Kept) (k : ℕ × ℕ) (cap : ℕ)
+    → IsDistinct same_key (keys_of old.entries) → new ≡ lru_cache (remove_entry (same_key k) old.entries) cap
+    → lookup (same_key k) new.entries ≡ None
+account_gone old new k cap apart is =
+    ap (λ (n : LruCache (ℕ × ℕ) Kept). lookup (same_key k) n.entries) is ∙ key_gone k old.entries apart
+
 -- nothing is found once all is forgotten
-pub forgotten : {V : Type 0} (new : LruCache ℕ V) (cap n : ℕ) (v : V) (P : Type 0) → new ≡ lru_cache [] cap
-    → lookup (nat_eq n) new.entries ≡ Some v → P
-forgotten {V} new cap n v P e h =
-    absurd (let never : None ≡ Some v = sym (ap (λ (c : LruCache ℕ V). lookup (nat_eq n) c.entries) e) ∙ h in cc)
+pub forgotten : {K V : Type 0} (test : K → Bool) (new : LruCache K V) (cap : ℕ) (v : V) (P : Type 0)
+    → new ≡ lru_cache [] cap → lookup test new.entries ≡ Some v → P
+forgotten {K} {V} test new cap v P e h =
+    absurd (let never : None ≡ Some v = sym (ap (λ (c : LruCache K V). lookup test c.entries) e) ∙ h in cc)
 
 -- ---- the store's calls
 
--- what is known stays so where there is no news
-known_still : (f : Facts) (i j : Institution) → Tells Nothing i j → AreTrueOf f i → AreTrueOf f j
-known_still f i j t k = record {
+-- what is known stays so where the account of a loan may be another, of which nothing is known
+pub account_still : (loan : Account) (f : Facts) (i j : Institution)
+    → lookup (same_key (account_key loan)) f.accounts ≡ None → AreTrueOf f i → Tells (news.Account loan) i j
+    → AreTrueOf f j
+account_still loan f i j gone k t = record {
   counts = λ x c e. k.counts x c e ∙ sym (t.counts x);
   catalogue = λ c e. k.catalogue c e ∙ sym t.catalogue;
   day = λ d e. k.day d e ∙ sym t.day;
   roles = λ c r e. t.roles c r (k.roles c r e);
   keys = λ x l e. t.keys x l (k.keys x l e);
   products = λ n p e. t.products refl n p (k.products n p e);
+  accounts = λ a x e. t.accounts a x (another a x e) (k.accounts a x e);
 }
+  where
+    another : (a : Account) (x : Kept) → lookup (same_key (account_key a)) f.accounts ≡ Some x
+        → not (same_key (account_key loan) (account_key a)) ≡ true
+    another a x e = go (same_key (account_key loan) (account_key a)) refl
+      where
+        go : (b : Bool) → same_key (account_key loan) (account_key a) ≡ b → not b ≡ true
+        go true is = absurd (let never : None ≡ Some x = sym gone
+            ∙ ap (λ k. lookup (same_key k) f.accounts) (key_exact (account_key loan) (account_key a) is) ∙ e in cc)
+        go false is = refl
+
+-- nothing is new of a loan
+tells_same : (loan : Account) (i : Institution) → Tells (news.Account loan) i i
+tells_same loan i = record {
+  counts = λ y. refl;
+  catalogue = refl;
+  day = refl;
+  roles = λ c r h. h;
+  keys = λ x k h. h;
+  products = λ t n p h. h;
+  accounts = λ a x t h. h;
+}
+
+-- what holds where a call gave up
+unmade : {A E : Type 0} {P Q : Type 0} (r : Result A E) → (((C : Type 0) → IsTrue (is_ok r) → C) → P → Q) → OnErr r P
+    → OnErr r Q
+unmade (Ok x) f p = tt
+unmade (Err e) f p = f (λ C made. absurd (true≢false (sym made))) p
 
 pub any_err : {A E : Type 0} (r : Result A E) (P : Type 0) → P → OnErr r P
 any_err (Ok x) P p = tt
@@ -260,20 +338,22 @@ module _ {S : Type 0} (g : Ghosts S) where
   known_unmade old new f same i s = let t = same i (tabled g (record { connection = old; known = f }) i s) in
       record { sound = t.sound; serves = t.serves; knows = s.knows }
 
-  -- a commit over the tables, of which there is nothing new to know
-  pub known_commits : (commit : Commit) (old new : Held S) (f : Facts) (r : Result (Unit {0}) Fault)
-      → ((i : Institution) → Tells Nothing i (after_commit commit i)) → Commits (IsTabled g) (HasGoodDisk g)
-      (LeavesTables g) commit old new r
+  -- a commit over the tables that may change a loan's account, which is known then where the commit was made
+  pub account_commits : (commit : Commit) (loan : Account) (account : Kept) (old new : Held S) (f e : Facts)
+      (r : Result (Unit {0}) Fault) → ((i : Institution) → Tells (news.Account loan) i (after_commit commit i))
+      → ((i : Institution) → IsAdmitted commit i → account_at loan (after_commit commit i) ≡ Some account)
+      → ((i j : Institution) → AreTrueOf f i → Tells (news.Account loan) i j → (IsTrue (is_ok r) → account_at loan j
+      ≡ Some account) → AreTrueOf e j) → Commits (IsTabled g) (HasGoodDisk g) (LeavesTables g) commit old new r
       → Commits (StandsFor g) (IsClean g) (Leaves g) commit (record { connection = old; known = f })
-      (record { connection = new; known = f }) r
-  known_commits commit old new f r tells c = record {
+      (record { connection = new; known = e }) r
+  account_commits commit loan account old new f e r tells is learns c = record {
     premise = c.premise;
-    made = λ clean i s admitted. on_ok_weaker r (λ t. known_made old new f f i (after_commit commit i) s t
-        (known_still f i (after_commit commit i) (tells i) s.knows))
+    made = λ clean i s admitted. on_ok_weaker r (λ t. known_made old new f e i (after_commit commit i) s t
+        (learns i (after_commit commit i) s.knows (tells i) (λ _. is i admitted)))
         (c.made clean i (tabled g (record { connection = old; known = f }) i s) admitted);
     kept = λ clean i s admitted. c.kept clean i (tabled g (record { connection = old; known = f }) i s) admitted;
-    same = λ clean i s. on_err_weaker r (λ t. known_made old new f f i i s t s.knows)
-        (c.same clean i (tabled g (record { connection = old; known = f }) i s));
+    same = λ clean i s. unmade r (λ never t. known_made old new f e i i s t (learns i i s.knows (tells_same loan i)
+        (λ made. never _ made))) (c.same clean i (tabled g (record { connection = old; known = f }) i s));
     gives_up = c.gives_up;
     stop = λ clean i is s admitted l. c.stop clean i is (tabled g (record { connection = old; known = f }) i s) admitted
         l;
@@ -292,6 +372,7 @@ module _ {S : Type 0} (g : Ghosts S) where
       roles = λ c r e. absurd (let k : None ≡ Some r = e in cc);
       keys = λ x l e. absurd (let k : None ≡ Some l = e in cc);
       products = λ n p e. absurd (let k : None ≡ Some p = e in cc);
+      accounts = λ a x e. absurd (let k : None ≡ Some x = e in cc);
     });
   }
 
@@ -335,6 +416,7 @@ tells_counts x c i is = record {
   roles = λ c r h. h;
   keys = λ x k h. h;
   products = λ t n p h. h;
+  accounts = λ a x t h. h;
 }
   where
     go : (y : ℕ) (b : Bool) → (x == y) ≡ b → counts_at y i ≡ cond b c (counts_at y i)
@@ -349,4 +431,5 @@ tells_day d i is = record {
   roles = λ c r h. h;
   keys = λ x k h. h;
   products = λ t n p h. h;
+  accounts = λ a x t h. h;
 }

@@ -1,5 +1,6 @@
 pub mod KeptLemmas
 pub mod LookLemmas
+pub mod AccountLemmas
 pub mod NewsLemmas
 pub mod UseLemmas
 pub mod FirstLemmas

@@ -1,7 +1,7 @@
 -- What each commit tells of what may be known.
 use Rattle.std.proofs.Common.{◌≡◌, ◌≢◌, ◌⊎◌, inl, inr, ◌+◌, ◌-◌, ℕ, map, find, slice_get, Bool, true, false, cond, List}
 use Rattle.std.proofs.Common.{[], ◌∷◌, ◌++◌, length, length-append, Option, None, Some, refl, sym, ap, ◌∙◌, arith, ◌==◌}
-use Rattle.std.proofs.Common.{true≢false}
+use Rattle.std.proofs.Common.{true≢false, not}
 use Rattle.std.specs.Option.{is_some, option_map}
 use Rattle.std.proofs.lemmas.Bool.Decides.{nat_tests}
 use Rattle.mf_office.specs.declared.staff.Role.{Role}
@@ -17,23 +17,28 @@ use Rattle.mf_model.specs.declared.store.CatalogueCounts.{CatalogueCounts}
 use Rattle.mf_model.specs.declared.commit.Commit.TheVariants.{AddOffice, AddStaff, AddClient, SetDay, AddCharge}
 use Rattle.mf_model.specs.declared.commit.Commit.TheVariants.{AddProduct, RetireProduct, AddLoan, SetStage, AddEntry}
 use Rattle.mf_model.specs.declared.commit.Commit.TheVariants.{ReverseEntry}
-use Rattle.mf_model.specs.Institution.{Institution, Charge, Offer, Office, Rows, Staff, item_numbered, product_of}
+use Rattle.mf_model.specs.Institution.{Institution, Charge, Ledger, Offer, Office, Rows, Staff, item_numbered}
+use Rattle.mf_model.specs.Institution.{product_of}
 use Rattle.mf_model.specs.Institution.{office_at, with_rows, with_office, new_office, after, Rows_become}
+use Rattle.mf_model.specs.Catalogue.{product_retired}
 use Rattle.mf_model.specs.Desk.{staff_added, client_added, loan_added, loan_staged, loan_entered}
 use Rattle.mf_account.specs.Change.{Account as Kept}
 use Rattle.mf_model.specs.Loans.{with_stage, with_entries}
-use Rattle.mf_model.specs.Store.{after_commit, rows_of, rows_at, counts_at, catalogue_counts, role_of}
+use Rattle.mf_model.specs.Store.{after_commit, rows_of, rows_at, counts_at, catalogue_counts, ledger_at, role_of}
 use Rattle.mf_model.specs.Sound.{IsSound}
 use Rattle.mf_model.specs.Tree.{is_there, parent_of}
 use Rattle.mf_model.proofs.Confined.{others_stay, old_stay}
-use Rattle.mf_model.proofs.Growing.{length_with, numbered_push}
+use Rattle.mf_model.proofs.Growing.{length_with, numbered_push, numbered_with, terms_charge, terms_push, terms_with}
 use Rattle.mf_model.proofs.Offices.{is_there_with_rows}
 use Rattle.mf_store_records.specs.declared.offices.OfficeRow.{OfficeRow}
 use Rattle.mf_store_records.specs.Rows.{is_office}
 use Rattle.mf_store_accounts.specs.Flat.{key_at, office_under}
+use Rattle.mf_store.specs.Facts.{account_key, same_key}
 use Rattle.mf_store.specs.Learning.{Tells}
 use Rattle.mf_store.specs.declared.known.News.TheVariants.{Nothing, OfficeCounts, Catalogue, BusinessDay, Retirement}
+use Rattle.mf_store.specs.declared.known.News.TheVariants as news
 use Rattle.mf_store_changes.proofs.CommitLemmas.{none_there, number_at, offices-with_rows, office_key_kept}
+use Rattle.mf_store.proofs.AccountLemmas.{account_kept, others_numbered}
 use Rattle.mf_store.proofs.LookLemmas.{office_by_number}
 use Rattle.mf_store_changes.proofs.SoundLemmas.{own_rows}
 
@@ -124,18 +129,31 @@ keys_kept : (x : ℕ) (new : Rows) (i : Institution) (y : ℕ) (k : List ℕ) �
 keys_kept x new i y k h = key_by_rows y (after (Rows_become x new) i)
     ∙ sym (ap (key_in y) (offices-with_rows x new i.offices)) ∙ sym (key_by_rows y i) ∙ h
 
+-- a loan of an office stays, where the rows that its office comes to have it
+ledgers_kept : (x : ℕ) (new : Rows) (i : Institution) (a : Account) → (x ≡ a.office → (l : Ledger)
+    → item_numbered (rows_at x i).loans a.number ≡ Some l → item_numbered new.loans a.number ≡ Some l)
+    → (l : Ledger) → ledger_at a i ≡ Some l → ledger_at a (after (Rows_become x new) i) ≡ Some l
+ledgers_kept x new i a keeps l h = elim (rows_after x new i a.office) [
+  | inl e ↦ ap (λ (rows : Rows). item_numbered rows.loans a.number) e ∙ h
+  | inr e ↦ ap (λ (rows : Rows). item_numbered rows.loans a.number) e.1
+      ∙ keeps e.0 l (ap (λ z. item_numbered (rows_at z i).loans a.number) e.0 ∙ h)
+]
+
 -- the rows of an office that is there become others
 rows_tell : (a x : ℕ) (new : Rows) (k : Counts) (i : Institution) → a ≡ x → is_there i.offices x ≡ true
     → k ≡ counts_in new → ((n : ℕ) (s : Staff) → item_numbered (rows_at x i).staff n ≡ Some s
     → item_numbered new.staff n ≡ Some s)
+    → ((n : ℕ) (l : Ledger) → item_numbered (rows_at x i).loans n ≡ Some l → item_numbered new.loans n ≡ Some l)
     → Tells (OfficeCounts a k) i (after (Rows_become x new) i)
-rows_tell a x new k i e there is keeps = record {
+rows_tell a x new k i e there is keeps loans = record {
   counts = λ y. go y (a == y) refl;
   catalogue = refl;
   day = refl;
   roles = roles_kept x new i keeps;
   keys = keys_kept x new i;
   products = λ t n p h. h;
+  accounts = λ loan account t. account_kept loan i (after (Rows_become x new) i) (λ n t h. h) (ledgers_kept x new i loan
+      (λ same. loans loan.number)) account;
 }
   where
     go : (y : ℕ) (b : Bool) → (a == y) ≡ b → counts_in (rows_of (office_at y (with_rows x new i.offices)))
@@ -147,21 +165,31 @@ rows_tell a x new k i e there is keeps = record {
     go y false h = let ne : y ≢ x =
         grind (arith, nat_tests) in ap (λ o. counts_in (rows_of o)) (others_stay x y new i.offices ne)
 
--- the rows of an office become others, as many of each kind
-rows_tell_nothing : (x : ℕ) (new : Rows) (i : Institution) → counts_in new ≡ counts_at x i
-    → ((n : ℕ) (s : Staff) → item_numbered (rows_at x i).staff n ≡ Some s → item_numbered new.staff n ≡ Some s)
-    → Tells Nothing i (after (Rows_become x new) i)
-rows_tell_nothing x new i is keeps = record {
+-- the rows of an office become others, as many of each kind, and only this loan is another
+rows_tell_account : (loan : Account) (new : Rows) (i : Institution) → counts_in new ≡ counts_at loan.office i
+    → ((n : ℕ) (s : Staff) → item_numbered (rows_at loan.office i).staff n ≡ Some s → item_numbered new.staff n
+    ≡ Some s) → ((n : ℕ) (l : Ledger) → item_numbered (rows_at loan.office i).loans n ≡ Some l → n ≢ loan.number
+    → item_numbered new.loans n ≡ Some l)
+    → Tells (news.Account loan) i (after (Rows_become loan.office new) i)
+rows_tell_account loan new i is keeps loans = record {
   counts = counts;
   catalogue = refl;
   day = refl;
-  roles = roles_kept x new i keeps;
-  keys = keys_kept x new i;
+  roles = roles_kept loan.office new i keeps;
+  keys = keys_kept loan.office new i;
   products = λ t n p h. h;
+  accounts = λ a account t. account_kept a i (after (Rows_become loan.office new) i) (λ n t h. h) (ledgers_kept
+      loan.office new i a (λ same l at. loans a.number l at (another a same t))) account;
 }
   where
-    counts : (y : ℕ) → counts_at y (after (Rows_become x new) i) ≡ counts_at y i
-    counts y = elim (rows_after x new i y) [
+    another : (a : Account) → loan.office ≡ a.office → not (same_key (account_key loan) (account_key a)) ≡ true
+        → a.number ≢ loan.number
+    another a same t e =
+        let is : same_key (account_key loan) (account_key a) ≡ true = grind (arith, nat_tests) in
+        true≢false (sym t ∙ ap not is)
+
+    counts : (y : ℕ) → counts_at y (after (Rows_become loan.office new) i) ≡ counts_at y i
+    counts y = elim (rows_after loan.office new i y) [
       | inl e ↦ ap counts_in e
       | inr e ↦ ap counts_in e.1 ∙ is ∙ ap (λ z. counts_at z i) e.0
     ]
@@ -180,6 +208,7 @@ staff_tells a x name role i k e there is =
       loans = length (rows_at x i).loans;
     }))
     (λ n s h. numbered_push (rows_at x i).staff (record { name = name; role = role }) n s h)
+    (λ n l h. h)
 
 pub client_tells : (a x : ℕ) (name : List ℕ) (i : Institution) (k : Counts) → a ≡ x → is_there i.offices x ≡ true
     → k ≡ counts_at a i
@@ -194,7 +223,7 @@ client_tells a x name i k e there is =
       clients = one_more (rows_at x i).clients name t;
       loans = length (rows_at x i).loans;
     }))
-    (λ n s h. h)
+    (λ n s h. h) (λ n l h. h)
 
 pub loan_tells : (a x : ℕ) (l : Loan) (i : Institution) (k : Counts) → a ≡ x → is_there i.offices x ≡ true
     → k ≡ counts_at a i
@@ -209,35 +238,35 @@ loan_tells a x l i k e there is =
       clients = length (rows_at x i).clients;
       loans = one_more (rows_at x i).loans (record { loan = l; entries = [] }) t;
     }))
-    (λ n s h. h)
+    (λ n s h. h) (λ n a h. numbered_push (rows_at x i).loans (record { loan = l; entries = [] }) n a h)
 
-pub stage_tells : (account : Account) (stage : Stage) (i : Institution)
-    → Tells Nothing i (after_commit (SetStage account stage) i)
-stage_tells account stage i =
-    let rows = rows_at account.office i in
-    rows_tell_nothing account.office (loan_staged account.number stage rows) i
+pub stage_tells : (loan : Account) (stage : Stage) (i : Institution)
+    → Tells (news.Account loan) i (after_commit (SetStage loan stage) i)
+stage_tells loan stage i =
+    let rows = rows_at loan.office i in
+    rows_tell_account loan (loan_staged loan.number stage rows) i
     (λ t. record {
       staff = length rows.staff;
       clients = length rows.clients;
-      loans = length_with account.number (with_stage stage) rows.loans t;
+      loans = length_with loan.number (with_stage stage) rows.loans t;
     })
-    (λ n s h. h)
+    (λ n s h. h) (λ n l h. others_numbered loan.number n (with_stage stage) rows.loans l h)
 
 pub entry_tells : (loan : Account) (account : Kept) (i : Institution)
-    → Tells Nothing i (after_commit (AddEntry loan account) i)
+    → Tells (news.Account loan) i (after_commit (AddEntry loan account) i)
 entry_tells loan account i =
     let rows = rows_at loan.office i in
-    rows_tell_nothing loan.office (loan_entered loan.number account.loan.entries rows) i
+    rows_tell_account loan (loan_entered loan.number account.loan.entries rows) i
     (λ t. record {
       staff = length rows.staff;
       clients = length rows.clients;
       loans = length_with loan.number (with_entries account.loan.entries) rows.loans t;
     })
-    (λ n s h. h)
+    (λ n s h. h) (λ n l h. others_numbered loan.number n (with_entries account.loan.entries) rows.loans l h)
 
 -- a reversal changes the same rows
 pub reversal_tells : (loan : Account) (seq : ℕ) (account : Kept) (i : Institution)
-    → Tells Nothing i (after_commit (ReverseEntry loan seq account) i)
+    → Tells (news.Account loan) i (after_commit (ReverseEntry loan seq account) i)
 reversal_tells loan seq account i = entry_tells loan account i
 
 new_rows : (new : Office) (fs : List Office) → office_at new.number fs ≡ None
@@ -254,6 +283,8 @@ office_tells x parent name i sound none = record {
   roles = λ c r h. role_numbered c at ∙ ap (λ rs. role_in rs c.staff) (rows c.office) ∙ sym (role_numbered c i) ∙ h;
   keys = keys;
   products = λ t n p h. h;
+  accounts = λ a account t. account_kept a i at (λ n t h. h) (λ l h. ap (λ (rs : Rows). item_numbered rs.loans a.number)
+      (rows a.office) ∙ h) account;
 }
   where
     new : Office
@@ -293,10 +324,10 @@ office_tells x parent name i sound none = record {
             ∙ ap (λ z. Some (key_of qs z)) number ∙ ap Some (office_key_kept x parent name i sound none y there)
             ∙ ap (λ z. Some (key_of ps z)) (sym number) ∙ g
 
-pub charge_tells : (c : Charge) (i : Institution) (k : CatalogueCounts) → k ≡ catalogue_counts i
+pub charge_tells : (c : Charge) (i : Institution) (k : CatalogueCounts) → IsSound i → k ≡ catalogue_counts i
     → Tells (Catalogue (record { charges = k.charges + 1; products = k.products })) i
     (after_commit (AddCharge c.name c.kind c.calc c.value) i)
-charge_tells c i k is = record {
+charge_tells c i k sound is = record {
   counts = λ y. refl;
   catalogue = sym ((λ t. record { charges = (is t).charges + 1; products = (is t).products })
       ∙ (λ t. record { charges = one_more i.catalogue.charges c t; products = length i.catalogue.products }));
@@ -304,6 +335,8 @@ charge_tells c i k is = record {
   roles = λ c r h. h;
   keys = λ x k h. h;
   products = λ t n p h. h;
+  accounts = λ a account t. account_kept a i (after_commit (AddCharge c.name c.kind c.calc c.value) i)
+      (λ n t. terms_charge i.catalogue c n t sound.catalogue.products) (λ l h. h) account;
 }
 
 product_stays : (products : List Offer) (new : Offer) (n : ℕ) (p : Product) → option_map (product_of n)
@@ -329,6 +362,8 @@ product_tells members i k is = record {
   roles = λ c r h. h;
   keys = λ x k h. h;
   products = λ t n p h. product_stays i.catalogue.products (record { members = members; retired = false }) n p h;
+  accounts = λ a account t. account_kept a i (after_commit (AddProduct members) i)
+      (terms_push i.catalogue (record { members = members; retired = false })) (λ l h. h) account;
 }
 
 pub retired_tells : (n : ℕ) (i : Institution) → Tells Retirement i (after_commit (RetireProduct n) i)
@@ -342,6 +377,9 @@ retired_tells n i = record {
   roles = λ c r h. h;
   keys = λ x k h. h;
   products = λ t. absurd (true≢false (sym t));
+  accounts = λ a account t. account_kept a i (after_commit (RetireProduct n) i) (λ m t. terms_with i.catalogue
+      (product_retired n i.catalogue).products m t (numbered_with (λ (p : Offer). p.members) n
+      (λ (p : Offer). record p { retired = true }) i.catalogue.products (λ p. refl) m)) (λ l h. h) account;
 }
 
 pub day_tells : (day : ℕ) (i : Institution) → Tells (BusinessDay day) i (after_commit (SetDay day) i)
@@ -352,4 +390,5 @@ day_tells day i = record {
   roles = λ c r h. h;
   keys = λ x k h. h;
   products = λ t n p h. h;
+  accounts = λ a account t. account_kept a i (after_commit (SetDay day) i) (λ n t h. h) (λ l h. h) account;
 }

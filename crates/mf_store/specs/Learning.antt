@@ -1,15 +1,18 @@
 -- What a store learns as a read or a commit goes well.
-use Rattle.std.specs.Prelude.{◌≡◌, ℕ, Bool, true, false, cond, ◌==◌, List, Some}
+use Rattle.std.specs.Prelude.{◌≡◌, ℕ, Bool, true, false, not, cond, ◌==◌, List, Some}
 use Rattle.mf_office.specs.declared.staff.Role.{Role}
 use Rattle.mf_office.specs.declared.caller.Caller.{Caller}
+use Rattle.mf_office.specs.declared.account.Account.{Account as Loan}
+use Rattle.mf_account.specs.Change.{Account as Kept}
 use Rattle.mf_catalog.specs.declared.product.Product.{Product}
 use Rattle.mf_model.specs.declared.store.Counts.{Counts}
 use Rattle.mf_model.specs.declared.store.CatalogueCounts.{CatalogueCounts}
 use Rattle.mf_model.specs.Institution.{Institution, product_in}
-use Rattle.mf_model.specs.Store.{counts_at, catalogue_counts, role_of}
+use Rattle.mf_model.specs.Store.{counts_at, catalogue_counts, role_of, account_at}
 use Rattle.mf_store_accounts.specs.Flat.{key_at}
+use Rattle.mf_store.specs.Facts.{account_key, same_key}
 use Rattle.mf_store.specs.declared.known.News.{News}
-use Rattle.mf_store.specs.declared.known.News.TheVariants.{OfficeCounts, Catalogue, BusinessDay, Retirement}
+use Rattle.mf_store.specs.declared.known.News.TheVariants.{OfficeCounts, Catalogue, BusinessDay, Retirement, Account}
 
 -- how many rows office x has, after the news
 abbrev pub counts_told : News → ℕ → Counts → Counts
@@ -31,6 +34,11 @@ abbrev pub products_stay : News → Bool
 products_stay Retirement = false
 products_stay _ = true
 
+-- a loan's account is as it was, where there is one
+abbrev pub account_stays : News → Loan → Bool
+account_stays (Account loan) a = not (same_key (account_key loan) (account_key a))
+account_stays _ a = true
+
 -- Of what may be known, the news alone tells i and j apart. A member of staff keeps their role, and an office its
 -- hierarchy text.
 pub record Tells (news : News) (i j : Institution) : Type 0 where
@@ -41,3 +49,5 @@ pub record Tells (news : News) (i j : Institution) : Type 0 where
   pub keys : (x : ℕ) (k : List ℕ) → key_at x i ≡ Some k → key_at x j ≡ Some k
   pub products : products_stay news ≡ true → (n : ℕ) (p : Product) → product_in i.catalogue n ≡ Some p
       → product_in j.catalogue n ≡ Some p
+  pub accounts : (a : Loan) (x : Kept) → account_stays news a ≡ true → account_at a i ≡ Some x → account_at a j
+      ≡ Some x

@@ -26,9 +26,7 @@ use mf_model::{Loan, LoanLine, LoanList};
 use mf_office::{Account, OfficeNo};
 use mf_store_changes::put_schedule;
 use mf_store_records::{EntryRow, InstalmentRow, StoreWrite};
-use mf_store_values::{
-    entries_from, instalment_from, is_active, loan_in_row, stored,
-};
+use mf_store_values::{entries_from, instalment_from, is_active, loan_in_row, stored};
 use sqlite::{Alter, Row};
 use std::alloc::Global;
 
@@ -178,6 +176,27 @@ impl<S: Alter> Store<S> {
         self.resume(alloc, Account { office, number }, loan, day, rows)
     }
 
+    /// The same, taken out of what is known where it is known: then none of its entries is read.
+    fn take_or_resume(
+        &mut self,
+        alloc: Global,
+        account: Account,
+        loan: &Loan,
+        day: Day,
+    ) -> Result<LoanAccount, Fault>
+        ensures asks { MayAskTables S.Store self.old self.new result }
+        ensures value { IsClean S.Store self.new → (i : Institution) → StandsFor S.Store self.old i → loan_at account i
+            ≡ Some loan.now
+            → disbursed_on loan.now.stage ≡ Some day
+            → IfOk result (λ found. account_at account i ≡ Some found) }
+    {
+        let Account { office, number } = account;
+        if let Some(known) = self.take_account(Account { office, number }) {
+            return Ok(known);
+        }
+        self.disbursed_account(alloc, Account { office, number }, loan, day)
+    }
+
     /// A loan with its account where it is disbursed, or None where there is no such loan.
     pub fn ledger(
         &mut self,
@@ -195,8 +214,8 @@ impl<S: Alter> Store<S> {
         let Some(day) = loan.disbursal_day() else {
             return Ok(Some((loan, None)));
         };
-        let resumed = self.disbursed_account(alloc, Account { office, number }, &loan, day)?;
-        Ok(Some((loan, Some(resumed))))
+        let found = self.take_or_resume(alloc, Account { office, number }, &loan, day)?;
+        Ok(Some((loan, Some(found))))
     }
 
     /// Whether the last instalment of a loan that is there is open. Where it is, so is the loan.

@@ -1,20 +1,24 @@
 //! What a store knows beside its tables, so that it need not ask them again. A fact for which there is no memory isn't
 //! kept.
 
-ghost use Rattle.std.specs.Prelude.{◌≡◌, nat_eq, is_some, Some, None, [], IfOk, IfErr, IfSome};
+ghost use Rattle.std.specs.Prelude.{◌≡◌, nat_eq, is_some, false, Some, None, [], IfOk, IfErr, IfSome, IsTrue};
 ghost use Rattle.std.specs.Map.{lookup};
+ghost use Rattle.std.specs.Option.{option_copied};
 ghost use Rattle.mf_base.specs.declared.fault.Fault.TheVariants.{F20};
 ghost use Rattle.mf_model.specs.Institution.{Institution, product_in};
-ghost use Rattle.mf_model.specs.Store.{role_of};
-ghost use Rattle.mf_store.specs.Facts.{AreTrueOf, caller_key, same_key, nothing_known};
+ghost use Rattle.mf_account.specs.Change.{no_change};
+ghost use Rattle.mf_model.specs.Store.{role_of, account_at};
+ghost use Rattle.mf_store.specs.Facts.{AreTrueOf, caller_key, account_key, same_key, nothing_known};
+ghost use Rattle.mf_store.specs.declared.known.News.TheVariants as news;
 ghost use Rattle.mf_store_accounts.specs.Flat.{key_at};
 ghost use Rattle.mf_store.specs.Learning.{Tells};
 
 use lru::LruCache;
+use mf_account::LoanAccount;
 use mf_base::{Day, Fault};
 use mf_catalog::Product;
 use mf_model::{CatalogueCounts, Counts, MOST_IN_CATALOGUE};
-use mf_office::{Caller, Key, Role};
+use mf_office::{Account, Caller, Key, Role};
 use std::alloc::Global;
 use std::hash::Hash;
 use std::marker::Model;
@@ -29,6 +33,8 @@ pub(crate) enum News {
     BusinessDay(Day),
     /// A product lends no more.
     Retirement,
+    /// Of the accounts of loans, this loan's alone may be another.
+    Account(Account),
 }
 
 /// What a store knows of its institution, in bounded memory.
@@ -40,6 +46,9 @@ pub struct Known {
     roles: LruCache<(u32, u32), Role>,
     keys: LruCache<u32, Key>,
     products: LruCache<u32, Product>,
+    accounts: LruCache<(u32, u32), LoanAccount>,
+    /// How many entries the accounts have together.
+    entries: u32,
 }
 
 impl Model for Known {
@@ -56,6 +65,7 @@ impl Model for Known {
       roles = k.roles.entries;
       keys = k.keys.entries;
       products = k.products.entries;
+      accounts = k.accounts.entries;
     } };
 }
 
@@ -64,6 +74,12 @@ const MOST_OFFICES: usize = 1024;
 
 /// So many callers' roles are kept at most.
 const MOST_CALLERS: usize = 4096;
+
+/// So many loans' accounts are kept at most.
+const MOST_ACCOUNTS: usize = 1024;
+
+/// So many entries are kept at most in all accounts together. One account has at most 9,999.
+const MOST_ENTRIES: u32 = 100_000;
 
 /// An empty cache that keeps at most `most` values, and room for them. The error is F20.
 fn nothing_of<K: Hash + Eq, V>(alloc: Global, most: usize) -> Result<LruCache<K, V>, Fault>
@@ -84,6 +100,13 @@ fn key_of(caller: Caller) -> (u32, u32)
     ensures { result ≡ caller_key caller }
 {
     (caller.office.get(), caller.staff.get())
+}
+
+/// A loan's office, and the loan's number in it.
+fn key_of_loan(loan: Account) -> (u32, u32)
+    ensures { result ≡ account_key loan }
+{
+    (loan.office.get(), loan.number.get())
 }
 
 /// The same key, where there is memory for it.
@@ -113,6 +136,7 @@ impl Known {
         let roles = nothing_of(alloc, MOST_CALLERS)?;
         let keys = nothing_of(alloc, MOST_OFFICES)?;
         let products = nothing_of(alloc, MOST_IN_CATALOGUE as usize)?;
+        let accounts = nothing_of(alloc, MOST_ACCOUNTS)?;
         Ok(Known {
             counts,
             catalogue: None,
@@ -120,6 +144,8 @@ impl Known {
             roles,
             keys,
             products,
+            accounts,
+            entries: 0,
         })
     }
 
@@ -178,6 +204,26 @@ impl Known {
         }
     }
 
+    /// The account of a loan, where it is known.
+    pub(crate) fn account(&self, loan: Account) -> Option<&LoanAccount>
+        ensures { option_copied result ≡ lookup (same_key (account_key loan)) self.now.accounts }
+    {
+        self.accounts.peek(&key_of_loan(loan))
+    }
+
+    /// Takes out the account of a loan, where it is known. All else stays.
+    pub(crate) fn take_account(&mut self, loan: Account) -> Option<LoanAccount>
+        ensures value { result ≡ lookup (same_key (account_key loan)) self.old.accounts }
+        ensures gone { lookup (same_key (account_key loan)) self.new.accounts ≡ None }
+        ensures same { (i : Institution) → AreTrueOf self.old i → AreTrueOf self.new i }
+    {
+        // No key is in a cache twice; the call brings that into the proof.
+        let _kept = self.accounts.len();
+        let account = self.accounts.pop(&key_of_loan(loan))?;
+        self.entries = self.entries.saturating_sub(account.entry_count());
+        Some(account)
+    }
+
     /// Takes in a caller's role.
     pub(crate) fn learn_role(&mut self, caller: Caller, role: Role)
         ensures { (i : Institution) → AreTrueOf self.old i → role_of caller i ≡ Some role → AreTrueOf self.new i }
@@ -206,6 +252,51 @@ impl Known {
         let _kept = self.products.put(number, copy);
     }
 
+    /// Forgets all accounts where they would have too many entries with so many more.
+    fn make_room(&mut self, more: u32)
+        ensures { (i : Institution) → AreTrueOf self.old i → AreTrueOf self.new i }
+    {
+        if self.entries.saturating_add(more) > MOST_ENTRIES {
+            self.accounts.clear();
+            self.entries = 0;
+        }
+    }
+
+    /// Takes in the account of a loan, where there is memory for it.
+    pub(crate) fn learn_account(&mut self, loan: Account, account: LoanAccount)
+        ensures { (i : Institution) → AreTrueOf self.old i → account_at loan i ≡ Some account → AreTrueOf self.new i }
+    {
+        let more = account.entry_count();
+        self.make_room(more);
+        let Ok(pushed_out) = self.accounts.push(key_of_loan(loan), account) else {
+            return;
+        };
+        self.entries = self.entries.saturating_add(more);
+        if let Some((_, other)) = pushed_out {
+            self.entries = self.entries.saturating_sub(other.entry_count());
+        }
+    }
+
+    /// Takes in what a commit made of a loan's account; where it was not made, nothing is known of it then.
+    pub(crate) fn learn_commit(
+        &mut self,
+        alloc: Global,
+        loan: Account,
+        mut account: LoanAccount,
+        made: bool,
+    )
+        ensures same { (i j : Institution) → AreTrueOf self.old i → Tells (news.Account loan) i j
+            → (IsTrue made → account_at loan j ≡ Some (record account { change = no_change })) → AreTrueOf self.new j }
+        ensures gone { made ≡ false → lookup (same_key (account_key loan)) self.new.accounts ≡ None }
+    {
+        let Account { office, number } = loan;
+        let _was = self.take_account(Account { office, number });
+        if made {
+            account.forget_change(alloc);
+            self.learn_account(Account { office, number }, account);
+        }
+    }
+
     /// Takes in what is new.
     pub(crate) fn learn(&mut self, news: News)
         ensures { (i j : Institution) → AreTrueOf self.old i → Tells news i j → AreTrueOf self.new j }
@@ -218,6 +309,9 @@ impl Known {
             News::Catalogue(counts) => self.catalogue = Some(counts),
             News::BusinessDay(day) => self.day = Some(day),
             News::Retirement => self.products.clear(),
+            News::Account(loan) => {
+                let _was = self.take_account(loan);
+            }
         }
     }
 }

@@ -105,7 +105,8 @@ impl<S: Alter> Store<S> {
     pub fn set_stage(&mut self, alloc: Global, loan: Account, stage: Stage) -> Result<(), Fault>
         ensures { MakesCommit S.Store (SetStage loan stage) self.old self.new result }
     {
-        let writes = self.stage_writes(alloc, loan, stage)?;
-        self.make(&writes, News::Nothing)
+        let Account { office, number } = loan;
+        let writes = self.stage_writes(alloc, Account { office, number }, stage)?;
+        self.make(&writes, News::Account(Account { office, number }))
     }
 }

@@ -7,7 +7,7 @@ ghost use Rattle.mf_base.specs.DayText.{last_entered_day};
 ghost use Rattle.sqlite.specs.Held.{state};
 ghost use Rattle.mf_store_tables.specs.Writes.{Serves};
 ghost use Rattle.mf_model.specs.Institution.{Institution, newly_made, product_in};
-ghost use Rattle.mf_model.specs.Store.{counts_at, catalogue_counts, role_of, use_at};
+ghost use Rattle.mf_model.specs.Store.{counts_at, catalogue_counts, role_of, use_at, account_at};
 ghost use Rattle.mf_model.specs.declared.commit.Commit.TheVariants.{AddEntry, ReverseEntry};
 ghost use Rattle.mf_model.specs.Tree.{is_there};
 ghost use Rattle.mf_store_accounts.specs.Flat.{key_at, tables_of};
@@ -288,6 +288,33 @@ impl<S: Alter> Store<S> {
         self.known.learn_product(number, product);
     }
 
+    /// The account of a loan, where that is known.
+    pub(crate) fn known_account(&self, loan: Account) -> Option<&LoanAccount>
+        ensures { (i : Institution) → StandsFor S.Store self.now i
+            → IfSome result (λ account. account_at loan i ≡ Some account.now) }
+    {
+        self.known.account(loan)
+    }
+
+    /// Takes out the account of a loan, where that is known.
+    pub(crate) fn take_account(&mut self, loan: Account) -> Option<LoanAccount>
+        ensures value { (i : Institution) → StandsFor S.Store self.old i
+            → IfSome result (λ account. account_at loan i ≡ Some account) }
+        ensures same { (i : Institution) → StandsFor S.Store self.old i → StandsFor S.Store self.new i }
+        ensures tables { self.new.connection ≡ self.old.connection }
+    {
+        self.known.take_account(loan)
+    }
+
+    /// Takes in the account of a loan.
+    pub(crate) fn learn_account(&mut self, loan: Account, account: LoanAccount)
+        ensures same { (i : Institution) → StandsFor S.Store self.old i → account_at loan i ≡ Some account
+            → StandsFor S.Store self.new i }
+        ensures tables { self.new.connection ≡ self.old.connection }
+    {
+        self.known.learn_account(loan, account);
+    }
+
     /// Takes in what was read.
     pub(crate) fn learn(&mut self, news: News)
         ensures same { (i : Institution) → StandsFor S.Store self.old i → Tells news i i
@@ -321,7 +348,7 @@ impl<S: Alter> Store<S> {
     }
 
     /// Adds the last entry of a loan's account to the loan, which has all the others and no more, and writes what that
-    /// changed of the loan's instalments and shares.
+    /// changed of the loan's instalments and shares. The account is known then.
     pub fn add_entry(
         &mut self,
         alloc: Global,
@@ -330,11 +357,21 @@ impl<S: Alter> Store<S> {
     ) -> Result<(), Fault>
         ensures { MakesCommit S.Store (AddEntry loan account) self.old self.new result }
     {
-        add_entry(alloc, &mut self.connection, loan, &account)
+        let Account { office, number } = loan;
+        let made = add_entry(
+            alloc,
+            &mut self.connection,
+            Account { office, number },
+            &account,
+        );
+        self.known
+            .learn_commit(alloc, Account { office, number }, account, made.is_ok());
+        made
     }
 
     /// Writes an entry of a loan that is reversed in the loan's account, and what that changed of the loan's
     /// instalments and shares. All other entries are the same in both. The row of the entry's receipt stays as it is.
+    /// The account is known then.
     pub fn reverse_entry(
         &mut self,
         alloc: Global,
@@ -344,6 +381,16 @@ impl<S: Alter> Store<S> {
     ) -> Result<(), Fault>
         ensures { MakesCommit S.Store (ReverseEntry loan seq account) self.old self.new result }
     {
-        reverse_entry(alloc, &mut self.connection, loan, seq, &account)
+        let Account { office, number } = loan;
+        let made = reverse_entry(
+            alloc,
+            &mut self.connection,
+            Account { office, number },
+            seq,
+            &account,
+        );
+        self.known
+            .learn_commit(alloc, Account { office, number }, account, made.is_ok());
+        made
     }
 }

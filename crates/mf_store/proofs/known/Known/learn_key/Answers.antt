@@ -11,4 +11,5 @@ returns c = rw (← c.self.view_is) (λ i known so. record {
   keys = keys_learnt c.self.inside.keys c.put-kept.new.self c.args.office c.in-Some.copy c.put-kept.result i
       c.put-kept.ensures.entries c.put-kept.ensures.err (so ∙ ap Some (sym c.in-Some.ensures)) known.keys;
   products = known.products;
+  accounts = known.accounts;
 })

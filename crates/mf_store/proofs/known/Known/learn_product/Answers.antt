@@ -11,4 +11,5 @@ returns c = rw (← c.self.view_is) (λ i known so. record {
   keys = known.keys;
   products = products_learnt c.self.inside.products c.put-kept.new.self c.args.number c.in-Some.copy c.put-kept.result i
       c.put-kept.ensures.entries c.put-kept.ensures.err (so ∙ ap Some (sym c.in-Some.ensures)) known.products;
+  accounts = known.accounts;
 })

@@ -10,4 +10,5 @@ returns c = rw (← c.self.view_is) (λ i known so. record {
       (rw c.key_of.ensures at c.put-kept.ensures.entries) c.put-kept.ensures.err so known.roles;
   keys = known.keys;
   products = known.products;
+  accounts = known.accounts;
 })

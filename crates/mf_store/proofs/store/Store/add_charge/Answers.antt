@@ -21,7 +21,7 @@ returns g c =
     (λ clean i s admitted. let sound = admitted.sound in let counts = c.in_ok-counts.ensures.value clean i s in (
       charge_becomes charge i c.in_ok-row.row s.sound sound (c.in_ok-row.ensures.row ∙ ap (λ (k : CatalogueCounts).
           charge_as (k.charges + 1) charge) counts),
-      charge_tells charge i known counts,
+      charge_tells charge i known s.sound counts,
     ))
     c.make.ensures.premise c.make.ensures.gives_up c.make.ensures.made c.make.ensures.left c.make.ensures.same
     c.make.ensures.stop c.make.ensures.shuts c.make.ensures.open

@@ -1,7 +1,7 @@
 use Rattle.std.proofs.Common.{sym, subst}
 use Rattle.mf_store_changes.specs.Becoming.{Begins}
 use Rattle.mf_model.specs.Institution.{newly_made}
-use Rattle.mf_store.proofs.FirstLemmas.{founded_stands}
+use Rattle.mf_store.proofs.FirstLemmas.{founded_stands, unfounded}
 use Rattle.mf_store_commits.proofs.StandLemmas.{made_leaves}
 use Rattle.mf_store.proofs.KeptLemmas.{first_known}
 use Rattle.mf_store.proofs.store.Store.found.Goals as goal
@@ -23,3 +23,8 @@ returns-in-Ok-apply-clause-leaves g c clean none =
       sound = stands.sound;
       serves = stands.serves;
     })
+
+pub returns-clause-given_back : goal.returns-clause-given_back
+returns-clause-given_back g c = unfounded g.S.Store c.args.connection c.apply.new.connection c.deref.result.now
+    c.args.day (subst (λ ws. Begins ws c.args.day) (sym c.deref.ensures.value) c.in-Ok.ensures.writes)
+    c.apply.ensures.was_open c.in-Err-apply.ensures.err c.apply.ensures.crash

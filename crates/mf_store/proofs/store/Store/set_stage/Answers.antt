@@ -2,7 +2,7 @@ use Rattle.std.proofs.Common.{sym, subst}
 use Rattle.mf_model.specs.declared.commit.Commit.TheVariants.{SetStage}
 use Rattle.mf_model.specs.Store.{after_commit}
 use Rattle.mf_store_changes.specs.Becoming.{Becomes}
-use Rattle.mf_store.specs.declared.known.News.TheVariants.{Nothing}
+use Rattle.mf_store.specs.declared.known.News.TheVariants as news
 use Rattle.mf_store.proofs.MadeLemmas.{made_by}
 use Rattle.mf_store.proofs.NewsLemmas.{stage_tells}
 use Rattle.mf_store.proofs.store.Store.set_stage.Goals as goal
@@ -10,8 +10,8 @@ use Rattle.mf_store.proofs.store.Store.set_stage.Goals as goal
 pub returns : goal.returns
 returns g c =
     let commit = SetStage c.args.loan c.args.stage in
-    made_by g.S.Store commit c.args.self.now c.stage_writes.new.self c.make.new.self c.deref.result.now Nothing
-    c.make.result c.in_ok-writes.ensures.kept
+    made_by g.S.Store commit c.args.self.now c.stage_writes.new.self c.make.new.self c.deref.result.now
+    (news.Account c.args.loan) c.make.result c.in_ok-writes.ensures.kept
     (λ clean i s admitted. (
       subst (λ ws. Becomes ws i (after_commit commit i)) (sym c.deref.ensures.value)
           (c.in_ok-writes.ensures.carries clean i s admitted).becomes,
