@@ -1,9 +1,9 @@
 -- What was found of a loan, and what is decided of it.
 use Rattle.std.proofs.Common.{◌≡◌, ℕ, ◌-◌, Bool, true, false, cond, List, [], ◌∷◌, ◌++◌, Option, Some, None, Ok, Err}
 use Rattle.std.proofs.Common.{inl, inr, refl, sym, ap, ◌∙◌, subst}
-use Rattle.std.specs.Prelude.{Result, ◌⊎◌, is_some, option_map, IfSome}
+use Rattle.std.specs.Prelude.{Result, ◌⊎◌, is_some, option_map, ok_or, IfOk, IfErr, IfSome}
 use Rattle.mf_base.specs.declared.fault.Fault.{Fault}
-use Rattle.mf_base.specs.declared.fault.Fault.TheVariants.{F4, F20}
+use Rattle.mf_base.specs.declared.fault.Fault.TheVariants.{F4, F9, F20}
 use Rattle.mf_office.specs.declared.caller.Caller.{Caller}
 use Rattle.mf_office.specs.declared.account.Account.{Account}
 use Rattle.mf_office.specs.Tree.{is_at_or_below}
@@ -86,6 +86,31 @@ entries_told loan c found r lines i h of = at (ledger_at loan i) h
     at None h = absurd (cc)
     at (Some l) h = ap (λ es. decision_outcome (tells loan (told.Entries es)) i)
         (sym (of i.catalogue l (same_second (found, r) (with_account i.catalogue l) h)))
+
+-- the account of a loan that is there; F9 where it has none
+account_read : (loan : Account) (found : Loan) (r : Option Kept) (i : Institution)
+    → Some (found, r) ≡ loan_with_account_at loan i → account_there loan i ≡ if_disbursed r
+account_read loan found r i h = at (ledger_at loan i) h
+  where
+    at : (o : Option Ledger) → Some (found, r) ≡ option_map (with_account i.catalogue) o
+        → where_found (option_map (λ (l : Ledger). l.loan) o)
+        (λ _. if_disbursed (option_map account_by_replay (account_of i.catalogue o))) ≡ if_disbursed r
+    at None h = absurd (cc)
+    at (Some l) h = ap if_disbursed (sym (same_second (found, r) (with_account i.catalogue l) h))
+
+-- where there is none it is refused with F9
+pub if_none : (r : Option Kept) → ok_or r F9 ≡ if_disbursed r
+if_none None = refl
+if_none (Some a) = refl
+
+gives_same : {R : Type 0} (value result : Result R Fault) → value ≡ result → IfOk result (λ r. value ≡ Ok r)
+gives_same value (Ok r) h = h
+gives_same value (Err f) h = tt
+
+refuses_same : {R : Type 0} (value result : Result R Fault) → value ≡ result
+    → IfErr result (λ f. (f ≡ F20) ⊎ (value ≡ Err f))
+refuses_same value (Ok r) h = tt
+refuses_same value (Err f) h = inr h
 
 -- a disbursed loan that was found, with its account
 pub record IsAccountOf (loan : Account) (a : Running) (i : Institution) : Type 0 where
@@ -304,6 +329,22 @@ module _ {S : Type 0} (store : Ghosts S) where
       (λ i h. entries_told loan c found r lines i (sym there ∙ h) of
       ∙ ap (λ (x : Decision). decision_outcome x i) (sym is))
       (λ i h. subst (λ (x : Decision). IfSome x.commit (λ c. IsHanded c i)) (sym is) tt)
+
+  -- the account of a loan that was read with it
+  pub account_asked : (loan : Account) (read : Option (Loan × Option Kept)) (found : Loan) (r : Option Kept) (old new : S)
+      (result : Result Kept Fault)
+      → Reads store.stands store.clean store.leaves (loan_with_account_at loan) old new (Ok read)
+      → read ≡ Some (found, r) → result ≡ if_disbursed r → Asks store (account_there loan) old new result
+  account_asked loan read found r old new result reads there is = record {
+    premise = reads.premise;
+    same = reads.same;
+    gives = λ c i h. gives_same (account_there loan i) result (value c i h);
+    refuses = λ c i h. refuses_same (account_there loan i) result (value c i h);
+    stop = reads.stop;
+  }
+    where
+      value : store.clean new → (i : Institution) → store.stands old i → account_there loan i ≡ result
+      value c i h = account_read loan found r i (sym there ∙ reads.value_is c i h) ∙ sym is
 
   -- what is entered into the account of a loan
   abbrev Known : Account → Kept → ℕ → Institution → Type 0

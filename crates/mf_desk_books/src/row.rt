@@ -146,12 +146,13 @@ impl Row {
         let Some(day) = self.disbursed else {
             return Ok(None);
         };
+        let entries = copy_entries(alloc, &self.entries)?;
         let disbursed = DisbursedLoan {
             terms,
             principal: self.principal,
             periods: self.periods,
             day,
-            entries: copy_entries(alloc, &self.entries)?,
+            entries,
         };
         match LoanAccount::of_entries(alloc, disbursed)? {
             Some(account) => Ok(Some(account)),

@@ -3,7 +3,6 @@
 
 ghost use Rattle.std.specs.Prelude.{◌≡◌, nat_eq, is_some, false, Some, None, [], IfOk, IfErr, IfSome, IsTrue};
 ghost use Rattle.std.specs.Map.{lookup};
-ghost use Rattle.std.specs.Option.{option_copied};
 ghost use Rattle.mf_base.specs.declared.fault.Fault.TheVariants.{F20};
 ghost use Rattle.mf_model.specs.Institution.{Institution, product_in};
 ghost use Rattle.mf_account.specs.Change.{no_change};
@@ -210,13 +209,6 @@ impl Known {
             None => None,
             Some(product) => copied_product(product),
         }
-    }
-
-    /// The account of a loan, where it is known.
-    pub(crate) fn account(&self, loan: Account) -> Option<&LoanAccount>
-        ensures { option_copied result ≡ lookup (same_key (account_key loan)) self.now.accounts }
-    {
-        self.accounts.peek(&key_of_loan(loan))
     }
 
     /// Takes out the account of a loan, where it is known. All else stays.

@@ -288,14 +288,6 @@ impl<S: Alter> Store<S> {
         self.known.learn_product(number, product);
     }
 
-    /// The account of a loan, where that is known.
-    pub(crate) fn known_account(&self, loan: Account) -> Option<&LoanAccount>
-        ensures { (i : Institution) → StandsFor S.Store self.now i
-            → IfSome result (λ account. account_at loan i ≡ Some account.now) }
-    {
-        self.known.account(loan)
-    }
-
     /// Takes out the account of a loan, where that is known.
     pub(crate) fn take_account(&mut self, loan: Account) -> Option<LoanAccount>
         ensures value { (i : Institution) → StandsFor S.Store self.old i
