@@ -46,8 +46,8 @@ pub struct Known {
     keys: LruCache<u32, Key>,
     products: LruCache<u32, Product>,
     accounts: LruCache<(u32, u32), LoanAccount>,
-    /// How many entries the accounts have together.
-    entries: u32,
+    /// How many entries and instalments the accounts have together.
+    rows: u32,
 }
 
 impl Model for Known {
@@ -77,8 +77,9 @@ const MOST_CALLERS: usize = 4096;
 /// So many loans' accounts are kept at most.
 const MOST_ACCOUNTS: usize = 1024;
 
-/// So many entries are kept at most in all accounts together. One account has at most 9,999.
-const MOST_ENTRIES: u32 = 100_000;
+/// So many entries and instalments are kept at most in all accounts together. One account has at most 9,999 entries and
+/// 360 instalments.
+const MOST_ROWS: u32 = 100_000;
 
 /// An empty cache that keeps at most `most` values, and room for them. The error is F20.
 fn nothing_of<K: Hash + Eq, V>(alloc: Global, most: usize) -> Result<LruCache<K, V>, Fault>
@@ -106,6 +107,11 @@ fn key_of_loan(loan: Account) -> (u32, u32)
     ensures { result ≡ account_key loan }
 {
     (loan.office.get(), loan.number.get())
+}
+
+/// How many entries and instalments an account has.
+fn size_of(account: &LoanAccount) -> u32 {
+    account.entry_count() + account.rows().len() as u32
 }
 
 /// The same key, where there is memory for it.
@@ -152,7 +158,7 @@ impl Known {
             keys,
             products,
             accounts,
-            entries: 0,
+            rows: 0,
         })
     }
 
@@ -220,7 +226,7 @@ impl Known {
         // No key is in a cache twice; the call brings that into the proof.
         let _kept = self.accounts.len();
         let account = self.accounts.pop(&key_of_loan(loan))?;
-        self.entries = self.entries.saturating_sub(account.entry_count());
+        self.rows = self.rows.saturating_sub(size_of(&account));
         Some(account)
     }
 
@@ -252,13 +258,13 @@ impl Known {
         let _kept = self.products.put(number, copy);
     }
 
-    /// Forgets all accounts where they would have too many entries with so many more.
+    /// Forgets all accounts where they would have too many entries and instalments with so many more.
     fn make_room(&mut self, more: u32)
         ensures { (i : Institution) → AreTrueOf self.old i → AreTrueOf self.new i }
     {
-        if self.entries.saturating_add(more) > MOST_ENTRIES {
+        if self.rows.saturating_add(more) > MOST_ROWS {
             self.accounts.clear();
-            self.entries = 0;
+            self.rows = 0;
         }
     }
 
@@ -266,14 +272,14 @@ impl Known {
     pub(crate) fn learn_account(&mut self, loan: Account, account: LoanAccount)
         ensures { (i : Institution) → AreTrueOf self.old i → account_at loan i ≡ Some account → AreTrueOf self.new i }
     {
-        let more = account.entry_count();
+        let more = size_of(&account);
         self.make_room(more);
         let Ok(pushed_out) = self.accounts.push(key_of_loan(loan), account) else {
             return;
         };
-        self.entries = self.entries.saturating_add(more);
+        self.rows = self.rows.saturating_add(more);
         if let Some((_, other)) = pushed_out {
-            self.entries = self.entries.saturating_sub(other.entry_count());
+            self.rows = self.rows.saturating_sub(size_of(&other));
         }
     }
 

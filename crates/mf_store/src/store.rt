@@ -298,15 +298,6 @@ impl<S: Alter> Store<S> {
         self.known.take_account(loan)
     }
 
-    /// Takes in the account of a loan.
-    pub(crate) fn learn_account(&mut self, loan: Account, account: LoanAccount)
-        ensures same { (i : Institution) → StandsFor S.Store self.old i → account_at loan i ≡ Some account
-            → StandsFor S.Store self.new i }
-        ensures tables { self.new.connection ≡ self.old.connection }
-    {
-        self.known.learn_account(loan, account);
-    }
-
     /// Takes in what was read.
     pub(crate) fn learn(&mut self, news: News)
         ensures same { (i : Institution) → StandsFor S.Store self.old i → Tells news i i

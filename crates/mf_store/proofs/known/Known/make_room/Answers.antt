@@ -2,8 +2,8 @@ use Rattle.mf_store.specs.Facts.{account_key, same_key}
 use Rattle.mf_store.proofs.KeptLemmas.{forgotten}
 use Rattle.mf_store.proofs.known.Known.make_room.Goals as goal
 
-pub returns-then-saturating_add-gt-MOST_ENTRIES : goal.returns-then-saturating_add-gt-MOST_ENTRIES
-returns-then-saturating_add-gt-MOST_ENTRIES c = rw (← c.self.view_is) (λ i known. record {
+pub returns-then-saturating_add-gt-MOST_ROWS : goal.returns-then-saturating_add-gt-MOST_ROWS
+returns-then-saturating_add-gt-MOST_ROWS c = rw (← c.self.view_is) (λ i known. record {
   counts = known.counts;
   catalogue = known.catalogue;
   day = known.day;
