@@ -331,8 +331,8 @@ module _ {S : Type 0} (store : Ghosts S) where
       (λ i h. subst (λ (x : Decision). IfSome x.commit (λ c. IsHanded c i)) (sym is) tt)
 
   -- the account of a loan that was read with it
-  pub account_asked : (loan : Account) (read : Option (Loan × Option Kept)) (found : Loan) (r : Option Kept) (old new : S)
-      (result : Result Kept Fault)
+  pub account_asked : (loan : Account) (read : Option (Loan × Option Kept)) (found : Loan) (r : Option Kept)
+      (old new : S) (result : Result Kept Fault)
       → Reads store.stands store.clean store.leaves (loan_with_account_at loan) old new (Ok read)
       → read ≡ Some (found, r) → result ≡ if_disbursed r → Asks store (account_there loan) old new result
   account_asked loan read found r old new result reads there is = record {

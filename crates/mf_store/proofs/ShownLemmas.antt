@@ -14,7 +14,8 @@ use Rattle.mf_account.specs.Change.{Account as Kept, account_by_replay}
 use Rattle.mf_account.specs.Loan.{Loan as Running, IsSound as IsSoundAccount, state_of_loan}
 use Rattle.mf_office.specs.declared.account.Account.{Account}
 use Rattle.mf_model.specs.declared.loan.Loan.{Loan}
-use Rattle.mf_model.specs.Accounts.{account_in, balances_in, no_balances, of_account, running_from, running_loan, terms_in}
+use Rattle.mf_model.specs.Accounts.{account_in, balances_in, no_balances, of_account, running_from, running_loan}
+use Rattle.mf_model.specs.Accounts.{terms_in}
 use Rattle.mf_model.specs.Institution.{Institution, Catalogue, Ledger}
 use Rattle.mf_model.specs.Sound.{IsSound}
 use Rattle.mf_model.specs.Stages.{disbursed_on}
@@ -57,8 +58,8 @@ of_loan_or_none : (x n m : ℕ) (r : InstalmentRow) → is_instalment_of x n r �
 of_loan_or_none x n m r other = grind (arith, nat_tests)
 
 -- where an instalment of a loan that is there is open, something of the loan is
-pub open_by_one : (loan : Account) (m : ℕ) (l : Ledger) (i : Institution) (row : InstalmentRow) (sums : Sums) → IsSound i
-    → ledger_at loan i ≡ Some l
+pub open_by_one : (loan : Account) (m : ℕ) (l : Ledger) (i : Institution) (row : InstalmentRow) (sums : Sums)
+    → IsSound i → ledger_at loan i ≡ Some l
     → find (is_instalment loan.office loan.number m) (tables_of i).instalments ≡ Some row
     → ((office number place : ℕ) (s : Sums) → IsWhole s → row ≡ instalment_in office number (place, s) → sums ≡ s)
     → is_open sums ≡ true
@@ -73,7 +74,8 @@ open_by_one loan m l i row sums sound there is read left =
     ∙ ap (λ o. map (instalment_in x n) (had_by kept o)) there in
     let found : find (is_instalment x n m) (map (instalment_in x n) (kept l)) ≡ Some row =
     sym (ap (find (is_instalment x n m)) own)
-    ∙ find_within (is_instalment x n m) (is_instalment_of x n) all (λ r has other. of_loan_or_none x n m r other) ∙ is in
+    ∙ find_within (is_instalment x n m) (is_instalment_of x n) all (λ r has other. of_loan_or_none x n m r other)
+    ∙ is in
     sym (ap (list_any is_open) (sums_kept (account_in i.catalogue l)))
     ∙ found_open (is_instalment x n m) x n (kept l) row sums (kept_whole loan l i sound there) found (read x n) left
 

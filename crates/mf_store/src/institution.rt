@@ -199,5 +199,8 @@ impl<S: Alter> InstitutionStore for Store<S> {
 
     ghost sound = { λ store i stands. stands.sound };
 
-    ghost more = { λ store i is left. record { ours = left.ours; whole = λ clean trees may. inr (left.whole clean trees may) } };
+    ghost more = { λ store i is left. record {
+      ours = left.ours;
+      whole = λ clean trees may. inr (left.whole clean trees may);
+    } };
 }

@@ -71,8 +71,8 @@ pub fn add_entry<S: Alter>(
     account: &LoanAccount,
 ) -> Result<(), Fault>
     requires alone { connection.old.in_transaction ≡ false }
-    ensures commits { Commits (IsTabled S.Store) (HasGoodDisk S.Store) (LeavesTables S.Store) (AddEntry loan account.now)
-        connection.old connection.new result }
+    ensures commits { Commits (IsTabled S.Store) (HasGoodDisk S.Store) (LeavesTables S.Store)
+        (AddEntry loan account.now) connection.old connection.new result }
     ensures shuts { OnlyFaultsShut (state S.Store connection.old) (state S.Store connection.new) }
     ensures open { HasGoodDisk S.Store connection.new → OnOk result (IsTrue (state S.Store connection.new).is_open) }
     ensures mode { connection.new.in_transaction ≡ false }

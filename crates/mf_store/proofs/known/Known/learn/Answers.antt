@@ -20,7 +20,8 @@ returns-in-OfficeCounts c =
 
 pub returns-in-Catalogue : goal.returns-in-Catalogue
 returns-in-Catalogue c =
-    rw (← c.self-in-Catalogue.view_is) (λ i j known told. let t = subst (λ n. Tells n i j) c.in-Catalogue.is told in record {
+    rw (← c.self-in-Catalogue.view_is) (λ i j known told.
+    let t = subst (λ n. Tells n i j) c.in-Catalogue.is told in record {
       counts = λ x k h. known.counts x k h ∙ sym (t.counts x);
       catalogue = λ k h. some_is h ∙ sym t.catalogue;
       day = λ d h. known.day d h ∙ sym t.day;
@@ -32,7 +33,8 @@ returns-in-Catalogue c =
 
 pub returns-in-BusinessDay : goal.returns-in-BusinessDay
 returns-in-BusinessDay c =
-    rw (← c.self-in-BusinessDay.view_is) (λ i j known told. let t = subst (λ n. Tells n i j) c.in-BusinessDay.is told in record {
+    rw (← c.self-in-BusinessDay.view_is) (λ i j known told.
+    let t = subst (λ n. Tells n i j) c.in-BusinessDay.is told in record {
       counts = λ x k h. known.counts x k h ∙ sym (t.counts x);
       catalogue = λ k h. known.catalogue k h ∙ sym t.catalogue;
       day = λ d h. some_is h ∙ sym t.day;
@@ -44,13 +46,15 @@ returns-in-BusinessDay c =
 
 pub returns-in-Retirement : goal.returns-in-Retirement
 returns-in-Retirement c =
-    rw (← c.self-in-Retirement.view_is) (λ i j known told. let t = subst (λ n. Tells n i j) c.in-Retirement.is told in record {
+    rw (← c.self-in-Retirement.view_is) (λ i j known told.
+    let t = subst (λ n. Tells n i j) c.in-Retirement.is told in record {
       counts = λ x k h. known.counts x k h ∙ sym (t.counts x);
       catalogue = λ k h. known.catalogue k h ∙ sym t.catalogue;
       day = λ d h. known.day d h ∙ sym t.day;
       roles = λ m r h. t.roles m r (known.roles m r h);
       keys = λ x k h. t.keys x k (known.keys x k h);
-      products = λ n p h. forgotten (nat_eq n) c.clear.new.self c.self-in-Retirement.inside.products.cap p _ c.clear.ensures h;
+      products = λ n p h. forgotten (nat_eq n) c.clear.new.self c.self-in-Retirement.inside.products.cap p _
+          c.clear.ensures h;
       accounts = λ a x h. t.accounts a x refl (known.accounts a x h);
     })
 

@@ -13,7 +13,8 @@ returns g c =
     let old = c.self.inside.connection in
     let new = c.add_entry-made.new.connection in
     rw (← c.self.view_is) (record {
-      commits = account_commits g.S.Store (AddEntry c.args.loan c.args.account) c.args.loan account old new c.self.inside.known
+      commits = account_commits g.S.Store (AddEntry c.args.loan c.args.account) c.args.loan account old new
+          c.self.inside.known
           c.learn_commit.new.self c.add_entry-made.result (entry_tells c.args.loan c.args.account)
           (λ i admitted. account_handed c.args.loan OneMore c.args.account i admitted.handed)
           (λ i j known told is. c.learn_commit.ensures.same i j known told (λ made. is (sym c.is_ok.ensures.value
