@@ -1,11 +1,9 @@
-pub mod RowLemmas
-pub mod Texts
-pub mod TableLemmas
-pub mod AddLemmas
-pub mod ReadLemmas
-pub mod PutLemmas
-pub mod NewLemmas
 pub mod CallLemmas
-pub mod TextLemmas
+pub mod RowLemmas
+pub mod OnceLemmas
+pub mod OrderLemmas
+pub mod RangeLemmas
+pub mod RemoveLemmas
+pub mod PutLemmas
+pub mod MakeLemmas
 pub mod ReceiptLemmas
-mod OnceLemmas

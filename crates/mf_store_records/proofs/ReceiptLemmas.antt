@@ -7,7 +7,7 @@ use Rattle.std.proofs.lemmas.Map.Text.{is_eq-slice_cmp}
 use Rattle.mf_store_tables.proofs.CompareLemmas.{eq_then}
 use Rattle.mf_store_records.specs.Rows.{is_receipt, is_receipt_before}
 use Rattle.mf_store_records.specs.declared.receipts.ReceiptRow.{ReceiptRow}
-use Rattle.mf_store_records.proofs.TableLemmas.{by_receipt_total}
+use Rattle.mf_store_records.proofs.OrderLemmas.{by_receipt_total}
 
 pub less : (o : Ordering) → is_lt o ≡ true → o ≡ Less
 less Less h = refl

@@ -3,18 +3,7 @@ use Rattle.std.specs.Prelude.{◌≡◌, ◌⊎◌, ◌<◌, ◌+◌, ◌^◌, �
 use Rattle.sqlite.specs.declared.types.Value.{Value}
 use Rattle.sqlite.specs.declared.types.Value.TheVariants.{Null, Int, Text as Words}
 use Rattle.sqlite.specs.Order.{Row, column}
-
--- the kinds of fields that records have
-pub data Field : Type 0 where
-  -- of 32 bits, without a sign
-  Number : Field
-  -- of 64 bits, with a sign
-  Amount : Field
-  -- in UTF-8
-  Text : Field
-  -- these two may be absent
-  MaybeNumber : Field
-  MaybeText : Field
+use Rattle.mf_store_tables.specs.Columns.{Field, Named, Number, Amount, Text, MaybeNumber, MaybeText}
 
 -- a number of 32 bits, without a sign
 abbrev pub IsNumber : Value → Type 0
@@ -36,12 +25,12 @@ CanHold Text v = IsText v
 CanHold MaybeNumber v = (v ≡ Null) ⊎ IsNumber v
 CanHold MaybeText v = (v ≡ Null) ⊎ IsText v
 
--- fields of these kinds can hold the row's columns, from this one on
-abbrev pub CanHoldFrom : ℕ → List Field → Row → Type 0
+-- fields of these columns can hold the row's values, from this one on
+abbrev pub CanHoldFrom : ℕ → List Named → Row → Type 0
 CanHoldFrom at [] row = Unit {0}
-CanHoldFrom at (f ∷ fs) row = CanHold f (column row at) × CanHoldFrom (at + 1) fs row
+CanHoldFrom at (c ∷ cs) row = CanHold c.field (column row at) × CanHoldFrom (at + 1) cs row
 
--- the row has a column for each of these fields, which can hold it, and no more
-pub record HasFields (fields : List Field) (row : Row) : Type 0 where
-  pub width : length row ≡ length fields
-  pub values : CanHoldFrom 0 fields row
+-- the row has a value for each of these columns, whose field can hold it, and no more
+pub record HasFields (columns : List Named) (row : Row) : Type 0 where
+  pub width : length row ≡ length columns
+  pub values : CanHoldFrom 0 columns row

@@ -1,5 +1,17 @@
 pub mod Tables
 pub mod Fields
+pub mod Keys
 pub mod Rows
 pub mod Writes
 pub mod Calls
+pub mod MetaTexts
+pub mod OfficesTexts
+pub mod StaffTexts
+pub mod ClientsTexts
+pub mod ChargesTexts
+pub mod ProductsTexts
+pub mod LoansTexts
+pub mod EntriesTexts
+pub mod ReceiptsTexts
+pub mod InstalmentsTexts
+pub mod SharesTexts

@@ -8,7 +8,6 @@ use Rattle.sqlite.specs.Order.{Row}
 use Rattle.sqlite_trees.specs.Tree.{IsAscending}
 use Rattle.mf_store_tables.specs.Values.{or_null, or_text}
 use Rattle.mf_store_tables.specs.Keep.{put_item}
-use Rattle.mf_store_records.specs.Fields.{Field, Number, Amount, Text, MaybeNumber, MaybeText}
 use Rattle.mf_store_records.specs.declared.meta.MetaRow.{MetaRow}
 use Rattle.mf_store_records.specs.declared.offices.OfficeRow.{OfficeRow}
 use Rattle.mf_store_records.specs.declared.staff.StaffRow.{StaffRow}
@@ -38,10 +37,6 @@ by_meta a b = nat_cmp a.one b.one
 abbrev pub meta_row : MetaRow → Row
 meta_row x = Int (pos x.one) ∷ Int (pos x.schema) ∷ Words x.day ∷ []
 
--- the fields of meta
-abbrev pub meta_fields : List Field
-meta_fields = Number ∷ Number ∷ Text ∷ []
-
 -- the row under a key
 abbrev pub is_meta : ℕ → MetaRow → Bool
 is_meta one x = is_eq (nat_cmp one x.one)
@@ -53,10 +48,6 @@ by_office a b = nat_cmp a.number b.number
 -- the values of a row of offices
 abbrev pub office_row : OfficeRow → Row
 office_row x = Int (pos x.number) ∷ or_null x.parent ∷ Words x.hkey ∷ Words x.name ∷ []
-
--- the fields of offices
-abbrev pub office_fields : List Field
-office_fields = Number ∷ MaybeNumber ∷ Text ∷ Text ∷ []
 
 -- the row is that of this office
 abbrev pub is_office : ℕ → OfficeRow → Bool
@@ -74,10 +65,6 @@ by_staff a b = ordering_then (nat_cmp a.office b.office) (nat_cmp a.number b.num
 abbrev pub staff_row : StaffRow → Row
 staff_row x = Int (pos x.office) ∷ Int (pos x.number) ∷ Words x.name ∷ Int (pos x.role) ∷ []
 
--- the fields of staff
-abbrev pub staff_fields : List Field
-staff_fields = Number ∷ Number ∷ Text ∷ Number ∷ []
-
 -- the row is that of this member of an office's staff
 abbrev pub is_staff : ℕ → ℕ → StaffRow → Bool
 is_staff office number x = is_eq (ordering_then (nat_cmp office x.office) (nat_cmp number x.number))
@@ -93,10 +80,6 @@ by_client a b = ordering_then (nat_cmp a.office b.office) (nat_cmp a.number b.nu
 -- the values of a row of clients
 abbrev pub client_row : ClientRow → Row
 client_row x = Int (pos x.office) ∷ Int (pos x.number) ∷ Words x.name ∷ []
-
--- the fields of clients
-abbrev pub client_fields : List Field
-client_fields = Number ∷ Number ∷ Text ∷ []
 
 -- the row is that of this client of an office
 abbrev pub is_client : ℕ → ℕ → ClientRow → Bool
@@ -114,10 +97,6 @@ by_charge a b = nat_cmp a.number b.number
 abbrev pub charge_row : ChargeRow → Row
 charge_row x = Int (pos x.number) ∷ Words x.name ∷ Int (pos x.kind) ∷ Int (pos x.calc) ∷ Int x.value ∷ []
 
--- the fields of charges
-abbrev pub charge_fields : List Field
-charge_fields = Number ∷ Text ∷ Number ∷ Number ∷ Amount ∷ []
-
 -- the row is that of this charge
 abbrev pub is_charge : ℕ → ChargeRow → Bool
 is_charge number x = is_eq (nat_cmp number x.number)
@@ -133,11 +112,6 @@ product_row x = Int (pos x.number) ∷ Words x.name ∷ Int (pos x.method) ∷ I
     ∷ Int x.max_principal ∷ Int (pos x.min_periods) ∷ Int (pos x.max_periods) ∷ Int (pos x.strategy)
     ∷ or_null x.disbursement_charge ∷ or_null x.instalment_charge ∷ or_null x.overdue_charge ∷ Int (pos x.retired) ∷ []
 
--- the fields of products
-abbrev pub product_fields : List Field
-product_fields = Number ∷ Text ∷ Number ∷ Number ∷ Number ∷ Number ∷ Number ∷ Number ∷ Amount ∷ Amount ∷ Number ∷ Number
-    ∷ Number ∷ MaybeNumber ∷ MaybeNumber ∷ MaybeNumber ∷ Number ∷ []
-
 -- the row is that of this product
 abbrev pub is_product : ℕ → ProductRow → Bool
 is_product number x = is_eq (nat_cmp number x.number)
@@ -150,10 +124,6 @@ by_loan a b = ordering_then (nat_cmp a.office b.office) (nat_cmp a.number b.numb
 abbrev pub loan_row : LoanRow → Row
 loan_row x = Int (pos x.office) ∷ Int (pos x.number) ∷ Int (pos x.client) ∷ Int (pos x.product) ∷ Int x.principal
     ∷ Int (pos x.periods) ∷ Int (pos x.stage) ∷ or_text x.approved ∷ or_text x.disbursed ∷ []
-
--- the fields of loans
-abbrev pub loan_fields : List Field
-loan_fields = Number ∷ Number ∷ Number ∷ Number ∷ Amount ∷ Number ∷ Number ∷ MaybeText ∷ MaybeText ∷ []
 
 -- the row is that of this loan of an office
 abbrev pub is_loan : ℕ → ℕ → LoanRow → Bool
@@ -176,10 +146,6 @@ abbrev pub entry_row : EntryRow → Row
 entry_row x = Int (pos x.office) ∷ Int (pos x.loan) ∷ Int (pos x.seq) ∷ Int (pos x.kind) ∷ Words x.day ∷ Int x.amount
     ∷ Int (pos x.instalment) ∷ Int (pos x.portion) ∷ or_text x.receipt ∷ Words x.staff ∷ Int (pos x.reversed) ∷ []
 
--- the fields of entries
-abbrev pub entry_fields : List Field
-entry_fields = Number ∷ Number ∷ Number ∷ Number ∷ Text ∷ Amount ∷ Number ∷ Number ∷ MaybeText ∷ Text ∷ Number ∷ []
-
 -- the row is that of this entry of a loan
 abbrev pub is_entry : ℕ → ℕ → ℕ → EntryRow → Bool
 is_entry office loan seq x =
@@ -196,10 +162,6 @@ by_receipt a b = ordering_then (nat_cmp a.office b.office) (slice_cmp nat_cmp a.
 -- the values of a row of receipts
 abbrev pub receipt_row : ReceiptRow → Row
 receipt_row x = Int (pos x.office) ∷ Words x.receipt ∷ Int (pos x.loan) ∷ Int (pos x.seq) ∷ []
-
--- the fields of receipts
-abbrev pub receipt_fields : List Field
-receipt_fields = Number ∷ Text ∷ Number ∷ Number ∷ []
 
 -- the row is that of this receipt of an office
 abbrev pub is_receipt : ℕ → List ℕ → ReceiptRow → Bool
@@ -226,11 +188,6 @@ instalment_row x = Int (pos x.office) ∷ Int (pos x.loan) ∷ Int (pos x.number
     ∷ Int x.written_off_interest ∷ Int x.owed_principal ∷ Int x.paid_principal ∷ Int x.waived_principal
     ∷ Int x.written_off_principal ∷ []
 
--- the fields of instalments
-abbrev pub instalment_fields : List Field
-instalment_fields = Number ∷ Number ∷ Number ∷ Text ∷ Amount ∷ Amount ∷ Amount ∷ Amount ∷ Amount ∷ Amount ∷ Amount
-    ∷ Amount ∷ Amount ∷ Amount ∷ Amount ∷ Amount ∷ Amount ∷ Amount ∷ Amount ∷ Amount ∷ []
-
 -- the row under a key
 abbrev pub is_instalment : ℕ → ℕ → ℕ → InstalmentRow → Bool
 is_instalment office loan number x =
@@ -253,10 +210,6 @@ by_share a b = ordering_then (nat_cmp a.office b.office) (ordering_then (nat_cmp
 abbrev pub share_row : ShareRow → Row
 share_row x = Int (pos x.office) ∷ Int (pos x.loan) ∷ Int (pos x.seq) ∷ Int (pos x.place) ∷ Int (pos x.instalment)
     ∷ Int (pos x.portion) ∷ Int (pos x.how) ∷ Int x.amount ∷ []
-
--- the fields of shares
-abbrev pub share_fields : List Field
-share_fields = Number ∷ Number ∷ Number ∷ Number ∷ Number ∷ Number ∷ Number ∷ Amount ∷ []
 
 -- the row under a key
 abbrev pub is_share : ℕ → ℕ → ℕ → ℕ → ShareRow → Bool

@@ -1,89 +1,150 @@
--- The tables as SQL sees them.
-use Rattle.std.specs.Prelude.{[], ◌∷◌, codes}
-use Rattle.sqlite.specs.Table.{Table}
+-- The tables as data, and the schema that they make.
+use Rattle.std.specs.Prelude.{ℕ, List, [], ◌∷◌, map, flat_map, take, codes}
+use Rattle.sqlite.specs.Change.{created}
 use Rattle.sqlite.specs.Schema.{Schema}
-use Rattle.mf_store_tables.specs.Tables.{int, text, maybe_int, maybe_text, table_with, table_of, index_on}
+use Rattle.mf_store_tables.specs.Columns.{Columns, named, unique, Number, Amount, Text, MaybeNumber, MaybeText}
+use Rattle.mf_store_tables.specs.Columns.{sql_table, sql_indexes}
+use Rattle.mf_store_tables.specs.Tables.{no_schema}
 
 -- the schema's number and the business day, in one row
-abbrev pub meta : Table
-meta = table_of 0 (codes "meta") (int (codes "one") ∷ int (codes "schema") ∷ text (codes "day") ∷ []) (1 ∷ [])
+abbrev pub meta : Columns
+meta = record {
+  name = codes "meta";
+  columns = named Number (codes "one") ∷ named Number (codes "schema") ∷ named Text (codes "day") ∷ [];
+  key = 1;
+}
 
 -- the offices, each with its parent and its hierarchy text
-abbrev pub offices : Table
-offices = table_with 2 (codes "offices") (int (codes "number") ∷ maybe_int (codes "parent") ∷ text (codes "hkey")
-    ∷ text (codes "name") ∷ []) (1 ∷ []) ((3 ∷ []) ∷ (1 ∷ []) ∷ [])
+abbrev pub offices : Columns
+offices = record {
+  name = codes "offices";
+  columns = named Number (codes "number") ∷ named MaybeNumber (codes "parent") ∷ unique Text (codes "hkey")
+      ∷ named Text (codes "name") ∷ [];
+  key = 1;
+}
 
 -- the members of staff, by office
-abbrev pub staff : Table
-staff = table_of 5 (codes "staff") (int (codes "office") ∷ int (codes "number") ∷ text (codes "name")
-    ∷ int (codes "role") ∷ []) (1 ∷ 2 ∷ [])
+abbrev pub staff : Columns
+staff = record {
+  name = codes "staff";
+  columns = named Number (codes "office") ∷ named Number (codes "number") ∷ named Text (codes "name")
+      ∷ named Number (codes "role") ∷ [];
+  key = 2;
+}
 
 -- the clients, by office
-abbrev pub clients : Table
-clients = table_of 7 (codes "clients") (int (codes "office") ∷ int (codes "number") ∷ text (codes "name") ∷ [])
-    (1 ∷ 2 ∷ [])
+abbrev pub clients : Columns
+clients = record {
+  name = codes "clients";
+  columns = named Number (codes "office") ∷ named Number (codes "number") ∷ named Text (codes "name") ∷ [];
+  key = 2;
+}
 
 -- the charges
-abbrev pub charges : Table
-charges = table_of 9 (codes "charges") (int (codes "number") ∷ text (codes "name") ∷ int (codes "kind")
-    ∷ int (codes "calc") ∷ int (codes "value") ∷ []) (1 ∷ [])
+abbrev pub charges : Columns
+charges = record {
+  name = codes "charges";
+  columns = named Number (codes "number") ∷ named Text (codes "name") ∷ named Number (codes "kind")
+      ∷ named Number (codes "calc") ∷ named Amount (codes "value") ∷ [];
+  key = 1;
+}
 
 -- the products
-abbrev pub products : Table
-products = table_of 11 (codes "products") (int (codes "number") ∷ text (codes "name") ∷ int (codes "method")
-    ∷ int (codes "rate") ∷ int (codes "frequency") ∷ int (codes "every") ∷ int (codes "principal_grace")
-    ∷ int (codes "interest_grace") ∷ int (codes "min_principal") ∷ int (codes "max_principal")
-    ∷ int (codes "min_periods") ∷ int (codes "max_periods") ∷ int (codes "strategy")
-    ∷ maybe_int (codes "disbursement_charge") ∷ maybe_int (codes "instalment_charge")
-    ∷ maybe_int (codes "overdue_charge") ∷ int (codes "retired") ∷ []) (1 ∷ [])
+abbrev pub products : Columns
+products = record {
+  name = codes "products";
+  columns = named Number (codes "number") ∷ named Text (codes "name") ∷ named Number (codes "method")
+      ∷ named Number (codes "rate") ∷ named Number (codes "frequency") ∷ named Number (codes "every")
+      ∷ named Number (codes "principal_grace") ∷ named Number (codes "interest_grace")
+      ∷ named Amount (codes "min_principal") ∷ named Amount (codes "max_principal") ∷ named Number (codes "min_periods")
+      ∷ named Number (codes "max_periods") ∷ named Number (codes "strategy")
+      ∷ named MaybeNumber (codes "disbursement_charge") ∷ named MaybeNumber (codes "instalment_charge")
+      ∷ named MaybeNumber (codes "overdue_charge") ∷ named Number (codes "retired") ∷ [];
+  key = 1;
+}
 
 -- the loans, by office
-abbrev pub loans : Table
-loans = table_of 13 (codes "loans") (int (codes "office") ∷ int (codes "number") ∷ int (codes "client")
-    ∷ int (codes "product") ∷ int (codes "principal") ∷ int (codes "periods") ∷ int (codes "stage")
-    ∷ maybe_text (codes "approved") ∷ maybe_text (codes "disbursed") ∷ []) (1 ∷ 2 ∷ [])
+abbrev pub loans : Columns
+loans = record {
+  name = codes "loans";
+  columns = named Number (codes "office") ∷ named Number (codes "number") ∷ named Number (codes "client")
+      ∷ named Number (codes "product") ∷ named Amount (codes "principal") ∷ named Number (codes "periods")
+      ∷ named Number (codes "stage") ∷ named MaybeText (codes "approved") ∷ named MaybeText (codes "disbursed") ∷ [];
+  key = 2;
+}
 
 -- the entries, by loan
-abbrev pub entries : Table
-entries = table_of 15 (codes "entries") (int (codes "office") ∷ int (codes "loan") ∷ int (codes "seq")
-    ∷ int (codes "kind") ∷ text (codes "day") ∷ int (codes "amount") ∷ int (codes "instalment") ∷ int (codes "portion")
-    ∷ maybe_text (codes "receipt") ∷ text (codes "staff") ∷ int (codes "reversed") ∷ []) (1 ∷ 2 ∷ 3 ∷ [])
+abbrev pub entries : Columns
+entries = record {
+  name = codes "entries";
+  columns = named Number (codes "office") ∷ named Number (codes "loan") ∷ named Number (codes "seq")
+      ∷ named Number (codes "kind") ∷ named Text (codes "day") ∷ named Amount (codes "amount")
+      ∷ named Number (codes "instalment") ∷ named Number (codes "portion") ∷ named MaybeText (codes "receipt")
+      ∷ named Text (codes "staff") ∷ named Number (codes "reversed") ∷ [];
+  key = 3;
+}
 
 -- the receipts, by office
-abbrev pub receipts : Table
-receipts = table_of 17 (codes "receipts") (int (codes "office") ∷ text (codes "receipt") ∷ int (codes "loan")
-    ∷ int (codes "seq") ∷ []) (1 ∷ 2 ∷ [])
+abbrev pub receipts : Columns
+receipts = record {
+  name = codes "receipts";
+  columns = named Number (codes "office") ∷ named Text (codes "receipt") ∷ named Number (codes "loan")
+      ∷ named Number (codes "seq") ∷ [];
+  key = 2;
+}
 
 -- the instalments of accounts, by loan
-abbrev pub instalments : Table
-instalments = table_of 19 (codes "instalments") (int (codes "office") ∷ int (codes "loan") ∷ int (codes "number")
-    ∷ text (codes "due") ∷ int (codes "owed_penalty") ∷ int (codes "paid_penalty") ∷ int (codes "waived_penalty")
-    ∷ int (codes "written_off_penalty") ∷ int (codes "owed_fee") ∷ int (codes "paid_fee") ∷ int (codes "waived_fee")
-    ∷ int (codes "written_off_fee") ∷ int (codes "owed_interest") ∷ int (codes "paid_interest")
-    ∷ int (codes "waived_interest") ∷ int (codes "written_off_interest") ∷ int (codes "owed_principal")
-    ∷ int (codes "paid_principal") ∷ int (codes "waived_principal") ∷ int (codes "written_off_principal") ∷ [])
-    (1 ∷ 2 ∷ 3 ∷ [])
+abbrev pub instalments : Columns
+instalments = record {
+  name = codes "instalments";
+  columns = named Number (codes "office") ∷ named Number (codes "loan") ∷ named Number (codes "number")
+      ∷ named Text (codes "due") ∷ named Amount (codes "owed_penalty") ∷ named Amount (codes "paid_penalty")
+      ∷ named Amount (codes "waived_penalty") ∷ named Amount (codes "written_off_penalty")
+      ∷ named Amount (codes "owed_fee") ∷ named Amount (codes "paid_fee") ∷ named Amount (codes "waived_fee")
+      ∷ named Amount (codes "written_off_fee") ∷ named Amount (codes "owed_interest")
+      ∷ named Amount (codes "paid_interest") ∷ named Amount (codes "waived_interest")
+      ∷ named Amount (codes "written_off_interest") ∷ named Amount (codes "owed_principal")
+      ∷ named Amount (codes "paid_principal") ∷ named Amount (codes "waived_principal")
+      ∷ named Amount (codes "written_off_principal") ∷ [];
+  key = 3;
+}
 
 -- what entries settle, by entry
-abbrev pub shares : Table
-shares = table_of 21 (codes "shares") (int (codes "office") ∷ int (codes "loan") ∷ int (codes "seq")
-    ∷ int (codes "place") ∷ int (codes "instalment") ∷ int (codes "portion") ∷ int (codes "how") ∷ int (codes "amount")
-    ∷ []) (1 ∷ 2 ∷ 3 ∷ 4 ∷ [])
+abbrev pub shares : Columns
+shares = record {
+  name = codes "shares";
+  columns = named Number (codes "office") ∷ named Number (codes "loan") ∷ named Number (codes "seq")
+      ∷ named Number (codes "place") ∷ named Number (codes "instalment") ∷ named Number (codes "portion")
+      ∷ named Number (codes "how") ∷ named Amount (codes "amount") ∷ [];
+  key = 4;
+}
 
--- the eleven tables and their indexes
-abbrev pub schema : Schema
-schema = record {
-  tables = meta ∷ offices ∷ staff ∷ clients ∷ charges ∷ products ∷ loans ∷ entries ∷ receipts ∷ instalments ∷ shares
-      ∷ [];
-  indexes = index_on 0 1 (codes "sqlite_autoindex_meta_1") (1 ∷ []) ∷ index_on 2 3 (codes "sqlite_autoindex_offices_1")
-      (3 ∷ []) ∷ index_on 2 4 (codes "sqlite_autoindex_offices_2") (1 ∷ [])
-      ∷ index_on 5 6 (codes "sqlite_autoindex_staff_1") (1 ∷ 2 ∷ []) ∷ index_on 7 8 (codes "sqlite_autoindex_clients_1")
-      (1 ∷ 2 ∷ []) ∷ index_on 9 10 (codes "sqlite_autoindex_charges_1") (1 ∷ [])
-      ∷ index_on 11 12 (codes "sqlite_autoindex_products_1") (1 ∷ [])
-      ∷ index_on 13 14 (codes "sqlite_autoindex_loans_1") (1 ∷ 2 ∷ [])
-      ∷ index_on 15 16 (codes "sqlite_autoindex_entries_1") (1 ∷ 2 ∷ 3 ∷ [])
-      ∷ index_on 17 18 (codes "sqlite_autoindex_receipts_1") (1 ∷ 2 ∷ [])
-      ∷ index_on 19 20 (codes "sqlite_autoindex_instalments_1") (1 ∷ 2 ∷ 3 ∷ [])
-      ∷ index_on 21 22 (codes "sqlite_autoindex_shares_1") (1 ∷ 2 ∷ 3 ∷ 4 ∷ []) ∷ [];
+-- the tables, each with the tree of its rows
+abbrev pub tables : List (ℕ × Columns)
+tables = (0, meta) ∷ (2, offices) ∷ (5, staff) ∷ (7, clients) ∷ (9, charges) ∷ (11, products) ∷ (13, loans)
+    ∷ (15, entries) ∷ (17, receipts) ∷ (19, instalments) ∷ (21, shares) ∷ []
+
+-- the schema that tables make, with their indexes
+abbrev pub schema_with : List (ℕ × Columns) → Schema
+schema_with ts = record {
+  tables = map (λ (t : ℕ × Columns). sql_table t.0 t.1) ts;
+  indexes = flat_map (λ (t : ℕ × Columns). sql_indexes t.0 t.1) ts;
   views = [];
 }
+
+-- today's schema
+abbrev pub schema : Schema
+schema = schema_with tables
+
+-- the first schema, which had no tables of instalments and of shares
+abbrev pub first_schema : Schema
+first_schema = schema_with (take 9 tables)
+
+-- the schema once these are made after those of a schema, each in the next tree
+abbrev pub made_after : Schema → List (ℕ × Columns) → Schema
+made_after before [] = before
+made_after before (t ∷ ts) = made_after (created before (sql_table 0 t.1)) ts
+
+-- the schema once these are made, and no others
+abbrev pub made : List (ℕ × Columns) → Schema
+made = made_after no_schema

@@ -1,9 +1,12 @@
 -- The lists that the tables keep, and what each write makes of them. Before the tables are made there is none.
-use Rattle.std.specs.Prelude.{◌≡◌, Option, Some, None, IsSome}
+use Rattle.std.specs.Prelude.{◌≡◌, ℕ, List, [], ◌∷◌, Option, Some, None, IsSome}
+use Rattle.std.specs.declared.cmp.Ordering.{Ordering}
+use Rattle.sqlite.specs.Order.{Row}
 use Rattle.sqlite.specs.Schema.{Schema}
 use Rattle.sqlite.specs.Tree.{Trees}
 use Rattle.sqlite_catalog.specs.Listing.{IsSound}
 use Rattle.mf_store_tables.specs.Keep.{Keeps}
+use Rattle.mf_store_tables.specs.Trees.{Condition, AllHold}
 use Rattle.sqlite.specs.State.{State}
 use Rattle.mf_store_tables.specs.Tables.{no_schema}
 use Rattle.mf_store_tables.specs.Writes.{Serves, Steps}
@@ -21,20 +24,23 @@ use Rattle.mf_store_records.specs.declared.writes.StoreWrite.TheVariants.{AddLoa
 use Rattle.mf_store_records.specs.declared.writes.StoreWrite.TheVariants.{AddReceipt, PutInstalment, PutShare}
 use Rattle.mf_store_records.specs.declared.writes.StoreWrite.TheVariants.{RemoveShares}
 
+-- the tree keeps these rows, in the order of their keys
+abbrev pub kept_in : {X : Type 0} → ℕ → (X → Row) → (X → X → Ordering) → List X → Condition
+kept_in tree stored cmp items = (tree, λ rows. Keeps stored cmp rows items)
+
+-- what the tree of each table keeps, in the order of the tables
+abbrev pub conditions : Lists → List Condition
+conditions lists = kept_in 0 meta_row by_meta lists.meta ∷ kept_in 2 office_row by_office lists.offices
+    ∷ kept_in 5 staff_row by_staff lists.staff ∷ kept_in 7 client_row by_client lists.clients
+    ∷ kept_in 9 charge_row by_charge lists.charges ∷ kept_in 11 product_row by_product lists.products
+    ∷ kept_in 13 loan_row by_loan lists.loans ∷ kept_in 15 entry_row by_entry lists.entries
+    ∷ kept_in 17 receipt_row by_receipt lists.receipts
+    ∷ kept_in 19 instalment_row by_instalment lists.instalments ∷ kept_in 21 share_row by_share lists.shares ∷ []
+
 -- the trees list the schema and obey it, and keep these lists
 pub record HoldsLists (trees : Trees) (lists : Lists) : Type 0 where
   pub sound : IsSound schema trees
-  pub meta : Keeps meta_row by_meta (trees 0) lists.meta
-  pub offices : Keeps office_row by_office (trees 2) lists.offices
-  pub staff : Keeps staff_row by_staff (trees 5) lists.staff
-  pub clients : Keeps client_row by_client (trees 7) lists.clients
-  pub charges : Keeps charge_row by_charge (trees 9) lists.charges
-  pub products : Keeps product_row by_product (trees 11) lists.products
-  pub loans : Keeps loan_row by_loan (trees 13) lists.loans
-  pub entries : Keeps entry_row by_entry (trees 15) lists.entries
-  pub receipts : Keeps receipt_row by_receipt (trees 17) lists.receipts
-  pub instalments : Keeps instalment_row by_instalment (trees 19) lists.instalments
-  pub shares : Keeps share_row by_share (trees 21) lists.shares
+  pub all : AllHold trees (conditions lists)
 
 -- the schema of a database that keeps these lists; none where the tables are still to be made
 abbrev pub schema_of : Option Lists → Schema

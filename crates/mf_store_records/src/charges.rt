@@ -1,8 +1,12 @@
 //! The table charges: its rows, and the texts that read and write them.
 
-ghost use Rattle.mf_store_records.specs.Rows.{charge_fields, IsNew, by_charge, charge_row, put_charge, is_charge};
+ghost use Rattle.std.specs.Ordering.{is_eq};
+ghost use Rattle.mf_store_records.specs.Tables.{charges};
+ghost use Rattle.mf_store_records.specs.ChargesTexts.{kept, fits, ordered};
+ghost use Rattle.mf_store_records.specs.Keys.{one_number};
+ghost use Rattle.mf_store_records.specs.Rows.{by_charge, charge_row, put_charge, is_charge};
 
-use crate::table::{New, Put, Table, has_columns};
+use crate::table::{Table, has_columns};
 use crate::text::Text;
 use mf_store_tables::run;
 use sqlite::{Alter, Error, Row, Transaction, params};
@@ -21,11 +25,19 @@ pub struct ChargeRow {
 }
 
 impl Table for ChargeRow {
+    ghost use Rattle.std.proofs.Common.{ap, refl};
+
     type Key = u32;
+
+    ghost columns = { charges };
+
+    ghost place = { 4 };
+
+    ghost tree = { 9 };
 
     ghost stored = { charge_row };
 
-    ghost fields = { charge_fields };
+    ghost by = { by_charge };
 
     ghost list = { λ lists. lists.charges };
 
@@ -55,12 +67,22 @@ impl Table for ChargeRow {
     fn find_text() -> &'static str {
         "SELECT number, name, kind, calc, value FROM charges WHERE number = ?1 ORDER BY number"
     }
-}
 
-impl Put<New> for ChargeRow {
-    ghost Before = { λ charge lists. IsNew by_charge charge lists.charges };
-
-    fn put_row<S: Alter>(&self, tx: &mut Transaction<'_, S>) -> Result<(), Error> {
-        self.execute(tx, "INSERT INTO charges VALUES (?1, ?2, ?3, ?4, ?5)")
+    fn insert_text() -> &'static str {
+        "INSERT INTO charges VALUES (?1, ?2, ?3, ?4, ?5)"
     }
+
+    ghost kept = { kept };
+
+    ghost fits = { fits };
+
+    ghost ordered = { ordered };
+
+    ghost keyed = { refl };
+
+    ghost found = { λ key x. ap is_eq (one_number key x.number) };
+
+    ghost held = { λ trees lists holds. holds.all.1.1.1.1.0 };
+
+    ghost changes = { λ x lists trees all. all };
 }

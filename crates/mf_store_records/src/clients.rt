@@ -1,9 +1,13 @@
 //! The table clients: its rows, and the texts that read and write them.
 
-ghost use Rattle.mf_store_records.specs.Rows.{client_fields, IsNew, by_client, client_row, put_client, is_client};
+ghost use Rattle.std.specs.Ordering.{is_eq};
+ghost use Rattle.mf_store_records.specs.Tables.{clients};
+ghost use Rattle.mf_store_records.specs.ClientsTexts.{kept, fits, ordered, lists_by_1};
+ghost use Rattle.mf_store_records.specs.Keys.{one_number, two_numbers};
+ghost use Rattle.mf_store_records.specs.Rows.{by_client, client_row, put_client, is_client};
 ghost use Rattle.mf_store_records.specs.Rows.{is_client_of};
 
-use crate::table::{Listed, New, Put, Table, has_columns};
+use crate::table::{Listed, Table, has_columns};
 use crate::text::Text;
 use mf_store_tables::run;
 use sqlite::{Alter, Error, Row, Transaction, params};
@@ -17,11 +21,19 @@ pub struct ClientRow {
 }
 
 impl Table for ClientRow {
+    ghost use Rattle.std.proofs.Common.{ap, refl};
+
     type Key = (u32, u32);
+
+    ghost columns = { clients };
+
+    ghost place = { 3 };
+
+    ghost tree = { 7 };
 
     ghost stored = { client_row };
 
-    ghost fields = { client_fields };
+    ghost by = { by_client };
 
     ghost list = { λ lists. lists.clients };
 
@@ -45,17 +57,29 @@ impl Table for ClientRow {
     fn find_text() -> &'static str {
         "SELECT office, number, name FROM clients WHERE office = ?1 AND number = ?2 ORDER BY office, number"
     }
-}
 
-impl Put<New> for ClientRow {
-    ghost Before = { λ client lists. IsNew by_client client lists.clients };
-
-    fn put_row<S: Alter>(&self, tx: &mut Transaction<'_, S>) -> Result<(), Error> {
-        self.execute(tx, "INSERT INTO clients VALUES (?1, ?2, ?3)")
+    fn insert_text() -> &'static str {
+        "INSERT INTO clients VALUES (?1, ?2, ?3)"
     }
+
+    ghost kept = { kept };
+
+    ghost fits = { fits };
+
+    ghost ordered = { ordered };
+
+    ghost keyed = { refl };
+
+    ghost found = { λ key x. ap is_eq (two_numbers key.0 key.1 x.office x.number) };
+
+    ghost held = { λ trees lists holds. holds.all.1.1.1.0 };
+
+    ghost changes = { λ x lists trees all. all };
 }
 
 impl Listed for ClientRow {
+    ghost use Rattle.std.proofs.Common.{ap, refl};
+
     type Part = u32;
 
     ghost is_in = { is_client_of };
@@ -63,4 +87,10 @@ impl Listed for ClientRow {
     fn list_text() -> &'static str {
         "SELECT office, number, name FROM clients WHERE office = ?1 ORDER BY office, number"
     }
+
+    ghost lists = { lists_by_1 };
+
+    ghost partly = { refl };
+
+    ghost listed = { λ part x. ap is_eq (one_number part x.office) };
 }

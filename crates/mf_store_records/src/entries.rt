@@ -1,9 +1,13 @@
 //! The table entries: its rows, and the texts that read and write them.
 
-ghost use Rattle.mf_store_records.specs.Rows.{entry_fields, IsNew, by_entry, entry_row, put_entry, is_entry};
+ghost use Rattle.std.specs.Ordering.{is_eq};
+ghost use Rattle.mf_store_records.specs.Tables.{entries};
+ghost use Rattle.mf_store_records.specs.EntriesTexts.{kept, fits, ordered, lists_by_2};
+ghost use Rattle.mf_store_records.specs.Keys.{two_numbers, three_numbers};
+ghost use Rattle.mf_store_records.specs.Rows.{by_entry, entry_row, put_entry, is_entry};
 ghost use Rattle.mf_store_records.specs.Rows.{is_entry_of};
 
-use crate::table::{Changed, Listed, New, Put, Table, has_columns};
+use crate::table::{Changing, Listed, Table, has_columns};
 use crate::text::Text;
 use mf_store_tables::run;
 use sqlite::{Alter, Error, Row, Transaction, params};
@@ -36,11 +40,19 @@ pub struct EntryRow {
 }
 
 impl Table for EntryRow {
+    ghost use Rattle.std.proofs.Common.{ap, refl};
+
     type Key = (u32, u32, u32);
+
+    ghost columns = { entries };
+
+    ghost place = { 7 };
+
+    ghost tree = { 15 };
 
     ghost stored = { entry_row };
 
-    ghost fields = { entry_fields };
+    ghost by = { by_entry };
 
     ghost list = { λ lists. lists.entries };
 
@@ -89,34 +101,38 @@ impl Table for EntryRow {
         "SELECT office, loan, seq, kind, day, amount, instalment, portion, receipt, staff, \
          reversed FROM entries WHERE office = ?1 AND loan = ?2 AND seq = ?3 ORDER BY office, loan, seq"
     }
-}
 
-impl Put<New> for EntryRow {
-    ghost Before = { λ entry lists. IsNew by_entry entry lists.entries };
-
-    fn put_row<S: Alter>(&self, tx: &mut Transaction<'_, S>) -> Result<(), Error> {
-        self.execute(
-            tx,
-            "INSERT INTO entries VALUES (?1, ?2, ?3, ?4, ?5, ?6, ?7, ?8, ?9, ?10, ?11)",
-        )
+    fn insert_text() -> &'static str {
+        "INSERT INTO entries VALUES (?1, ?2, ?3, ?4, ?5, ?6, ?7, ?8, ?9, ?10, ?11)"
     }
+
+    ghost kept = { kept };
+
+    ghost fits = { fits };
+
+    ghost ordered = { ordered };
+
+    ghost keyed = { refl };
+
+    ghost found = { λ key x. ap is_eq (three_numbers key.0 key.1 key.2 x.office x.loan x.seq) };
+
+    ghost held = { λ trees lists holds. holds.all.1.1.1.1.1.1.1.0 };
+
+    ghost changes = { λ x lists trees all. all };
 }
 
-impl Put<Changed> for EntryRow {
-    ghost Before = { λ entry lists. Unit {0} };
-
-    fn put_row<S: Alter>(&self, tx: &mut Transaction<'_, S>) -> Result<(), Error> {
-        self.execute(
-            tx,
-            "INSERT INTO entries VALUES (?1, ?2, ?3, ?4, ?5, ?6, ?7, ?8, ?9, ?10, ?11) ON CONFLICT (office, loan, \
-             seq) DO UPDATE SET kind = excluded.kind, day = excluded.day, amount = excluded.amount, \
-             instalment = excluded.instalment, portion = excluded.portion, receipt = excluded.receipt, \
-             staff = excluded.staff, reversed = excluded.reversed",
-        )
+impl Changing for EntryRow {
+    fn upsert_text() -> &'static str {
+        "INSERT INTO entries VALUES (?1, ?2, ?3, ?4, ?5, ?6, ?7, ?8, ?9, ?10, ?11) ON CONFLICT (office, loan, \
+         seq) DO UPDATE SET kind = excluded.kind, day = excluded.day, amount = excluded.amount, \
+         instalment = excluded.instalment, portion = excluded.portion, receipt = excluded.receipt, \
+         staff = excluded.staff, reversed = excluded.reversed"
     }
 }
 
 impl Listed for EntryRow {
+    ghost use Rattle.std.proofs.Common.{ap, refl};
+
     type Part = (u32, u32);
 
     ghost is_in = { λ loan. is_entry_of loan.0 loan.1 };
@@ -125,4 +141,10 @@ impl Listed for EntryRow {
         "SELECT office, loan, seq, kind, day, amount, instalment, portion, receipt, staff, \
          reversed FROM entries WHERE office = ?1 AND loan = ?2 ORDER BY office, loan, seq"
     }
+
+    ghost lists = { lists_by_2 };
+
+    ghost partly = { refl };
+
+    ghost listed = { λ part x. ap is_eq (two_numbers part.0 part.1 x.office x.loan) };
 }

@@ -1,9 +1,13 @@
 //! The table instalments: its rows, and the texts that read and write them.
 
-ghost use Rattle.mf_store_records.specs.Rows.{instalment_fields, instalment_row, put_instalment, is_instalment};
+ghost use Rattle.std.specs.Ordering.{is_eq};
+ghost use Rattle.mf_store_records.specs.Tables.{instalments};
+ghost use Rattle.mf_store_records.specs.InstalmentsTexts.{kept, fits, ordered, lists_by_2};
+ghost use Rattle.mf_store_records.specs.Keys.{two_numbers, three_numbers};
+ghost use Rattle.mf_store_records.specs.Rows.{by_instalment, instalment_row, put_instalment, is_instalment};
 ghost use Rattle.mf_store_records.specs.Rows.{is_instalment_of};
 
-use crate::table::{Changed, Listed, Put, Table, has_columns};
+use crate::table::{Changing, Listed, Table, has_columns};
 use crate::text::Text;
 use mf_store_tables::run;
 use sqlite::{Alter, Error, Row, Transaction, params};
@@ -38,11 +42,19 @@ pub struct InstalmentRow {
 }
 
 impl Table for InstalmentRow {
+    ghost use Rattle.std.proofs.Common.{ap, refl};
+
     type Key = (u32, u32, u32);
+
+    ghost columns = { instalments };
+
+    ghost place = { 9 };
+
+    ghost tree = { 19 };
 
     ghost stored = { instalment_row };
 
-    ghost fields = { instalment_fields };
+    ghost by = { by_instalment };
 
     ghost list = { λ lists. lists.instalments };
 
@@ -112,29 +124,45 @@ impl Table for InstalmentRow {
          written_off_principal FROM instalments WHERE office = ?1 AND loan = ?2 AND number = ?3 ORDER BY office, \
          loan, number"
     }
+
+    fn insert_text() -> &'static str {
+        "INSERT INTO instalments VALUES (?1, ?2, ?3, ?4, ?5, ?6, ?7, ?8, ?9, ?10, ?11, ?12, ?13, ?14, ?15, ?16, \
+         ?17, ?18, ?19, ?20)"
+    }
+
+    ghost kept = { kept };
+
+    ghost fits = { fits };
+
+    ghost ordered = { ordered };
+
+    ghost keyed = { refl };
+
+    ghost found = { λ key x. ap is_eq (three_numbers key.0 key.1 key.2 x.office x.loan x.number) };
+
+    ghost held = { λ trees lists holds. holds.all.1.1.1.1.1.1.1.1.1.0 };
+
+    ghost changes = { λ x lists trees all. all };
 }
 
-impl Put<Changed> for InstalmentRow {
-    ghost Before = { λ instalment lists. Unit {0} };
-
-    fn put_row<S: Alter>(&self, tx: &mut Transaction<'_, S>) -> Result<(), Error> {
-        self.execute(
-            tx,
-            "INSERT INTO instalments VALUES (?1, ?2, ?3, ?4, ?5, ?6, ?7, ?8, ?9, ?10, ?11, ?12, ?13, ?14, ?15, ?16, \
-             ?17, ?18, ?19, ?20) ON CONFLICT (office, loan, number) DO UPDATE SET due = excluded.due, \
-             owed_penalty = excluded.owed_penalty, paid_penalty = excluded.paid_penalty, \
-             waived_penalty = excluded.waived_penalty, written_off_penalty = excluded.written_off_penalty, \
-             owed_fee = excluded.owed_fee, paid_fee = excluded.paid_fee, waived_fee = excluded.waived_fee, \
-             written_off_fee = excluded.written_off_fee, owed_interest = excluded.owed_interest, \
-             paid_interest = excluded.paid_interest, waived_interest = excluded.waived_interest, \
-             written_off_interest = excluded.written_off_interest, owed_principal = excluded.owed_principal, \
-             paid_principal = excluded.paid_principal, waived_principal = excluded.waived_principal, \
-             written_off_principal = excluded.written_off_principal",
-        )
+impl Changing for InstalmentRow {
+    fn upsert_text() -> &'static str {
+        "INSERT INTO instalments VALUES (?1, ?2, ?3, ?4, ?5, ?6, ?7, ?8, ?9, ?10, ?11, ?12, ?13, ?14, ?15, ?16, \
+         ?17, ?18, ?19, ?20) ON CONFLICT (office, loan, number) DO UPDATE SET due = excluded.due, \
+         owed_penalty = excluded.owed_penalty, paid_penalty = excluded.paid_penalty, \
+         waived_penalty = excluded.waived_penalty, written_off_penalty = excluded.written_off_penalty, \
+         owed_fee = excluded.owed_fee, paid_fee = excluded.paid_fee, waived_fee = excluded.waived_fee, \
+         written_off_fee = excluded.written_off_fee, owed_interest = excluded.owed_interest, \
+         paid_interest = excluded.paid_interest, waived_interest = excluded.waived_interest, \
+         written_off_interest = excluded.written_off_interest, owed_principal = excluded.owed_principal, \
+         paid_principal = excluded.paid_principal, waived_principal = excluded.waived_principal, \
+         written_off_principal = excluded.written_off_principal"
     }
 }
 
 impl Listed for InstalmentRow {
+    ghost use Rattle.std.proofs.Common.{ap, refl};
+
     type Part = (u32, u32);
 
     ghost is_in = { λ loan. is_instalment_of loan.0 loan.1 };
@@ -145,4 +173,10 @@ impl Listed for InstalmentRow {
          written_off_interest, owed_principal, paid_principal, waived_principal, \
          written_off_principal FROM instalments WHERE office = ?1 AND loan = ?2 ORDER BY office, loan, number"
     }
+
+    ghost lists = { lists_by_2 };
+
+    ghost partly = { refl };
+
+    ghost listed = { λ part x. ap is_eq (two_numbers part.0 part.1 x.office x.loan) };
 }

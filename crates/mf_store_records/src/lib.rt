@@ -29,6 +29,6 @@ pub use products::ProductRow;
 pub use receipts::{ReceiptRow, find_receipt};
 pub use shares::{EntryKey, ShareRow};
 pub use staff::StaffRow;
-pub use table::{Columns, Listed, Table, ask, find_row, list_rows, read_row};
+pub use table::{Listed, Table, Values, ask, find_row, list_rows, read_row};
 pub use text::Text;
 pub use writes::{CREATE_INSTALMENTS, CREATE_SHARES, StoreWrite};

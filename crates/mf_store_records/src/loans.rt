@@ -4,11 +4,15 @@ ghost use Rattle.std.specs.Prelude.{◌≡◌, false, IsTrue, OnOk, IfOk, IfErr,
 ghost use Rattle.mf_base.specs.declared.fault.Fault.TheVariants.{F20};
 ghost use Rattle.sqlite.specs.Held.{state};
 ghost use Rattle.sqlite.specs.State.{HasCleanDisk};
-ghost use Rattle.mf_store_records.specs.Rows.{loan_fields, IsNew, by_loan, Lists, loan_row, put_loan, is_loan};
+ghost use Rattle.std.specs.Ordering.{is_eq};
+ghost use Rattle.mf_store_records.specs.Tables.{loans};
+ghost use Rattle.mf_store_records.specs.LoansTexts.{kept, fits, ordered, lists_by_1};
+ghost use Rattle.mf_store_records.specs.Keys.{one_number, two_numbers};
+ghost use Rattle.mf_store_records.specs.Rows.{by_loan, Lists, loan_row, put_loan, is_loan};
 ghost use Rattle.mf_store_records.specs.Rows.{is_loan_of, is_loan_above};
 ghost use Rattle.mf_store_records.specs.Calls.{IsUnchanged, IsKeeping};
 
-use crate::table::{Changed, Listed, New, Put, Table, ask, has_columns};
+use crate::table::{Changing, Listed, Table, ask, has_columns};
 use crate::text::Text;
 use mf_base::Fault;
 use mf_store_tables::run;
@@ -34,11 +38,19 @@ pub struct LoanRow {
 }
 
 impl Table for LoanRow {
+    ghost use Rattle.std.proofs.Common.{ap, refl};
+
     type Key = (u32, u32);
+
+    ghost columns = { loans };
+
+    ghost place = { 6 };
+
+    ghost tree = { 13 };
 
     ghost stored = { loan_row };
 
-    ghost fields = { loan_fields };
+    ghost by = { by_loan };
 
     ghost list = { λ lists. lists.loans };
 
@@ -83,34 +95,38 @@ impl Table for LoanRow {
         "SELECT office, number, client, product, principal, periods, stage, approved, \
          disbursed FROM loans WHERE office = ?1 AND number = ?2 ORDER BY office, number"
     }
-}
 
-impl Put<New> for LoanRow {
-    ghost Before = { λ loan lists. IsNew by_loan loan lists.loans };
-
-    fn put_row<S: Alter>(&self, tx: &mut Transaction<'_, S>) -> Result<(), Error> {
-        self.execute(
-            tx,
-            "INSERT INTO loans VALUES (?1, ?2, ?3, ?4, ?5, ?6, ?7, ?8, ?9)",
-        )
+    fn insert_text() -> &'static str {
+        "INSERT INTO loans VALUES (?1, ?2, ?3, ?4, ?5, ?6, ?7, ?8, ?9)"
     }
+
+    ghost kept = { kept };
+
+    ghost fits = { fits };
+
+    ghost ordered = { ordered };
+
+    ghost keyed = { refl };
+
+    ghost found = { λ key x. ap is_eq (two_numbers key.0 key.1 x.office x.number) };
+
+    ghost held = { λ trees lists holds. holds.all.1.1.1.1.1.1.0 };
+
+    ghost changes = { λ x lists trees all. all };
 }
 
-impl Put<Changed> for LoanRow {
-    ghost Before = { λ loan lists. Unit {0} };
-
-    fn put_row<S: Alter>(&self, tx: &mut Transaction<'_, S>) -> Result<(), Error> {
-        self.execute(
-            tx,
-            "INSERT INTO loans VALUES (?1, ?2, ?3, ?4, ?5, ?6, ?7, ?8, ?9) ON CONFLICT (office, \
-             number) DO UPDATE SET client = excluded.client, product = excluded.product, \
-             principal = excluded.principal, periods = excluded.periods, stage = excluded.stage, \
-             approved = excluded.approved, disbursed = excluded.disbursed",
-        )
+impl Changing for LoanRow {
+    fn upsert_text() -> &'static str {
+        "INSERT INTO loans VALUES (?1, ?2, ?3, ?4, ?5, ?6, ?7, ?8, ?9) ON CONFLICT (office, \
+         number) DO UPDATE SET client = excluded.client, product = excluded.product, \
+         principal = excluded.principal, periods = excluded.periods, stage = excluded.stage, \
+         approved = excluded.approved, disbursed = excluded.disbursed"
     }
 }
 
 impl Listed for LoanRow {
+    ghost use Rattle.std.proofs.Common.{ap, refl};
+
     type Part = u32;
 
     ghost is_in = { is_loan_of };
@@ -119,6 +135,12 @@ impl Listed for LoanRow {
         "SELECT office, number, client, product, principal, periods, stage, approved, \
          disbursed FROM loans WHERE office = ?1 ORDER BY office, number"
     }
+
+    ghost lists = { lists_by_1 };
+
+    ghost partly = { refl };
+
+    ghost listed = { λ part x. ap is_eq (one_number part x.office) };
 }
 
 /// The first 100 rows of an office under numbers above one, in the order of their numbers.

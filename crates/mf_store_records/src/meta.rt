@@ -1,8 +1,12 @@
 //! The table meta, of one row: the schema's number and the business day.
 
-ghost use Rattle.mf_store_records.specs.Rows.{meta_fields, meta_row, put_meta, is_meta};
+ghost use Rattle.std.specs.Ordering.{is_eq};
+ghost use Rattle.mf_store_records.specs.Tables.{meta};
+ghost use Rattle.mf_store_records.specs.MetaTexts.{kept, fits, ordered};
+ghost use Rattle.mf_store_records.specs.Keys.{one_number};
+ghost use Rattle.mf_store_records.specs.Rows.{by_meta, meta_row, put_meta, is_meta};
 
-use crate::table::{Changed, Put, Table, has_columns};
+use crate::table::{Changing, Table, has_columns};
 use crate::text::Text;
 use mf_store_tables::run;
 use sqlite::{Alter, Error, Row, Transaction, params};
@@ -24,11 +28,19 @@ pub struct MetaRow {
 }
 
 impl Table for MetaRow {
+    ghost use Rattle.std.proofs.Common.{ap, refl};
+
     type Key = u32;
+
+    ghost columns = { meta };
+
+    ghost place = { 0 };
+
+    ghost tree = { 0 };
 
     ghost stored = { meta_row };
 
-    ghost fields = { meta_fields };
+    ghost by = { by_meta };
 
     ghost list = { λ lists. lists.meta };
 
@@ -52,16 +64,29 @@ impl Table for MetaRow {
     fn find_text() -> &'static str {
         "SELECT one, schema, day FROM meta WHERE one = ?1 ORDER BY one"
     }
+
+    fn insert_text() -> &'static str {
+        "INSERT INTO meta VALUES (?1, ?2, ?3)"
+    }
+
+    ghost kept = { kept };
+
+    ghost fits = { fits };
+
+    ghost ordered = { ordered };
+
+    ghost keyed = { refl };
+
+    ghost found = { λ key x. ap is_eq (one_number key x.one) };
+
+    ghost held = { λ trees lists holds. holds.all.0 };
+
+    ghost changes = { λ x lists trees all. all };
 }
 
-impl Put<Changed> for MetaRow {
-    ghost Before = { λ meta lists. Unit {0} };
-
-    fn put_row<S: Alter>(&self, tx: &mut Transaction<'_, S>) -> Result<(), Error> {
-        self.execute(
-            tx,
-            "INSERT INTO meta VALUES (?1, ?2, ?3) ON CONFLICT (one) DO UPDATE SET schema = excluded.schema, \
-             day = excluded.day",
-        )
+impl Changing for MetaRow {
+    fn upsert_text() -> &'static str {
+        "INSERT INTO meta VALUES (?1, ?2, ?3) ON CONFLICT (one) DO UPDATE SET schema = excluded.schema, \
+         day = excluded.day"
     }
 }

@@ -4,11 +4,15 @@ ghost use Rattle.std.specs.Prelude.{◌≡◌, false, IsTrue, OnOk, IfOk, IfErr,
 ghost use Rattle.mf_base.specs.declared.fault.Fault.TheVariants.{F20};
 ghost use Rattle.sqlite.specs.Held.{state};
 ghost use Rattle.sqlite.specs.State.{HasCleanDisk};
-ghost use Rattle.mf_store_records.specs.Rows.{office_fields, IsNew, by_office, Lists, office_row, put_office};
+ghost use Rattle.std.specs.Ordering.{is_eq};
+ghost use Rattle.mf_store_records.specs.Tables.{offices};
+ghost use Rattle.mf_store_records.specs.OfficesTexts.{kept, fits, ordered};
+ghost use Rattle.mf_store_records.specs.Keys.{one_number};
+ghost use Rattle.mf_store_records.specs.Rows.{by_office, Lists, office_row, put_office};
 ghost use Rattle.mf_store_records.specs.Rows.{is_office, is_in_range};
 ghost use Rattle.mf_store_records.specs.Calls.{IsUnchanged, IsKeeping};
 
-use crate::table::{New, Put, Table, ask, has_columns};
+use crate::table::{Table, ask, has_columns};
 use crate::text::Text;
 use mf_base::Fault;
 use mf_store_tables::run;
@@ -26,11 +30,19 @@ pub struct OfficeRow {
 }
 
 impl Table for OfficeRow {
+    ghost use Rattle.std.proofs.Common.{ap, refl};
+
     type Key = u32;
+
+    ghost columns = { offices };
+
+    ghost place = { 1 };
+
+    ghost tree = { 2 };
 
     ghost stored = { office_row };
 
-    ghost fields = { office_fields };
+    ghost by = { by_office };
 
     ghost list = { λ lists. lists.offices };
 
@@ -59,14 +71,24 @@ impl Table for OfficeRow {
     fn find_text() -> &'static str {
         "SELECT number, parent, hkey, name FROM offices WHERE number = ?1 ORDER BY number"
     }
-}
 
-impl Put<New> for OfficeRow {
-    ghost Before = { λ office lists. IsNew by_office office lists.offices };
-
-    fn put_row<S: Alter>(&self, tx: &mut Transaction<'_, S>) -> Result<(), Error> {
-        self.execute(tx, "INSERT INTO offices VALUES (?1, ?2, ?3, ?4)")
+    fn insert_text() -> &'static str {
+        "INSERT INTO offices VALUES (?1, ?2, ?3, ?4)"
     }
+
+    ghost kept = { kept };
+
+    ghost fits = { fits };
+
+    ghost ordered = { ordered };
+
+    ghost keyed = { refl };
+
+    ghost found = { λ key x. ap is_eq (one_number key x.number) };
+
+    ghost held = { λ trees lists holds. holds.all.1.0 };
+
+    ghost changes = { λ x lists trees all. all };
 }
 
 /// The offices whose hierarchy text is at least `low` and below `high`, byte by byte, in the order of their numbers.

@@ -1,8 +1,12 @@
 //! The table products: its rows, and the texts that read and write them.
 
-ghost use Rattle.mf_store_records.specs.Rows.{product_fields, IsNew, by_product, product_row, put_product, is_product};
+ghost use Rattle.std.specs.Ordering.{is_eq};
+ghost use Rattle.mf_store_records.specs.Tables.{products};
+ghost use Rattle.mf_store_records.specs.ProductsTexts.{kept, fits, ordered};
+ghost use Rattle.mf_store_records.specs.Keys.{one_number};
+ghost use Rattle.mf_store_records.specs.Rows.{by_product, product_row, put_product, is_product};
 
-use crate::table::{Changed, New, Put, Table, has_columns};
+use crate::table::{Changing, Table, has_columns};
 use crate::text::Text;
 use mf_store_tables::run;
 use sqlite::{Alter, Error, Row, Transaction, params};
@@ -37,11 +41,19 @@ pub struct ProductRow {
 }
 
 impl Table for ProductRow {
+    ghost use Rattle.std.proofs.Common.{ap, refl};
+
     type Key = u32;
+
+    ghost columns = { products };
+
+    ghost place = { 5 };
+
+    ghost tree = { 11 };
 
     ghost stored = { product_row };
 
-    ghost fields = { product_fields };
+    ghost by = { by_product };
 
     ghost list = { λ lists. lists.products };
 
@@ -103,33 +115,35 @@ impl Table for ProductRow {
          max_principal, min_periods, max_periods, strategy, disbursement_charge, instalment_charge, overdue_charge, \
          retired FROM products WHERE number = ?1 ORDER BY number"
     }
-}
 
-impl Put<New> for ProductRow {
-    ghost Before = { λ product lists. IsNew by_product product lists.products };
-
-    fn put_row<S: Alter>(&self, tx: &mut Transaction<'_, S>) -> Result<(), Error> {
-        self.execute(
-            tx,
-            "INSERT INTO products VALUES (?1, ?2, ?3, ?4, ?5, ?6, ?7, ?8, ?9, ?10, ?11, ?12, ?13, ?14, ?15, ?16, ?17)",
-        )
+    fn insert_text() -> &'static str {
+        "INSERT INTO products VALUES (?1, ?2, ?3, ?4, ?5, ?6, ?7, ?8, ?9, ?10, ?11, ?12, ?13, ?14, ?15, ?16, ?17)"
     }
+
+    ghost kept = { kept };
+
+    ghost fits = { fits };
+
+    ghost ordered = { ordered };
+
+    ghost keyed = { refl };
+
+    ghost found = { λ key x. ap is_eq (one_number key x.number) };
+
+    ghost held = { λ trees lists holds. holds.all.1.1.1.1.1.0 };
+
+    ghost changes = { λ x lists trees all. all };
 }
 
-impl Put<Changed> for ProductRow {
-    ghost Before = { λ product lists. Unit {0} };
-
-    fn put_row<S: Alter>(&self, tx: &mut Transaction<'_, S>) -> Result<(), Error> {
-        self.execute(
-            tx,
-            "INSERT INTO products VALUES (?1, ?2, ?3, ?4, ?5, ?6, ?7, ?8, ?9, ?10, ?11, ?12, ?13, ?14, ?15, ?16, \
-             ?17) ON CONFLICT (number) DO UPDATE SET name = excluded.name, method = excluded.method, \
-             rate = excluded.rate, frequency = excluded.frequency, every = excluded.every, \
-             principal_grace = excluded.principal_grace, interest_grace = excluded.interest_grace, \
-             min_principal = excluded.min_principal, max_principal = excluded.max_principal, \
-             min_periods = excluded.min_periods, max_periods = excluded.max_periods, strategy = excluded.strategy, \
-             disbursement_charge = excluded.disbursement_charge, instalment_charge = excluded.instalment_charge, \
-             overdue_charge = excluded.overdue_charge, retired = excluded.retired",
-        )
+impl Changing for ProductRow {
+    fn upsert_text() -> &'static str {
+        "INSERT INTO products VALUES (?1, ?2, ?3, ?4, ?5, ?6, ?7, ?8, ?9, ?10, ?11, ?12, ?13, ?14, ?15, ?16, \
+         ?17) ON CONFLICT (number) DO UPDATE SET name = excluded.name, method = excluded.method, \
+         rate = excluded.rate, frequency = excluded.frequency, every = excluded.every, \
+         principal_grace = excluded.principal_grace, interest_grace = excluded.interest_grace, \
+         min_principal = excluded.min_principal, max_principal = excluded.max_principal, \
+         min_periods = excluded.min_periods, max_periods = excluded.max_periods, strategy = excluded.strategy, \
+         disbursement_charge = excluded.disbursement_charge, instalment_charge = excluded.instalment_charge, \
+         overdue_charge = excluded.overdue_charge, retired = excluded.retired"
     }
 }

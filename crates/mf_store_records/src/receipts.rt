@@ -4,11 +4,15 @@ ghost use Rattle.std.specs.Prelude.{◌≡◌, false, IsTrue, OnOk, IfOk, IfErr,
 ghost use Rattle.mf_base.specs.declared.fault.Fault.TheVariants.{F20};
 ghost use Rattle.sqlite.specs.Held.{state};
 ghost use Rattle.sqlite.specs.State.{HasCleanDisk};
-ghost use Rattle.mf_store_records.specs.Rows.{receipt_fields, IsNew, by_receipt, Lists, receipt_row, put_receipt};
+ghost use Rattle.std.specs.Ordering.{is_eq};
+ghost use Rattle.mf_store_records.specs.Tables.{receipts};
+ghost use Rattle.mf_store_records.specs.ReceiptsTexts.{kept, fits, ordered};
+ghost use Rattle.mf_store_records.specs.Keys.{number_and_text};
+ghost use Rattle.mf_store_records.specs.Rows.{by_receipt, Lists, receipt_row, put_receipt};
 ghost use Rattle.mf_store_records.specs.Rows.{is_receipt};
 ghost use Rattle.mf_store_records.specs.Calls.{IsUnchanged, IsKeeping};
 
-use crate::table::{New, Put, Table, ask, first, has_columns};
+use crate::table::{Table, ask, first, has_columns};
 use crate::text::Text;
 use mf_base::Fault;
 use mf_store_tables::run;
@@ -26,11 +30,19 @@ pub struct ReceiptRow {
 }
 
 impl Table for ReceiptRow {
+    ghost use Rattle.std.proofs.Common.{ap, refl};
+
     type Key = (u32, Text);
+
+    ghost columns = { receipts };
+
+    ghost place = { 8 };
+
+    ghost tree = { 17 };
 
     ghost stored = { receipt_row };
 
-    ghost fields = { receipt_fields };
+    ghost by = { by_receipt };
 
     ghost list = { λ lists. lists.receipts };
 
@@ -59,14 +71,24 @@ impl Table for ReceiptRow {
     fn find_text() -> &'static str {
         "SELECT office, receipt, loan, seq FROM receipts WHERE office = ?1 AND receipt = ?2 ORDER BY office, receipt"
     }
-}
 
-impl Put<New> for ReceiptRow {
-    ghost Before = { λ receipt lists. IsNew by_receipt receipt lists.receipts };
-
-    fn put_row<S: Alter>(&self, tx: &mut Transaction<'_, S>) -> Result<(), Error> {
-        self.execute(tx, "INSERT INTO receipts VALUES (?1, ?2, ?3, ?4)")
+    fn insert_text() -> &'static str {
+        "INSERT INTO receipts VALUES (?1, ?2, ?3, ?4)"
     }
+
+    ghost kept = { kept };
+
+    ghost fits = { fits };
+
+    ghost ordered = { ordered };
+
+    ghost keyed = { refl };
+
+    ghost found = { λ key x. ap is_eq (number_and_text key.0 key.1 x.office x.receipt) };
+
+    ghost held = { λ trees lists holds. holds.all.1.1.1.1.1.1.1.1.0 };
+
+    ghost changes = { λ x lists trees all. all };
 }
 
 /// The row of an office's receipt, if there is one: what `find_row` finds under the two, for a text that the caller

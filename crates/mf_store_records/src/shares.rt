@@ -3,10 +3,14 @@
 ghost use Rattle.std.specs.Prelude.{◌≡◌, IsTrue, OnOk};
 ghost use Rattle.sqlite.specs.Held.{state};
 ghost use Rattle.sqlite.specs.State.{HasCleanDisk, KeepsCommit, Survives};
-ghost use Rattle.mf_store_records.specs.Rows.{share_fields, share_row, put_share, is_share, is_share_of, drop_shares};
+ghost use Rattle.std.specs.Ordering.{is_eq};
+ghost use Rattle.mf_store_records.specs.Tables.{shares};
+ghost use Rattle.mf_store_records.specs.SharesTexts.{kept, fits, ordered, lists_by_2};
+ghost use Rattle.mf_store_records.specs.Keys.{two_numbers, four_numbers};
+ghost use Rattle.mf_store_records.specs.Rows.{by_share, share_row, put_share, is_share, is_share_of, drop_shares};
 ghost use Rattle.mf_store_records.specs.Writes.{Putting};
 
-use crate::table::{Changed, Listed, Put, Table, has_columns};
+use crate::table::{Changing, Listed, Table, has_columns};
 use mf_store_tables::run;
 use sqlite::{Alter, Error, Row, Transaction, params};
 
@@ -30,11 +34,19 @@ pub struct ShareRow {
 }
 
 impl Table for ShareRow {
+    ghost use Rattle.std.proofs.Common.{ap, refl};
+
     type Key = (u32, u32, u32, u32);
+
+    ghost columns = { shares };
+
+    ghost place = { 10 };
+
+    ghost tree = { 21 };
 
     ghost stored = { share_row };
 
-    ghost fields = { share_fields };
+    ghost by = { by_share };
 
     ghost list = { λ lists. lists.shares };
 
@@ -78,22 +90,37 @@ impl Table for ShareRow {
          amount FROM shares WHERE office = ?1 AND loan = ?2 AND seq = ?3 AND place = ?4 ORDER BY office, loan, seq, \
          place"
     }
+
+    fn insert_text() -> &'static str {
+        "INSERT INTO shares VALUES (?1, ?2, ?3, ?4, ?5, ?6, ?7, ?8)"
+    }
+
+    ghost kept = { kept };
+
+    ghost fits = { fits };
+
+    ghost ordered = { ordered };
+
+    ghost keyed = { refl };
+
+    ghost found = { λ key x. ap is_eq (four_numbers key.0 key.1 key.2 key.3 x.office x.loan x.seq x.place) };
+
+    ghost held = { λ trees lists holds. holds.all.1.1.1.1.1.1.1.1.1.1.0 };
+
+    ghost changes = { λ x lists trees all. all };
 }
 
-impl Put<Changed> for ShareRow {
-    ghost Before = { λ share lists. Unit {0} };
-
-    fn put_row<S: Alter>(&self, tx: &mut Transaction<'_, S>) -> Result<(), Error> {
-        self.execute(
-            tx,
-            "INSERT INTO shares VALUES (?1, ?2, ?3, ?4, ?5, ?6, ?7, ?8) ON CONFLICT (office, loan, seq, \
-             place) DO UPDATE SET instalment = excluded.instalment, portion = excluded.portion, how = excluded.how, \
-             amount = excluded.amount",
-        )
+impl Changing for ShareRow {
+    fn upsert_text() -> &'static str {
+        "INSERT INTO shares VALUES (?1, ?2, ?3, ?4, ?5, ?6, ?7, ?8) ON CONFLICT (office, loan, seq, \
+         place) DO UPDATE SET instalment = excluded.instalment, portion = excluded.portion, how = excluded.how, \
+         amount = excluded.amount"
     }
 }
 
 impl Listed for ShareRow {
+    ghost use Rattle.std.proofs.Common.{ap, refl};
+
     type Part = (u32, u32);
 
     ghost is_in = { λ loan. is_share_of loan.0 loan.1 };
@@ -102,6 +129,12 @@ impl Listed for ShareRow {
         "SELECT office, loan, seq, place, instalment, portion, how, \
          amount FROM shares WHERE office = ?1 AND loan = ?2 ORDER BY office, loan, seq, place"
     }
+
+    ghost lists = { lists_by_2 };
+
+    ghost partly = { refl };
+
+    ghost listed = { λ part x. ap is_eq (two_numbers part.0 part.1 x.office x.loan) };
 }
 
 /// The entry that shares belong to.

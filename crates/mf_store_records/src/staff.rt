@@ -1,9 +1,13 @@
 //! The table staff: its rows, and the texts that read and write them.
 
-ghost use Rattle.mf_store_records.specs.Rows.{staff_fields, IsNew, by_staff, staff_row, put_staff, is_staff};
+ghost use Rattle.std.specs.Ordering.{is_eq};
+ghost use Rattle.mf_store_records.specs.Tables.{staff};
+ghost use Rattle.mf_store_records.specs.StaffTexts.{kept, fits, ordered, lists_by_1};
+ghost use Rattle.mf_store_records.specs.Keys.{one_number, two_numbers};
+ghost use Rattle.mf_store_records.specs.Rows.{by_staff, staff_row, put_staff, is_staff};
 ghost use Rattle.mf_store_records.specs.Rows.{is_staff_of};
 
-use crate::table::{Listed, New, Put, Table, has_columns};
+use crate::table::{Listed, Table, has_columns};
 use crate::text::Text;
 use mf_store_tables::run;
 use sqlite::{Alter, Error, Row, Transaction, params};
@@ -19,11 +23,19 @@ pub struct StaffRow {
 }
 
 impl Table for StaffRow {
+    ghost use Rattle.std.proofs.Common.{ap, refl};
+
     type Key = (u32, u32);
+
+    ghost columns = { staff };
+
+    ghost place = { 2 };
+
+    ghost tree = { 5 };
 
     ghost stored = { staff_row };
 
-    ghost fields = { staff_fields };
+    ghost by = { by_staff };
 
     ghost list = { λ lists. lists.staff };
 
@@ -52,17 +64,29 @@ impl Table for StaffRow {
     fn find_text() -> &'static str {
         "SELECT office, number, name, role FROM staff WHERE office = ?1 AND number = ?2 ORDER BY office, number"
     }
-}
 
-impl Put<New> for StaffRow {
-    ghost Before = { λ staff lists. IsNew by_staff staff lists.staff };
-
-    fn put_row<S: Alter>(&self, tx: &mut Transaction<'_, S>) -> Result<(), Error> {
-        self.execute(tx, "INSERT INTO staff VALUES (?1, ?2, ?3, ?4)")
+    fn insert_text() -> &'static str {
+        "INSERT INTO staff VALUES (?1, ?2, ?3, ?4)"
     }
+
+    ghost kept = { kept };
+
+    ghost fits = { fits };
+
+    ghost ordered = { ordered };
+
+    ghost keyed = { refl };
+
+    ghost found = { λ key x. ap is_eq (two_numbers key.0 key.1 x.office x.number) };
+
+    ghost held = { λ trees lists holds. holds.all.1.1.0 };
+
+    ghost changes = { λ x lists trees all. all };
 }
 
 impl Listed for StaffRow {
+    ghost use Rattle.std.proofs.Common.{ap, refl};
+
     type Part = u32;
 
     ghost is_in = { is_staff_of };
@@ -70,4 +94,10 @@ impl Listed for StaffRow {
     fn list_text() -> &'static str {
         "SELECT office, number, name, role FROM staff WHERE office = ?1 ORDER BY office, number"
     }
+
+    ghost lists = { lists_by_1 };
+
+    ghost partly = { refl };
+
+    ghost listed = { λ part x. ap is_eq (one_number part x.office) };
 }

@@ -20,7 +20,7 @@ use crate::products::ProductRow;
 use crate::receipts::ReceiptRow;
 use crate::shares::{EntryKey, ShareRow};
 use crate::staff::StaffRow;
-use crate::table::{Changed, New, Put};
+use crate::table::{add_row, put_row};
 use mf_store_tables::{Write, run};
 use sqlite::{Alter, Error, Transaction};
 
@@ -147,20 +147,20 @@ impl Write for StoreWrite {
     fn write<S: Alter>(&self, tx: &mut Transaction<'_, S>) -> Result<(), Error> {
         match self {
             StoreWrite::MakeTables => make_tables(tx),
-            StoreWrite::PutMeta(meta) => Put::<Changed>::put_row(meta, tx),
-            StoreWrite::PutOffice(office) => Put::<New>::put_row(office, tx),
-            StoreWrite::PutStaff(staff) => Put::<New>::put_row(staff, tx),
-            StoreWrite::PutClient(client) => Put::<New>::put_row(client, tx),
-            StoreWrite::PutCharge(charge) => Put::<New>::put_row(charge, tx),
-            StoreWrite::AddProduct(product) => Put::<New>::put_row(product, tx),
-            StoreWrite::PutProduct(product) => Put::<Changed>::put_row(product, tx),
-            StoreWrite::AddLoan(loan) => Put::<New>::put_row(loan, tx),
-            StoreWrite::PutLoan(loan) => Put::<Changed>::put_row(loan, tx),
-            StoreWrite::AddEntry(entry) => Put::<New>::put_row(entry, tx),
-            StoreWrite::ChangeEntry(entry) => Put::<Changed>::put_row(entry, tx),
-            StoreWrite::AddReceipt(receipt) => Put::<New>::put_row(receipt, tx),
-            StoreWrite::PutInstalment(instalment) => Put::<Changed>::put_row(instalment, tx),
-            StoreWrite::PutShare(share) => Put::<Changed>::put_row(share, tx),
+            StoreWrite::PutMeta(meta) => put_row(meta, tx),
+            StoreWrite::PutOffice(office) => add_row(office, tx),
+            StoreWrite::PutStaff(staff) => add_row(staff, tx),
+            StoreWrite::PutClient(client) => add_row(client, tx),
+            StoreWrite::PutCharge(charge) => add_row(charge, tx),
+            StoreWrite::AddProduct(product) => add_row(product, tx),
+            StoreWrite::PutProduct(product) => put_row(product, tx),
+            StoreWrite::AddLoan(loan) => add_row(loan, tx),
+            StoreWrite::PutLoan(loan) => put_row(loan, tx),
+            StoreWrite::AddEntry(entry) => add_row(entry, tx),
+            StoreWrite::ChangeEntry(entry) => put_row(entry, tx),
+            StoreWrite::AddReceipt(receipt) => add_row(receipt, tx),
+            StoreWrite::PutInstalment(instalment) => put_row(instalment, tx),
+            StoreWrite::PutShare(share) => put_row(share, tx),
             StoreWrite::RemoveShares(entry) => entry.remove_shares(tx),
         }
     }

@@ -41,7 +41,8 @@ use Rattle.sqlite_keyed.proofs.ListLemmas.{filter_all, all_weaker, all_map, none
 use Rattle.mf_store_tables.specs.Keep.{Keeps, row_of, same_id, put_item, drop_item}
 use Rattle.mf_store_tables.proofs.CompareLemmas.{truth_back, cast_null}
 use Rattle.mf_store_tables.proofs.KeepLemmas.{keeps-put}
-use Rattle.mf_store_tables.proofs.WriteLemmas.{IsQuiet, went, same_value, edited_by, opened, task}
+use Rattle.mf_store_tables.specs.Meanings.{IsQuiet}
+use Rattle.mf_store_tables.proofs.WriteLemmas.{went, same_value, edited_by, opened, task}
 use Rattle.mf_store_tables.proofs.KeptLemmas.{Spares}
 use Rattle.mf_store_tables.proofs.AlikeLemmas.{agree_alike, has_tree, put_alike, taken_alike}
 

@@ -27,7 +27,8 @@ use Rattle.mf_store_tables.specs.Scan.{scan}
 use Rattle.mf_store_tables.proofs.KeepLemmas.{taken_rows, keeps-deleted}
 use Rattle.mf_store_tables.proofs.AlikeLemmas.{answer_alike, left_alike}
 use Rattle.mf_store_tables.proofs.ReadLemmas.{finds_ids}
-use Rattle.mf_store_tables.proofs.WriteLemmas.{IsQuiet, deletes}
+use Rattle.mf_store_tables.specs.Meanings.{IsQuiet}
+use Rattle.mf_store_tables.proofs.WriteLemmas.{deletes}
 
 -- the other tables are as they were
 abbrev pub Spares : Schema → ℕ → Trees → Trees → Type 0

@@ -11,3 +11,8 @@ pub mod InsertLemmas
 pub mod MakeLemmas
 pub mod QueryLemmas
 pub mod ApplyLemmas
+pub mod ColumnLemmas
+pub mod KeyLemmas
+pub mod UpdateLemmas
+pub mod TableLemmas
+pub mod SpareLemmas

@@ -54,7 +54,8 @@ use Rattle.mf_store_tables.specs.Scan.{eq, scan}
 use Rattle.mf_store_tables.proofs.CompareLemmas.{and_true, equals_id, cast_null, cast_int}
 use Rattle.mf_store_tables.proofs.KeepLemmas.{id_back, taken_rows, keeps-deleted, keeps-put, dropped}
 use Rattle.mf_store_tables.proofs.ReadLemmas.{flat_map_if}
-use Rattle.mf_store_tables.proofs.WriteLemmas.{IsQuiet, went, same_value, edited_by, opened, task}
+use Rattle.mf_store_tables.specs.Meanings.{IsQuiet}
+use Rattle.mf_store_tables.proofs.WriteLemmas.{went, same_value, edited_by, opened, task}
 use Rattle.mf_store_tables.proofs.KeptLemmas.{Spares}
 
 -- ---- the one entry that has a key

@@ -5,3 +5,8 @@ pub mod Scan
 pub mod Queries
 pub mod Writes
 pub mod Making
+pub mod Columns
+pub mod Texts
+pub mod Rows
+pub mod Trees
+pub mod Meanings

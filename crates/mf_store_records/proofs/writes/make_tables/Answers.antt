@@ -3,7 +3,7 @@ use Rattle.std.proofs.lemmas.Result.{on_ok_weaker}
 use Rattle.sqlite.specs.Held.{state}
 use Rattle.sqlite.specs.State.{HasCleanDisk}
 use Rattle.mf_store_records.proofs.CallLemmas.{goes_on}
-use Rattle.mf_store_records.proofs.PutLemmas.{making}
+use Rattle.mf_store_records.proofs.MakeLemmas.{making}
 use Rattle.mf_store_records.proofs.writes.make_tables.Goals as goal
 
 pub returns-clause-ok : goal.returns-clause-ok

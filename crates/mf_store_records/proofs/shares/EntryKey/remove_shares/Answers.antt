@@ -3,7 +3,7 @@ use Rattle.std.proofs.lemmas.Result.{on_ok_weaker}
 use Rattle.sqlite.specs.Held.{state}
 use Rattle.sqlite.specs.declared.types.Value.TheVariants.{Int}
 use Rattle.mf_store_records.proofs.CallLemmas.{ran_with}
-use Rattle.mf_store_records.proofs.Texts.{delete_shares}
+use Rattle.mf_store_records.proofs.RemoveLemmas.{delete_shares}
 use Rattle.mf_store_records.proofs.PutLemmas.{removing_shares}
 use Rattle.mf_store_records.proofs.shares.EntryKey.remove_shares.Goals as goal
 

@@ -1,5 +1,0 @@
-pub mod ColumnLemmas
-pub mod KeyLemmas
-pub mod UpdateLemmas
-pub mod TableLemmas
-pub mod SpareLemmas

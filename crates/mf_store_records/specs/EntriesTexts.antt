@@ -1,0 +1,68 @@
+-- What the texts of entries mean, how its rows are ordered, and that its columns hold their values.
+use Rattle.std.specs.Prelude.{◌≡◌, take}
+use Rattle.std.proofs.Common.{inl, inr, refl}
+use Rattle.sqlite_tied.specs.Compute.{everything}
+use Rattle.sqlite.specs.Listing.{understood}
+use Rattle.mf_store_tables.specs.Columns.{sql_table}
+use Rattle.mf_store_tables.specs.Making.{Defines}
+use Rattle.mf_store_tables.specs.Meanings.{Asks, IsKept}
+use Rattle.mf_store_tables.specs.Rows.{AllFit, first_cmp}
+use Rattle.mf_store_tables.specs.Texts.{create_text}
+use Rattle.mf_store_records.specs.Keys.{three_numbers}
+use Rattle.mf_store_records.specs.Tables.{schema, first_schema, tables, made, entries}
+use Rattle.mf_store_records.specs.Rows.{entry_row, by_entry}
+use Rattle.mf_store_records.specs.declared.entries.EntryRow.{EntryRow}
+
+pub kept : IsKept schema 7 15 entries
+unfolding understood everything
+kept = record {
+  there = refl;
+  quiet = λ keys olds news. refl;
+  always = refl;
+  index = inr (inr (inr (inr (inr (inr (inr (inr (inl refl))))))));
+  guards_it = refl;
+  alone = λ new row. refl;
+  apart = refl;
+  under = λ trees. refl;
+  adds = record { plain = (refl, refl); is = refl };
+  puts = record { plain = (refl, refl); is = refl };
+  finds = record { plain = (refl, refl); unlisted = refl; is = refl };
+  shows = record { plain = (refl, refl); unlisted = refl; is = refl };
+}
+
+pub lists_by_2 : Asks schema 7 15 entries 2
+unfolding understood everything
+lists_by_2 = record { plain = (refl, refl); unlisted = refl; is = refl }
+
+pub first_shows : Asks first_schema 7 15 entries 0
+unfolding understood everything
+first_shows = record { plain = (refl, refl); unlisted = refl; is = refl }
+
+-- after the tables before it
+pub defined : Defines (made (take 7 tables)) (create_text entries) (sql_table 0 entries)
+unfolding understood everything
+defined = record { command = refl; plain = (refl, refl); table_is = refl; uncounted = refl }
+
+pub ordered : (a b : EntryRow) → by_entry a b ≡ first_cmp 3 (entry_row a) (entry_row b)
+ordered a b = three_numbers a.office a.loan a.seq b.office b.loan b.seq
+
+pub fits : (x : EntryRow) → AllFit entries.columns (entry_row x)
+fits x = (
+  (x.office, refl),
+  (
+    (x.loan, refl),
+    (
+      (x.seq, refl),
+      (
+        (x.kind, refl),
+        (
+          (x.day, refl),
+          (
+            (x.amount, refl),
+            ((x.instalment, refl), ((x.portion, refl), ((x.receipt, refl), ((x.staff, refl), ((x.reversed, refl), tt))))),
+          ),
+        ),
+      ),
+    ),
+  ),
+)

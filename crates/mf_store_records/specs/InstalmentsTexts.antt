@@ -1,0 +1,101 @@
+-- What the texts of instalments mean, how its rows are ordered, and that its columns hold their values.
+use Rattle.std.specs.Prelude.{◌≡◌, take}
+use Rattle.std.proofs.Common.{inl, inr, refl}
+use Rattle.sqlite_tied.specs.Compute.{everything}
+use Rattle.sqlite.specs.Listing.{understood}
+use Rattle.mf_store_tables.specs.Columns.{sql_table}
+use Rattle.mf_store_tables.specs.Making.{Defines}
+use Rattle.mf_store_tables.specs.Meanings.{Asks, IsKept}
+use Rattle.mf_store_tables.specs.Rows.{AllFit, first_cmp}
+use Rattle.mf_store_tables.specs.Texts.{create_text}
+use Rattle.mf_store_records.specs.Keys.{three_numbers}
+use Rattle.mf_store_records.specs.Tables.{schema, tables, made, instalments}
+use Rattle.mf_store_records.specs.Rows.{instalment_row, by_instalment}
+use Rattle.mf_store_records.specs.declared.instalments.InstalmentRow.{InstalmentRow}
+
+pub kept : IsKept schema 9 19 instalments
+unfolding understood everything
+kept = record {
+  there = refl;
+  quiet = λ keys olds news. refl;
+  always = refl;
+  index = inr (inr (inr (inr (inr (inr (inr (inr (inr (inr (inl refl))))))))));
+  guards_it = refl;
+  alone = λ new row. refl;
+  apart = refl;
+  under = λ trees. refl;
+  adds = record { plain = (refl, refl); is = refl };
+  puts = record { plain = (refl, refl); is = refl };
+  finds = record { plain = (refl, refl); unlisted = refl; is = refl };
+  shows = record { plain = (refl, refl); unlisted = refl; is = refl };
+}
+
+pub lists_by_2 : Asks schema 9 19 instalments 2
+unfolding understood everything
+lists_by_2 = record { plain = (refl, refl); unlisted = refl; is = refl }
+
+pub lists_by_1 : Asks schema 9 19 instalments 1
+unfolding understood everything
+lists_by_1 = record { plain = (refl, refl); unlisted = refl; is = refl }
+
+-- after the tables before it
+pub defined : Defines (made (take 9 tables)) (create_text instalments) (sql_table 0 instalments)
+unfolding understood everything
+defined = record { command = refl; plain = (refl, refl); table_is = refl; uncounted = refl }
+
+pub ordered : (a b : InstalmentRow) → by_instalment a b ≡ first_cmp 3 (instalment_row a) (instalment_row b)
+ordered a b = three_numbers a.office a.loan a.number b.office b.loan b.number
+
+pub fits : (x : InstalmentRow) → AllFit instalments.columns (instalment_row x)
+fits x = (
+  (x.office, refl),
+  (
+    (x.loan, refl),
+    (
+      (x.number, refl),
+      (
+        (x.due, refl),
+        (
+          (x.owed_penalty, refl),
+          (
+            (x.paid_penalty, refl),
+            (
+              (x.waived_penalty, refl),
+              (
+                (x.written_off_penalty, refl),
+                (
+                  (x.owed_fee, refl),
+                  (
+                    (x.paid_fee, refl),
+                    (
+                      (x.waived_fee, refl),
+                      (
+                        (x.written_off_fee, refl),
+                        (
+                          (x.owed_interest, refl),
+                          (
+                            (x.paid_interest, refl),
+                            (
+                              (x.waived_interest, refl),
+                              (
+                                (x.written_off_interest, refl),
+                                (
+                                  (x.owed_principal, refl),
+                                  ((x.paid_principal, refl), ((x.waived_principal, refl), ((x.written_off_principal, refl), tt))),
+                                ),
+                              ),
+                            ),
+                          ),
+                        ),
+                      ),
+                    ),
+                  ),
+                ),
+              ),
+            ),
+          ),
+        ),
+      ),
+    ),
+  ),
+)

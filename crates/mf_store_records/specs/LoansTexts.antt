@@ -1,0 +1,65 @@
+-- What the texts of loans mean, how its rows are ordered, and that its columns hold their values.
+use Rattle.std.specs.Prelude.{◌≡◌, take}
+use Rattle.std.proofs.Common.{inl, inr, refl}
+use Rattle.sqlite_tied.specs.Compute.{everything}
+use Rattle.sqlite.specs.Listing.{understood}
+use Rattle.mf_store_tables.specs.Columns.{sql_table}
+use Rattle.mf_store_tables.specs.Making.{Defines}
+use Rattle.mf_store_tables.specs.Meanings.{Asks, IsKept}
+use Rattle.mf_store_tables.specs.Rows.{AllFit, first_cmp}
+use Rattle.mf_store_tables.specs.Texts.{create_text}
+use Rattle.mf_store_records.specs.Keys.{two_numbers}
+use Rattle.mf_store_records.specs.Tables.{schema, first_schema, tables, made, loans}
+use Rattle.mf_store_records.specs.Rows.{loan_row, by_loan}
+use Rattle.mf_store_records.specs.declared.loans.LoanRow.{LoanRow}
+
+pub kept : IsKept schema 6 13 loans
+unfolding understood everything
+kept = record {
+  there = refl;
+  quiet = λ keys olds news. refl;
+  always = refl;
+  index = inr (inr (inr (inr (inr (inr (inr (inl refl)))))));
+  guards_it = refl;
+  alone = λ new row. refl;
+  apart = refl;
+  under = λ trees. refl;
+  adds = record { plain = (refl, refl); is = refl };
+  puts = record { plain = (refl, refl); is = refl };
+  finds = record { plain = (refl, refl); unlisted = refl; is = refl };
+  shows = record { plain = (refl, refl); unlisted = refl; is = refl };
+}
+
+pub lists_by_1 : Asks schema 6 13 loans 1
+unfolding understood everything
+lists_by_1 = record { plain = (refl, refl); unlisted = refl; is = refl }
+
+pub first_shows : Asks first_schema 6 13 loans 0
+unfolding understood everything
+first_shows = record { plain = (refl, refl); unlisted = refl; is = refl }
+
+-- after the tables before it
+pub defined : Defines (made (take 6 tables)) (create_text loans) (sql_table 0 loans)
+unfolding understood everything
+defined = record { command = refl; plain = (refl, refl); table_is = refl; uncounted = refl }
+
+pub ordered : (a b : LoanRow) → by_loan a b ≡ first_cmp 2 (loan_row a) (loan_row b)
+ordered a b = two_numbers a.office a.number b.office b.number
+
+pub fits : (x : LoanRow) → AllFit loans.columns (loan_row x)
+fits x = (
+  (x.office, refl),
+  (
+    (x.number, refl),
+    (
+      (x.client, refl),
+      (
+        (x.product, refl),
+        (
+          (x.principal, refl),
+          ((x.periods, refl), ((x.stage, refl), ((x.approved, refl), ((x.disbursed, refl), tt)))),
+        ),
+      ),
+    ),
+  ),
+)

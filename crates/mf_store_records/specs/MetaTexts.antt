@@ -1,0 +1,47 @@
+-- What the texts of meta mean, how its rows are ordered, and that its columns hold their values.
+use Rattle.std.specs.Prelude.{◌≡◌, take}
+use Rattle.std.proofs.Common.{inl, refl}
+use Rattle.sqlite_tied.specs.Compute.{everything}
+use Rattle.sqlite.specs.Listing.{understood}
+use Rattle.mf_store_tables.specs.Columns.{sql_table}
+use Rattle.mf_store_tables.specs.Making.{Defines}
+use Rattle.mf_store_tables.specs.Meanings.{Asks, IsKept}
+use Rattle.mf_store_tables.specs.Rows.{AllFit, first_cmp}
+use Rattle.mf_store_tables.specs.Texts.{create_text}
+use Rattle.mf_store_records.specs.Keys.{one_number}
+use Rattle.mf_store_records.specs.Tables.{schema, first_schema, tables, made, meta}
+use Rattle.mf_store_records.specs.Rows.{meta_row, by_meta}
+use Rattle.mf_store_records.specs.declared.meta.MetaRow.{MetaRow}
+
+pub kept : IsKept schema 0 0 meta
+unfolding understood everything
+kept = record {
+  there = refl;
+  quiet = λ keys olds news. refl;
+  always = refl;
+  index = inl refl;
+  guards_it = refl;
+  alone = λ new row. refl;
+  apart = refl;
+  under = λ trees. refl;
+  adds = record { plain = (refl, refl); is = refl };
+  puts = record { plain = (refl, refl); is = refl };
+  finds = record { plain = (refl, refl); unlisted = refl; is = refl };
+  shows = record { plain = (refl, refl); unlisted = refl; is = refl };
+}
+
+pub first_shows : Asks first_schema 0 0 meta 0
+unfolding understood everything
+first_shows = record { plain = (refl, refl); unlisted = refl; is = refl }
+
+-- after the tables before it
+pub defined : Defines (made (take 0 tables)) (create_text meta) (sql_table 0 meta)
+unfolding understood everything
+defined = record { command = refl; plain = (refl, refl); table_is = refl; uncounted = refl }
+
+pub ordered : (a b : MetaRow) → by_meta a b ≡ first_cmp 1 (meta_row a) (meta_row b)
+ordered a b = one_number a.one b.one
+
+pub fits : (x : MetaRow) → AllFit meta.columns (meta_row x)
+fits x =
+    ((x.one, refl), ((x.schema, refl), ((x.day, refl), tt)))
