@@ -7,7 +7,7 @@ use Rattle.mf_model.specs.Sound.{IsSound}
 use Rattle.mf_store_records.specs.Rows.{Lists}
 use Rattle.mf_store_records.specs.Tables.{schema}
 use Rattle.mf_store_records.specs.Writes.{Holds}
-use Rattle.mf_store_rows.specs.Schemas.{first_schema}
+use Rattle.mf_store_records.specs.Tables.{first_schema}
 use Rattle.mf_store_accounts.specs.Flat.{tables_of}
 use Rattle.mf_store_sound.specs.Schemas.{first_tables_of, tables_under, without_accounts}
 use Rattle.mf_store_upgrade.specs.Upgrade.{HoldsFirst}

@@ -13,7 +13,8 @@ use Rattle.mf_store_tables.specs.Tables.{no_schema}
 use Rattle.mf_store_records.specs.Rows.{Lists}
 use Rattle.mf_store_records.specs.Tables.{schema}
 use Rattle.mf_store_records.specs.Writes.{Holds}
-use Rattle.mf_store_rows.specs.Schemas.{first_schema, IsKnown}
+use Rattle.mf_store_rows.specs.Schemas.{IsKnown}
+use Rattle.mf_store_records.specs.Tables.{first_schema}
 use Rattle.mf_store_accounts.specs.Flat.{tables_of}
 use Rattle.mf_store_sound.specs.Schemas.{first_tables_of, without_accounts}
 use Rattle.mf_store_upgrade.specs.Upgrade.{HoldsFirst}

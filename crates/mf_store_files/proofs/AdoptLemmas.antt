@@ -9,7 +9,8 @@ use Rattle.mf_store_records.specs.Calls.{IsUnchanged, OnlyFaultsShut}
 use Rattle.mf_store_records.specs.Rows.{Lists}
 use Rattle.mf_store_records.specs.Writes.{Holds}
 use Rattle.mf_store_accounts.specs.Flat.{tables_of}
-use Rattle.mf_store_rows.specs.Schemas.{first_schema, IsFirst, IsUnchangedUnder}
+use Rattle.mf_store_rows.specs.Schemas.{IsFirst, IsUnchangedUnder}
+use Rattle.mf_store_records.specs.Tables.{first_schema}
 use Rattle.mf_store_rows.specs.Whole.{HaveFirstRowids}
 use Rattle.mf_store_sound.specs.Schemas.{first_tables_of}
 use Rattle.mf_store_tables.specs.Writes.{Serves}

@@ -11,7 +11,7 @@ use Rattle.sqlite_wal.specs.Recovery.{Image}
 use Rattle.mf_store_tables.specs.Writes.{Serves}
 use Rattle.mf_store_records.specs.Tables.{schema}
 use Rattle.mf_store_records.specs.Writes.{schema_of, Holds}
-use Rattle.mf_store_rows.specs.Schemas.{first_schema}
+use Rattle.mf_store_records.specs.Tables.{first_schema}
 use Rattle.mf_store_rows.specs.Whole.{HaveRowids, HaveFirstRowids}
 use Rattle.mf_store_files.specs.Files.{HasNoTables}
 use Rattle.mf_store_files.specs.Opened.{ShowsFile}

@@ -15,7 +15,8 @@ use Rattle.mf_store_tables.specs.Tables.{no_schema}
 use Rattle.mf_store_tables.specs.Writes.{Serves}
 use Rattle.mf_store_records.specs.Tables.{schema}
 use Rattle.mf_store_records.specs.Writes.{schema_of, Holds}
-use Rattle.mf_store_rows.specs.Schemas.{first_schema, IsKnown}
+use Rattle.mf_store_rows.specs.Schemas.{IsKnown}
+use Rattle.mf_store_records.specs.Tables.{first_schema}
 use Rattle.mf_store_rows.specs.Whole.{HaveRowids, HaveFirstRowids}
 use Rattle.mf_store_accounts.specs.Flat.{tables_of}
 use Rattle.mf_store.specs.Facts.{KnownStore}

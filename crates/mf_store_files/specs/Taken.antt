@@ -9,7 +9,8 @@ use Rattle.mf_model.specs.Institution.{Institution}
 use Rattle.mf_store_tables.specs.Tables.{no_schema}
 use Rattle.mf_store_records.specs.Calls.{IsUnchanged}
 use Rattle.mf_store_records.specs.Tables.{schema}
-use Rattle.mf_store_rows.specs.Schemas.{first_schema, IsKnown}
+use Rattle.mf_store_rows.specs.Schemas.{IsKnown}
+use Rattle.mf_store_records.specs.Tables.{first_schema}
 use Rattle.mf_store_rows.specs.Whole.{HaveRowids, HaveFirstRowids}
 use Rattle.mf_store_commits.specs.Tabled.{IsTabled}
 use Rattle.mf_store.specs.Facts.{KnownStore}

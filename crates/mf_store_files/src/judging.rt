@@ -4,7 +4,8 @@ ghost use Rattle.std.specs.Prelude.{◌≡◌, ◌↔◌, IsTrue, IfOk, IfErr, f
 ghost use Rattle.mf_base.specs.declared.fault.Fault.TheVariants.{F20};
 ghost use Rattle.sqlite.specs.Held.{state};
 ghost use Rattle.sqlite.specs.State.{HasCleanDisk};
-ghost use Rattle.mf_store_rows.specs.Schemas.{first_schema, IsFirst, IsUnchangedUnder};
+ghost use Rattle.mf_store_rows.specs.Schemas.{IsFirst, IsUnchangedUnder};
+ghost use Rattle.mf_store_records.specs.Tables.{first_schema};
 ghost use Rattle.mf_store_rows.specs.Whole.{HaveFirstRowids};
 ghost use Rattle.mf_store_files.specs.Held.{HoldsSoundFirst};
 ghost use Rattle.mf_store_files.specs.Told.{IsAny, HaveOwnRowids, IsToldOf};

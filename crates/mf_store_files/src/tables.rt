@@ -3,7 +3,7 @@
 ghost use Rattle.std.specs.Prelude.{◌≡◌, ◌↔◌, IsTrue};
 ghost use Rattle.mf_store_tables.specs.Tables.{no_schema};
 ghost use Rattle.mf_store_records.specs.Tables.{schema};
-ghost use Rattle.mf_store_rows.specs.Schemas.{first_schema};
+ghost use Rattle.mf_store_records.specs.Tables.{first_schema};
 
 use mf_store_schemas::ColumnWords::{Int, MaybeInt, MaybeText, Text};
 use mf_store_schemas::{IndexWords, TableWords, is_schema};

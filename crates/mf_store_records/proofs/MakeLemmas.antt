@@ -91,24 +91,36 @@ stands_empty db e = record {
 }
 
 pub making : (a b c d e f g h i j k l : State) → Ran (create_text meta) [] a b → Ran (create_text offices) [] b c
-    → Ran (create_text staff) [] c d → Ran (create_text clients) [] d e → Ran (create_text charges) [] e f → Ran (create_text products) [] f g
-    → Ran (create_text loans) [] g h → Ran (create_text entries) [] h i → Ran (create_text receipts) [] i j → Ran (create_text instalments) [] j k
-    → Ran (create_text shares) [] k l → Making a l
+    → Ran (create_text staff) [] c d → Ran (create_text clients) [] d e → Ran (create_text charges) [] e f
+    → Ran (create_text products) [] f g → Ran (create_text loans) [] g h → Ran (create_text entries) [] h i
+    → Ran (create_text receipts) [] i j → Ran (create_text instalments) [] j k → Ran (create_text shares) [] k l
+    → Making a l
 making a b c d e f g h i j k l one two three four five six seven eight nine ten eleven =
     record { mode = eleven.mode; was_open = one.was_open; turns = turns }
   where
     turns : (lists : Option Lists) → StandsAs a.now lists → lists ≡ None → StandsAs l.now (Some no_rows)
     turns lists s none =
         let first = empty_at_first a.now (subst (StandsAs a.now) none s) in
-        let has_meta = makes_one _ _ (create_text meta) a b one.count Meta.defined first one.ran in
-        let has_offices = makes_one _ _ (create_text offices) b c two.count Offices.defined has_meta two.ran in
-        let has_staff = makes_one _ _ (create_text staff) c d three.count Staff.defined has_offices three.ran in
-        let has_clients = makes_one _ _ (create_text clients) d e four.count Clients.defined has_staff four.ran in
-        let has_charges = makes_one _ _ (create_text charges) e f five.count Charges.defined has_clients five.ran in
-        let has_products = makes_one _ _ (create_text products) f g six.count Products.defined has_charges six.ran in
-        let has_loans = makes_one _ _ (create_text loans) g h seven.count Loans.defined has_products seven.ran in
-        let has_entries = makes_one _ _ (create_text entries) h i eight.count Entries.defined has_loans eight.ran in
-        let has_receipts = makes_one _ _ (create_text receipts) i j nine.count Receipts.defined has_entries nine.ran in
-        let has_instalments = makes_one _ _ (create_text instalments) j k ten.count Instalments.defined has_receipts ten.ran in
-        let has_shares = makes_one _ _ (create_text shares) k l eleven.count Shares.defined has_instalments eleven.ran in
+        let has_meta = makes_one _ _ (create_text meta) a b one.count Meta.defined
+        first one.ran in
+        let has_offices = makes_one _ _ (create_text offices) b c two.count Offices.defined
+        has_meta two.ran in
+        let has_staff = makes_one _ _ (create_text staff) c d three.count Staff.defined
+        has_offices three.ran in
+        let has_clients = makes_one _ _ (create_text clients) d e four.count Clients.defined
+        has_staff four.ran in
+        let has_charges = makes_one _ _ (create_text charges) e f five.count Charges.defined
+        has_clients five.ran in
+        let has_products = makes_one _ _ (create_text products) f g six.count Products.defined
+        has_charges six.ran in
+        let has_loans = makes_one _ _ (create_text loans) g h seven.count Loans.defined
+        has_products seven.ran in
+        let has_entries = makes_one _ _ (create_text entries) h i eight.count Entries.defined
+        has_loans eight.ran in
+        let has_receipts = makes_one _ _ (create_text receipts) i j nine.count Receipts.defined
+        has_entries nine.ran in
+        let has_instalments = makes_one _ _ (create_text instalments) j k ten.count Instalments.defined
+        has_receipts ten.ran in
+        let has_shares = makes_one _ _ (create_text shares) k l eleven.count Shares.defined
+        has_instalments eleven.ran in
         stands_empty l.now (subst (λ s. IsEmpty s l.now) made_is has_shares)

@@ -1,5 +1,5 @@
 -- What the texts that ask for a range mean, and what they show of their tables.
-use Rattle.std.proofs.Common.{◌≡◌, ℕ, pos, ◌&&◌, List, [], ◌∷◌, codes, false, map, filter, take, refl, ap₂, ◌∙◌}
+use Rattle.std.proofs.Common.{◌≡◌, ℕ, pos, ◌&&◌, List, [], ◌∷◌, ◌++◌, codes, false, map, filter, take, refl, ap₂, ◌∙◌}
 use Rattle.std.specs.Ordering.{ordering_then}
 use Rattle.sqlite.specs.declared.types.Value.TheVariants.{Int, Text}
 use Rattle.sqlite.specs.Collation.TheVariants.{Binary}
@@ -68,7 +68,8 @@ offices_in_shows low high db rows items has k =
 
 abbrev pub loans_above : List ℕ
 loans_above =
-    codes "SELECT office, number, client, product, principal, periods, stage, approved, disbursed FROM loans WHERE office = ?1 AND number > ?2 ORDER BY office, number LIMIT 100"
+    codes "SELECT office, number, client, product, principal, periods, stage, approved, disbursed FROM loans WHERE office"
+    ++ codes " = ?1 AND number > ?2 ORDER BY office, number LIMIT 100"
 
 pub loans_above_is : command_of (understood schema loans_above)
     ≡ Select (record {

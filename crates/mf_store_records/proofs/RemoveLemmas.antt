@@ -39,8 +39,8 @@ pub removes_shares : (office loan seq : ℕ) (old new : State) (count : ℕ) (it
     (filter (λ x. not (is_share_in office loan seq x)) items) × Spares schema 21 old.now.trees new.now.trees
     × IsSound schema new.now.trees
 removes_shares office loan seq old new count items has k h =
-    deletes_kept share_row by_share by_share_total schema 10 (sql_table 21 shares) refl (λ keys olds news. refl) refl delete_shares
-    delete_shares_plain (eq (col 1 1) (col 0 0) ∷ eq (col 1 2) (col 0 1) ∷ eq (col 1 3) (col 0 2) ∷ [])
+    deletes_kept share_row by_share by_share_total schema 10 (sql_table 21 shares) refl (λ keys olds news. refl) refl
+    delete_shares delete_shares_plain (eq (col 1 1) (col 0 0) ∷ eq (col 1 2) (col 0 1) ∷ eq (col 1 3) (col 0 2) ∷ [])
     delete_shares_is _ (is_share_in office loan seq) (λ id y. (key_step _ _ _ _ (equals_back y.office office)
     (key_step _ _ _ _ (equals_back y.loan loan) (and_true _ ∙ equals_back y.seq seq)))) (λ t. refl) old new count
     items has k h

@@ -1,6 +1,6 @@
 -- What the texts of charges mean, how its rows are ordered, and that its columns hold their values.
 use Rattle.std.specs.Prelude.{◌≡◌, take}
-use Rattle.std.proofs.Common.{inl, inr, refl}
+use Rattle.std.proofs.Common.{inl, inr, refl, rules}
 use Rattle.sqlite_tied.specs.Compute.{everything}
 use Rattle.sqlite.specs.Listing.{understood}
 use Rattle.mf_store_tables.specs.Columns.{sql_table}
@@ -43,5 +43,4 @@ pub ordered : (a b : ChargeRow) → by_charge a b ≡ first_cmp 1 (charge_row a)
 ordered a b = one_number a.number b.number
 
 pub fits : (x : ChargeRow) → AllFit charges.columns (charge_row x)
-fits x =
-    ((x.number, refl), ((x.name, refl), ((x.kind, refl), ((x.calc, refl), ((x.value, refl), tt)))))
+fits x = search rules

@@ -1,6 +1,6 @@
 -- What the texts of entries mean, how its rows are ordered, and that its columns hold their values.
 use Rattle.std.specs.Prelude.{◌≡◌, take}
-use Rattle.std.proofs.Common.{inl, inr, refl}
+use Rattle.std.proofs.Common.{inl, inr, refl, rules}
 use Rattle.sqlite_tied.specs.Compute.{everything}
 use Rattle.sqlite.specs.Listing.{understood}
 use Rattle.mf_store_tables.specs.Columns.{sql_table}
@@ -47,22 +47,4 @@ pub ordered : (a b : EntryRow) → by_entry a b ≡ first_cmp 3 (entry_row a) (e
 ordered a b = three_numbers a.office a.loan a.seq b.office b.loan b.seq
 
 pub fits : (x : EntryRow) → AllFit entries.columns (entry_row x)
-fits x = (
-  (x.office, refl),
-  (
-    (x.loan, refl),
-    (
-      (x.seq, refl),
-      (
-        (x.kind, refl),
-        (
-          (x.day, refl),
-          (
-            (x.amount, refl),
-            ((x.instalment, refl), ((x.portion, refl), ((x.receipt, refl), ((x.staff, refl), ((x.reversed, refl), tt))))),
-          ),
-        ),
-      ),
-    ),
-  ),
-)
+fits x = search rules

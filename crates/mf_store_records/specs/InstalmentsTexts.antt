@@ -1,6 +1,6 @@
 -- What the texts of instalments mean, how its rows are ordered, and that its columns hold their values.
 use Rattle.std.specs.Prelude.{◌≡◌, take}
-use Rattle.std.proofs.Common.{inl, inr, refl}
+use Rattle.std.proofs.Common.{inl, inr, refl, rules}
 use Rattle.sqlite_tied.specs.Compute.{everything}
 use Rattle.sqlite.specs.Listing.{understood}
 use Rattle.mf_store_tables.specs.Columns.{sql_table}
@@ -47,55 +47,4 @@ pub ordered : (a b : InstalmentRow) → by_instalment a b ≡ first_cmp 3 (insta
 ordered a b = three_numbers a.office a.loan a.number b.office b.loan b.number
 
 pub fits : (x : InstalmentRow) → AllFit instalments.columns (instalment_row x)
-fits x = (
-  (x.office, refl),
-  (
-    (x.loan, refl),
-    (
-      (x.number, refl),
-      (
-        (x.due, refl),
-        (
-          (x.owed_penalty, refl),
-          (
-            (x.paid_penalty, refl),
-            (
-              (x.waived_penalty, refl),
-              (
-                (x.written_off_penalty, refl),
-                (
-                  (x.owed_fee, refl),
-                  (
-                    (x.paid_fee, refl),
-                    (
-                      (x.waived_fee, refl),
-                      (
-                        (x.written_off_fee, refl),
-                        (
-                          (x.owed_interest, refl),
-                          (
-                            (x.paid_interest, refl),
-                            (
-                              (x.waived_interest, refl),
-                              (
-                                (x.written_off_interest, refl),
-                                (
-                                  (x.owed_principal, refl),
-                                  ((x.paid_principal, refl), ((x.waived_principal, refl), ((x.written_off_principal, refl), tt))),
-                                ),
-                              ),
-                            ),
-                          ),
-                        ),
-                      ),
-                    ),
-                  ),
-                ),
-              ),
-            ),
-          ),
-        ),
-      ),
-    ),
-  ),
-)
+fits x = search rules

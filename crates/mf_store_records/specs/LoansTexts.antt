@@ -1,6 +1,6 @@
 -- What the texts of loans mean, how its rows are ordered, and that its columns hold their values.
 use Rattle.std.specs.Prelude.{◌≡◌, take}
-use Rattle.std.proofs.Common.{inl, inr, refl}
+use Rattle.std.proofs.Common.{inl, inr, refl, rules}
 use Rattle.sqlite_tied.specs.Compute.{everything}
 use Rattle.sqlite.specs.Listing.{understood}
 use Rattle.mf_store_tables.specs.Columns.{sql_table}
@@ -47,19 +47,4 @@ pub ordered : (a b : LoanRow) → by_loan a b ≡ first_cmp 2 (loan_row a) (loan
 ordered a b = two_numbers a.office a.number b.office b.number
 
 pub fits : (x : LoanRow) → AllFit loans.columns (loan_row x)
-fits x = (
-  (x.office, refl),
-  (
-    (x.number, refl),
-    (
-      (x.client, refl),
-      (
-        (x.product, refl),
-        (
-          (x.principal, refl),
-          ((x.periods, refl), ((x.stage, refl), ((x.approved, refl), ((x.disbursed, refl), tt)))),
-        ),
-      ),
-    ),
-  ),
-)
+fits x = search rules

@@ -1,6 +1,6 @@
 -- What the texts of meta mean, how its rows are ordered, and that its columns hold their values.
 use Rattle.std.specs.Prelude.{◌≡◌, take}
-use Rattle.std.proofs.Common.{inl, refl}
+use Rattle.std.proofs.Common.{inl, refl, rules}
 use Rattle.sqlite_tied.specs.Compute.{everything}
 use Rattle.sqlite.specs.Listing.{understood}
 use Rattle.mf_store_tables.specs.Columns.{sql_table}
@@ -43,5 +43,4 @@ pub ordered : (a b : MetaRow) → by_meta a b ≡ first_cmp 1 (meta_row a) (meta
 ordered a b = one_number a.one b.one
 
 pub fits : (x : MetaRow) → AllFit meta.columns (meta_row x)
-fits x =
-    ((x.one, refl), ((x.schema, refl), ((x.day, refl), tt)))
+fits x = search rules

@@ -1,6 +1,6 @@
 -- What the texts of products mean, how its rows are ordered, and that its columns hold their values.
 use Rattle.std.specs.Prelude.{◌≡◌, take}
-use Rattle.std.proofs.Common.{inl, inr, refl}
+use Rattle.std.proofs.Common.{inl, inr, refl, rules}
 use Rattle.sqlite_tied.specs.Compute.{everything}
 use Rattle.sqlite.specs.Listing.{understood}
 use Rattle.mf_store_tables.specs.Columns.{sql_table}
@@ -43,46 +43,4 @@ pub ordered : (a b : ProductRow) → by_product a b ≡ first_cmp 1 (product_row
 ordered a b = one_number a.number b.number
 
 pub fits : (x : ProductRow) → AllFit products.columns (product_row x)
-fits x = (
-  (x.number, refl),
-  (
-    (x.name, refl),
-    (
-      (x.method, refl),
-      (
-        (x.rate, refl),
-        (
-          (x.frequency, refl),
-          (
-            (x.every, refl),
-            (
-              (x.principal_grace, refl),
-              (
-                (x.interest_grace, refl),
-                (
-                  (x.min_principal, refl),
-                  (
-                    (x.max_principal, refl),
-                    (
-                      (x.min_periods, refl),
-                      (
-                        (x.max_periods, refl),
-                        (
-                          (x.strategy, refl),
-                          (
-                            (x.disbursement_charge, refl),
-                            ((x.instalment_charge, refl), ((x.overdue_charge, refl), ((x.retired, refl), tt))),
-                          ),
-                        ),
-                      ),
-                    ),
-                  ),
-                ),
-              ),
-            ),
-          ),
-        ),
-      ),
-    ),
-  ),
-)
+fits x = search rules

@@ -1,6 +1,6 @@
 -- What the texts of receipts mean, how its rows are ordered, and that its columns hold their values.
 use Rattle.std.specs.Prelude.{◌≡◌, take}
-use Rattle.std.proofs.Common.{inl, inr, refl}
+use Rattle.std.proofs.Common.{inl, inr, refl, rules}
 use Rattle.sqlite_tied.specs.Compute.{everything}
 use Rattle.sqlite.specs.Listing.{understood}
 use Rattle.mf_store_tables.specs.Columns.{sql_table}
@@ -43,5 +43,4 @@ pub ordered : (a b : ReceiptRow) → by_receipt a b ≡ first_cmp 2 (receipt_row
 ordered a b = number_and_text a.office a.receipt b.office b.receipt
 
 pub fits : (x : ReceiptRow) → AllFit receipts.columns (receipt_row x)
-fits x =
-    ((x.office, refl), ((x.receipt, refl), ((x.loan, refl), ((x.seq, refl), tt))))
+fits x = search rules

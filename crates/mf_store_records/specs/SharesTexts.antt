@@ -1,6 +1,6 @@
 -- What the texts of shares mean, how its rows are ordered, and that its columns hold their values.
 use Rattle.std.specs.Prelude.{◌≡◌, take}
-use Rattle.std.proofs.Common.{inl, inr, refl}
+use Rattle.std.proofs.Common.{inl, inr, refl, rules}
 use Rattle.sqlite_tied.specs.Compute.{everything}
 use Rattle.sqlite.specs.Listing.{understood}
 use Rattle.mf_store_tables.specs.Columns.{sql_table}
@@ -47,22 +47,4 @@ pub ordered : (a b : ShareRow) → by_share a b ≡ first_cmp 4 (share_row a) (s
 ordered a b = four_numbers a.office a.loan a.seq a.place b.office b.loan b.seq b.place
 
 pub fits : (x : ShareRow) → AllFit shares.columns (share_row x)
-fits x = (
-  (x.office, refl),
-  (
-    (x.loan, refl),
-    (
-      (x.seq, refl),
-      (
-        (x.place, refl),
-        (
-          (x.instalment, refl),
-          (
-            (x.portion, refl),
-            ((x.how, refl), ((x.amount, refl), tt)),
-          ),
-        ),
-      ),
-    ),
-  ),
-)
+fits x = search rules

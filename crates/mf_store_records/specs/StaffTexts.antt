@@ -1,6 +1,6 @@
 -- What the texts of staff mean, how its rows are ordered, and that its columns hold their values.
 use Rattle.std.specs.Prelude.{◌≡◌, take}
-use Rattle.std.proofs.Common.{inl, inr, refl}
+use Rattle.std.proofs.Common.{inl, inr, refl, rules}
 use Rattle.sqlite_tied.specs.Compute.{everything}
 use Rattle.sqlite.specs.Listing.{understood}
 use Rattle.mf_store_tables.specs.Columns.{sql_table}
@@ -47,5 +47,4 @@ pub ordered : (a b : StaffRow) → by_staff a b ≡ first_cmp 2 (staff_row a) (s
 ordered a b = two_numbers a.office a.number b.office b.number
 
 pub fits : (x : StaffRow) → AllFit staff.columns (staff_row x)
-fits x =
-    ((x.office, refl), ((x.number, refl), ((x.name, refl), ((x.role, refl), tt))))
+fits x = search rules

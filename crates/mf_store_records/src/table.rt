@@ -141,7 +141,8 @@ impl Values for (u32, u32, u32, u32) {
     }
 
     ghost plain = { λ key.
-        ((Number, refl, (key.0, refl)), ((Number, refl, (key.1, refl)), ((Number, refl, (key.2, refl)), ((Number, refl, (key.3, refl)), tt)))) };
+        ((Number, refl, (key.0, refl)), ((Number, refl, (key.1, refl)), ((Number, refl, (key.2, refl)),
+        ((Number, refl, (key.3, refl)), tt)))) };
 }
 
 /// The rows of a table, each as the program holds it.

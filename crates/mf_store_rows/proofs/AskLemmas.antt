@@ -1,17 +1,17 @@
 -- What a query that asks for a whole table shows, whatever rows it has.
 use Rattle.std.proofs.Common.{◌≡◌, inl, inr, ◌≤◌, ◌+◌, ℕ, ℤ, zero, suc, true, false, List, [], ◌∷◌, map, filter, length}
-use Rattle.std.proofs.Common.{None, refl, sym, ap, ◌∙◌, subst, arith, Ordering, Less, IsPermutation}
+use Rattle.std.proofs.Common.{Some, slice_get, refl, sym, ap, ◌∙◌, subst, arith, Ordering, Less, IsPermutation}
 use Rattle.std.specs.List.{AllByRecursion, list_all}
+use Rattle.std.proofs.lemmas.List.{length-map}
 use Rattle.std.proofs.lemmas.List.Sorted.{IsPermutation-map}
-use Rattle.sqlite.specs.declared.types.Value.TheVariants.{Null, Int}
+use Rattle.sqlite.specs.declared.types.Value.TheVariants.{Null}
 use Rattle.sqlite.specs.Order.{Row, column}
 use Rattle.sqlite.specs.Tree.{Trees}
-use Rattle.sqlite.specs.Term.{Term, col, holds, eval_all}
-use Rattle.sqlite.specs.Query.{Output, output, output_cmp, IsAnswerAs}
+use Rattle.sqlite.specs.Term.{Term, holds, eval_all}
+use Rattle.sqlite.specs.Query.{Output, output, IsAnswerAs}
 use Rattle.sqlite.specs.Program.{overlay}
 use Rattle.sqlite.specs.Table.{Table}
 use Rattle.sqlite.specs.Schema.{Schema}
-use Rattle.sqlite.specs.Command.TheVariants.{Select}
 use Rattle.sqlite.specs.Listing.{understood, reads_listing}
 use Rattle.sqlite.specs.Effect.{Database, Reads}
 use Rattle.sqlite.proofs.Callers.{IsPlain, command_of}
@@ -21,33 +21,30 @@ use Rattle.sqlite_rules.specs.Lists.{Has}
 use Rattle.sqlite_catalog.specs.Listing.{IsSound}
 use Rattle.sqlite_trees.specs.Tree.{IsAscending}
 use Rattle.sqlite_keyed.proofs.ListLemmas.{map-map}
+use Rattle.mf_store_tables.specs.Columns.{Columns, sql_column, sql_table}
 use Rattle.mf_store_tables.specs.Keep.{Alike, AreAlike, Keeps, same_id}
-use Rattle.mf_store_tables.specs.Scan.{scan}
+use Rattle.mf_store_tables.specs.Meanings.{columns_of, order_from}
 use Rattle.mf_store_tables.specs.Queries.{Answers}
+use Rattle.mf_store_tables.specs.Rows.{AllFit, first_cmp}
+use Rattle.mf_store_tables.specs.Scan.{scan}
+use Rattle.mf_store_tables.specs.Texts.{select_text}
 use Rattle.mf_store_tables.proofs.ReadLemmas.{flat_map_if}
+use Rattle.mf_store_tables.proofs.TableLemmas.{asked_shows}
+use Rattle.mf_store_rows.specs.Whole.{HasRowids, IsAsked, ShowsTable}
 use Rattle.mf_store_rows.proofs.OpenLemmas.{raw_row, kept_by_rows}
-use Rattle.mf_store_tables.proofs.ShownLemmas.{shown_kept}
-use Rattle.mf_store_records.specs.Tables.{schema}
-use Rattle.mf_store_rows.specs.Schemas.{first_schema, IsKnown, IsPresent}
-use Rattle.mf_store_rows.specs.Whole.{HasRowids, ShowsTable}
 use Rattle.mf_store_rows.proofs.TreeLemmas.{raw_of, past_end, row_columns}
 
--- so many columns from this one on
-abbrev pub cols : ℕ → ℕ → List Term
-cols at zero = []
-cols at (suc n) = col 1 at ∷ cols (at + 1) n
-
 -- a column that is shown, and past the last of them NULL, as the row itself has there
-shown_column : (params row : Row) (at n k : ℕ) → length row ≤ at + n → column (eval_all (cols at n) (params ∷ row ∷ []))
+shown_column : (params row : Row) (at n k : ℕ) → length row ≤ at + n → column (eval_all (columns_of 1 at n) (params ∷ row ∷ []))
     k ≡ column row (at + k)
 shown_column params row at zero k short = sym (past_end row (at + k) (omega (arith, short)))
 shown_column params row at (suc n) zero short = ap (column row) (omega arith)
-shown_column params row at (suc n) (suc k) short = shown_column params row (at + 1) n k (omega (arith, short))
+shown_column params row at (suc n) (suc k) short = shown_column params row (suc at) n k (omega (arith, short))
     ∙ ap (column row) (omega arith)
 
 -- the rows as they are shown, under their rowids
 abbrev pub filled : Row → ℕ → ℤ × Row → ℤ × Row
-filled params n e = (e.0, eval_all (cols 1 n) (params ∷ raw_row e ∷ []))
+filled params n e = (e.0, eval_all (columns_of 1 1 n) (params ∷ raw_row e ∷ []))
 
 row_filled : (params : Row) (n : ℕ) (e : ℤ × Row) → length e.1 ≤ n → Alike (raw_row e) (raw_row (filled params n e))
 row_filled params n e short zero = refl
@@ -59,10 +56,10 @@ rows_filled : (params : Row) (n : ℕ) (raw : List (ℤ × Row)) → AllByRecurs
 rows_filled params n [] all = tt
 rows_filled params n (e ∷ raw) all = (row_filled params n e all.0, rows_filled params n raw all.1)
 
-rows_shown : (params : Row) (n : ℕ) (raw : List (ℤ × Row)) → map (λ r. eval_all (cols 1 n) (params ∷ r ∷ []))
+rows_shown : (params : Row) (n : ℕ) (raw : List (ℤ × Row)) → map (λ r. eval_all (columns_of 1 1 n) (params ∷ r ∷ []))
     (map raw_row raw) ≡ map (λ (e : ℤ × Row). e.1) (map (filled params n) raw)
 rows_shown params n [] = refl
-rows_shown params n (e ∷ raw) = ap (λ l. eval_all (cols 1 n) (params ∷ raw_row e ∷ []) ∷ l) (rows_shown params n raw)
+rows_shown params n (e ∷ raw) = ap (λ l. eval_all (columns_of 1 1 n) (params ∷ raw_row e ∷ []) ∷ l) (rows_shown params n raw)
 
 -- the rowids stay apart
 none_filled : (params : Row) (n : ℕ) (a : ℤ) (raw : List (ℤ × Row)) → AllByRecursion (λ (b : ℤ × Row). same_id a b.0
@@ -101,80 +98,54 @@ all_at P [] x h all = absurd h
 all_at P (y ∷ ys) x (inl is) all = subst P (sym is) all.0
 all_at P (y ∷ ys) x (inr h) all = all_at P ys x h all.1
 
--- under the schema the text asks for the whole table, each column, in this order, and for no more
-pub record AsksAll (schema : Schema) (table : Table) (order : List (Term × Key)) (sql : List ℕ) : Type 0 where
-  pub plain : IsPlain (understood schema sql)
-  pub unlisted : reads_listing schema sql ≡ false
-  pub names : List (List ℕ)
-  pub is : command_of (understood schema sql)
-      ≡ Select (record { lets = []; body = scan table.tree [] (cols 1 (length table.columns)) order }) names
+-- what stands at a place stands in the list
+has_at : {X : Type 0} (xs : List X) (place : ℕ) (x : X) → slice_get xs place ≡ Some x → Has xs x
+has_at [] place x h = absurd (cc)
+has_at (y ∷ xs) zero x h = inl (let e : x ≡ y = cc in e)
+has_at (y ∷ xs) (suc place) x h = inr (has_at xs place x h)
 
-module _ {X : Type 0} (stored : X → Row) (cmp : X → X → Ordering) (schema : Schema) (table : Table)
-    (there : Has schema.tables table) (keyless : table.key ≡ None) (order : List (Term × Key)) (sql : List ℕ)
-    (asks : AsksAll schema table order sql)
-    (under : (trees : Trees) → overlay trees [] table.tree ≡ trees table.tree) where
+module _ {X : Type 0} (stored : X → Row) (cmp : X → X → Ordering) (k : Schema) (place tree : ℕ) (t : Columns)
+    (ordered : (a b : X) → cmp a b ≡ first_cmp t.key (stored a) (stored b))
+    (fit : (x : X) → AllFit t.columns (stored x))
+    (under : (trees : Trees) → overlay trees [] tree ≡ trees tree) (asked : IsAsked k place tree t) where
   abbrev n : ℕ
-  n = length table.columns
+  n = length t.columns
 
   -- a table with its rowids in order whose rows are shown as those of items that rise by key keeps the items
-  kept_by_answer : (db : Database) (rows : List Row) (items : List X) → db.schema ≡ schema → IsSound schema db.trees
-      → HasRowids (db.trees table.tree) → Answers sql [] db rows → rows ≡ map stored items
-      → IsAscending (λ a b. cmp a b ≡ Less) items → Keeps stored cmp (db.trees table.tree) items
+  kept_by_answer : (db : Database) (rows : List Row) (items : List X) → db.schema ≡ k → IsSound k db.trees
+      → HasRowids (db.trees tree) → Answers (select_text t 0) [] db rows → rows ≡ map stored items
+      → IsAscending (λ a b. cmp a b ≡ Less) items → Keeps stored cmp (db.trees tree) items
   kept_by_answer db rows items has sound whole h are rising =
+      let sql = select_text t 0 in
+      let asks = asked.asks in
       let read = subst (λ c. Reads c db [] rows) (ap (λ s. command_of (understood s sql)) has ∙ asks.is)
       (h (subst (λ s. IsPlain (understood s sql)) (sym has) asks.plain) (ap (λ s. reads_listing s sql) has
       ∙ asks.unlisted)) in
-      let tree = db.trees table.tree in
-      let show = λ (r : Row). eval_all (cols 1 n) ([] ∷ r ∷ []) in
-      let seen : IsPermutation (map show tree) rows = subst (λ t. IsPermutation (map show t) rows) (under db.trees)
-      (shown_all table.tree (cols 1 n) order [] (overlay db.trees []) rows (read.answer Null)) in
-      let raw = raw_of tree whole in
-      let typed = all_at (λ (t : Table). AllByRecursion (λ row. Rattle.sqlite_schema.specs.Rules.passes Datatype schema
-      db.trees t row ≡ true) (db.trees t.tree)) schema.tables table there (sound.obeys.rules Datatype) in
-      let short = row_columns schema table db.trees raw.0 keyless (subst (AllByRecursion _) raw.1 typed) in
-      let near : AreAlike tree (map raw_row (map (filled [] n) raw.0)) =
+      let rowed = db.trees tree in
+      let show = λ (r : Row). eval_all (columns_of 1 1 n) ([] ∷ r ∷ []) in
+      let seen : IsPermutation (map show rowed) rows = subst (λ t. IsPermutation (map show t) rows) (under db.trees)
+      (shown_all tree (columns_of 1 1 n) (order_from 0 t.key) [] (overlay db.trees []) rows (read.answer Null)) in
+      let raw = raw_of rowed whole in
+      let typed = all_at (λ (t : Table). AllByRecursion (λ row. Rattle.sqlite_schema.specs.Rules.passes Datatype k
+      db.trees t row ≡ true) (db.trees t.tree)) k.tables (sql_table tree t) (has_at k.tables place _ asked.there)
+      (sound.obeys.rules Datatype) in
+      let short = subst (λ m. AllByRecursion (λ (e : ℤ × Row). length e.1 ≤ m) raw.0) (length-map t.columns sql_column)
+      (row_columns k (sql_table tree t) db.trees raw.0 refl (subst (AllByRecursion _) raw.1 typed)) in
+      let near : AreAlike rowed (map raw_row (map (filled [] n) raw.0)) =
       subst (λ l. AreAlike l (map raw_row (map (filled [] n) raw.0))) (sym raw.1) (rows_filled [] n raw.0 short) in
       let shown : IsPermutation (map (λ (e : ℤ × Row). e.1) (map (filled [] n) raw.0)) rows =
       subst (λ l. IsPermutation l rows) (ap (map show) raw.1 ∙ rows_shown [] n raw.0) seen in
-      kept_by_rows stored cmp tree (map (filled [] n) raw.0) rows items near (apart_filled [] n raw.0 raw.2) shown are
+      kept_by_rows stored cmp rowed (map (filled [] n) raw.0) rows items near (apart_filled [] n raw.0 raw.2) shown are
       rising
 
-  pub shows_table : (key : X → Row) → ((id : ℤ) (x : X) → output (scan table.tree [] (cols 1 n) order)
-      ([] ∷ (Int id ∷ stored x) ∷ []) ≡ (key x, stored x))
-      → ((a b : X) → output_cmp (scan table.tree [] (cols 1 n) order) (key a, stored a) (key b, stored b) ≡ cmp a b)
-      → (db : Database) (rows : List Row) → db.schema ≡ schema → IsSound schema db.trees → Answers sql [] db rows
-      → ShowsTable stored cmp (db.trees table.tree) rows
-  shows_table key out ranks db rows has sound h = record {
-    shows = λ items k. shown_kept stored cmp schema table.tree sql asks.plain asks.unlisted [] (cols 1 n) order
-        asks.names asks.is [] (λ x. true) (λ id x. refl) key stored out ranks under db items rows has k h
-        ∙ ap (map stored) (filter_true items);
+  -- what the text that asks for the whole table shows of it
+  pub shows_whole : (sql : List ℕ) → sql ≡ select_text t 0 → (db : Database) (rows : List Row) → db.schema ≡ k
+      → IsSound k db.trees → Answers sql [] db rows → ShowsTable stored cmp (db.trees tree) rows
+  shows_whole sql text db rows has sound told = record {
+    shows = λ items keeps. asked_shows stored cmp k place tree t ordered fit under 0 [] asked.asks refl tt (λ x. true)
+        (λ x. refl) db items rows has keeps h ∙ ap (map stored) (filter_true items);
     keeps = λ whole items rising are. kept_by_answer db rows items has sound whole h are rising;
   }
-
--- a text that asks for the whole table under the schema of today alone
-pub plain_present : (table : Table) (order : List (Term × Key)) (sql : List ℕ) → AsksAll schema table order sql
-    → (k : Schema) → IsPresent k → IsPlain (understood k sql)
-plain_present table order sql now k is = subst (λ s. IsPlain (understood s sql)) (sym is) now.plain
-
--- a text that asks for the whole table under either schema
-module _ (table : Table) (order : List (Term × Key)) (sql : List ℕ) (now : AsksAll schema table order sql)
-    (first : AsksAll first_schema table order sql) where
-  pub plain_known : (k : Schema) → IsKnown k → IsPlain (understood k sql)
-  plain_known k (inl is) = subst (λ s. IsPlain (understood s sql)) (sym is) now.plain
-  plain_known k (inr is) = subst (λ s. IsPlain (understood s sql)) (sym is) first.plain
-
-module _ {X : Type 0} (stored : X → Row) (cmp : X → X → Ordering) (table : Table) (there : Has schema.tables table)
-    (there_first : Has first_schema.tables table) (keyless : table.key ≡ None) (order : List (Term × Key))
-    (sql : List ℕ)
-    (now : AsksAll schema table order sql) (first : AsksAll first_schema table order sql) (under : (trees : Trees)
-    → overlay trees [] table.tree ≡ trees table.tree) (key : X → Row)
-    (out : (id : ℤ) (x : X) → output (scan table.tree [] (cols 1 (length table.columns)) order)
-    ([] ∷ (Int id ∷ stored x) ∷ []) ≡ (key x, stored x))
-    (ranks : (a b : X) → output_cmp (scan table.tree [] (cols 1 (length table.columns)) order) (key a, stored a)
-    (key b, stored b) ≡ cmp a b) where
-  pub shows_known : (db : Database) (rows : List Row) → IsKnown db.schema → IsSound db.schema db.trees
-      → Answers sql [] db rows → ShowsTable stored cmp (db.trees table.tree) rows
-  shows_known db rows (inl is) sound = shows_table stored cmp schema table there keyless order sql now under key out
-      ranks db rows is (subst (λ k. IsSound k db.trees) is sound)
-  shows_known db rows (inr is) sound = shows_table stored cmp first_schema table there_first keyless order sql first
-      under key out ranks db rows is (subst (λ k. IsSound k db.trees) is sound)
+    where
+      h : Answers (select_text t 0) [] db rows
+      h = subst (λ s. Answers s [] db rows) text told

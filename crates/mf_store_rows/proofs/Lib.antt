@@ -3,4 +3,3 @@ pub mod OpenLemmas
 pub mod TreeLemmas
 pub mod AskLemmas
 pub mod ShownLemmas
-pub mod Texts

@@ -10,7 +10,8 @@ use Rattle.sqlite.specs.Listing.{understood}
 use Rattle.sqlite.specs.Schema.{Schema}
 use Rattle.sqlite.specs.State.{State, HasCleanDisk, Survives}
 use Rattle.mf_store_records.proofs.CallLemmas.{only_faults_shut}
-use Rattle.mf_store_records.specs.Fields.{Field, HasFields}
+use Rattle.mf_store_tables.specs.Columns.{Named}
+use Rattle.mf_store_records.specs.Fields.{HasFields}
 use Rattle.mf_store_rows.specs.Read.{IsReadAs, AreReadAs, AreRead}
 use Rattle.mf_store_rows.specs.Schemas.{IsUnchangedUnder}
 
@@ -40,27 +41,27 @@ module _ {X : Type 0} (stored : X → Row) where
   more (y ∷ xs) [] h x row one = absurd h
   more (y ∷ xs) (r ∷ rows) h x row one = (h.0, more xs rows h.1 x row one)
 
-module _ {X E : Type 0} (stored : X → Row) (fields : List Field) (r : Result (Option (Vec X Global)) E)
+module _ {X E : Type 0} (stored : X → Row) (columns : List Named) (r : Result (Option (Vec X Global)) E)
     (L : Type 0) (Q : List Row → Type 0) (live : OnOk r L)
-    (read : IfOk r (λ x. (shown : List Row) × AreRead stored fields x shown × Q shown)) where
+    (read : IfOk r (λ x. (shown : List Row) × AreRead stored columns x shown × Q shown)) where
   -- what follows of the records that were read
   pub some_read : (P : Vec X Global → Type 0) → (L → (rs : Vec X Global) (shown : List Row)
       → AreReadAs stored rs.items shown → Q shown → P rs) → IfOk r (λ x. IfSome x P)
   some_read P f = go r live read
     where
       go : (r : Result (Option (Vec X Global)) E) → OnOk r L → IfOk r (λ x. (shown : List Row)
-          × AreRead stored fields x shown × Q shown) → IfOk r (λ x. IfSome x P)
+          × AreRead stored columns x shown × Q shown) → IfOk r (λ x. IfSome x P)
       go (Ok (Some rs)) up h = f up rs h.0 h.1 h.2
       go (Ok None) up h = tt
       go (Err e) up h = tt
 
   -- what follows where there are none
-  pub none_read : (P : Type 0) → (L → (shown : List Row) → ¬ AllByRecursion (HasFields fields) shown → Q shown → P)
+  pub none_read : (P : Type 0) → (L → (shown : List Row) → ¬ AllByRecursion (HasFields columns) shown → Q shown → P)
       → IfOk r (λ x. IfNone x P)
   none_read P f = go r live read
     where
       go : (r : Result (Option (Vec X Global)) E) → OnOk r L → IfOk r (λ x. (shown : List Row)
-          × AreRead stored fields x shown × Q shown) → IfOk r (λ x. IfNone x P)
+          × AreRead stored columns x shown × Q shown) → IfOk r (λ x. IfNone x P)
       go (Ok (Some rs)) up h = tt
       go (Ok None) up h = f up h.0 h.1 h.2
       go (Err e) up h = tt

@@ -15,7 +15,7 @@ use Rattle.sqlite.proofs.StateLemmas.{survives_then}
 use Rattle.sqlite_trees.specs.declared.store.Store.{Ghosts}
 use Rattle.mf_store_tables.specs.Queries.{Answers}
 use Rattle.mf_store_tables.proofs.QueryLemmas.{either_way, not_run_same, refused_same, crash_prepared}
-use Rattle.mf_store_records.specs.Fields.{Field}
+use Rattle.mf_store_tables.specs.Columns.{Named}
 use Rattle.mf_store_rows.specs.Read.{AreRead}
 
 -- the database is as it was, and the connection is not opened anew
@@ -39,14 +39,14 @@ answers_of sql params old mid new rows same h =
     (command_of (understood mid.now.schema sql)) refl plain unlisted rows h in
     subst (λ d. Answers sql params d rows) same whole
 
-module _ {S X : Type 0} (g : Ghosts S) (stored : X → Row) (fields : List Field) where
+module _ {S X : Type 0} (g : Ghosts S) (stored : X → Row) (columns : List Named) where
   -- the rows so far were read into these records, since the connection was like this
   pub record IsUnderWay (old now : Held S) (records : Option (Vec X Global)) : Type 0 where
     pub mode : old.in_transaction ≡ false → now.in_transaction ≡ false
     pub survives : Survives (state g old) (state g now) (λ _. ⊥)
     pub same : HasCleanDisk (state g now) → IsSame (state g old) (state g now)
     pub given : List Row
-    pub read : AreRead stored fields records given
+    pub read : AreRead stored columns records given
     pub runs : HasCleanDisk (state g now) → (sql : List ℕ) (params : Row) → HasGiven g sql params old []
         → HasGiven g sql params now given
 
@@ -54,7 +54,7 @@ module _ {S X : Type 0} (g : Ghosts S) (stored : X → Row) (fields : List Field
   early old new survives clean = omega (arith, survives.clean, clean)
 
   -- no row was asked for
-  pub begin : (old : Held S) (records : Option (Vec X Global)) → AreRead stored fields records []
+  pub begin : (old : Held S) (records : Option (Vec X Global)) → AreRead stored columns records []
       → IsUnderWay old old records
   begin old records read = record {
     mode = λ alone. alone;
@@ -78,7 +78,7 @@ module _ {S X : Type 0} (g : Ghosts S) (stored : X → Row) (fields : List Field
     pub one_more : (after : Option (Vec X Global)) (row : Row) → (now.in_transaction ≡ false → next.in_transaction
         ≡ false) → (HasCleanDisk (state g next) → IsUnchanged (state g now) (state g next))
         → (HasCleanDisk (state g next) → Advances g now next (Some row))
-        → ((rows : List Row) → AreRead stored fields before rows → AreRead stored fields after (rows ++ row ∷ []))
+        → ((rows : List Row) → AreRead stored columns before rows → AreRead stored columns after (rows ++ row ∷ []))
         → IsUnderWay old next after
     one_more after row mode kept advances reads = record {
       mode = λ alone. mode (way.mode alone);
@@ -94,7 +94,7 @@ module _ {S X : Type 0} (g : Ghosts S) (stored : X → Row) (fields : List Field
 
     -- no more rows came: those that did are the answer
     pub all_shown : HasCleanDisk (state g next) → Advances g now next None → (shown : List Row)
-        × AreRead stored fields before shown × ((sql : List ℕ) (params : Row) → HasGiven g sql params old []
+        × AreRead stored columns before shown × ((sql : List ℕ) (params : Row) → HasGiven g sql params old []
         → Answers sql params (state g old).now shown)
     all_shown clean advances =
         let was = early (state g now) (state g next) survives clean in (

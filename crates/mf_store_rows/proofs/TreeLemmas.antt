@@ -26,8 +26,7 @@ use Rattle.sqlite_store.specs.Listed.{catalog_rows, is_listed}
 use Rattle.sqlite_store.specs.Listing.{file_trees, all_shapes, all_reals}
 use Rattle.sqlite_store.proofs.ListingLemmas.{all_ordered}
 use Rattle.mf_store_tables.specs.Keep.{same_id}
-use Rattle.mf_store_records.specs.Tables.{schema}
-use Rattle.mf_store_rows.specs.Schemas.{first_schema}
+use Rattle.mf_store_records.specs.Tables.{schema, first_schema}
 use Rattle.mf_store_rows.specs.Whole.{HasRowids, HaveRowidsUnder}
 use Rattle.mf_store_rows.proofs.OpenLemmas.{raw_row}
 

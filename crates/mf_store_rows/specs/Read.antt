@@ -3,7 +3,8 @@ use Rattle.std.specs.Prelude.{◌≡◌, List, [], ◌∷◌, Option, Some, None
 use Rattle.std.specs.declared.alloc.Global.{Global}
 use Rattle.std.specs.List.{AllByRecursion}
 use Rattle.sqlite.specs.Order.{Row}
-use Rattle.mf_store_records.specs.Fields.{Field, HasFields}
+use Rattle.mf_store_tables.specs.Columns.{Named}
+use Rattle.mf_store_records.specs.Fields.{HasFields}
 
 module _ {X : Type 0} (stored : X → Row) where
   -- the record has the row, and no other has it
@@ -18,7 +19,7 @@ module _ {X : Type 0} (stored : X → Row) where
   AreReadAs (x ∷ xs) [] = ⊥
   AreReadAs (x ∷ xs) (row ∷ rows) = IsReadAs x row × AreReadAs xs rows
 
-  -- these are the rows' records, or there are none, since fields of these kinds cannot hold one of the rows
-  abbrev pub AreRead : List Field → Option (Vec X Global) → List Row → Type 0
-  AreRead fields (Some records) rows = AreReadAs records.items rows
-  AreRead fields None rows = ¬ AllByRecursion (HasFields fields) rows
+  -- these are the rows' records, or there are none, since these columns cannot hold one of the rows
+  abbrev pub AreRead : List Named → Option (Vec X Global) → List Row → Type 0
+  AreRead columns (Some records) rows = AreReadAs records.items rows
+  AreRead columns None rows = ¬ AllByRecursion (HasFields columns) rows

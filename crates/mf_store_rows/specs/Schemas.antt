@@ -1,27 +1,10 @@
 -- The schemas that files of this program have, and a connection that nothing changes under some of them.
-use Rattle.std.specs.Prelude.{◌≡◌, ◌⊎◌, [], ◌∷◌, IsTrue, codes}
+use Rattle.std.specs.Prelude.{◌≡◌, ◌⊎◌, IsTrue}
 use Rattle.sqlite.specs.Schema.{Schema}
 use Rattle.sqlite.specs.State.{State, HasCleanDisk}
 use Rattle.sqlite.specs.Tree.{Trees}
-use Rattle.mf_store_tables.specs.Tables.{index_on}
 use Rattle.mf_store_records.specs.Calls.{OnlyFaultsShut}
-use Rattle.mf_store_records.specs.Tables.{schema, meta, offices, staff, clients, charges, products, loans, entries}
-use Rattle.mf_store_records.specs.Tables.{receipts}
-
--- the first schema: the tables of today but instalments and shares
-abbrev pub first_schema : Schema
-first_schema = record {
-  tables = meta ∷ offices ∷ staff ∷ clients ∷ charges ∷ products ∷ loans ∷ entries ∷ receipts ∷ [];
-  indexes = index_on 0 1 (codes "sqlite_autoindex_meta_1") (1 ∷ []) ∷ index_on 2 3 (codes "sqlite_autoindex_offices_1")
-      (3 ∷ []) ∷ index_on 2 4 (codes "sqlite_autoindex_offices_2") (1 ∷ [])
-      ∷ index_on 5 6 (codes "sqlite_autoindex_staff_1") (1 ∷ 2 ∷ []) ∷ index_on 7 8 (codes "sqlite_autoindex_clients_1")
-      (1 ∷ 2 ∷ []) ∷ index_on 9 10 (codes "sqlite_autoindex_charges_1") (1 ∷ [])
-      ∷ index_on 11 12 (codes "sqlite_autoindex_products_1") (1 ∷ [])
-      ∷ index_on 13 14 (codes "sqlite_autoindex_loans_1") (1 ∷ 2 ∷ [])
-      ∷ index_on 15 16 (codes "sqlite_autoindex_entries_1") (1 ∷ 2 ∷ 3 ∷ [])
-      ∷ index_on 17 18 (codes "sqlite_autoindex_receipts_1") (1 ∷ 2 ∷ []) ∷ [];
-  views = [];
-}
+use Rattle.mf_store_records.specs.Tables.{schema, first_schema}
 
 -- the schema of today
 abbrev pub IsPresent : Schema → Type 0

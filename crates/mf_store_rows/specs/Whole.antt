@@ -1,5 +1,6 @@
 -- Tables of whatever rows, and what a text shows of one.
-use Rattle.std.specs.Prelude.{◌≡◌, List, map}
+use Rattle.std.specs.Prelude.{◌≡◌, ℕ, List, map, slice_get, Some}
+use Rattle.std.proofs.Common.{inl, inr, sym, subst}
 use Rattle.std.specs.declared.cmp.Ordering.{Ordering}
 use Rattle.std.specs.declared.cmp.Ordering.TheVariants.{Less}
 use Rattle.std.specs.List.{AllByRecursion}
@@ -10,9 +11,11 @@ use Rattle.sqlite.specs.Tree.{Trees}
 use Rattle.sqlite_trees.specs.declared.store.Shape.TheVariants.{Table}
 use Rattle.sqlite_trees.specs.Tree.{IsAscending}
 use Rattle.sqlite_trees.specs.View.{IsShaped}
+use Rattle.mf_store_tables.specs.Columns.{Columns, sql_table}
 use Rattle.mf_store_tables.specs.Keep.{Keeps}
-use Rattle.mf_store_records.specs.Tables.{schema}
-use Rattle.mf_store_rows.specs.Schemas.{first_schema}
+use Rattle.mf_store_tables.specs.Meanings.{Asks, IsKept}
+use Rattle.mf_store_records.specs.Tables.{schema, first_schema}
+use Rattle.mf_store_rows.specs.Schemas.{IsKnown, IsPresent}
 
 -- the rows stand under rowids that are integers and rise
 abbrev pub HasRowids : List Row → Type 0
@@ -29,6 +32,21 @@ HaveRowids trees = HaveRowidsUnder schema trees
 -- so does each table of the first schema
 abbrev pub HaveFirstRowids : Trees → Type 0
 HaveFirstRowids trees = HaveRowidsUnder first_schema trees
+
+-- the schema has the table at this place, and understands the text that asks for the whole of it
+pub record IsAsked (k : Schema) (place tree : ℕ) (t : Columns) : Type 0 where
+  pub there : slice_get k.tables place ≡ Some (sql_table tree t)
+  pub asks : Asks k place tree t 0
+
+module _ (place tree : ℕ) (t : Columns) (kept : IsKept schema place tree t) where
+  -- today's schema does
+  pub asked_present : (k : Schema) → IsPresent k → IsAsked k place tree t
+  asked_present k is = subst (λ s. IsAsked s place tree t) (sym is) (record { there = kept.there; asks = kept.shows })
+
+  -- and the first one, where it has the table
+  pub asked_known : IsAsked first_schema place tree t → (k : Schema) → IsKnown k → IsAsked k place tree t
+  asked_known first k (inl is) = asked_present k is
+  asked_known first k (inr is) = subst (λ s. IsAsked s place tree t) (sym is) first
 
 -- what a text that asks for the whole table shows of it
 pub record ShowsTable {X : Type 0} (stored : X → Row) (cmp : X → X → Ordering) (tree rows : List Row) : Type 0 where

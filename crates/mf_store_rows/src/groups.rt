@@ -76,15 +76,15 @@ impl<T: Whole + Drop> Group for Vec<T> {
 
     ghost rows = { λ group. group.items };
 
-    ghost Keeps = { λ trees items. KeepsItems T.Table.stored T.Whole.by (trees T.Whole.tree) items };
+    ghost Keeps = { λ trees items. KeepsItems T.Table.stored T.Table.by (trees T.Table.tree) items };
 
-    ghost CanBeHeld = { λ items. AllByRecursion (HasFields T.Table.fields) (map T.Table.stored items) };
+    ghost CanBeHeld = { λ items. AllByRecursion (HasFields (T.Table.columns).columns) (map T.Table.stored items) };
 
-    ghost DoRise = { IsAscending (λ a b. T.Whole.by a b ≡ Less) };
+    ghost DoRise = { IsAscending (λ a b. T.Table.by a b ≡ Less) };
 
     ghost IsUnder = { T.Whole.IsUnder };
 
-    ghost HaveRowids = { λ trees. HasRowids (trees T.Whole.tree) };
+    ghost HaveRowids = { λ trees. HasRowids (trees T.Table.tree) };
 
     fn read_group<S: Alter, P: Progress>(
         alloc: Global,

@@ -8,7 +8,7 @@ ghost use Rattle.sqlite.specs.State.{HasCleanDisk};
 ghost use Rattle.sqlite_store.specs.FileStore.{view};
 ghost use Rattle.sqlite_wal.specs.Files.{image_at};
 ghost use Rattle.mf_store_records.specs.Tables.{schema};
-ghost use Rattle.mf_store_rows.specs.Schemas.{first_schema};
+ghost use Rattle.mf_store_records.specs.Tables.{first_schema};
 ghost use Rattle.mf_store_rows.specs.Whole.{HaveRowids, HaveFirstRowids};
 
 use crate::logs::remove_bare_log;

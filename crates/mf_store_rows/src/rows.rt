@@ -14,7 +14,7 @@ use sqlite::{Error, ErrorCode, Row};
 pub fn read_any<T: Table>(row: &Row) -> Result<Option<T>, Fault>
     ensures some { IfOk result (λ x. IfSome x (λ r. T.stored r ≡ row.now)) }
     ensures only { IfOk result (λ x. IfSome x (λ r. (s : T) → row.now ≡ T.stored s → r ≡ s)) }
-    ensures none { IfOk result (λ x. IfNone x (¬ HasFields T.fields row.now)) }
+    ensures none { IfOk result (λ x. IfNone x (¬ HasFields (T.columns).columns row.now)) }
     ensures gives_up { IfErr result (λ fault. fault ≡ F20) }
 {
     match T::read(row) {
@@ -29,8 +29,8 @@ pub(crate) fn with_row<T: Table + Drop>(
     records: Option<Vec<T>>,
     row: &Row,
 ) -> Result<Option<Vec<T>>, Fault>
-    ensures read { (rows : List SqlRow) → AreRead T.stored T.fields records rows
-        → IfOk result (λ x. AreRead T.stored T.fields x (rows ++ row.now ∷ [])) }
+    ensures read { (rows : List SqlRow) → AreRead T.stored (T.columns).columns records rows
+        → IfOk result (λ x. AreRead T.stored (T.columns).columns x (rows ++ row.now ∷ [])) }
     ensures gives_up { IfErr result (λ fault. fault ≡ F20) }
 {
     let Some(mut read) = records else {

@@ -23,7 +23,7 @@ fn read_rows<T: Table + Drop, S: Alter>(
 ) -> Result<Option<Vec<T>>, Fault>
     ensures same_reference { rows.new.conn.ghost_name ≡ rows.old.conn.ghost_name }
     ensures read { HasCleanDisk (state S.Store rows.new.conn.now) → IfOk result (λ x. (shown : List SqlRow)
-        × AreRead T.stored T.fields x shown × ((sql : List ℕ) (params : SqlRow)
+        × AreRead T.stored (T.columns).columns x shown × ((sql : List ℕ) (params : SqlRow)
         → HasGiven S.Store sql params rows.old.conn.now []
         → Answers sql params (state S.Store rows.old.conn.now).now shown)) }
     ensures gives_up { IfErr result (λ fault. fault ≡ F20) }
@@ -60,7 +60,7 @@ pub(crate) fn read_shown<T: Table + Drop, S: Alter>(
 ) -> Result<Option<Vec<T>>, Fault>
     requires alone { connection.old.in_transaction ≡ false }
     ensures read { HasCleanDisk (state S.Store connection.new) → IfOk result (λ x. (shown : List SqlRow)
-        × AreRead T.stored T.fields x shown × Answers sql.now [] (state S.Store connection.old).now shown) }
+        × AreRead T.stored (T.columns).columns x shown × Answers sql.now [] (state S.Store connection.old).now shown) }
     ensures gives_up { IfErr result (λ fault. fault ≡ F20) }
     ensures still_open { HasCleanDisk (state S.Store connection.new)
         → OnOk result (IsTrue (state S.Store connection.new).is_open) }

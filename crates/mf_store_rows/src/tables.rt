@@ -1,4 +1,4 @@
-//! The tables, each with its order and the text that asks for it.
+//! The tables, each with the text that asks for the whole of it.
 
 use crate::whole::Whole;
 use mf_store_records::{
@@ -7,87 +7,91 @@ use mf_store_records::{
 };
 
 impl Whole for MetaRow {
-    ghost use Rattle.mf_store_records.specs.Rows.{by_meta};
+    ghost use Rattle.std.proofs.Common.{refl};
+    ghost use Rattle.mf_store_records.specs.Tables.{meta};
+    ghost use Rattle.mf_store_records.specs.MetaTexts.{kept, first_shows};
     ghost use Rattle.mf_store_rows.specs.Schemas.{IsKnown};
-
-    ghost by = { by_meta };
-
-    ghost tree = { 0 };
+    ghost use Rattle.mf_store_rows.specs.Whole.{asked_known};
 
     ghost IsUnder = { IsKnown };
 
     fn every_text() -> &'static str {
         "SELECT one, schema, day FROM meta ORDER BY one"
     }
+
+    ghost asked = { asked_known 0 0 meta kept (record { there = refl; asks = first_shows }) };
 }
 
 impl Whole for OfficeRow {
-    ghost use Rattle.mf_store_records.specs.Rows.{by_office};
+    ghost use Rattle.std.proofs.Common.{refl};
+    ghost use Rattle.mf_store_records.specs.Tables.{offices};
+    ghost use Rattle.mf_store_records.specs.OfficesTexts.{kept, first_shows};
     ghost use Rattle.mf_store_rows.specs.Schemas.{IsKnown};
-
-    ghost by = { by_office };
-
-    ghost tree = { 2 };
+    ghost use Rattle.mf_store_rows.specs.Whole.{asked_known};
 
     ghost IsUnder = { IsKnown };
 
     fn every_text() -> &'static str {
         "SELECT number, parent, hkey, name FROM offices ORDER BY number"
     }
+
+    ghost asked = { asked_known 1 2 offices kept (record { there = refl; asks = first_shows }) };
 }
 
 impl Whole for StaffRow {
-    ghost use Rattle.mf_store_records.specs.Rows.{by_staff};
+    ghost use Rattle.std.proofs.Common.{refl};
+    ghost use Rattle.mf_store_records.specs.Tables.{staff};
+    ghost use Rattle.mf_store_records.specs.StaffTexts.{kept, first_shows};
     ghost use Rattle.mf_store_rows.specs.Schemas.{IsKnown};
-
-    ghost by = { by_staff };
-
-    ghost tree = { 5 };
+    ghost use Rattle.mf_store_rows.specs.Whole.{asked_known};
 
     ghost IsUnder = { IsKnown };
 
     fn every_text() -> &'static str {
         "SELECT office, number, name, role FROM staff ORDER BY office, number"
     }
+
+    ghost asked = { asked_known 2 5 staff kept (record { there = refl; asks = first_shows }) };
 }
 
 impl Whole for ClientRow {
-    ghost use Rattle.mf_store_records.specs.Rows.{by_client};
+    ghost use Rattle.std.proofs.Common.{refl};
+    ghost use Rattle.mf_store_records.specs.Tables.{clients};
+    ghost use Rattle.mf_store_records.specs.ClientsTexts.{kept, first_shows};
     ghost use Rattle.mf_store_rows.specs.Schemas.{IsKnown};
-
-    ghost by = { by_client };
-
-    ghost tree = { 7 };
+    ghost use Rattle.mf_store_rows.specs.Whole.{asked_known};
 
     ghost IsUnder = { IsKnown };
 
     fn every_text() -> &'static str {
         "SELECT office, number, name FROM clients ORDER BY office, number"
     }
+
+    ghost asked = { asked_known 3 7 clients kept (record { there = refl; asks = first_shows }) };
 }
 
 impl Whole for ChargeRow {
-    ghost use Rattle.mf_store_records.specs.Rows.{by_charge};
+    ghost use Rattle.std.proofs.Common.{refl};
+    ghost use Rattle.mf_store_records.specs.Tables.{charges};
+    ghost use Rattle.mf_store_records.specs.ChargesTexts.{kept, first_shows};
     ghost use Rattle.mf_store_rows.specs.Schemas.{IsKnown};
-
-    ghost by = { by_charge };
-
-    ghost tree = { 9 };
+    ghost use Rattle.mf_store_rows.specs.Whole.{asked_known};
 
     ghost IsUnder = { IsKnown };
 
     fn every_text() -> &'static str {
         "SELECT number, name, kind, calc, value FROM charges ORDER BY number"
     }
+
+    ghost asked = { asked_known 4 9 charges kept (record { there = refl; asks = first_shows }) };
 }
 
 impl Whole for ProductRow {
-    ghost use Rattle.mf_store_records.specs.Rows.{by_product};
+    ghost use Rattle.std.proofs.Common.{refl};
+    ghost use Rattle.mf_store_records.specs.Tables.{products};
+    ghost use Rattle.mf_store_records.specs.ProductsTexts.{kept, first_shows};
     ghost use Rattle.mf_store_rows.specs.Schemas.{IsKnown};
-
-    ghost by = { by_product };
-
-    ghost tree = { 11 };
+    ghost use Rattle.mf_store_rows.specs.Whole.{asked_known};
 
     ghost IsUnder = { IsKnown };
 
@@ -96,15 +100,16 @@ impl Whole for ProductRow {
          max_principal, min_periods, max_periods, strategy, disbursement_charge, instalment_charge, overdue_charge, \
          retired FROM products ORDER BY number"
     }
+
+    ghost asked = { asked_known 5 11 products kept (record { there = refl; asks = first_shows }) };
 }
 
 impl Whole for LoanRow {
-    ghost use Rattle.mf_store_records.specs.Rows.{by_loan};
+    ghost use Rattle.std.proofs.Common.{refl};
+    ghost use Rattle.mf_store_records.specs.Tables.{loans};
+    ghost use Rattle.mf_store_records.specs.LoansTexts.{kept, first_shows};
     ghost use Rattle.mf_store_rows.specs.Schemas.{IsKnown};
-
-    ghost by = { by_loan };
-
-    ghost tree = { 13 };
+    ghost use Rattle.mf_store_rows.specs.Whole.{asked_known};
 
     ghost IsUnder = { IsKnown };
 
@@ -112,15 +117,16 @@ impl Whole for LoanRow {
         "SELECT office, number, client, product, principal, periods, stage, approved, \
          disbursed FROM loans ORDER BY office, number"
     }
+
+    ghost asked = { asked_known 6 13 loans kept (record { there = refl; asks = first_shows }) };
 }
 
 impl Whole for EntryRow {
-    ghost use Rattle.mf_store_records.specs.Rows.{by_entry};
+    ghost use Rattle.std.proofs.Common.{refl};
+    ghost use Rattle.mf_store_records.specs.Tables.{entries};
+    ghost use Rattle.mf_store_records.specs.EntriesTexts.{kept, first_shows};
     ghost use Rattle.mf_store_rows.specs.Schemas.{IsKnown};
-
-    ghost by = { by_entry };
-
-    ghost tree = { 15 };
+    ghost use Rattle.mf_store_rows.specs.Whole.{asked_known};
 
     ghost IsUnder = { IsKnown };
 
@@ -128,30 +134,31 @@ impl Whole for EntryRow {
         "SELECT office, loan, seq, kind, day, amount, instalment, portion, receipt, staff, \
          reversed FROM entries ORDER BY office, loan, seq"
     }
+
+    ghost asked = { asked_known 7 15 entries kept (record { there = refl; asks = first_shows }) };
 }
 
 impl Whole for ReceiptRow {
-    ghost use Rattle.mf_store_records.specs.Rows.{by_receipt};
+    ghost use Rattle.std.proofs.Common.{refl};
+    ghost use Rattle.mf_store_records.specs.Tables.{receipts};
+    ghost use Rattle.mf_store_records.specs.ReceiptsTexts.{kept, first_shows};
     ghost use Rattle.mf_store_rows.specs.Schemas.{IsKnown};
-
-    ghost by = { by_receipt };
-
-    ghost tree = { 17 };
+    ghost use Rattle.mf_store_rows.specs.Whole.{asked_known};
 
     ghost IsUnder = { IsKnown };
 
     fn every_text() -> &'static str {
         "SELECT office, receipt, loan, seq FROM receipts ORDER BY office, receipt"
     }
+
+    ghost asked = { asked_known 8 17 receipts kept (record { there = refl; asks = first_shows }) };
 }
 
 impl Whole for InstalmentRow {
-    ghost use Rattle.mf_store_records.specs.Rows.{by_instalment};
+    ghost use Rattle.mf_store_records.specs.Tables.{instalments};
+    ghost use Rattle.mf_store_records.specs.InstalmentsTexts.{kept};
     ghost use Rattle.mf_store_rows.specs.Schemas.{IsPresent};
-
-    ghost by = { by_instalment };
-
-    ghost tree = { 19 };
+    ghost use Rattle.mf_store_rows.specs.Whole.{asked_present};
 
     ghost IsUnder = { IsPresent };
 
@@ -161,15 +168,15 @@ impl Whole for InstalmentRow {
          written_off_interest, owed_principal, paid_principal, waived_principal, \
          written_off_principal FROM instalments ORDER BY office, loan, number"
     }
+
+    ghost asked = { asked_present 9 19 instalments kept };
 }
 
 impl Whole for ShareRow {
-    ghost use Rattle.mf_store_records.specs.Rows.{by_share};
+    ghost use Rattle.mf_store_records.specs.Tables.{shares};
+    ghost use Rattle.mf_store_records.specs.SharesTexts.{kept};
     ghost use Rattle.mf_store_rows.specs.Schemas.{IsPresent};
-
-    ghost by = { by_share };
-
-    ghost tree = { 21 };
+    ghost use Rattle.mf_store_rows.specs.Whole.{asked_present};
 
     ghost IsUnder = { IsPresent };
 
@@ -177,4 +184,6 @@ impl Whole for ShareRow {
         "SELECT office, loan, seq, place, instalment, portion, how, amount FROM shares ORDER BY office, loan, seq, \
          place"
     }
+
+    ghost asked = { asked_present 10 21 shares kept };
 }

@@ -1,24 +1,18 @@
 //! A table that is read whole.
 
-ghost use Rattle.std.specs.Prelude.{◌≡◌, ℕ, List, [], false, map, IsTrue, OnOk, IfOk, IfErr, IfSome, IfNone};
+ghost use Rattle.std.specs.Prelude.{◌≡◌, List, false, map, IsTrue, OnOk, IfOk, IfErr, IfSome, IfNone};
 ghost use Rattle.std.specs.List.{AllByRecursion};
-ghost use Rattle.std.specs.declared.cmp.Ordering.{Ordering};
 ghost use Rattle.std.specs.declared.cmp.Ordering.TheVariants.{Less};
 ghost use Rattle.mf_base.specs.declared.fault.Fault.TheVariants.{F20};
-ghost use Rattle.sqlite.specs.Order.{Row as SqlRow};
-ghost use Rattle.sqlite.specs.Effect.{Database};
-ghost use Rattle.sqlite.specs.Given.{IsPlain};
 ghost use Rattle.sqlite.specs.Held.{state};
 ghost use Rattle.sqlite.specs.Schema.{Schema};
-ghost use Rattle.sqlite.specs.Listing.{understood};
 ghost use Rattle.sqlite.specs.State.{HasCleanDisk};
-ghost use Rattle.sqlite_catalog.specs.Listing.{IsSound};
 ghost use Rattle.sqlite_trees.specs.Tree.{IsAscending};
 ghost use Rattle.mf_store_tables.specs.Keep.{Keeps};
-ghost use Rattle.mf_store_tables.specs.Queries.{Answers};
+ghost use Rattle.mf_store_tables.specs.Texts.{select_text};
 ghost use Rattle.mf_store_records.specs.Fields.{HasFields};
 ghost use Rattle.mf_store_rows.specs.Schemas.{IsUnchangedUnder};
-ghost use Rattle.mf_store_rows.specs.Whole.{HasRowids, ShowsTable};
+ghost use Rattle.mf_store_rows.specs.Whole.{HasRowids, IsAsked};
 
 use crate::shown::read_shown;
 use mf_base::Fault;
@@ -28,21 +22,14 @@ use std::alloc::Global;
 
 /// A table that is read whole.
 pub trait Whole: Table {
-    /// The order of its key.
-    ghost by: { Self → Self → Ordering };
-
-    /// The tree of its rows.
-    ghost tree: { ℕ };
-
     /// The schemas that have the table.
     ghost IsUnder: { Schema → Type 0 };
 
-    /// The text that shows the whole table in the order of its key, under each of these schemas.
+    /// The text that shows the whole table in the order of its key.
     fn every_text() -> &'static str
-        ensures plain { (k : Schema) → IsUnder k → IsPlain (understood k result.now) }
-        ensures shows { (db : Database) (rows : List SqlRow) → IsUnder db.schema → IsSound db.schema db.trees
-            → Answers result.now [] db rows
-            → ShowsTable Self.Table.stored by (db.trees tree) rows };
+        ensures { result.now ≡ select_text Self.Table.columns 0 };
+
+    ghost asked: { (k : Schema) → IsUnder k → IsAsked k Self.Table.place Self.Table.tree Self.Table.columns };
 }
 
 /// What the table keeps, and none where it keeps nothing that records can hold.
@@ -62,14 +49,14 @@ pub fn every<T: Whole + Drop, S: Alter>(
     // What the table keeps is this; and a table whose rowids are in order keeps this, if it rises by key.
     ensures only { HasCleanDisk (state S.Store connection.new) → T.IsUnder (state S.Store connection.old).now.schema
         → IfOk result (λ x. IfSome x (λ rs. (items : List T)
-        → Keeps T.Table.stored T.by ((state S.Store connection.old).now.trees T.tree) items → rs.items ≡ items)) }
+        → Keeps T.Table.stored T.Table.by ((state S.Store connection.old).now.trees T.Table.tree) items → rs.items ≡ items)) }
     ensures keeps { HasCleanDisk (state S.Store connection.new) → T.IsUnder (state S.Store connection.old).now.schema
-        → HasRowids ((state S.Store connection.old).now.trees T.tree)
-        → IfOk result (λ x. IfSome x (λ rs. IsAscending (λ a b. T.by a b ≡ Less) rs.items
-        → Keeps T.Table.stored T.by ((state S.Store connection.old).now.trees T.tree) rs.items)) }
+        → HasRowids ((state S.Store connection.old).now.trees T.Table.tree)
+        → IfOk result (λ x. IfSome x (λ rs. IsAscending (λ a b. T.Table.by a b ≡ Less) rs.items
+        → Keeps T.Table.stored T.Table.by ((state S.Store connection.old).now.trees T.Table.tree) rs.items)) }
     ensures none { HasCleanDisk (state S.Store connection.new) → T.IsUnder (state S.Store connection.old).now.schema
-        → IfOk result (λ x. IfNone x ((items : List T) → AllByRecursion (HasFields T.Table.fields)
-        (map T.Table.stored items) → ¬ Keeps T.Table.stored T.by ((state S.Store connection.old).now.trees T.tree)
+        → IfOk result (λ x. IfNone x ((items : List T) → AllByRecursion (HasFields (T.Table.columns).columns)
+        (map T.Table.stored items) → ¬ Keeps T.Table.stored T.Table.by ((state S.Store connection.old).now.trees T.Table.tree)
         items)) }
     ensures mode { connection.new.in_transaction ≡ false }
 {

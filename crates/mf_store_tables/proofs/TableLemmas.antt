@@ -20,6 +20,7 @@ use Rattle.sqlite.specs.Effect.{Database, value_rows}
 use Rattle.sqlite.specs.Rows.{stamped, shown}
 use Rattle.sqlite.specs.Schema.{Schema}
 use Rattle.sqlite.specs.State.{State, Executes}
+use Rattle.sqlite.specs.Program.{overlay}
 use Rattle.sqlite.specs.Query.{output, output_cmp}
 use Rattle.sqlite_catalog.specs.Listing.{IsSound}
 use Rattle.sqlite_rules.specs.Keys.{conflicts}
@@ -80,21 +81,13 @@ keyed_total stored by n ordered = total_as by _ ordered (on_total stored (column
 
 module _ {X : Type 0} (stored : X → Row) (by : X → X → Ordering) (schema : Schema) (place tree : ℕ) (t : Columns)
     (ordered : (a b : X) → by a b ≡ first_cmp t.key (stored a) (stored b))
-    (fit : (x : X) → AllFit t.columns (stored x)) (k : IsKept schema place tree t) where
-  by_total : IsTotalOrder by
-  by_total = keyed_total stored by t.key ordered
-
-  keyed : (x : X) → ArePlain 0 t.key (stored x)
-  keyed x = are_plain t.key t.columns (stored x) k.always (fit x)
-
-  many : (x : X) → length (stored x) ≡ length t.columns
-  many x = as_many t.columns (stored x) (fit x)
-
+    (fit : (x : X) → AllFit t.columns (stored x))
+    (under : (trees : Trees) → overlay trees [] tree ≡ trees tree) where
   whole_row : (params : Row) (id : ℤ) (x : X)
       → eval_all (columns_of 1 1 (length t.columns)) (params ∷ (Int id ∷ stored x)
       ∷ []) ≡ stored x
   whole_row params id x = reads_row params id 0 (length t.columns) (stored x)
-      ∙ ap (λ n. columns_at 0 n (stored x)) (sym (many x)) ∙ all_columns (stored x)
+      ∙ ap (λ n. columns_at 0 n (stored x)) (sym (as_many t.columns (stored x) (fit x))) ∙ all_columns (stored x)
 
   -- SELECT: the rows whose first columns have the values, in the order of their key
   pub asked_shows : (n : ℕ) (params : Row) → Asks schema place tree t n → are_always n t.columns ≡ true
@@ -107,7 +100,19 @@ module _ {X : Type 0} (stored : X → Row) (by : X → X → Ordering) (schema :
       (λ id x. tested 0 n params (stored x) id p (are_plain n t.columns (stored x) first (fit x)) ∙ sym (same x))
       (λ x. columns_at 0 t.key (stored x)) stored
       (λ id x. ap₂ (λ (s r : Row). (s, r)) (sorts params id 0 t.key (stored x)) (whole_row params id x))
-      (λ a b. sorted_by 0 t.key (stored a) (stored b) ∙ sym (ordered a b)) k.under db items rows has keeps h
+      (λ a b. sorted_by 0 t.key (stored a) (stored b) ∙ sym (ordered a b)) under db items rows has keeps h
+
+module _ {X : Type 0} (stored : X → Row) (by : X → X → Ordering) (schema : Schema) (place tree : ℕ) (t : Columns)
+    (ordered : (a b : X) → by a b ≡ first_cmp t.key (stored a) (stored b))
+    (fit : (x : X) → AllFit t.columns (stored x)) (k : IsKept schema place tree t) where
+  by_total : IsTotalOrder by
+  by_total = keyed_total stored by t.key ordered
+
+  keyed : (x : X) → ArePlain 0 t.key (stored x)
+  keyed x = are_plain t.key t.columns (stored x) k.always (fit x)
+
+  many : (x : X) → length (stored x) ≡ length t.columns
+  many x = as_many t.columns (stored x) (fit x)
 
   kept_row : (x : X) (v : Value) → cast_row (sql_table tree t) (v ∷ stored x) ≡ cast kind.Integer v ∷ stored x
   kept_row x v = each_kept (sql_table tree t) v (stored x) (all_kept t.columns (stored x) (fit x))

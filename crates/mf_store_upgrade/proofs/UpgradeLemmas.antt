@@ -28,7 +28,7 @@ use Rattle.mf_store_records.specs.Writes.{schema_of, Holds as HoldsOwn, Fits as 
 use Rattle.mf_store_records.specs.declared.writes.StoreWrite.{StoreWrite}
 use Rattle.mf_store_records.proofs.Texts.{create_instalments, create_shares, defines_instalments, defines_shares}
 use Rattle.mf_store_records.proofs.TableLemmas.{by_instalment_total, by_share_total}
-use Rattle.mf_store_rows.specs.Schemas.{first_schema}
+use Rattle.mf_store_records.specs.Tables.{first_schema}
 use Rattle.mf_store_upgrade.specs.Upgrade.{KeptLists, First, Own, schema_kept, Holds, Fits, after}
 use Rattle.mf_store_upgrade.specs.declared.UpgradeWrite.TheVariants.{MakeAccountTables, Put}
 

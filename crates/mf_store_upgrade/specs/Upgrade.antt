@@ -16,7 +16,7 @@ use Rattle.mf_store_records.specs.declared.meta.MetaRow.{MetaRow}
 use Rattle.mf_store_records.specs.declared.shares.ShareRow.{ShareRow}
 use Rattle.mf_store_records.specs.declared.writes.StoreWrite.TheVariants.{PutInstalment, PutMeta, PutShare}
 use Rattle.mf_store_records.specs.Writes.{schema_of, Holds as HoldsOwn, Fits as FitsOwn, after as after_own}
-use Rattle.mf_store_rows.specs.Schemas.{first_schema}
+use Rattle.mf_store_records.specs.Tables.{first_schema}
 use Rattle.mf_store_upgrade.specs.declared.UpgradeWrite.{UpgradeWrite}
 use Rattle.mf_store_upgrade.specs.declared.UpgradeWrite.TheVariants.{MakeAccountTables, Put}
 

@@ -3,7 +3,8 @@ use Rattle.std.specs.Option.{IfSome}
 use Rattle.std.proofs.lemmas.Result.{IfOk-weaker}
 use Rattle.sqlite.specs.Effect.{Database}
 use Rattle.sqlite.specs.Held.{state}
-use Rattle.mf_store_rows.specs.Schemas.{first_schema, IsFirst}
+use Rattle.mf_store_rows.specs.Schemas.{IsFirst}
+use Rattle.mf_store_records.specs.Tables.{first_schema}
 use Rattle.mf_store_files.proofs.TableLemmas.{at_none, at_some, under_first}
 use Rattle.mf_store_audit.specs.Audits.{IsAuditOf}
 use Rattle.mf_store_audit.specs.Unread.{IsUnread}

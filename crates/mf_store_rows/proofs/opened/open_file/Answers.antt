@@ -3,7 +3,7 @@ use Rattle.sqlite.specs.Effect.{Database}
 use Rattle.sqlite.specs.Files.{file_state, AreFoundIn}
 use Rattle.sqlite_catalog.specs.Listing.{IsSound}
 use Rattle.mf_store_records.specs.Tables.{schema}
-use Rattle.mf_store_rows.specs.Schemas.{first_schema}
+use Rattle.mf_store_records.specs.Tables.{first_schema}
 use Rattle.mf_store_rows.proofs.TreeLemmas.{are_low, first_are_low, rowids_of_files}
 use Rattle.mf_store_rows.proofs.opened.open_file.Goals as goal
 

@@ -55,11 +55,11 @@ returns-in-Ok-query-clause-read g c =
     let first = c.in-Ok-query.rows.conn.now in
     let last = c.read_rows.new.rows.conn.now in
     let whole : HasCleanDisk (state g.S.Store last) → IfOk c.read_rows.result (λ x. (shown : List Row)
-    × AreRead g.T.Table.stored g.T.Table.fields x shown × Answers c.args.sql.now [] old.now shown) = λ clean.
+    × AreRead g.T.Table.stored (g.T.Table.columns).columns x shown × Answers c.args.sql.now [] old.now shown) = λ clean.
     let early : HasCleanDisk (state g.S.Store first) = omega (arith, clean, c.read_rows.ensures.survives.clean) in
     let before : HasCleanDisk (state g.S.Store mid) = omega (arith, early, c.in-Ok-query.ensures.survives.clean) in
     answers_prepared g.S.Store c.args.sql.now old mid first last (c.in-Ok.ensures.ok before).1
-    (λ x shown. AreRead g.T.Table.stored g.T.Table.fields x shown) c.read_rows.result
+    (λ x shown. AreRead g.T.Table.stored (g.T.Table.columns).columns x shown) c.read_rows.result
     (c.in-Ok-query.ensures.begun early) (c.read_rows.ensures.read clean) in
     search rules
 
