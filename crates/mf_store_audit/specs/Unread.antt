@@ -6,13 +6,12 @@ use Rattle.sqlite.specs.declared.types.Value.{Value}
 use Rattle.sqlite.specs.declared.types.Value.TheVariants.{Null, Int, Text as Words}
 use Rattle.sqlite.specs.Order.{Row, column}
 use Rattle.sqlite.specs.Tree.{Trees}
+use Rattle.mf_store_records.specs.Tables as table
 use Rattle.mf_store_records.specs.Fields.{Field, Number, Amount, Text, MaybeNumber, MaybeText, HasFields}
 use Rattle.mf_store_records.specs.Rows.{meta_row, office_row, staff_row, client_row, charge_row, product_row, loan_row}
 use Rattle.mf_store_records.specs.Rows.{entry_row, receipt_row, instalment_row, share_row, by_meta, by_office, by_staff}
 use Rattle.mf_store_records.specs.Rows.{by_client, by_charge, by_product, by_loan, by_entry, by_receipt, by_instalment}
-use Rattle.mf_store_records.specs.Rows.{by_share, meta_fields, office_fields, staff_fields, client_fields}
-use Rattle.mf_store_records.specs.Rows.{charge_fields, product_fields, loan_fields, entry_fields, receipt_fields}
-use Rattle.mf_store_records.specs.Rows.{instalment_fields, share_fields}
+use Rattle.mf_store_records.specs.Rows.{by_share}
 use Rattle.mf_store_rows.specs.Whole.{ShowsTable}
 use Rattle.mf_store_audit.specs.declared.unread.UnreadValue.{UnreadValue}
 use Rattle.mf_store_audit.specs.declared.unread.UnreadValue.TheVariants.{NotUtf8, OutOfRange}
@@ -85,15 +84,15 @@ pub record IsUnreadIn {X : Type 0} (fields : List Field) (stored : X → Row) (c
 
 -- so is that at a place of a table of this name
 abbrev pub IsUnread : TableName → UnreadValue → ℕ → Trees → Type 0
-IsUnread Meta value place trees = IsUnreadIn meta_fields meta_row by_meta (trees 0) value place
-IsUnread Offices value place trees = IsUnreadIn office_fields office_row by_office (trees 2) value place
-IsUnread Staff value place trees = IsUnreadIn staff_fields staff_row by_staff (trees 5) value place
-IsUnread Clients value place trees = IsUnreadIn client_fields client_row by_client (trees 7) value place
-IsUnread Charges value place trees = IsUnreadIn charge_fields charge_row by_charge (trees 9) value place
-IsUnread Products value place trees = IsUnreadIn product_fields product_row by_product (trees 11) value place
-IsUnread Loans value place trees = IsUnreadIn loan_fields loan_row by_loan (trees 13) value place
-IsUnread Entries value place trees = IsUnreadIn entry_fields entry_row by_entry (trees 15) value place
-IsUnread Receipts value place trees = IsUnreadIn receipt_fields receipt_row by_receipt (trees 17) value place
+IsUnread Meta value place trees = IsUnreadIn (table.meta).columns meta_row by_meta (trees 0) value place
+IsUnread Offices value place trees = IsUnreadIn (table.offices).columns office_row by_office (trees 2) value place
+IsUnread Staff value place trees = IsUnreadIn (table.staff).columns staff_row by_staff (trees 5) value place
+IsUnread Clients value place trees = IsUnreadIn (table.clients).columns client_row by_client (trees 7) value place
+IsUnread Charges value place trees = IsUnreadIn (table.charges).columns charge_row by_charge (trees 9) value place
+IsUnread Products value place trees = IsUnreadIn (table.products).columns product_row by_product (trees 11) value place
+IsUnread Loans value place trees = IsUnreadIn (table.loans).columns loan_row by_loan (trees 13) value place
+IsUnread Entries value place trees = IsUnreadIn (table.entries).columns entry_row by_entry (trees 15) value place
+IsUnread Receipts value place trees = IsUnreadIn (table.receipts).columns receipt_row by_receipt (trees 17) value place
 IsUnread Instalments value place trees =
-    IsUnreadIn instalment_fields instalment_row by_instalment (trees 19) value place
-IsUnread Shares value place trees = IsUnreadIn share_fields share_row by_share (trees 21) value place
+    IsUnreadIn (table.instalments).columns instalment_row by_instalment (trees 19) value place
+IsUnread Shares value place trees = IsUnreadIn (table.shares).columns share_row by_share (trees 21) value place

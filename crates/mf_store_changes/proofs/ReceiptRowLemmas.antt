@@ -23,7 +23,7 @@ use Rattle.mf_model.specs.Tree.{Above, Ascending}
 use Rattle.mf_model.proofs.ReceiptLemmas.{IsPut}
 use Rattle.mf_store_records.specs.Rows.{by_receipt, is_receipt}
 use Rattle.mf_store_records.specs.declared.receipts.ReceiptRow.{ReceiptRow}
-use Rattle.mf_store_records.proofs.TableLemmas.{by_receipt_total}
+use Rattle.mf_store_records.proofs.OrderLemmas.{by_receipt_total}
 use Rattle.mf_store_accounts.specs.ReceiptRows.{receipt_in, receipts_carried, receipt_rows}
 use Rattle.mf_store_accounts.proofs.ReceiptLemmas.{apart_bytes, own_key, other_key, AreOthers, others_in, others_of}
 use Rattle.mf_store_accounts.proofs.ReceiptLemmas.{others_above, AreAllApart, receipts_apart}

@@ -45,8 +45,9 @@ use Rattle.mf_model.specs.Accounts.{account_in, of_account}
 use Rattle.mf_model.specs.Institution.{Institution, Catalogue, Ledger, Office}
 use Rattle.mf_model.specs.Sound.{IsSound, IsSoundOffice, IsSoundCatalogue, IsSoundLoan, is_staff}
 use Rattle.mf_model.proofs.AccountLemmas.{account_sound}
+use Rattle.mf_store_records.specs.Tables as table
 use Rattle.mf_store_records.specs.Fields.{HasFields}
-use Rattle.mf_store_records.specs.Rows.{instalment_fields, instalment_row, share_fields, share_row}
+use Rattle.mf_store_records.specs.Rows.{instalment_row, share_row}
 use Rattle.mf_store_records.specs.declared.instalments.InstalmentRow.{InstalmentRow}
 use Rattle.mf_store_records.specs.declared.shares.ShareRow.{ShareRow}
 use Rattle.mf_store_accounts.specs.Flat.{numbered_from, tables_of, instalment_in, share_in, how_number, portion_number}
@@ -121,7 +122,7 @@ account_size a sound = let size = (good-sound a sound).size in let periods =
     sound.limits.most_periods in omega (arith, size, periods)
 
 abbrev HeldInstalment : InstalmentRow → Type 0
-HeldInstalment x = HasFields instalment_fields (instalment_row x)
+HeldInstalment x = HasFields (table.instalments).columns (instalment_row x)
 
 instalment_held : (x m n : ℕ) (row : Sums) → x ≤ 9999 → m ≤ 999999 → n ≤ 360 → row.due ≤ last_day
     → HeldInstalment (instalment_in x m (n, row))
@@ -218,17 +219,17 @@ account_instalments : (x m : ℕ) (a : Running) → x ≤ 9999 → m ≤ 999999 
 account_instalments x m a low_x low_m sound = let size = account_size a sound in instalments_held x m 1
     (state_of_loan a).rows low_x low_m (omega (arith, size)) (account_dues a sound)
 
-pub held_instalments : (i : Institution) → IsSound i → AllByRecursion (HasFields instalment_fields)
+pub held_instalments : (i : Institution) → IsSound i → AllByRecursion (HasFields (table.instalments).columns)
     (map instalment_row (tables_of i).instalments)
 held_instalments i sound =
-    stored_held (HasFields instalment_fields) instalment_row (tables_of i).instalments (kept_of_offices instalment_in
+    stored_held (HasFields (table.instalments).columns) instalment_row (tables_of i).instalments (kept_of_offices instalment_in
     instalments_kept HeldInstalment account_instalments i.catalogue sound.catalogue (is_staff i.offices) i.offices
     sound.each)
 
 -- ---- shares
 
 abbrev HeldShare : ShareRow → Type 0
-HeldShare x = HasFields share_fields (share_row x)
+HeldShare x = HasFields (table.shares).columns (share_row x)
 
 how_low : (h : How) → how_number h < 2 ^ 32
 how_low Paid = omega arith
@@ -433,8 +434,8 @@ account_shares x m a low_x low_m sound =
     let few = sound.entries.few in
     shares_held x m (settled_of_loan a) 1 (length a.entries) low_x low_m (omega (arith, few)) its.1 its.0
 
-pub held_shares : (i : Institution) → IsSound i → AllByRecursion (HasFields share_fields)
+pub held_shares : (i : Institution) → IsSound i → AllByRecursion (HasFields (table.shares).columns)
     (map share_row (tables_of i).shares)
 held_shares i sound =
-    stored_held (HasFields share_fields) share_row (tables_of i).shares (kept_of_offices share_in shares_kept HeldShare
+    stored_held (HasFields (table.shares).columns) share_row (tables_of i).shares (kept_of_offices share_in shares_kept HeldShare
     account_shares i.catalogue sound.catalogue (is_staff i.offices) i.offices sound.each)

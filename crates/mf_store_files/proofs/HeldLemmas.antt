@@ -61,10 +61,11 @@ use Rattle.mf_model.specs.declared.loan.Loan.{Loan}
 use Rattle.mf_model.specs.declared.loan.Stage.{Stage}
 use Rattle.mf_model.specs.declared.loan.Stage.TheVariants.{Submitted, Approved, Disbursed, Withdrawn, Rejected}
 use Rattle.mf_store_tables.specs.Values.{or_null, or_text}
+use Rattle.mf_store_records.specs.Tables as table
 use Rattle.mf_store_records.specs.Fields.{CanHold, Number, Amount, Text, MaybeNumber, MaybeText, HasFields}
-use Rattle.mf_store_records.specs.Rows.{by_receipt, meta_fields, meta_row, office_fields, office_row, staff_fields}
-use Rattle.mf_store_records.specs.Rows.{staff_row, client_fields, client_row, charge_fields, charge_row, product_fields}
-use Rattle.mf_store_records.specs.Rows.{product_row, loan_fields, loan_row, entry_fields, entry_row, receipt_fields}
+use Rattle.mf_store_records.specs.Rows.{by_receipt, meta_row, office_row}
+use Rattle.mf_store_records.specs.Rows.{staff_row, client_row, charge_row}
+use Rattle.mf_store_records.specs.Rows.{product_row, loan_row, entry_row}
 use Rattle.mf_store_records.specs.Rows.{receipt_row}
 use Rattle.mf_store_records.specs.declared.offices.OfficeRow.{OfficeRow}
 use Rattle.mf_store_records.specs.declared.staff.StaffRow.{StaffRow}
@@ -131,12 +132,12 @@ module _ {A R : Type 0} (P : A → Type 0) (H : R → Type 0) where
       (let most = its.1 in omega arith) its.2) (rows_held S limit make of held each fs all.1)
 
 abbrev HeldClient : ClientRow → Type 0
-HeldClient x = HasFields client_fields (client_row x)
+HeldClient x = HasFields (table.clients).columns (client_row x)
 
-pub held_clients : (i : Institution) → IsSound i → AllByRecursion (HasFields client_fields)
+pub held_clients : (i : Institution) → IsSound i → AllByRecursion (HasFields (table.clients).columns)
     (map client_row (tables_of i).clients)
 held_clients i sound =
-    stored_held (HasFields client_fields) client_row (tables_of i).clients (rows_held IsName HeldClient
+    stored_held (HasFields (table.clients).columns) client_row (tables_of i).clients (rows_held IsName HeldClient
     (IsSoundOffice i.catalogue (is_staff i.offices)) 999999 client_in (λ rows. rows.clients)
     (λ x n a low_x low_n name. record {
       width = refl;
@@ -223,7 +224,7 @@ own_parents (f ∷ fs) up = (
 
 -- ---- the other tables
 
-pub held_meta : (i : Institution) → IsSound i → AllByRecursion (HasFields meta_fields) (map meta_row (tables_of i).meta)
+pub held_meta : (i : Institution) → IsSound i → AllByRecursion (HasFields (table.meta).columns) (map meta_row (tables_of i).meta)
 held_meta i sound = (
   record {
     width = refl;
@@ -239,12 +240,12 @@ held_meta i sound = (
 )
 
 abbrev HeldStaff : StaffRow → Type 0
-HeldStaff x = HasFields staff_fields (staff_row x)
+HeldStaff x = HasFields (table.staff).columns (staff_row x)
 
-pub held_staff : (i : Institution) → IsSound i → AllByRecursion (HasFields staff_fields)
+pub held_staff : (i : Institution) → IsSound i → AllByRecursion (HasFields (table.staff).columns)
     (map staff_row (tables_of i).staff)
 held_staff i sound =
-    stored_held (HasFields staff_fields) staff_row (tables_of i).staff (rows_held (λ (s : Staff). IsName s.name)
+    stored_held (HasFields (table.staff).columns) staff_row (tables_of i).staff (rows_held (λ (s : Staff). IsName s.name)
     HeldStaff (IsSoundOffice i.catalogue (is_staff i.offices)) 9999 staff_in (λ rows. rows.staff)
     (λ x n s low_x low_n name. record {
       width = refl;
@@ -264,12 +265,12 @@ held_staff i sound =
     role_low Manager = omega arith
 
 abbrev HeldOffice : OfficeRow → Type 0
-HeldOffice x = HasFields office_fields (office_row x)
+HeldOffice x = HasFields (table.offices).columns (office_row x)
 
-pub held_offices : (i : Institution) → IsSound i → AllByRecursion (HasFields office_fields)
+pub held_offices : (i : Institution) → IsSound i → AllByRecursion (HasFields (table.offices).columns)
     (map office_row (tables_of i).offices)
 unfolding key_of
-held_offices i sound = stored_held (HasFields office_fields) office_row (tables_of i).offices (each i.offices sound.each
+held_offices i sound = stored_held (HasFields (table.offices).columns) office_row (tables_of i).offices (each i.offices sound.each
     (own_parents i.offices sound.tree.ascending))
   where
     up : (x p : ℕ) → parent_of i.offices x ≡ Some p → p ≤ 9999
@@ -304,12 +305,12 @@ held_offices i sound = stored_held (HasFields office_fields) office_row (tables_
     )
 
 abbrev HeldCharge : ChargeRow → Type 0
-HeldCharge x = HasFields charge_fields (charge_row x)
+HeldCharge x = HasFields (table.charges).columns (charge_row x)
 
-pub held_charges : (i : Institution) → IsSound i → AllByRecursion (HasFields charge_fields)
+pub held_charges : (i : Institution) → IsSound i → AllByRecursion (HasFields (table.charges).columns)
     (map charge_row (tables_of i).charges)
 held_charges i sound =
-    stored_held (HasFields charge_fields) charge_row (tables_of i).charges (numbered_held IsSoundCharge HeldCharge 999
+    stored_held (HasFields (table.charges).columns) charge_row (tables_of i).charges (numbered_held IsSoundCharge HeldCharge 999
     charge_as
     (λ n c low is. record {
       width = refl;
@@ -357,7 +358,7 @@ flag_low false = omega arith
 flag_low true = omega arith
 
 abbrev HeldProduct : ProductRow → Type 0
-HeldProduct x = HasFields product_fields (product_row x)
+HeldProduct x = HasFields (table.products).columns (product_row x)
 
 product_held : (k : Catalogue) → IsSoundCatalogue k → (n : ℕ) (p : Offer) → n ≤ 999 → IsSoundOffer (charge_in k) p
     → HeldProduct (product_as n p)
@@ -445,10 +446,10 @@ product_held k sound n p low is =
     strategy_low InterestFirst = omega arith
     strategy_low DueFirst = omega arith
 
-pub held_products : (i : Institution) → IsSound i → AllByRecursion (HasFields product_fields)
+pub held_products : (i : Institution) → IsSound i → AllByRecursion (HasFields (table.products).columns)
     (map product_row (tables_of i).products)
 held_products i sound =
-    stored_held (HasFields product_fields) product_row (tables_of i).products (numbered_held
+    stored_held (HasFields (table.products).columns) product_row (tables_of i).products (numbered_held
     (IsSoundOffer (charge_in i.catalogue)) HeldProduct 999 product_as (product_held i.catalogue sound.catalogue)
     1 i.catalogue.products (let most = sound.catalogue.product_limit in omega arith) sound.catalogue.products)
 
@@ -482,7 +483,7 @@ lends_low k sound (suc n) principal periods h = go (slice_get k.products n) refl
 -- ---- loans
 
 abbrev HeldLoan : LoanRow → Type 0
-HeldLoan x = HasFields loan_fields (loan_row x)
+HeldLoan x = HasFields (table.loans).columns (loan_row x)
 
 abbrev IsLow : ℕ → Loan → Type 0
 IsLow today l = (l.client < 2 ^ 32) × (l.product < 2 ^ 32) × (l.periods < 2 ^ 32) × IsStageBy today l.stage
@@ -562,12 +563,12 @@ loans_count : (ls : List Ledger) → length (map (λ (l : Ledger). l.loan) ls) �
 loans_count [] = refl
 loans_count (l ∷ ls) = ap suc (loans_count ls)
 
-pub held_loans : (i : Institution) → IsSound i → AllByRecursion (HasFields loan_fields)
+pub held_loans : (i : Institution) → IsSound i → AllByRecursion (HasFields (table.loans).columns)
     (map loan_row (tables_of i).loans)
 held_loans i sound =
     let k = i.catalogue in
     let staffed = is_staff i.offices in
-    stored_held (HasFields loan_fields) loan_row (tables_of i).loans (rows_held (IsLow k.day) HeldLoan
+    stored_held (HasFields (table.loans).columns) loan_row (tables_of i).loans (rows_held (IsLow k.day) HeldLoan
     (IsSoundOffice k staffed) 999999 loan_in loans_of (loan_held k.day sound.catalogue.day)
     (λ f is. (
       is.number.1,
@@ -593,7 +594,7 @@ numbers_by_place n (e ∷ es) h = (
 )
 
 abbrev HeldEntry : EntryRow → Type 0
-HeldEntry x = HasFields entry_fields (entry_row x)
+HeldEntry x = HasFields (table.entries).columns (entry_row x)
 
 kind_low : (k : Kind) → entry_kind_number k < 2 ^ 32
 kind_low kind.Repay = omega arith
@@ -717,15 +718,15 @@ of_offices_held i sound (f ∷ fs) all =
     all.0.rows.loan_limit in omega (arith, most)) all.0.rows.loans)
     (of_offices_held i sound fs all.1)
 
-pub held_entries : (i : Institution) → IsSound i → AllByRecursion (HasFields entry_fields)
+pub held_entries : (i : Institution) → IsSound i → AllByRecursion (HasFields (table.entries).columns)
     (map entry_row (tables_of i).entries)
 held_entries i sound =
-    stored_held (HasFields entry_fields) entry_row (tables_of i).entries (of_offices_held i sound i.offices sound.each)
+    stored_held (HasFields (table.entries).columns) entry_row (tables_of i).entries (of_offices_held i sound i.offices sound.each)
 
 -- ---- receipts
 
 abbrev HeldReceipt : ReceiptRow → Type 0
-HeldReceipt x = HasFields receipt_fields (receipt_row x)
+HeldReceipt x = HasFields (table.receipts).columns (receipt_row x)
 
 receipt_held : (x : ℕ) (u : Use) → x ≤ 9999 → u.by.loan ≤ 999999 → u.by.seq ≤ 9999 → IsUtf8 u.receipt
     → HeldReceipt (receipt_in x u)
@@ -782,8 +783,8 @@ carried_held k staffed (f ∷ fs) all =
     (let most = all.0.rows.loan_limit in omega (arith, most)) all.0.rows.loans))
     (carried_held k staffed fs all.1)
 
-pub held_receipts : (i : Institution) → IsSound i → AllByRecursion (HasFields receipt_fields)
+pub held_receipts : (i : Institution) → IsSound i → AllByRecursion (HasFields (table.receipts).columns)
     (map receipt_row (tables_of i).receipts)
 held_receipts i sound =
-    stored_held (HasFields receipt_fields) receipt_row (tables_of i).receipts (all_sorted by_receipt HeldReceipt
+    stored_held (HasFields (table.receipts).columns) receipt_row (tables_of i).receipts (all_sorted by_receipt HeldReceipt
     (receipts_carried i.offices) (carried_held i.catalogue (is_staff i.offices) i.offices sound.each))

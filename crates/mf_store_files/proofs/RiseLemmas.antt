@@ -20,7 +20,7 @@ use Rattle.mf_model.specs.Tree.{Above, Ascending, parent_of}
 use Rattle.mf_store_records.specs.Rows.{by_meta, by_office, by_staff, by_client, by_charge, by_product, by_loan}
 use Rattle.mf_store_records.specs.Rows.{by_entry, by_receipt, by_instalment, by_share}
 use Rattle.mf_store_records.specs.declared.offices.OfficeRow.{OfficeRow}
-use Rattle.mf_store_records.proofs.TableLemmas.{by_receipt_total}
+use Rattle.mf_store_records.proofs.OrderLemmas.{by_receipt_total}
 use Rattle.mf_store_accounts.specs.Flat.{numbered_from, tables_of, office_under, staff_in, client_in, charge_as}
 use Rattle.mf_store_accounts.specs.Flat.{product_as, loan_in, entry_in, instalment_in, share_in, instalments_kept}
 use Rattle.mf_store_accounts.specs.Flat.{placed_parts, parts_from, shares_kept, kept_of, loans_of, rows_of_loans}

@@ -8,13 +8,12 @@ use Rattle.sqlite.specs.Tree.{Trees}
 use Rattle.sqlite_trees.specs.Tree.{IsAscending}
 use Rattle.mf_model.specs.Institution.{Institution}
 use Rattle.mf_model.specs.Sound.{IsSound}
+use Rattle.mf_store_records.specs.Tables as table
 use Rattle.mf_store_records.specs.Fields.{Field, HasFields}
 use Rattle.mf_store_records.specs.Rows.{Lists, meta_row, office_row, staff_row, client_row, charge_row, product_row}
 use Rattle.mf_store_records.specs.Rows.{loan_row, entry_row, receipt_row, instalment_row, share_row, by_meta, by_office}
 use Rattle.mf_store_records.specs.Rows.{by_staff, by_client, by_charge, by_product, by_loan, by_entry, by_receipt}
-use Rattle.mf_store_records.specs.Rows.{by_instalment, by_share, meta_fields, office_fields, staff_fields}
-use Rattle.mf_store_records.specs.Rows.{client_fields, charge_fields, product_fields, loan_fields, entry_fields}
-use Rattle.mf_store_records.specs.Rows.{receipt_fields, instalment_fields, share_fields}
+use Rattle.mf_store_records.specs.Rows.{by_instalment, by_share}
 use Rattle.mf_store_records.specs.Writes.{Holds}
 use Rattle.mf_store_accounts.specs.Flat.{tables_of}
 use Rattle.mf_store_sound.specs.Schemas.{first_tables_of}
@@ -44,17 +43,17 @@ CanHoldRows fields row items = AllByRecursion (HasFields fields) (map row items)
 
 -- the fields of records can hold the rows of each list
 pub record CanBeHeld (lists : Lists) : Type 0 where
-  pub meta : CanHoldRows meta_fields meta_row lists.meta
-  pub offices : CanHoldRows office_fields office_row lists.offices
-  pub staff : CanHoldRows staff_fields staff_row lists.staff
-  pub clients : CanHoldRows client_fields client_row lists.clients
-  pub charges : CanHoldRows charge_fields charge_row lists.charges
-  pub products : CanHoldRows product_fields product_row lists.products
-  pub loans : CanHoldRows loan_fields loan_row lists.loans
-  pub entries : CanHoldRows entry_fields entry_row lists.entries
-  pub receipts : CanHoldRows receipt_fields receipt_row lists.receipts
-  pub instalments : CanHoldRows instalment_fields instalment_row lists.instalments
-  pub shares : CanHoldRows share_fields share_row lists.shares
+  pub meta : CanHoldRows (table.meta).columns meta_row lists.meta
+  pub offices : CanHoldRows (table.offices).columns office_row lists.offices
+  pub staff : CanHoldRows (table.staff).columns staff_row lists.staff
+  pub clients : CanHoldRows (table.clients).columns client_row lists.clients
+  pub charges : CanHoldRows (table.charges).columns charge_row lists.charges
+  pub products : CanHoldRows (table.products).columns product_row lists.products
+  pub loans : CanHoldRows (table.loans).columns loan_row lists.loans
+  pub entries : CanHoldRows (table.entries).columns entry_row lists.entries
+  pub receipts : CanHoldRows (table.receipts).columns receipt_row lists.receipts
+  pub instalments : CanHoldRows (table.instalments).columns instalment_row lists.instalments
+  pub shares : CanHoldRows (table.shares).columns share_row lists.shares
 
 -- the trees hold the rows of a sound institution and nothing else
 pub record HoldsSound (trees : Trees) : Type 0 where

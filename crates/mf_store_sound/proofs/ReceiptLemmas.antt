@@ -21,7 +21,7 @@ use Rattle.mf_store_records.specs.Rows.{by_receipt, is_receipt, is_receipt_befor
 use Rattle.mf_store_records.specs.declared.entries.EntryRow.{EntryRow}
 use Rattle.mf_store_records.specs.declared.receipts.ReceiptRow.{ReceiptRow}
 use Rattle.mf_store_records.proofs.ReceiptLemmas.{less, before_later, is_receipt-bytes}
-use Rattle.mf_store_records.proofs.TableLemmas.{by_receipt_total}
+use Rattle.mf_store_records.proofs.OrderLemmas.{by_receipt_total}
 use Rattle.mf_store_accounts.specs.ReceiptRows.{receipt_in, receipts_carried, carried_by, AreReceiptsOf}
 use Rattle.mf_store_accounts.proofs.ReceiptLemmas.{others_of, others_above, AreAllApart}
 use Rattle.mf_store_accounts.proofs.SortedLemmas.{rises_sorted}

@@ -16,7 +16,7 @@ use Rattle.mf_model.specs.Sound.{is_staff}
 use Rattle.mf_model.specs.Tree.{Above, Ascending}
 use Rattle.mf_store_records.specs.Rows.{by_staff}
 use Rattle.mf_store_records.specs.declared.staff.StaffRow.{StaffRow}
-use Rattle.mf_store_records.proofs.TableLemmas.{by_staff_total}
+use Rattle.mf_store_records.proofs.OrderLemmas.{by_staff_total}
 use Rattle.mf_store_accounts.specs.Flat.{numbered_from, all_rows, staff_in}
 use Rattle.mf_store_accounts.proofs.SortedLemmas.{first_less}
 

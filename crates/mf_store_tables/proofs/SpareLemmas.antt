@@ -1,5 +1,5 @@
 -- A write of one table leaves what the others keep.
-use Rattle.std.proofs.Common.{◌≡◌, ◌≢◌, ℕ, zero, suc, Bool, true, false, not, ◌&&◌, ◌==◌, List, [], ◌∷◌, refl, sym}
+use Rattle.std.proofs.Common.{◌≡◌, ◌≢◌, ℕ, zero, suc, Bool, true, false, not, ◌&&◌, ◌==◌, List, [], ◌∷◌, ◌++◌, refl, sym}
 use Rattle.std.proofs.Common.{subst, arith}
 use Rattle.std.proofs.Common.{true≢false, ap, ◌∙◌}
 use Rattle.std.proofs.lemmas.Bool.{and_parts}
@@ -37,3 +37,16 @@ module _ (tree : ℕ) (old new : Trees) where
   all_changed zero to (t ∷ ts) (c ∷ cs) at same apart h all = (h, all_still ts cs at.1 same.1 apart all.1)
   all_changed (suc n) to (t ∷ ts) (c ∷ cs) at same apart h all = let both = and_parts _ _ apart in
       (still t c at.0 same.0 both.0 all.0, all_changed n to ts cs at.1 same.1 both.1 h all.1)
+
+-- trees that are as they were keep what they kept
+pub all_same : (old new : Trees) (ts : List Table) (cs : List Condition) → SameTrees ts cs
+    → AllByRecursion (λ (t : Table). new t.tree ≡ old t.tree) ts → AllHold old cs → AllHold new cs
+all_same old new [] [] at same all = tt
+all_same old new [] (c ∷ cs) at same all = absurd at
+all_same old new (t ∷ ts) [] at same all = tt
+all_same old new (t ∷ ts) (c ∷ cs) at same all =
+    (subst c.1 (ap old (sym at.0) ∙ sym same.0 ∙ ap new at.0) all.0, all_same old new ts cs at.1 same.1 all.1)
+
+pub all_and : (trees : Trees) (cs ds : List Condition) → AllHold trees cs → AllHold trees ds → AllHold trees (cs ++ ds)
+all_and trees [] ds one two = two
+all_and trees (c ∷ cs) ds one two = (one.0, all_and trees cs ds one.1 two)

@@ -15,7 +15,7 @@ use Rattle.mf_store_records.specs.declared.instalments.InstalmentRow.{Instalment
 use Rattle.mf_store_records.specs.declared.meta.MetaRow.{MetaRow}
 use Rattle.mf_store_records.specs.declared.shares.ShareRow.{ShareRow}
 use Rattle.mf_store_records.specs.declared.writes.StoreWrite.TheVariants.{PutInstalment, PutMeta, PutShare}
-use Rattle.mf_store_records.proofs.TableLemmas.{by_meta_total, by_instalment_total, by_share_total}
+use Rattle.mf_store_records.proofs.OrderLemmas.{by_meta_total, by_instalment_total, by_share_total}
 use Rattle.mf_store_upgrade.specs.Upgrade.{Own, Fits, after, UpgradesFirst}
 use Rattle.mf_store_upgrade.specs.declared.UpgradeWrite.{UpgradeWrite}
 use Rattle.mf_store_upgrade.specs.declared.UpgradeWrite.TheVariants.{Put}

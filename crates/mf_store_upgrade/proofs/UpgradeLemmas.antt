@@ -1,5 +1,5 @@
 -- Two tables made beside nine that keep their rows.
-use Rattle.std.proofs.Common.{◌≡◌, ◌∙◌, ℕ, List, [], ◌∷◌, Ok, false, sym, ap, subst, refl, codes}
+use Rattle.std.proofs.Common.{◌≡◌, ◌∙◌, ℕ, List, [], ◌∷◌, Ok, false, sym, ap, subst, refl, take}
 use Rattle.std.specs.List.{AllByRecursion}
 use Rattle.sqlite.specs.Table.{Table}
 use Rattle.sqlite.specs.Schema.{Schema}
@@ -12,23 +12,23 @@ use Rattle.sqlite.specs.State.{State, Executes}
 use Rattle.sqlite_tied.specs.Compute.{everything}
 use Rattle.sqlite.proofs.Callers.{statement_of, runs_as}
 use Rattle.sqlite_catalog.specs.Listing.{IsSound}
+use Rattle.mf_store_tables.specs.Columns.{sql_table}
 use Rattle.mf_store_tables.specs.Keep.{Keeps}
 use Rattle.mf_store_tables.specs.Making.{Defines}
-use Rattle.mf_store_tables.specs.Tables.{index_on, no_schema}
+use Rattle.mf_store_tables.specs.Texts.{create_text}
+use Rattle.mf_store_tables.specs.Trees.{SameTrees}
 use Rattle.mf_store_tables.specs.Writes.{Ran, Serves, Steps}
 use Rattle.mf_store_tables.proofs.KeepLemmas.{keeps_none}
+use Rattle.mf_store_tables.proofs.SpareLemmas.{all_same, all_and}
 use Rattle.mf_store_tables.proofs.WriteLemmas.{went, same_value}
-use Rattle.mf_store_records.specs.Tables.{schema, meta, offices, staff, clients, charges, products, loans, entries}
-use Rattle.mf_store_records.specs.Tables.{receipts, instalments, shares}
-use Rattle.mf_store_records.specs.Rows.{meta_row, office_row, staff_row, client_row, charge_row, product_row, loan_row}
-use Rattle.mf_store_records.specs.Rows.{entry_row, receipt_row, instalment_row, share_row, by_meta, by_office, by_staff}
-use Rattle.mf_store_records.specs.Rows.{by_client, by_charge, by_product, by_loan, by_entry, by_receipt, by_instalment}
-use Rattle.mf_store_records.specs.Rows.{by_share}
-use Rattle.mf_store_records.specs.Writes.{schema_of, Holds as HoldsOwn, Fits as FitsOwn, after as after_own}
+use Rattle.mf_store_records.specs.Tables.{schema, schema_with, first_schema, tables, made, instalments, shares}
+use Rattle.mf_store_records.specs.InstalmentsTexts as Instalments
+use Rattle.mf_store_records.specs.SharesTexts as Shares
+use Rattle.mf_store_records.specs.Rows.{Lists, instalment_row, share_row, by_instalment, by_share}
+use Rattle.mf_store_records.specs.Writes.{kept_in, conditions, schema_of, Holds as HoldsOwn, Fits as FitsOwn}
+use Rattle.mf_store_records.specs.Writes.{after as after_own}
 use Rattle.mf_store_records.specs.declared.writes.StoreWrite.{StoreWrite}
-use Rattle.mf_store_records.proofs.Texts.{create_instalments, create_shares, defines_instalments, defines_shares}
-use Rattle.mf_store_records.proofs.TableLemmas.{by_instalment_total, by_share_total}
-use Rattle.mf_store_records.specs.Tables.{first_schema}
+use Rattle.mf_store_records.proofs.OrderLemmas.{by_instalment_total, by_share_total}
 use Rattle.mf_store_upgrade.specs.Upgrade.{KeptLists, First, Own, schema_kept, Holds, Fits, after}
 use Rattle.mf_store_upgrade.specs.declared.UpgradeWrite.TheVariants.{MakeAccountTables, Put}
 
@@ -68,34 +68,17 @@ makes_beside before table sql old new count d has h =
 -- ---- the schemas on the way
 
 abbrev ten_schema : Schema
-ten_schema = record {
-  tables = meta ∷ offices ∷ staff ∷ clients ∷ charges ∷ products ∷ loans ∷ entries ∷ receipts ∷ instalments ∷ [];
-  indexes = index_on 0 1 (codes "sqlite_autoindex_meta_1") (1 ∷ []) ∷ index_on 2 3 (codes "sqlite_autoindex_offices_1")
-      (3 ∷ []) ∷ index_on 2 4 (codes "sqlite_autoindex_offices_2") (1 ∷ [])
-      ∷ index_on 5 6 (codes "sqlite_autoindex_staff_1") (1 ∷ 2 ∷ []) ∷ index_on 7 8 (codes "sqlite_autoindex_clients_1")
-      (1 ∷ 2 ∷ []) ∷ index_on 9 10 (codes "sqlite_autoindex_charges_1") (1 ∷ [])
-      ∷ index_on 11 12 (codes "sqlite_autoindex_products_1") (1 ∷ [])
-      ∷ index_on 13 14 (codes "sqlite_autoindex_loans_1") (1 ∷ 2 ∷ [])
-      ∷ index_on 15 16 (codes "sqlite_autoindex_entries_1") (1 ∷ 2 ∷ 3 ∷ [])
-      ∷ index_on 17 18 (codes "sqlite_autoindex_receipts_1") (1 ∷ 2 ∷ [])
-      ∷ index_on 19 20 (codes "sqlite_autoindex_instalments_1") (1 ∷ 2 ∷ 3 ∷ []) ∷ [];
-  views = [];
-}
+ten_schema = schema_with (take 10 tables)
 
-nine_is : created
-    (created (created
-    (created (created (created (created (created (created no_schema (record meta { tree = 0 }))
-    (record offices { tree = 0 })) (record staff { tree = 0 })) (record clients { tree = 0 }))
-    (record charges { tree = 0 })) (record products { tree = 0 })) (record loans { tree = 0 }))
-    (record entries { tree = 0 })) (record receipts { tree = 0 }) ≡ first_schema
+nine_is : made (take 9 tables) ≡ first_schema
 unfolding understood everything
 nine_is = refl
 
-ten_is : created first_schema (record instalments { tree = 0 }) ≡ ten_schema
+ten_is : created first_schema (sql_table 0 instalments) ≡ ten_schema
 unfolding understood everything
 ten_is = refl
 
-eleven_is : created ten_schema (record shares { tree = 0 }) ≡ schema
+eleven_is : created ten_schema (sql_table 0 shares) ≡ schema
 unfolding understood everything
 eleven_is = refl
 
@@ -107,20 +90,28 @@ twenty_one : next_tree ten_schema ≡ 21
 unfolding understood everything
 twenty_one = refl
 
-defines_instalments_then : Defines first_schema create_instalments (record instalments { tree = 0 })
-defines_instalments_then =
-    subst (λ s. Defines s create_instalments (record instalments { tree = 0 })) nine_is defines_instalments
+defines_instalments : Defines first_schema (create_text instalments) (sql_table 0 instalments)
+defines_instalments =
+    subst (λ s. Defines s (create_text instalments) (sql_table 0 instalments)) nine_is Instalments.defined
 
-defines_shares_then : Defines ten_schema create_shares (record shares { tree = 0 })
-defines_shares_then = subst (λ s. Defines s create_shares (record shares { tree = 0 }))
-    (ap (λ s. created s (record instalments { tree = 0 })) nine_is ∙ ten_is) defines_shares
+defines_shares : Defines ten_schema (create_text shares) (sql_table 0 shares)
+defines_shares = subst (λ s. Defines s (create_text shares) (sql_table 0 shares))
+    (ap (λ s. created s (sql_table 0 instalments)) nine_is ∙ ten_is) Shares.defined
 
 -- ---- the two tables made
+
+-- what holds of ten tables holds of the first nine
+firsts : (P : Table → Type 0) → AllByRecursion P ten_schema.tables → AllByRecursion P first_schema.tables
+firsts P h = (h.0, (h.1.0, (h.1.1.0, (h.1.1.1.0, (h.1.1.1.1.0, (h.1.1.1.1.1.0, (h.1.1.1.1.1.1.0, (h.1.1.1.1.1.1.1.0,
+    (h.1.1.1.1.1.1.1.1.0, tt)))))))))
 
 abbrev Stands : Database → KeptLists → Type 0
 Stands = Serves schema_kept Holds
 
-pub making_accounts : (a b c : State) → Ran create_instalments [] a b → Ran create_shares [] b c
+first_trees : (lists : Lists) → SameTrees first_schema.tables (take 9 (conditions lists))
+first_trees lists = (refl, (refl, (refl, (refl, (refl, (refl, (refl, (refl, (refl, tt)))))))))
+
+pub making_accounts : (a b c : State) → Ran (create_text instalments) [] a b → Ran (create_text shares) [] b c
     → Steps Stands (Fits MakeAccountTables) (after MakeAccountTables) a c
 making_accounts a b c first second = record { mode = second.mode; was_open = first.was_open; turns = turns }
   where
@@ -128,36 +119,25 @@ making_accounts a b c first second = record { mode = second.mode; was_open = fir
         → Stands c.now (after MakeAccountTables lists)
     turns (Own lists) s fits = absurd fits
     turns (First m) s fits =
-        let one = makes_beside first_schema (record instalments { tree = 0 }) create_instalments a b first.count
-        defines_instalments_then s.schema_is first.ran in
-        let two = makes_beside ten_schema (record shares { tree = 0 }) create_shares b c second.count
-        defines_shares_then (one.schema_is ∙ ten_is) second.ran in
+        let one = makes_beside first_schema (sql_table 0 instalments) (create_text instalments) a b first.count
+        defines_instalments s.schema_is first.ran in
+        let two = makes_beside ten_schema (sql_table 0 shares) (create_text shares) b c second.count defines_shares
+        (one.schema_is ∙ ten_is) second.ran in
+        let nine = all_same b.now.trees c.now.trees first_schema.tables (take 9 (conditions m)) (first_trees m)
+        (firsts (λ (t : Table). c.now.trees t.tree ≡ b.now.trees t.tree) two.others) (all_same a.now.trees b.now.trees first_schema.tables (take 9 (conditions m))
+        (first_trees m) one.others s.holds.all) in
         record {
           schema_is = two.schema_is ∙ eleven_is;
           holds = record {
             sound = subst (λ s. IsSound s c.now.trees) eleven_is two.sound;
-            meta = subst (λ t. Keeps meta_row by_meta t m.meta) (sym (two.others.0 ∙ one.others.0)) s.holds.meta;
-            offices = subst (λ t. Keeps office_row by_office t m.offices) (sym (two.others.1.0 ∙ one.others.1.0))
-                s.holds.offices;
-            staff = subst (λ t. Keeps staff_row by_staff t m.staff) (sym (two.others.1.1.0 ∙ one.others.1.1.0))
-                s.holds.staff;
-            clients = subst (λ t. Keeps client_row by_client t m.clients)
-                (sym (two.others.1.1.1.0 ∙ one.others.1.1.1.0)) s.holds.clients;
-            charges = subst (λ t. Keeps charge_row by_charge t m.charges)
-                (sym (two.others.1.1.1.1.0 ∙ one.others.1.1.1.1.0)) s.holds.charges;
-            products = subst (λ t. Keeps product_row by_product t m.products)
-                (sym (two.others.1.1.1.1.1.0 ∙ one.others.1.1.1.1.1.0)) s.holds.products;
-            loans = subst (λ t. Keeps loan_row by_loan t m.loans)
-                (sym (two.others.1.1.1.1.1.1.0 ∙ one.others.1.1.1.1.1.1.0)) s.holds.loans;
-            entries = subst (λ t. Keeps entry_row by_entry t m.entries)
-                (sym (two.others.1.1.1.1.1.1.1.0 ∙ one.others.1.1.1.1.1.1.1.0)) s.holds.entries;
-            receipts = subst (λ t. Keeps receipt_row by_receipt t m.receipts) (sym (two.others.1.1.1.1.1.1.1.1.0
-                ∙ one.others.1.1.1.1.1.1.1.1.0)) s.holds.receipts;
-            instalments = subst (λ t. Keeps instalment_row by_instalment t []) (sym (two.others.1.1.1.1.1.1.1.1.1.0
-                ∙ (λ t. b.now.trees (sym nineteen t)) ∙ one.fresh)) (keeps_none by_instalment by_instalment_total
-                instalment_row);
-            shares = subst (λ t. Keeps share_row by_share t []) (sym ((λ t. c.now.trees (sym twenty_one t))
-                ∙ two.fresh)) (keeps_none by_share by_share_total share_row);
+            all = all_and c.now.trees (take 9 (conditions m)) (kept_in 19 instalment_row by_instalment []
+                ∷ kept_in 21 share_row by_share [] ∷ []) nine (
+              subst (λ t. Keeps instalment_row by_instalment t []) (sym (two.others.1.1.1.1.1.1.1.1.1.0
+                  ∙ (λ t. b.now.trees (sym nineteen t)) ∙ one.fresh)) (keeps_none by_instalment by_instalment_total
+                  instalment_row),
+              (subst (λ t. Keeps share_row by_share t []) (sym ((λ t. c.now.trees (sym twenty_one t)) ∙ two.fresh))
+                  (keeps_none by_share by_share_total share_row), tt),
+            );
           };
         }
 

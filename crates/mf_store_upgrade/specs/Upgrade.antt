@@ -1,21 +1,19 @@
 -- The tables of the first schema, which has none of instalments and of shares, and the writes that bring them to the
 -- second.
-use Rattle.std.specs.Prelude.{◌≡◌, List, [], ◌∷◌, ◌++◌, map, Option, Some}
+use Rattle.std.specs.Prelude.{◌≡◌, List, [], ◌∷◌, ◌++◌, map, take, Option, Some}
 use Rattle.std.specs.declared.cmp.Ordering.TheVariants.{Less}
 use Rattle.sqlite.specs.Schema.{Schema}
 use Rattle.sqlite.specs.Tree.{Trees}
 use Rattle.sqlite_catalog.specs.Listing.{IsSound}
 use Rattle.sqlite_trees.specs.Tree.{IsAscending}
-use Rattle.mf_store_tables.specs.Keep.{Keeps}
+use Rattle.mf_store_tables.specs.Trees.{AllHold}
 use Rattle.mf_store_tables.specs.Writes.{AllFit, after_all}
-use Rattle.mf_store_records.specs.Rows.{Lists, meta_row, office_row, staff_row, client_row, charge_row, product_row}
-use Rattle.mf_store_records.specs.Rows.{loan_row, entry_row, receipt_row, by_meta, by_office, by_staff, by_client}
-use Rattle.mf_store_records.specs.Rows.{by_charge, by_product, by_loan, by_entry, by_receipt, by_instalment, by_share}
+use Rattle.mf_store_records.specs.Rows.{Lists, by_instalment, by_share}
 use Rattle.mf_store_records.specs.declared.instalments.InstalmentRow.{InstalmentRow}
 use Rattle.mf_store_records.specs.declared.meta.MetaRow.{MetaRow}
 use Rattle.mf_store_records.specs.declared.shares.ShareRow.{ShareRow}
 use Rattle.mf_store_records.specs.declared.writes.StoreWrite.TheVariants.{PutInstalment, PutMeta, PutShare}
-use Rattle.mf_store_records.specs.Writes.{schema_of, Holds as HoldsOwn, Fits as FitsOwn, after as after_own}
+use Rattle.mf_store_records.specs.Writes.{conditions, schema_of, Holds as HoldsOwn, Fits as FitsOwn, after as after_own}
 use Rattle.mf_store_records.specs.Tables.{first_schema}
 use Rattle.mf_store_upgrade.specs.declared.UpgradeWrite.{UpgradeWrite}
 use Rattle.mf_store_upgrade.specs.declared.UpgradeWrite.TheVariants.{MakeAccountTables, Put}
@@ -23,15 +21,7 @@ use Rattle.mf_store_upgrade.specs.declared.UpgradeWrite.TheVariants.{MakeAccount
 -- the trees list the first schema and obey it, and keep these lists, of which those of accounts are no tables
 pub record HoldsFirst (trees : Trees) (lists : Lists) : Type 0 where
   pub sound : IsSound first_schema trees
-  pub meta : Keeps meta_row by_meta (trees 0) lists.meta
-  pub offices : Keeps office_row by_office (trees 2) lists.offices
-  pub staff : Keeps staff_row by_staff (trees 5) lists.staff
-  pub clients : Keeps client_row by_client (trees 7) lists.clients
-  pub charges : Keeps charge_row by_charge (trees 9) lists.charges
-  pub products : Keeps product_row by_product (trees 11) lists.products
-  pub loans : Keeps loan_row by_loan (trees 13) lists.loans
-  pub entries : Keeps entry_row by_entry (trees 15) lists.entries
-  pub receipts : Keeps receipt_row by_receipt (trees 17) lists.receipts
+  pub all : AllHold trees (take 9 (conditions lists))
 
 -- what a database keeps: the lists of the first schema, or those of the program's own, if it has tables
 pub data KeptLists : Type 0 where
