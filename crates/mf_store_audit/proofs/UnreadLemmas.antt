@@ -8,8 +8,8 @@ use Rattle.std.proofs.Math.Dec.{ltb}
 use Rattle.sqlite.specs.declared.types.Value.{Value}
 use Rattle.sqlite.specs.declared.types.Value.TheVariants.{Null, Int, Text as Words}
 use Rattle.sqlite.specs.Order.{Row, column}
-use Rattle.mf_store_records.specs.Fields.{Field, Number, Amount, Text, MaybeNumber, MaybeText, IsNumber, IsText}
-use Rattle.mf_store_records.specs.Fields.{CanHold, CanHoldFrom, HasFields}
+use Rattle.mf_store_tables.specs.Columns.{Field, Named, Number, Amount, Text, MaybeNumber, MaybeText}
+use Rattle.mf_store_records.specs.Fields.{IsNumber, IsText, CanHold, CanHoldFrom, HasFields}
 use Rattle.mf_store_rows.proofs.TreeLemmas.{past_end}
 use Rattle.mf_store_audit.specs.Unread.{IsBadText, HasBadText, IsOfType, AreOfTypesFrom, IsTyped, IsBadNumber, IsBadIn}
 use Rattle.mf_store_audit.specs.Unread.{HasBadNumberFrom}
@@ -42,25 +42,25 @@ field_held MaybeNumber v (inr of) good = go (number_or_bad v of.0 of.1)
 field_held MaybeText v (inl is) good = inl (inl is)
 field_held MaybeText v (inr of) good = inl (inr (text_held v of.0 of.1 good))
 
-fields_held : (at : ℕ) (fs : List Field) (row : Row) → AreOfTypesFrom at fs row → ¬ HasBadText row
-    → CanHoldFrom at fs row ⊎ HasBadNumberFrom at fs row
-fields_held at [] row of good = inl tt
-fields_held at (f ∷ fs) row of good =
-    go (field_held f (column row at) of.0 (λ bad. good (at, bad))) (fields_held (at + 1) fs row of.1 good)
+columns_held : (at : ℕ) (cs : List Named) (row : Row) → AreOfTypesFrom at cs row → ¬ HasBadText row
+    → CanHoldFrom at cs row ⊎ HasBadNumberFrom at cs row
+columns_held at [] row of good = inl tt
+columns_held at (c ∷ cs) row of good =
+    go (field_held c.field (column row at) of.0 (λ bad. good (at, bad))) (columns_held (at + 1) cs row of.1 good)
   where
-    go : CanHold f (column row at) ⊎ IsBadIn f (column row at) → CanHoldFrom (at + 1) fs row
-        ⊎ HasBadNumberFrom (at + 1) fs row
-        → CanHoldFrom at (f ∷ fs) row ⊎ HasBadNumberFrom at (f ∷ fs) row
+    go : CanHold c.field (column row at) ⊎ IsBadIn c.field (column row at) → CanHoldFrom (at + 1) cs row
+        ⊎ HasBadNumberFrom (at + 1) cs row
+        → CanHoldFrom at (c ∷ cs) row ⊎ HasBadNumberFrom at (c ∷ cs) row
     go (inl here) (inl later) = inl (here, later)
     go (inl here) (inr later) = inr (inr later)
     go (inr here) later = inr (inl here)
 
 -- where each text is UTF-8 and each value of its column's type, a number is out of range
-pub out_of_range : (fs : List Field) (row : Row) → ¬ HasFields fs row → ¬ HasBadText row → IsTyped fs row
-    → HasBadNumberFrom 0 fs row
-out_of_range fs row unread good typed = go (fields_held 0 fs row typed.types good)
+pub out_of_range : (cs : List Named) (row : Row) → ¬ HasFields cs row → ¬ HasBadText row → IsTyped cs row
+    → HasBadNumberFrom 0 cs row
+out_of_range cs row unread good typed = go (columns_held 0 cs row typed.types good)
   where
-    go : CanHoldFrom 0 fs row ⊎ HasBadNumberFrom 0 fs row → HasBadNumberFrom 0 fs row
+    go : CanHoldFrom 0 cs row ⊎ HasBadNumberFrom 0 cs row → HasBadNumberFrom 0 cs row
     go (inl held) = absurd (unread (record { width = typed.width; values = held }))
     go (inr bad) = bad
 

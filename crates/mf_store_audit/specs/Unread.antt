@@ -7,7 +7,8 @@ use Rattle.sqlite.specs.declared.types.Value.TheVariants.{Null, Int, Text as Wor
 use Rattle.sqlite.specs.Order.{Row, column}
 use Rattle.sqlite.specs.Tree.{Trees}
 use Rattle.mf_store_records.specs.Tables as table
-use Rattle.mf_store_records.specs.Fields.{Field, Number, Amount, Text, MaybeNumber, MaybeText, HasFields}
+use Rattle.mf_store_tables.specs.Columns.{Field, Named, Number, Amount, Text, MaybeNumber, MaybeText}
+use Rattle.mf_store_records.specs.Fields.{HasFields}
 use Rattle.mf_store_records.specs.Rows.{meta_row, office_row, staff_row, client_row, charge_row, product_row, loan_row}
 use Rattle.mf_store_records.specs.Rows.{entry_row, receipt_row, instalment_row, share_row, by_meta, by_office, by_staff}
 use Rattle.mf_store_records.specs.Rows.{by_client, by_charge, by_product, by_loan, by_entry, by_receipt, by_instalment}
@@ -35,15 +36,15 @@ IsOfType Text v = (t : List ℕ) × (v ≡ Words t)
 IsOfType MaybeNumber v = (v ≡ Null) ⊎ ((n : ℤ) × (v ≡ Int n))
 IsOfType MaybeText v = (v ≡ Null) ⊎ ((t : List ℕ) × (v ≡ Words t))
 
--- the row's columns hold values of the types of these fields, from this one on
-abbrev pub AreOfTypesFrom : ℕ → List Field → Row → Type 0
+-- the row's values are of the types of these columns, from this one on
+abbrev pub AreOfTypesFrom : ℕ → List Named → Row → Type 0
 AreOfTypesFrom at [] row = Unit {0}
-AreOfTypesFrom at (f ∷ fs) row = IsOfType f (column row at) × AreOfTypesFrom (at + 1) fs row
+AreOfTypesFrom at (c ∷ cs) row = IsOfType c.field (column row at) × AreOfTypesFrom (at + 1) cs row
 
--- a row of such a table: a value for each field, of its type, and no more
-pub record IsTyped (fields : List Field) (row : Row) : Type 0 where
-  pub width : length row ≡ length fields
-  pub types : AreOfTypesFrom 0 fields row
+-- a row of a table with these columns: a value for each, of its type, and no more
+pub record IsTyped (columns : List Named) (row : Row) : Type 0 where
+  pub width : length row ≡ length columns
+  pub types : AreOfTypesFrom 0 columns row
 
 -- a number below 0, or above 4294967295
 abbrev pub IsBadNumber : Value → Type 0
@@ -58,29 +59,29 @@ IsBadIn MaybeNumber v = IsBadNumber v
 IsBadIn MaybeText v = ⊥
 
 -- one of the row's columns holds such a number, from this one on
-abbrev pub HasBadNumberFrom : ℕ → List Field → Row → Type 0
+abbrev pub HasBadNumberFrom : ℕ → List Named → Row → Type 0
 HasBadNumberFrom at [] row = ⊥
-HasBadNumberFrom at (f ∷ fs) row = IsBadIn f (column row at) ⊎ HasBadNumberFrom (at + 1) fs row
+HasBadNumberFrom at (c ∷ cs) row = IsBadIn c.field (column row at) ⊎ HasBadNumberFrom (at + 1) cs row
 
--- the value for which no record of these fields can hold a row: a text that is not UTF-8; or, where no text is such a
+-- the value for which no record of these columns can hold a row: a text that is not UTF-8; or, where no text is such a
 -- one and the values are of the types of their columns, a number that is not 0 to 4294967295
-abbrev pub IsUnreadFor : UnreadValue → List Field → Row → Type 0
-IsUnreadFor NotUtf8 fields row = HasBadText row
-IsUnreadFor OutOfRange fields row = (¬ HasBadText row) × (IsTyped fields row → HasBadNumberFrom 0 fields row)
+abbrev pub IsUnreadFor : UnreadValue → List Named → Row → Type 0
+IsUnreadFor NotUtf8 columns row = HasBadText row
+IsUnreadFor OutOfRange columns row = (¬ HasBadText row) × (IsTyped columns row → HasBadNumberFrom 0 columns row)
 
--- the row at a place is one that no record of these fields can hold, for this value
-pub record IsUnreadAt (fields : List Field) (value : UnreadValue) (place : ℕ) (rows : List Row) : Type 0 where
+-- the row at a place is one that no record of these columns can hold, for this value
+pub record IsUnreadAt (columns : List Named) (value : UnreadValue) (place : ℕ) (rows : List Row) : Type 0 where
   pub row : Row
   pub at : slice_get rows place ≡ Some row
-  pub unread : ¬ HasFields fields row
-  pub for_value : IsUnreadFor value fields row
+  pub unread : ¬ HasFields columns row
+  pub for_value : IsUnreadFor value columns row
 
 -- so is that at a place of a table, its rows in the order of its key
-pub record IsUnreadIn {X : Type 0} (fields : List Field) (stored : X → Row) (cmp : X → X
+pub record IsUnreadIn {X : Type 0} (columns : List Named) (stored : X → Row) (cmp : X → X
     → Ordering) (tree : List Row) (value : UnreadValue) (place : ℕ) : Type 0 where
   pub rows : List Row
   pub shown : ShowsTable stored cmp tree rows
-  pub there : IsUnreadAt fields value place rows
+  pub there : IsUnreadAt columns value place rows
 
 -- so is that at a place of a table of this name
 abbrev pub IsUnread : TableName → UnreadValue → ℕ → Trees → Type 0

@@ -6,7 +6,8 @@ ghost use Rattle.sqlite.specs.Held.{state};
 ghost use Rattle.sqlite.specs.State.{HasCleanDisk};
 ghost use Rattle.sqlite_value.specs.Value.{owned};
 ghost use Rattle.mf_store_rows.specs.Schemas.{IsUnchangedUnder};
-ghost use Rattle.mf_store_records.specs.Fields.{Field, HasFields};
+ghost use Rattle.mf_store_tables.specs.Columns.{Named};
+ghost use Rattle.mf_store_records.specs.Fields.{HasFields};
 ghost use Rattle.mf_store_audit.specs.Unread.{IsBadText, HasBadText, IsUnreadAt, IsUnreadFor, IsUnreadIn};
 
 use mf_base::Fault;
@@ -83,7 +84,7 @@ fn has_bad_text(row: &Row) -> bool
 
 /// The value for which no record can hold a row.
 fn unread_value(row: &Row) -> UnreadValue
-    ensures value { (fields : List Field) → ¬ HasFields fields row.now → IsUnreadFor result fields row.now }
+    ensures value { (columns : List Named) → ¬ HasFields columns row.now → IsUnreadFor result columns row.now }
 {
     if has_bad_text(row) {
         UnreadValue::NotUtf8
@@ -94,7 +95,7 @@ fn unread_value(row: &Row) -> UnreadValue
 
 /// The place of the first row that no record can hold, and the value for which none can.
 fn first_unread<T: Table + Drop>(rows: &[Row]) -> Result<Option<(usize, UnreadValue)>, Fault>
-    ensures found { IfOk result (λ x. IfSome x (λ first. IsUnreadAt T.fields first.1 first.0 rows.now)) }
+    ensures found { IfOk result (λ x. IfSome x (λ first. IsUnreadAt (T.columns).columns first.1 first.0 rows.now)) }
     ensures gives_up { IfErr result (λ fault. fault ≡ F20) }
 {
     for place in 0..rows.len() {
@@ -137,12 +138,12 @@ pub(crate) fn unread_in<T: Whole + Drop, S: Alter>(
         → OnOk result (IsTrue (state S.Store connection.new).is_open) }
     ensures found { HasCleanDisk (state S.Store connection.new) → T.IsUnder (state S.Store connection.old).now.schema
         → IfOk result (λ x. IfSome x (λ unread. (unread.table ≡ table)
-        × IsUnreadIn T.fields T.stored T.by ((state S.Store connection.old).now.trees T.tree) unread.value
+        × IsUnreadIn (T.columns).columns T.stored T.by ((state S.Store connection.old).now.trees T.tree) unread.value
         unread.place)) }
     ensures mode { connection.new.in_transaction ≡ false }
 {
     let _schema = connection.schema();
-    let Ok(rows) = query(connection, T::every_text(), &[]) else {
+    let Ok(rows) = query(connection, T::whole_text(), &[]) else {
         return Err(Fault::F20);
     };
     let Some((place, value)) = first_unread::<T>(&rows)? else {

@@ -62,7 +62,8 @@ use Rattle.mf_model.specs.declared.loan.Stage.{Stage}
 use Rattle.mf_model.specs.declared.loan.Stage.TheVariants.{Submitted, Approved, Disbursed, Withdrawn, Rejected}
 use Rattle.mf_store_tables.specs.Values.{or_null, or_text}
 use Rattle.mf_store_records.specs.Tables as table
-use Rattle.mf_store_records.specs.Fields.{CanHold, Number, Amount, Text, MaybeNumber, MaybeText, HasFields}
+use Rattle.mf_store_tables.specs.Columns.{Number, Amount, Text, MaybeNumber, MaybeText}
+use Rattle.mf_store_records.specs.Fields.{CanHold, HasFields}
 use Rattle.mf_store_records.specs.Rows.{by_receipt, meta_row, office_row}
 use Rattle.mf_store_records.specs.Rows.{staff_row, client_row, charge_row}
 use Rattle.mf_store_records.specs.Rows.{product_row, loan_row, entry_row}

@@ -9,7 +9,8 @@ use Rattle.sqlite_trees.specs.Tree.{IsAscending}
 use Rattle.mf_model.specs.Institution.{Institution}
 use Rattle.mf_model.specs.Sound.{IsSound}
 use Rattle.mf_store_records.specs.Tables as table
-use Rattle.mf_store_records.specs.Fields.{Field, HasFields}
+use Rattle.mf_store_tables.specs.Columns.{Named}
+use Rattle.mf_store_records.specs.Fields.{HasFields}
 use Rattle.mf_store_records.specs.Rows.{Lists, meta_row, office_row, staff_row, client_row, charge_row, product_row}
 use Rattle.mf_store_records.specs.Rows.{loan_row, entry_row, receipt_row, instalment_row, share_row, by_meta, by_office}
 use Rattle.mf_store_records.specs.Rows.{by_staff, by_client, by_charge, by_product, by_loan, by_entry, by_receipt}
@@ -37,11 +38,11 @@ pub record DoRise (lists : Lists) : Type 0 where
   pub instalments : Rises by_instalment lists.instalments
   pub shares : Rises by_share lists.shares
 
--- fields of these kinds can hold the rows of the items
-abbrev pub CanHoldRows : {A : Type 0} → List Field → (A → Row) → List A → Type 0
-CanHoldRows fields row items = AllByRecursion (HasFields fields) (map row items)
+-- these columns can hold the rows of the items
+abbrev pub CanHoldRows : {A : Type 0} → List Named → (A → Row) → List A → Type 0
+CanHoldRows columns row items = AllByRecursion (HasFields columns) (map row items)
 
--- the fields of records can hold the rows of each list
+-- the columns of tables can hold the rows of each list
 pub record CanBeHeld (lists : Lists) : Type 0 where
   pub meta : CanHoldRows (table.meta).columns meta_row lists.meta
   pub offices : CanHoldRows (table.offices).columns office_row lists.offices

@@ -1,18 +1,24 @@
 //! A table that is read whole.
 
-ghost use Rattle.std.specs.Prelude.{◌≡◌, List, false, map, IsTrue, OnOk, IfOk, IfErr, IfSome, IfNone};
+ghost use Rattle.std.specs.Prelude.{◌≡◌, List, [], false, map, IsTrue, OnOk, IfOk, IfErr, IfSome, IfNone};
 ghost use Rattle.std.specs.List.{AllByRecursion};
 ghost use Rattle.std.specs.declared.cmp.Ordering.TheVariants.{Less};
 ghost use Rattle.mf_base.specs.declared.fault.Fault.TheVariants.{F20};
+ghost use Rattle.sqlite.specs.Order.{Row as SqlRow};
+ghost use Rattle.sqlite.specs.Effect.{Database};
+ghost use Rattle.sqlite.specs.Given.{IsPlain};
 ghost use Rattle.sqlite.specs.Held.{state};
 ghost use Rattle.sqlite.specs.Schema.{Schema};
+ghost use Rattle.sqlite.specs.Listing.{understood};
 ghost use Rattle.sqlite.specs.State.{HasCleanDisk};
+ghost use Rattle.sqlite_catalog.specs.Listing.{IsSound};
 ghost use Rattle.sqlite_trees.specs.Tree.{IsAscending};
 ghost use Rattle.mf_store_tables.specs.Keep.{Keeps};
+ghost use Rattle.mf_store_tables.specs.Queries.{Answers};
 ghost use Rattle.mf_store_tables.specs.Texts.{select_text};
 ghost use Rattle.mf_store_records.specs.Fields.{HasFields};
 ghost use Rattle.mf_store_rows.specs.Schemas.{IsUnchangedUnder};
-ghost use Rattle.mf_store_rows.specs.Whole.{HasRowids, IsAsked};
+ghost use Rattle.mf_store_rows.specs.Whole.{HasRowids, IsAsked, ShowsTable};
 
 use crate::shown::read_shown;
 use mf_base::Fault;
@@ -30,6 +36,16 @@ pub trait Whole: Table {
         ensures { result.now ≡ select_text Self.Table.columns 0 };
 
     ghost asked: { (k : Schema) → IsUnder k → IsAsked k Self.Table.place Self.Table.tree Self.Table.columns };
+
+    /// The same text, and what it means under each of these schemas.
+    final fn whole_text() -> &'static str
+        ensures plain { (k : Schema) → IsUnder k → IsPlain (understood k result.now) }
+        ensures shows { (db : Database) (rows : List SqlRow) → IsUnder db.schema → IsSound db.schema db.trees
+            → Answers result.now [] db rows
+            → ShowsTable Self.Table.stored Self.Table.by (db.trees Self.Table.tree) rows }
+    {
+        Self::every_text()
+    }
 }
 
 /// What the table keeps, and none where it keeps nothing that records can hold.
@@ -61,5 +77,5 @@ pub fn every<T: Whole + Drop, S: Alter>(
     ensures mode { connection.new.in_transaction ≡ false }
 {
     let _schema = connection.schema();
-    read_shown(alloc, connection, T::every_text())
+    read_shown(alloc, connection, T::whole_text())
 }
