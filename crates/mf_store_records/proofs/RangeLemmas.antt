@@ -1,5 +1,6 @@
 -- What the texts that ask for a range mean, and what they show of their tables.
-use Rattle.std.proofs.Common.{◌≡◌, ℕ, pos, ◌&&◌, List, [], ◌∷◌, ◌++◌, codes, false, map, filter, take, refl, ap₂, ◌∙◌}
+use Rattle.std.proofs.Common.{◌≡◌, ℕ, pos, ◌&&◌, List, [], ◌∷◌, ◌++◌, codes, false, map, filter, take, refl, ap, ap₂}
+use Rattle.std.proofs.Common.{◌∙◌, is_eq}
 use Rattle.std.specs.Ordering.{ordering_then}
 use Rattle.sqlite.specs.declared.types.Value.TheVariants.{Int, Text}
 use Rattle.sqlite.specs.Collation.TheVariants.{Binary}
@@ -20,8 +21,15 @@ use Rattle.mf_store_tables.specs.Scan.{eq, by, scan, cut_at}
 use Rattle.mf_store_tables.proofs.CompareLemmas.{equals_back, and_true, int_cmp-pos, at_least_text, below_text}
 use Rattle.mf_store_tables.proofs.CompareLemmas.{above_number}
 use Rattle.mf_store_tables.proofs.ShownLemmas.{shown_kept, shown_first_kept}
-use Rattle.mf_store_records.specs.Tables.{schema}
+use Rattle.mf_store_tables.specs.Columns.{Number}
+use Rattle.mf_store_tables.specs.Texts.{select_text}
+use Rattle.mf_store_tables.proofs.TableLemmas.{asked_shows}
+use Rattle.mf_store_records.specs.Tables.{schema, instalments}
+use Rattle.mf_store_records.specs.Keys.{one_number}
+use Rattle.mf_store_records.specs.InstalmentsTexts.{kept, fits, ordered, lists_by_1}
 use Rattle.mf_store_records.specs.Rows.{by_office, office_row, is_in_range, by_loan, loan_row, is_loan_above}
+use Rattle.mf_store_records.specs.Rows.{by_instalment, instalment_row, is_instalment_in}
+use Rattle.mf_store_records.specs.declared.instalments.InstalmentRow.{InstalmentRow}
 use Rattle.mf_store_records.specs.declared.offices.OfficeRow.{OfficeRow}
 use Rattle.mf_store_records.specs.declared.loans.LoanRow.{LoanRow}
 
@@ -107,3 +115,17 @@ loans_above_shows office after db rows items has k =
     (is_loan_above office after) (λ id y. ap₂ ◌&&◌ (equals_back y.office office) (and_true _
     ∙ above_number y.number after)) loan_key loan_row (λ id y. refl) (loan_ranks (eq (col 1 1) (col 0 0)
     ∷ op2 (Compare Gt Binary) (col 1 2) (col 0 1) ∷ [])) (λ t. refl) db items rows has k
+
+-- ---- instalments
+
+abbrev pub instalments_of_office : List ℕ
+instalments_of_office = select_text instalments 1
+
+pub instalments_of_office_shows : (office : ℕ) (db : Database) (rows : List Row) (items : List InstalmentRow)
+    → db.schema ≡ schema → Keeps instalment_row by_instalment (db.trees 19) items
+    → Answers instalments_of_office (Int (pos office) ∷ []) db rows
+    → rows ≡ map instalment_row (filter (is_instalment_in office) items)
+instalments_of_office_shows office db rows items has keeps h =
+    asked_shows instalment_row by_instalment schema 9 19 instalments ordered fits kept.under 1 (Int (pos office) ∷ [])
+    lists_by_1 refl ((Number, refl, (office, refl)), tt) (is_instalment_in office)
+    (λ x. ap is_eq (one_number office x.office)) db items rows has keeps h

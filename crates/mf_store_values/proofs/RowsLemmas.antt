@@ -21,8 +21,8 @@ use Rattle.mf_store_records.specs.Calls.{IsKeeping, IsUnchanged as IsAsBefore}
 use Rattle.mf_store_records.specs.Rows.{Lists, instalment_row as instalment_stored, is_instalment_in}
 use Rattle.mf_store_records.specs.Tables.{schema}
 use Rattle.mf_store_records.proofs.CallLemmas.{unchanged}
-use Rattle.mf_store_records.proofs.ReadLemmas.{instalments_of_office_shows}
-use Rattle.mf_store_records.proofs.Texts.{instalments_of_office, instalments_of_office_plain, instalments_of_office_is}
+use Rattle.mf_store_records.specs.InstalmentsTexts.{lists_by_1}
+use Rattle.mf_store_records.proofs.RangeLemmas.{instalments_of_office, instalments_of_office_shows}
 use Rattle.sqlite_trees.specs.declared.store.Store.{Ghosts}
 use Rattle.sqlite.specs.Tree.{Trees}
 use Rattle.mf_store_values.specs.Arrears.{NumberedLoan, AreAbove, AreWholeLoans, rows_of_office, aged_loans, IsLineOf}
@@ -265,7 +265,7 @@ pub taken_rows : (office : ℕ) (lists : Lists) (old mid new : State) (taken : L
     → taken ≡ map instalment_stored (filter (is_instalment_in office) lists.instalments)
 taken_rows office lists old mid new taken same keeping shown =
     let kept = keeping same.0.was_open in
-    instalments_of_office_shows office old.now taken lists.instalments kept.schema_is kept.holds.instalments
+    instalments_of_office_shows office old.now taken lists.instalments kept.schema_is kept.holds.all.1.1.1.1.1.1.1.1.1.0
     (answers_prepared instalments_of_office (Int (pos office) ∷ []) old mid new taken same shown)
 
 -- the text is a plain one under the tables of this program
@@ -274,7 +274,7 @@ pub plain_kept : (lists : Lists) (old mid : State) → IsUnchanged old mid → I
 plain_kept lists old mid same keeping =
     let kept = keeping same.0.was_open in
     plain_mid instalments_of_office old mid same (subst (λ k. IsPlain (understood k instalments_of_office))
-    (sym kept.schema_is) instalments_of_office_plain)
+    (sym kept.schema_is) lists_by_1.plain)
 
 pub at_is_ok : {A E : Type 0} (r : Result A E) (x : A) (P : Type 0) → r ≡ Ok x → OnOk r P → P
 at_is_ok r x P e h = subst (λ o. OnOk o P) e h
@@ -312,7 +312,7 @@ never_great office lists old mid loans empty TooGreat same keeping above whole w
     let schema_is = ap (λ (d : Database). d.schema) same.0.now_is ∙ (keeping same.0.was_open).schema_is in
     let all = begins_shown instalments_of_office (Int (pos office) ∷ []) mid mid it.0 it.1 here
     (λ c db is source. subst (λ k. EndsIn k db (timed (Int (pos office) ∷ []) c.formats is.now))
-    (sym instalments_of_office_is ∙ sym (ap (λ s. command_of (understood s instalments_of_office)) schema_is)
+    (sym lists_by_1.is ∙ sym (ap (λ s. command_of (understood s instalments_of_office)) schema_is)
     ∙ ap command_of is.is) tt) in
     absurd (it.2 office loans all.0 above whole within (taken_rows office lists old mid mid (it.0 ++ all.0) same keeping
     all.1 ∙ ap (map instalment_stored) are) is_new)

@@ -1,7 +1,8 @@
 use Rattle.std.proofs.Common.{◌≡◌, Err, true, not, sym, ap, ◌∙◌, rules}
 use Rattle.sqlite.specs.Held.{state}
 use Rattle.sqlite.specs.State.{IsUnchanged}
-use Rattle.mf_store_records.proofs.Texts.{instalments_of_office, instalments_of_office_plain}
+use Rattle.mf_store_records.specs.InstalmentsTexts.{lists_by_1}
+use Rattle.mf_store_records.proofs.RangeLemmas.{instalments_of_office}
 use Rattle.mf_store_values.proofs.RowsLemmas.{clean_before, prepared_ok, unprepared, folded_unchanged, plain_kept}
 use Rattle.mf_store_values.proofs.RowsLemmas.{at_is_ok, line_read, never_great}
 use Rattle.mf_store_values.proofs.office_line.line_of_office.Goals as goal
@@ -11,7 +12,7 @@ returns-then-is_err-clause-kept g c =
     let alone : c.is_autocommit-settled.result ≡ true =
     c.is_autocommit-settled.ensures.value ∙ ap not c.requires.alone in
     unprepared _ instalments_of_office _ (state g.S.Store c.args.connection.now) (state g.S.Store c.prepare.new.self)
-    c.prepare.result instalments_of_office_plain (c.is_autocommit-settled.ensures.settled alone)
+    c.prepare.result lists_by_1.plain (c.is_autocommit-settled.ensures.settled alone)
     c.prepare.ensures.ok c.prepare.ensures.err c.prepare.ensures.survives
 
 pub returns-in_err-fold_answer-clause-kept : goal.returns-in_err-fold_answer-clause-kept
@@ -19,7 +20,7 @@ returns-in_err-fold_answer-clause-kept g c =
     let alone : c.is_autocommit-settled.result ≡ true =
     c.is_autocommit-settled.ensures.value ∙ ap not c.requires.alone in
     folded_unchanged instalments_of_office _ (state g.S.Store c.args.connection.now)
-    (state g.S.Store c.prepare.new.self) (state g.S.Store c.fold_answer.new.connection) instalments_of_office_plain
+    (state g.S.Store c.prepare.new.self) (state g.S.Store c.fold_answer.new.connection) lists_by_1.plain
     (c.is_autocommit-settled.ensures.settled alone)
     (λ early. prepared_ok _ _ c.prepare.result (sym c.is_err.ensures.value ∙ c.if-is_err.false)
     (c.prepare.ensures.ok early)) c.prepare.ensures.survives c.fold_answer.ensures.survives
@@ -30,7 +31,7 @@ returns-clause-kept g c =
     let alone : c.is_autocommit-settled.result ≡ true =
     c.is_autocommit-settled.ensures.value ∙ ap not c.requires.alone in
     folded_unchanged instalments_of_office _ (state g.S.Store c.args.connection.now)
-    (state g.S.Store c.prepare.new.self) (state g.S.Store c.fold_answer.new.connection) instalments_of_office_plain
+    (state g.S.Store c.prepare.new.self) (state g.S.Store c.fold_answer.new.connection) lists_by_1.plain
     (c.is_autocommit-settled.ensures.settled alone)
     (λ early. prepared_ok _ _ c.prepare.result (sym c.is_err.ensures.value ∙ c.if-is_err.false)
     (c.prepare.ensures.ok early)) c.prepare.ensures.survives c.fold_answer.ensures.survives
