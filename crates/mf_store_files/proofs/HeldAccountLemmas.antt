@@ -222,8 +222,8 @@ account_instalments x m a low_x low_m sound = let size = account_size a sound in
 pub held_instalments : (i : Institution) → IsSound i → AllByRecursion (HasFields (table.instalments).columns)
     (map instalment_row (tables_of i).instalments)
 held_instalments i sound =
-    stored_held (HasFields (table.instalments).columns) instalment_row (tables_of i).instalments (kept_of_offices instalment_in
-    instalments_kept HeldInstalment account_instalments i.catalogue sound.catalogue (is_staff i.offices) i.offices
+    stored_held (HasFields (table.instalments).columns) instalment_row (tables_of i).instalments
+    (kept_of_offices instalment_in instalments_kept HeldInstalment account_instalments i.catalogue sound.catalogue (is_staff i.offices) i.offices
     sound.each)
 
 -- ---- shares
@@ -437,5 +437,5 @@ account_shares x m a low_x low_m sound =
 pub held_shares : (i : Institution) → IsSound i → AllByRecursion (HasFields (table.shares).columns)
     (map share_row (tables_of i).shares)
 held_shares i sound =
-    stored_held (HasFields (table.shares).columns) share_row (tables_of i).shares (kept_of_offices share_in shares_kept HeldShare
-    account_shares i.catalogue sound.catalogue (is_staff i.offices) i.offices sound.each)
+    stored_held (HasFields (table.shares).columns) share_row (tables_of i).shares
+    (kept_of_offices share_in shares_kept HeldShare account_shares i.catalogue sound.catalogue (is_staff i.offices) i.offices sound.each)

@@ -225,7 +225,8 @@ own_parents (f ∷ fs) up = (
 
 -- ---- the other tables
 
-pub held_meta : (i : Institution) → IsSound i → AllByRecursion (HasFields (table.meta).columns) (map meta_row (tables_of i).meta)
+pub held_meta : (i : Institution) → IsSound i → AllByRecursion (HasFields (table.meta).columns)
+    (map meta_row (tables_of i).meta)
 held_meta i sound = (
   record {
     width = refl;
@@ -246,8 +247,8 @@ HeldStaff x = HasFields (table.staff).columns (staff_row x)
 pub held_staff : (i : Institution) → IsSound i → AllByRecursion (HasFields (table.staff).columns)
     (map staff_row (tables_of i).staff)
 held_staff i sound =
-    stored_held (HasFields (table.staff).columns) staff_row (tables_of i).staff (rows_held (λ (s : Staff). IsName s.name)
-    HeldStaff (IsSoundOffice i.catalogue (is_staff i.offices)) 9999 staff_in (λ rows. rows.staff)
+    stored_held (HasFields (table.staff).columns) staff_row (tables_of i).staff
+    (rows_held (λ (s : Staff). IsName s.name) HeldStaff (IsSoundOffice i.catalogue (is_staff i.offices)) 9999 staff_in (λ rows. rows.staff)
     (λ x n s low_x low_n name. record {
       width = refl;
       values = (
@@ -271,8 +272,8 @@ HeldOffice x = HasFields (table.offices).columns (office_row x)
 pub held_offices : (i : Institution) → IsSound i → AllByRecursion (HasFields (table.offices).columns)
     (map office_row (tables_of i).offices)
 unfolding key_of
-held_offices i sound = stored_held (HasFields (table.offices).columns) office_row (tables_of i).offices (each i.offices sound.each
-    (own_parents i.offices sound.tree.ascending))
+held_offices i sound = stored_held (HasFields (table.offices).columns) office_row (tables_of i).offices
+    (each i.offices sound.each (own_parents i.offices sound.tree.ascending))
   where
     up : (x p : ℕ) → parent_of i.offices x ≡ Some p → p ≤ 9999
     up x p e = there_low i.catalogue (is_staff i.offices) i.offices sound.each p (sound.tree.parents_there x p e)
@@ -311,8 +312,8 @@ HeldCharge x = HasFields (table.charges).columns (charge_row x)
 pub held_charges : (i : Institution) → IsSound i → AllByRecursion (HasFields (table.charges).columns)
     (map charge_row (tables_of i).charges)
 held_charges i sound =
-    stored_held (HasFields (table.charges).columns) charge_row (tables_of i).charges (numbered_held IsSoundCharge HeldCharge 999
-    charge_as
+    stored_held (HasFields (table.charges).columns) charge_row (tables_of i).charges
+    (numbered_held IsSoundCharge HeldCharge 999 charge_as
     (λ n c low is. record {
       width = refl;
       values = (
@@ -722,7 +723,8 @@ of_offices_held i sound (f ∷ fs) all =
 pub held_entries : (i : Institution) → IsSound i → AllByRecursion (HasFields (table.entries).columns)
     (map entry_row (tables_of i).entries)
 held_entries i sound =
-    stored_held (HasFields (table.entries).columns) entry_row (tables_of i).entries (of_offices_held i sound i.offices sound.each)
+    stored_held (HasFields (table.entries).columns) entry_row (tables_of i).entries
+    (of_offices_held i sound i.offices sound.each)
 
 -- ---- receipts
 
@@ -787,5 +789,5 @@ carried_held k staffed (f ∷ fs) all =
 pub held_receipts : (i : Institution) → IsSound i → AllByRecursion (HasFields (table.receipts).columns)
     (map receipt_row (tables_of i).receipts)
 held_receipts i sound =
-    stored_held (HasFields (table.receipts).columns) receipt_row (tables_of i).receipts (all_sorted by_receipt HeldReceipt
-    (receipts_carried i.offices) (carried_held i.catalogue (is_staff i.offices) i.offices sound.each))
+    stored_held (HasFields (table.receipts).columns) receipt_row (tables_of i).receipts
+    (all_sorted by_receipt HeldReceipt (receipts_carried i.offices) (carried_held i.catalogue (is_staff i.offices) i.offices sound.each))

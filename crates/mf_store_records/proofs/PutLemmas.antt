@@ -87,8 +87,8 @@ module _ {X : Type 0} (t : Columns) (place tree : ℕ) (stored : X → Row) (by 
       (db : Database) (rows : List Row) → StandsAs db (Some lists) → Answers (select_text t n) params db rows
       → rows ≡ map stored (filter is (list lists))
   showing n asks always params plain is same lists db rows s a =
-      asked_shows stored by schema place tree t ordered fits kept.under n params asks always plain is same db (list lists)
-      rows s.schema_is (held db.trees lists s.holds) a
+      asked_shows stored by schema place tree t ordered fits kept.under n params asks always plain is same db
+      (list lists) rows s.schema_is (held db.trees lists s.holds) a
 
 pub removing_shares : (e : EntryKey) (old new : State) → Ran delete_shares (Int (pos e.office) ∷ Int (pos e.loan)
     ∷ Int (pos e.seq) ∷ []) old new → Putting (drop_shares e) old new

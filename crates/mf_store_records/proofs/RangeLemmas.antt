@@ -76,8 +76,8 @@ offices_in_shows low high db rows items has k =
 
 abbrev pub loans_above : List ℕ
 loans_above =
-    codes "SELECT office, number, client, product, principal, periods, stage, approved, disbursed FROM loans WHERE office"
-    ++ codes " = ?1 AND number > ?2 ORDER BY office, number LIMIT 100"
+    codes "SELECT office, number, client, product, principal, periods, stage, approved, disbursed FROM loans WHERE "
+    ++ codes "office = ?1 AND number > ?2 ORDER BY office, number LIMIT 100"
 
 pub loans_above_is : command_of (understood schema loans_above)
     ≡ Select (record {

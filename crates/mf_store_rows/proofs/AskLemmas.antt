@@ -35,8 +35,8 @@ use Rattle.mf_store_rows.proofs.OpenLemmas.{raw_row, kept_by_rows}
 use Rattle.mf_store_rows.proofs.TreeLemmas.{raw_of, past_end, row_columns}
 
 -- a column that is shown, and past the last of them NULL, as the row itself has there
-shown_column : (params row : Row) (at n k : ℕ) → length row ≤ at + n → column (eval_all (columns_of 1 at n) (params ∷ row ∷ []))
-    k ≡ column row (at + k)
+shown_column : (params row : Row) (at n k : ℕ) → length row ≤ at + n
+    → column (eval_all (columns_of 1 at n) (params ∷ row ∷ [])) k ≡ column row (at + k)
 shown_column params row at zero k short = sym (past_end row (at + k) (omega (arith, short)))
 shown_column params row at (suc n) zero short = ap (column row) (omega arith)
 shown_column params row at (suc n) (suc k) short = shown_column params row (suc at) n k (omega (arith, short))
@@ -59,7 +59,8 @@ rows_filled params n (e ∷ raw) all = (row_filled params n e all.0, rows_filled
 rows_shown : (params : Row) (n : ℕ) (raw : List (ℤ × Row)) → map (λ r. eval_all (columns_of 1 1 n) (params ∷ r ∷ []))
     (map raw_row raw) ≡ map (λ (e : ℤ × Row). e.1) (map (filled params n) raw)
 rows_shown params n [] = refl
-rows_shown params n (e ∷ raw) = ap (λ l. eval_all (columns_of 1 1 n) (params ∷ raw_row e ∷ []) ∷ l) (rows_shown params n raw)
+rows_shown params n (e ∷ raw) =
+    ap (λ l. eval_all (columns_of 1 1 n) (params ∷ raw_row e ∷ []) ∷ l) (rows_shown params n raw)
 
 -- the rowids stay apart
 none_filled : (params : Row) (n : ℕ) (a : ℤ) (raw : List (ℤ × Row)) → AllByRecursion (λ (b : ℤ × Row). same_id a b.0

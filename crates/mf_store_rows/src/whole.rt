@@ -65,15 +65,16 @@ pub fn every<T: Whole + Drop, S: Alter>(
     // What the table keeps is this; and a table whose rowids are in order keeps this, if it rises by key.
     ensures only { HasCleanDisk (state S.Store connection.new) → T.IsUnder (state S.Store connection.old).now.schema
         → IfOk result (λ x. IfSome x (λ rs. (items : List T)
-        → Keeps T.Table.stored T.Table.by ((state S.Store connection.old).now.trees T.Table.tree) items → rs.items ≡ items)) }
+        → Keeps T.Table.stored T.Table.by ((state S.Store connection.old).now.trees T.Table.tree) items
+        → rs.items ≡ items)) }
     ensures keeps { HasCleanDisk (state S.Store connection.new) → T.IsUnder (state S.Store connection.old).now.schema
         → HasRowids ((state S.Store connection.old).now.trees T.Table.tree)
         → IfOk result (λ x. IfSome x (λ rs. IsAscending (λ a b. T.Table.by a b ≡ Less) rs.items
         → Keeps T.Table.stored T.Table.by ((state S.Store connection.old).now.trees T.Table.tree) rs.items)) }
     ensures none { HasCleanDisk (state S.Store connection.new) → T.IsUnder (state S.Store connection.old).now.schema
         → IfOk result (λ x. IfNone x ((items : List T) → AllByRecursion (HasFields (T.Table.columns).columns)
-        (map T.Table.stored items) → ¬ Keeps T.Table.stored T.Table.by ((state S.Store connection.old).now.trees T.Table.tree)
-        items)) }
+        (map T.Table.stored items)
+        → ¬ Keeps T.Table.stored T.Table.by ((state S.Store connection.old).now.trees T.Table.tree) items)) }
     ensures mode { connection.new.in_transaction ≡ false }
 {
     let _schema = connection.schema();

@@ -124,8 +124,9 @@ making_accounts a b c first second = record { mode = second.mode; was_open = fir
         let two = makes_beside ten_schema (sql_table 0 shares) (create_text shares) b c second.count defines_shares
         (one.schema_is ∙ ten_is) second.ran in
         let nine = all_same b.now.trees c.now.trees first_schema.tables (take 9 (conditions m)) (first_trees m)
-        (firsts (λ (t : Table). c.now.trees t.tree ≡ b.now.trees t.tree) two.others) (all_same a.now.trees b.now.trees first_schema.tables (take 9 (conditions m))
-        (first_trees m) one.others s.holds.all) in
+        (firsts (λ (t : Table). c.now.trees t.tree ≡ b.now.trees t.tree) two.others)
+        (all_same a.now.trees b.now.trees first_schema.tables (take 9 (conditions m)) (first_trees m) one.others
+        s.holds.all) in
         record {
           schema_is = two.schema_is ∙ eleven_is;
           holds = record {

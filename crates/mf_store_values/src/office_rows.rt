@@ -59,7 +59,8 @@ impl Model for OfficeRows {
 
     ghost Value = { Rows };
 
-    ghost view = { λ rows. record { staff = rows.staff.items; clients = rows.clients.items; loans = rows.loans.items } };
+    ghost view =
+        { λ rows. record { staff = rows.staff.items; clients = rows.clients.items; loans = rows.loans.items } };
 }
 
 impl OfficeRows {
