@@ -1,4 +1,5 @@
 pub mod Kinds
+pub mod Names
 pub mod Standing
 pub mod Lawful
 pub mod Effect

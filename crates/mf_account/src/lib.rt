@@ -11,6 +11,7 @@ mod entry;
 mod lawful;
 pub mod laws;
 mod loan;
+mod names;
 mod open;
 mod receipt;
 mod refusal;

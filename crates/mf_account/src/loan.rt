@@ -6,7 +6,6 @@ ghost use Rattle.mf_account.specs.Standing.{with_mark};
 
 use crate::entry::Entry;
 use crate::lawful::{are_entries, can_be_entered, is_loan_within_limits};
-use crate::replay::mark_reversed;
 use mf_base::{Day, Fault};
 use mf_catalog::{StrategyName, Terms};
 use mf_schedule::{Instalment, disbursement_fee, fresh};
@@ -105,7 +104,8 @@ impl Loan {
         requires { at < length self.old.entries }
         ensures { self.new ≡ record self.old { entries = with_mark self.old.entries at true } }
     {
-        mark_reversed(&mut self.entries, at);
+        let entry = &mut self.entries[at];
+        entry.reversed = true;
     }
 
     /// Gives the entries back.

@@ -1,12 +1,12 @@
 //! The order of the standing entries, and the account as their replay on the fresh schedule.
 
 ghost use Rattle.std.specs.Prelude.{◌≡◌, ◌≢◌, ℕ, ◌+◌, ◌-◌, ◌<◌, ◌≤◌, ◌∷◌, [], ◌++◌, None, IfOk, IfSome, OnOk};
-ghost use Rattle.std.specs.Prelude.{IsOkUnless, length, map, All, insert, slice_index, true};
+ghost use Rattle.std.specs.Prelude.{IsOkUnless, length, map, All, insert, slice_index};
 ghost use Rattle.std.specs.List.{Contains};
 ghost use Rattle.mf_account.specs.Account.{row_of as first_row, first_state, state_of, settled_of, after_all};
 ghost use Rattle.mf_account.specs.Account.{settled_by, orders_by};
 ghost use Rattle.mf_account.specs.Standing.{is_before as comes_before, order_with, standing_entries, entry_at};
-ghost use Rattle.mf_account.specs.Standing.{entries_at, with_mark, IsInOrder, places_from, AreApart};
+ghost use Rattle.mf_account.specs.Standing.{entries_at, IsInOrder, places_from, AreApart};
 ghost use Rattle.mf_account.specs.Applicable.{AreApplicable};
 ghost use Rattle.mf_account.specs.declared.replay.Place.{Place as PlaceRecord};
 ghost use Rattle.mf_account.specs.declared.replay.Standing.{Standing as StandingRecord};
@@ -333,13 +333,4 @@ pub(crate) fn replayed<T: Strategy>(
     let mut book = first_book(alloc, schedule)?;
     let settled = apply_all(alloc, strategy, &mut book, entries, order)?;
     Ok((book, settled))
-}
-
-/// Marks the entry at a place as reversed.
-pub(crate) fn mark_reversed(entries: &mut Vec<Entry>, at: usize)
-    requires { at < length entries.old.items }
-    ensures { entries.new.items ≡ with_mark entries.old.items at true }
-{
-    let entry = &mut entries[at];
-    entry.reversed = true;
 }

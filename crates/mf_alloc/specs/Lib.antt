@@ -1,5 +1,6 @@
 pub mod Sums
 pub mod Rows
+pub mod Portions
 pub mod Payment
 pub mod Order
 pub mod OrderLaws

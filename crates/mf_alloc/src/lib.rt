@@ -4,6 +4,7 @@
 pub mod laws;
 mod named;
 mod payment;
+mod portions;
 mod row;
 mod strategy;
 

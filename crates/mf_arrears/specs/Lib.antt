@@ -1,3 +1,4 @@
 pub mod Ageing
 pub mod Line
 pub mod Report
+pub mod Folding

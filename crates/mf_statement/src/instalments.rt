@@ -1,9 +1,10 @@
 //! What is shown of a loan's instalments, with what is outstanding of each.
 
-ghost use Rattle.std.specs.Prelude.{◌≡◌, ◌≤◌, ◌<◌, ◌^◌, length, IsTrue, IfOk, IsOkUnless};
+ghost use Rattle.std.specs.Prelude.{◌≡◌, ◌≢◌, ◌≤◌, ◌<◌, ◌^◌, ◌↔◌, length, None, Some, IsTrue, IfOk, IfSome, IsOkUnless};
 ghost use Rattle.mf_alloc.specs.Sums.{row_outstanding};
+ghost use Rattle.mf_account.specs.Loan.{Loan, IsSound, state_of_loan};
 ghost use Rattle.mf_account.specs.Told.{IsRowSmall, AreRowsSmall};
-ghost use Rattle.mf_statement.specs.Lines.{instalment_line as line_of, instalments_from};
+ghost use Rattle.mf_statement.specs.Lines.{instalment_line as line_of, instalments_from, instalments_of};
 
 use crate::lines::{InstalmentLine, InstalmentList};
 use crate::listing::Listing;
@@ -50,16 +51,22 @@ fn lines_of(alloc: Global, rows: &[Row]) -> Result<Vec<InstalmentLine>, Fault>
     Ok(lines)
 }
 
-/// Whether what is outstanding of each portion of an instalment is less than a quarter of 2^64 cents.
+/// Whether what is outstanding of an instalment over all portions is less than 2^64 cents.
 fn is_small(row: &Row) -> bool
-    ensures { IsTrue result → IsRowSmall row.now }
+    ensures { IsTrue result ↔ IsRowSmall row.now }
 {
-    let penalty = row.outstanding(Portion::Penalty);
-    let fee = row.outstanding(Portion::Fee);
-    let interest = row.outstanding(Portion::Interest);
-    let principal = row.outstanding(Portion::Principal);
-    let most = u64::MAX / 4;
-    penalty <= most && fee <= most && interest <= most && principal <= most
+    let penalty = row.outstanding(Portion::Penalty) as u128;
+    let fee = row.outstanding(Portion::Fee) as u128;
+    let interest = row.outstanding(Portion::Interest) as u128;
+    let principal = row.outstanding(Portion::Principal) as u128;
+    penalty + fee + interest + principal <= u64::MAX as u128
+}
+
+/// Whether instalments are no more than any loan's, each with less than 2^64 cents outstanding.
+fn are_tellable(rows: &[Row]) -> bool
+    ensures { IsTrue result ↔ ((length rows.now ≤ 360) × AreRowsSmall rows.now) }
+{
+    rows.len() <= 360 && rows.iter().all(|row| is_small(row))
 }
 
 /// The instalments of an account as they stand, by number. The only error is F20, out of memory.
@@ -71,15 +78,32 @@ pub fn instalment_lines(alloc: Global, account: &LoanAccount) -> Result<Instalme
     Ok(Listing::new(lines))
 }
 
-/// Instalments that were read, as they stand, by number. F20 where out of memory, and where they are no loan's: more
-/// than 360, or one of which more is outstanding than any loan owes.
+/// Instalments that were read, as they stand, by number. None where they are no loan's: more than 360, or one of which
+/// 2^64 cents or more are outstanding. The only error is F20, out of memory.
+pub fn instalment_lines_of_rows(
+    alloc: Global,
+    rows: &[Row],
+) -> Result<Option<InstalmentList>, Fault>
+    ensures lines { IfOk result (λ found. IfSome found (λ lines. lines ≡ instalments_from 1 rows.now)) }
+    ensures some { length rows.now ≤ 360 → AreRowsSmall rows.now → IfOk result (λ found. found ≢ None) }
+    ensures loan { (loan : Loan) → IsSound loan → rows.now ≡ (state_of_loan loan).rows
+        → IfOk result (λ found. found ≡ Some (instalments_of loan)) }
+    ensures only { IsOkUnless result Fault.F20 }
+{
+    if !are_tellable(rows) {
+        return Ok(None);
+    }
+    let lines = lines_of(alloc, rows)?;
+    Ok(Some(Listing::new(lines)))
+}
+
+/// The same, with F20 also where they are no loan's.
 pub fn instalment_lines_of(alloc: Global, rows: &[Row]) -> Result<InstalmentList, Fault>
     ensures lines { IfOk result (λ lines. lines ≡ instalments_from 1 rows.now) }
     ensures only { IsOkUnless result Fault.F20 }
 {
-    if rows.len() > 360 || !rows.iter().all(|row| is_small(row)) {
-        return Err(Fault::F20);
+    match instalment_lines_of_rows(alloc, rows)? {
+        Some(lines) => Ok(lines),
+        None => Err(Fault::F20),
     }
-    let lines = lines_of(alloc, rows)?;
-    Ok(Listing::new(lines))
 }

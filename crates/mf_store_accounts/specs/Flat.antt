@@ -2,16 +2,12 @@
 use Rattle.std.specs.Prelude.{ℕ, zero, suc, pos, Bool, true, false, ◌+◌, length, slice_index, List, [], ◌∷◌, ◌++◌, map}
 use Rattle.std.specs.Prelude.{option_map, Option, Some, None, nat_le}
 use Rattle.mf_account.specs.declared.entry.Entry.{Entry}
-use Rattle.mf_account.specs.declared.settled.How.{How}
-use Rattle.mf_account.specs.declared.settled.How.TheVariants.{Paid, Waived, WrittenOff}
 use Rattle.mf_account.specs.declared.settled.Settled.{Settled}
 use Rattle.mf_account.specs.Change.{settled_in}
+pub use Rattle.mf_account.specs.Names.{entry_kind_number, how_number}
 use Rattle.mf_account.specs.Loan.{Loan as Running, state_of_loan, settled_of_loan}
+pub use Rattle.mf_alloc.specs.Portions.{portion_number}
 use Rattle.mf_alloc.specs.Sums.{Sums}
-use Rattle.mf_account.specs.declared.entry.Kind.{Kind}
-use Rattle.mf_account.specs.declared.entry.Kind.TheVariants.{Repay, Fee, Penalty, Waive, WriteOff, Refund}
-use Rattle.mf_alloc.specs.declared.row.Portion.{Portion}
-use Rattle.mf_alloc.specs.declared.row.Portion.TheVariants as portion
 use Rattle.mf_base.specs.Choices.{frequency_number}
 use Rattle.mf_base.specs.DayText.{day_text}
 use Rattle.mf_catalog.specs.Names.{kind_number, calc_number, method_number, strategy_number}
@@ -61,22 +57,6 @@ approval_text Rejected = None
 -- the text of the day on which a loan was disbursed
 abbrev pub disbursal_text : Stage → Option (List ℕ)
 disbursal_text stage = option_map day_text (disbursed_on stage)
-
--- the number by which a kind of entry is kept
-abbrev pub entry_kind_number : Kind → ℕ
-entry_kind_number Repay = 1
-entry_kind_number Fee = 2
-entry_kind_number Penalty = 3
-entry_kind_number Waive = 4
-entry_kind_number WriteOff = 5
-entry_kind_number Refund = 6
-
--- the number by which a portion of an instalment is kept
-abbrev pub portion_number : Portion → ℕ
-portion_number portion.Penalty = 1
-portion_number portion.Fee = 2
-portion_number portion.Interest = 3
-portion_number portion.Principal = 4
 
 -- the row of meta of a business day
 abbrev pub meta_on : ℕ → MetaRow
@@ -181,12 +161,6 @@ instalment_in office loan numbered = record {
   waived_principal = pos (slice_index numbered.1.waived 3);
   written_off_principal = pos (slice_index numbered.1.written_off 3);
 }
-
--- the number by which a way of settling is kept
-abbrev pub how_number : How → ℕ
-how_number Paid = 1
-how_number Waived = 2
-how_number WrittenOff = 3
 
 -- the row of what an entry settled in a cell, with the entry's number and its place within the entry: office, loan
 abbrev pub share_in : ℕ → ℕ → ℕ × (ℕ × Settled) → ShareRow

@@ -7,9 +7,10 @@ ghost use Rattle.mf_account.specs.declared.entry.Entry.{Entry as ModelEntry};
 ghost use Rattle.mf_store_accounts.specs.Ledgers.{IsReadable};
 ghost use Rattle.mf_store_accounts.specs.Flat.{entry_in};
 
-use crate::numbers::{amount_from, flag_from, kind_from, portion_from};
-use mf_account::{Entry, Receipt};
-use mf_base::{Day, Fault};
+use crate::numbers::{amount_from, flag_from};
+use mf_account::{Entry, Kind, Receipt};
+use mf_alloc::Portion;
+use mf_base::{Choice, Day, Fault};
 use mf_office::Caller;
 use mf_store_records::EntryRow;
 use std::alloc::Global;
@@ -36,8 +37,8 @@ fn entry_of(alloc: Global, row: &EntryRow) -> Result<Option<Entry>, Fault>
 {
     let receipt = receipt_of(alloc, row)?;
     match (
-        kind_from(row.kind),
-        portion_from(row.portion),
+        Kind::from_number(row.kind),
+        Portion::from_number(row.portion),
         flag_from(row.reversed),
         amount_from(row.amount),
         Day::parse(row.day.as_str().as_bytes()),

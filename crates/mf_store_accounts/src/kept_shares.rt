@@ -5,9 +5,10 @@ ghost use Rattle.mf_account.specs.declared.settled.Settled.{Settled as Part};
 ghost use Rattle.mf_store_accounts.specs.Flat.{share_in};
 ghost use Rattle.mf_store_accounts.specs.Kept.{part_told};
 
-use crate::numbers::{amount_from, how_from, portion_from};
-use mf_account::Settled;
-use mf_alloc::Cell;
+use crate::numbers::amount_from;
+use mf_account::{How, Settled};
+use mf_alloc::{Cell, Portion};
+use mf_base::Choice;
 use mf_store_records::ShareRow;
 
 /// The part of a cell whose row this is, or None where it is that of none.
@@ -16,8 +17,8 @@ pub fn part_of(row: &ShareRow) -> Option<Settled>
         → result ≡ Some (part_told placed) }
 {
     match (
-        portion_from(row.portion),
-        how_from(row.how),
+        Portion::from_number(row.portion),
+        How::from_number(row.how),
         amount_from(row.amount),
     ) {
         (Some(portion), Some(how), Some(amount)) => Some(Settled {

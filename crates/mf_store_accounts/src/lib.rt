@@ -17,10 +17,7 @@ pub use account_rows::{are_accounts, rows_of_accounts};
 pub use accounts::account_of;
 pub use instalments::instalment_row;
 pub use kept_shares::part_of;
-pub use numbers::{
-    amount_from, flag_from, how_from, kind_from, number_of_how, number_of_portion, portion_from,
-    signed,
-};
+pub use numbers::{amount_from, flag_from, signed};
 pub use row_numbers::row_numbered;
 pub use same::{Same, are_same};
 pub use shares::share_row;

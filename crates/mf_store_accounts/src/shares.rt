@@ -9,9 +9,9 @@ ghost use Rattle.mf_account.specs.declared.settled.Settled.{Settled as Part};
 ghost use Rattle.mf_store_accounts.specs.Flat.{share_in, parts_from};
 ghost use Rattle.mf_store_accounts.specs.Kept.{next_place as place_after, placed_from};
 
-use crate::numbers::{number_of_how, number_of_portion, signed};
+use crate::numbers::signed;
 use mf_account::{LoanAccount, Settled};
-use mf_base::Fault;
+use mf_base::{Choice, Fault};
 use mf_store_records::ShareRow;
 use std::alloc::Global;
 
@@ -33,8 +33,8 @@ pub fn share_row(
         seq,
         place,
         instalment: part.cell.instalment,
-        portion: number_of_portion(part.cell.portion),
-        how: number_of_how(part.how),
+        portion: part.cell.portion.number(),
+        how: part.how.number(),
         amount,
     })
 }

@@ -2,29 +2,15 @@
 
 ghost use Rattle.std.specs.Prelude.{◌≡◌, IfOk, IfErr, ◌≤◌, ◌-◌, length, Some, OnOk};
 ghost use Rattle.mf_base.specs.declared.fault.Fault.TheVariants.{F20};
-ghost use Rattle.mf_store_accounts.specs.Flat.{entry_in, entry_kind_number};
+ghost use Rattle.mf_store_accounts.specs.Flat.{entry_in};
 ghost use Rattle.mf_account.specs.Standing.{entry_at};
 
 use crate::loans::text_of_day;
-use mf_account::{Entry, Kind, LoanAccount, Receipt};
-use mf_base::Fault;
-use mf_store_accounts::{number_of_portion, signed};
+use mf_account::{Entry, LoanAccount, Receipt};
+use mf_base::{Choice, Fault};
+use mf_store_accounts::signed;
 use mf_store_records::{EntryRow, Text};
 use std::alloc::Global;
-
-/// The number by which a kind is kept.
-fn kind_number(kind: Kind) -> u32
-    ensures { result ≡ entry_kind_number kind }
-{
-    match kind {
-        Kind::Repay => 1,
-        Kind::Fee => 2,
-        Kind::Penalty => 3,
-        Kind::Waive => 4,
-        Kind::WriteOff => 5,
-        Kind::Refund => 6,
-    }
-}
 
 /// The text of a receipt, where there is one.
 fn receipt_text(alloc: Global, receipt: &Option<Receipt>) -> Result<Option<Text>, Fault>
@@ -53,11 +39,11 @@ fn entry_row(alloc: Global, office: u32, loan: u32, entry: &Entry) -> Result<Ent
         office,
         loan,
         seq: entry.seq,
-        kind: kind_number(entry.kind),
+        kind: entry.kind.number(),
         day,
         amount,
         instalment: entry.instalment,
-        portion: number_of_portion(entry.portion),
+        portion: entry.portion.number(),
         receipt,
         staff: Text::new(staff),
         reversed: entry.reversed as u32,

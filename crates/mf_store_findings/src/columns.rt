@@ -4,16 +4,17 @@ ghost use Rattle.std.specs.Prelude.{◌≡◌, ◌≢◌, ℕ, pos, ◌≤◌, �
 ghost use Rattle.mf_account.specs.Loan.{HasColumns};
 ghost use Rattle.mf_account.specs.Receipts.{IsReceipt};
 ghost use Rattle.mf_account.specs.declared.entry.Entry.{Entry};
-ghost use Rattle.mf_store_accounts.specs.Flat.{entry_in, portion_number};
+ghost use Rattle.mf_alloc.specs.Portions.{portion_number};
+ghost use Rattle.mf_store_accounts.specs.Flat.{entry_in};
 ghost use Rattle.mf_store_accounts.specs.Ledgers.{IsReadable};
 ghost use Rattle.mf_store_findings.specs.Entries.{HasWrongColumns};
 
 use mf_account::{Kind, is_receipt};
 use mf_alloc::Portion;
-use mf_base::Day;
+use mf_base::{Choice, Day};
 use mf_catalog::GREATEST_AMOUNT;
 use mf_office::Caller;
-use mf_store_accounts::{amount_from, flag_from, kind_from, number_of_portion, portion_from};
+use mf_store_accounts::{amount_from, flag_from};
 use mf_store_records::EntryRow;
 
 /// Whether the numbers and texts of a row are those of an entry.
@@ -21,8 +22,8 @@ pub(crate) fn is_readable(row: &EntryRow) -> bool
     ensures { IsTrue result ↔ ((e : Entry) × IsReadable e × (entry_in row.now.office row.now.loan e ≡ row.now)) }
 {
     match (
-        kind_from(row.kind),
-        portion_from(row.portion),
+        Kind::from_number(row.kind),
+        Portion::from_number(row.portion),
         flag_from(row.reversed),
         amount_from(row.amount),
         Day::parse(row.day.as_str().as_bytes()),
@@ -56,7 +57,7 @@ fn is_charge(portion: Portion, periods: u32, row: &EntryRow) -> bool
 {
     is_amount(row.amount)
         && is_instalment(periods, row)
-        && row.portion == number_of_portion(portion)
+        && row.portion == portion.number()
         && row.receipt.is_none()
 }
 
@@ -65,9 +66,7 @@ fn is_repayment(row: &EntryRow) -> bool
     ensures { (amount : ℕ) → pos amount ≡ row.now.amount →
         IsTrue result ↔ ((1 ≤ amount) × (amount ≤ 10 ^ 12) × (row.now.instalment ≡ 0) × (row.now.portion ≡ 4)) }
 {
-    is_amount(row.amount)
-        && row.instalment == 0
-        && row.portion == number_of_portion(Portion::Principal)
+    is_amount(row.amount) && row.instalment == 0 && row.portion == Portion::Principal.number()
 }
 
 /// Whether a row's columns are those of a waiver.
@@ -79,7 +78,7 @@ fn is_waiver(periods: u32, row: &EntryRow) -> bool
 {
     row.amount == 0
         && is_instalment(periods, row)
-        && row.portion != number_of_portion(Portion::Principal)
+        && row.portion != Portion::Principal.number()
         && row.receipt.is_none()
 }
 
@@ -90,7 +89,7 @@ fn is_sealing(row: &EntryRow) -> bool
 {
     row.amount == 0
         && row.instalment == 0
-        && row.portion == number_of_portion(Portion::Principal)
+        && row.portion == Portion::Principal.number()
         && row.receipt.is_none()
 }
 
@@ -99,7 +98,7 @@ fn has_columns(periods: u32, row: &EntryRow) -> bool
     ensures { (e : Entry) → entry_in row.now.office row.now.loan e ≡ row.now →
         IsTrue result ↔ HasColumns e.kind periods e }
 {
-    match kind_from(row.kind) {
+    match Kind::from_number(row.kind) {
         Some(Kind::Repay) => is_repayment(row),
         Some(Kind::Fee) => is_charge(Portion::Fee, periods, row),
         Some(Kind::Penalty) => is_charge(Portion::Penalty, periods, row),

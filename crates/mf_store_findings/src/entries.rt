@@ -18,10 +18,11 @@ use crate::places::row_before;
 use crate::receipts::is_listed;
 use crate::rows::find_row;
 use crate::seals::is_not_last;
-use mf_account::MOST_ENTRIES;
-use mf_base::Day;
+use mf_account::{Kind, MOST_ENTRIES};
+use mf_alloc::Portion;
+use mf_base::{Choice, Day};
 use mf_office::Caller;
-use mf_store_accounts::{amount_from, flag_from, kind_from, portion_from};
+use mf_store_accounts::{amount_from, flag_from};
 use mf_store_records::{EntryRow, LoanRow, ReceiptRow, StaffRow};
 use std::cmp::Ordering;
 
@@ -170,7 +171,7 @@ fn number_flaw(
     if row.seq > MOST_ENTRIES as u32 {
         return Some(EntryFlaw::Limit);
     }
-    if kind_from(row.kind).is_none() {
+    if Kind::from_number(row.kind).is_none() {
         return Some(EntryFlaw::Kind);
     }
     None
@@ -224,7 +225,7 @@ fn column_flaw(
     if amount_from(row.amount).is_none() {
         return Some(EntryFlaw::Amount);
     }
-    if portion_from(row.portion).is_none() {
+    if Portion::from_number(row.portion).is_none() {
         return Some(EntryFlaw::Portion);
     }
     if flag_from(row.reversed).is_none() {

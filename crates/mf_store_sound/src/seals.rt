@@ -9,8 +9,8 @@ ghost use Rattle.mf_account.specs.declared.entry.Entry.{Entry};
 ghost use Rattle.mf_store_accounts.specs.Ledgers.{IsReadable};
 ghost use Rattle.mf_store_accounts.specs.Flat.{entry_in};
 
-use mf_base::Day;
-use mf_store_accounts::kind_from;
+use mf_account::Kind;
+use mf_base::{Choice, Day};
 use mf_store_records::EntryRow;
 
 /// Whether the entry of a row comes before that of another: by day, then by number.
@@ -32,7 +32,7 @@ fn is_before(row: &EntryRow, last: &EntryRow) -> bool
 pub fn is_seal(row: &EntryRow) -> bool
     ensures { (x m : ℕ) (e : Entry) → entry_in x m e ≡ row.now → result ≡ is_seal_kind e.kind }
 {
-    match kind_from(row.kind) {
+    match Kind::from_number(row.kind) {
         Some(kind) => kind.is_seal(),
         None => false,
     }

@@ -1,113 +1,20 @@
 -- An office's line as it grows, an instalment at a time, and what it comes to.
-use Rattle.std.proofs.Common.{◌≡◌, ◌≢◌, ◌<◌, ◌+◌, ◌==◌, ℕ, Bool, true, false, cond, ◌||◌, List, [], ◌∷◌, ◌++◌, map}
-use Rattle.std.proofs.Common.{filter, fold, Option, None, Some, refl, sym, ap, ap₂, ◌∙◌, subst, arith, pos}
-use Rattle.std.specs.List.{AllByRecursion, list_any}
-use Rattle.std.specs.Option.{is_some}
+use Rattle.std.proofs.Common.{◌≡◌, ◌<◌, ◌==◌, ℕ, true, false, cond, List, [], ◌∷◌, ◌++◌, map}
+use Rattle.std.proofs.Common.{refl, sym, ap, ap₂, ◌∙◌, subst, arith}
+use Rattle.std.specs.List.{AllByRecursion}
 use Rattle.std.proofs.lemmas.Bool.Decides.{nat_tests}
 use Rattle.std.proofs.lemmas.List.{map-append, append-nil, append_assoc}
-use Rattle.std.proofs.lemmas.List.Elements.{filter-append}
-use Rattle.std.proofs.lemmas.List.Sums.{fold-append, sum_by_push}
 use Rattle.sqlite_keyed.proofs.ListLemmas.{all-append}
 use Rattle.sqlite.specs.Order.{Row}
-use Rattle.mf_alloc.specs.Sums.{Sums, IsWhole, open_at, is_open}
-use Rattle.mf_account.specs.Balance.{open_in}
-use Rattle.mf_arrears.specs.Ageing.{earlier, earliest_due, days_since}
+use Rattle.mf_alloc.specs.Sums.{Sums, IsWhole}
 use Rattle.mf_arrears.specs.Line.{Loan as Aged, Line, line_of}
+use Rattle.mf_arrears.specs.Folding.{LoanSoFar, aged_by, nothing_of, Progress, step, IsAt}
+use Rattle.mf_arrears.proofs.FoldLemmas.{aged_same}
 use Rattle.mf_store_records.specs.Rows.{instalment_row as instalment_stored}
 use Rattle.mf_store_accounts.specs.Flat.{instalment_in}
 use Rattle.mf_store_values.specs.Arrears.{NumberedLoan, AreAbove, AreWholeLoans, rows_of_loan, rows_of_office}
 use Rattle.mf_store_values.specs.Arrears.{aged_rows, aged_loans, IsLineOf}
-use Rattle.mf_store_values.specs.Folding.{aged_by, with_row, Progress, step, IsAt, IsReadAs}
-use Rattle.mf_store_values.specs.declared.fold.LoanSoFar.{LoanSoFar}
-
--- ---- one loan
-
-abbrev due_of : Sums → ℕ
-due_of row = row.due
-
--- the earliest due day with one instalment more
-due_more : (rows : List Sums) (row : Sums) → earliest_due (rows ++ row ∷ []) ≡ cond (is_open row)
-    (earlier (earliest_due rows) row.due) (earliest_due rows)
-due_more rows row = ap (λ l. fold earlier None (map due_of l)) (filter-append is_open rows (row ∷ []))
-    ∙ go (is_open row)
-  where
-    go : (b : Bool) → fold earlier None (map due_of (filter is_open rows ++ cond b (row ∷ []) []))
-        ≡ cond b (earlier (earliest_due rows) row.due) (earliest_due rows)
-    go true = ap (fold earlier None) (map-append due_of (filter is_open rows) (row ∷ []))
-        ∙ fold-append earlier None (map due_of (filter is_open rows)) (row.due ∷ [])
-    go false = ap (λ l. fold earlier None (map due_of l)) (append-nil (filter is_open rows))
-
--- there is a due day where something is outstanding
-some_due : (o : Option ℕ) (rows : List Sums) → is_some (fold earlier o (map due_of (filter is_open rows)))
-    ≡ (is_some o || list_any is_open rows)
-some_due None [] = refl
-some_due (Some d) [] = refl
-some_due o (row ∷ rows) = go (is_open row) (some_due (earlier o row.due) rows ∙ now_some o row.due) (some_due o rows)
-  where
-    now_some : (o : Option ℕ) (d : ℕ) → (is_some (earlier o d) || list_any is_open rows) ≡ (is_some o || true)
-    now_some None d = refl
-    now_some (Some e) d = refl
-
-    go : (b : Bool) → is_some (fold earlier (earlier o row.due) (map due_of (filter is_open rows)))
-        ≡ (is_some o || true) → is_some (fold earlier o (map due_of (filter is_open rows)))
-        ≡ (is_some o || list_any is_open rows)
-        → is_some (fold earlier o (map due_of (cond b (row ∷ filter is_open rows) (filter is_open rows))))
-        ≡ (is_some o || (b || list_any is_open rows))
-    go true counted left = counted
-    go false counted left = left
-
--- a loan is told by its earliest due day
-aged_same : (today : ℕ) (rows : List Sums) → aged_by today (open_in 3 rows) (earliest_due rows) ≡ aged_rows today rows
-aged_same today rows = split (earliest_due rows) (some_due None rows)
-  where
-    split : (o : Option ℕ) → is_some o ≡ list_any is_open rows → aged_by today (open_in 3 rows) o
-        ≡ cond (list_any is_open rows) (record { principal = open_in 3 rows; days = pos (days_since today o) } ∷ []) []
-    split None e = ap (λ b. cond b (record { principal = open_in 3 rows; days = pos (days_since today None) } ∷ []) [])
-        e
-    split (Some d) e =
-        ap (λ b. cond b (record { principal = open_in 3 rows; days = pos (days_since today (Some d)) } ∷ []) []) e
-
--- ---- an instalment more
-
-row_more : (office : ℕ) (p : Progress) (old new : LoanSoFar) (line : Line) (row : Sums) → IsAt office p old line
-    → new ≡ with_row old row → IsAt office (record p { rows = p.rows ++ row ∷ [] }) new line
-row_more office p old new line row at is = record {
-  loan = ap (λ (r : LoanSoFar). r.loan) is ∙ at.loan;
-  principal = ap (λ (r : LoanSoFar). r.principal) is ∙ ap (λ n. n + open_at row 3) at.principal
-      ∙ sym (sum_by_push (λ (r : Sums). open_at r 3) p.rows row);
-  due = ap (λ (r : LoanSoFar). r.due) is ∙ ap (λ o. cond (is_open row) (earlier o row.due) o) at.due
-      ∙ sym (due_more p.rows row);
-  line_is = at.line_is;
-}
-
--- of the loan that is read
-pub same_loan : (office today : ℕ) (p : Progress) (old new : LoanSoFar) (line : Line) (loan : ℕ) (row : Sums) → loan
-    ≡ old.loan → new ≡ with_row old row → IsAt office p old line → IsAt office (step today p (loan, row)) new line
-same_loan office today p old new line loan row same is at =
-    let own : loan ≡ p.loan = same ∙ at.loan in
-    let yes : (loan == p.loan) ≡ true = grind (arith, nat_tests) in
-    rw yes (row_more office p old new line row at is)
-
--- the first of another
-pub next_loan : (office today : ℕ) (p : Progress) (old fresh new : LoanSoFar) (line after : Line) (loan : ℕ)
-    (row : Sums) → loan ≢ old.loan → fresh ≡ record { loan = loan; principal = 0; due = None }
-    → new ≡ with_row fresh row
-    → ((x : ℕ) (loans : List Aged) → line ≡ line_of x loans → after ≡ line_of x (loans ++ aged_by today old.principal
-    old.due)) → IsAt office p old line → IsAt office (step today p (loan, row)) new after
-next_loan office today p old fresh new line after loan row apart begun is added at =
-    let other : loan ≢ p.loan = λ e. apart (e ∙ sym at.loan) in
-    let no : (loan == p.loan) ≡ false = grind (arith, nat_tests) in
-    let closed : aged_by today old.principal old.due ≡ aged_rows today p.rows =
-    (λ t. aged_by today (at.principal t) (at.due t)) ∙ aged_same today p.rows in
-    let start : IsAt office (record { counted = p.counted ++ aged_rows today p.rows; loan = loan; rows = [] }) fresh
-    after = record {
-      loan = ap (λ (r : LoanSoFar). r.loan) begun;
-      principal = ap (λ (r : LoanSoFar). r.principal) begun;
-      due = ap (λ (r : LoanSoFar). r.due) begun;
-      line_is = added office p.counted at.line_is ∙ ap (λ l. line_of office (p.counted ++ l)) closed;
-    } in
-    rw no (row_more office (record { counted = p.counted ++ aged_rows today p.rows; loan = loan; rows = [] }) fresh new
-    after row start is)
+use Rattle.mf_store_values.specs.Folding.{IsReadAs}
 
 -- ---- all instalments of an office, in turn
 
@@ -225,8 +132,7 @@ pub record Tells (today : ℕ) (taken : List Row) (empty : Line) (read : LoanSoF
       → empty ≡ line_of office [] → IsAt office (run today start items) read line
 
 -- nothing is taken yet
-pub tells_none : (today : ℕ) (line : Line) (read : LoanSoFar) → read ≡ record { loan = 0; principal = 0; due = None }
-    → Tells today [] line read line
+pub tells_none : (today : ℕ) (line : Line) (read : LoanSoFar) → read ≡ nothing_of 0 → Tells today [] line read line
 tells_none today line read is = record { all = λ office items whole are new. none office items are new }
   where
     none : (office : ℕ) (items : List Item) → [] ≡ map (item_row office) items → line ≡ line_of office []

@@ -57,6 +57,11 @@ pub no_ok : {A E : Type 0} (r : Result A E) (P : Type 0) → IsErr r → OnOk r 
 no_ok (Ok x) P h = absurd (true≢false (sym h))
 no_ok (Err e) P h = tt
 
+-- what holds of each error holds of the one that is answered
+pub each_err : {A E : Type 0} (r : Result A E) (P : E → Type 0) → ((e : E) → P e) → IfErr r P
+each_err (Ok x) P all = tt
+each_err (Err e) P all = all e
+
 pub clean_before : {P : Trees → Type 0} (was is : State) → Survives was is P → HasCleanDisk is → HasCleanDisk was
 clean_before was is survives clean = omega (arith, survives.clean, clean)
 

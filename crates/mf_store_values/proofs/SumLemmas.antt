@@ -1,6 +1,6 @@
 -- The sums of an office's line stay low where its loans are within the bounds, so that no row of theirs is refused.
 use Rattle.std.proofs.Common.{◌≡◌, ◌⊎◌, ◌<◌, ◌≤◌, ◌+◌, ◌^◌, ◌==◌, ℕ, Bool, true, false, cond, List, [], ◌∷◌, ◌++◌, map}
-use Rattle.std.proofs.Common.{length, refl, sym, ap, ◌∙◌, subst, arith, inl, inr, length-append}
+use Rattle.std.proofs.Common.{length, refl, sym, ap, ◌∙◌, subst, arith, length-append}
 use Rattle.std.specs.List.{AllByRecursion, list_any}
 use Rattle.std.proofs.lemmas.Bool.Decides.{nat_tests}
 use Rattle.std.proofs.lemmas.List.{append-nil, append_assoc}
@@ -9,9 +9,10 @@ use Rattle.sqlite.specs.Order.{Row}
 use Rattle.mf_alloc.specs.Sums.{Sums, open_at, is_open}
 use Rattle.mf_account.specs.Balance.{open_in}
 use Rattle.mf_arrears.specs.Line.{Line}
+use Rattle.mf_arrears.specs.Folding.{LoanSoFar, Progress, step, IsLow, IsAt}
+use Rattle.mf_arrears.proofs.SumLemmas.{count_over}
 use Rattle.mf_store_values.specs.Arrears.{NumberedLoan, AreAbove, aged_rows}
-use Rattle.mf_store_values.specs.Folding.{Progress, step, IsLow, IsAt, IsReadAs, principal_of, AreWithinSums, IsOver}
-use Rattle.mf_store_values.specs.declared.fold.LoanSoFar.{LoanSoFar}
+use Rattle.mf_store_values.specs.Folding.{IsReadAs, principal_of, AreWithinSums, IsOver}
 use Rattle.mf_store_values.proofs.FoldLemmas.{Item, run, start, item_row, own, placed, sums_in, lower, placed_rows}
 use Rattle.mf_store_values.proofs.FoldLemmas.{placed_whole, AreWholeItems, Tells}
 
@@ -136,19 +137,6 @@ whole_back : (xs ys : List Item) → AreWholeItems (xs ++ ys) → AreWholeItems 
 whole_back [] ys all = all
 whole_back (x ∷ xs) ys all = whole_back xs ys all.1
 
--- a loan within the bounds is not refused when it is counted
-pub count_over : (office : ℕ) (p : Progress) (read : LoanSoFar) (line : Line) → (10 ^ 12 < read.principal)
-    ⊎ (10 ^ 10 ≤ line.loans) → IsAt office p read line → IsLow p → ⊥
-count_over office p read line great at low =
-    let small = low.small in
-    let few = low.few in
-    let principal : read.principal ≡ open_in 3 p.rows = at.principal in
-    let count : line.loans ≡ length p.counted = ap (λ (l : Line). l.loans) at.line_is in
-    elim great [
-      | inl large ↦ omega (arith, large, principal, small)
-      | inr many ↦ omega (arith, many, count, few)
-    ]
-
 -- nor the last one
 pub over_at_end : (today : ℕ) (taken : List Row) (empty : Line) (read : LoanSoFar) (line : Line)
     → (10 ^ 12 < read.principal) ⊎ (10 ^ 10 ≤ line.loans) → Tells today taken empty read line → IsOver taken empty
@@ -184,46 +172,3 @@ over_at_row today taken row found empty read line reads refused tells office loa
         let here : found ≡ (x.0, x.1.1) = reads office x.0 x.1.0 x.1.1 wholes.0 own_row in
         refused office p at lows.0 (subst (λ (f : ℕ × Sums). IsLow (step today p f)) (sym here)
         (low_first today (step today p (x.0, x.1.1)) others lows.1))
-
--- what is refused when it is added to what is read of a loan, or when that loan is counted before
-pub row_over : (today : ℕ) (p : Progress) (principal : ℕ) (found : ℕ × Sums) → (found.0 == p.loan) ≡ true
-    → principal ≡ open_in 3 p.rows → 2 ^ 64 ≤ principal + open_at found.1 3 → IsLow (step today p found) → ⊥
-row_over today p principal found same is great low =
-    let small : open_in 3 (p.rows ++ found.1 ∷ []) ≤ 10 ^ 12 =
-    (subst (λ (b : Bool). IsLow (cond b (record p { rows = p.rows ++ found.1 ∷ [] }) (record {
-      counted = p.counted
-          ++ aged_rows today p.rows;
-      loan = found.0;
-      rows = found.1 ∷ [];
-    }))) same low).small in
-    let sum = sum_by-append (λ (r : Sums). open_at r 3) p.rows (found.1 ∷ []) in
-    omega (arith, is, great, small, sum)
-
-pub first_over : (today : ℕ) (p : Progress) (found : ℕ × Sums) → (found.0 == p.loan) ≡ false
-    → 2 ^ 64 ≤ open_at found.1 3 → IsLow (step today p found) → ⊥
-first_over today p found other great low =
-    let small : open_in 3 (found.1 ∷ []) ≤ 10 ^ 12 =
-    (subst (λ (b : Bool). IsLow (cond b (record p { rows = p.rows ++ found.1 ∷ [] }) (record {
-      counted = p.counted
-          ++ aged_rows today p.rows;
-      loan = found.0;
-      rows = found.1 ∷ [];
-    }))) other low).small in
-    omega (arith, great, small)
-
--- the same at what is read of a loan and its office's line
-pub same_over : (office today : ℕ) (p : Progress) (read : LoanSoFar) (line : Line) (loan : ℕ) (row : Sums)
-    → loan ≡ read.loan → 2 ^ 64 ≤ read.principal + open_at row 3 → IsAt office p read line
-    → IsLow (step today p (loan, row)) → ⊥
-same_over office today p read line loan row same great at low =
-    let own_loan : loan ≡ p.loan = same ∙ at.loan in
-    let yes : (loan == p.loan) ≡ true = grind (arith, nat_tests) in
-    row_over today p read.principal (loan, row) yes at.principal great low
-
-pub next_over : (office today : ℕ) (p : Progress) (read fresh : LoanSoFar) (line : Line) (loan : ℕ) (row : Sums)
-    → (loan ≡ read.loan → ⊥) → fresh.principal ≡ 0 → 2 ^ 64 ≤ fresh.principal + open_at row 3 → IsAt office p read line
-    → IsLow (step today p (loan, row)) → ⊥
-next_over office today p read fresh line loan row apart none great at low =
-    let other : loan ≡ p.loan → ⊥ = λ e. apart (e ∙ sym at.loan) in
-    let no : (loan == p.loan) ≡ false = grind (arith, nat_tests) in
-    first_over today p (loan, row) no (omega (arith, none, great)) low

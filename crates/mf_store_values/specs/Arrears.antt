@@ -1,11 +1,10 @@
 -- What the report of arrears is made of, a loan and an office at a time.
-use Rattle.std.specs.Prelude.{◌≡◌, ◌<◌, ℕ, cond, List, [], ◌∷◌, map, pos}
-use Rattle.std.specs.List.{AllByRecursion, flat_map, list_any}
+use Rattle.std.specs.Prelude.{◌≡◌, ◌<◌, ℕ, List, [], ◌∷◌, map}
+use Rattle.std.specs.List.{AllByRecursion, flat_map}
 use Rattle.sqlite.specs.Order.{Row}
-use Rattle.mf_alloc.specs.Sums.{Sums, IsWhole, is_open}
-use Rattle.mf_account.specs.Balance.{open_in}
+use Rattle.mf_alloc.specs.Sums.{Sums, IsWhole}
 use Rattle.mf_office.specs.declared.office.Office.{Office}
-use Rattle.mf_arrears.specs.Ageing.{days_overdue}
+pub use Rattle.mf_arrears.specs.Folding.{aged_rows}
 use Rattle.mf_arrears.specs.Line.{Loan as Aged, Line, line_of}
 use Rattle.mf_model.specs.Arrears.{active_in}
 use Rattle.mf_model.specs.Institution.{Institution}
@@ -17,11 +16,6 @@ use Rattle.mf_store_accounts.specs.Flat.{instalment_in}
 -- the line of an office as it is shown
 abbrev pub line_at : Institution → Office → Line
 line_at i f = line_of f.number (active_in i.catalogue (rows_at f.number i).loans)
-
--- a loan as the report counts it, by its instalments; none where nothing is outstanding
-abbrev pub aged_rows : ℕ → List Sums → List Aged
-aged_rows today rows =
-    cond (list_any is_open rows) (record { principal = open_in 3 rows; days = pos (days_overdue rows today) } ∷ []) []
 
 -- a loan by its number, with its instalments and their numbers
 abbrev pub NumberedLoan : Type 0

@@ -1,5 +1,5 @@
 -- What is known of rows that a query gives one at a time, and of the line that is made of them.
-use Rattle.std.specs.Prelude.{◌≡◌, ◌⊎◌, ℕ, ◌+◌, ◌^◌, ◌≤◌, cond, ◌==◌, List, [], ◌∷◌, ◌++◌, map, length, pos, Option}
+use Rattle.std.specs.Prelude.{◌≡◌, ◌⊎◌, ℕ, ◌^◌, ◌≤◌, List, [], ◌++◌, map, length, Option}
 use Rattle.std.specs.Prelude.{None, Some, Result, OnOk, IsTrue}
 use Rattle.std.specs.List.{AllByRecursion}
 use Rattle.sqlite.specs.Order.{Row}
@@ -8,52 +8,14 @@ use Rattle.sqlite.specs.Held.{Held, state}
 use Rattle.sqlite.specs.State.{HasCleanDisk, IsUnchanged, Begins, Shown, FailsToQuery}
 use Rattle.sqlite.specs.declared.error.Error.{Error}
 use Rattle.sqlite_trees.specs.declared.store.Store.{Ghosts}
-use Rattle.mf_alloc.specs.Sums.{Sums, IsWhole, open_at, is_open}
+use Rattle.mf_alloc.specs.Sums.{Sums, IsWhole}
 use Rattle.mf_account.specs.Balance.{open_in}
-use Rattle.mf_arrears.specs.Ageing.{earlier, earliest_due, days_since}
-use Rattle.mf_arrears.specs.Line.{Loan as Aged, Line, line_of}
+use Rattle.mf_arrears.specs.Line.{Line, line_of}
 use Rattle.mf_store_records.specs.Rows.{instalment_row as instalment_stored}
 use Rattle.mf_store_accounts.specs.Flat.{instalment_in}
-use Rattle.mf_store_values.specs.Arrears.{NumberedLoan, AreAbove, AreWholeLoans, rows_of_office, aged_rows, IsLineOf}
-use Rattle.mf_store_values.specs.declared.fold.LoanSoFar.{LoanSoFar}
+use Rattle.mf_store_values.specs.Arrears.{NumberedLoan, AreAbove, AreWholeLoans, rows_of_office, IsLineOf}
 use Rattle.mf_store_values.specs.declared.fold.NoLine.{NoLine}
 use Rattle.mf_store_values.specs.declared.fold.NoLine.TheVariants.{TooGreat}
-
--- ---- one loan
-
--- a loan as the report counts it, by the earliest due day of an instalment with something outstanding; none where there
--- is none
-abbrev pub aged_by : ℕ → ℕ → Option ℕ → List Aged
-aged_by today principal None = []
-aged_by today principal (Some due) = record { principal = principal; days = pos (days_since today (Some due)) } ∷ []
-
--- what is read of a loan, with one instalment more
-abbrev pub with_row : LoanSoFar → Sums → LoanSoFar
-with_row read row = record read {
-  principal = read.principal + open_at row 3;
-  due = cond (is_open row)
-      (earlier read.due row.due) read.due;
-}
-
--- ---- the loans of an office, an instalment at a time
-
--- the loans that are counted, and of the next its number and the instalments so far
-pub record Progress : Type 0 where
-  pub counted : List Aged
-  pub loan : ℕ
-  pub rows : List Sums
-
--- an instalment more, with the number of its loan; one of another loan ends the loan before
-abbrev pub step : ℕ → Progress → ℕ × Sums → Progress
-step today p item = cond (item.0 == p.loan) (record p { rows = p.rows ++ item.1 ∷ [] })
-    (record { counted = p.counted ++ aged_rows today p.rows; loan = item.0; rows = item.1 ∷ [] })
-
--- what is read of a loan, and its office's line, are so far
-pub record IsAt (office : ℕ) (p : Progress) (read : LoanSoFar) (line : Line) : Type 0 where
-  pub loan : read.loan ≡ p.loan
-  pub principal : read.principal ≡ open_in 3 p.rows
-  pub due : read.due ≡ earliest_due p.rows
-  pub line_is : line ≡ line_of office p.counted
 
 -- ---- what a line can sum
 
@@ -65,11 +27,6 @@ principal_of loan = open_in 3 (map (λ item. item.1) loan.1)
 pub record AreWithinSums (loans : List NumberedLoan) : Type 0 where
   pub few : length loans ≤ 999999
   pub small : AllByRecursion (λ loan. principal_of loan ≤ 10 ^ 12) loans
-
--- so far they are
-pub record IsLow (p : Progress) : Type 0 where
-  pub small : open_in 3 p.rows ≤ 10 ^ 12
-  pub few : length p.counted ≤ 999999
 
 -- the rows begin those of no office whose loans are within
 abbrev pub IsOver : List Row → Line → Type 0

@@ -12,10 +12,11 @@ ghost use Rattle.mf_store_accounts.specs.Flat.{entry_in};
 
 use crate::loans::day_from;
 use crate::values::{stored, unsigned};
-use mf_account::{Entry, Receipt};
-use mf_base::Fault;
+use mf_account::{Entry, Kind, Receipt};
+use mf_alloc::Portion;
+use mf_base::{Choice, Fault};
 use mf_office::Caller;
-use mf_store_accounts::{flag_from, kind_from, portion_from};
+use mf_store_accounts::flag_from;
 use mf_store_records::{EntryRow, Text, read_row};
 use sqlite::Row;
 use std::alloc::Global;
@@ -48,10 +49,10 @@ fn entry_from(row: EntryRow) -> Result<Entry, Fault>
         → row ≡ entry_in office loan e → entry ≡ e) }
     ensures gives_up { IfErr result (λ fault. fault ≡ F20) }
 {
-    let kind = stored(kind_from(row.kind))?;
+    let kind = stored(Kind::from_number(row.kind))?;
     let day = day_from(&row.day)?;
     let amount = unsigned(row.amount)?;
-    let portion = stored(portion_from(row.portion))?;
+    let portion = stored(Portion::from_number(row.portion))?;
     let staff = caller_from(&row.staff)?;
     let reversed = stored(flag_from(row.reversed))?;
     Ok(Entry {

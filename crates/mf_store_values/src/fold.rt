@@ -1,21 +1,17 @@
 //! An office's line of arrears from the rows of its loans' instalments, which a query gives by loan and number: one row
-//! is held at a time, and of the loan that is read what is outstanding of its principal and the earliest due day.
+//! is held at a time.
 
-ghost use Rattle.std.specs.Prelude.{◌≡◌, ◌⊎◌, ◌+◌, ◌^◌, ◌<◌, ◌≤◌, false, ℕ, List, ◌++◌, None, IsTrue, OnOk, OnErr};
-ghost use Rattle.std.specs.Prelude.{IfOk, IfErr};
+ghost use Rattle.std.specs.Prelude.{◌≡◌, false, IsTrue, OnOk, OnErr, IfOk, IfErr};
 ghost use Rattle.mf_base.specs.declared.fault.Fault.TheVariants.{F20};
-ghost use Rattle.mf_alloc.specs.Sums.{open_at};
-ghost use Rattle.mf_arrears.specs.Line.{Loan as Aged, line_of as line_of_loans};
 ghost use Rattle.sqlite.specs.State.{HasCleanDisk, IsUnchanged, Survives};
 ghost use Rattle.sqlite.specs.Held.{state};
-ghost use Rattle.mf_store_values.specs.Folding.{aged_by, with_row, Progress, step, IsLow, IsAt, IsReadAs, IsKept};
-ghost use Rattle.mf_store_values.specs.Folding.{Takes, Refuses, Folds, IsTooGreat};
+ghost use Rattle.mf_store_values.specs.declared.fold.NoLine.TheVariants.{TooGreat};
+ghost use Rattle.mf_store_values.specs.Folding.{IsReadAs, IsKept, Takes, Refuses, Folds, IsTooGreat};
 
 use crate::instalments::instalment_from;
-use mf_alloc::{Portion, Row as Instalment};
-use mf_arrears::{MOST_LOANS, OfficeLine, days_past, earlier};
+use mf_alloc::Row as Instalment;
+use mf_arrears::{LoanSoFar, OfficeLine, TooMuch};
 use mf_base::{Day, Fault};
-use mf_catalog::GREATEST_AMOUNT;
 use mf_store_records::{InstalmentRow, read_row};
 use sqlite::{Alter, Row, Rows};
 
@@ -28,80 +24,11 @@ pub enum NoLine {
     TooGreat,
 }
 
-/// What is read of a loan: its number, what is outstanding of its principal in cents, and the earliest due day of an
-/// instalment with something outstanding.
-#[derive(Clone, Copy)]
-struct LoanSoFar {
-    loan: u32,
-    principal: u64,
-    due: Option<Day>,
-}
+impl From<TooMuch> for NoLine {
+    ghost from_gives = { λ _ why. why ≡ TooGreat };
 
-impl LoanSoFar {
-    /// Nothing of a loan with this number.
-    fn new(loan: u32) -> LoanSoFar
-        ensures { result ≡ record { loan = loan; principal = 0; due = None } }
-    {
-        LoanSoFar {
-            loan,
-            principal: 0,
-            due: None,
-        }
-    }
-
-    /// Takes in an instalment of this loan.
-    fn add(&mut self, row: Instalment) -> Result<(), NoLine>
-        ensures value { OnOk result (self.new ≡ with_row self.old row) }
-        ensures too_great { IfErr result (λ why. (why ≡ NoLine.TooGreat)
-            × (2 ^ 64 ≤ self.old.principal + open_at row 3)) }
-    {
-        let principal = row.outstanding(Portion::Principal);
-        let Some(sum) = self.principal.checked_add(principal) else {
-            return Err(NoLine::TooGreat);
-        };
-        self.principal = sum;
-        if row.is_open() {
-            self.due = earlier(self.due, row.due);
-        }
-        Ok(())
-    }
-
-    /// Adds the loan to its office's line, where something is outstanding.
-    fn count(&self, today: Day, line: &mut OfficeLine) -> Result<(), NoLine>
-        ensures line { OnOk result ((office : ℕ) (loans : List Aged) → line.old ≡ line_of_loans office loans
-            → line.new ≡ line_of_loans office (loans ++ aged_by today self.now.principal self.now.due)) }
-        ensures too_great { IfErr result (λ why. (why ≡ NoLine.TooGreat) × ((10 ^ 12 < self.now.principal)
-            ⊎ (10 ^ 10 ≤ line.old.loans))) }
-    {
-        let Some(due) = self.due else {
-            return Ok(());
-        };
-        if self.principal > GREATEST_AMOUNT || line.loans >= MOST_LOANS {
-            return Err(NoLine::TooGreat);
-        }
-        line.add(self.principal, days_past(Some(due), today));
-        Ok(())
-    }
-
-    /// Takes in an instalment with the number of its loan: of this loan, or the first of the next, before which this
-    /// one is added to its office's line.
-    fn take(
-        &mut self,
-        found: (u32, Instalment),
-        today: Day,
-        line: &mut OfficeLine,
-    ) -> Result<(), NoLine>
-        ensures value { OnOk result ((office : ℕ) (p : Progress) → IsAt office p self.old line.old
-            → IsAt office (step today p found) self.new line.new) }
-        ensures too_great { IfErr result (λ why. (why ≡ NoLine.TooGreat) × ((office : ℕ) (p : Progress)
-            → IsAt office p self.old line.old → IsLow p → IsLow (step today p found) → ⊥)) }
-    {
-        let (loan, row) = found;
-        if loan != self.loan {
-            self.count(today, line)?;
-            *self = LoanSoFar::new(loan);
-        }
-        self.add(row)
+    fn from(_too_much: TooMuch) -> NoLine {
+        NoLine::TooGreat
     }
 }
 
@@ -158,7 +85,10 @@ pub(crate) fn fold_instalments<S: Alter>(
     let mut read = LoanSoFar::new(0);
     'rows: for _ in 0..u64::MAX {
         match next_instalment(rows)? {
-            None => return read.count(day, line),
+            None => {
+                read.count(day, line)?;
+                return Ok(());
+            }
             Some(found) => read.take(found, day, line)?,
         }
     }

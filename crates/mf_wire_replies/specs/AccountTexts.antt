@@ -7,10 +7,12 @@ use Rattle.mf_office.specs.Written.{caller_text}
 use Rattle.mf_alloc.specs.declared.row.Portion.{Portion}
 use Rattle.mf_alloc.specs.declared.row.Portion.TheVariants.{Penalty, Fee, Interest, Principal}
 use Rattle.mf_alloc.specs.declared.row.Share.{Share}
+use Rattle.mf_alloc.specs.Portions.{portion_name}
 use Rattle.mf_alloc.specs.Rows.{place_in_row}
 use Rattle.mf_account.specs.declared.entry.Entry.{Entry}
 use Rattle.mf_account.specs.declared.entry.Kind.{Kind}
 use Rattle.mf_account.specs.declared.entry.Kind.TheVariants as kind
+use Rattle.mf_account.specs.Names.{entry_kind_name}
 use Rattle.mf_statement.specs.declared.lines.EntryLine.{EntryLine}
 use Rattle.mf_statement.specs.declared.lines.InstalmentLine.{InstalmentLine}
 use Rattle.mf_wire_replies.specs.Json.{whole, whole_or_null, text_or_null}
@@ -34,22 +36,6 @@ instalment_data line = object
 -- the instalments of a loan
 abbrev pub instalments_data : List InstalmentLine → Data
 instalments_data lines = object (member (codes "instalments") (array (items_of (map instalment_data lines))) no_members)
-
--- the kinds of entries, by name
-abbrev pub entry_kind_name : Kind → List ℕ
-entry_kind_name kind.Repay = codes "repayment"
-entry_kind_name kind.Fee = codes "fee"
-entry_kind_name kind.Penalty = codes "penalty"
-entry_kind_name kind.Waive = codes "waiver"
-entry_kind_name kind.WriteOff = codes "write-off"
-entry_kind_name kind.Refund = codes "refund"
-
--- the portions, by name
-abbrev pub portion_name : Portion → List ℕ
-portion_name Penalty = codes "penalties"
-portion_name Fee = codes "fees"
-portion_name Interest = codes "interest"
-portion_name Principal = codes "principal"
 
 -- the instalment that an entry is for: that of a fee, a penalty or a waiver
 abbrev pub instalment_for : Kind → ℕ → Option ℕ

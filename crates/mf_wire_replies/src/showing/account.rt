@@ -4,7 +4,7 @@ ghost use Rattle.std.specs.Prelude.{◌≡◌, IfOk, IfErr, OnOk};
 ghost use Rattle.serde_json.specs.Data.{put as with_member};
 ghost use Rattle.serde_json.specs.View.{view, members_view};
 ghost use Rattle.mf_wire_replies.specs.Json.{text_or_null as text_or_null_of, whole_or_null as whole_or_null_of};
-ghost use Rattle.mf_wire_replies.specs.AccountTexts.{sum_of, instalment_data, entry_kind_name, portion_name};
+ghost use Rattle.mf_wire_replies.specs.AccountTexts.{sum_of, instalment_data};
 ghost use Rattle.mf_wire_replies.specs.AccountTexts.{instalment_for};
 ghost use Rattle.mf_wire_replies.specs.AccountTexts.{portion_waived, share_data, shares_data};
 ghost use Rattle.mf_wire_replies.specs.AccountTexts.{entry_rest as entry_rest_of, entry_data};
@@ -13,7 +13,7 @@ use super::lists::{Shown, array_of};
 use super::members::{Members, text_or_null, whole_or_null};
 use mf_account::{Entry, Kind};
 use mf_alloc::{Portion, Share};
-use mf_base::Fault;
+use mf_base::{Choice, Fault};
 use mf_statement::{EntryLine, InstalmentLine};
 use serde_json::Value;
 use std::alloc::{AllocError, Global};
@@ -49,36 +49,12 @@ impl Shown for InstalmentLine {
     }
 }
 
-fn kind_name(kind: Kind) -> &'static str
-    ensures { result.now ≡ entry_kind_name kind }
-{
-    match kind {
-        Kind::Repay => "repayment",
-        Kind::Fee => "fee",
-        Kind::Penalty => "penalty",
-        Kind::Waive => "waiver",
-        Kind::WriteOff => "write-off",
-        Kind::Refund => "refund",
-    }
-}
-
-fn portion_name(portion: Portion) -> &'static str
-    ensures { result.now ≡ portion_name portion }
-{
-    match portion {
-        Portion::Penalty => "penalties",
-        Portion::Fee => "fees",
-        Portion::Interest => "interest",
-        Portion::Principal => "principal",
-    }
-}
-
 impl Shown for Share {
     ghost json = { share_data };
 
     fn value(&self, alloc: Global) -> Result<Value, Fault> {
         let mut members = Members::new(alloc);
-        members.put_text(alloc, "portion", portion_name(self.cell.portion))?;
+        members.put_text(alloc, "portion", self.cell.portion.name())?;
         members.put_whole(alloc, "instalment", self.cell.instalment as u64)?;
         members.put_whole(alloc, "amount", self.amount)?;
         Ok(members.into_value())
@@ -101,7 +77,7 @@ fn portion_of(alloc: Global, entry: &Entry) -> Result<Value, AllocError>
     ensures { IfOk result (λ v. view v ≡ text_or_null_of (portion_waived entry.now.kind entry.now.portion)) }
 {
     let portion = match entry.kind {
-        Kind::Waive => Some(portion_name(entry.portion)),
+        Kind::Waive => Some(entry.portion.name()),
         Kind::Repay | Kind::Fee | Kind::Penalty | Kind::WriteOff | Kind::Refund => None,
     };
     text_or_null(alloc, portion)
@@ -137,7 +113,7 @@ impl Shown for EntryLine {
     fn value(&self, alloc: Global) -> Result<Value, Fault> {
         let entry = &self.entry;
         let mut members = entry_rest(alloc, entry, self.shares.as_slice())?;
-        members.put_text(alloc, "kind", kind_name(entry.kind))?;
+        members.put_text(alloc, "kind", entry.kind.name())?;
         members.put(alloc, "instalment", instalment_of(entry))?;
         members.put_whole(alloc, "entry", entry.seq as u64)?;
         members.put(alloc, "day", Value::String(entry.day.text(alloc)?))?;

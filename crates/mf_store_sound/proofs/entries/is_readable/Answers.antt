@@ -26,8 +26,8 @@ returns-in-Some-Some-Some-Some-Some-Some c =
         ((a.ensures'''' {u = tt}).some.0, caller.in_range),
         λ k.
             record row {
-              kind = a.ensures.some k;
-              portion = (a.ensures' {u = tt}).some k;
+              kind = sym a.ensures.some k;
+              portion = sym (a.ensures' {u = tt}).some k;
               reversed = (a.ensures'' {u = tt}).some k;
               amount = ((a.ensures''' {u = tt}).some ∙ to_z-of_z w64 row.amount fits) k;
               day = (sym (a.ensures'''' {u = tt}).some.1 ∙ c.as_bytes.ensures.value ∙ c.as_str.ensures) k;
