@@ -10,3 +10,4 @@ pub mod KeptLemmas
 pub mod PartLemmas
 pub mod SortedLemmas
 pub mod ReceiptLemmas
+pub mod DecodedLemmas

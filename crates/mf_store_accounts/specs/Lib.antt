@@ -4,3 +4,4 @@ pub mod Ledgers
 pub mod Kept
 pub mod Accounts
 pub mod Parts
+pub mod Decoded

@@ -16,6 +16,7 @@ mod terms;
 pub use account_rows::{are_accounts, rows_of_accounts};
 pub use accounts::account_of;
 pub use instalments::instalment_row;
+pub use kept_entries::{EntryColumns, entry_columns};
 pub use kept_shares::part_of;
 pub use numbers::{amount_from, flag_from, signed};
 pub use row_numbers::row_numbered;

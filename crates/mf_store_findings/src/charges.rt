@@ -11,10 +11,11 @@ ghost use Rattle.mf_store_findings.specs.Places.{number_after};
 use crate::finding::ChargeFlaw;
 use crate::places::{Row, is_not_after};
 use mf_base::Choice;
-use mf_catalog::{Calc, ChargeKind, greatest_value};
+use mf_catalog::{Calc, ChargeKind};
 use mf_model::{MOST_IN_CATALOGUE, is_name};
 use mf_store_accounts::amount_from;
 use mf_store_records::{ChargeRow, Text};
+use mf_store_sound::is_value;
 
 /// Whether a number is that of no choice.
 pub(crate) fn is_none<C: Choice>(number: u32) -> bool
@@ -42,13 +43,6 @@ fn is_misnumbered(row: &ChargeRow, before: Option<&ChargeRow>) -> bool
         Some(before) => is_not_after(row.number, before.number),
         None => row.number != 1,
     }
-}
-
-/// Whether a value is within the limits of a charge that is computed this way.
-fn is_value(calc: Calc, value: u64) -> bool
-    ensures { IsTrue result ↔ IsValue calc value }
-{
-    value >= 1 && value <= greatest_value(calc)
 }
 
 /// Whether a charge has no value within the limits of its way of computing.

@@ -3,15 +3,19 @@
 ghost use Rattle.std.specs.Prelude.{◌≡◌, ◌<◌, ◌≤◌, ◌==◌, ◌&&◌, ◌↔◌, ℕ, Some, true, false, ◌^◌, ◌+◌};
 ghost use Rattle.std.specs.Prelude.{IsTrue, IsNone, IfSome, length, option_copied};
 ghost use Rattle.std.specs.List.{Contains, list_any};
+ghost use Rattle.mf_account.specs.Loan.{HasColumns};
+ghost use Rattle.mf_account.specs.declared.entry.Entry.{Entry};
 ghost use Rattle.mf_base.specs.DayText.{day_text, last_entered_day};
 ghost use Rattle.mf_office.specs.Texts.{caller_of};
 ghost use Rattle.mf_store_records.specs.Rows.{by_entry};
 ghost use Rattle.mf_store_records.specs.declared.entries.EntryRow.{EntryRow as AnyRow};
+ghost use Rattle.mf_store_accounts.specs.Flat.{entry_in};
+ghost use Rattle.mf_store_accounts.specs.Ledgers.{IsReadable};
 ghost use Rattle.mf_store_findings.specs.Entries.{is_own_loan, is_staff_named, BreaksEntry, BreaksDecided};
+ghost use Rattle.mf_store_findings.specs.Entries.{HasWrongColumns};
 ghost use Rattle.mf_store_findings.specs.Places.{number_within, IsAfter, IsAt, NoneBetween};
 ghost use Rattle.mf_store_findings.specs.declared.finding.EntryFlaw.{EntryFlaw as AnyFlaw};
 
-use crate::columns::{has_right_receipt, has_wrong_columns};
 use crate::finding::EntryFlaw;
 use crate::loans::is_number_after;
 use crate::places::row_before;
@@ -24,6 +28,7 @@ use mf_base::{Choice, Day};
 use mf_office::Caller;
 use mf_store_accounts::{amount_from, flag_from};
 use mf_store_records::{EntryRow, LoanRow, ReceiptRow, StaffRow};
+use mf_store_sound::{has_columns, has_right_receipt, is_readable};
 use std::cmp::Ordering;
 
 /// The rows of entries, and what they are checked against.
@@ -35,6 +40,19 @@ pub(crate) struct EntrySetting<'a> {
     pub(crate) staff: &'a [StaffRow],
     pub(crate) receipts: &'a [ReceiptRow],
     pub(crate) entries: &'a [EntryRow],
+}
+
+/// Whether a row is that of an entry whose columns are not such as its kind has, on a loan of so many instalments. A
+/// row that can't be read as an entry is not.
+fn has_wrong_columns(periods: u32, row: &EntryRow) -> bool
+    ensures wrong { IsTrue result → HasWrongColumns row.now periods }
+    ensures every { (e : Entry) → IsReadable e → entry_in row.now.office row.now.loan e ≡ row.now →
+        ¬ HasColumns e.kind periods e → IsTrue result }
+{
+    if !is_readable(row) {
+        return false;
+    }
+    !has_columns(periods, row)
 }
 
 /// The order of entries: by office, loan and number.

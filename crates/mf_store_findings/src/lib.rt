@@ -5,7 +5,6 @@ mod accounts;
 mod books;
 mod charges;
 mod clients;
-mod columns;
 mod entries;
 mod find;
 mod finding;

@@ -21,6 +21,7 @@ use mf_base::Day;
 use mf_office::AccountNo;
 use mf_store_accounts::row_numbered;
 use mf_store_records::{ClientRow, LoanRow, OfficeRow, ProductRow, Text};
+use mf_store_sound::{are_periods_allowed, is_principal_allowed, is_stage};
 use std::cmp::Ordering;
 
 /// What rows of loans are checked against.
@@ -90,22 +91,6 @@ fn is_next(last: Option<&LoanRow>, row: &LoanRow) -> bool
     }
 }
 
-/// Whether a loan's principal lies within its product's limits.
-fn is_principal_allowed(product: &ProductRow, row: &LoanRow) -> bool
-    ensures { IsTrue result ↔
-        ((product.now.min_principal ≤ℤ row.now.principal) × (row.now.principal ≤ℤ product.now.max_principal)) }
-{
-    product.min_principal <= row.principal && row.principal <= product.max_principal
-}
-
-/// Whether a loan's number of periods lies within its product's limits.
-fn are_periods_allowed(product: &ProductRow, row: &LoanRow) -> bool
-    ensures { IsTrue result ↔
-        ((product.now.min_periods ≤ row.now.periods) × (row.now.periods ≤ product.now.max_periods)) }
-{
-    product.min_periods <= row.periods && row.periods <= product.max_periods
-}
-
 /// Whether a status is none that a loan's row has.
 fn is_no_status(number: u32) -> bool
     ensures { IsTrue result ↔ IsNoNumber stage_number number }
@@ -164,46 +149,6 @@ fn is_disbursal_wrong(row: &LoanRow) -> bool
         return true;
     }
     !is_day_if(row.stage == 300, &row.disbursed)
-}
-
-/// Whether an approval's text is that of a day up to this one.
-fn is_approval(today: Day, approved: &Text) -> bool
-    requires { today ≤ last_entered_day }
-    ensures { IsTrue result ↔ IsApproval today approved.now }
-{
-    match Day::parse(approved.as_str().as_bytes()) {
-        Some(day) => day <= today,
-        None => false,
-    }
-}
-
-/// Whether the texts are those of a day of approval and a day of disbursement, in this order and up to this day.
-fn is_disbursal(today: Day, approved: &Text, disbursed: &Text) -> bool
-    requires { today ≤ last_entered_day }
-    ensures { IsTrue result ↔ IsDisbursal today approved.now disbursed.now }
-{
-    let Some(first) = Day::parse(approved.as_str().as_bytes()) else {
-        return false;
-    };
-    let Some(second) = Day::parse(disbursed.as_str().as_bytes()) else {
-        return false;
-    };
-    first <= second && second <= today
-}
-
-/// Whether a status and two days are those of a stage that a loan can have reached on this day.
-fn is_stage(today: Day, row: &LoanRow) -> bool
-    requires { today ≤ last_entered_day }
-    ensures { IsTrue result ↔ IsStageOf today row.now.stage row.now.approved row.now.disbursed }
-{
-    match (row.stage, &row.approved, &row.disbursed) {
-        (100, None, None) => true,
-        (200, Some(approved), None) => is_approval(today, approved),
-        (300, Some(approved), Some(disbursed)) => is_disbursal(today, approved, disbursed),
-        (400, None, None) => true,
-        (500, None, None) => true,
-        _ => false,
-    }
 }
 
 /// What is wrong with a row's place and number.

@@ -10,49 +10,8 @@ ghost use Rattle.mf_store_accounts.specs.Ledgers.{IsReadable};
 ghost use Rattle.mf_store_records.specs.declared.entries.EntryRow.{EntryRow as AnyRow};
 ghost use Rattle.mf_store_findings.specs.Entries.{IsNotLast};
 
-use crate::columns::is_readable;
-use mf_account::Kind;
-use mf_base::{Choice, Day};
 use mf_store_records::EntryRow;
-
-/// Whether the entry of a row comes before that of another: by day, then by number.
-fn is_before(row: &EntryRow, last: &EntryRow) -> bool
-    ensures { (x m : ℕ) (f e : Entry) → IsReadable f → entry_in x m f ≡ row.now → IsReadable e →
-        entry_in x m e ≡ last.now → result ≡ comes_before f e }
-{
-    let Some(day) = Day::parse(row.day.as_str().as_bytes()) else {
-        return false;
-    };
-    let Some(other) = Day::parse(last.day.as_str().as_bytes()) else {
-        return false;
-    };
-    day < other || (day == other && row.seq < last.seq)
-}
-
-/// Whether a row is of a write-off or a refund.
-fn is_seal(row: &EntryRow) -> bool
-    ensures { (x m : ℕ) (e : Entry) → entry_in x m e ≡ row.now → result ≡ is_seal_kind e.kind }
-{
-    match Kind::from_number(row.kind) {
-        Some(kind) => kind.is_seal(),
-        None => false,
-    }
-}
-
-/// Whether a row is of an entry that is reversed.
-fn is_reversed(row: &EntryRow) -> bool
-    ensures { (x m : ℕ) (e : Entry) → entry_in x m e ≡ row.now → result ≡ e.reversed }
-{
-    row.reversed == 1
-}
-
-/// Whether the entry of a row is reversed, or the same as another, or comes before it.
-fn is_past(row: &EntryRow, last: &EntryRow) -> bool
-    ensures { (x m : ℕ) (f e : Entry) → IsReadable f → entry_in x m f ≡ row.now → IsReadable e →
-        entry_in x m e ≡ last.now → result ≡ (f.reversed || ((f.seq == e.seq) || comes_before f e)) }
-{
-    is_reversed(row) || row.seq == last.seq || is_before(row, last)
-}
+use mf_store_sound::{is_past, is_readable, is_reversed, is_seal};
 
 /// Whether two rows are of entries of one loan.
 fn is_same_loan(row: &EntryRow, other: &EntryRow) -> bool

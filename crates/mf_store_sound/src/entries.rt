@@ -17,8 +17,7 @@ use crate::numbered::NumberedRow;
 use mf_account::{Kind, is_receipt};
 use mf_alloc::Portion;
 use mf_base::{Choice, Day};
-use mf_office::Caller;
-use mf_store_accounts::{amount_from, flag_from};
+use mf_store_accounts::entry_columns;
 use mf_store_records::EntryRow;
 
 /// A disbursed loan, and what its entries are checked against.
@@ -38,17 +37,7 @@ pub(crate) struct DisbursedLoan {
 pub fn is_readable(row: &EntryRow) -> bool
     ensures { IsTrue result ↔ ((e : Entry) × IsReadable e × (entry_in row.now.office row.now.loan e ≡ row.now)) }
 {
-    match (
-        Kind::from_number(row.kind),
-        Portion::from_number(row.portion),
-        flag_from(row.reversed),
-        amount_from(row.amount),
-        Day::parse(row.day.as_str().as_bytes()),
-        Caller::parse(row.staff.as_str().as_bytes()),
-    ) {
-        (Some(_), Some(_), Some(_), Some(_), Some(_), Some(_)) => true,
-        _ => false,
-    }
+    entry_columns(row).is_some()
 }
 
 /// Whether a row's instalment is one of so many.
