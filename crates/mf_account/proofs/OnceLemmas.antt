@@ -9,7 +9,7 @@ use Rattle.mf_alloc.specs.declared.row.Cell.{Cell}
 use Rattle.mf_alloc.specs.declared.row.Share.{Share}
 use Rattle.mf_alloc.specs.Sums.{Sums}
 use Rattle.mf_alloc.specs.Rows.{with_paid}
-use Rattle.mf_alloc.specs.Payment.{share_at, rest_of, is_some_share, total_of}
+use Rattle.mf_alloc.specs.Payment.{share_at, rest_of, is_some_share, amount_of_shares}
 use Rattle.mf_alloc.proofs.PaymentLemmas.{total-shares}
 use Rattle.mf_alloc.proofs.TwoPayments.{share_in, shares_by, with_paid-some, with_paid-twice, pay_into-none}
 use Rattle.mf_alloc.proofs.LeftOpen.{IsLine, amounts_of, rows_paid-by, length-rows_paid, shares_by-same, amounts-twice}
@@ -145,7 +145,7 @@ paid_in-by order amounts (k ∷ places) =
     (λ none. let low = ltb-false 0 (amounts k) none in omega (arith, so_far, all, low))
 
 total-by : (order : ℕ → Cell) (amounts : ℕ → ℕ) (places : List ℕ)
-    → total_of (filter is_some_share (shares_by order amounts places)) ≡ sum_by amounts places
+    → amount_of_shares (filter is_some_share (shares_by order amounts places)) ≡ sum_by amounts places
 total-by order amounts [] = refl
 total-by order amounts (k ∷ places) =
     let share : Share = share_in (order k) (amounts k) in
@@ -153,7 +153,7 @@ total-by order amounts (k ∷ places) =
     let so_far = total-by order amounts places in
     let all = sum_by-append amounts (k ∷ []) places in
     let one = sum_by-append (λ (s : Share). s.amount) (share ∷ []) rest in
-    cond_both (is_some_share share) (share ∷ rest) rest (λ x. total_of x ≡ sum_by amounts (k ∷ places))
+    cond_both (is_some_share share) (share ∷ rest) rest (λ x. amount_of_shares x ≡ sum_by amounts (k ∷ places))
     (λ _. omega (arith, so_far, all, one))
     (λ none. let low = ltb-false 0 (amounts k) none in omega (arith, so_far, all, low))
 

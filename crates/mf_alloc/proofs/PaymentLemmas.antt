@@ -19,7 +19,7 @@ use Rattle.mf_alloc.specs.Order.{standard}
 use Rattle.mf_alloc.specs.Rows.{outstanding, no_row, row_at, plus_at, minus_at, rows_changed_at, pay_row, unpay_row}
 use Rattle.mf_alloc.specs.Rows.{pay_into, take_out, with_paid, without_paid, place_in_row, IsCell, IsPayable}
 use Rattle.mf_alloc.specs.OrderLaws.{IsOrder}
-use Rattle.mf_alloc.specs.Payment.{start, share_at, is_some_share, shares_below, total_of, shares_of, rest_of}
+use Rattle.mf_alloc.specs.Payment.{start, share_at, is_some_share, shares_below, amount_of_shares, shares_of, rest_of}
 
 -- the stretch of the next place begins where this one ends
 pub start-more : (order : ℕ → Cell) (rows : List Row) (k : ℕ) → start order rows (k + 1) ≡ start order rows k
@@ -198,32 +198,32 @@ shares_payable order place rows amount is =
     payable_from (length rows) order place rows rows amount 0 (4 * length rows) is refl (omega arith)
     (λ k from to. refl)
 
-one_more : (order : ℕ → Cell) (rows : List Row) (amount k : ℕ) → total_of (shares_below order rows amount k)
-    + (amount - start order rows k) ≡ amount → total_of (shares_below order rows amount (k + 1))
+one_more : (order : ℕ → Cell) (rows : List Row) (amount k : ℕ) → amount_of_shares (shares_below order rows amount k)
+    + (amount - start order rows k) ≡ amount → amount_of_shares (shares_below order rows amount (k + 1))
     + (amount - start order rows (k + 1)) ≡ amount
 one_more order rows amount k so_far =
     let share : Share = share_at order rows amount k in
     let last : List Share = cond (is_some_share share) (share ∷ []) [] in
-    let one : total_of last ≡ share.amount =
-    cond_both (is_some_share share) (share ∷ []) [] (λ x. total_of x ≡ share.amount)
+    let one : amount_of_shares last ≡ share.amount =
+    cond_both (is_some_share share) (share ∷ []) [] (λ x. amount_of_shares x ≡ share.amount)
     (λ _. omega arith) (λ none. omega (arith, ltb-false 0 share.amount none)) in
     let parts = sum_by-append (λ (s : Share). s.amount) (shares_below order rows amount k) last in
-    let all : total_of (shares_below order rows amount (k + 1)) ≡ total_of (shares_below order rows amount k)
+    let all : amount_of_shares (shares_below order rows amount (k + 1)) ≡ amount_of_shares (shares_below order rows amount k)
     + share.amount =
-    ap total_of (shares_below-more order rows amount k) ∙ parts ∙ ap (λ x. total_of (shares_below order rows amount k)
+    ap amount_of_shares (shares_below-more order rows amount k) ∙ parts ∙ ap (λ x. amount_of_shares (shares_below order rows amount k)
     + x) one in
     let further = start-more order rows k in
     omega (arith, all, further, so_far)
 
 -- shares and rest are the amount
-total-below : (order : ℕ → Cell) (rows : List Row) (amount k : ℕ) → total_of (shares_below order rows amount k)
+total-below : (order : ℕ → Cell) (rows : List Row) (amount k : ℕ) → amount_of_shares (shares_below order rows amount k)
     + (amount - start order rows k) ≡ amount
 total-below order rows amount zero = omega arith
 total-below order rows amount (suc k) =
-    subst (λ (x : ℕ). total_of (shares_below order rows amount x) + (amount - start order rows x) ≡ amount) (add-one k)
+    subst (λ (x : ℕ). amount_of_shares (shares_below order rows amount x) + (amount - start order rows x) ≡ amount) (add-one k)
     (one_more order rows amount k (total-below order rows amount k))
 
-pub total-shares : (order : ℕ → Cell) (rows : List Row) (amount : ℕ) → total_of (shares_of order rows amount)
+pub total-shares : (order : ℕ → Cell) (rows : List Row) (amount : ℕ) → amount_of_shares (shares_of order rows amount)
     + rest_of order rows amount ≡ amount
 total-shares order rows amount = total-below order rows amount (4 * length rows)
 
@@ -239,9 +239,9 @@ payable-from order place rows amount shares is same =
     subst (IsPayable rows) (sym same) (shares_payable order place rows amount is)
 
 pub total-from : (order : ℕ → Cell) (rows : List Row) (amount rest : ℕ) (shares : List Share)
-    → shares ≡ shares_of order rows amount → rest ≡ rest_of order rows amount → total_of shares + rest ≡ amount
+    → shares ≡ shares_of order rows amount → rest ≡ rest_of order rows amount → amount_of_shares shares + rest ≡ amount
 total-from order rows amount rest shares same left =
-    let total : total_of shares ≡ total_of (shares_of order rows amount) = ap total_of same in
+    let total : amount_of_shares shares ≡ amount_of_shares (shares_of order rows amount) = ap amount_of_shares same in
     let whole = total-shares order rows amount in
     omega (arith, total, left, whole)
 

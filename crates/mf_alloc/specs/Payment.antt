@@ -35,5 +35,5 @@ abbrev pub rest_of : (ℕ → Cell) → List Row → ℕ → ℕ
 rest_of order rows amount = amount - start order rows (4 * length rows)
 
 -- the sum of shares
-abbrev pub total_of : List Share → ℕ
-total_of shares = sum_by (λ (share : Share). share.amount) shares
+abbrev pub amount_of_shares : List Share → ℕ
+amount_of_shares shares = sum_by (λ (share : Share). share.amount) shares

@@ -4,7 +4,7 @@ ghost use Rattle.std.specs.Prelude.{◌≡◌, ℕ, ◌+◌, ◌*◌, ◌≤◌,
 ghost use Rattle.mf_alloc.specs.Rows.{IsCell, outstanding as open_in, pay_into, with_paid, without_paid, take_out};
 ghost use Rattle.mf_alloc.specs.Rows.{IsPayable};
 ghost use Rattle.mf_alloc.specs.Order.{due_by as due_among, order_at};
-ghost use Rattle.mf_alloc.specs.Payment.{shares_of as line_shares, rest_of as line_rest, total_of};
+ghost use Rattle.mf_alloc.specs.Payment.{shares_of as line_shares, rest_of as line_rest, amount_of_shares};
 
 use crate::row::{Cell, Row, Share};
 use crate::strategy::Strategy;
@@ -78,7 +78,7 @@ fn shares_of<T: Strategy>(
         rows.now amount) }
     ensures rest { IfOk result (λ answer. answer.1 ≡ line_rest (T.cell_at strategy.now (length rows.now) due) rows.now
         amount) }
-    ensures whole { IfOk result (λ answer. total_of answer.0.items + answer.1 ≡ amount) }
+    ensures whole { IfOk result (λ answer. amount_of_shares answer.0.items + answer.1 ≡ amount) }
     ensures payable { IfOk result (λ answer. IsPayable rows.now answer.0.items) }
     ensures cells { IfOk result (λ answer. All (λ share. IsCell (length rows.now) share.cell) answer.0.items) }
     ensures few { IfOk result (λ answer. vec_len answer.0 ≤ 4 * length rows.now) }
@@ -115,7 +115,7 @@ pub fn pay<T: Strategy>(
         rows.old.items day) rows.old.items amount) }
     ensures rest { IfOk result (λ answer. answer.1 ≡ line_rest (order_at (T.cell_at strategy.now) rows.old.items day)
         rows.old.items amount) }
-    ensures whole { IfOk result (λ answer. total_of answer.0.items + answer.1 ≡ amount) }
+    ensures whole { IfOk result (λ answer. amount_of_shares answer.0.items + answer.1 ≡ amount) }
     ensures few { IfOk result (λ answer. vec_len answer.0 ≤ 4 * vec_len rows.old) }
     ensures cells { IfOk result (λ answer. All (λ share. IsCell (vec_len rows.old) share.cell) answer.0.items) }
 

@@ -10,8 +10,8 @@ use Rattle.std.proofs.lemmas.List.Sums.{fold-append, sum_by_push}
 use Rattle.mf_alloc.specs.Sums.{Sums, open_at, is_open}
 use Rattle.mf_arrears.specs.Ageing.{earlier, earliest_due, days_since}
 use Rattle.mf_arrears.specs.Line.{Loan, Line, line_of}
-use Rattle.mf_arrears.specs.Folding.{LoanSoFar, open_principal, aged_rows, aged_by, nothing_of, with_row, Progress, step}
-use Rattle.mf_arrears.specs.Folding.{IsAt}
+use Rattle.mf_arrears.specs.Folding.{LoanSoFar, open_principal, aged_rows, aged_by, nothing_of, with_row, Progress}
+use Rattle.mf_arrears.specs.Folding.{step, IsAt}
 
 -- ---- one loan
 
@@ -50,15 +50,17 @@ some_due o (row ∷ rows) = go (is_open row) (some_due (earlier o row.due) rows 
     go false counted left = left
 
 -- a loan is told by its earliest due day
-pub aged_same : (today : ℕ) (rows : List Sums) → aged_by today (open_principal rows) (earliest_due rows) ≡ aged_rows today rows
+pub aged_same : (today : ℕ) (rows : List Sums) → aged_by today (open_principal rows) (earliest_due rows)
+    ≡ aged_rows today rows
 aged_same today rows = split (earliest_due rows) (some_due None rows)
   where
+    aged_on : Option ℕ → List Loan
+    aged_on o = record { principal = open_principal rows; days = pos (days_since today o) } ∷ []
+
     split : (o : Option ℕ) → is_some o ≡ list_any is_open rows → aged_by today (open_principal rows) o
-        ≡ cond (list_any is_open rows) (record { principal = open_principal rows; days = pos (days_since today o) } ∷ []) []
-    split None e = ap (λ b. cond b (record { principal = open_principal rows; days = pos (days_since today None) } ∷ []) [])
-        e
-    split (Some d) e =
-        ap (λ b. cond b (record { principal = open_principal rows; days = pos (days_since today (Some d)) } ∷ []) []) e
+        ≡ cond (list_any is_open rows) (aged_on o) []
+    split None e = ap (λ b. cond b (aged_on None) []) e
+    split (Some d) e = ap (λ b. cond b (aged_on (Some d)) []) e
 
 -- ---- an instalment more
 

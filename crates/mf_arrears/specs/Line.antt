@@ -98,9 +98,9 @@ with_loan line principal days = record {
 }
 
 -- a part of a whole, in hundredths of a percent; 0 of nothing
-abbrev pub part_of : ℕ → ℕ → ℕ
-part_of whole part = if whole == 0 then 0 else half_even (10000 * part) whole
+abbrev pub hundredths_of : ℕ → ℕ → ℕ
+hundredths_of whole part = if whole == 0 then 0 else half_even (10000 * part) whole
 
 -- the part of more than 30 days, in hundredths of a percent
 abbrev pub par30_of : Line → ℕ
-par30_of line = part_of line.outstanding (line.c31_60 + line.c61_90 + line.over_90)
+par30_of line = hundredths_of line.outstanding (line.c31_60 + line.c61_90 + line.over_90)

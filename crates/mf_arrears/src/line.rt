@@ -1,7 +1,7 @@
 //! An office's line of the report of arrears.
 
 ghost use Rattle.std.specs.Prelude.{◌≡◌, ℕ, ◌+◌, ◌*◌, ◌<◌, ◌≤◌, ◌^◌, List, [], ◌∷◌, ◌++◌};
-ghost use Rattle.mf_arrears.specs.Line.{Line, IsLine, Loan, line_of, with_loan, part_of, par30_of};
+ghost use Rattle.mf_arrears.specs.Line.{Line, IsLine, Loan, line_of, with_loan, hundredths_of, par30_of};
 
 use crate::ageing::class;
 use mf_base::half_even;
@@ -114,7 +114,7 @@ impl OfficeLine {
 pub(crate) fn part_at_risk(loans: u64, outstanding: u128, risk: u128) -> u128
     requires most { outstanding ≤ 10 ^ 12 * loans }
     requires part { risk ≤ outstanding }
-    ensures { result ≡ part_of outstanding risk }
+    ensures { result ≡ hundredths_of outstanding risk }
 {
     if outstanding == 0 {
         return 0;

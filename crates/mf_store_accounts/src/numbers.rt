@@ -1,5 +1,5 @@
-//! What numbers of rows stand for beside choices, where None is for a number that stands for nothing; and amounts as rows
-//! keep them.
+//! What numbers of rows stand for beside choices, where None is for a number that stands for nothing; and amounts as
+//! rows keep them.
 
 ghost use Rattle.std.specs.Prelude.{◌≡◌, ℕ, pos, Bool, Some, IfSome, IfOk, IfErr};
 ghost use Rattle.mf_base.specs.declared.fault.Fault.TheVariants.{F20};

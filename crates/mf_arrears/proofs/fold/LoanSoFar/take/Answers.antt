@@ -14,7 +14,8 @@ returns-clause-value c =
       | then-loan-self+in_ok-count w ↦
           next_loan office c.args.today p c.args.self.now c.if-loan-self.self c.add.new.self c.args.line.now
           c.if-loan-self.line c.args.found.0 c.args.found.1 (λ e. w.if-loan-self.true (e ∙ sym own))
-          (w.self-is ∙ w.self-then-loan-self.view_is ∙ w.new.ensures) added (λ x loans is. w.line-is ∙ w.in_ok-count.ensures.line x loans is) at
+          (w.self-is ∙ w.self-then-loan-self.view_is ∙ w.new.ensures) added
+          (λ x loans is. w.line-is ∙ w.in_ok-count.ensures.line x loans is) at
       | else-loan-self w ↦
           subst (λ l. IsAt office (step c.args.today p c.args.found) c.add.new.self l) (sym w.line-is)
           (same_loan office c.args.today p c.args.self.now c.add.new.self c.args.line.now c.args.found.0 c.args.found.1
