@@ -24,3 +24,15 @@ abbrev pub body_of : (client day fee account rest : List ℕ) → List ℕ
 body_of client day fee account rest = codes "{\"client\":"
     ++ (client ++ (codes ",\"day\":"
     ++ (day ++ (codes ",\"disbursement_fee\":" ++ (fee ++ (codes ",\"loan\":" ++ (account ++ rest)))))))
+
+-- an instalment's members from outstanding on, by how these are written
+abbrev pub instalment_rest_by : (outstanding penalties principal : List ℕ) → List ℕ
+instalment_rest_by outstanding penalties principal = codes ",\"outstanding\":"
+    ++ (outstanding ++ (codes ",\"penalties\":" ++ (penalties ++ (codes ",\"principal\":" ++ (principal
+    ++ codes "}")))))
+
+-- the whole of it, by how its day and its numbers are written, and by the rest
+abbrev pub instalment_by : (due fees interest number rest : List ℕ) → List ℕ
+instalment_by due fees interest number rest = codes "{\"due\":"
+    ++ (due ++ (codes ",\"fees\":" ++ (fees ++ (codes ",\"interest\":" ++ (interest ++ (codes ",\"number\":"
+    ++ (number ++ rest)))))))

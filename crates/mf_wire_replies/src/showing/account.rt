@@ -1,15 +1,17 @@
 //! A loan's instalments and entries as JSON.
 
-ghost use Rattle.std.specs.Prelude.{◌≡◌, IfOk, IfErr, OnOk};
-ghost use Rattle.serde_json.specs.Data.{put as with_member};
+ghost use Rattle.std.specs.Prelude.{◌≡◌, true, IfOk, IfErr, string_bytes};
 ghost use Rattle.serde_json.specs.View.{view, members_view};
+ghost use Rattle.serde_json.specs.Written.{compact_text, members_text};
 ghost use Rattle.mf_wire_replies.specs.Json.{text_or_null as text_or_null_of, whole_or_null as whole_or_null_of};
-ghost use Rattle.mf_wire_replies.specs.AccountTexts.{sum_of, instalment_data, entry_kind_name, portion_name};
+ghost use Rattle.mf_wire_replies.specs.AccountTexts.{instalment_data, instalments_data, entry_kind_name, portion_name};
+ghost use Rattle.mf_wire_replies.specs.AccountTexts.{instalment_rest as instalment_rest_of};
 ghost use Rattle.mf_wire_replies.specs.AccountTexts.{instalment_for};
 ghost use Rattle.mf_wire_replies.specs.AccountTexts.{portion_waived, share_data, shares_data};
 ghost use Rattle.mf_wire_replies.specs.AccountTexts.{entry_rest as entry_rest_of, entry_data};
 
-use super::lists::{Shown, array_of};
+use super::lists::{Shown, Written, array_of, put_lines};
+use super::loans::quoted_text;
 use super::members::{Members, text_or_null, whole_or_null};
 use mf_account::{Entry, Kind};
 use mf_alloc::{Portion, Share};
@@ -18,35 +20,43 @@ use mf_statement::{EntryLine, InstalmentLine};
 use serde_json::Value;
 use std::alloc::{AllocError, Global};
 
-/// Puts the sum of a portion.
-fn put_sum(
-    alloc: Global,
-    members: &mut Members,
-    name: &str,
-    portion: Portion,
-    sums: &[u64; 4],
-) -> Result<(), AllocError>
-    ensures { OnOk result (members_view members.new.map.entries ≡ with_member name.now (sum_of portion sums.now)
-        (members_view members.old.map.entries)) }
+/// An instalment's members from `outstanding` on, and the closing bracket.
+fn instalment_rest(alloc: Global, line: &InstalmentLine) -> Result<String, AllocError>
+    ensures { IfOk result (λ s. string_bytes s ≡ members_text true (instalment_rest_of line.now)) }
 {
-    members.put_whole(alloc, name, sums[portion.index()])
+    let outstanding = line.outstanding;
+    let penalties = line.owed[Portion::Penalty.index()];
+    let principal = line.owed[Portion::Principal.index()];
+    format!(in alloc;
+        r#","outstanding":{outstanding},"penalties":{penalties},"principal":{principal}}}"#
+    )
 }
 
-impl Shown for InstalmentLine {
+impl Written for InstalmentLine {
     ghost json = { instalment_data };
 
-    fn value(&self, alloc: Global) -> Result<Value, Fault> {
-        let owed = &self.owed;
-        let mut members = Members::new(alloc);
-        put_sum(alloc, &mut members, "principal", Portion::Principal, owed)?;
-        put_sum(alloc, &mut members, "penalties", Portion::Penalty, owed)?;
-        members.put_whole(alloc, "outstanding", self.outstanding)?;
-        members.put_whole(alloc, "number", self.number as u64)?;
-        put_sum(alloc, &mut members, "interest", Portion::Interest, owed)?;
-        put_sum(alloc, &mut members, "fees", Portion::Fee, owed)?;
-        members.put(alloc, "due", Value::String(self.due.text(alloc)?))?;
-        Ok(members.into_value())
+    fn text(&self, alloc: Global) -> Result<String, Fault> {
+        let due = quoted_text(alloc, self.due.text(alloc)?.as_str())?;
+        let number = self.number;
+        let fees = self.owed[Portion::Fee.index()];
+        let interest = self.owed[Portion::Interest.index()];
+        let rest = instalment_rest(alloc, self)?;
+        let text = format!(in alloc;
+            r#"{{"due":{due},"fees":{fees},"interest":{interest},"number":{number}{rest}"#
+        )?;
+        Ok(text)
     }
+}
+
+/// The body that lists the instalments of a loan.
+pub fn instalments_text(alloc: Global, lines: &[InstalmentLine]) -> Result<String, Fault>
+    ensures ok { IfOk result (λ s. string_bytes s ≡ compact_text (instalments_data lines.now)) }
+    ensures err { IfErr result (λ f. f ≡ Fault.F20) }
+{
+    let mut text = String::from_str(alloc, r#"{"instalments":["#)?;
+    put_lines(alloc, &mut text, lines)?;
+    text.push_str("]}")?;
+    Ok(text)
 }
 
 fn kind_name(kind: Kind) -> &'static str

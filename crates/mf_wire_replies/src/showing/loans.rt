@@ -9,6 +9,7 @@ ghost use Rattle.mf_wire_replies.specs.Shown.{IsBodyOf};
 ghost use Rattle.mf_wire_replies.specs.LoanTexts.{loan_end as loan_end_of, loan_rest as loan_rest_of, loan_by_texts};
 ghost use Rattle.mf_wire_replies.specs.LoanTexts.{loan_data, sums_data, day_or_null, told_status, loan_line_data};
 
+use super::account::instalments_text;
 use super::lists::{Shown, array_of};
 use super::members::Members;
 use super::{Body, single};
@@ -31,7 +32,7 @@ impl Shown for LoanLine {
 }
 
 /// A text as JSON, in quotes.
-fn quoted_text(alloc: Global, text: &str) -> Result<String, AllocError>
+pub fn quoted_text(alloc: Global, text: &str) -> Result<String, AllocError>
     ensures { IfOk result (λ s. string_bytes s ≡ quoted text.now) }
 {
     let value = json!(in alloc; text)?;
@@ -132,7 +133,7 @@ pub fn loan_told(alloc: Global, loan: Account, told: &LoanReply) -> Result<Body,
     match told {
         LoanReply::Shown(shown) => Ok(Body::Text(shown_text(alloc, loan, shown)?)),
         LoanReply::Instalments(lines) => {
-            single(alloc, "instalments", array_of(alloc, lines.as_slice())?)
+            Ok(Body::Text(instalments_text(alloc, lines.as_slice())?))
         }
         LoanReply::Entries(lines) => single(alloc, "entries", array_of(alloc, lines.as_slice())?),
         LoanReply::Status(status) => {
