@@ -67,6 +67,12 @@ line_put json lines n item later initial old new low is stands before puts =
           ∙ ap (λ x. initial ++ joined false x) (sym more),
     )
 
+-- a list
+pub array_closed : (opened : List ℕ) (ds : List Data) → opened ≡ 91 ∷ []
+    → (opened ++ joined false ds) ++ 93 ∷ [] ≡ compact_text (array (items_of ds))
+array_closed opened ds is =
+    ap (λ x. (x ++ joined false ds) ++ 93 ∷ []) is ∙ ap (λ x. 91 ∷ x) (sym (items_joined false ds))
+
 -- an object whose one member is a list
 pub list_closed : (name opened : List ℕ) (ds : List Data) → opened ≡ 123 ∷ (quoted name ++ 58 ∷ 91 ∷ [])
     → (opened ++ joined false ds) ++ (93 ∷ 125 ∷ []) ≡ compact_text (object (member name (array (items_of ds))

@@ -1,7 +1,8 @@
 //! Lists of values, as JSON.
 
-ghost use Rattle.std.specs.Prelude.{◌≡◌, ◌++◌, false, IfOk, IfErr, OnOk, map, string_bytes};
-ghost use Rattle.serde_json.specs.Data.{Data, array};
+ghost use Rattle.std.specs.Prelude.{◌≡◌, ◌++◌, ◌∷◌, [], ℕ, List, false, IfOk, IfErr, OnOk, map, string_bytes};
+ghost use Rattle.json.specs.Print.{quoted};
+ghost use Rattle.serde_json.specs.Data.{Data, array, object, member, no_members};
 ghost use Rattle.serde_json.specs.View.{view, items_of};
 ghost use Rattle.serde_json.specs.Written.{compact_text, comma_if};
 ghost use Rattle.mf_wire_replies.specs.Json.{joined};
@@ -69,7 +70,7 @@ fn put_line<T: Written>(
 }
 
 /// Puts the texts that show the lines behind a text, in their order, with commas between them.
-pub fn put_lines<T: Written>(alloc: Global, text: &mut String, lines: &[T]) -> Result<(), Fault>
+fn put_lines<T: Written>(alloc: Global, text: &mut String, lines: &[T]) -> Result<(), Fault>
     ensures ok { OnOk result (string_bytes text.new ≡ string_bytes text.old ++ joined false (map T.json lines.now)) }
     ensures err { IfErr result (λ f. f ≡ Fault.F20) }
 {
@@ -79,4 +80,27 @@ pub fn put_lines<T: Written>(alloc: Global, text: &mut String, lines: &[T]) -> R
         later = true;
     }
     Ok(())
+}
+
+/// The text of the array of the lines.
+pub fn array_text<T: Written>(alloc: Global, lines: &[T]) -> Result<String, Fault>
+    ensures ok { IfOk result (λ s. string_bytes s ≡ compact_text (array (items_of (map T.json lines.now)))) }
+    ensures err { IfErr result (λ f. f ≡ Fault.F20) }
+{
+    let mut text = String::from_str(alloc, "[")?;
+    put_lines(alloc, &mut text, lines)?;
+    text.push_str("]")?;
+    Ok(text)
+}
+
+/// The text of an object whose one member is the array of the lines, by the text up to the array's first item.
+pub fn list_text<T: Written>(alloc: Global, opened: &str, lines: &[T]) -> Result<String, Fault>
+    ensures ok { IfOk result (λ s. (name : List ℕ) → opened.now ≡ 123 ∷ (quoted name ++ 58 ∷ 91 ∷ [])
+        → string_bytes s ≡ compact_text (object (member name (array (items_of (map T.json lines.now))) no_members))) }
+    ensures err { IfErr result (λ f. f ≡ Fault.F20) }
+{
+    let mut text = String::from_str(alloc, opened)?;
+    put_lines(alloc, &mut text, lines)?;
+    text.push_str("]}")?;
+    Ok(text)
 }
