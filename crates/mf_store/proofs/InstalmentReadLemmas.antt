@@ -69,3 +69,13 @@ instalments_shown loan l i sound there =
     ap (map instalment_row) (loan_shown instalment_in kept is_instalment_of (λ x n y m a. refl) x n i.offices
     sound.tree.ascending ∙ ap (λ o. map (instalment_in x n) (had_by kept o)) there)
     ∙ map-map instalment_row (instalment_in x n) (kept l)
+
+-- where a loan isn't there, no row is
+pub no_instalments : (loan : Account) (i : Institution) → IsSound i → ledger_at loan i ≡ None
+    → map instalment_row (filter (is_instalment_of loan.office loan.number) (tables_of i).instalments) ≡ []
+no_instalments loan i sound none =
+    let x = loan.office in
+    let n = loan.number in
+    let kept = kept_of instalments_kept i.catalogue in
+    ap (map instalment_row) (loan_shown instalment_in kept is_instalment_of (λ x n y m a. refl) x n i.offices
+    sound.tree.ascending ∙ ap (λ o. map (instalment_in x n) (had_by kept o)) none)

@@ -16,3 +16,4 @@ pub mod ShownLemmas
 pub mod OfficeLoansLemmas
 pub mod StatusLemmas
 pub mod MadeLemmas
+pub mod KnownAccountLemmas

@@ -1,12 +1,12 @@
 -- What is shown of a loan: its last instalment, its sums while something is outstanding, and its account.
 use Rattle.std.proofs.Common.{◌≡◌, ℕ, Bool, true, false, cond, List, [], ◌∷◌, map, filter, find, Option, None}
 use Rattle.std.proofs.Common.{Some, refl, sym, ap, ◌∙◌, arith}
-use Rattle.std.specs.List.{AllByRecursion, list_any}
+use Rattle.std.specs.List.{list_any}
 use Rattle.std.specs.Option.{option_map}
 use Rattle.std.proofs.lemmas.Bool.{or_left, or_right}
 use Rattle.std.proofs.lemmas.Bool.Decides.{nat_tests}
 use Rattle.sqlite_catalog.proofs.ListFacts.{find_within}
-use Rattle.mf_alloc.specs.Sums.{Sums, IsWhole, is_open}
+use Rattle.mf_alloc.specs.Sums.{Sums, is_open}
 use Rattle.mf_catalog.specs.declared.terms.Terms.{Terms}
 use Rattle.mf_account.specs.declared.balances.Balances.{Balances}
 use Rattle.mf_account.specs.Balance.{balances_of}
@@ -23,20 +23,19 @@ use Rattle.mf_model.specs.Store.{ledger_at, loan_at, account_at, account_of, loa
 use Rattle.mf_store_records.specs.Rows.{is_instalment, is_instalment_of}
 use Rattle.mf_store_records.specs.declared.instalments.InstalmentRow.{InstalmentRow}
 use Rattle.mf_store_accounts.specs.Flat.{tables_of, instalment_in, instalments_kept, kept_of, had_by}
-use Rattle.mf_store.proofs.InstalmentReadLemmas.{sums_of, sums_kept, kept_whole, loan_account_sound}
+use Rattle.mf_store_values.specs.Principal.{IsOpenRow, IsFirstOpen}
+use Rattle.mf_store.proofs.InstalmentReadLemmas.{sums_of, sums_kept, loan_account_sound}
 use Rattle.mf_store.proofs.PartReadLemmas.{ledger_of}
 use Rattle.mf_store_changes.proofs.LoanRowLemmas.{loan_shown}
 
 -- ---- the last instalment
 
 -- an instalment that is found among a loan's and is open
-found_open : (p : InstalmentRow → Bool) (x n : ℕ) (items : List (ℕ × Sums)) (row : InstalmentRow) (sums : Sums)
-    → AllByRecursion (λ item. IsWhole (sums_of item)) items → find p (map (instalment_in x n) items) ≡ Some row
-    → ((number : ℕ) (s : Sums) → IsWhole s → row ≡ instalment_in x n (number, s) → sums ≡ s) → is_open sums ≡ true
-    → list_any is_open (map sums_of items) ≡ true
-found_open p x n [] row sums whole is read left = absurd (let never : None ≡ Some row = is in cc)
-found_open p x n (item ∷ items) row sums whole is read left =
-    go (p (instalment_in x n item)) refl (λ later. found_open p x n items row sums whole.1 later read left)
+found_open : (p : InstalmentRow → Bool) (x n : ℕ) (items : List (ℕ × Sums)) (row : InstalmentRow)
+    → find p (map (instalment_in x n) items) ≡ Some row → IsOpenRow row → list_any is_open (map sums_of items) ≡ true
+found_open p x n [] row is left = absurd (let never : None ≡ Some row = is in cc)
+found_open p x n (item ∷ items) row is left =
+    go (p (instalment_in x n item)) refl (λ later. found_open p x n items row later left)
   where
     all : Option InstalmentRow
     all = find p (map (instalment_in x n) items)
@@ -48,8 +47,7 @@ found_open p x n (item ∷ items) row sums whole is read left =
         let found : Some (instalment_in x n item) ≡ Some row =
         sym (ap (λ b. cond b (Some (instalment_in x n item)) all) here) ∙ is in
         let same : row ≡ instalment_in x n item = cc in
-        let own : sums ≡ item.1 = read item.0 item.1 whole.0 same in
-        or_left (is_open item.1) (list_any is_open (map sums_of items)) (sym (ap is_open own) ∙ left)
+        or_left (is_open item.1) (list_any is_open (map sums_of items)) (left x n item.0 item.1 same)
     go false other more =
         or_right (is_open item.1) (list_any is_open (map sums_of items))
         (more (sym (ap (λ b. cond b (Some (instalment_in x n item)) all) other) ∙ is))
@@ -58,13 +56,10 @@ of_loan_or_none : (x n m : ℕ) (r : InstalmentRow) → is_instalment_of x n r �
 of_loan_or_none x n m r other = grind (arith, nat_tests)
 
 -- where an instalment of a loan that is there is open, something of the loan is
-pub open_by_one : (loan : Account) (m : ℕ) (l : Ledger) (i : Institution) (row : InstalmentRow) (sums : Sums)
-    → IsSound i → ledger_at loan i ≡ Some l
-    → find (is_instalment loan.office loan.number m) (tables_of i).instalments ≡ Some row
-    → ((office number place : ℕ) (s : Sums) → IsWhole s → row ≡ instalment_in office number (place, s) → sums ≡ s)
-    → is_open sums ≡ true
+pub open_by_one : (loan : Account) (m : ℕ) (l : Ledger) (i : Institution) → IsSound i → ledger_at loan i ≡ Some l
+    → IsFirstOpen (is_instalment loan.office loan.number m) (tables_of i).instalments
     → list_any is_open (of_account [] (λ a. (state_of_loan a).rows) (account_in i.catalogue l)) ≡ true
-open_by_one loan m l i row sums sound there is read left =
+open_by_one loan m l i sound there is =
     let x = loan.office in
     let n = loan.number in
     let kept = kept_of instalments_kept i.catalogue in
@@ -72,12 +67,12 @@ open_by_one loan m l i row sums sound there is read left =
     let own : filter (is_instalment_of x n) all ≡ map (instalment_in x n) (kept l) =
     loan_shown instalment_in kept is_instalment_of (λ x n y m a. refl) x n i.offices sound.tree.ascending
     ∙ ap (λ o. map (instalment_in x n) (had_by kept o)) there in
-    let found : find (is_instalment x n m) (map (instalment_in x n) (kept l)) ≡ Some row =
+    let found : find (is_instalment x n m) (map (instalment_in x n) (kept l)) ≡ Some is.row =
     sym (ap (find (is_instalment x n m)) own)
     ∙ find_within (is_instalment x n m) (is_instalment_of x n) all (λ r has other. of_loan_or_none x n m r other)
-    ∙ is in
+    ∙ is.found in
     sym (ap (list_any is_open) (sums_kept (account_in i.catalogue l)))
-    ∙ found_open (is_instalment x n m) x n (kept l) row sums (kept_whole loan l i sound there) found (read x n) left
+    ∙ found_open (is_instalment x n m) x n (kept l) is.row found is.is_open
 
 -- ---- the sums of a loan of which something is outstanding
 

@@ -1,8 +1,8 @@
-//! The accounts of loans: each is resumed from the loan's row, its product's terms, its entries, and the instalments
-//! and shares that are kept of it. In a list of loans none is.
+//! The accounts of loans: each is the one that is known beside the tables, or it is resumed from the loan's row, its
+//! product's terms, its entries, and the instalments and shares that are kept of it. In a list of loans none is resumed.
 
 ghost use Rattle.std.specs.Prelude.{◌≡◌, ◌≤◌, ◌-◌, ◌++◌, ℕ, List, [], length, map, option_map, true, Some, OnOk};
-ghost use Rattle.std.specs.Prelude.{IfOk, IfErr};
+ghost use Rattle.std.specs.Prelude.{IfOk, IfErr, IfSome};
 ghost use Rattle.std.specs.List.{AllByRecursion, list_any};
 ghost use Rattle.mf_alloc.specs.Sums.{AreWhole, AreWithin, is_open};
 ghost use Rattle.mf_base.specs.declared.fault.Fault.TheVariants.{F20};
@@ -26,8 +26,8 @@ use mf_catalog::{ChargeDef, Terms};
 use mf_model::{Loan, LoanLine, LoanList};
 use mf_office::{Account, OfficeNo};
 use mf_store_changes::put_schedule;
-use mf_store_records::{EntryRow, InstalmentRow, StoreWrite};
-use mf_store_values::{entries_from, instalment_from, is_active, loan_in_row, stored};
+use mf_store_records::{EntryRow, StoreWrite};
+use mf_store_values::{entries_from, is_active, loan_in_row, stored};
 use sqlite::{Alter, Row};
 use std::alloc::Global;
 
@@ -219,7 +219,7 @@ impl<S: Alter> Store<S> {
         Ok(Some((loan, Some(found))))
     }
 
-    /// Whether the last instalment of a loan that is there is open. Where it is, so is the loan.
+    /// Whether the principal of the last instalment of a loan that is there is open. Where it is, so is the loan.
     fn is_last_open(&mut self, account: Account, periods: u32) -> Result<bool, Fault>
         ensures asks { AsksTables S.Store self.old self.new result }
         ensures value { IsClean S.Store self.new → (i : Institution) → StandsFor S.Store self.old i → (l : ModelLedger)
@@ -227,17 +227,12 @@ impl<S: Alter> Store<S> {
             → IfOk result (λ left. left ≡ true → list_any is_open (of_account [] (λ a. (state_of_loan a).rows)
             (account_in i.catalogue l)) ≡ true) }
     {
-        let key = (account.office.get(), account.number.get(), periods);
-        let Some(row) = self.find::<InstalmentRow>(key)? else {
-            return Ok(false);
-        };
-        let last = instalment_from(&row)?;
-        Ok(last.is_open())
+        self.is_principal_open(account, periods)
     }
 
-    /// The status of a loan that is there and was disbursed over so many periods. Most are told by their last
-    /// instalment; the others are asked for where nothing is outstanding of it, and the entries where nothing is of
-    /// any: none of them is replayed.
+    /// The status of a loan that is there and was disbursed over so many periods. Most are told by the principal of
+    /// their last instalment; all instalments are asked for where nothing is outstanding of it, and the entries where
+    /// nothing is of any: none of them is replayed.
     fn disbursed_status(
         &mut self,
         alloc: Global,
@@ -263,6 +258,15 @@ impl<S: Alter> Store<S> {
         stored(settled_status(&entries, &rows))
     }
 
+    /// The status of a loan that is there, where its account is known.
+    fn known_status(&self, loan: Account) -> Option<u16>
+        ensures { (i : Institution) → StandsFor S.Store self.now i → (l : ModelLedger) → ledger_at loan i ≡ Some l
+            → IfSome result (λ status. status ≡ status_in i.catalogue l) }
+    {
+        let account = self.known_account(loan)?;
+        Some(account.status())
+    }
+
     /// The status of a loan that is there: its stage's number, or what its account says.
     fn status_of(&mut self, alloc: Global, account: Account, loan: &Loan) -> Result<u16, Fault>
         ensures asks { MayAskTables S.Store self.old self.new result }
@@ -270,10 +274,14 @@ impl<S: Alter> Store<S> {
             → ledger_at account i ≡ Some l
             → l.loan ≡ loan.now → IfOk result (λ status. status ≡ status_in i.catalogue l) }
     {
-        match loan.disbursal_day() {
-            None => Ok(loan.stage.status()),
-            Some(_) => self.disbursed_status(alloc, account, loan.periods),
+        if loan.disbursal_day().is_none() {
+            return Ok(loan.stage.status());
         }
+        let Account { office, number } = account;
+        if let Some(status) = self.known_status(Account { office, number }) {
+            return Ok(status);
+        }
+        self.disbursed_status(alloc, Account { office, number }, loan.periods)
     }
 
     /// The line of a loan's row, in a list of loans.
@@ -312,8 +320,8 @@ impl<S: Alter> Store<S> {
     }
 
     /// The first 100 loans of an office whose number is above one, by number: one query over the range of their keys,
-    /// and for each disbursed one that of its last instalment, of the others where this one isn't open, and of its
-    /// entries where none is.
+    /// and for each disbursed one whose account isn't known that of the principal of its last instalment, of all
+    /// instalments where this one isn't open, and of its entries where none is.
     pub fn loans(&mut self, alloc: Global, office: OfficeNo, after: u32) -> Result<LoanList, Fault>
         ensures asks { AsksTables S.Store self.old self.new result }
         ensures value { IsClean S.Store self.new → (i : Institution) → StandsFor S.Store self.old i

@@ -1,6 +1,6 @@
 //! A loan's instalments as the tables keep them.
 
-ghost use Rattle.std.specs.Prelude.{◌≡◌, [], Some, IfOk};
+ghost use Rattle.std.specs.Prelude.{◌≡◌, [], None, Some, IfOk};
 ghost use Rattle.mf_alloc.specs.Sums.{AreWhole, AreWithin};
 ghost use Rattle.mf_account.specs.Loan.{state_of_loan};
 ghost use Rattle.mf_model.specs.Accounts.{account_in, of_account};
@@ -19,8 +19,7 @@ use std::alloc::Global;
 impl<S: Alter> Store<S> {
     ghost use Rattle.mf_store.specs.Stands.{StandsFor, IsClean, AsksTables};
 
-    /// The instalments of a loan that is there, as the replay of its entries leaves them; none where it is not
-    /// disbursed.
+    /// The instalments of a loan, as the replay of its entries leaves them; none where it is not disbursed or not there.
     pub(crate) fn instalments_at(
         &mut self,
         alloc: Global,
@@ -33,6 +32,8 @@ impl<S: Alter> Store<S> {
             → ledger_at loan i ≡ Some l
             → IfOk result (λ rows. rows.items ≡ of_account [] (λ a. (state_of_loan a).rows)
             (account_in i.catalogue l)) }
+        ensures none { IsClean S.Store self.new → (i : Institution) → StandsFor S.Store self.old i
+            → ledger_at loan i ≡ None → IfOk result (λ rows. rows.items ≡ []) }
     {
         let rows = self.list::<InstalmentRow>((loan.office.get(), loan.number.get()))?;
         instalments_from(alloc, &rows)

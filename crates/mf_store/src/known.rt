@@ -2,6 +2,7 @@
 //! kept.
 
 ghost use Rattle.std.specs.Prelude.{◌≡◌, nat_eq, is_some, false, Some, None, [], IfOk, IfErr, IfSome, IsTrue};
+ghost use Rattle.std.specs.Prelude.{option_copied};
 ghost use Rattle.std.specs.Map.{lookup};
 ghost use Rattle.mf_base.specs.declared.fault.Fault.TheVariants.{F20};
 ghost use Rattle.mf_model.specs.Institution.{Institution, product_in};
@@ -215,6 +216,13 @@ impl Known {
             None => None,
             Some(product) => copied_product(product),
         }
+    }
+
+    /// The account of a loan.
+    pub(crate) fn account(&self, loan: Account) -> Option<&LoanAccount>
+        ensures { option_copied result ≡ lookup (same_key (account_key loan)) self.now.accounts }
+    {
+        self.accounts.peek(&key_of_loan(loan))
     }
 
     /// Takes out the account of a loan, where it is known. All else stays.

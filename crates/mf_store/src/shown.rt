@@ -1,6 +1,8 @@
-//! What is shown of one loan: read off its instalments while something of it is outstanding, else off its account.
+//! What is shown of one loan: read off its account where that is known, else off its instalments while something of it
+//! is outstanding, else off its account.
 
-ghost use Rattle.std.specs.Prelude.{◌≡◌, [], true, Some, IfOk};
+ghost use Rattle.std.specs.Prelude.{◌≡◌, [], true, Some, IfOk, IfErr, IfSome};
+ghost use Rattle.mf_base.specs.declared.fault.Fault.TheVariants.{F20};
 ghost use Rattle.std.specs.List.{list_any};
 ghost use Rattle.mf_alloc.specs.Sums.{AreWhole, AreWithin, is_open};
 ghost use Rattle.mf_account.specs.Loan.{state_of_loan};
@@ -17,7 +19,7 @@ use mf_alloc::Row as Instalment;
 use mf_base::{Day, Fault};
 use mf_model::{Loan, Statement};
 use mf_office::Account;
-use mf_statement::{InstalmentList, instalment_lines_of};
+use mf_statement::{InstalmentList, instalment_lines, instalment_lines_of};
 use mf_store_values::{is_active, stored};
 use sqlite::Alter;
 use std::alloc::Global;
@@ -73,8 +75,34 @@ impl<S: Alter> Store<S> {
         Ok(Statement::of(loan, &Some(resumed)))
     }
 
-    /// A loan as it is shown, or None where there is no such loan. Its entries are read only where nothing of it is
-    /// outstanding.
+    /// A loan that is there as it is shown, where its account is known.
+    fn known_statement(&self, account: Account, loan: &Loan) -> Option<Statement>
+        ensures { (i : Institution) → StandsFor S.Store self.now i → (l : ModelLedger) → ledger_at account i ≡ Some l
+            → l.loan ≡ loan.now → IfSome result (λ told. told ≡ statement i.catalogue l) }
+    {
+        let known = self.known_account(account)?;
+        Some(Statement::with(loan, known.status(), known.balances()))
+    }
+
+    /// The instalments of a loan as they stand, where its account is known. The only error is F20, out of memory.
+    fn known_instalments(
+        &self,
+        alloc: Global,
+        account: Account,
+    ) -> Result<Option<InstalmentList>, Fault>
+        ensures value { (i : Institution) → StandsFor S.Store self.now i
+            → IfOk result (λ known. IfSome known (λ lines. Some lines ≡ instalments_at account i)) }
+        ensures gives_up { IfErr result (λ fault. fault ≡ F20) }
+    {
+        let Some(known) = self.known_account(account) else {
+            return Ok(None);
+        };
+        let lines = instalment_lines(alloc, known)?;
+        Ok(Some(lines))
+    }
+
+    /// A loan as it is shown, or None where there is no such loan. Where its account isn't known its entries are read
+    /// only where nothing of it is outstanding.
     pub fn statement(&mut self, alloc: Global, account: Account) -> Result<Option<Statement>, Fault>
         ensures asks { AsksTables S.Store self.old self.new result }
         ensures value { IsClean S.Store self.new → (i : Institution) → StandsFor S.Store self.old i
@@ -87,12 +115,34 @@ impl<S: Alter> Store<S> {
         let Some(day) = loan.disbursal_day() else {
             return Ok(Some(Statement::of(&loan, &None)));
         };
+        if let Some(told) = self.known_statement(Account { office, number }, &loan) {
+            return Ok(Some(told));
+        }
         let told = self.disbursed_statement(alloc, Account { office, number }, &loan, day)?;
         Ok(Some(told))
     }
 
+    /// The instalments of a loan as they are read of the tables. Its row is looked for only where it has none.
+    fn read_instalments(
+        &mut self,
+        alloc: Global,
+        account: Account,
+    ) -> Result<Option<InstalmentList>, Fault>
+        ensures asks { AsksTables S.Store self.old self.new result }
+        ensures value { IsClean S.Store self.new → (i : Institution) → StandsFor S.Store self.old i
+            → IfOk result (λ lines. lines ≡ instalments_at account i) }
+    {
+        let Account { office, number } = account;
+        let rows = self.instalments_at(alloc, Account { office, number })?;
+        if rows.is_empty() && self.loan(Account { office, number })?.is_none() {
+            return Ok(None);
+        }
+        let lines = instalment_lines_of(alloc, &rows)?;
+        Ok(Some(lines))
+    }
+
     /// The instalments of a loan as they stand, none before it is disbursed, or None where there is no such loan: no
-    /// entry of it is read.
+    /// entry of it is read, and where its account is known no instalment.
     pub fn instalments(
         &mut self,
         alloc: Global,
@@ -103,11 +153,12 @@ impl<S: Alter> Store<S> {
             → IfOk result (λ lines. lines ≡ instalments_at account i) }
     {
         let Account { office, number } = account;
-        if self.loan(Account { office, number })?.is_none() {
-            return Ok(None);
+        let known = self.known_instalments(alloc, Account { office, number })?;
+        if known.is_none() {
+            return self.read_instalments(alloc, Account { office, number });
         }
-        let rows = self.instalments_at(alloc, Account { office, number })?;
-        let lines = instalment_lines_of(alloc, &rows)?;
-        Ok(Some(lines))
+        // Where the store is shut it answers nothing of its loans, whatever it knows.
+        let _there = self.loan(Account { office, number })?;
+        Ok(known)
     }
 }

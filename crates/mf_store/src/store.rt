@@ -13,6 +13,8 @@ ghost use Rattle.mf_model.specs.Tree.{is_there};
 ghost use Rattle.mf_store_accounts.specs.Flat.{key_at, tables_of};
 ghost use Rattle.mf_store_accounts.specs.ReceiptRows.{receipt_in};
 ghost use Rattle.mf_store_records.specs.Rows.{loan_row, office_row, is_loan_above, is_in_range, is_instalment_in};
+ghost use Rattle.mf_store_records.specs.Rows.{is_instalment};
+ghost use Rattle.mf_store_values.specs.Principal.{IsFirstOpen};
 ghost use Rattle.mf_arrears.specs.Line.{line_of as line_of_loans};
 ghost use Rattle.mf_store_values.specs.Arrears.{NumberedLoan, AreAbove, AreWholeLoans, rows_of_office, aged_loans};
 ghost use Rattle.mf_store_records.specs.Calls.{OnlyFaultsShut};
@@ -38,7 +40,7 @@ use mf_store_records::{
     offices_within,
 };
 use mf_store_tables::apply;
-use mf_store_values::{NoLine, line_of_office};
+use mf_store_values::{NoLine, is_principal_open, line_of_office};
 use sqlite::{Alter, Connection, Row};
 use std::alloc::Global;
 use std::marker::Model;
@@ -84,6 +86,17 @@ impl<S: Alter> Store<S> {
             → IfOk result (λ x. x ≡ option_map (receipt_in office) (use_at office receipt.now i)) }
     {
         find_receipt(&mut self.connection, office, receipt)
+    }
+
+    /// Whether anything is outstanding of the principal of a loan's instalment; not where there is no such instalment.
+    pub(crate) fn is_principal_open(&mut self, loan: Account, number: u32) -> Result<bool, Fault>
+        ensures asks { AsksTables S.Store self.old self.new result }
+        ensures left { IsClean S.Store self.new → (i : Institution) → StandsFor S.Store self.old i
+            → IfOk result (λ left. IsTrue left → IsFirstOpen (is_instalment loan.office loan.number number)
+            (tables_of i).instalments) }
+    {
+        let office = loan.office.get();
+        is_principal_open(&mut self.connection, office, loan.number.get(), number)
     }
 
     /// The rows with these values of the first columns.
@@ -259,6 +272,14 @@ impl<S: Alter> Store<S> {
             → IfSome result (λ product. product_in i.catalogue number ≡ Some product) }
     {
         self.known.product(number)
+    }
+
+    /// The account of a loan, where that is known.
+    pub(crate) fn known_account(&self, loan: Account) -> Option<&LoanAccount>
+        ensures { (i : Institution) → StandsFor S.Store self.now i
+            → IfSome result (λ account. account_at loan i ≡ Some account.now) }
+    {
+        self.known.account(loan)
     }
 
     /// Takes in a caller's role.

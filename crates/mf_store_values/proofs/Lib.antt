@@ -5,3 +5,4 @@ pub mod InstalmentLemmas
 pub mod FoldLemmas
 pub mod RowsLemmas
 pub mod SumLemmas
+pub mod PrincipalLemmas

@@ -1,2 +1,3 @@
 pub mod Arrears
 pub mod Folding
+pub mod Principal

@@ -11,6 +11,7 @@ mod office_line;
 mod office_rows;
 mod offices;
 mod parts;
+mod principal;
 mod receipts;
 mod values;
 
@@ -23,5 +24,6 @@ pub use office_line::line_of_office;
 pub use office_rows::{Ledger, OfficeRows, StaffMember, names_from, staff_from};
 pub use offices::offices_from;
 pub use parts::parts_from;
+pub use principal::is_principal_open;
 pub use receipts::use_from;
 pub use values::stored;

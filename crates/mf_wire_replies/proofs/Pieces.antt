@@ -24,3 +24,36 @@ abbrev pub body_of : (client day fee account rest : List ℕ) → List ℕ
 body_of client day fee account rest = codes "{\"client\":"
     ++ (client ++ (codes ",\"day\":"
     ++ (day ++ (codes ",\"disbursement_fee\":" ++ (fee ++ (codes ",\"loan\":" ++ (account ++ rest)))))))
+
+-- an instalment's members from outstanding on, by how these are written
+abbrev pub instalment_rest_by : (outstanding penalties principal : List ℕ) → List ℕ
+instalment_rest_by outstanding penalties principal = codes ",\"outstanding\":"
+    ++ (outstanding ++ (codes ",\"penalties\":" ++ (penalties ++ (codes ",\"principal\":" ++ (principal
+    ++ codes "}")))))
+
+-- the whole of it, by how its day and its numbers are written, and by the rest
+abbrev pub instalment_by : (due fees interest number rest : List ℕ) → List ℕ
+instalment_by due fees interest number rest = codes "{\"due\":"
+    ++ (due ++ (codes ",\"fees\":" ++ (fees ++ (codes ",\"interest\":" ++ (interest ++ (codes ",\"number\":"
+    ++ (number ++ rest)))))))
+
+-- a line of a list of loans, by how its account and its status are written
+abbrev pub loan_line_by : (loan status : List ℕ) → List ℕ
+loan_line_by loan status = codes "{\"loan\":" ++ (loan ++ (codes ",\"status\":" ++ (status ++ codes "}")))
+
+-- what an entry settles in a cell, by how its numbers and its portion are written
+abbrev pub share_by : (amount instalment portion : List ℕ) → List ℕ
+share_by amount instalment portion = codes "{\"amount\":"
+    ++ (amount ++ (codes ",\"instalment\":" ++ (instalment ++ (codes ",\"portion\":" ++ (portion ++ codes "}")))))
+
+-- an entry's members from portion on, by how these are written
+abbrev pub entry_rest_by : (portion receipt reversed shares staff : List ℕ) → List ℕ
+entry_rest_by portion receipt reversed shares staff = codes ",\"portion\":"
+    ++ (portion ++ (codes ",\"receipt\":" ++ (receipt ++ (codes ",\"reversed\":"
+    ++ (reversed ++ (codes ",\"shares\":" ++ (shares ++ (codes ",\"staff\":" ++ (staff ++ codes "}")))))))))
+
+-- the whole of it, by how its other members are written, and by the rest
+abbrev pub entry_by : (amount day entry instalment kind rest : List ℕ) → List ℕ
+entry_by amount day entry instalment kind rest = codes "{\"amount\":"
+    ++ (amount ++ (codes ",\"day\":" ++ (day ++ (codes ",\"entry\":" ++ (entry ++ (codes ",\"instalment\":"
+    ++ (instalment ++ (codes ",\"kind\":" ++ (kind ++ rest)))))))))

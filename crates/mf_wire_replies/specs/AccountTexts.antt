@@ -21,6 +21,13 @@ use Rattle.mf_wire_replies.specs.Json.{whole, whole_or_null, text_or_null}
 abbrev pub sum_of : Portion → List ℕ → Data
 sum_of portion sums = whole (slice_index sums (place_in_row portion))
 
+-- an instalment's members from outstanding on
+abbrev pub instalment_rest : InstalmentLine → Members
+instalment_rest line =
+    member (codes "outstanding") (whole line.outstanding)
+    (member (codes "penalties") (sum_of Penalty line.owed)
+    (member (codes "principal") (sum_of Principal line.owed) no_members))
+
 -- an instalment as GET /loans/{loan}/schedule lists it: what is owed of each portion, and what is outstanding of all of
 -- them
 abbrev pub instalment_data : InstalmentLine → Data
@@ -28,10 +35,7 @@ instalment_data line = object
     (member (codes "due") (string (day_text line.due))
     (member (codes "fees") (sum_of Fee line.owed)
     (member (codes "interest") (sum_of Interest line.owed)
-    (member (codes "number") (whole line.number)
-    (member (codes "outstanding") (whole line.outstanding)
-    (member (codes "penalties") (sum_of Penalty line.owed)
-    (member (codes "principal") (sum_of Principal line.owed) no_members)))))))
+    (member (codes "number") (whole line.number) (instalment_rest line)))))
 
 -- the instalments of a loan
 abbrev pub instalments_data : List InstalmentLine → Data

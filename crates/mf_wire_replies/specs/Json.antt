@@ -1,6 +1,7 @@
 -- Values of JSON that several replies have.
-use Rattle.std.specs.Prelude.{ℕ, List, Option, Some, None}
+use Rattle.std.specs.Prelude.{ℕ, Bool, true, List, [], ◌∷◌, ◌++◌, Option, Some, None}
 use Rattle.serde_json.specs.Data.{Data, null, number, unsigned, string}
+use Rattle.serde_json.specs.Written.{comma_if, compact_text}
 
 -- a number without a sign
 abbrev pub whole : ℕ → Data
@@ -15,3 +16,8 @@ whole_or_null (Some n) = whole n
 abbrev pub text_or_null : Option (List ℕ) → Data
 text_or_null None = null
 text_or_null (Some text) = string text
+
+-- the texts of values one after another, a comma before each but the first of a list
+abbrev pub joined : Bool → List Data → List ℕ
+joined later [] = []
+joined later (d ∷ ds) = comma_if later ++ (compact_text d ++ joined true ds)

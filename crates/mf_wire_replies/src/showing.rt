@@ -12,6 +12,7 @@ ghost use Rattle.mf_wire_replies.specs.Shown.{IsBodyOf, office_data, reply_data,
 mod account;
 mod arrears;
 mod catalogue;
+mod entries;
 mod lists;
 mod loans;
 mod members;
@@ -19,7 +20,7 @@ mod members;
 use arrears::arrears_shown;
 use catalogue::{charge_shown, product_shown};
 use lists::{Shown, array_of};
-use loans::{loan_told, told_status};
+use loans::{loan_told, loans_text, told_status};
 use members::Members;
 use mf_base::Fault;
 use mf_model::Reply;
@@ -92,7 +93,7 @@ fn reply_body(alloc: Global, reply: &Reply) -> Result<Body, Fault>
         Reply::ProductShown(product) => product_shown(alloc, product),
         Reply::LoanMade(loan) => single(alloc, "loan", Value::String(loan.text(alloc)?)),
         Reply::Loan { loan, told } => loan_told(alloc, *loan, told),
-        Reply::LoansShown(lines) => single(alloc, "loans", array_of(alloc, lines.as_slice())?),
+        Reply::LoansShown(lines) => Ok(Body::Text(loans_text(alloc, lines.as_slice())?)),
         Reply::ArrearsShown(lines) => arrears_shown(alloc, lines.as_slice()),
     }
 }

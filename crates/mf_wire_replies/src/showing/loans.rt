@@ -8,9 +8,11 @@ ghost use Rattle.mf_model.specs.declared.reply.Reply.TheVariants.{Loan as LoanTo
 ghost use Rattle.mf_wire_replies.specs.Shown.{IsBodyOf};
 ghost use Rattle.mf_wire_replies.specs.LoanTexts.{loan_end as loan_end_of, loan_rest as loan_rest_of, loan_by_texts};
 ghost use Rattle.mf_wire_replies.specs.LoanTexts.{loan_data, sums_data, day_or_null, told_status, loan_line_data};
+ghost use Rattle.mf_wire_replies.specs.LoanTexts.{lines_data};
 
-use super::lists::{Shown, array_of};
-use super::members::Members;
+use super::account::instalments_text;
+use super::entries::entries_text;
+use super::lists::{Written, list_text};
 use super::{Body, single};
 use mf_alloc::Portion;
 use mf_base::{Day, Fault};
@@ -19,19 +21,27 @@ use mf_office::Account;
 use serde_json::{Value, json};
 use std::alloc::{AllocError, Global};
 
-impl Shown for LoanLine {
+impl Written for LoanLine {
     ghost json = { loan_line_data };
 
-    fn value(&self, alloc: Global) -> Result<Value, Fault> {
-        let mut members = Members::new(alloc);
-        members.put_whole(alloc, "status", self.status as u64)?;
-        members.put(alloc, "loan", Value::String(self.loan.text(alloc)?))?;
-        Ok(members.into_value())
+    fn text(&self, alloc: Global) -> Result<String, Fault> {
+        let loan = quoted_text(alloc, self.loan.text(alloc)?.as_str())?;
+        let status = self.status;
+        let text = format!(in alloc; r#"{{"loan":{loan},"status":{status}}}"#)?;
+        Ok(text)
     }
 }
 
+/// The body that lists loans.
+pub fn loans_text(alloc: Global, lines: &[LoanLine]) -> Result<String, Fault>
+    ensures ok { IfOk result (λ s. string_bytes s ≡ compact_text (lines_data lines.now)) }
+    ensures err { IfErr result (λ f. f ≡ Fault.F20) }
+{
+    list_text(alloc, r#"{"loans":["#, lines)
+}
+
 /// A text as JSON, in quotes.
-fn quoted_text(alloc: Global, text: &str) -> Result<String, AllocError>
+pub fn quoted_text(alloc: Global, text: &str) -> Result<String, AllocError>
     ensures { IfOk result (λ s. string_bytes s ≡ quoted text.now) }
 {
     let value = json!(in alloc; text)?;
@@ -132,12 +142,12 @@ pub fn loan_told(alloc: Global, loan: Account, told: &LoanReply) -> Result<Body,
     match told {
         LoanReply::Shown(shown) => Ok(Body::Text(shown_text(alloc, loan, shown)?)),
         LoanReply::Instalments(lines) => {
-            single(alloc, "instalments", array_of(alloc, lines.as_slice())?)
+            Ok(Body::Text(instalments_text(alloc, lines.as_slice())?))
         }
-        LoanReply::Entries(lines) => single(alloc, "entries", array_of(alloc, lines.as_slice())?),
+        LoanReply::Entries(lines) => Ok(Body::Text(entries_text(alloc, lines.as_slice())?)),
         LoanReply::Status(status) => {
             let status = *status;
-            Ok(Body::Value(LoanLine { loan, status }.value(alloc)?))
+            Ok(Body::Text(LoanLine { loan, status }.text(alloc)?))
         }
         LoanReply::Entered(entry) | LoanReply::Repeated(entry) | LoanReply::Reversed(entry) => {
             single(alloc, "entry", Value::from(*entry))

@@ -1,9 +1,9 @@
-//! Values that may be null, and the members of an object.
+//! Numbers that may be null, and the members of an object.
 
-ghost use Rattle.std.specs.Prelude.{◌≡◌, IfOk, OnOk, option_map};
+ghost use Rattle.std.specs.Prelude.{◌≡◌, OnOk};
 ghost use Rattle.serde_json.specs.Data.{string, object, no_members, put as with_member};
 ghost use Rattle.serde_json.specs.View.{view, members_view};
-ghost use Rattle.mf_wire_replies.specs.Json.{whole, whole_or_null as whole_or_null_of, text_or_null as text_or_null_of};
+ghost use Rattle.mf_wire_replies.specs.Json.{whole, whole_or_null as whole_or_null_of};
 
 use serde_json::{Map, Value};
 use std::alloc::{AllocError, Global};
@@ -15,16 +15,6 @@ pub fn whole_or_null(number: Option<u32>) -> Value
     match number {
         Some(number) => Value::from(number),
         None => Value::Null,
-    }
-}
-
-/// A text, or null where there is none.
-pub fn text_or_null(alloc: Global, text: Option<&str>) -> Result<Value, AllocError>
-    ensures { IfOk result (λ v. view v ≡ text_or_null_of (option_map (λ t. t.now) text.entry)) }
-{
-    match text {
-        Some(text) => Ok(Value::String(String::from_str(alloc, text)?)),
-        None => Ok(Value::Null),
     }
 }
 

@@ -4,7 +4,7 @@ use Rattle.mf_account.specs.Loan.{state_of_loan}
 use Rattle.mf_model.specs.Accounts.{account_in, of_account}
 use Rattle.mf_store_records.specs.Rows.{instalment_row as instalment_stored, is_instalment_of}
 use Rattle.mf_store_accounts.specs.Flat.{tables_of, instalments_kept, kept_of}
-use Rattle.mf_store.proofs.InstalmentReadLemmas.{instalments_shown, kept_whole, sums_kept}
+use Rattle.mf_store.proofs.InstalmentReadLemmas.{instalments_shown, kept_whole, no_instalments, sums_kept}
 use Rattle.mf_store.proofs.store.Store.instalments_at.Goals as goal
 
 pub returns-clause-value : goal.returns-clause-value
@@ -18,4 +18,14 @@ returns-clause-value g c clean i s l there =
     ∙ (λ t. map instalment_stored (filter (is_instalment_of (c.get.ensures.value t) (c.get-2.ensures.value t))
     (tables_of i).instalments)) ∙ instalments_shown loan l i s.sound there)
     ∙ sums_kept (account_in i.catalogue l))
+    c.instalments_from.ensures.rows
+
+pub returns-clause-none : goal.returns-clause-none
+returns-clause-none g c clean i s none =
+    let loan = c.args.loan in
+    IfOk-weaker c.instalments_from.result _ (λ rows. rows.items ≡ [])
+    (λ rows read. read loan.office loan.number [] tt
+    (c.deref.ensures.value ∙ c.in_ok-rows.ensures.rows clean i s
+    ∙ (λ t. map instalment_stored (filter (is_instalment_of (c.get.ensures.value t) (c.get-2.ensures.value t))
+    (tables_of i).instalments)) ∙ no_instalments loan i s.sound none))
     c.instalments_from.ensures.rows
