@@ -15,7 +15,7 @@ returns-clause-left g c clean lists kept =
     (c.in_ok-rows.ensures.shows clean) in
     let serves = kept s.is_open in
     let are = principal_shows c.args.office c.args.loan c.args.number (state g.S.Store c.args.connection.now).now
-    c.in_ok-rows.rows.items lists.instalments serves.schema_is serves.holds.instalments s.answers in
+    c.in_ok-rows.rows.items lists.instalments serves.schema_is serves.holds.all.1.1.1.1.1.1.1.1.1.0 s.answers in
     let first : Some c.in-Some.row.now ≡ slice_get c.in_ok-rows.rows.items 0 =
     c.in-Some.ensures.value ∙ ap (λ (rows : List Row). slice_get rows 0) c.deref.ensures.value in
     IfOk-weaker c.is_left_in.result _ _ (λ left reads yes. first_left (is_instalment c.args.office c.args.loan
