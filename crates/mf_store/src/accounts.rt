@@ -1,5 +1,6 @@
 //! The accounts of loans: each is the one that is known beside the tables, or it is resumed from the loan's row, its
-//! product's terms, its entries, and the instalments and shares that are kept of it. In a list of loans none is resumed.
+//! product's terms, its entries, and the instalments and shares that are kept of it. In a list of loans none is
+//! resumed.
 
 ghost use Rattle.std.specs.Prelude.{◌≡◌, ◌≤◌, ◌-◌, ◌++◌, ℕ, List, [], length, map, option_map, true, Some, OnOk};
 ghost use Rattle.std.specs.Prelude.{IfOk, IfErr, IfSome};

@@ -19,7 +19,8 @@ use std::alloc::Global;
 impl<S: Alter> Store<S> {
     ghost use Rattle.mf_store.specs.Stands.{StandsFor, IsClean, AsksTables};
 
-    /// The instalments of a loan, as the replay of its entries leaves them; none where it is not disbursed or not there.
+    /// The instalments of a loan, as the replay of its entries leaves them; none where it is not disbursed, or not
+    /// there.
     pub(crate) fn instalments_at(
         &mut self,
         alloc: Global,

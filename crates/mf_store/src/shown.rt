@@ -157,8 +157,8 @@ impl<S: Alter> Store<S> {
         if known.is_none() {
             return self.read_instalments(alloc, Account { office, number });
         }
-        // Where the store is shut it answers nothing of its loans, whatever it knows.
-        let _there = self.loan(Account { office, number })?;
+        // Where it is shut, the store tells nothing of its loans, whatever it knows.
+        self.see_open()?;
         Ok(known)
     }
 }

@@ -40,7 +40,7 @@ use mf_store_records::{
     offices_within,
 };
 use mf_store_tables::apply;
-use mf_store_values::{NoLine, is_principal_open, line_of_office};
+use mf_store_values::{NoLine, is_principal_open, line_of_office, see_open};
 use sqlite::{Alter, Connection, Row};
 use std::alloc::Global;
 use std::marker::Model;
@@ -97,6 +97,13 @@ impl<S: Alter> Store<S> {
     {
         let office = loan.office.get();
         is_principal_open(&mut self.connection, office, loan.number.get(), number)
+    }
+
+    /// F20 where a fault has shut the store. No table is asked.
+    pub(crate) fn see_open(&mut self) -> Result<(), Fault>
+        ensures { AsksTables S.Store self.old self.new result }
+    {
+        see_open(&mut self.connection)
     }
 
     /// The rows with these values of the first columns.

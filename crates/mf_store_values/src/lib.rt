@@ -13,6 +13,7 @@ mod offices;
 mod parts;
 mod principal;
 mod receipts;
+mod shut;
 mod values;
 
 pub use catalogue::{charge_from, product_from};
@@ -26,4 +27,5 @@ pub use offices::offices_from;
 pub use parts::parts_from;
 pub use principal::is_principal_open;
 pub use receipts::use_from;
+pub use shut::see_open;
 pub use values::stored;
