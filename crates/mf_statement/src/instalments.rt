@@ -96,14 +96,3 @@ pub fn instalment_lines_of_rows(
     let lines = lines_of(alloc, rows)?;
     Ok(Some(Listing::new(lines)))
 }
-
-/// The same, with F20 also where they are no loan's.
-pub fn instalment_lines_of(alloc: Global, rows: &[Row]) -> Result<InstalmentList, Fault>
-    ensures lines { IfOk result (λ lines. lines ≡ instalments_from 1 rows.now) }
-    ensures only { IsOkUnless result Fault.F20 }
-{
-    match instalment_lines_of_rows(alloc, rows)? {
-        Some(lines) => Ok(lines),
-        None => Err(Fault::F20),
-    }
-}

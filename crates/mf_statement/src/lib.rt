@@ -8,6 +8,6 @@ mod lines;
 mod listing;
 
 pub use entries::entry_lines;
-pub use instalments::{instalment_lines, instalment_lines_of, instalment_lines_of_rows};
+pub use instalments::{instalment_lines, instalment_lines_of_rows};
 pub use lines::{EntryLine, EntryList, InstalmentLine, InstalmentList};
 pub use listing::Listing;

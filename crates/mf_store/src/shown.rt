@@ -19,7 +19,7 @@ use mf_alloc::Row as Instalment;
 use mf_base::{Day, Fault};
 use mf_model::{Loan, Statement};
 use mf_office::Account;
-use mf_statement::{InstalmentList, instalment_lines, instalment_lines_of};
+use mf_statement::{InstalmentList, instalment_lines, instalment_lines_of_rows};
 use mf_store_values::{is_active, stored};
 use sqlite::Alter;
 use std::alloc::Global;
@@ -137,7 +137,7 @@ impl<S: Alter> Store<S> {
         if rows.is_empty() && self.loan(Account { office, number })?.is_none() {
             return Ok(None);
         }
-        let lines = instalment_lines_of(alloc, &rows)?;
+        let lines = stored(instalment_lines_of_rows(alloc, &rows)?)?;
         Ok(Some(lines))
     }
 
