@@ -5,8 +5,8 @@ use Rattle.mf_store_accounts.specs.declared.kept_entries.EntryColumns.{EntryColu
 use Rattle.mf_store_records.specs.declared.entries.EntryRow.{EntryRow}
 
 -- what they stand for of an entry
-abbrev pub columns_of : Entry → EntryColumns
-columns_of e = record {
+abbrev pub entry_columns_of : Entry → EntryColumns
+entry_columns_of e = record {
   kind = e.kind;
   portion = e.portion;
   reversed = e.reversed;
@@ -30,5 +30,5 @@ entry_with seq instalment receipt c = record {
 }
 
 -- and with those of a row
-abbrev pub entry_by : EntryRow → EntryColumns → Entry
-entry_by row c = entry_with row.seq row.instalment row.receipt c
+abbrev pub entry_of_columns : EntryRow → EntryColumns → Entry
+entry_of_columns row c = entry_with row.seq row.instalment row.receipt c

@@ -5,7 +5,7 @@ ghost use Rattle.std.specs.List.{AllByRecursion};
 ghost use Rattle.mf_base.specs.declared.fault.Fault.TheVariants.{F20};
 ghost use Rattle.mf_office.specs.Texts.{IsCaller};
 ghost use Rattle.mf_account.specs.declared.entry.Entry.{Entry as ModelEntry};
-ghost use Rattle.mf_store_accounts.specs.Decoded.{entry_by, entry_with, columns_of};
+ghost use Rattle.mf_store_accounts.specs.Decoded.{entry_of_columns, entry_with, entry_columns_of};
 ghost use Rattle.mf_store_accounts.specs.Ledgers.{IsReadable};
 ghost use Rattle.mf_store_accounts.specs.Flat.{entry_in};
 
@@ -31,12 +31,12 @@ pub struct EntryColumns {
 
 /// What the numbers and the texts of a row stand for, or None where they are those of no entry.
 pub fn entry_columns(row: &EntryRow) -> Option<EntryColumns>
-    ensures some { IfSome result (λ c. IsReadable (entry_by row.now c)
-        × (entry_in row.now.office row.now.loan (entry_by row.now c) ≡ row.now)) }
+    ensures some { IfSome result (λ c. IsReadable (entry_of_columns row.now c)
+        × (entry_in row.now.office row.now.loan (entry_of_columns row.now c) ≡ row.now)) }
     ensures every { (office loan : ℕ) (e : ModelEntry) → IsReadable e → entry_in office loan e ≡ row.now
-        → result ≡ Some (columns_of e) }
+        → result ≡ Some (entry_columns_of e) }
     ensures only { IfSome result (λ c. (office loan : ℕ) (e : ModelEntry) → IsCaller e.staff
-        → entry_in office loan e ≡ row.now → c ≡ columns_of e) }
+        → entry_in office loan e ≡ row.now → c ≡ entry_columns_of e) }
 {
     match (
         Kind::from_number(row.kind),

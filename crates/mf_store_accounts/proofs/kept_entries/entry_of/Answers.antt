@@ -1,6 +1,6 @@
 use Rattle.std.proofs.Common.{◌≡◌, ◌∙◌, Some, sym, ap}
 use Rattle.mf_store_records.specs.declared.entries.EntryRow.{EntryRow}
-use Rattle.mf_store_accounts.specs.Decoded.{columns_of}
+use Rattle.mf_store_accounts.specs.Decoded.{entry_columns_of}
 use Rattle.mf_store_accounts.proofs.DecodedLemmas.{under_some}
 use Rattle.mf_store_accounts.proofs.kept_entries.entry_of.Goals as goal
 
@@ -10,7 +10,7 @@ returns-in_default-clause-entry c office loan e readable is =
 
 pub returns-clause-entry : goal.returns-clause-entry
 returns-clause-entry c office loan e readable is =
-    let columns : c.in-Some.columns ≡ columns_of e =
+    let columns : c.in-Some.columns ≡ entry_columns_of e =
     under_some _ _ (sym c.in-Some.is ∙ c.entry_columns.ensures.every office loan e readable is) in
     let receipt = (c.in_ok-receipt.ensures {u = tt}).receipt ∙ ap (λ (r : EntryRow). r.receipt) (sym is) in
     let seq = ap (λ (r : EntryRow). r.seq) (sym is) in

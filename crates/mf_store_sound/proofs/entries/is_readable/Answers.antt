@@ -1,6 +1,6 @@
 use Rattle.std.proofs.Common.{◌≡◌, ◌∙◌, Option, Some, None, IsTrue, sym, ap, true≢false}
 use Rattle.std.specs.Option.{IfSome, is_some}
-use Rattle.mf_store_accounts.specs.Decoded.{entry_by}
+use Rattle.mf_store_accounts.specs.Decoded.{entry_of_columns}
 use Rattle.mf_store_sound.proofs.entries.is_readable.Goals as goal
 
 there : {A : Type 0} (r : Option A) (P : A → Type 0) → IfSome r P → IsTrue (is_some r) → (x : A) × P x
@@ -12,6 +12,6 @@ returns c =
     let row = c.args.row.now in (
       λ yes.
           let found = there c.entry_columns.result _ c.entry_columns.ensures.some (sym c.is_some.ensures ∙ yes) in
-          (entry_by row found.0, found.1.0, found.1.1),
+          (entry_of_columns row found.0, found.1.0, found.1.1),
       λ p. c.is_some.ensures ∙ ap is_some (c.entry_columns.ensures.every row.office row.loan p.0 p.1 p.2),
     )

@@ -1,7 +1,7 @@
 use Rattle.std.proofs.Common.{◌≡◌, ◌∙◌, Option, Some, sym, ap, subst}
 use Rattle.std.specs.Option.{IfSome}
 use Rattle.mf_store_records.specs.declared.entries.EntryRow.{EntryRow}
-use Rattle.mf_store_accounts.specs.Decoded.{columns_of}
+use Rattle.mf_store_accounts.specs.Decoded.{entry_columns_of}
 use Rattle.mf_store_values.proofs.entries.entry_from.Goals as goal
 
 held : {A : Type 0} (r : Option A) (x : A) (P : A → Type 0) → r ≡ Some x → IfSome r P → P x
@@ -9,7 +9,7 @@ held r x P same h = subst (λ o. IfSome o P) same h
 
 pub returns-clause-entry : goal.returns-clause-entry
 returns-clause-entry c office loan e in_range is =
-    let columns : c.in_ok-columns.columns ≡ columns_of e =
+    let columns : c.in_ok-columns.columns ≡ entry_columns_of e =
     held c.entry_columns.result _ _ (c.in_ok-columns.ensures {u = tt}).value c.entry_columns.ensures.only office loan e
     in_range (sym is) in
     let seq = ap (λ (r : EntryRow). r.seq) is in
