@@ -25,7 +25,7 @@ returns-in_default-clause-none g c clean ours lists held h =
       ((held.offices, (held.staff, held.clients)), (held.meta, (held.charges, held.products))),
       (held.loans, (held.entries, held.receipts)),
     )
-    (((h.offices, (h.staff, h.clients)), (h.meta, (h.charges, h.products))), (h.loans, (h.entries, h.receipts)))
+    (((h.all.1.0, (h.all.1.1.0, h.all.1.1.1.0)), (h.all.0, (h.all.1.1.1.1.0, h.all.1.1.1.1.1.0))), (h.all.1.1.1.1.1.1.0, (h.all.1.1.1.1.1.1.1.0, h.all.1.1.1.1.1.1.1.1.0)))
 
 pub returns-clause-only : goal.returns-clause-only
 returns-clause-only g c clean ours lists h =
@@ -33,7 +33,7 @@ returns-clause-only g c clean ours lists h =
     let empty : c.new-2.result.items ≡ [] = search rules in
     same_lists _ (nested_first lists) c.new.result.items c.new-2.result.items (at_some c.in_ok-found.found _ _
     c.in-Some.is (c.in_ok-found.ensures.only clean (under_first _ ours)) (nested_first lists)
-    (((h.offices, (h.staff, h.clients)), (h.meta, (h.charges, h.products))), (h.loans, (h.entries, h.receipts)))) none
+    (((h.all.1.0, (h.all.1.1.0, h.all.1.1.1.0)), (h.all.0, (h.all.1.1.1.1.0, h.all.1.1.1.1.1.0))), (h.all.1.1.1.1.1.1.0, (h.all.1.1.1.1.1.1.1.0, h.all.1.1.1.1.1.1.1.1.0)))) none
     empty
 
 pub returns-clause-keeps : goal.returns-clause-keeps
@@ -50,13 +50,5 @@ returns-clause-keeps g c clean ours rowids rise =
     ) in
     record {
       sound = subst (λ its. IsSound its db.trees) ours sound;
-      meta = k.0.1.0;
-      offices = k.0.0.0;
-      staff = k.0.0.1.0;
-      clients = k.0.0.1.1;
-      charges = k.0.1.1.0;
-      products = k.0.1.1.1;
-      loans = k.1.0;
-      entries = k.1.1.0;
-      receipts = k.1.1.1;
+      all = (k.0.1.0, (k.0.0.0, (k.0.0.1.0, (k.0.0.1.1, (k.0.1.1.0, (k.0.1.1.1, (k.1.0, (k.1.1.0, (k.1.1.1, tt)))))))));
     }

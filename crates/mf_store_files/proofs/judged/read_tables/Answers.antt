@@ -24,10 +24,10 @@ returns-in_default-clause-none g c clean ours lists held h =
       ((held.offices, (held.staff, held.clients)), (held.meta, (held.charges, held.products))),
       ((held.loans, (held.entries, held.receipts)), (held.instalments, held.shares)),
     ) (
-      ((h.offices, (h.staff, h.clients)), (h.meta, (h.charges, h.products))),
+      ((h.all.1.0, (h.all.1.1.0, h.all.1.1.1.0)), (h.all.0, (h.all.1.1.1.1.0, h.all.1.1.1.1.1.0))),
       (
-        (h.loans, (h.entries, h.receipts)),
-        (h.instalments, h.shares),
+        (h.all.1.1.1.1.1.1.0, (h.all.1.1.1.1.1.1.1.0, h.all.1.1.1.1.1.1.1.1.0)),
+        (h.all.1.1.1.1.1.1.1.1.1.0, h.all.1.1.1.1.1.1.1.1.1.1.0),
       ),
     )
 
@@ -35,10 +35,10 @@ pub returns-clause-only : goal.returns-clause-only
 returns-clause-only g c clean ours lists h =
     ap lists_of (at_some c.in_ok-found.found _ _ c.in-Some.is (c.in_ok-found.ensures.only clean (under_present _ ours))
     (nested lists) (
-      ((h.offices, (h.staff, h.clients)), (h.meta, (h.charges, h.products))),
+      ((h.all.1.0, (h.all.1.1.0, h.all.1.1.1.0)), (h.all.0, (h.all.1.1.1.1.0, h.all.1.1.1.1.1.0))),
       (
-        (h.loans, (h.entries, h.receipts)),
-        (h.instalments, h.shares),
+        (h.all.1.1.1.1.1.1.0, (h.all.1.1.1.1.1.1.1.0, h.all.1.1.1.1.1.1.1.1.0)),
+        (h.all.1.1.1.1.1.1.1.1.1.0, h.all.1.1.1.1.1.1.1.1.1.1.0),
       ),
     ))
 
@@ -59,15 +59,6 @@ returns-clause-keeps g c clean ours rowids rise =
     ) in
     record {
       sound = subst (λ its. IsSound its db.trees) ours sound;
-      meta = k.0.1.0;
-      offices = k.0.0.0;
-      staff = k.0.0.1.0;
-      clients = k.0.0.1.1;
-      charges = k.0.1.1.0;
-      products = k.0.1.1.1;
-      loans = k.1.0.0;
-      entries = k.1.0.1.0;
-      receipts = k.1.0.1.1;
-      instalments = k.1.1.0;
-      shares = k.1.1.1;
+      all = (k.0.1.0, (k.0.0.0, (k.0.0.1.0, (k.0.0.1.1, (k.0.1.1.0, (k.0.1.1.1, (k.1.0.0, (k.1.0.1.0, (k.1.0.1.1,
+          (k.1.1.0, (k.1.1.1, tt)))))))))));
     }
