@@ -1,5 +1,6 @@
 -- What the query of an instalment's principal shows.
-use Rattle.std.proofs.Common.{◌≡◌, ◌<◌, ◌+◌, ◌-◌, ℕ, pos, Bool, true, false, List, [], ◌∷◌, map, filter, find, codes}
+use Rattle.std.proofs.Common.{◌≡◌, ◌<◌, ◌+◌, ◌-◌, ℕ, pos, Bool, true, false, List, [], ◌∷◌, ◌++◌, map, filter, find}
+use Rattle.std.proofs.Common.{codes}
 use Rattle.std.proofs.Common.{slice_get, Option, Some, None, refl, sym, ap, ap₂, ◌∙◌, arith}
 use Rattle.std.specs.Prelude.{nat_lt, slice_index}
 use Rattle.std.specs.Ordering.{ordering_then}
@@ -31,8 +32,9 @@ use Rattle.mf_store_values.proofs.CatalogueLemmas.{amount_is}
 -- ---- the text
 
 abbrev pub find_principal : List ℕ
-find_principal = codes
-    "SELECT owed_principal, paid_principal, waived_principal, written_off_principal FROM instalments WHERE office = ?1 AND loan = ?2 AND number = ?3 ORDER BY office, loan, number"
+find_principal =
+    codes "SELECT owed_principal, paid_principal, waived_principal, written_off_principal FROM instalments WHERE "
+    ++ codes "office = ?1 AND loan = ?2 AND number = ?3 ORDER BY office, loan, number"
 
 abbrev is_key : List Term
 is_key = eq (col 1 1) (col 0 0) ∷ eq (col 1 2) (col 0 1) ∷ eq (col 1 3) (col 0 2) ∷ []
