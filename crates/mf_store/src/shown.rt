@@ -1,8 +1,9 @@
 //! What is shown of one loan: read off its account where that is known, else off its instalments while something of it
 //! is outstanding, else off its account.
 
-ghost use Rattle.std.specs.Prelude.{◌≡◌, [], true, Some, IfOk, IfErr, IfSome};
+ghost use Rattle.std.specs.Prelude.{◌≡◌, [], true, Some, IfOk, IfErr, IfSome, IsOkUnless};
 ghost use Rattle.mf_base.specs.declared.fault.Fault.TheVariants.{F20};
+ghost use Rattle.mf_statement.specs.Lines.{instalments_from};
 ghost use Rattle.std.specs.List.{list_any};
 ghost use Rattle.mf_alloc.specs.Sums.{AreWhole, AreWithin, is_open};
 ghost use Rattle.mf_account.specs.Loan.{state_of_loan};
@@ -23,6 +24,15 @@ use mf_statement::{InstalmentList, instalment_lines, instalment_lines_of_rows};
 use mf_store_values::{is_active, stored};
 use sqlite::Alter;
 use std::alloc::Global;
+
+/// Instalments that were read, as they stand. F20 is also for such as are no loan's.
+fn lines_of_rows(alloc: Global, rows: &[Instalment]) -> Result<InstalmentList, Fault>
+    ensures lines { IfOk result (λ lines. lines ≡ instalments_from 1 rows.now) }
+    ensures only { IsOkUnless result Fault.F20 }
+{
+    let told = instalment_lines_of_rows(alloc, rows)?;
+    stored(told)
+}
 
 impl<S: Alter> Store<S> {
     ghost use Rattle.mf_store.specs.Stands.{StandsFor, IsClean, AsksTables, MayAskTables};
@@ -137,7 +147,7 @@ impl<S: Alter> Store<S> {
         if rows.is_empty() && self.loan(Account { office, number })?.is_none() {
             return Ok(None);
         }
-        let lines = stored(instalment_lines_of_rows(alloc, &rows)?)?;
+        let lines = lines_of_rows(alloc, &rows)?;
         Ok(Some(lines))
     }
 
